@@ -1,0 +1,33 @@
+//! What reaches the power management core from the outside, one event at a time.
+
+use crate::names::NodeId;
+
+/// The words of a message of a master (UG1200, API calls): the number of the call, then its
+/// arguments. Missing arguments are 0.
+#[derive(Clone, Copy, Debug, PartialEq, Eq)]
+pub struct Message {
+    pub api: u32,
+    pub args: [u32; 5],
+}
+
+/// One event. `Pass` is the event of an empty script line, and does nothing.
+#[derive(Clone, Copy, Debug, PartialEq, Eq)]
+pub enum Event {
+    /// A master sends a message.
+    Ipi { master: NodeId, message: Message },
+    /// A boot loader starts a processor at an address.
+    Boot { proc: NodeId, address: u64 },
+    /// A processor waits for an interrupt.
+    Wfi { proc: NodeId },
+    /// A slave raises its interrupt.
+    Irq { slave: NodeId },
+    /// An interrupt at a processor itself.
+    Gic { proc: NodeId },
+    /// Units of time pass.
+    Tick { count: u32 },
+    /// A node of the device fails from now on.
+    Break { node: NodeId },
+    /// A node of the device works again.
+    Mend { node: NodeId },
+    Pass,
+}

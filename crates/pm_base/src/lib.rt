@@ -1,0 +1,17 @@
+//! What every part of the power management core speaks of: the numbers of the chip, messages and
+//! events, the answers of the program, lists, and the inputs and the sink of a run.
+#![tactic(auto)]
+
+pub mod caps;
+pub mod errors;
+pub mod events;
+pub mod list;
+pub mod names;
+pub mod steps;
+
+pub use caps::Caps;
+pub use errors::{Exit, Failed, NoMemory};
+pub use events::{Event, Message};
+pub use list::List;
+pub use names::{Command, LineId, Mode, NodeId, Unit};
+pub use steps::Steps;
