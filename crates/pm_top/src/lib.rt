@@ -1,0 +1,6 @@
+//! The top call of the program: a script of requests is run over a configuration object, and its
+//! answers are written line by line.
+#![tactic(auto)]
+
+mod script;
+mod text;
