@@ -5,13 +5,17 @@
 pub mod caps;
 pub mod errors;
 pub mod events;
+pub mod inputs;
 pub mod list;
 pub mod names;
+pub mod sink;
 pub mod steps;
 
 pub use caps::Caps;
 pub use errors::{Exit, Failed, NoMemory};
 pub use events::{Event, Message};
+pub use inputs::Inputs;
 pub use list::List;
 pub use names::{Command, LineId, Mode, NodeId, Unit};
+pub use sink::{Sink, write_all};
 pub use steps::Steps;
