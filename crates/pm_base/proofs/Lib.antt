@@ -1,3 +1,5 @@
 pub mod InPlace
 pub mod InputsLemmas
+pub mod NumbersLemmas
 pub mod SinkLemmas
+pub mod WordsLemmas

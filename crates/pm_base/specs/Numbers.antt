@@ -1,16 +1,13 @@
 -- The number that a word stands for: the same for every text of the project and for the words of a command line.
-use Rattle.std.specs.Prelude.{ℕ, ◌==◌, ◌&&◌, nat_lt, nat_le, Bool, if◌then◌else◌, List, Option, Some, None, length, drop, slice_index}
-use Rattle.std.specs.Char.{digit_value}
+use Rattle.std.specs.Prelude.{ℕ, ◌==◌, ◌&&◌, nat_lt, nat_le, if◌then◌else◌, List, Option, Some, None, length, drop, slice_index}
+use Rattle.std.specs.Char.{is_digit}
 use Rattle.std.specs.List.{list_all}
 use Rattle.std.specs.Str.Parse.{digits_value}
 
--- a byte is a digit in this base: 0 to 9, and letters of either case from the value 10 on
-abbrev pub is_digit : ℕ → ℕ → Bool
-is_digit base byte = nat_lt (digit_value byte) base
-
--- the value of one digit or more in this base
+-- the value of one digit or more in this base. Letters of either case are the digits from 10 on
 abbrev pub value_of : ℕ → List ℕ → Option ℕ
-value_of base digits = if nat_lt 0 (length digits) && list_all (is_digit base) digits then Some (digits_value base digits) else None
+value_of base digits =
+    if nat_lt 0 (length digits) && list_all (λ byte. is_digit byte base) digits then Some (digits_value base digits) else None
 
 -- a number is decimal digits, or `0x` and hexadecimal digits; leading zeros change nothing
 abbrev pub number_of : List ℕ → Option ℕ

@@ -8,8 +8,10 @@ pub mod events;
 pub mod inputs;
 pub mod list;
 pub mod names;
+pub mod numbers;
 pub mod sink;
 pub mod steps;
+pub mod words;
 
 pub use caps::Caps;
 pub use errors::{Exit, Failed, NoMemory};
@@ -17,5 +19,7 @@ pub use events::{Event, Message};
 pub use inputs::Inputs;
 pub use list::List;
 pub use names::{Command, LineId, Mode, NodeId, Unit};
+pub use numbers::number;
 pub use sink::{Sink, write_all};
 pub use steps::Steps;
+pub use words::word;

@@ -1,0 +1,58 @@
+//! The words of a line, the same for every text and script of the project.
+
+ghost use Rattle.std.specs.Prelude.{◌≡◌, slice_get};
+ghost use Rattle.pm_base.specs.Words.{is_blank, without_return, words_from, words};
+
+/// The `k`-th word of a line, counted from 0: its first place and the place after its end.
+///
+/// Words are separated by spaces and tabs. A word that begins with `#` begins a comment to the
+/// line's end, which is no word. One carriage return at the line's end is no part of a word. `None`
+/// comes exactly where the line has no more than `k` words. It takes no memory.
+#[tactic(auto, unfolding(crate::specs::Words::words))]
+pub fn word(line: &[u8], k: usize) -> Option<(usize, usize)>
+    ensures { result ≡ slice_get (words line.now) k }
+{
+    word_of(without_return(line), k)
+}
+
+fn word_of(text: &[u8], k: usize) -> Option<(usize, usize)>
+    ensures { result ≡ slice_get (words_from None 0 text.now) k }
+{
+    let mut start = None;
+    let mut left = k;
+    'bytes: for (at, &byte) in text.iter().enumerate() {
+        match start {
+            None if is_blank(byte) => {}
+            None if byte == b'#' => return None,
+            None => start = Some(at),
+            Some(first) if is_blank(byte) => {
+                if left == 0 {
+                    return Some((first, at));
+                }
+                left -= 1;
+                start = None;
+            }
+            Some(_) => {}
+        }
+    }
+    match start {
+        Some(first) if left == 0 => Some((first, text.len())),
+        _ => None,
+    }
+}
+
+#[tactic(auto, unfolding(crate::specs::Words::is_blank))]
+fn is_blank(byte: u8) -> bool
+    ensures { result ≡ is_blank byte }
+{
+    byte == b' ' || byte == b'\t'
+}
+
+fn without_return(line: &[u8]) -> &[u8]
+    ensures { result.now ≡ without_return line.now }
+{
+    match line {
+        [text @ .., b'\r'] => text,
+        _ => line,
+    }
+}
