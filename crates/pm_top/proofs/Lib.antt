@@ -1,1 +1,2 @@
+pub mod FrontsLemmas
 pub mod LinesLemmas

@@ -2,5 +2,6 @@
 //! answers are written line by line.
 #![tactic(auto)]
 
+mod fronts;
 mod script;
 mod text;
