@@ -1,0 +1,10 @@
+//! The table of a chip: its slaves with their states, its processors, power nodes, reset lines and
+//! masters, and the rules that such a table keeps.
+#![tactic(auto)]
+
+pub mod chip;
+pub mod classes;
+pub mod topology;
+
+pub use chip::zynqmp;
+pub use topology::{LineDef, MasterDef, PowerDef, ProcDef, SlaveDef, SlaveState, Topology};
