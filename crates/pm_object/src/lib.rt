@@ -2,8 +2,15 @@
 //! and shut down what (UG1137, configuration object).
 #![tactic(auto)]
 
+mod decoding;
+mod header;
+mod masters;
 pub mod object;
+mod sections;
+mod slaves;
+mod words;
 
+pub use decoding::decode;
 pub use object::{
     DecodeError, MasterRec, Object, ObjectCause, ObjectFault, Pair, PreGroup, PreRec, Section,
     SlaveRec,

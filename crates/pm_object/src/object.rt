@@ -1,5 +1,8 @@
 //! What a configuration object holds, and what can be wrong with one.
 
+ghost use Rattle.std.specs.Prelude.{◌≡◌};
+ghost use Rattle.pm_object.specs.declared.object.DecodeError.TheVariants.{Memory};
+
 use pm_base::{List, NoMemory};
 use thiserror::Error;
 
@@ -118,4 +121,15 @@ pub enum DecodeError {
     Bad(ObjectFault),
     #[error(transparent)]
     Memory(NoMemory),
+    /// A section after the slaves' begins, and nothing is wrong up to there.
+    #[error("section not supported yet")]
+    SectionUnbuilt,
+}
+
+impl From<NoMemory> for DecodeError {
+    ghost from_gives = { λ x e. e ≡ Memory x };
+
+    fn from(e: NoMemory) -> DecodeError {
+        DecodeError::Memory(e)
+    }
 }

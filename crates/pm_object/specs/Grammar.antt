@@ -1,0 +1,143 @@
+-- Which bytes a configuration object is written as: its one spelling (UG1137, configuration object).
+use Rattle.std.specs.Prelude.{◌≡◌, ◌≢◌, ℕ, ◌+◌, ◌<◌, ◌≤◌, ◌^◌, Bool, false, ◌==◌, ◌&&◌, ◌||◌, IsTrue, List, [], ◌∷◌, ◌++◌, length, slice_get, Some, bit_and, count_ones, ⊤}
+use Rattle.std.specs.List.{flat_map, All, AllPairs, Contains}
+use Rattle.std.specs.Int.{w32, to_le_bytes}
+use Rattle.pm_object.specs.declared.object.MasterRec.{MasterRec}
+use Rattle.pm_object.specs.declared.object.SlaveRec.{SlaveRec}
+use Rattle.pm_object.specs.declared.object.PreRec.{PreRec}
+use Rattle.pm_object.specs.declared.object.PreGroup.{PreGroup}
+use Rattle.pm_object.specs.declared.object.Pair.{Pair}
+use Rattle.pm_object.specs.declared.object.Section.{Section}
+use Rattle.pm_object.specs.declared.object.Section.TheVariants.{Masters, Slaves, Prealloc, Power, Reset, Shutdown, Config, Gpo}
+use Rattle.pm_object.specs.declared.object.Object.{Object}
+
+-- ---- the spelling, as words of 32 bits
+
+-- the word that a section begins with
+abbrev pub identifier : Section → ℕ
+identifier Masters = 0x101
+identifier Slaves = 0x102
+identifier Prealloc = 0x103
+identifier Power = 0x104
+identifier Reset = 0x105
+identifier Shutdown = 0x106
+identifier Config = 0x107
+identifier Gpo = 0x108
+
+abbrev pub master_words : MasterRec → List ℕ
+master_words master = master.node ∷ master.mask ∷ master.timeout ∷ master.suspend ∷ master.wake ∷ []
+
+abbrev pub slave_words : SlaveRec → List ℕ
+slave_words slave = slave.node ∷ slave.flags ∷ slave.mask ∷ []
+
+abbrev pub preset_words : PreRec → List ℕ
+preset_words rec = rec.node ∷ rec.flags ∷ rec.current ∷ rec.preset ∷ []
+
+abbrev pub pair_words : Pair → List ℕ
+pair_words pair = pair.key ∷ pair.mask ∷ []
+
+-- a list of records: their number, and then each of them
+abbrev pub counted : {A : Type 0} → (A → List ℕ) → List A → List ℕ
+counted spell records = length records ∷ flat_map spell records
+
+abbrev pub group_words : PreGroup → List ℕ
+group_words group = group.mask ∷ counted preset_words group.recs
+
+-- what stands in a section after its identifier
+abbrev pub body_words : Section → Object → List ℕ
+body_words Masters o = counted master_words o.masters
+body_words Slaves o = counted slave_words o.slaves
+body_words Prealloc o = counted group_words o.groups
+body_words Power o = counted pair_words o.power
+body_words Reset o = counted pair_words o.reset
+body_words Shutdown o = counted pair_words o.shutdown
+body_words Config o = o.base_mask ∷ o.overlay_mask ∷ []
+body_words Gpo o = o.gpo ∷ []
+
+abbrev pub section_words : Object → Section → List ℕ
+section_words o section = identifier section ∷ body_words section o
+
+-- how many header words follow, how many sections there are, the object's type, and any further header words
+abbrev pub header_words : Object → List ℕ
+header_words o = (2 + length o.extra) ∷ length o.order ∷ 1 ∷ o.extra
+
+abbrev pub words_of : Object → List ℕ
+words_of o = header_words o ++ flat_map (section_words o) o.order
+
+-- ---- which objects are well formed
+
+-- the application processors are 1, the real-time processors 6 as a pair in lockstep, or 7 and 8 each alone (UG1200, nodes)
+abbrev pub is_master_node : ℕ → Bool
+is_master_node node = (node == 1) || (node == 6) || (node == 7) || (node == 8)
+
+-- whether one is the pair in lockstep, and the other one of its two processors alone
+abbrev pub splits_lockstep : ℕ → ℕ → Bool
+splits_lockstep a b = ((a == 6) && ((b == 7) || (b == 8))) || ((b == 6) && ((a == 7) || (a == 8)))
+
+-- a master has one bit in all masks
+pub record IsMaster (master : MasterRec) : Type 0 where
+  pub node : IsTrue (is_master_node master.node)
+  pub one_bit : count_ones master.mask ≡ 1
+
+-- two masters differ in node and bit, and don't use the real-time processors both as a pair and alone
+pub record AreApart (a b : MasterRec) : Type 0 where
+  pub nodes : a.node ≢ b.node
+  pub modes : splits_lockstep a.node b.node ≡ false
+  pub bits : bit_and a.mask b.mask ≡ 0
+
+pub record AreMasters (masters : List MasterRec) : Type 0 where
+  pub each : All IsMaster masters
+  pub apart : AllPairs AreApart masters
+
+-- no two records have the same key
+abbrev pub HaveOwnKeys : {A : Type 0} → (A → ℕ) → List A → Type 0
+HaveOwnKeys key records = AllPairs (λ a b. key a ≢ key b) records
+
+abbrev pub HasOwnNodes : PreGroup → Type 0
+HasOwnNodes group = HaveOwnKeys (λ rec. rec.node) group.recs
+
+-- the records of a section go together
+abbrev pub IsSection : Section → Object → Type 0
+IsSection Masters o = AreMasters o.masters
+IsSection Slaves o = HaveOwnKeys (λ slave. slave.node) o.slaves
+IsSection Prealloc o = All HasOwnNodes o.groups
+IsSection Power o = HaveOwnKeys (λ pair. pair.key) o.power
+IsSection Reset o = HaveOwnKeys (λ pair. pair.key) o.reset
+IsSection Shutdown o = HaveOwnKeys (λ pair. pair.key) o.shutdown
+IsSection Config o = ⊤
+IsSection Gpo o = ⊤
+
+-- a section says nothing
+abbrev pub IsUnset : Section → Object → Type 0
+IsUnset Masters o = o.masters ≡ []
+IsUnset Slaves o = o.slaves ≡ []
+IsUnset Prealloc o = o.groups ≡ []
+IsUnset Power o = o.power ≡ []
+IsUnset Reset o = o.reset ≡ []
+IsUnset Shutdown o = o.shutdown ≡ []
+IsUnset Config o = (o.base_mask ≡ 0) × (o.overlay_mask ≡ 0)
+IsUnset Gpo o = o.gpo ≡ 0
+
+-- a well formed object
+pub record IsObject (o : Object) : Type 0 where
+  -- the masters come first, and no section comes twice
+  pub first : slice_get o.order 0 ≡ Some Masters
+  pub once : AllPairs (λ s t. s ≢ t) o.order
+  -- a section that doesn't come says nothing, and each that does is in order
+  pub unset : (s : Section) → (Contains o.order s → ⊥) → IsUnset s o
+  pub sections : (s : Section) → IsSection s o
+  pub some_master : 0 < length o.masters
+  -- it has a spelling, of at most 16,384 bytes
+  pub words : All (λ w. w < 2 ^ 32) (words_of o)
+  pub size : length (words_of o) ≤ 4096
+
+-- ---- the grammar
+
+-- words as bytes, the lowest byte of each first
+abbrev pub little_endian : List ℕ → List ℕ
+little_endian words = flat_map (to_le_bytes w32) words
+
+-- the bytes are the spelling of this well formed object
+pub record Reads (bytes : List ℕ) (o : Object) : Type 0 where
+  pub object : IsObject o
+  pub spelling : bytes ≡ little_endian (words_of o)

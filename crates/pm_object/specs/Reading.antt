@@ -1,0 +1,238 @@
+-- Reading an object word by word from the front, up to the first fault.
+use Rattle.std.specs.Prelude.{◌≡◌, ℕ, zero, suc, ◌+◌, ◌-◌, ◌/◌, ◌%◌, Bool, not, ◌==◌, nat_lt, if◌then◌else◌, ◌||◌, ◌&&◌, List, [], ◌∷◌, ◌++◌, length, IsTrue, Option, Some, None, Result, Ok, Err, bit_and, count_ones, ⊤}
+use Rattle.std.specs.List.{list_any, All}
+use Rattle.std.specs.Int.{w32, from_le_bytes}
+use Rattle.pm_object.specs.declared.object.MasterRec.{MasterRec}
+use Rattle.pm_object.specs.declared.object.SlaveRec.{SlaveRec}
+use Rattle.pm_object.specs.declared.object.Section.{Section}
+use Rattle.pm_object.specs.declared.object.Section.TheVariants.{Masters, Slaves, Prealloc, Power, Reset, Shutdown, Config, Gpo}
+use Rattle.pm_object.specs.declared.object.Object.{Object}
+use Rattle.pm_object.specs.declared.object.ObjectCause.{ObjectCause}
+use Rattle.pm_object.specs.declared.object.ObjectCause.TheVariants.{Length, TooLong, Truncated, HeaderShort, BadType, UnknownSection, RepeatedSection, NoMasters, BadMaster, MaskRepeated, RepeatedNode, Trailing}
+use Rattle.pm_object.specs.declared.object.ObjectFault.{ObjectFault}
+use Rattle.pm_object.specs.declared.object.DecodeError.{DecodeError}
+use Rattle.pm_object.specs.declared.object.DecodeError.TheVariants.{Bad, Memory, SectionUnbuilt}
+use Rattle.pm_object.specs.declared.header.Header.{Header}
+use Rattle.pm_object.specs.Grammar.{identifier, is_master_node, splits_lockstep}
+
+-- ---- steps
+
+-- a place among the words, and the words from there on
+pub record Cursor : Type 0 where
+  pub place : ℕ
+  pub left : List ℕ
+
+-- what is read at a place, and the place after it; or the first fault
+abbrev pub Step : Type 0 → Type 0
+Step A = Result (A × Cursor) DecodeError
+
+infixl 10 ◌>>=◌
+abbrev pub ◌>>=◌ : {A B : Type 0} → Result A DecodeError → (A → Result B DecodeError) → Result B DecodeError
+(Ok x) >>= f = f x
+(Err e) >>= f = Err e
+
+abbrev pub fault : {A : Type 0} → ObjectCause → ℕ → Result A DecodeError
+fault cause offset = Err (Bad (record { cause = cause; offset = offset }))
+
+abbrev pub word_from : ℕ → List ℕ → Step ℕ
+word_from place [] = fault Truncated place
+word_from place (w ∷ left) = Ok (w, record { place = place + 1; left = left })
+
+-- the next word
+abbrev pub word : Cursor → Step ℕ
+word c = word_from c.place c.left
+
+-- so many records, each read in view of those before it
+unfoldable pub records : {A : Type 0} → (List A → Cursor → Step A) → ℕ → List A → Cursor → Step (List A)
+records one zero earlier c = Ok (earlier, c)
+records one (suc n) earlier c = do
+  r ← one earlier c
+  records one n (earlier ++ r.0 ∷ []) r.1
+
+-- the first word of a record, which no earlier record of its list has
+unfoldable pub own_key : {A : Type 0} → (A → ℕ) → List A → Cursor → Step ℕ
+own_key key earlier c = do
+  w ← word c
+  if list_any (λ r. key r == w.0) earlier then fault RepeatedNode c.place else Ok w
+
+-- ---- the header
+
+-- its words after the first three are kept
+unfoldable pub header : Cursor → Step Header
+header c = do
+  more ← word c
+  if nat_lt more.0 2 then fault HeaderShort c.place else do
+    sections ← word more.1
+    type ← word sections.1
+    extra ← records (λ _ d. word d) (more.0 - 2) [] type.1
+    if not (type.0 == 1) then fault BadType sections.1.place else Ok (record { sections = sections.0; extra = extra.0 }, extra.1)
+
+-- ---- the masters
+
+unfoldable pub master_node : List MasterRec → Cursor → Step ℕ
+master_node earlier c = do
+  w ← word c
+  if not (is_master_node w.0) || list_any (λ m. splits_lockstep m.node w.0) earlier then fault BadMaster c.place
+      else if list_any (λ m. m.node == w.0) earlier then fault RepeatedNode c.place else Ok w
+
+unfoldable pub master_mask : List MasterRec → Cursor → Step ℕ
+master_mask earlier c = do
+  w ← word c
+  if not (count_ones w.0 == 1) || list_any (λ m. not (bit_and m.mask w.0 == 0)) earlier then fault MaskRepeated c.place else Ok w
+
+unfoldable pub master : List MasterRec → Cursor → Step MasterRec
+master earlier c = do
+  node ← master_node earlier c
+  mask ← master_mask earlier node.1
+  timeout ← word mask.1
+  suspend ← word timeout.1
+  wake ← word suspend.1
+  Ok (record { node = node.0; mask = mask.0; timeout = timeout.0; suspend = suspend.0; wake = wake.0 }, wake.1)
+
+unfoldable pub masters : Cursor → Step (List MasterRec)
+masters c = do
+  count ← word c
+  if count.0 == 0 then fault NoMasters c.place else records master count.0 [] count.1
+
+-- ---- the slaves
+
+unfoldable pub slave : List SlaveRec → Cursor → Step SlaveRec
+slave earlier c = do
+  node ← own_key (λ s. s.node) earlier c
+  flags ← word node.1
+  mask ← word flags.1
+  Ok (record { node = node.0; flags = flags.0; mask = mask.0 }, mask.1)
+
+unfoldable pub slaves : Cursor → Step (List SlaveRec)
+slaves c = do
+  count ← word c
+  records slave count.0 [] count.1
+
+-- ---- the sections
+
+-- the section that begins with this word
+abbrev pub section_of : ℕ → Option Section
+section_of id =
+    if id == 0x101 then Some Masters
+    else if id == 0x102 then Some Slaves
+    else if id == 0x103 then Some Prealloc
+    else if id == 0x104 then Some Power
+    else if id == 0x105 then Some Reset
+    else if id == 0x106 then Some Shutdown
+    else if id == 0x107 then Some Config
+    else if id == 0x108 then Some Gpo
+    else None
+
+-- whether the section is among these
+abbrev pub is_among : Section → List Section → Bool
+is_among section order = list_any (λ s. identifier s == identifier section) order
+
+-- whether the section may come after these: none comes twice, and the masters come first
+abbrev pub section_after : List Section → ℕ → Option Section → Result Section DecodeError
+section_after order place None = fault UnknownSection place
+section_after order place (Some s) =
+    if is_among s order then fault RepeatedSection place
+    else if (length order == 0) && not (identifier s == identifier Masters) then fault NoMasters place else Ok s
+
+-- the identifier of a section that may come after these
+unfoldable pub section_name : List Section → Cursor → Step Section
+section_name order c = do
+  w ← word c
+  s ← section_after order c.place (section_of w.0)
+  Ok (s, w.1)
+
+-- the object so far, with what stands in a section. The sections after the slaves aren't read yet
+unfoldable pub section_body : Section → Object → Cursor → Step Object
+section_body Masters o c = do
+  r ← masters c
+  Ok (record o { masters = r.0 }, r.1)
+section_body Slaves o c = do
+  r ← slaves c
+  Ok (record o { slaves = r.0 }, r.1)
+section_body Prealloc o c = Err SectionUnbuilt
+section_body Power o c = Err SectionUnbuilt
+section_body Reset o c = Err SectionUnbuilt
+section_body Shutdown o c = Err SectionUnbuilt
+section_body Config o c = Err SectionUnbuilt
+section_body Gpo o c = Err SectionUnbuilt
+
+unfoldable pub section : Object → Cursor → Step Object
+section o c = do
+  s ← section_name o.order c
+  r ← section_body s.0 o s.1
+  Ok (record r.0 { order = r.0.order ++ s.0 ∷ [] }, r.1)
+
+unfoldable pub sections : ℕ → Object → Cursor → Step Object
+sections zero o c = Ok (o, c)
+sections (suc n) o c = do
+  r ← section o c
+  sections n r.0 r.1
+
+-- ---- the object
+
+-- an object without sections
+abbrev pub unset : List ℕ → Object
+unset extra = record { extra = extra; order = []; masters = []; slaves = []; groups = []; power = []; reset = []; shutdown = []; base_mask = 0; overlay_mask = 0; gpo = 0 }
+
+-- all the words
+unfoldable pub object : Cursor → Result Object DecodeError
+object c = do
+  h ← header c
+  if h.0.sections == 0 then fault NoMasters h.1.place else do
+    o ← sections h.0.sections (unset h.0.extra) h.1
+    if length o.1.left == 0 then Ok o.0 else fault Trailing o.1.place
+
+-- the words that bytes are, the lowest byte of each first
+unfoldable pub words : List ℕ → List ℕ
+words [] = []
+words (a ∷ []) = []
+words (a ∷ b ∷ []) = []
+words (a ∷ b ∷ c ∷ []) = []
+words (a ∷ b ∷ c ∷ d ∷ bytes) = from_le_bytes w32 (a ∷ b ∷ c ∷ d ∷ []) ∷ words bytes
+
+-- the object that the bytes are, or the first thing that is wrong with them
+unfoldable pub reading : List ℕ → Result Object DecodeError
+reading bytes =
+    if nat_lt 16384 (length bytes) then fault TooLong 4096
+    else if not (length bytes % 4 == 0) then fault Length (length bytes / 4)
+    else object (record { place = 0; left = words bytes })
+
+-- the first thing that is wrong
+abbrev pub fault_of : Result Object DecodeError → Option ObjectFault
+fault_of (Ok o) = None
+fault_of (Err (Bad f)) = Some f
+fault_of (Err (Memory e)) = None
+fault_of (Err SectionUnbuilt) = None
+
+abbrev pub first_fault : List ℕ → Option ObjectFault
+first_fault bytes = fault_of (reading bytes)
+
+-- an object has no section that isn't read yet
+abbrev pub is_built : Section → Bool
+is_built section = (identifier section == identifier Masters) || (identifier section == identifier Slaves)
+
+abbrev pub IsBuilt : Object → Type 0
+IsBuilt o = All (λ section. IsTrue (is_built section)) o.order
+
+-- ---- what functions return
+
+-- what a function failed with is what reading fails with, unless memory ran out
+abbrev pub Fails : {A : Type 0} → DecodeError → Result A DecodeError → Type 0
+Fails (Memory e) read = ⊤
+Fails (Bad f) read = read ≡ Err (Bad f)
+Fails SectionUnbuilt read = read ≡ Err SectionUnbuilt
+
+-- what a function returned is what reading gives, unless memory ran out
+abbrev pub Gives : {A : Type 0} → Result A DecodeError → Result A DecodeError → Type 0
+Gives (Ok x) read = read ≡ Ok x
+Gives (Err e) read = Fails e read
+
+-- the same for a function that left the words at a place
+abbrev pub GivesAt : {A : Type 0} → Cursor → Result A DecodeError → Step A → Type 0
+GivesAt after (Ok x) read = read ≡ Ok (x, after)
+GivesAt after (Err e) read = Fails e read
+
+-- the same for a function that left an object as it is at a place
+abbrev pub GivesInto : {A : Type 0} → A → Cursor → Result ⊤ DecodeError → Step A → Type 0
+GivesInto value after (Ok x) read = read ≡ Ok (value, after)
+GivesInto value after (Err e) read = Fails e read

@@ -1,0 +1,117 @@
+//! The section of the masters.
+
+ghost use Rattle.std.specs.Prelude.{◌≡◌, ◌==◌, [], bit_and, not};
+ghost use Rattle.std.specs.List.{list_any};
+ghost use Rattle.pm_object.specs.Grammar.{is_master_node, splits_lockstep};
+ghost use Rattle.pm_object.specs.Reading.{GivesAt, master, master_mask, master_node, masters, records};
+
+use crate::object::{DecodeError, MasterRec, ObjectCause};
+use crate::words::{Words, fault};
+use pm_base::List;
+use std::alloc::Global;
+
+/// Whether the node is a master's: the application processors, the real-time processors as a pair
+/// in lockstep, or one of them alone (UG1200, nodes).
+fn is_master(node: u32) -> bool
+    ensures { result ≡ is_master_node node }
+{
+    matches!(node, 1 | 6 | 7 | 8)
+}
+
+/// Whether one node is the pair of real-time processors, and the other one of the two alone.
+fn is_split(a: u32, b: u32) -> bool
+    ensures { result ≡ splits_lockstep a b }
+{
+    a == 6 && (b == 7 || b == 8) || b == 6 && (a == 7 || a == 8)
+}
+
+fn has_split(earlier: &[MasterRec], node: u32) -> bool
+    ensures { result ≡ list_any (λ m. splits_lockstep m.node node) earlier.now }
+{
+    earlier.iter().any(|master| is_split(master.node, node))
+}
+
+fn has_node(earlier: &[MasterRec], node: u32) -> bool
+    ensures { result ≡ list_any (λ m. m.node == node) earlier.now }
+{
+    earlier.iter().any(|master| master.node == node)
+}
+
+fn has_bit(earlier: &[MasterRec], mask: u32) -> bool
+    ensures { result ≡ list_any (λ m. not (bit_and m.mask mask == 0)) earlier.now }
+{
+    earlier.iter().any(|master| master.mask & mask != 0)
+}
+
+#[tactic(auto, unfolding(crate::specs::Reading::master_node))]
+fn read_node(earlier: &[MasterRec], words: &mut Words) -> Result<u32, DecodeError>
+    ensures { GivesAt words.new result (master_node earlier.now words.old) }
+{
+    let place = words.place();
+    let node = words.next()?;
+    if !is_master(node) || has_split(earlier, node) {
+        return Err(fault(ObjectCause::BadMaster, place));
+    }
+    if has_node(earlier, node) {
+        return Err(fault(ObjectCause::RepeatedNode, place));
+    }
+    Ok(node)
+}
+
+#[tactic(auto, unfolding(crate::specs::Reading::master_mask))]
+fn read_mask(earlier: &[MasterRec], words: &mut Words) -> Result<u32, DecodeError>
+    ensures { GivesAt words.new result (master_mask earlier.now words.old) }
+{
+    let place = words.place();
+    let mask = words.next()?;
+    if mask.count_ones() != 1 || has_bit(earlier, mask) {
+        return Err(fault(ObjectCause::MaskRepeated, place));
+    }
+    Ok(mask)
+}
+
+#[tactic(auto, unfolding(crate::specs::Reading::master))]
+fn read_master(earlier: &[MasterRec], words: &mut Words) -> Result<MasterRec, DecodeError>
+    ensures { GivesAt words.new result (master earlier.now words.old) }
+{
+    let node = read_node(earlier, words)?;
+    let mask = read_mask(earlier, words)?;
+    let timeout = words.next()?;
+    let suspend = words.next()?;
+    let wake = words.next()?;
+    Ok(MasterRec {
+        node,
+        mask,
+        timeout,
+        suspend,
+        wake,
+    })
+}
+
+fn read_records(
+    alloc: Global,
+    count: u32,
+    words: &mut Words,
+) -> Result<List<MasterRec>, DecodeError>
+    ensures { GivesAt words.new result (records master count [] words.old) }
+{
+    let mut masters = List::new(alloc);
+    for _ in 0..count {
+        masters.push(read_master(masters.as_slice(), words)?)?;
+    }
+    Ok(masters)
+}
+
+/// Reads the masters. There is at least one, their nodes differ and go together, and each has one
+/// bit of its own.
+#[tactic(auto, unfolding(crate::specs::Reading::masters))]
+pub fn read_masters(alloc: Global, words: &mut Words) -> Result<List<MasterRec>, DecodeError>
+    ensures { GivesAt words.new result (masters words.old) }
+{
+    let place = words.place();
+    let count = words.next()?;
+    if count == 0 {
+        return Err(fault(ObjectCause::NoMasters, place));
+    }
+    read_records(alloc, count, words)
+}

@@ -1,0 +1,115 @@
+//! The sections of an object.
+
+ghost use Rattle.std.specs.Prelude.{◌≡◌};
+ghost use Rattle.pm_object.specs.Grammar.{identifier};
+ghost use Rattle.pm_object.specs.Reading.{GivesAt, GivesInto, is_among, section, section_body, section_name, section_of, sections};
+
+use crate::masters::read_masters;
+use crate::object::{DecodeError, Object, ObjectCause, Section};
+use crate::slaves::read_slaves;
+use crate::words::{Words, fault};
+use std::alloc::Global;
+
+impl Section {
+    /// The word that the section begins with.
+    pub fn identifier(self) -> u32
+        ensures { result ≡ identifier self }
+    {
+        match self {
+            Section::Masters => 0x101,
+            Section::Slaves => 0x102,
+            Section::Prealloc => 0x103,
+            Section::Power => 0x104,
+            Section::Reset => 0x105,
+            Section::Shutdown => 0x106,
+            Section::Config => 0x107,
+            Section::Gpo => 0x108,
+        }
+    }
+
+    /// The section that begins with this word, if there is one.
+    pub fn with_identifier(word: u32) -> Option<Section>
+        ensures { result ≡ section_of word }
+    {
+        match word {
+            0x101 => Some(Section::Masters),
+            0x102 => Some(Section::Slaves),
+            0x103 => Some(Section::Prealloc),
+            0x104 => Some(Section::Power),
+            0x105 => Some(Section::Reset),
+            0x106 => Some(Section::Shutdown),
+            0x107 => Some(Section::Config),
+            0x108 => Some(Section::Gpo),
+            _ => None,
+        }
+    }
+}
+
+fn has_section(order: &[Section], section: Section) -> bool
+    ensures { result ≡ is_among section order.now }
+{
+    order
+        .iter()
+        .any(|earlier| earlier.identifier() == section.identifier())
+}
+
+/// Reads the identifier of a section after those of `order`. The masters come first, and no section
+/// comes twice.
+#[tactic(auto, unfolding(crate::specs::Reading::section_name))]
+fn read_name(order: &[Section], words: &mut Words) -> Result<Section, DecodeError>
+    ensures { GivesAt words.new result (section_name order.now words.old) }
+{
+    let place = words.place();
+    let Some(section) = Section::with_identifier(words.next()?) else {
+        return Err(fault(ObjectCause::UnknownSection, place));
+    };
+    if has_section(order, section) {
+        return Err(fault(ObjectCause::RepeatedSection, place));
+    }
+    if order.is_empty() && section.identifier() != Section::Masters.identifier() {
+        return Err(fault(ObjectCause::NoMasters, place));
+    }
+    Ok(section)
+}
+
+#[tactic(auto, unfolding(crate::specs::Reading::section_body))]
+fn read_body(
+    alloc: Global,
+    section: Section,
+    object: &mut Object,
+    words: &mut Words,
+) -> Result<(), DecodeError>
+    ensures { GivesInto object.new words.new result (section_body section object.old words.old) }
+{
+    match section {
+        Section::Masters => object.masters = read_masters(alloc, words)?,
+        Section::Slaves => object.slaves = read_slaves(alloc, words)?,
+        _ => return Err(DecodeError::SectionUnbuilt),
+    }
+    Ok(())
+}
+
+#[tactic(auto, unfolding(crate::specs::Reading::section))]
+fn read_section(alloc: Global, object: &mut Object, words: &mut Words) -> Result<(), DecodeError>
+    ensures { GivesInto object.new words.new result (section object.old words.old) }
+{
+    let section = read_name(object.order.as_slice(), words)?;
+    read_body(alloc, section, object, words)?;
+    object.order.push(section)?;
+    Ok(())
+}
+
+/// Reads so many sections into an object.
+pub fn read_sections(
+    alloc: Global,
+    count: u32,
+    object: &mut Object,
+    words: &mut Words,
+) -> Result<(), DecodeError>
+    ensures { GivesInto object.new words.new result (sections count object.old words.old) }
+{
+    for _ in 0..count {
+        read_section(alloc, object, words)?;
+    }
+    Ok(())
+}
