@@ -1,2 +1,3 @@
 pub mod FrontsLemmas
 pub mod LinesLemmas
+pub mod MeaningLemmas
