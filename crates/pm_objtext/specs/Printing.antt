@@ -1,0 +1,80 @@
+-- The text of an object.
+use Rattle.std.specs.Prelude.{ℕ, zero, suc, ◌-◌, ◌/◌, List, [], ◌∷◌, ◌++◌, length, take, drop, map, decimal}
+use Rattle.std.specs.List.{flat_map}
+use Rattle.pm_object.specs.declared.object.PreGroup.{PreGroup}
+use Rattle.pm_object.specs.declared.object.Object.{Object}
+use Rattle.pm_object.specs.declared.object.Section.{Section}
+use Rattle.pm_object.specs.declared.object.Section.TheVariants as sections
+use Rattle.pm_objtext.specs.declared.names.Keyword.{Keyword}
+use Rattle.pm_objtext.specs.declared.names.Keyword.TheVariants as keywords
+use Rattle.pm_objtext.specs.declared.item.Item.{Item}
+use Rattle.pm_objtext.specs.declared.item.Item.TheVariants.{Empty, Header, Opens, Master, Slave, Group, Prefer, Power, Reset, Shutdown, Config, Gpo}
+use Rattle.pm_objtext.specs.Names.{keyword_text, section_text}
+
+-- ---- the lines
+
+-- a number after a word: a space and its decimal digits
+abbrev pub number_text : ℕ → List ℕ
+number_text n = 32 ∷ decimal n
+
+-- a line of a keyword and numbers
+abbrev pub numbers_line : Keyword → List ℕ → List ℕ
+numbers_line keyword numbers = keyword_text keyword ++ flat_map number_text numbers
+
+-- the line that says an item, without its line feed
+abbrev pub line_of : Item → List ℕ
+line_of Empty = []
+line_of (Header extra) = numbers_line keywords.Header extra.items
+line_of (Opens section) = keyword_text keywords.Section ++ 32 ∷ section_text section
+line_of (Master m) = numbers_line keywords.Master (m.node ∷ m.mask ∷ m.timeout ∷ m.suspend ∷ m.wake ∷ [])
+line_of (Slave s) = numbers_line keywords.Slave (s.node ∷ s.flags ∷ s.mask ∷ [])
+line_of (Group mask) = numbers_line keywords.Group (mask ∷ [])
+line_of (Prefer rec) = numbers_line keywords.Prefer (rec.node ∷ rec.flags ∷ rec.current ∷ rec.preset ∷ [])
+line_of (Power pair) = numbers_line keywords.Power (pair.key ∷ pair.mask ∷ [])
+line_of (Reset pair) = numbers_line keywords.Reset (pair.key ∷ pair.mask ∷ [])
+line_of (Shutdown pair) = numbers_line keywords.Shutdown (pair.key ∷ pair.mask ∷ [])
+line_of (Config base overlay) = numbers_line keywords.Config (base ∷ overlay ∷ [])
+line_of (Gpo word) = numbers_line keywords.Gpo (word ∷ [])
+
+abbrev pub ended_line : Item → List ℕ
+ended_line item = line_of item ++ 10 ∷ []
+
+-- the lines of items, each with its line feed
+abbrev pub lines_text : List Item → List ℕ
+lines_text items = flat_map ended_line items
+
+-- ---- the items of an object
+
+-- so many header lines of 16 words each, and one with the words that are left
+abbrev pub header_lines : ℕ → List ℕ → List Item
+header_lines zero extra = Header (record { items = extra }) ∷ []
+header_lines (suc full) extra = Header (record { items = take 16 extra }) ∷ header_lines full (drop 16 extra)
+
+-- one line where there are no extra header words; else each line but the last has 16, and the last 1 to 16
+abbrev pub header_items : List ℕ → List Item
+header_items extra = header_lines ((length extra - 1) / 16) extra
+
+abbrev pub group_items : PreGroup → List Item
+group_items group = Group group.mask ∷ map Prefer group.recs
+
+-- what stands in a section, in order
+abbrev pub record_items : Section → Object → List Item
+record_items sections.Masters o = map Master o.masters
+record_items sections.Slaves o = map Slave o.slaves
+record_items sections.Prealloc o = flat_map group_items o.groups
+record_items sections.Power o = map Power o.power
+record_items sections.Reset o = map Reset o.reset
+record_items sections.Shutdown o = map Shutdown o.shutdown
+record_items sections.Config o = Config o.base_mask o.overlay_mask ∷ []
+record_items sections.Gpo o = Gpo o.gpo ∷ []
+
+abbrev pub section_items : Object → Section → List Item
+section_items o section = Opens section ∷ record_items section o
+
+-- the header and the sections, in the object's order
+abbrev pub items_of : Object → List Item
+items_of o = header_items o.extra ++ flat_map (section_items o) o.order
+
+-- the text of an object
+unfoldable pub text_of : Object → List ℕ
+text_of o = lines_text (items_of o)
