@@ -1,0 +1,25 @@
+-- What calls on a row look at, and how they change it.
+use Rattle.std.specs.Prelude.{Bool, false, List, [], ◌∷◌, Option, Some, None}
+use Rattle.std.specs.Option.{option_map_or}
+use Rattle.pm_base.specs.declared.caps.Caps.{Caps}
+use Rattle.pm_core.specs.declared.rows.Entry.{Entry}
+use Rattle.pm_core.specs.declared.rows.Change.{Change}
+use Rattle.pm_core.specs.declared.views.RowView.{RowView}
+use Rattle.pm_core.specs.Choice.{has_all}
+use Rattle.pm_core.specs.Prims.{Prim, At_row}
+
+-- the caller uses the slave
+abbrev pub is_in_use : RowView → Bool
+is_in_use view = option_map_or (λ (entry : Entry). entry.row.used) view.entry false
+
+-- the slave has all these capabilities
+abbrev pub can_have : Caps → RowView → Bool
+can_have caps view = option_map_or (λ (entry : Entry). has_all entry.seed.all caps) view.entry false
+
+-- this change of the row, where it is there
+abbrev pub changes_of : Change → Option Entry → List Prim
+changes_of by None = []
+changes_of by (Some entry) = At_row entry.seed.master entry.seed.slave by ∷ []
+
+abbrev pub row_changes : Change → RowView → List Prim
+row_changes by view = changes_of by view.entry

@@ -1,0 +1,77 @@
+-- The step: what an event does to the book, and what it puts out.
+use Rattle.std.specs.Prelude.{ℕ, Bool, true, false, not, ◌==◌, List, [], Option, Some, None, option_map}
+use Rattle.pm_base.specs.declared.names.NodeId.{NodeId}
+use Rattle.pm_base.specs.declared.names.Unit.TheVariants.{Node}
+use Rattle.pm_base.specs.declared.events.Message.{Message}
+use Rattle.pm_base.specs.declared.events.Event.{Event}
+use Rattle.pm_base.specs.declared.events.Event.TheVariants.{Ipi}
+use Rattle.pm_core.specs.declared.calls.Call.{Call}
+use Rattle.pm_core.specs.declared.calls.Call.TheVariants.{GetNodeStatus, RequestNode, ReleaseNode, Unknown}
+use Rattle.pm_core.specs.declared.calls.AckKind.{AckKind}
+use Rattle.pm_core.specs.declared.calls.AckKind.TheVariants.{No, Blocking, NonBlocking}
+use Rattle.pm_core.specs.declared.replies.Response.{Response}
+use Rattle.pm_core.specs.declared.replies.Answer.{Answer}
+use Rattle.pm_core.specs.declared.replies.Answer.TheVariants.{Silent, Drop, Reply, Ack}
+use Rattle.pm_core.specs.declared.replies.Outbox.{Outbox}
+use Rattle.pm_core.specs.Status.{no_feature}
+use Rattle.pm_core.specs.Calls.{call_of, ack_of, node_of}
+use Rattle.pm_core.specs.Views.{row_view, status_view}
+use Rattle.pm_core.specs.GetNodeStatus.{get_node_status}
+use Rattle.pm_core.specs.RequestNode.{request_node}
+use Rattle.pm_core.specs.ReleaseNode.{release_node}
+use Rattle.pm_core.specs.Outcome.{Outcome, refusal, refused}
+use Rattle.pm_core.specs.Prims.{Prim, changed}
+use Rattle.pm_core.specs.Values.{master_place, value}
+use Rattle.pm_core.specs.State.{State}
+
+-- what a call of the configured master at place m comes to
+abbrev pub called : ℕ → Call → State → Outcome
+called m (GetNodeStatus node) book = get_node_status (status_view m node book)
+called m (RequestNode node caps ack) book = request_node caps ack (row_view m node book)
+called m (ReleaseNode node) book = release_node (row_view m node book)
+called m Unknown book = refused (refusal no_feature)
+
+-- what a message comes to: nothing where its sender is no configured master
+abbrev pub verdict : NodeId → Message → State → Option Outcome
+verdict master message book = option_map (λ (m : ℕ). called m (call_of message) book) (master_place master book)
+
+abbrev pub changes_of : Option Outcome → List Prim
+changes_of None = []
+changes_of (Some outcome) = outcome.changes
+
+-- only messages change the book
+abbrev pub changes : Event → State → List Prim
+changes (Ipi master message) book = changes_of (verdict master message book)
+changes _ book = []
+
+-- the book after an event
+abbrev pub effect : Event → State → State
+effect event book = changed (changes event book) book
+
+-- how a response reaches the caller, by the acknowledge kind of the call, in the book after it
+abbrev pub acknowledged : AckKind → NodeId → NodeId → Response → State → Answer
+acknowledged No master node response after = Silent
+acknowledged Blocking master node response after = Reply master response
+acknowledged NonBlocking master node response after = Ack master node response.status (value (Node node) after) true
+
+abbrev pub answered : NodeId → Call → Option Outcome → State → Answer
+answered master call None after = Drop master
+answered master call (Some outcome) after = acknowledged (ack_of call) master (node_of call) outcome.response after
+
+-- the answer to an event
+abbrev pub answer_to : Event → State → Answer
+answer_to (Ipi master message) book = answered master (call_of message) (verdict master message book) (effect (Ipi master message) book)
+answer_to _ book = Silent
+
+-- what a step puts out
+abbrev pub outputs : Event → State → Outbox
+outputs event book = record { answer = answer_to event book }
+
+abbrev pub is_refusal : Option Outcome → Bool
+is_refusal None = true
+is_refusal (Some outcome) = not (outcome.response.status == 0)
+
+-- a message that is dropped, or whose status isn't 0
+abbrev pub is_refused : Event → State → Bool
+is_refused (Ipi master message) book = is_refusal (verdict master message book)
+is_refused _ book = false
