@@ -1,3 +1,4 @@
 pub mod FrontsLemmas
 pub mod LinesLemmas
 pub mod MeaningLemmas
+pub mod TextLinesLemmas

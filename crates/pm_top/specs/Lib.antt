@@ -1,3 +1,5 @@
 pub mod Fronts
 pub mod Lines
 pub mod Meaning
+pub mod TextLines
+pub mod Text
