@@ -3,3 +3,4 @@ pub mod Lines
 pub mod Meaning
 pub mod TextLines
 pub mod Text
+pub mod FaultLines

@@ -1,6 +1,10 @@
 -- The text of a run, line by line: the answer of each step, and the closing table.
-use Rattle.std.specs.Prelude.{ℕ, if◌then◌else◌, List, [], ◌∷◌, map, slice_index}
+use Rattle.std.specs.Prelude.{ℕ, ◌==◌, if◌then◌else◌, List, [], ◌∷◌, ◌++◌, map, slice_index}
 use Rattle.std.specs.List.{concat}
+use Rattle.pm_base.specs.declared.names.Unit.{Unit as Place}
+use Rattle.pm_base.specs.declared.names.Unit.TheVariants.{Node, Line}
+use Rattle.pm_core.specs.State.{State}
+use Rattle.pm_core.specs.Values.{units, value}
 use Rattle.pm_core.specs.declared.replies.Answer.{Answer}
 use Rattle.pm_core.specs.declared.replies.Answer.TheVariants.{Silent, Drop, Reply, Ack}
 use Rattle.pm_core.specs.declared.replies.Outbox.{Outbox}
@@ -35,3 +39,26 @@ step_lines n out = map (numbered_line n) (step_words out)
 -- the text of step n
 abbrev pub step_text : ℕ → Outbox → List ℕ
 step_text n out = concat (step_lines n out)
+
+-- what a unit is called in the closing table, and its number
+abbrev pub unit_name : Place → List Word
+unit_name (Node node) = word.Slave ∷ word.Number node.0 ∷ []
+unit_name (Line reset) = word.Line ∷ word.Number reset.0 ∷ []
+
+-- the closing line of a unit with this value: nothing where it is 0
+abbrev pub unit_line : Place → ℕ → List ℕ
+unit_line unit n = if n == 0 then [] else line_text (word.End ∷ (unit_name unit ++ word.Number n ∷ []))
+
+abbrev pub unit_text : State → Place → List ℕ
+unit_text book unit = unit_line unit (value unit book)
+
+-- the values of all units in order
+abbrev pub unit_value : State → Place → ℕ
+unit_value book unit = value unit book
+
+abbrev pub unit_values : State → List ℕ
+unit_values book = map (unit_value book) (units book)
+
+-- the closing table: the lines of all units in order
+abbrev pub closing_text : State → List ℕ
+closing_text book = concat (map (unit_text book) (units book))
