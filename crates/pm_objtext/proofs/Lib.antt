@@ -1,1 +1,4 @@
+pub mod GroupsLemmas
 pub mod Headers
+pub mod LinesLemmas
+pub mod ReadingLemmas

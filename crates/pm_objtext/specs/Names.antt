@@ -1,5 +1,5 @@
 -- The words of an object's text that are no numbers.
-use Rattle.std.specs.Prelude.{ℕ, List, codes}
+use Rattle.std.specs.Prelude.{ℕ, List, [], ◌∷◌, codes}
 use Rattle.pm_object.specs.declared.object.Section.{Section}
 use Rattle.pm_object.specs.declared.object.Section.TheVariants as sections
 use Rattle.pm_objtext.specs.declared.names.Keyword.{Keyword}
@@ -29,3 +29,9 @@ section_text sections.Reset = codes "reset"
 section_text sections.Shutdown = codes "shutdown"
 section_text sections.Config = codes "config"
 section_text sections.Gpo = codes "gpo"
+
+abbrev pub all_keywords : List Keyword
+all_keywords = keywords.Header ∷ keywords.Section ∷ keywords.Master ∷ keywords.Slave ∷ keywords.Group ∷ keywords.Prefer ∷ keywords.Power ∷ keywords.Reset ∷ keywords.Shutdown ∷ keywords.Config ∷ keywords.Gpo ∷ []
+
+abbrev pub all_sections : List Section
+all_sections = sections.Masters ∷ sections.Slaves ∷ sections.Prealloc ∷ sections.Power ∷ sections.Reset ∷ sections.Shutdown ∷ sections.Config ∷ sections.Gpo ∷ []

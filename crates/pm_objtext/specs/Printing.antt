@@ -5,6 +5,7 @@ use Rattle.pm_object.specs.declared.object.PreGroup.{PreGroup}
 use Rattle.pm_object.specs.declared.object.Object.{Object}
 use Rattle.pm_object.specs.declared.object.Section.{Section}
 use Rattle.pm_object.specs.declared.object.Section.TheVariants as sections
+use Rattle.pm_object.specs.Grammar.{master_words, slave_words, preset_words, pair_words}
 use Rattle.pm_objtext.specs.declared.names.Keyword.{Keyword}
 use Rattle.pm_objtext.specs.declared.names.Keyword.TheVariants as keywords
 use Rattle.pm_objtext.specs.declared.item.Item.{Item}
@@ -26,13 +27,13 @@ abbrev pub line_of : Item → List ℕ
 line_of Empty = []
 line_of (Header extra) = numbers_line keywords.Header extra.items
 line_of (Opens section) = keyword_text keywords.Section ++ 32 ∷ section_text section
-line_of (Master m) = numbers_line keywords.Master (m.node ∷ m.mask ∷ m.timeout ∷ m.suspend ∷ m.wake ∷ [])
-line_of (Slave s) = numbers_line keywords.Slave (s.node ∷ s.flags ∷ s.mask ∷ [])
+line_of (Master m) = numbers_line keywords.Master (master_words m)
+line_of (Slave s) = numbers_line keywords.Slave (slave_words s)
 line_of (Group mask) = numbers_line keywords.Group (mask ∷ [])
-line_of (Prefer rec) = numbers_line keywords.Prefer (rec.node ∷ rec.flags ∷ rec.current ∷ rec.preset ∷ [])
-line_of (Power pair) = numbers_line keywords.Power (pair.key ∷ pair.mask ∷ [])
-line_of (Reset pair) = numbers_line keywords.Reset (pair.key ∷ pair.mask ∷ [])
-line_of (Shutdown pair) = numbers_line keywords.Shutdown (pair.key ∷ pair.mask ∷ [])
+line_of (Prefer rec) = numbers_line keywords.Prefer (preset_words rec)
+line_of (Power pair) = numbers_line keywords.Power (pair_words pair)
+line_of (Reset pair) = numbers_line keywords.Reset (pair_words pair)
+line_of (Shutdown pair) = numbers_line keywords.Shutdown (pair_words pair)
 line_of (Config base overlay) = numbers_line keywords.Config (base ∷ overlay ∷ [])
 line_of (Gpo word) = numbers_line keywords.Gpo (word ∷ [])
 

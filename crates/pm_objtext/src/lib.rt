@@ -2,10 +2,17 @@
 //! header, section and record (the sections are those of UG1137, configuration object).
 #![tactic(auto)]
 
+mod building;
+mod draft;
 mod fault;
+mod groups;
 mod item;
+mod lines;
 mod names;
 mod printing;
+mod reading;
+mod stage;
 
+pub use building::build;
 pub use fault::{BuildError, TextCause, TextFault};
 pub use printing::print;

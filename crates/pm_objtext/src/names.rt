@@ -55,3 +55,30 @@ pub fn section_text(section: Section) -> &'static [u8]
         Section::Gpo => b"gpo",
     }
 }
+
+/// All keywords.
+pub static ALL_KEYWORDS: [Keyword; 11] = [
+    Keyword::Header,
+    Keyword::Section,
+    Keyword::Master,
+    Keyword::Slave,
+    Keyword::Group,
+    Keyword::Prefer,
+    Keyword::Power,
+    Keyword::Reset,
+    Keyword::Shutdown,
+    Keyword::Config,
+    Keyword::Gpo,
+];
+
+/// All sections.
+pub static ALL_SECTIONS: [Section; 8] = [
+    Section::Masters,
+    Section::Slaves,
+    Section::Prealloc,
+    Section::Power,
+    Section::Reset,
+    Section::Shutdown,
+    Section::Config,
+    Section::Gpo,
+];

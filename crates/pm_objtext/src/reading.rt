@@ -1,0 +1,233 @@
+//! What a line of a text says.
+
+ghost use Rattle.std.specs.Prelude.{◌≡◌, slice_get, drop};
+ghost use Rattle.std.specs.Option.{option_copied, option_map};
+ghost use Rattle.std.specs.List.{list_all};
+ghost use Rattle.pm_base.specs.Words.{without_return};
+ghost use Rattle.pm_objtext.specs.Reading.{is_text, is_readable, texts, number, numbers, keyword_of, section_of, opening, master_of, slave_of, group_of, preset_of, power_of, reset_of, shutdown_of, config_of, gpo_of, record_of, keyword_item, words_item, item_of};
+
+use crate::item::{Item, Numbers};
+use crate::names::{ALL_KEYWORDS, ALL_SECTIONS, Keyword, keyword_text, section_text};
+use pm_base::{number, word};
+use pm_object::{MasterRec, Pair, PreRec, Section, SlaveRec};
+
+fn is_text(byte: u8) -> bool
+    ensures { result ≡ is_text byte }
+{
+    byte == b'\t' || 32 <= byte && byte <= 126
+}
+
+fn without_return(line: &[u8]) -> &[u8]
+    ensures { result.now ≡ without_return line.now }
+{
+    match line {
+        [text @ .., b'\r'] => text,
+        _ => line,
+    }
+}
+
+fn is_all_text(text: &[u8]) -> bool
+    ensures { result ≡ list_all is_text text.now }
+{
+    text.iter().all(|byte| is_text(*byte))
+}
+
+fn is_readable(line: &[u8]) -> bool
+    ensures { result ≡ is_readable line.now }
+{
+    line.len() <= 255 && is_all_text(without_return(line))
+}
+
+/// The `k`-th word of a line, counted from 0.
+#[tactic(auto, unfolding(crate::specs::Reading::texts))]
+fn word_at(line: &[u8], k: usize) -> Option<&[u8]>
+    ensures { option_copied result ≡ slice_get (texts line.now) k }
+{
+    let (first, end) = word(line, k)?;
+    Some(&line[first..end])
+}
+
+fn number_at(word: &[u8]) -> Option<u32>
+    ensures { result ≡ number word.now }
+{
+    number(word, u64::from(u32::MAX)).map(|n| n as u32)
+}
+
+/// The words after the first one as numbers, where there are at most 16.
+fn numbers_after(line: &[u8]) -> Option<Numbers>
+    ensures { option_map (λ numbers. numbers.items) result ≡ numbers (drop 1 (texts line.now)) }
+{
+    let mut numbers = Numbers::new();
+    let mut k = 1;
+    'words: while let Some(word) = word_at(line, k) {
+        if numbers.is_full() {
+            return None;
+        }
+        numbers.push(number_at(word)?);
+        k += 1;
+    }
+    Some(numbers)
+}
+
+fn keyword_of(word: &[u8]) -> Option<Keyword>
+    ensures { result ≡ keyword_of word.now }
+{
+    ALL_KEYWORDS
+        .iter()
+        .copied()
+        .find(|keyword| keyword_text(*keyword) == word)
+}
+
+fn section_of(word: &[u8]) -> Option<Section>
+    ensures { result ≡ section_of word.now }
+{
+    ALL_SECTIONS
+        .iter()
+        .copied()
+        .find(|section| section_text(*section) == word)
+}
+
+fn opening(line: &[u8]) -> Option<Item>
+    ensures { result ≡ opening (slice_get (texts line.now) 1) (slice_get (texts line.now) 2) }
+{
+    let name = word_at(line, 1)?;
+    if word_at(line, 2).is_some() {
+        return None;
+    }
+    section_of(name).map(Item::Opens)
+}
+
+fn master_of(numbers: &[u32]) -> Option<Item>
+    ensures { result ≡ master_of numbers.now }
+{
+    let [node, mask, timeout, suspend, wake] = *numbers else {
+        return None;
+    };
+    Some(Item::Master(MasterRec {
+        node,
+        mask,
+        timeout,
+        suspend,
+        wake,
+    }))
+}
+
+fn slave_of(numbers: &[u32]) -> Option<Item>
+    ensures { result ≡ slave_of numbers.now }
+{
+    let [node, flags, mask] = *numbers else {
+        return None;
+    };
+    Some(Item::Slave(SlaveRec { node, flags, mask }))
+}
+
+fn group_of(numbers: &[u32]) -> Option<Item>
+    ensures { result ≡ group_of numbers.now }
+{
+    let [mask] = *numbers else {
+        return None;
+    };
+    Some(Item::Group(mask))
+}
+
+fn preset_of(numbers: &[u32]) -> Option<Item>
+    ensures { result ≡ preset_of numbers.now }
+{
+    let [node, flags, current, preset] = *numbers else {
+        return None;
+    };
+    Some(Item::Prefer(PreRec {
+        node,
+        flags,
+        current,
+        preset,
+    }))
+}
+
+fn power_of(numbers: &[u32]) -> Option<Item>
+    ensures { result ≡ power_of numbers.now }
+{
+    let [key, mask] = *numbers else {
+        return None;
+    };
+    Some(Item::Power(Pair { key, mask }))
+}
+
+fn reset_of(numbers: &[u32]) -> Option<Item>
+    ensures { result ≡ reset_of numbers.now }
+{
+    let [key, mask] = *numbers else {
+        return None;
+    };
+    Some(Item::Reset(Pair { key, mask }))
+}
+
+fn shutdown_of(numbers: &[u32]) -> Option<Item>
+    ensures { result ≡ shutdown_of numbers.now }
+{
+    let [key, mask] = *numbers else {
+        return None;
+    };
+    Some(Item::Shutdown(Pair { key, mask }))
+}
+
+fn config_of(numbers: &[u32]) -> Option<Item>
+    ensures { result ≡ config_of numbers.now }
+{
+    let [base, overlay] = *numbers else {
+        return None;
+    };
+    Some(Item::Config(base, overlay))
+}
+
+fn gpo_of(numbers: &[u32]) -> Option<Item>
+    ensures { result ≡ gpo_of numbers.now }
+{
+    let [word] = *numbers else {
+        return None;
+    };
+    Some(Item::Gpo(word))
+}
+
+fn record_of(keyword: Keyword, numbers: Numbers) -> Option<Item>
+    ensures { result ≡ record_of keyword numbers.items }
+{
+    let words = numbers.as_slice();
+    match keyword {
+        Keyword::Header => Some(Item::Header(numbers)),
+        Keyword::Section => None,
+        Keyword::Master => master_of(words),
+        Keyword::Slave => slave_of(words),
+        Keyword::Group => group_of(words),
+        Keyword::Prefer => preset_of(words),
+        Keyword::Power => power_of(words),
+        Keyword::Reset => reset_of(words),
+        Keyword::Shutdown => shutdown_of(words),
+        Keyword::Config => config_of(words),
+        Keyword::Gpo => gpo_of(words),
+    }
+}
+
+fn keyword_item(keyword: Keyword, line: &[u8]) -> Option<Item>
+    ensures { result ≡ keyword_item keyword (texts line.now) }
+{
+    match keyword {
+        Keyword::Section => opening(line),
+        _ => record_of(keyword, numbers_after(line)?),
+    }
+}
+
+/// What a line says; `None` where it is too long, isn't ASCII, or has an unknown word, a wrong
+/// count or a bad number.
+#[tactic(auto, unfolding(crate::specs::Reading::item_of))]
+pub fn item_of(line: &[u8]) -> Option<Item>
+    ensures { result ≡ item_of line.now }
+{
+    if !is_readable(line) {
+        return None;
+    }
+    let Some(first) = word_at(line, 0) else {
+        return Some(Item::Empty);
+    };
+    keyword_item(keyword_of(first)?, line)
+}
