@@ -1,2 +1,4 @@
 pub mod Chip
 pub mod Classes
+pub mod FirstFault
+pub mod WellFormed

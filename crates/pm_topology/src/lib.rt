@@ -2,9 +2,12 @@
 //! masters, and the rules that such a table keeps.
 #![tactic(auto)]
 
+pub mod check;
 pub mod chip;
 pub mod classes;
+pub mod faults;
 pub mod topology;
 
 pub use chip::zynqmp;
+pub use faults::{TopoCause, TopoFault};
 pub use topology::{LineDef, MasterDef, PowerDef, ProcDef, SlaveDef, SlaveState, Topology};

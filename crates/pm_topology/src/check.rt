@@ -1,0 +1,280 @@
+//! Whether a topology keeps the rules.
+
+ghost use Rattle.std.specs.Prelude.{◌≡◌, ◌-◌, ◌≤◌, ◌&&◌, ◌==◌, None, MatchResult, length, not};
+ghost use Rattle.std.specs.List.{list_any, list_all};
+ghost use Rattle.pm_topology.specs.FirstFault.{covers, first_at, first_fault, has_power, has_proc, has_slave, is_bad_target, is_full, is_late, last_is_full, line_cause, master_cause, power_cause, proc_cause, slave_cause};
+
+use crate::faults::{TopoCause, TopoFault};
+use crate::topology::{
+    LineDef, MasterDef, PowerDef, ProcDef, SlaveDef, SlaveState, Topology,
+};
+use bitflags::Flags;
+use pm_base::{LineId, NodeId};
+
+/// The limits of the lists of a topology, and of the states of a slave.
+const MAX_POWERS: usize = 8;
+const MAX_PROCS: usize = 8;
+const MAX_SLAVES: usize = 64;
+const MAX_LINES: usize = 64;
+const MAX_MASTERS: usize = 4;
+const MAX_STATES: usize = 4;
+
+impl Topology {
+    /// Whether the topology keeps the rules: the power nodes first, then the processors, the
+    /// slaves, the reset lines and the masters.
+    ///
+    /// # Errors
+    ///
+    /// The fault is the first entry that breaks a rule, and of its causes the first in this order:
+    /// `TooMany`, `Repeated`, `ParentLate`, `NoStates`, `LastNotFull`, `BadTarget`, `BadMember`.
+    pub fn check(&self) -> Result<(), TopoFault>
+        ensures first { MatchResult result (λ _. first_fault self.now ≡ None) (λ fault. first_fault self.now ≡ Some fault) }
+    {
+        self.check_powers()?;
+        self.check_procs()?;
+        self.check_slaves()?;
+        self.check_lines()?;
+        self.check_masters()
+    }
+
+    fn check_powers(&self) -> Result<(), TopoFault>
+        ensures {
+            let first = first_at (power_cause self.now) 0 self.now.powers in
+            MatchResult result (λ _. first ≡ None) (λ fault. first ≡ Some fault)
+        }
+    {
+        for (place, power) in self.powers.as_slice().iter().enumerate() {
+            if let Some(cause) = self.power_cause(place, power) {
+                return Err(TopoFault { cause, place });
+            }
+        }
+        Ok(())
+    }
+
+    fn check_procs(&self) -> Result<(), TopoFault>
+        ensures {
+            let first = first_at (proc_cause self.now) 0 self.now.procs in
+            MatchResult result (λ _. first ≡ None) (λ fault. first ≡ Some fault)
+        }
+    {
+        for (place, proc) in self.procs.as_slice().iter().enumerate() {
+            if let Some(cause) = self.proc_cause(place, proc) {
+                return Err(TopoFault { cause, place });
+            }
+        }
+        Ok(())
+    }
+
+    fn check_slaves(&self) -> Result<(), TopoFault>
+        ensures {
+            let first = first_at (slave_cause self.now) 0 self.now.slaves in
+            MatchResult result (λ _. first ≡ None) (λ fault. first ≡ Some fault)
+        }
+    {
+        for (place, slave) in self.slaves.as_slice().iter().enumerate() {
+            if let Some(cause) = self.slave_cause(place, slave) {
+                return Err(TopoFault { cause, place });
+            }
+        }
+        Ok(())
+    }
+
+    fn check_lines(&self) -> Result<(), TopoFault>
+        ensures {
+            let first = first_at (line_cause self.now) 0 self.now.lines in
+            MatchResult result (λ _. first ≡ None) (λ fault. first ≡ Some fault)
+        }
+    {
+        for (place, line) in self.lines.as_slice().iter().enumerate() {
+            if let Some(cause) = self.line_cause(place, line) {
+                return Err(TopoFault { cause, place });
+            }
+        }
+        Ok(())
+    }
+
+    fn check_masters(&self) -> Result<(), TopoFault>
+        ensures {
+            let first = first_at (master_cause self.now) 0 self.now.masters in
+            MatchResult result (λ _. first ≡ None) (λ fault. first ≡ Some fault)
+        }
+    {
+        for (place, master) in self.masters.as_slice().iter().enumerate() {
+            if let Some(cause) = self.master_cause(place, master) {
+                return Err(TopoFault { cause, place });
+            }
+        }
+        Ok(())
+    }
+
+    /// The first rule that a power node breaks.
+    fn power_cause(&self, place: usize, power: &PowerDef) -> Option<TopoCause>
+        requires { place ≤ length self.now.powers }
+        ensures { result ≡ power_cause self.now place power.now }
+    {
+        if place >= MAX_POWERS {
+            Some(TopoCause::TooMany)
+        } else if has_power(&self.powers.as_slice()[..place], power.node) {
+            Some(TopoCause::Repeated)
+        } else if is_late(place, power.parent) {
+            Some(TopoCause::ParentLate)
+        } else {
+            None
+        }
+    }
+
+    /// The first rule that a processor breaks.
+    fn proc_cause(&self, place: usize, proc: &ProcDef) -> Option<TopoCause>
+        requires { place ≤ length self.now.procs }
+        ensures { result ≡ proc_cause self.now place proc.now }
+    {
+        if place >= MAX_PROCS {
+            Some(TopoCause::TooMany)
+        } else if has_power(self.powers.as_slice(), proc.node)
+            || has_proc(&self.procs.as_slice()[..place], proc.node)
+        {
+            Some(TopoCause::Repeated)
+        } else if proc.parent >= self.powers.len() {
+            Some(TopoCause::ParentLate)
+        } else {
+            None
+        }
+    }
+
+    /// The first rule that a slave breaks.
+    fn slave_cause(&self, place: usize, slave: &SlaveDef) -> Option<TopoCause>
+        requires { place ≤ length self.now.slaves }
+        ensures { result ≡ slave_cause self.now place slave.now }
+    {
+        if place >= MAX_SLAVES || slave.states.len() > MAX_STATES {
+            Some(TopoCause::TooMany)
+        } else if has_power(self.powers.as_slice(), slave.node)
+            || has_proc(self.procs.as_slice(), slave.node)
+            || has_slave(&self.slaves.as_slice()[..place], slave.node)
+        {
+            Some(TopoCause::Repeated)
+        } else if slave.parent >= self.powers.len() {
+            Some(TopoCause::ParentLate)
+        } else if slave.states.len() == 0 {
+            Some(TopoCause::NoStates)
+        } else if !last_is_full(slave.states.as_slice()) {
+            Some(TopoCause::LastNotFull)
+        } else {
+            None
+        }
+    }
+
+    /// The first rule that a reset line breaks.
+    fn line_cause(&self, place: usize, line: &LineDef) -> Option<TopoCause>
+        requires { place ≤ length self.now.lines }
+        ensures { result ≡ line_cause self.now place line.now }
+    {
+        if place >= MAX_LINES {
+            Some(TopoCause::TooMany)
+        } else if has_line(&self.lines.as_slice()[..place], line.line) {
+            Some(TopoCause::Repeated)
+        } else if self.is_bad_target(line.target) {
+            Some(TopoCause::BadTarget)
+        } else {
+            None
+        }
+    }
+
+    /// The first rule that a master breaks.
+    fn master_cause(&self, place: usize, master: &MasterDef) -> Option<TopoCause>
+        requires { place ≤ length self.now.masters }
+        ensures { result ≡ master_cause self.now place master.now }
+    {
+        if place >= MAX_MASTERS {
+            Some(TopoCause::TooMany)
+        } else if has_master(&self.masters.as_slice()[..place], master.node) {
+            Some(TopoCause::Repeated)
+        } else if master.procs.len() == 0 || self.has_stranger(master.procs.as_slice()) {
+            Some(TopoCause::BadMember)
+        } else {
+            None
+        }
+    }
+
+    /// Whether a reset line's target is no processor and no slave.
+    fn is_bad_target(&self, target: Option<NodeId>) -> bool
+        ensures { result ≡ is_bad_target self.now target }
+    {
+        match target {
+            Some(node) => {
+                !(has_proc(self.procs.as_slice(), node) || has_slave(self.slaves.as_slice(), node))
+            }
+            None => false,
+        }
+    }
+
+    /// Whether one of these nodes isn't a processor.
+    fn has_stranger(&self, nodes: &[NodeId]) -> bool
+        ensures { result ≡ list_any (λ n. not (has_proc n.0 self.now.procs)) nodes.now }
+    {
+        nodes.iter().any(|node| !has_proc(self.procs.as_slice(), *node))
+    }
+}
+
+fn has_power(powers: &[PowerDef], node: NodeId) -> bool
+    ensures { result ≡ has_power node.0 powers.now }
+{
+    powers.iter().any(|power| power.node == node)
+}
+
+fn has_proc(procs: &[ProcDef], node: NodeId) -> bool
+    ensures { result ≡ has_proc node.0 procs.now }
+{
+    procs.iter().any(|proc| proc.node == node)
+}
+
+fn has_slave(slaves: &[SlaveDef], node: NodeId) -> bool
+    ensures { result ≡ has_slave node.0 slaves.now }
+{
+    slaves.iter().any(|slave| slave.node == node)
+}
+
+fn has_line(lines: &[LineDef], line: LineId) -> bool
+    ensures { result ≡ list_any (λ e. e.line.0 == line.0) lines.now }
+{
+    lines.iter().any(|entry| entry.line == line)
+}
+
+fn has_master(masters: &[MasterDef], node: NodeId) -> bool
+    ensures { result ≡ list_any (λ e. e.node.0 == node.0) masters.now }
+{
+    masters.iter().any(|master| master.node == node)
+}
+
+/// Whether a power node's parent doesn't stand earlier.
+fn is_late(place: usize, parent: Option<usize>) -> bool
+    ensures { result ≡ is_late place parent }
+{
+    match parent {
+        Some(parent) => parent >= place,
+        None => false,
+    }
+}
+
+/// Whether the last state has every capability of the others and latency 0.
+fn last_is_full(states: &[SlaveState]) -> bool
+    ensures { result ≡ last_is_full states.now }
+{
+    match states.last() {
+        Some(last) => is_full(states, last),
+        None => false,
+    }
+}
+
+fn is_full(states: &[SlaveState], last: &SlaveState) -> bool
+    ensures { result ≡ is_full states.now last.now }
+{
+    last.latency == 0 && covers_all(states, last)
+}
+
+/// Whether a state has every capability of these.
+fn covers_all(states: &[SlaveState], last: &SlaveState) -> bool
+    ensures { result ≡ list_all (covers last.now) states.now }
+{
+    states.iter().all(|state| last.caps.contains(state.caps))
+}

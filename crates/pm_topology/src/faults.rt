@@ -1,0 +1,36 @@
+use thiserror::Error;
+
+/// What an entry of a topology breaks. The causes are numbered from 1.
+#[derive(Clone, Copy, Debug, PartialEq, Eq, Error)]
+pub enum TopoCause {
+    /// A number that an earlier entry has. Power nodes, processors and slaves share one space of
+    /// numbers, reset lines and masters have one each.
+    #[error("a number that an earlier entry has")]
+    Repeated = 1,
+    /// A power node whose parent isn't earlier, or a processor or slave whose parent isn't one.
+    #[error("a parent that isn't an earlier power node")]
+    ParentLate = 2,
+    /// A slave with no state.
+    #[error("a slave with no state")]
+    NoStates = 3,
+    /// A last state that lacks a capability of an earlier one, or has a latency other than 0.
+    #[error("a last state that isn't full")]
+    LastNotFull = 4,
+    /// An entry past the limit of its list, or a slave with more than 4 states.
+    #[error("more than the limit")]
+    TooMany = 5,
+    /// A target of a reset line that is no processor and no slave.
+    #[error("a target that is no processor and no slave")]
+    BadTarget = 6,
+    /// A master without a processor, or with one that isn't a processor.
+    #[error("a master without processors, or a member that is none")]
+    BadMember = 7,
+}
+
+/// The first fault of a topology. `place` is the entry's place in its list, counted from 0.
+#[derive(Clone, Copy, Debug, PartialEq, Eq, Error)]
+#[error("{cause} at place {place}")]
+pub struct TopoFault {
+    pub cause: TopoCause,
+    pub place: usize,
+}
