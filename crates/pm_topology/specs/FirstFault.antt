@@ -1,6 +1,6 @@
 -- The first fault of a topology: the power nodes first, then the processors, the slaves, the reset lines and the
 -- masters; in a list the first entry that has a fault; and of its faults the first in the order of its rules.
-use Rattle.std.specs.Prelude.{ℕ, ◌+◌, ◌-◌, ◌==◌, Bool, true, false, not, ◌&&◌, ◌||◌, if◌then◌else◌, nat_lt, nat_le, Option, Some, None, List, [], ◌∷◌, length, take, slice_get, bit_and}
+use Rattle.std.specs.Prelude.{ℕ, ◌+◌, ◌-◌, ◌==◌, Bool, false, not, ◌&&◌, ◌||◌, if◌then◌else◌, nat_lt, nat_le, Option, Some, None, List, [], ◌∷◌, length, take, slice_get, bit_and}
 use Rattle.std.specs.List.{list_any, list_all}
 use Rattle.std.specs.Option.{option_map_or}
 use Rattle.pm_base.specs.declared.names.NodeId.{NodeId}
@@ -33,8 +33,10 @@ first_at cause_of place (x ∷ xs) = or_later (fault_at place (cause_of place x)
 -- whether a power node, a processor, a slave has this number
 abbrev pub has_power : ℕ → List PowerDef → Bool
 has_power number = list_any (λ p. p.node.0 == number)
+
 abbrev pub has_proc : ℕ → List ProcDef → Bool
 has_proc number = list_any (λ p. p.node.0 == number)
+
 abbrev pub has_slave : ℕ → List SlaveDef → Bool
 has_slave number = list_any (λ s. s.node.0 == number)
 
@@ -60,8 +62,10 @@ proc_cause t k p =
 -- the last state is full: it has each capability of each state, and latency 0
 abbrev pub covers : SlaveState → SlaveState → Bool
 covers last s = bit_and last.caps.0 s.caps.0 == s.caps.0
+
 abbrev pub is_full : List SlaveState → SlaveState → Bool
 is_full states last = (last.latency == 0) && list_all (covers last) states
+
 abbrev pub last_is_full : List SlaveState → Bool
 last_is_full states = option_map_or (is_full states) (slice_get states (length states - 1)) false
 

@@ -1,9 +1,7 @@
 -- A well-formed topology: what holds of its five lists, whichever way they are read.
-use Rattle.std.specs.Prelude.{◌≡◌, ◌≢◌, ℕ, ◌-◌, ◌<◌, ◌≤◌, ◌⊎◌, IfSome, Option, Some, List, length, slice_get, bit_and}
+use Rattle.std.specs.Prelude.{◌≡◌, ◌≢◌, ℕ, ◌-◌, ◌<◌, ◌≤◌, ◌⊎◌, IfSome, Some, List, length, slice_get, bit_and}
 use Rattle.pm_base.specs.declared.names.NodeId.{NodeId}
 use Rattle.pm_topology.specs.declared.topology.SlaveState.{SlaveState}
-use Rattle.pm_topology.specs.declared.topology.SlaveDef.{SlaveDef}
-use Rattle.pm_topology.specs.declared.topology.ProcDef.{ProcDef}
 use Rattle.pm_topology.specs.declared.topology.Topology.{Topology}
 
 -- this holds of each entry and its place
@@ -33,6 +31,7 @@ pub record HasFullLast (states : List SlaveState) : Type 0 where
 
 abbrev pub IsProc : Topology → NodeId → Type 0
 IsProc t n = HasNumber (λ p. p.node.0) t.procs n.0
+
 abbrev pub IsSlave : Topology → NodeId → Type 0
 IsSlave t n = HasNumber (λ s. s.node.0) t.slaves n.0
 

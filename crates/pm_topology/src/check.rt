@@ -1,22 +1,26 @@
 //! Whether a topology keeps the rules.
 
-ghost use Rattle.std.specs.Prelude.{◌≡◌, ◌-◌, ◌≤◌, ◌&&◌, ◌==◌, None, MatchResult, length, not};
+ghost use Rattle.std.specs.Prelude.{◌≡◌, ◌-◌, ◌≤◌, ◌&&◌, ◌==◌, ◌↔◌, None, IsOk, MatchResult, length, not};
 ghost use Rattle.std.specs.List.{list_any, list_all};
+ghost use Rattle.pm_topology.specs.WellFormed.{IsWellFormed};
 ghost use Rattle.pm_topology.specs.FirstFault.{covers, first_at, first_fault, has_power, has_proc, has_slave, is_bad_target, is_full, is_late, last_is_full, line_cause, master_cause, power_cause, proc_cause, slave_cause};
 
 use crate::faults::{TopoCause, TopoFault};
-use crate::topology::{
-    LineDef, MasterDef, PowerDef, ProcDef, SlaveDef, SlaveState, Topology,
-};
+use crate::topology::{LineDef, MasterDef, PowerDef, ProcDef, SlaveDef, SlaveState, Topology};
 use bitflags::Flags;
 use pm_base::{LineId, NodeId};
 
 /// The limits of the lists of a topology, and of the states of a slave.
 const MAX_POWERS: usize = 8;
+
 const MAX_PROCS: usize = 8;
+
 const MAX_SLAVES: usize = 64;
+
 const MAX_LINES: usize = 64;
+
 const MAX_MASTERS: usize = 4;
+
 const MAX_STATES: usize = 4;
 
 impl Topology {
@@ -28,7 +32,15 @@ impl Topology {
     /// The fault is the first entry that breaks a rule, and of its causes the first in this order:
     /// `TooMany`, `Repeated`, `ParentLate`, `NoStates`, `LastNotFull`, `BadTarget`, `BadMember`.
     pub fn check(&self) -> Result<(), TopoFault>
+        ensures well_formed { IsOk result ↔ IsWellFormed self.now }
         ensures first { MatchResult result (λ _. first_fault self.now ≡ None) (λ fault. first_fault self.now ≡ Some fault) }
+    {
+        self.first_broken()
+    }
+
+    /// The first entry that breaks a rule, with the first of its rules.
+    fn first_broken(&self) -> Result<(), TopoFault>
+        ensures { MatchResult result (λ _. first_fault self.now ≡ None) (λ fault. first_fault self.now ≡ Some fault) }
     {
         self.check_powers()?;
         self.check_procs()?;
@@ -38,10 +50,8 @@ impl Topology {
     }
 
     fn check_powers(&self) -> Result<(), TopoFault>
-        ensures {
-            let first = first_at (power_cause self.now) 0 self.now.powers in
-            MatchResult result (λ _. first ≡ None) (λ fault. first ≡ Some fault)
-        }
+        ensures { let first = first_at (power_cause self.now) 0 self.now.powers in
+            MatchResult result (λ _. first ≡ None) (λ fault. first ≡ Some fault) }
     {
         for (place, power) in self.powers.as_slice().iter().enumerate() {
             if let Some(cause) = self.power_cause(place, power) {
@@ -52,10 +62,8 @@ impl Topology {
     }
 
     fn check_procs(&self) -> Result<(), TopoFault>
-        ensures {
-            let first = first_at (proc_cause self.now) 0 self.now.procs in
-            MatchResult result (λ _. first ≡ None) (λ fault. first ≡ Some fault)
-        }
+        ensures { let first = first_at (proc_cause self.now) 0 self.now.procs in
+            MatchResult result (λ _. first ≡ None) (λ fault. first ≡ Some fault) }
     {
         for (place, proc) in self.procs.as_slice().iter().enumerate() {
             if let Some(cause) = self.proc_cause(place, proc) {
@@ -66,10 +74,8 @@ impl Topology {
     }
 
     fn check_slaves(&self) -> Result<(), TopoFault>
-        ensures {
-            let first = first_at (slave_cause self.now) 0 self.now.slaves in
-            MatchResult result (λ _. first ≡ None) (λ fault. first ≡ Some fault)
-        }
+        ensures { let first = first_at (slave_cause self.now) 0 self.now.slaves in
+            MatchResult result (λ _. first ≡ None) (λ fault. first ≡ Some fault) }
     {
         for (place, slave) in self.slaves.as_slice().iter().enumerate() {
             if let Some(cause) = self.slave_cause(place, slave) {
@@ -80,10 +86,8 @@ impl Topology {
     }
 
     fn check_lines(&self) -> Result<(), TopoFault>
-        ensures {
-            let first = first_at (line_cause self.now) 0 self.now.lines in
-            MatchResult result (λ _. first ≡ None) (λ fault. first ≡ Some fault)
-        }
+        ensures { let first = first_at (line_cause self.now) 0 self.now.lines in
+            MatchResult result (λ _. first ≡ None) (λ fault. first ≡ Some fault) }
     {
         for (place, line) in self.lines.as_slice().iter().enumerate() {
             if let Some(cause) = self.line_cause(place, line) {
@@ -94,10 +98,8 @@ impl Topology {
     }
 
     fn check_masters(&self) -> Result<(), TopoFault>
-        ensures {
-            let first = first_at (master_cause self.now) 0 self.now.masters in
-            MatchResult result (λ _. first ≡ None) (λ fault. first ≡ Some fault)
-        }
+        ensures { let first = first_at (master_cause self.now) 0 self.now.masters in
+            MatchResult result (λ _. first ≡ None) (λ fault. first ≡ Some fault) }
     {
         for (place, master) in self.masters.as_slice().iter().enumerate() {
             if let Some(cause) = self.master_cause(place, master) {
@@ -212,7 +214,9 @@ impl Topology {
     fn has_stranger(&self, nodes: &[NodeId]) -> bool
         ensures { result ≡ list_any (λ n. not (has_proc n.0 self.now.procs)) nodes.now }
     {
-        nodes.iter().any(|node| !has_proc(self.procs.as_slice(), *node))
+        nodes
+            .iter()
+            .any(|node| !has_proc(self.procs.as_slice(), *node))
     }
 }
 

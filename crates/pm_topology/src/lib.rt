@@ -6,8 +6,10 @@ pub mod check;
 pub mod chip;
 pub mod classes;
 pub mod faults;
+pub mod places;
 pub mod topology;
 
 pub use chip::zynqmp;
 pub use faults::{TopoCause, TopoFault};
+pub use places::Kind;
 pub use topology::{LineDef, MasterDef, PowerDef, ProcDef, SlaveDef, SlaveState, Topology};

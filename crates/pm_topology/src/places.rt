@@ -1,0 +1,109 @@
+//! Where a node stands in a topology, and which power nodes are above it.
+
+ghost use Rattle.std.specs.Prelude.{◌≡◌, ◌<◌, ◌↔◌, ◌==◌, IsTrue, length, position};
+ghost use Rattle.std.specs.List.{list_any};
+ghost use Rattle.pm_topology.specs.Places.{IsBelow, IsKind, is_below, kind_of, parent_at, power_parent, power_place, proc_place, slave_place, upwards};
+ghost use Rattle.pm_topology.specs.WellFormed.{IsWellFormed};
+
+use crate::topology::{PowerDef, ProcDef, SlaveDef, Topology};
+use pm_base::NodeId;
+
+/// What a node number names: a place in one of the lists.
+#[derive(Clone, Copy, Debug, PartialEq, Eq)]
+pub enum Kind {
+    Proc(usize),
+    Slave(usize),
+    Power(usize),
+    /// No processor, slave or power node has the number.
+    Unknown,
+}
+
+impl Topology {
+    /// The list and the place of the entry that has this number.
+    pub fn kind(&self, n: NodeId) -> Kind
+        ensures place { result ≡ kind_of self.now n }
+        ensures entry { IsKind self.now n result }
+        ensures only { IsWellFormed self.now → (kind : Kind) → IsKind self.now n kind → kind ≡ result }
+    {
+        self.search(n)
+    }
+
+    /// The first of processors, slaves and power nodes that has this number.
+    fn search(&self, n: NodeId) -> Kind
+        ensures { result ≡ kind_of self.now n }
+    {
+        if let Some(place) = proc_place(self.procs.as_slice(), n) {
+            return Kind::Proc(place);
+        }
+        if let Some(place) = slave_place(self.slaves.as_slice(), n) {
+            return Kind::Slave(place);
+        }
+        match power_place(self.powers.as_slice(), n) {
+            Some(place) => Kind::Power(place),
+            None => Kind::Unknown,
+        }
+    }
+
+    /// Whether a processor, slave or power node has the power node at place `w` above it, at any
+    /// height.
+    pub fn below(&self, w: usize, n: NodeId) -> bool
+        requires { w < length self.now.powers }
+        ensures above { result ≡ is_below self.now w n }
+        ensures at_any_height { IsWellFormed self.now → IsTrue result ↔ IsBelow self.now w n }
+    {
+        is_on_way_up(self.powers.as_slice(), self.parent(n), w)
+    }
+
+    /// The place of the power node directly above a node.
+    fn parent(&self, n: NodeId) -> Option<usize>
+        ensures { result ≡ parent_at self.now (kind_of self.now n) }
+    {
+        match self.kind(n) {
+            Kind::Proc(place) => self.procs.as_slice().get(place).map(|proc| proc.parent),
+            Kind::Slave(place) => self.slaves.as_slice().get(place).map(|slave| slave.parent),
+            Kind::Power(place) => parent_of_power(self.powers.as_slice(), place),
+            Kind::Unknown => None,
+        }
+    }
+}
+
+fn proc_place(procs: &[ProcDef], n: NodeId) -> Option<usize>
+    ensures { result ≡ proc_place procs.now n.0 }
+{
+    procs.iter().position(|proc| proc.node == n)
+}
+
+fn slave_place(slaves: &[SlaveDef], n: NodeId) -> Option<usize>
+    ensures { result ≡ slave_place slaves.now n.0 }
+{
+    slaves.iter().position(|slave| slave.node == n)
+}
+
+fn power_place(powers: &[PowerDef], n: NodeId) -> Option<usize>
+    ensures { result ≡ power_place powers.now n.0 }
+{
+    powers.iter().position(|power| power.node == n)
+}
+
+fn parent_of_power(powers: &[PowerDef], place: usize) -> Option<usize>
+    ensures { result ≡ power_parent powers.now place }
+{
+    powers.get(place).and_then(|power| power.parent)
+}
+
+/// Whether one meets the power node at place `w` on the way up from `from`.
+fn is_on_way_up(powers: &[PowerDef], from: Option<usize>, w: usize) -> bool
+    ensures { result ≡ list_any (λ v. v == w) (upwards (length powers.now) powers.now from) }
+{
+    let mut at = from;
+    for _climbed in 0..powers.len() {
+        let Some(v) = at else {
+            return false;
+        };
+        if v == w {
+            return true;
+        }
+        at = parent_of_power(powers, v);
+    }
+    false
+}
