@@ -1,2 +1,12 @@
 pub mod Bytes
 pub mod Loop
+pub mod Steps
+pub mod Records
+pub mod ReadMasters
+pub mod ReadSlaves
+pub mod ReadHeader
+pub mod Parts
+pub mod ReadNames
+pub mod ReadBodies
+pub mod ReadSections
+pub mod ReadObject

@@ -4,6 +4,7 @@
 
 mod decoding;
 mod header;
+mod laws;
 mod masters;
 pub mod object;
 mod sections;
@@ -11,7 +12,11 @@ mod slaves;
 mod words;
 
 pub use decoding::decode;
+pub use laws::one_reading;
 pub use object::{
     DecodeError, MasterRec, Object, ObjectCause, ObjectFault, Pair, PreGroup, PreRec, Section,
     SlaveRec,
 };
+
+#[cfg(test)]
+mod tests;

@@ -1,0 +1,9 @@
+use Rattle.std.proofs.Common.{arith}
+use Rattle.pm_object.proofs.ReadObject.{is_found, is_only}
+use Rattle.pm_object.proofs.decoding.decode.Goals as goal
+
+pub returns-clause-found : goal.returns-clause-found
+returns-clause-found c = is_found c.args.bytes.now c.read_bytes.result (λ i. omega (arith, c.type_inv.bytes i)) c.read_bytes.ensures
+
+pub returns-clause-only : goal.returns-clause-only
+returns-clause-only c = λ o reads built. is_only c.args.bytes.now c.read_bytes.result o c.read_bytes.ensures built reads
