@@ -5,3 +5,6 @@ pub mod meaning;
 
 pub use lines::{Ending, split_line};
 pub use meaning::{LineFault, parse_line};
+
+#[cfg(test)]
+mod tests;

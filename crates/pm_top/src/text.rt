@@ -9,3 +9,6 @@ pub use faults::{Fault, write_fault};
 pub use line::{TextLine, Word, write_line};
 pub use steps::{entries, entry};
 pub use table::closing;
+
+#[cfg(test)]
+mod tests;

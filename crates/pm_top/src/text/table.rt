@@ -43,3 +43,18 @@ fn write_unit(unit: Unit, value: u32, line: &mut TextLine) -> bool
     );
     true
 }
+
+#[cfg(test)]
+mod tests {
+    use super::*;
+    use pm_base::NodeId;
+
+    #[test]
+    fn a_unit_is_shown_where_its_value_is_not_0(rt: HostRuntime) {
+        let mut line = TextLine::new();
+        assert!(rt; write_unit(Unit::Node(NodeId(11)), 1, &mut line));
+        assert_eq!(rt; line.as_slice(), b"end slave 11 1\n".as_slice());
+        assert!(rt; !write_unit(Unit::Node(NodeId(11)), 0, &mut line));
+        assert!(rt; line.is_empty());
+    }
+}
