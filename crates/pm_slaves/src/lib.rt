@@ -1,0 +1,7 @@
+//! The choice of a slave's state: the first in its list that has every capability that is required
+//! and keeps the least latency that is required.
+#![tactic(auto)]
+
+pub mod choice;
+
+pub use choice::{capabilities, first_that_meets, least_state};
