@@ -1,17 +1,16 @@
 -- Of a well made table: the chosen state of a slave meets what is wanted, and its place is small.
-use Rattle.std.proofs.Common.{◌≡◌, ℕ, ◌+◌, ◌<◌, ◌≤◌, ◌^◌, Bool, true, false, ◌==◌, IsTrue, List, [], ◌∷◌, length, Option, Some, None, slice_get, unwrap_or, nat_le, nat_lt, cond, not, get_or, refl, zero, suc, sym, ◌∙◌, ap, arith}
-use Rattle.std.specs.Prelude.{bit_and}
+use Rattle.std.proofs.Common.{◌≡◌, ℕ, ◌+◌, ◌<◌, ◌≤◌, ◌^◌, Bool, true, false, ◌==◌, IsTrue, List, [], ◌∷◌, length, Option, Some, None, slice_get, unwrap_or, nat_le, nat_lt, cond, not, get_or, refl, zero, suc, ◌∙◌, ap, arith}
 use Rattle.std.specs.List.{position_or_len}
 use Rattle.std.proofs.lemmas.List.Sums.{passes_at_first}
-use Rattle.std.proofs.lemmas.Bool.{and_parts, and_from, eqb-true, eq-eqb, leb-true}
+use Rattle.std.proofs.lemmas.Bool.{and_parts, and_from, eqb-true, leb-true}
 use Rattle.std.proofs.lemmas.Bool.Decides.{nat_tests}
-use Rattle.std.proofs.lemmas.Nat.{and_assoc}
 use Rattle.std.proofs.lemmas.Option.{slice_get-get_or}
 use Rattle.pm_base.specs.declared.caps.Caps.{Caps}
 use Rattle.pm_core.specs.declared.choice.SlaveState.{SlaveState}
 use Rattle.pm_core.specs.declared.choice.SlaveDef.{SlaveDef}
 use Rattle.pm_core.specs.declared.choice.Wanted.{Wanted}
 use Rattle.pm_core.specs.Choice.{has_all, is_within, meets, state_for, all_of, StandsMet}
+use Rattle.pm_core.proofs.Bits.{has_all-trans}
 use Rattle.pm_core.specs.WellMade.{is_last_full, is_well_made, are_well_made}
 
 -- each slave of a well made table is well made
@@ -23,14 +22,6 @@ well_made_at (x ∷ xs) zero slave made is =
     rw (← same) both.0
 well_made_at (x ∷ xs) (suc place) slave made is =
     well_made_at xs place slave (and_parts (is_well_made x) (are_well_made xs) made).1 is
-
--- to have all of a set is to have all of what that has
-pub has_all-trans : (a b c : Caps) → IsTrue (has_all a b) → IsTrue (has_all b c) → IsTrue (has_all a c)
-has_all-trans a b c ab bc =
-    let first : bit_and a.0 b.0 ≡ b.0 = eqb-true _ _ ab in
-    let second : bit_and b.0 c.0 ≡ c.0 = eqb-true _ _ bc in
-    let whole : bit_and a.0 c.0 ≡ c.0 = ap (λ x. bit_and a.0 x) (sym second) ∙ (sym (and_assoc c.0 a.0 b.0) ∙ (ap (λ x. bit_and x c.0) first ∙ second)) in
-    eq-eqb _ _ whole
 
 -- a latency of 0 is within each limit
 zero_within : (limit : Option ℕ) (latency : ℕ) → latency ≡ 0 → IsTrue (is_within latency limit)

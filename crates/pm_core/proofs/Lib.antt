@@ -1,1 +1,11 @@
+pub mod Bits
+pub mod Changed
+pub mod Counts
+pub mod Each
 pub mod Full
+pub mod Judged
+pub mod Kept
+pub mod Pairs
+pub mod Refused
+pub mod SoundSteps
+pub mod Wants

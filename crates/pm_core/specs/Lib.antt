@@ -18,3 +18,4 @@ pub mod Step
 pub mod Values
 pub mod Views
 pub mod WellMade
+pub mod Sound

@@ -1,5 +1,6 @@
 -- What the calls read of the book.
-use Rattle.std.specs.Prelude.{ℕ, List, slice_get, Option, Some, None, option_map, option_and_then}
+use Rattle.std.specs.Prelude.{ℕ, List, slice_get, Option, Some, None, option_map}
+use Rattle.std.specs.Option.{option_map_or}
 use Rattle.pm_base.specs.declared.names.NodeId.{NodeId}
 use Rattle.pm_object.specs.declared.object.MasterRec.{MasterRec}
 use Rattle.pm_core.specs.declared.views.RowView.{RowView}
@@ -8,13 +9,13 @@ use Rattle.pm_core.specs.Rows.{entry_at, rival_of, now_of, usage_of}
 use Rattle.pm_core.specs.Values.{slave_place, state_of}
 use Rattle.pm_core.specs.State.{State}
 
--- the node of the master at a place
-abbrev pub master_node : List MasterRec → ℕ → Option NodeId
-master_node masters place = option_map (λ (master : MasterRec). record { 0 = master.node }) (slice_get masters place)
+-- the node of the master at a place, and 0 past the last one
+abbrev pub master_node : List MasterRec → ℕ → NodeId
+master_node masters place = option_map_or (λ (master : MasterRec). record { 0 = master.node }) (slice_get masters place) (record { 0 = 0 })
 
 -- the node of the other master that uses a slave which can't be shared
 abbrev pub rival_node : ℕ → ℕ → State → Option NodeId
-rival_node m s book = option_and_then (master_node book.fixed.object.masters) (rival_of m s book.now.rows)
+rival_node m s book = option_map (master_node book.fixed.object.masters) (rival_of m s book.now.rows)
 
 abbrev pub row_view_at : ℕ → Option ℕ → State → RowView
 row_view_at m None book = record { slave = None; entry = None; rival = None }

@@ -1,6 +1,8 @@
 ghost use Rattle.std.specs.Prelude.{◌≡◌, ◌<◌, length, slice_get, [], ◌∷◌};
 ghost use Rattle.std.specs.Option.{option_copied};
 ghost use Rattle.pm_core.specs.Values.{units, value, slave_place, master_place, state_of};
+ghost use Rattle.pm_core.specs.Sound.{IsSound, MeetsWanted, StandsAsWanted};
+ghost use Rattle.pm_base.specs.declared.names.Unit.TheVariants.{Node};
 ghost use Rattle.pm_core.specs.Prims.{changed, At_row};
 
 use crate::choice::SlaveDef;
@@ -59,16 +61,25 @@ impl Book {
         Unit::Node(self.slaves.get(k).node)
     }
 
-    /// The value of a unit: the state of a slave, and 0 for a unit that isn't there.
+    /// The value of a unit: the state of a slave, and 0 for a unit that isn't there. In each book
+    /// that is reached the state has what is wanted of the slave.
     pub fn value(&self, unit: Unit) -> u32
-        ensures { result ≡ value unit self.now }
+        ensures value { result ≡ value unit self.now }
+        ensures meets { IsSound self.now → StandsAsWanted unit result self.now }
     {
         match unit {
-            Unit::Node(node) => match self.slave_place(node) {
-                Some(place) => self.state_of(place),
-                None => 0,
-            },
+            Unit::Node(node) => self.node_value(node),
             Unit::Line(_) => 0,
+        }
+    }
+
+    fn node_value(&self, node: NodeId) -> u32
+        ensures value { result ≡ value (Node node) self.now }
+        ensures meets { IsSound self.now → StandsAsWanted (Node node) result self.now }
+    {
+        match self.slave_place(node) {
+            Some(place) => self.state_of(place),
+            None => 0,
         }
     }
 
@@ -93,7 +104,8 @@ impl Book {
 
     #[tactic(auto, using(crate::proofs::Full::well_made_at))]
     pub(crate) fn state_of(&self, place: usize) -> u32
-        ensures { result ≡ state_of place self.now }
+        ensures state { result ≡ state_of place self.now }
+        ensures meets { IsSound self.now → MeetsWanted place result self.now }
     {
         match slave_at(self.slaves.as_slice(), place) {
             Some(slave) => slave.chosen_state(self.rows.wanted(place)),

@@ -15,11 +15,11 @@ mod rows;
 mod status;
 mod status_call;
 mod step;
+#[cfg(test)]
+mod tests;
 mod views;
 
 pub use book::Book;
-pub use calls::{AckKind, Call};
 pub use choice::{SlaveDef, SlaveState, Wanted};
 pub use replies::{Answer, Outbox, Response};
-pub use rows::{Change, Entry, Row, RowSeed};
-pub use views::{RowView, StatusView};
+pub use rows::{Entry, Row, RowSeed};

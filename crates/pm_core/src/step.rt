@@ -1,7 +1,8 @@
 //! The step of the book: one event.
 
-ghost use Rattle.std.specs.Prelude.{◌≡◌};
-ghost use Rattle.pm_core.specs.Step.{called, effect, outputs, answer_to, acknowledged};
+ghost use Rattle.std.specs.Prelude.{◌≡◌, IsTrue};
+ghost use Rattle.pm_core.specs.Step.{called, effect, outputs, answer_to, acknowledged, is_refused};
+ghost use Rattle.pm_core.specs.Sound.{IsSound};
 ghost use Rattle.pm_core.specs.Calls.{ack_of, node_of};
 ghost use Rattle.pm_core.specs.Prims.{changed};
 ghost use Rattle.pm_base.specs.declared.events.Event.TheVariants.{Ipi};
@@ -17,14 +18,28 @@ impl Book {
     /// One event. A message of a configured master is a call, which is checked, changes the book
     /// where all checks pass, and is answered as its acknowledge kind says. No other event changes
     /// the book. The outbox then holds what this step puts out.
+    #[tactic(auto, using(crate::proofs::Refused::refused_stays))]
     pub fn step(&mut self, event: &Event, out: &mut Outbox)
         ensures book { self.new ≡ effect event.now self.old }
         ensures out { out.new ≡ outputs event.now self.old }
+
+        // A message that is dropped, or whose status isn't 0, changes nothing.
+        ensures refused { IsTrue (is_refused event.now self.old) → self.new ≡ self.old }
+
+        // Exactly the permitted pairs have a row, and a slave that can't be shared has one user.
+        ensures sound { IsSound self.old → IsSound self.new }
     {
-        out.answer = match event {
+        out.answer = self.take(event);
+    }
+
+    fn take(&mut self, event: &Event) -> Answer
+        ensures book { self.new ≡ effect event.now self.old }
+        ensures answer { result ≡ answer_to event.now self.old }
+    {
+        match event {
             Event::Ipi { master, message } => self.hear(*master, message),
             _ => Answer::Silent,
-        };
+        }
     }
 
     fn hear(&mut self, master: NodeId, message: &Message) -> Answer

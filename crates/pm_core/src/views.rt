@@ -37,10 +37,12 @@ fn now_of(entry: Option<Entry>) -> Caps
     }
 }
 
-fn master_node(masters: &[MasterRec], place: usize) -> Option<NodeId>
+fn master_node(masters: &[MasterRec], place: usize) -> NodeId
     ensures { result ≡ Views.master_node masters.now place }
 {
-    masters.get(place).map(|master| NodeId(master.node))
+    masters
+        .get(place)
+        .map_or(NodeId(0), |master| NodeId(master.node))
 }
 
 impl Book {
@@ -67,7 +69,7 @@ impl Book {
         ensures { result ≡ Views.rival_node master slave self.now }
     {
         match self.rows.rival_of(master, slave) {
-            Some(rival) => master_node(self.object.masters.as_slice(), rival),
+            Some(rival) => Some(master_node(self.object.masters.as_slice(), rival)),
             None => None,
         }
     }

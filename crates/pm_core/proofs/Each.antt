@@ -1,0 +1,14 @@
+-- What holds of each element of a list, by recursion.
+use Rattle.std.proofs.Common.{List, [], ◌∷◌, ◌++◌}
+
+abbrev pub Each : {X : Type 0} → (X → Type 0) → List X → Type 0
+Each P [] = Unit {0}
+Each P (x ∷ xs) = P x × Each P xs
+
+pub Each-append : {X : Type 0} (P : X → Type 0) (xs ys : List X) → Each P xs → Each P ys → Each P (xs ++ ys)
+Each-append P [] ys first second = second
+Each-append P (x ∷ xs) ys first second = (first.0, Each-append P xs ys first.1 second)
+
+pub Each-imply : {X : Type 0} (P Q : X → Type 0) → ((x : X) → P x → Q x) → (xs : List X) → Each P xs → Each Q xs
+Each-imply P Q implies [] each = tt
+Each-imply P Q implies (x ∷ xs) each = (implies x each.0, Each-imply P Q implies xs each.1)
