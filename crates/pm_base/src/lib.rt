@@ -28,3 +28,6 @@ pub use numbers::number;
 pub use sink::{Sink, write_all};
 pub use steps::Steps;
 pub use words::word;
+
+#[cfg(test)]
+mod tests;

@@ -111,7 +111,8 @@ impl Inputs for MemInputs {
         // The number, and the count: each failure raises it, and nothing else does.
         ensures number { IfOk result (λ id. id ≡ length self.old.begun) }
         ensures faults { self.new.faults ≡ (if is_ok result then self.old.faults else raised self.old.faults) }
-        ensures files { self.new.files ≡ self.old.files }
+        ensures room { length self.new.begun ≡ (if is_ok result then length self.old.begun + 1 else length self.old.begun) }
+        ensures kept { self.new ≡ record self.old { begun = self.new.begun; faults = self.new.faults } }
     {
         match place_of(&self.files, name) {
             Some(file) if self.begun.len() < MOST_BEGUN => {
@@ -141,7 +142,8 @@ impl Inputs for MemInputs {
         ensures count { let input = (moment_of self.old).input id in
             IfOk result (λ count. count ≡ min (length buf.new) (reach_of input.file input.place)) }
         ensures faults { self.new.faults ≡ (if is_ok result then self.old.faults else raised self.old.faults) }
-        ensures files { self.new.files ≡ self.old.files }
+        ensures room { length self.new.begun ≡ length self.old.begun }
+        ensures kept { self.new ≡ record self.old { begun = self.new.begun; faults = self.new.faults } }
     {
         let Some(reading) = reading_of(&self.begun, id) else {
             return Ok(0);

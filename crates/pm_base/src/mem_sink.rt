@@ -80,13 +80,10 @@ impl Sink for MemSink {
             (λ _. self.new ≡ record self.old { faults = raised self.old.faults }) }
     {
         let count = count_taken(self.room, self.held.len(), piece.len());
-        if count == 0 && !piece.is_empty() {
-            self.faults = self.faults.saturating_add(1);
-            return Err(Failed);
-        }
+        let is_full = count == 0 && !piece.is_empty();
         match self.held.extend_from_slice(&piece[..count]) {
-            Ok(()) => Ok(count),
-            Err(_) => {
+            Ok(()) if !is_full => Ok(count),
+            _ => {
                 self.faults = self.faults.saturating_add(1);
                 Err(Failed)
             }
