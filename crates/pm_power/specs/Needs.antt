@@ -1,0 +1,45 @@
+-- The needs of processors and slaves, and how one of them is set.
+use Rattle.std.specs.Prelude.{ℕ, ◌==◌, Bool, false, Option, Some, None, List, ◌++◌, map, find, if◌then◌else◌}
+use Rattle.std.specs.Option.{option_map}
+use Rattle.pm_base.specs.declared.names.NodeId.{NodeId}
+use Rattle.pm_topology.specs.declared.topology.Topology.{Topology}
+use Rattle.pm_topology.specs.Places.{power_place}
+use Rattle.pm_power.specs.declared.child.Child.{Child}
+use Rattle.pm_power.specs.Forest.{Needs, is_up}
+
+-- a processor or slave by its number, its parent's place, and whether it needs it
+abbrev pub child : NodeId → ℕ → Bool → Child
+child node parent needs = record { node = node; parent = parent; needs = needs }
+
+-- the processors and then the slaves of a chip, where these nodes need their parents
+abbrev pub children_of : Topology → (ℕ → Bool) → List Child
+children_of t needs =
+    map (λ p. child p.node p.parent (needs p.node.0)) t.procs
+    ++ map (λ s. child s.node s.parent (needs s.node.0)) t.slaves
+
+abbrev pub needs_of : Topology → (ℕ → Bool) → Needs
+needs_of t needs = record { powers = t.powers; children = children_of t needs }
+
+-- the child with the node's number, with this need
+abbrev pub set_child : NodeId → Bool → Child → Child
+set_child node on c = if c.node.0 == node.0 then child c.node c.parent on else c
+
+abbrev pub set_need : NodeId → Bool → Needs → Needs
+set_need node on n = record n { children = map (set_child node on) n.children }
+
+-- whether a processor or slave needs its parent; None for any other node
+abbrev pub child_need : List Child → NodeId → Option Bool
+child_need children node = option_map (λ c. c.needs) (find (λ c. c.node.0 == node.0) children)
+
+-- whether a power node does, given its place: while it is up
+abbrev pub power_need : Needs → Option ℕ → Bool
+power_need n None = false
+power_need n (Some w) = is_up n w
+
+abbrev pub need_at : Needs → Option Bool → NodeId → Bool
+need_at n (Some needs) node = needs
+need_at n None node = power_need n (power_place n.powers node.0)
+
+-- whether a node needs its parent
+abbrev pub does_need : Needs → NodeId → Bool
+does_need n node = need_at n (child_need n.children node) node

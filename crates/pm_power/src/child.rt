@@ -1,0 +1,89 @@
+ghost use Rattle.std.specs.Prelude.{◌≡◌, ◌++◌, ◌∷◌, [], ◌==◌, IfOk, false, map, find};
+ghost use Rattle.std.specs.Option.{option_map};
+ghost use Rattle.pm_power.specs.Needs.{child, child_need, children_of, set_child};
+
+use pm_base::{NoMemory, NodeId};
+use pm_topology::{ProcDef, SlaveDef, Topology};
+use std::alloc::Global;
+
+/// A processor or slave: its number, the place of its power node, and whether it needs it.
+#[derive(Clone, Copy, Debug, PartialEq, Eq)]
+pub struct Child {
+    pub node: NodeId,
+    pub parent: usize,
+    pub needs: bool,
+}
+
+/// The processors and then the slaves of a chip, none of which needs its power node.
+pub(crate) fn idle_children(alloc: Global, t: &Topology) -> Result<Vec<Child>, NoMemory>
+    ensures { IfOk result (λ children. children.items ≡ children_of t.now (λ _. false)) }
+{
+    let mut children = Vec::new(alloc);
+    push_procs(&mut children, t.procs.as_slice())?;
+    push_slaves(&mut children, t.slaves.as_slice())?;
+    Ok(children)
+}
+
+fn push_procs(children: &mut Vec<Child>, procs: &[ProcDef]) -> Result<(), NoMemory>
+    ensures { IfOk result (λ _. children.new.items ≡ children.old.items ++ map (λ p. child p.node p.parent false) procs.now) }
+{
+    for proc in procs {
+        push(children, idle(proc.node, proc.parent))?;
+    }
+    Ok(())
+}
+
+fn push_slaves(children: &mut Vec<Child>, slaves: &[SlaveDef]) -> Result<(), NoMemory>
+    ensures { IfOk result (λ _. children.new.items ≡ children.old.items ++ map (λ s. child s.node s.parent false) slaves.now) }
+{
+    for slave in slaves {
+        push(children, idle(slave.node, slave.parent))?;
+    }
+    Ok(())
+}
+
+/// A child that doesn't need its power node.
+fn idle(node: NodeId, parent: usize) -> Child
+    ensures { result ≡ child node parent false }
+{
+    Child {
+        node,
+        parent,
+        needs: false,
+    }
+}
+
+fn push(children: &mut Vec<Child>, child: Child) -> Result<(), NoMemory>
+    ensures { IfOk result (λ _. children.new.items ≡ children.old.items ++ child ∷ []) }
+{
+    children.push(child).map_err(|_| NoMemory)
+}
+
+/// Sets the need of the child with this number.
+pub(crate) fn set_need(children: &mut [Child], node: NodeId, on: bool)
+    ensures { children.new ≡ map (set_child node on) children.old }
+{
+    for child in children.iter_mut() {
+        *child = with_need(*child, node, on);
+    }
+}
+
+fn with_need(child: Child, node: NodeId, on: bool) -> Child
+    ensures { result ≡ set_child node on child }
+{
+    if child.node == node {
+        Child { needs: on, ..child }
+    } else {
+        child
+    }
+}
+
+/// Whether the child with this number needs its power node.
+pub(crate) fn child_need(children: &[Child], node: NodeId) -> Option<bool>
+    ensures { result ≡ child_need children.now node }
+{
+    children
+        .iter()
+        .find(|child| child.node == node)
+        .map(|child| child.needs)
+}
