@@ -110,10 +110,10 @@ fn the_first_fault_and_its_place(rt: HostRuntime) -> Result<(), Fail> {
 #[test]
 fn each_length_up_to_the_whole(rt: HostRuntime) -> Result<(), Fail> {
     let bytes = spell(rt.alloc(), &SMALL)?;
-    for count in 0..bytes.len() {
+    for count in 0..92_u32 {
+        let front = bytes.as_slice().get(..count as usize).ok_or("a front")?;
         let cause = if count % 4 == 0 { 3 } else { 1 };
-        let fault = fault_of(rt.alloc(), &bytes[..count]);
-        assert_eq!(rt; fault, Some((cause, (count / 4) as u32)));
+        assert_eq!(rt; fault_of(rt.alloc(), front), Some((cause, count / 4)));
     }
     Ok(())
 }
