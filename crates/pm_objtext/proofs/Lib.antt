@@ -1,4 +1,11 @@
 pub mod GroupsLemmas
 pub mod Headers
+pub mod ItemTexts
+pub mod ItemsLaw
+pub mod LineTexts
 pub mod LinesLemmas
 pub mod ReadingLemmas
+pub mod Sections
+pub mod TextLaw
+pub mod Walks
+pub mod Whole

@@ -7,6 +7,7 @@ mod draft;
 mod fault;
 mod groups;
 mod item;
+mod laws;
 mod lines;
 mod names;
 mod printing;
@@ -15,4 +16,8 @@ mod stage;
 
 pub use building::build;
 pub use fault::{BuildError, TextCause, TextFault};
+pub use laws::printed_object_is_built_again;
 pub use printing::print;
+
+#[cfg(test)]
+mod tests;
