@@ -24,7 +24,7 @@ pub struct SlaveDef {
 impl SlaveDef {
     /// The place of the first state that has every capability wanted and a latency within the
     /// limit. There always is one where the slave has the capabilities wanted: the last state.
-    #[tactic(auto, using(crate::proofs::Full::chosen_meets, crate::proofs::Full::chosen_fits))]
+    #[tactic(auto, using(crate::proofs::Full::chosen_fits))]
     pub fn chosen_state(&self, wanted: Wanted) -> u32
         requires made { IsTrue (is_well_made self.now) }
         ensures state { result ≡ state_for wanted self.now.states }

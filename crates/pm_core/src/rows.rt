@@ -2,7 +2,7 @@
 
 ghost use Rattle.std.specs.Prelude.{◌≡◌, ◌++◌, ◌∷◌, [], find, fold, OnOk, OnErr};
 ghost use Rattle.pm_core.specs.Rows as spec;
-ghost use Rattle.pm_core.specs.Rows.{applied, unused, is_at, is_rival, entry_at, rival_of, change_at, row_changed, usage_of, now_of};
+ghost use Rattle.pm_core.specs.Rows.{applied, unused, is_at, is_of_other, is_rival, entry_at, rival_of, change_at, row_changed, usage_of, now_of};
 ghost use Rattle.pm_core.specs.InForce.{with_row, nothing_wanted, wanted_of, least};
 
 use crate::choice::Wanted;
@@ -98,13 +98,16 @@ impl Entry {
         }
     }
 
+    fn is_of_other(&self, master: usize, slave: usize) -> bool
+        ensures { result ≡ is_of_other master slave self.now }
+    {
+        self.seed.master != master && self.seed.slave == slave
+    }
+
     fn is_rival(&self, master: usize, slave: usize) -> bool
         ensures { result ≡ is_rival master slave self.now }
     {
-        self.seed.master != master
-            && self.seed.slave == slave
-            && self.row.used
-            && !self.seed.shareable
+        self.is_of_other(master, slave) && self.row.used && !self.seed.shareable
     }
 }
 
@@ -222,9 +225,9 @@ impl Rows {
     fn is_used_by_others(&self, master: usize, slave: usize) -> bool
         ensures { result ≡ spec.is_used_by_others master slave self.now }
     {
-        self.entries.iter().any(|entry| entry.seed.master != master
-            && entry.seed.slave == slave
-            && entry.row.used)
+        self.entries
+            .iter()
+            .any(|entry| entry.is_of_other(master, slave) && entry.row.used)
     }
 
     /// Who uses a slave, as a master is told it: 0 nobody, 1 only that master, 2 only others, 3 both
