@@ -8,13 +8,13 @@ use Rattle.pm_base.specs.Inputs.{File, Input, Moment, rest, Advances, Began, Can
 use Rattle.pm_base.specs.Faults.{Rose}
 use Rattle.pm_top.specs.Fronts.{Front, front_before, front_of, HasSize, StandsAt, ReadsRest, ReadsFront}
 use Rattle.pm_top.specs.declared.fronts.Reached.{Reached}
-use Rattle.pm_top.specs.declared.fronts.Reached.TheVariants.{End, Over, Fault}
+use Rattle.pm_top.specs.declared.fronts.Reached.TheVariants.{End, Limit, Failure}
 
 -- how the reading of a file ended, by its failing byte and what is left of it
 abbrev pub EndsAt : Reached → Option ℕ → ℕ → List ℕ → Type 0
 EndsAt End fails_at place left = (left ≡ []) × (fails_at ≡ Some place → ⊥)
-EndsAt Over fails_at place left = Unit {0}
-EndsAt Fault fails_at place left = fails_at ≡ Some place
+EndsAt Limit fails_at place left = Unit {0}
+EndsAt Failure fails_at place left = fails_at ≡ Some place
 
 front_at_end : (limit : ℕ) (fails_at : Option ℕ) (bytes : List ℕ) → length bytes ≤ limit → IfSome fails_at (λ at. length bytes ≤ at) → (fails_at ≡ Some (length bytes) → ⊥) → record { bytes = bytes; reached = End } ≡ front_before limit fails_at bytes
 front_at_end limit None bytes within not_past free = grind (arith, nat_tests)
@@ -23,7 +23,7 @@ front_at_end limit (Some at) bytes within not_past free =
     let above : min limit (length bytes) < at = omega arith in
     grind (arith, nat_tests)
 
-front_over : (limit : ℕ) (fails_at : Option ℕ) (taken left : List ℕ) → length taken ≡ limit + 1 → IfSome fails_at (λ at. length taken ≤ at) → record { bytes = taken; reached = Over } ≡ front_before limit fails_at (taken ++ left)
+front_over : (limit : ℕ) (fails_at : Option ℕ) (taken left : List ℕ) → length taken ≡ limit + 1 → IfSome fails_at (λ at. length taken ≤ at) → record { bytes = taken; reached = Limit } ≡ front_before limit fails_at (taken ++ left)
 front_over limit None taken left size not_past =
     let cut : take (limit + 1) (taken ++ left) ≡ taken = rw (← size) (take-append_seam taken left) in
     let long : limit < length (taken ++ left) = omega (arith, length-append taken left) in
@@ -34,7 +34,7 @@ front_over limit (Some at) taken left size not_past =
     let above : min limit (length (taken ++ left)) < at = omega arith in
     grind (arith, nat_tests)
 
-front_at_fault : (limit : ℕ) (fails_at : Option ℕ) (taken left : List ℕ) → length taken ≤ limit → fails_at ≡ Some (length taken) → record { bytes = taken; reached = Fault } ≡ front_before limit fails_at (taken ++ left)
+front_at_fault : (limit : ℕ) (fails_at : Option ℕ) (taken left : List ℕ) → length taken ≤ limit → fails_at ≡ Some (length taken) → record { bytes = taken; reached = Failure } ≡ front_before limit fails_at (taken ++ left)
 front_at_fault limit fails_at taken left size fails =
     let cut : take (length taken) (taken ++ left) ≡ taken = take-append_seam taken left in
     let within : length taken ≤ min limit (length (taken ++ left)) = omega (arith, length-append taken left) in
@@ -44,8 +44,8 @@ front_is : (limit : ℕ) (fails_at : Option ℕ) (bytes taken left : List ℕ) (
 front_is limit fails_at bytes taken left End whole size not_past ends =
     let same : bytes ≡ taken = whole ∙ ap (λ tail. taken ++ tail) ends.0 ∙ append-nil taken in
     rw same (front_at_end limit fails_at taken size not_past ends.1)
-front_is limit fails_at bytes taken left Over whole size not_past ends = rw whole (front_over limit fails_at taken left size not_past)
-front_is limit fails_at bytes taken left Fault whole size not_past ends = rw whole (front_at_fault limit fails_at taken left size ends)
+front_is limit fails_at bytes taken left Limit whole size not_past ends = rw whole (front_over limit fails_at taken left size not_past)
+front_is limit fails_at bytes taken left Failure whole size not_past ends = rw whole (front_at_fault limit fails_at taken left size ends)
 
 -- at a name that can be begun what is read is that of its file
 front_of_file : (limit room : ℕ) (told : Option File) (file : File) → told ≡ Some file → (room ≡ 0 → ⊥) → front_of limit told room ≡ front_before limit file.fails_at file.bytes
@@ -72,8 +72,8 @@ front_told tells name id limit first begun last front told start can reads =
 
     ending : (reached : Reached) (input : Input) (fails_at : Option ℕ) (count : ℕ) → input.file.fails_at ≡ fails_at → input.place ≡ count → StandsAt reached input → EndsAt reached fails_at count (rest input)
     ending End input fails_at count same place stands = (stands.0, λ fails. stands.1 (same ∙ fails ∙ ap (λ n. Some n) (sym place)))
-    ending Over input fails_at count same place stands = tt
-    ending Fault input fails_at count same place stands = sym same ∙ stands ∙ ap (λ n. Some n) place
+    ending Limit input fails_at count same place stands = tt
+    ending Failure input fails_at count same place stands = sym same ∙ stands ∙ ap (λ n. Some n) place
 
 -- a named input was begun and read
 pub front_read : (tells : Type 0) (name : List ℕ) (id limit : ℕ) (first begun last : Moment) (front : Front) → first.faults ≤ begun.faults → (tells → Began name id first begun) → (tells → CannotBegin name first → ⊥) → ReadsRest tells id limit begun last front → ReadsFront tells name limit first last front

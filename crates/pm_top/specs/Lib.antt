@@ -1,6 +1,9 @@
+pub mod Ends
+pub mod FaultLines
 pub mod Fronts
 pub mod Lines
 pub mod Meaning
-pub mod TextLines
+pub mod Ran
+pub mod Run
 pub mod Text
-pub mod FaultLines
+pub mod TextLines

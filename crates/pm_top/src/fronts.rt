@@ -1,7 +1,7 @@
 //! Inputs that are read whole, up to a limit.
 
 ghost use Rattle.std.specs.Prelude.{◌≡◌, ◌+◌, ◌<◌, ◌^◌, IfOk};
-ghost use Rattle.pm_top.specs.Fronts.{ReadsRest, ReadsFront};
+ghost use Rattle.pm_top.specs.Fronts.{ReadsRest, ReadsFront, text_of};
 
 use pm_base::{Failed, Inputs, NoMemory};
 use std::alloc::Global;
@@ -13,9 +13,9 @@ pub enum Reached {
     /// The input gave all its bytes.
     End,
     /// The byte past the limit came, and is the last one.
-    Over,
+    Limit,
     /// The input could not be begun, or a read failed.
-    Fault,
+    Failure,
 }
 
 /// The bytes that were read of an input, and why no more were.
@@ -41,6 +41,16 @@ impl Gathered {
         self.bytes.as_slice()
     }
 
+    /// The bytes that belong to lines of a text: a byte past the limit belongs to none.
+    pub fn text(&self) -> &[u8]
+        ensures { result.now ≡ text_of self.now.reached self.now.bytes }
+    {
+        match (self.reached, self.bytes.as_slice()) {
+            (Reached::Limit, [text @ .., _past]) => text,
+            (_, bytes) => bytes,
+        }
+    }
+
     pub fn reached(&self) -> Reached
         ensures { result ≡ self.now.reached }
     {
@@ -61,7 +71,7 @@ pub fn gather<I: Inputs>(
         Ok(id) => read_rest(alloc, inputs, id, limit),
         Err(Failed) => Ok(Gathered {
             bytes: Vec::new(alloc),
-            reached: Reached::Fault,
+            reached: Reached::Failure,
         }),
     }
 }
@@ -90,12 +100,12 @@ fn read_rest<I: Inputs>(
                 .map_err(|_| NoMemory)?,
             Err(Failed) => return Ok(Gathered {
                 bytes,
-                reached: Reached::Fault,
+                reached: Reached::Failure,
             }),
         }
     }
     Ok(Gathered {
         bytes,
-        reached: Reached::Over,
+        reached: Reached::Limit,
     })
 }

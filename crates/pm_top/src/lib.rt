@@ -3,5 +3,11 @@
 #![tactic(auto)]
 
 mod fronts;
+mod program;
+mod run;
 mod script;
+mod stops;
 mod text;
+
+pub use program::pm_main;
+pub use run::replay;

@@ -1,0 +1,33 @@
+//! The program `pmu`, over the files and the standard output of the host.
+#![tactic(auto)]
+
+mod host;
+
+use host::{HostInputs, HostSink};
+use pm_base::Exit;
+use pm_top::pm_main;
+use std::process::ExitCode;
+use std::rt::{Env, Files};
+use std::{env, io};
+
+fn main(rt: HostRuntime) -> ExitCode {
+    ExitCode::from(run(&rt) as u8)
+}
+
+/// Runs the words that the program was called with.
+fn run<R: Env + Files + Print + AllocGlobal>(rt: &R) -> Exit {
+    let words = match words(rt) {
+        Ok(words) => words,
+        // Words that are no text have no form.
+        Err(error) if error.kind() == io::ErrorKind::InvalidData => Vec::new(rt.alloc()),
+        Err(_) => return Exit::Memory,
+    };
+    let mut inputs = HostInputs::new(rt.alloc(), rt);
+    let mut out = HostSink::new(io::writer(rt));
+    pm_main(rt.alloc(), words.as_slice(), &mut inputs, &mut out)
+}
+
+/// The words after the program's name.
+fn words<R: Env + AllocGlobal>(rt: &R) -> io::Result<Vec<String>> {
+    Ok(env::args(rt)?.skip(1).collect(rt.alloc())?)
+}

@@ -1,0 +1,73 @@
+//! The top call: a run of the program.
+
+ghost use Rattle.std.specs.Prelude.{◌≡◌, ◌⊎◌, map, string_bytes, MatchOption};
+ghost use Rattle.pm_object.specs.Reading.{reading};
+ghost use Rattle.pm_top.specs.Ran.{Ran, ReadsObject, form, read_or_fault};
+
+use crate::fronts::{Reached, gather};
+use crate::run::replay;
+use crate::stops::refuse;
+use crate::text::Fault;
+use pm_base::{Exit, Inputs, Sink};
+use pm_object::{DecodeError, Object, decode};
+use std::alloc::Global;
+
+/// The most bytes of an object.
+const OBJECT_LIMIT: u32 = 16_384;
+
+/// Does all that the program does, for its words without its own name. `replay OBJ SCRIPT` runs the
+/// script of one name over the object of another; no other words have a form.
+pub fn pm_main<I: Inputs, O: Sink>(
+    alloc: Global,
+    words: &[String],
+    inputs: &mut I,
+    out: &mut O,
+) -> Exit
+    ensures ran { Ran I.tells O.tells (form (map string_bytes words.now)) (I.state inputs.old) (I.state inputs.new) (O.state out.old) (O.state out.new) result }
+{
+    let Some((object, script)) = form(words) else {
+        return refuse(Fault::Usage, out);
+    };
+    match read_object(alloc, inputs, object) {
+        Ok(object) => replay(alloc, object, inputs, script, out),
+        Err(fault) => refuse(fault, out),
+    }
+}
+
+/// The names of the object and the script, where the words have a form.
+fn form(words: &[String]) -> Option<(&str, &str)>
+    ensures { MatchOption result (form (map string_bytes words.now) ≡ None)
+        (λ names. form (map string_bytes words.now) ≡ Some (names.0.now, names.1.now)) }
+{
+    match words {
+        [command, object, script] if command.as_str() == "replay" => {
+            Some((object.as_str(), script.as_str()))
+        }
+        _ => None,
+    }
+}
+
+/// Reads the named object.
+fn read_object<I: Inputs>(alloc: Global, inputs: &mut I, name: &str) -> Result<Object, Fault>
+    ensures { (result ≡ Err Fault.Memory) ⊎ ReadsObject I.tells name.now (I.state inputs.old) (I.state inputs.new) result }
+{
+    let Ok(front) = gather(alloc, inputs, name, OBJECT_LIMIT) else {
+        return Err(Fault::Memory);
+    };
+    match front.reached() {
+        Reached::Failure => Err(Fault::Read),
+        Reached::End | Reached::Limit => judge(alloc, front.bytes()),
+    }
+}
+
+/// Reads an object from its bytes.
+fn judge(alloc: Global, bytes: &[u8]) -> Result<Object, Fault>
+    ensures { (result ≡ Err Fault.Memory) ⊎ (read_or_fault (reading bytes.now) ≡ result) }
+{
+    match decode(alloc, bytes) {
+        Ok(object) => Ok(object),
+        Err(DecodeError::Bad(_)) => Err(Fault::Object),
+        Err(DecodeError::SectionUnbuilt) => Err(Fault::Unbuilt),
+        Err(DecodeError::Memory(_)) => Err(Fault::Memory),
+    }
+}
