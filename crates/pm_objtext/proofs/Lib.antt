@@ -1,9 +1,14 @@
+pub mod Formed
+pub mod FormedItems
+pub mod FormedLaw
+pub mod FormedSteps
 pub mod GroupsLemmas
 pub mod Headers
 pub mod ItemTexts
 pub mod ItemsLaw
 pub mod LineTexts
 pub mod LinesLemmas
+pub mod ReadSmall
 pub mod ReadingLemmas
 pub mod Sections
 pub mod TextLaw

@@ -67,7 +67,7 @@ said-append xs ys a b p q =
 said_one : (item : Item) (words : ℕ) → Fits item → length (line_of item) + 1 ≤ 20 * words → AreSaid (item ∷ []) words
 said_one item words fits short = record { fit = (fits, tt); short = omega (arith, length-append (line_of item ++ 10 ∷ []) [], length-append (line_of item) (10 ∷ [])) }
 
-AreSmall-split : (xs ys : List ℕ) → AreSmall (xs ++ ys) → AreSmall xs × AreSmall ys
+pub AreSmall-split : (xs ys : List ℕ) → AreSmall (xs ++ ys) → AreSmall xs × AreSmall ys
 AreSmall-split [] ys small = (tt, small)
 AreSmall-split (x ∷ xs) ys small = let both = AreSmall-split xs ys small.1 in ((small.0, both.0), both.1)
 

@@ -1,6 +1,7 @@
 //! The object that a text says.
 
-ghost use Rattle.std.specs.Prelude.{◌≡◌, ◌≤◌, length};
+ghost use Rattle.std.specs.Prelude.{◌≡◌, ◌≤◌, length, IfOk};
+ghost use Rattle.pm_object.specs.Grammar.{IsObject};
 ghost use Rattle.pm_objtext.specs.Answers.{Gives};
 ghost use Rattle.pm_objtext.specs.Building.{building, reading_all};
 ghost use Rattle.pm_objtext.specs.Drafts.{start};
@@ -28,13 +29,8 @@ fn build_lines(alloc: Global, text: &[u8]) -> Result<Object, BuildError>
     draft.finish(alloc)
 }
 
-/// The object that a text says, which is the one whose text it is but for spaces, comments, empty
-/// lines and how numbers are written.
-///
-/// `Bad` comes exactly where the text has no reading, with its first bad line and the first of that
-/// line's causes.
 #[tactic(auto, unfolding(crate::specs::Building::building))]
-pub fn build(alloc: Global, text: &[u8]) -> Result<Object, BuildError>
+fn build_text(alloc: Global, text: &[u8]) -> Result<Object, BuildError>
     ensures { Gives result (building text.now) }
 {
     if text.len() > MOST_BYTES {
@@ -44,4 +40,17 @@ pub fn build(alloc: Global, text: &[u8]) -> Result<Object, BuildError>
         }));
     }
     build_lines(alloc, text)
+}
+
+/// The object that a text says. Spaces, tabs, comments and empty lines between its words and lines
+/// make no difference, nor does the way in which a number is written.
+///
+/// `Bad` comes exactly where the text has no reading, with its first bad line and the first of that
+/// line's causes. A text of more than 1,048,576 bytes is bad as a whole. The other error is want of
+/// memory.
+pub fn build(alloc: Global, text: &[u8]) -> Result<Object, BuildError>
+    ensures exact { Gives result (building text.now) }
+    ensures formed { IfOk result IsObject }
+{
+    build_text(alloc, text)
 }
