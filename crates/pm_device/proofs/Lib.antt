@@ -1,0 +1,5 @@
+pub mod BoardLaw
+pub mod Cells
+pub mod Rising
+pub mod DeviceLaw
+pub mod FreshLaw

@@ -1,0 +1,7 @@
+use Rattle.pm_device.proofs.DeviceLaw.{model_commanded}
+use Rattle.pm_device.proofs.model.ModelDeviceDevice.command.Goals as goal
+
+pub returns-clause-commanded : goal.returns-clause-commanded
+returns-clause-commanded c =
+    model_commanded c.args.command c.args.self.now c.carry_out.new.self c.carry_out.result
+    c.carry_out.ensures.answer c.carry_out.ensures.after c.carry_out.ensures.cause

@@ -1,0 +1,4 @@
+pub mod Board
+pub mod Device
+pub mod Listed
+pub mod Model

@@ -1,0 +1,115 @@
+ghost use Rattle.std.specs.Prelude.{◌≡◌, ◌==◌, ◌∷◌, [], IfOk, is_ok, not};
+ghost use Rattle.std.specs.List.{list_any};
+ghost use Rattle.pm_base.specs.Faults.{HasCause};
+ghost use Rattle.pm_device.specs.Board.{IsFresh};
+ghost use Rattle.pm_device.specs.Listed.{listed_after, listed_moment, next, next_fails};
+
+use crate::board::{self, LineCell, NodeCell};
+use crate::device::Device;
+use pm_base::{Command, Failed, NoMemory, NodeId, Unit};
+use pm_topology::Topology;
+use std::alloc::Global;
+use std::marker::Model;
+
+/// A device in memory. It fails exactly the commands with listed numbers, counted from 1, and those
+/// on units that the chip doesn't have.
+#[derive(Drop)]
+pub struct ListedDevice {
+    nodes: Vec<NodeCell>,
+    lines: Vec<LineCell>,
+    failing: Vec<u32>,
+    commands: u64,
+    faults: u64,
+}
+
+impl Model for ListedDevice {
+    ghost use Rattle.pm_device.specs.Listed.{Listed};
+
+    ghost Value = { Listed };
+
+    ghost view = { λ device. record {
+      nodes = device.nodes.items;
+      lines = device.lines.items;
+      failing = device.failing.items;
+      commands = device.commands;
+      faults = device.faults;
+    } };
+}
+
+impl ListedDevice {
+    /// The device of a chip, all of whose units stand at 0. It fails the commands with these
+    /// numbers; a command after number `2^32 - 1` is none of them.
+    ///
+    /// # Errors
+    ///
+    /// `NoMemory` where there is not enough memory.
+    pub fn new(alloc: Global, t: &Topology, failing: &[u32]) -> Result<ListedDevice, NoMemory>
+        ensures fresh { IfOk result (λ device. IsFresh t.now (listed_moment device)) }
+        ensures failing { IfOk result (λ device. device.failing ≡ failing.now) }
+        ensures first { IfOk result (λ device. device.commands ≡ 0) }
+    {
+        Ok(ListedDevice {
+            nodes: board::nodes_of(alloc, t)?,
+            lines: board::lines_of(alloc, t)?,
+            failing: Vec::from_slice(alloc, failing).map_err(|_| NoMemory)?,
+            commands: 0,
+            faults: 0,
+        })
+    }
+
+    /// The value of a unit, and 0 of an unknown one.
+    pub fn value(&self, unit: Unit) -> u32
+        ensures { result ≡ (listed_moment self.now).value unit }
+    {
+        board::value_of(&self.nodes, &self.lines, unit)
+    }
+
+    /// Carries a command out, or counts a fault.
+    fn carry_out(&mut self, command: Command) -> Result<(), Failed>
+        ensures answer { is_ok result ≡ not (next_fails self.old command.unit) }
+        ensures after { self.new ≡ listed_after command (is_ok result) self.old }
+        ensures cause { HasCause self.old.faults self.new.faults result }
+    {
+        self.commands = self.commands.saturating_add(1);
+        if is_listed(&self.failing, self.commands)
+            || !board::has_unit(&self.nodes, &self.lines, command.unit)
+        {
+            self.faults = self.faults.saturating_add(1);
+            return Err(Failed);
+        }
+        board::set(&mut self.nodes, &mut self.lines, command);
+        Ok(())
+    }
+}
+
+impl Device for ListedDevice {
+    ghost use Rattle.std.specs.Prelude.{⊤};
+    ghost use Rattle.pm_device.specs.Device.{Commanded, Rigged, answered};
+    ghost use Rattle.pm_device.specs.Listed.{listed_moment};
+
+    ghost tells_values = { ⊤ };
+
+    ghost state = { listed_moment };
+
+    fn command(&mut self, command: Command) -> Result<(), Failed>
+        ensures cause { HasCause self.old.faults self.new.faults result }
+        ensures commanded { Commanded ⊤ ⊥ (answered command (is_ok result) ∷ []) (listed_moment self.old) (listed_moment self.new) }
+        ensures listed { is_ok result ≡ not (next_fails self.old command.unit) }
+        ensures number { self.new.commands ≡ next self.old.commands }
+        ensures failing { self.new.failing ≡ self.old.failing }
+    {
+        self.carry_out(command)
+    }
+
+    fn rig(&mut self, _node: NodeId, _broken: bool)
+        ensures rigged { Rigged ⊤ ⊥ _node _broken (listed_moment self.old) (listed_moment self.new) }
+        ensures same { self.new ≡ self.old }
+    {}
+}
+
+/// Whether a command of this number is to fail.
+fn is_listed(failing: &[u32], number: u64) -> bool
+    ensures { result ≡ list_any (λ listed. listed == number) failing.now }
+{
+    failing.iter().any(|listed| *listed as u64 == number)
+}
