@@ -1,6 +1,9 @@
 pub mod EndsLemmas
+pub mod ExitsLemmas
 pub mod FrontsLemmas
 pub mod LinesLemmas
 pub mod MeaningLemmas
+pub mod OutcomesLemmas
 pub mod RunLemmas
+pub mod RanLemmas
 pub mod TextLinesLemmas

@@ -3,6 +3,7 @@ pub mod FaultLines
 pub mod Fronts
 pub mod Lines
 pub mod Meaning
+pub mod Outcomes
 pub mod Ran
 pub mod Run
 pub mod Text

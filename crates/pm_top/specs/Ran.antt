@@ -1,5 +1,5 @@
 -- A run of the program: what it read, and what it made of that.
-use Rattle.std.specs.Prelude.{◌≡◌, ℕ, ◌⊎◌, List, [], ◌∷◌, codes, if◌then◌else◌, Option, Some, None, Result, Ok, Err}
+use Rattle.std.specs.Prelude.{◌≡◌, ℕ, ◌⊎◌, List, [], ◌∷◌, codes, if◌then◌else◌, Option, Some, None, Result, Ok, Err, IfOk}
 use Rattle.std.specs.Str.{bytes_eq}
 use Rattle.pm_base.specs.declared.errors.Exit.{Exit}
 use Rattle.pm_base.specs.Inputs.{Moment}
@@ -7,7 +7,8 @@ use Rattle.pm_base.specs.Sink.{SinkMoment}
 use Rattle.pm_object.specs.declared.object.Object.{Object}
 use Rattle.pm_object.specs.declared.object.DecodeError.{DecodeError}
 use Rattle.pm_object.specs.declared.object.DecodeError.TheVariants.{Bad, SectionUnbuilt, Memory as MemoryError}
-use Rattle.pm_object.specs.Reading.{reading}
+use Rattle.pm_object.specs.Grammar.{Reads}
+use Rattle.pm_object.specs.Reading.{reading, IsBuilt}
 use Rattle.pm_core.specs.State.{State}
 use Rattle.pm_core.specs.Load.{load_of}
 use Rattle.pm_top.specs.declared.fronts.Reached.{Reached}
@@ -60,6 +61,7 @@ pub record ReadsObject (tells : Type 0) (name : List ℕ) (before after : Moment
   pub object : Front
   pub read : ReadsFront tells name object_limit before after object
   pub judgement : judged object.reached object.bytes ≡ verdict
+  pub reads : IfOk verdict (λ o. Reads object.bytes o × IsBuilt o)
 
 -- a run goes on with its object, or stops
 abbrev pub GoesOn : Type 0 → Type 0 → List ℕ → Result Object Fault → Moment → Moment → SinkMoment → SinkMoment → Exit → Type 0
@@ -71,6 +73,7 @@ pub record RunsObject (I_tells O_tells : Type 0) (name script : List ℕ) (befor
   pub object : Front
   pub between : Moment
   pub read : ReadsFront I_tells name object_limit before between object
+  pub reads : IfOk (judged object.reached object.bytes) (λ o. Reads object.bytes o × IsBuilt o)
   pub goes_on : GoesOn I_tells O_tells script (judged object.reached object.bytes) between after taken_before taken_after answer
 
 -- a run of words of this form

@@ -1,7 +1,12 @@
 //! The top call: a run of the program.
 
-ghost use Rattle.std.specs.Prelude.{◌≡◌, ◌⊎◌, map, string_bytes, MatchOption};
-ghost use Rattle.pm_object.specs.Reading.{reading};
+ghost use Rattle.std.specs.Prelude.{◌≡◌, ◌↔◌, ◌⊎◌, map, string_bytes, MatchOption, IfOk};
+ghost use Rattle.pm_base.specs.Faults.{Rose};
+ghost use Rattle.pm_base.specs.Sink.{HasFailed};
+ghost use Rattle.pm_object.specs.Grammar.{Reads};
+ghost use Rattle.pm_object.specs.Reading.{reading, IsBuilt};
+ghost use Rattle.pm_top.specs.Ends.{WantsMemory};
+ghost use Rattle.pm_top.specs.Outcomes.{HasBadObject, HasBadLine, IsTooLarge};
 ghost use Rattle.pm_top.specs.Ran.{Ran, ReadsObject, form, read_or_fault};
 
 use crate::fronts::{Reached, gather};
@@ -23,7 +28,32 @@ pub fn pm_main<I: Inputs, O: Sink>(
     inputs: &mut I,
     out: &mut O,
 ) -> Exit
+    // Usage comes exactly where the words have no form.
+    ensures usage { (result ≡ Exit.Usage) ↔ (form (map string_bytes words.now) ≡ None) }
+    // BadObject comes only where the object was read to its end or past its limit and has no reading.
+    ensures bad_object { result ≡ Exit.BadObject → HasBadObject I.tells (map string_bytes words.now) (I.state inputs.old) }
+    // BadLine comes only where a line that was taken has no meaning, and every line before it has one.
+    ensures bad_line { result ≡ Exit.BadLine → HasBadLine I.tells O.tells (map string_bytes words.now) (I.state inputs.old) (I.state inputs.new) (O.state out.old) (O.state out.new) }
+    // TooLarge comes only where a byte past the script's limit was read, and no line before it is bad.
+    ensures too_large { result ≡ Exit.TooLarge → IsTooLarge I.tells O.tells (map string_bytes words.now) (I.state inputs.old) (I.state inputs.new) (O.state out.old) (O.state out.new) }
+    // On Memory nothing was written but the fault line, as far as the sink took it.
+    ensures memory { result ≡ Exit.Memory → WantsMemory O.tells (O.state out.old) (O.state out.new) result }
+    ensures write_fault { result ≡ Exit.WriteFault → HasFailed (O.state out.old) (O.state out.new) }
+    ensures read_fault { result ≡ Exit.ReadFault → Rose (I.state inputs.old).faults (I.state inputs.new).faults }
+    // All of it: what was read, what was made of it, and what of that was written.
     ensures ran { Ran I.tells O.tells (form (map string_bytes words.now)) (I.state inputs.old) (I.state inputs.new) (O.state out.old) (O.state out.new) result }
+{
+    run_words(alloc, words, inputs, out)
+}
+
+/// Runs the words.
+fn run_words<I: Inputs, O: Sink>(
+    alloc: Global,
+    words: &[String],
+    inputs: &mut I,
+    out: &mut O,
+) -> Exit
+    ensures { Ran I.tells O.tells (form (map string_bytes words.now)) (I.state inputs.old) (I.state inputs.new) (O.state out.old) (O.state out.new) result }
 {
     let Some((object, script)) = form(words) else {
         return refuse(Fault::Usage, out);
@@ -62,7 +92,8 @@ fn read_object<I: Inputs>(alloc: Global, inputs: &mut I, name: &str) -> Result<O
 
 /// Reads an object from its bytes.
 fn judge(alloc: Global, bytes: &[u8]) -> Result<Object, Fault>
-    ensures { (result ≡ Err Fault.Memory) ⊎ (read_or_fault (reading bytes.now) ≡ result) }
+    ensures exact { (result ≡ Err Fault.Memory) ⊎ (read_or_fault (reading bytes.now) ≡ result) }
+    ensures reads { IfOk result (λ o. Reads bytes.now o × IsBuilt o) }
 {
     match decode(alloc, bytes) {
         Ok(object) => Ok(object),

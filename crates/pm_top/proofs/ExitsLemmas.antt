@@ -1,0 +1,130 @@
+-- The clauses of the top call on each exit.
+use Rattle.std.proofs.Common.{◌≡◌, ℕ, ◌≤◌, List, refl, sym, ◌∙◌, ap, arith, Option, Some, None, inl, inr}
+use Rattle.pm_base.specs.Faults.{Rose}
+use Rattle.pm_base.specs.Inputs.{Moment}
+use Rattle.pm_base.specs.Sink.{SinkMoment, HasFailed}
+use Rattle.pm_base.specs.declared.errors.Exit.{Exit}
+use Rattle.pm_base.specs.declared.errors.Exit.TheVariants as exit
+use Rattle.pm_object.specs.declared.object.DecodeError.{DecodeError}
+use Rattle.pm_object.specs.declared.object.DecodeError.TheVariants.{Bad, SectionUnbuilt, Memory as MemoryError}
+use Rattle.pm_core.specs.State.{State}
+use Rattle.pm_core.specs.Load.{load_of}
+use Rattle.pm_top.specs.declared.fronts.Reached.{Reached}
+use Rattle.pm_top.specs.declared.fronts.Reached.TheVariants.{End, Limit, Failure}
+use Rattle.pm_top.specs.declared.text.faults.Fault.{Fault}
+use Rattle.pm_top.specs.Run.{run_of, bad_line, lines_text, lines_book, script_lines, ended}
+use Rattle.pm_top.specs.Ends.{Goes, exit_after, exit_of}
+use Rattle.pm_top.specs.Ran.{fault_of}
+use Rattle.pm_top.proofs.RanLemmas.{Stops, Runs, Ways, Judgement, failed, refused, judgement, ended_unread}
+
+-- ---- which exits come where
+
+-- the exits of a run that stops at its object
+pub data StopExit (answer : Exit) : Type 0 where
+  at_unread : answer ≡ exit.ReadFault → StopExit answer
+  at_bad : answer ≡ exit.BadObject → StopExit answer
+  at_memory : answer ≡ exit.Memory → StopExit answer
+
+-- the exits of a run of a script
+pub data RunExit (answer : Exit) : Type 0 where
+  at_done : answer ≡ exit.Done → RunExit answer
+  at_line : answer ≡ exit.BadLine → RunExit answer
+  at_large : answer ≡ exit.TooLarge → RunExit answer
+  at_unread_script : answer ≡ exit.ReadFault → RunExit answer
+  at_broken : answer ≡ exit.WriteFault → RunExit answer
+
+refused_exit : (answer : Exit) (error : DecodeError) → answer ≡ exit_of (fault_of error) → StopExit answer
+refused_exit answer (Bad fault) is = at_bad is
+refused_exit answer SectionUnbuilt is = at_bad is
+refused_exit answer (MemoryError error) is = at_memory is
+
+stop_exit : (reached : Reached) (bytes : List ℕ) (fault : Fault) (answer : Exit) → Judgement reached bytes fault → answer ≡ exit_of fault → StopExit answer
+stop_exit reached bytes fault answer (failed at is) answers = at_unread (answers ∙ ap exit_of is)
+stop_exit reached bytes fault answer (refused error whole read is) answers = refused_exit answer error (answers ∙ ap exit_of is)
+
+ended_exit : (bad : Option ℕ) (reached : Reached) (text : List ℕ) (book : State) (answer : Exit) → answer ≡ exit_after (ended bad reached text book).fault → RunExit answer
+ended_exit (Some n) reached text book answer is = at_line is
+ended_exit None End text book answer is = at_done is
+ended_exit None Limit text book answer is = at_large is
+ended_exit None Failure text book answer is = at_unread_script is
+
+ended_breaks : (bad : Option ℕ) (reached : Reached) (text : List ℕ) (book : State) → exit.WriteFault ≡ exit_after (ended bad reached text book).fault → ⊥
+ended_breaks (Some n) reached text book is = cc
+ended_breaks None End text book is = cc
+ended_breaks None Limit text book is = cc
+ended_breaks None Failure text book is = cc
+
+pub stops_exit : (I_tells O_tells : Type 0) (before last : Moment) (taken_before taken_after : SinkMoment) (answer : Exit) (name : List ℕ) → Stops I_tells O_tells name before last taken_before taken_after answer → StopExit answer
+stops_exit I_tells O_tells before last taken_before taken_after answer name stops = stop_exit stops.object.reached stops.object.bytes stops.fault answer (judgement stops.object.reached stops.object.bytes stops.fault stops.judgement) stops.ends.answers
+
+pub runs_exit : (I_tells O_tells : Type 0) (before last : Moment) (taken_before taken_after : SinkMoment) (answer : Exit) (name script : List ℕ) → Runs I_tells O_tells name script before last taken_before taken_after answer → RunExit answer
+runs_exit I_tells O_tells before last taken_before taken_after answer name script runs = goes runs.goes
+  where
+    goes : Goes O_tells (run_of (load_of runs.o) runs.script) taken_before taken_after answer → RunExit answer
+    goes (inl ends) = ended_exit (bad_line 1 (script_lines runs.script)) runs.script.reached (lines_text 1 (script_lines runs.script) (load_of runs.o)) (lines_book (script_lines runs.script) (load_of runs.o)) answer ends.answers
+    goes (inr breaks) = at_broken breaks.answers
+
+-- ---- usage
+
+pub usage_only : (I_tells O_tells : Type 0) (before last : Moment) (taken_before taken_after : SinkMoment) (answer : Exit) (names : Option (List ℕ × List ℕ)) → Ways I_tells O_tells names before last taken_before taken_after answer → answer ≡ exit.Usage → names ≡ None
+usage_only I_tells O_tells before last taken_before taken_after answer None way is = refl
+usage_only I_tells O_tells before last taken_before taken_after answer (Some (name, script)) (inl wants) is = let memory : answer ≡ exit.Memory = wants.answers in absurd (cc)
+usage_only I_tells O_tells before last taken_before taken_after answer (Some (name, script)) (inr (inl stops)) is = absurd (clash (stops_exit I_tells O_tells before last taken_before taken_after answer name stops))
+  where
+    clash : StopExit answer → ⊥
+    clash (at_unread e) = cc
+    clash (at_bad e) = cc
+    clash (at_memory e) = cc
+usage_only I_tells O_tells before last taken_before taken_after answer (Some (name, script)) (inr (inr runs)) is = absurd (clash (runs_exit I_tells O_tells before last taken_before taken_after answer name script runs))
+  where
+    clash : RunExit answer → ⊥
+    clash (at_done e) = cc
+    clash (at_line e) = cc
+    clash (at_large e) = cc
+    clash (at_unread_script e) = cc
+    clash (at_broken e) = cc
+
+pub usage_when : (I_tells O_tells : Type 0) (before last : Moment) (taken_before taken_after : SinkMoment) (answer : Exit) (names : Option (List ℕ × List ℕ)) → names ≡ None → Ways I_tells O_tells names before last taken_before taken_after answer → answer ≡ exit.Usage
+usage_when I_tells O_tells before last taken_before taken_after answer None none way = way.answers
+usage_when I_tells O_tells before last taken_before taken_after answer (Some (name, script)) none way = absurd (cc)
+
+-- ---- a failure of the sink
+
+pub write_fault : (I_tells O_tells : Type 0) (before last : Moment) (taken_before taken_after : SinkMoment) (answer : Exit) (names : Option (List ℕ × List ℕ)) → Ways I_tells O_tells names before last taken_before taken_after answer → answer ≡ exit.WriteFault → HasFailed taken_before taken_after
+write_fault I_tells O_tells before last taken_before taken_after answer None way is = let usage : answer ≡ exit.Usage = way.answers in absurd (cc)
+write_fault I_tells O_tells before last taken_before taken_after answer (Some (name, script)) (inl wants) is = let memory : answer ≡ exit.Memory = wants.answers in absurd (cc)
+write_fault I_tells O_tells before last taken_before taken_after answer (Some (name, script)) (inr (inl stops)) is = absurd (clash (stops_exit I_tells O_tells before last taken_before taken_after answer name stops))
+  where
+    clash : StopExit answer → ⊥
+    clash (at_unread e) = cc
+    clash (at_bad e) = cc
+    clash (at_memory e) = cc
+write_fault I_tells O_tells before last taken_before taken_after answer (Some (name, script)) (inr (inr runs)) is = goes runs.goes
+  where
+    goes : Goes O_tells (run_of (load_of runs.o) runs.script) taken_before taken_after answer → HasFailed taken_before taken_after
+    goes (inl ends) = absurd (ended_breaks (bad_line 1 (script_lines runs.script)) runs.script.reached (lines_text 1 (script_lines runs.script) (load_of runs.o)) (lines_book (script_lines runs.script) (load_of runs.o)) (sym is ∙ ends.answers))
+    goes (inr breaks) = breaks.breaks.cause
+
+-- ---- a failure of an input
+
+not_unread : (error : DecodeError) → exit.ReadFault ≡ exit_of (fault_of error) → ⊥
+not_unread (Bad fault) e = cc
+not_unread SectionUnbuilt e = cc
+not_unread (MemoryError error) e = cc
+
+pub read_fault : (I_tells O_tells : Type 0) (before last : Moment) (taken_before taken_after : SinkMoment) (answer : Exit) (names : Option (List ℕ × List ℕ)) → Ways I_tells O_tells names before last taken_before taken_after answer → answer ≡ exit.ReadFault → Rose before.faults last.faults
+read_fault I_tells O_tells before last taken_before taken_after answer None way is = let usage : answer ≡ exit.Usage = way.answers in absurd (cc)
+read_fault I_tells O_tells before last taken_before taken_after answer (Some (name, script)) (inl wants) is = let memory : answer ≡ exit.Memory = wants.answers in absurd (cc)
+read_fault I_tells O_tells before last taken_before taken_after answer (Some (name, script)) (inr (inl stops)) is = by_judgement (judgement stops.object.reached stops.object.bytes stops.fault stops.judgement)
+  where
+    by_judgement : Judgement stops.object.reached stops.object.bytes stops.fault → Rose before.faults last.faults
+    by_judgement (failed at fault) = let rose : Rose before.faults stops.between.faults = stops.read.fault at in let stays : last.faults ≡ stops.between.faults = ap (λ (m : Moment). m.faults) stops.stays in omega arith
+    by_judgement (refused error whole read fault) = absurd (not_unread error (sym is ∙ stops.ends.answers ∙ ap exit_of fault))
+read_fault I_tells O_tells before last taken_before taken_after answer (Some (name, script)) (inr (inr runs)) is = goes runs.goes
+  where
+    goes : Goes O_tells (run_of (load_of runs.o) runs.script) taken_before taken_after answer → Rose before.faults last.faults
+    goes (inl ends) =
+        let at : runs.script.reached ≡ Failure = ended_unread (bad_line 1 (script_lines runs.script)) runs.script.reached (lines_text 1 (script_lines runs.script) (load_of runs.o)) (lines_book (script_lines runs.script) (load_of runs.o)) (sym ends.answers ∙ is) in
+        let rose : Rose runs.between.faults last.faults = runs.read_script.fault at in
+        let later : before.faults ≤ runs.between.faults = runs.read_object.later in omega arith
+    goes (inr breaks) = let broke : answer ≡ exit.WriteFault = breaks.answers in absurd (cc)
