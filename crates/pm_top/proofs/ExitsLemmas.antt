@@ -107,7 +107,7 @@ write_fault I_tells O_tells before last taken_before taken_after answer (Some (n
 
 -- ---- a failure of an input
 
-not_unread : (error : DecodeError) → exit.ReadFault ≡ exit_of (fault_of error) → ⊥
+pub not_unread : (error : DecodeError) → exit.ReadFault ≡ exit_of (fault_of error) → ⊥
 not_unread (Bad fault) e = cc
 not_unread SectionUnbuilt e = cc
 not_unread (MemoryError error) e = cc

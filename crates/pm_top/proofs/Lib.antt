@@ -1,3 +1,4 @@
+pub mod CausesLemmas
 pub mod EndsLemmas
 pub mod ExitsLemmas
 pub mod FrontsLemmas
@@ -7,3 +8,4 @@ pub mod OutcomesLemmas
 pub mod RunLemmas
 pub mod RanLemmas
 pub mod TextLinesLemmas
+pub mod ToldLemmas

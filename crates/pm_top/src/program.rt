@@ -1,12 +1,12 @@
 //! The top call: a run of the program.
 
-ghost use Rattle.std.specs.Prelude.{◌≡◌, ◌↔◌, ◌⊎◌, map, string_bytes, MatchOption, IfOk};
+ghost use Rattle.std.specs.Prelude.{◌≡◌, ◌≤◌, ◌↔◌, ◌⊎◌, map, string_bytes, MatchOption, IfOk};
 ghost use Rattle.pm_base.specs.Faults.{Rose};
 ghost use Rattle.pm_base.specs.Sink.{HasFailed};
 ghost use Rattle.pm_object.specs.Grammar.{Reads};
 ghost use Rattle.pm_object.specs.Reading.{reading, IsBuilt};
-ghost use Rattle.pm_top.specs.Ends.{WantsMemory};
-ghost use Rattle.pm_top.specs.Outcomes.{HasBadObject, HasBadLine, IsTooLarge};
+ghost use Rattle.pm_top.specs.Ends.{WantsMemory, exit_after};
+ghost use Rattle.pm_top.specs.Outcomes.{IsReplayed, HasBadObject, HasBadLine, IsTooLarge, NamesMayFail, run_told};
 ghost use Rattle.pm_top.specs.Ran.{Ran, ReadsObject, form, read_or_fault};
 
 use crate::fronts::{Reached, gather};
@@ -28,6 +28,9 @@ pub fn pm_main<I: Inputs, O: Sink>(
     inputs: &mut I,
     out: &mut O,
 ) -> Exit
+    // On Done the inputs held an object and a script under the two names, and what was written is
+    // the whole text of the run of the script over the object.
+    ensures done { I.tells → O.tells → result ≡ Exit.Done → IsReplayed (map string_bytes words.now) (I.state inputs.old) (O.state out.old).bytes (O.state out.new).bytes }
     // Usage comes exactly where the words have no form.
     ensures usage { (result ≡ Exit.Usage) ↔ (form (map string_bytes words.now) ≡ None) }
     // BadObject comes only where the object was read to its end or past its limit and has no reading.
@@ -39,6 +42,14 @@ pub fn pm_main<I: Inputs, O: Sink>(
     // On Memory nothing was written but the fault line, as far as the sink took it.
     ensures memory { result ≡ Exit.Memory → WantsMemory O.tells (O.state out.old) (O.state out.new) result }
     ensures write_fault { result ≡ Exit.WriteFault → HasFailed (O.state out.old) (O.state out.new) }
+    // Where the inputs tell, ReadFault comes only where a name isn't there, one has a failing byte, or
+    // fewer than two inputs can be begun.
+    ensures read_cause { I.tells → result ≡ Exit.ReadFault → NamesMayFail (form (map string_bytes words.now)) (I.state inputs.old) }
+    // Where the inputs tell and two can be begun, the exit is that of the run of what they tell, unless
+    // memory is wanted or the sink fails.
+    ensures told { I.tells → 2 ≤ (I.state inputs.old).room →
+        (result ≡ exit_after (run_told (form (map string_bytes words.now)) (I.state inputs.old)).fault)
+        ⊎ ((result ≡ Exit.Memory) ⊎ (result ≡ Exit.WriteFault)) }
     ensures read_fault { result ≡ Exit.ReadFault → Rose (I.state inputs.old).faults (I.state inputs.new).faults }
     // All of it: what was read, what was made of it, and what of that was written.
     ensures ran { Ran I.tells O.tells (form (map string_bytes words.now)) (I.state inputs.old) (I.state inputs.new) (O.state out.old) (O.state out.new) result }
