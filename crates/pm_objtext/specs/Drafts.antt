@@ -68,18 +68,14 @@ stands (Gpo word) d = is_in sections.Gpo d.stage && awaits_record d.stage
 
 -- whether the section came before, or the first word of the record in its section or group
 abbrev pub repeats : Item → Draft → Bool
-repeats Empty d = false
-repeats (Header extra) d = false
 repeats (Opens section) d = list_any (λ s. is_same s section) d.object.order
 repeats (Master m) d = list_any (λ e. e.node == m.node) d.object.masters
 repeats (Slave s) d = list_any (λ e. e.node == s.node) d.object.slaves
-repeats (Group mask) d = false
 repeats (Prefer rec) d = list_any (λ e. e.node == rec.node) (last_recs d.groups)
 repeats (Power pair) d = list_any (λ e. e.key == pair.key) d.object.power
 repeats (Reset pair) d = list_any (λ e. e.key == pair.key) d.object.reset
 repeats (Shutdown pair) d = list_any (λ e. e.key == pair.key) d.object.shutdown
-repeats (Config base overlay) d = false
-repeats (Gpo word) d = false
+repeats item d = false
 
 -- ---- masters
 
@@ -98,18 +94,9 @@ lacks_masters section o =
 
 -- whether a line is wrong about the masters
 abbrev pub breaks_masters : Item → Draft → Bool
-breaks_masters Empty d = false
-breaks_masters (Header extra) d = false
 breaks_masters (Opens section) d = lacks_masters section d.object
 breaks_masters (Master m) d = has_bad_node m d.object.masters || has_bad_mask m d.object.masters
-breaks_masters (Slave s) d = false
-breaks_masters (Group mask) d = false
-breaks_masters (Prefer rec) d = false
-breaks_masters (Power pair) d = false
-breaks_masters (Reset pair) d = false
-breaks_masters (Shutdown pair) d = false
-breaks_masters (Config base overlay) d = false
-breaks_masters (Gpo word) d = false
+breaks_masters item d = false
 
 -- ---- size
 

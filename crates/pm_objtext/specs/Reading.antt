@@ -103,17 +103,8 @@ record_of keywords.Gpo ns = gpo_of ns
 
 -- a section has a name after its keyword, each other keyword has numbers
 abbrev pub keyword_item : Keyword → List (List ℕ) → Option Item
-keyword_item keywords.Header words = option_and_then (record_of keywords.Header) (numbers (drop 1 words))
 keyword_item keywords.Section words = opening (slice_get words 1) (slice_get words 2)
-keyword_item keywords.Master words = option_and_then (record_of keywords.Master) (numbers (drop 1 words))
-keyword_item keywords.Slave words = option_and_then (record_of keywords.Slave) (numbers (drop 1 words))
-keyword_item keywords.Group words = option_and_then (record_of keywords.Group) (numbers (drop 1 words))
-keyword_item keywords.Prefer words = option_and_then (record_of keywords.Prefer) (numbers (drop 1 words))
-keyword_item keywords.Power words = option_and_then (record_of keywords.Power) (numbers (drop 1 words))
-keyword_item keywords.Reset words = option_and_then (record_of keywords.Reset) (numbers (drop 1 words))
-keyword_item keywords.Shutdown words = option_and_then (record_of keywords.Shutdown) (numbers (drop 1 words))
-keyword_item keywords.Config words = option_and_then (record_of keywords.Config) (numbers (drop 1 words))
-keyword_item keywords.Gpo words = option_and_then (record_of keywords.Gpo) (numbers (drop 1 words))
+keyword_item keyword words = option_and_then (record_of keyword) (numbers (drop 1 words))
 
 -- the words of a line by the first one, where there is one
 abbrev pub words_item : Option (List ℕ) → List (List ℕ) → Option Item

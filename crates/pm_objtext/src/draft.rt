@@ -1,20 +1,20 @@
 //! An object while its text is read, line by line.
 
-ghost use Rattle.std.specs.Prelude.{◌≡◌, ◌==◌, ◌+◌, ◌≤◌, ◌<◌, ◌++◌, ◌^◌, length, Some, None, OnOk, [], not, bit_and};
+ghost use Rattle.std.specs.Prelude.{◌≡◌, ◌==◌, ◌+◌, ◌≤◌, ◌<◌, ◌++◌, ◌^◌, length, Some, None, OnOk, []};
 ghost use Rattle.std.specs.List.{list_any};
-ghost use Rattle.pm_objtext.specs.Drafts.{is_same, stands, repeats, has_bad_node, has_bad_mask, lacks_masters, breaks_masters, header_size, words_in, cause_of, start, placed, accepting, end_cause, finished};
+ghost use Rattle.pm_objtext.specs.Drafts.{is_same, stands, repeats, breaks_masters, header_size, words_in, cause_of, start, placed, accepting, end_cause, finished};
 ghost use Rattle.pm_objtext.specs.declared.fault.BuildError.TheVariants.{Bad};
-ghost use Rattle.pm_object.specs.Grammar.{is_master_node, splits_lockstep};
 ghost use Rattle.pm_objtext.specs.Answers.{Gives, GivesInto};
 ghost use Rattle.pm_objtext.specs.Building.{reading};
 
 use crate::fault::{BuildError, TextCause, TextFault};
 use crate::groups::Groups;
 use crate::item::Item;
+use crate::masters::{has_bad_mask, has_bad_node, has_master, lacks_masters};
 use crate::reading::item_of;
 use crate::stage::{Stage, is_same, is_single};
 use pm_base::{List, NoMemory};
-use pm_object::{MasterRec, Object, Pair, Section, SlaveRec};
+use pm_object::{Object, Pair, Section, SlaveRec};
 use std::alloc::Global;
 
 /// What the lines so far say. `line` is the number of the line that comes next, `size` the number
@@ -252,12 +252,6 @@ fn has_section(order: &[Section], section: Section) -> bool
     order.iter().any(|s| is_same(*s, section))
 }
 
-fn has_master(masters: &[MasterRec], node: u32) -> bool
-    ensures { result ≡ list_any (λ e. e.node == node) masters.now }
-{
-    masters.iter().any(|e| e.node == node)
-}
-
 fn has_slave(slaves: &[SlaveRec], node: u32) -> bool
     ensures { result ≡ list_any (λ e. e.node == node) slaves.now }
 {
@@ -268,52 +262,6 @@ fn has_key(pairs: &[Pair], key: u32) -> bool
     ensures { result ≡ list_any (λ e. e.key == key) pairs.now }
 {
     pairs.iter().any(|e| e.key == key)
-}
-
-fn is_master_node(node: u32) -> bool
-    ensures { result ≡ is_master_node node }
-{
-    matches!(node, 1 | 6 | 7 | 8)
-}
-
-fn splits_lockstep(a: u32, b: u32) -> bool
-    ensures { result ≡ splits_lockstep a b }
-{
-    a == 6 && (b == 7 || b == 8) || b == 6 && (a == 7 || a == 8)
-}
-
-fn has_split(earlier: &[MasterRec], node: u32) -> bool
-    ensures { result ≡ list_any (λ e. splits_lockstep e.node node) earlier.now }
-{
-    earlier.iter().any(|e| splits_lockstep(e.node, node))
-}
-
-fn has_bit(earlier: &[MasterRec], mask: u32) -> bool
-    ensures { result ≡ list_any (λ e. not (bit_and e.mask mask == 0)) earlier.now }
-{
-    earlier.iter().any(|e| e.mask & mask != 0)
-}
-
-fn has_bad_node(master: &MasterRec, earlier: &[MasterRec]) -> bool
-    ensures { result ≡ has_bad_node master.now earlier.now }
-{
-    !is_master_node(master.node) || has_split(earlier, master.node)
-}
-
-fn has_bad_mask(master: &MasterRec, earlier: &[MasterRec]) -> bool
-    ensures { result ≡ has_bad_mask master.now earlier.now }
-{
-    master.mask.count_ones() != 1 || has_bit(earlier, master.mask)
-}
-
-fn lacks_masters(section: Section, o: &Object) -> bool
-    ensures { result ≡ lacks_masters section o.now }
-{
-    if o.order.is_empty() {
-        !is_same(section, Section::Masters)
-    } else {
-        o.masters.is_empty()
-    }
 }
 
 fn header_size(stage: Stage, extra: usize) -> u32

@@ -9,6 +9,7 @@ mod groups;
 mod item;
 mod laws;
 mod lines;
+mod masters;
 mod names;
 mod printing;
 mod reading;
