@@ -11,3 +11,6 @@ mod text;
 
 pub use program::pm_main;
 pub use run::replay;
+
+#[cfg(test)]
+mod tests;
