@@ -6,6 +6,8 @@ pub mod board;
 pub mod device;
 pub mod listed;
 pub mod model;
+#[cfg(test)]
+mod tests;
 
 pub use device::Device;
 pub use listed::ListedDevice;

@@ -4,5 +4,7 @@
 pub mod child;
 pub mod power;
 pub mod settle;
+#[cfg(test)]
+mod tests;
 
 pub use power::Power;

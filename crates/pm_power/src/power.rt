@@ -53,9 +53,8 @@ impl Power {
         })
     }
 
-    /// Sets whether a processor or slave needs its power node.
+    /// Sets whether a processor or slave needs its power node. For another node nothing changes.
     pub fn need<L: Ledger>(&mut self, child: NodeId, on: bool, _steps: &mut Steps<L>)
-        requires { child_need self.old.children child ≡ Some (not on) }
         ensures { self.new ≡ set_need child on self.old }
     {
         child::set_need(&mut self.children, child, on);

@@ -5,8 +5,12 @@
 pub mod check;
 pub mod chip;
 pub mod classes;
+#[cfg(test)]
+mod fault_tests;
 pub mod faults;
 pub mod places;
+#[cfg(test)]
+mod tests;
 pub mod topology;
 
 pub use chip::zynqmp;
