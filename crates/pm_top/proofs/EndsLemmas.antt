@@ -16,7 +16,7 @@ use Rattle.pm_top.specs.FaultLines.{fault_text}
 use Rattle.pm_base.specs.declared.errors.Exit.TheVariants as exit
 use Rattle.pm_top.specs.declared.stops.Stop.TheVariants.{Fault as FaultStop, Sink}
 use Rattle.pm_top.specs.Run.{Run, stopped}
-use Rattle.pm_top.specs.Ends.{Breaks, Writes, Leaves, Ends, Goes, exit_of, last_line}
+use Rattle.pm_top.specs.Ends.{Breaks, Leaves, Ends, Goes, exit_of, last_line}
 
 -- a failure after a later moment is one after an earlier moment
 HasFailed-later : (tells : Type 0) (bytes : List ℕ) (first mid last : SinkMoment) → Wrote tells bytes first mid → HasFailed mid last → HasFailed first last
@@ -44,11 +44,6 @@ Breaks-inside tells written piece rest whole first mid last is before breaks =
       wrote = rw cut (Wrote-trans tells written (take breaks.count piece) first mid last before breaks.wrote);
       cause = HasFailed-later tells written first mid last before breaks.cause;
     }
-
--- what a writing of one piece gives
-pub Writes-piece : (tells : Type 0) (piece : List ℕ) (before after : SinkMoment) (count : ℕ) (result : Result ⊤ Failed) → OnOk result (Wrote tells piece before after) → Wrote tells (take count piece) before after → OnErr result (HasFailed before after) → Writes tells piece before after result
-Writes-piece tells piece before after count (Ok nothing) written front cause = written
-Writes-piece tells piece before after count (Err error) written front cause = record { count = count; wrote = front; cause = cause }
 
 -- a fault line was tried once
 pub Ends-refused : (tells : Type 0) (fault : Fault) (line : List ℕ) (before after : SinkMoment) (count : ℕ) (result : Result ⊤ Failed) (answer : Exit) → line ≡ fault_text fault → answer ≡ exit_of fault → OnOk result (Wrote tells line before after) → Wrote tells (take count line) before after → OnErr result (HasFailed before after) → Ends tells (stopped fault) before after answer

@@ -11,7 +11,7 @@ use Rattle.pm_core.specs.Run.{after, outputs_along}
 use Rattle.pm_top.specs.declared.script.meaning.LineFault.{LineFault}
 use Rattle.pm_top.specs.declared.fronts.Reached.{Reached}
 use Rattle.pm_top.specs.declared.fronts.Reached.TheVariants.{End, Limit, Failure}
-use Rattle.pm_top.specs.declared.text.faults.Fault.TheVariants.{Line, Read, Size}
+use Rattle.pm_top.specs.declared.text.faults.Fault.TheVariants.{Line}
 use Rattle.pm_top.specs.declared.stops.Stop.{Stop}
 use Rattle.pm_top.specs.declared.stops.Stop.TheVariants.{Fault as FaultStop, Sink}
 use Rattle.pm_top.specs.Meaning.{meaning}
@@ -141,15 +141,6 @@ Leaves-stopped tells lines reached first start last Sink breaks = stops (bad_lin
     stops None Limit = breaks
     stops None Failure = breaks
 
--- a run whose lines all have a meaning
-pub Leaves-closed : (tells : Type 0) (lines : List (List ℕ)) (reached : Reached) (first now : State) (start mid last : SinkMoment) → reached ≡ End → now ≡ lines_book lines first → Leaves tells (lines_run 1 lines first) start mid (Ok tt) → Wrote tells (closing_text now) mid last → Leaves tells (lines_ended lines reached first) start last (Ok tt)
-Leaves-closed tells lines reached first now start mid last ends book leaves closing = rw (bad_is_none (bad_line 1 lines) leaves.0, ends, ← book) (refl, Wrote-trans tells (lines_text 1 lines first) (closing_text now) start mid last leaves.1 closing)
-
+-- the closing table of a run whose lines all have a meaning breaks off
 pub Leaves-cut : (tells : Type 0) (lines : List (List ℕ)) (reached : Reached) (first now : State) (start mid last : SinkMoment) → reached ≡ End → now ≡ lines_book lines first → Leaves tells (lines_run 1 lines first) start mid (Ok tt) → Breaks tells (closing_text now) mid last → Leaves tells (lines_ended lines reached first) start last (Err Sink)
 Leaves-cut tells lines reached first now start mid last ends book leaves closing = rw (bad_is_none (bad_line 1 lines) leaves.0, ends, ← book) (Breaks-inside tells (lines_text 1 lines first) (closing_text now) [] (lines_text 1 lines first ++ closing_text now) start mid last (ap (λ text. lines_text 1 lines first ++ text) (sym (append-nil (closing_text now)))) leaves.1 closing)
-
-pub Leaves-limit : (tells : Type 0) (lines : List (List ℕ)) (reached : Reached) (first : State) (start last : SinkMoment) → reached ≡ Limit → Leaves tells (lines_run 1 lines first) start last (Ok tt) → Leaves tells (lines_ended lines reached first) start last (Err (FaultStop Size))
-Leaves-limit tells lines reached first start last is leaves = rw (bad_is_none (bad_line 1 lines) leaves.0, is) (refl, leaves.1)
-
-pub Leaves-failure : (tells : Type 0) (lines : List (List ℕ)) (reached : Reached) (first : State) (start last : SinkMoment) → reached ≡ Failure → Leaves tells (lines_run 1 lines first) start last (Ok tt) → Leaves tells (lines_ended lines reached first) start last (Err (FaultStop Read))
-Leaves-failure tells lines reached first start last is leaves = rw (bad_is_none (bad_line 1 lines) leaves.0, is) (refl, leaves.1)

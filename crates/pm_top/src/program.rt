@@ -41,7 +41,10 @@ pub fn pm_main<I: Inputs, O: Sink>(
     ensures too_large { result ≡ Exit.TooLarge → IsTooLarge I.tells O.tells (map string_bytes words.now) (I.state inputs.old) (I.state inputs.new) (O.state out.old) (O.state out.new) }
     // On Memory nothing was written but the fault line, as far as the sink took it.
     ensures memory { result ≡ Exit.Memory → WantsMemory O.tells (O.state out.old) (O.state out.new) result }
+    // WriteFault comes only where a write failed, or took 0 of a piece that isn't empty.
     ensures write_fault { result ≡ Exit.WriteFault → HasFailed (O.state out.old) (O.state out.new) }
+    // ReadFault comes only where the inputs' count of faults rose.
+    ensures read_fault { result ≡ Exit.ReadFault → Rose (I.state inputs.old).faults (I.state inputs.new).faults }
     // Where the inputs tell, ReadFault comes only where a name isn't there, one has a failing byte, or
     // fewer than two inputs can be begun.
     ensures read_cause { I.tells → result ≡ Exit.ReadFault → NamesMayFail (form (map string_bytes words.now)) (I.state inputs.old) }
@@ -50,7 +53,6 @@ pub fn pm_main<I: Inputs, O: Sink>(
     ensures told { I.tells → 2 ≤ (I.state inputs.old).room →
         (result ≡ exit_after (run_told (form (map string_bytes words.now)) (I.state inputs.old)).fault)
         ⊎ ((result ≡ Exit.Memory) ⊎ (result ≡ Exit.WriteFault)) }
-    ensures read_fault { result ≡ Exit.ReadFault → Rose (I.state inputs.old).faults (I.state inputs.new).faults }
     // All of it: what was read, what was made of it, and what of that was written.
     ensures ran { Ran I.tells O.tells (form (map string_bytes words.now)) (I.state inputs.old) (I.state inputs.new) (O.state out.old) (O.state out.new) result }
 {
