@@ -1,12 +1,13 @@
 pub mod Bytes
 pub mod Loop
 pub mod Steps
-pub mod Records
+pub mod ReadLists
 pub mod ReadMasters
-pub mod ReadSlaves
+pub mod ReadRecords
 pub mod ReadHeader
 pub mod Parts
 pub mod ReadNames
 pub mod ReadBodies
 pub mod ReadSections
 pub mod ReadObject
+pub mod Fitting

@@ -1,7 +1,7 @@
 -- A loop over a count: what was read, and reading what is left, is reading all.
 use Rattle.std.proofs.Common.{◌≡◌, ℕ, suc, ◌+◌, ◌-◌, ◌<◌, ◌≤◌, List, [], ◌∷◌, ◌++◌, Ok, Err, refl, sym, ◌∙◌, arith}
 use Rattle.pm_object.specs.declared.object.DecodeError.{DecodeError}
-use Rattle.pm_object.specs.declared.object.DecodeError.TheVariants.{Bad, Memory, SectionUnbuilt}
+use Rattle.pm_object.specs.declared.object.DecodeError.TheVariants.{Bad, Memory}
 use Rattle.pm_object.specs.declared.object.Object.{Object}
 use Rattle.pm_object.specs.Reading.{Cursor, Step, Fails, records, section, sections}
 
@@ -21,11 +21,7 @@ unfolding records
 records_fail one (Memory e) count i earlier c total lt so_far is = tt
 records_fail one (Bad f) count i earlier c total lt so_far is =
     let k : count - i ≡ suc (count - (i + 1)) = omega arith in
-    let all : records one (count - i) earlier c ≡ Err (Bad f) = rw (k, is) refl in
-    sym so_far ∙ all
-records_fail one SectionUnbuilt count i earlier c total lt so_far is =
-    let k : count - i ≡ suc (count - (i + 1)) = omega arith in
-    let all : records one (count - i) earlier c ≡ Err SectionUnbuilt = rw (k, is) refl in
+    let all : records one (count - i) earlier c ≡ Err f = rw (k, is) refl in
     sym so_far ∙ all
 
 pub records_end : {A : Type 0} (one : List A → Cursor → Step A) (count i : ℕ) (earlier : List A) (c : Cursor) (total : Step (List A)) → count ≤ i
@@ -52,11 +48,7 @@ unfolding sections
 sections_fail (Memory e) count i o c total lt so_far is = tt
 sections_fail (Bad f) count i o c total lt so_far is =
     let k : count - i ≡ suc (count - (i + 1)) = omega arith in
-    let all : sections (count - i) o c ≡ Err (Bad f) = rw (k, is) refl in
-    sym so_far ∙ all
-sections_fail SectionUnbuilt count i o c total lt so_far is =
-    let k : count - i ≡ suc (count - (i + 1)) = omega arith in
-    let all : sections (count - i) o c ≡ Err SectionUnbuilt = rw (k, is) refl in
+    let all : sections (count - i) o c ≡ Err f = rw (k, is) refl in
     sym so_far ∙ all
 
 pub sections_end : (count i : ℕ) (o : Object) (c : Cursor) (total : Step Object) → count ≤ i

@@ -1,14 +1,14 @@
 -- The section that is read after the others is the section that is written.
-use Rattle.std.proofs.Common.{◌≡◌, ℕ, ◌<◌, true, List, [], ◌∷◌, ◌++◌, length, Ok, refl, sym, ap, subst, ◌∙◌}
-use Rattle.std.specs.Prelude.{IsTrue}
+use Rattle.std.proofs.Common.{◌≡◌, ℕ, ◌<◌, List, [], ◌∷◌, ◌++◌, length, Ok, refl, sym, ap, subst, ◌∙◌}
 use Rattle.pm_object.specs.declared.object.Section.{Section}
 use Rattle.pm_object.specs.declared.object.Section.TheVariants.{Masters, Slaves, Prealloc, Power, Reset, Shutdown, Config, Gpo}
 use Rattle.pm_object.specs.declared.object.Object.{Object}
-use Rattle.pm_object.specs.Grammar.{identifier, body_words, section_words, IsSection}
-use Rattle.pm_object.specs.Reading.{Cursor, ◌>>=◌, masters, slaves, section_name, section_body, section, is_built}
-use Rattle.pm_object.proofs.Steps.{bind_ok, ok_is, Again}
+use Rattle.pm_object.specs.Grammar.{identifier, body_words, section_words, slave_words, group_words, pair_words, HasOwnNodes, IsSection}
+use Rattle.pm_object.specs.Reading.{Cursor, ◌>>=◌, word, masters, counted_records, slave, group, pair, section_name, section_body, section}
+use Rattle.pm_object.proofs.Steps.{bind_ok, ok_is, Again, before, word_takes, word_again}
 use Rattle.pm_object.proofs.ReadMasters.{masters_take, masters_again}
-use Rattle.pm_object.proofs.ReadSlaves.{slaves_take, slaves_again}
+use Rattle.pm_object.proofs.ReadLists.{counted_take, counted_again}
+use Rattle.pm_object.proofs.ReadRecords.{Any, Differ, AnyTwo, slave_reader, pair_reader, group_reader}
 use Rattle.pm_object.proofs.ReadNames.{MayFollow, name_takes, name_again}
 use Rattle.pm_object.proofs.Parts.{with_section}
 
@@ -43,7 +43,6 @@ record IsBody (s : Section) (o : Object) (c : Cursor) (r : Object) (d : Cursor) 
   pub is : r ≡ with_body s r o
   pub together : IsSection s r
   pub some : s ≡ Masters → 0 < length r.masters
-  pub built : IsTrue (is_built s)
 
 body_takes : (s : Section) (o : Object) (c : Cursor) (r : Object) (d : Cursor) → section_body s o c ≡ Ok (r, d) → IsBody s o c r d
 unfolding section_body
@@ -51,33 +50,70 @@ body_takes Masters o c r d e =
     let a = bind_ok (masters c) (λ m. Ok (record o { masters = m.0 }, m.1)) (r, d) e in
     let taken = masters_take c a.0.0 a.0.1 a.1 in
     subst (λ (p : Object × Cursor). IsBody Masters o c p.0 p.1) (ok_is (record o { masters = a.0.0 }, a.0.1) (r, d) a.2)
-    (record { words = taken.0; is = refl; together = taken.1; some = λ _. taken.2; built = refl })
+    (record { words = taken.0; is = refl; together = taken.1; some = λ _. taken.2 })
 body_takes Slaves o c r d e =
-    let a = bind_ok (slaves c) (λ m. Ok (record o { slaves = m.0 }, m.1)) (r, d) e in
-    let taken = slaves_take c a.0.0 a.0.1 a.1 in
+    let a = bind_ok (counted_records slave c) (λ m. Ok (record o { slaves = m.0 }, m.1)) (r, d) e in
+    let taken = counted_take slave slave_words Any (Differ (λ s. s.node)) slave_reader c a.0.0 a.0.1 a.1 in
     subst (λ (p : Object × Cursor). IsBody Slaves o c p.0 p.1) (ok_is (record o { slaves = a.0.0 }, a.0.1) (r, d) a.2)
-    (record { words = taken.0; is = refl; together = taken.1; some = λ (same : Slaves ≡ Masters). absurd cc; built = refl })
-body_takes Prealloc o c r d e = absurd cc
-body_takes Power o c r d e = absurd cc
-body_takes Reset o c r d e = absurd cc
-body_takes Shutdown o c r d e = absurd cc
-body_takes Config o c r d e = absurd cc
-body_takes Gpo o c r d e = absurd cc
+    (record { words = taken.0; is = refl; together = taken.2; some = λ (same : Slaves ≡ Masters). absurd cc })
+body_takes Prealloc o c r d e =
+    let a = bind_ok (counted_records group c) (λ m. Ok (record o { groups = m.0 }, m.1)) (r, d) e in
+    let taken = counted_take group group_words HasOwnNodes AnyTwo group_reader c a.0.0 a.0.1 a.1 in
+    subst (λ (p : Object × Cursor). IsBody Prealloc o c p.0 p.1) (ok_is (record o { groups = a.0.0 }, a.0.1) (r, d) a.2)
+    (record { words = taken.0; is = refl; together = taken.1; some = λ (same : Prealloc ≡ Masters). absurd cc })
+body_takes Power o c r d e =
+    let a = bind_ok (counted_records pair c) (λ m. Ok (record o { power = m.0 }, m.1)) (r, d) e in
+    let taken = counted_take pair pair_words Any (Differ (λ p. p.key)) pair_reader c a.0.0 a.0.1 a.1 in
+    subst (λ (p : Object × Cursor). IsBody Power o c p.0 p.1) (ok_is (record o { power = a.0.0 }, a.0.1) (r, d) a.2)
+    (record { words = taken.0; is = refl; together = taken.2; some = λ (same : Power ≡ Masters). absurd cc })
+body_takes Reset o c r d e =
+    let a = bind_ok (counted_records pair c) (λ m. Ok (record o { reset = m.0 }, m.1)) (r, d) e in
+    let taken = counted_take pair pair_words Any (Differ (λ p. p.key)) pair_reader c a.0.0 a.0.1 a.1 in
+    subst (λ (p : Object × Cursor). IsBody Reset o c p.0 p.1) (ok_is (record o { reset = a.0.0 }, a.0.1) (r, d) a.2)
+    (record { words = taken.0; is = refl; together = taken.2; some = λ (same : Reset ≡ Masters). absurd cc })
+body_takes Shutdown o c r d e =
+    let a = bind_ok (counted_records pair c) (λ m. Ok (record o { shutdown = m.0 }, m.1)) (r, d) e in
+    let taken = counted_take pair pair_words Any (Differ (λ p. p.key)) pair_reader c a.0.0 a.0.1 a.1 in
+    subst (λ (p : Object × Cursor). IsBody Shutdown o c p.0 p.1) (ok_is (record o { shutdown = a.0.0 }, a.0.1) (r, d) a.2)
+    (record { words = taken.0; is = refl; together = taken.2; some = λ (same : Shutdown ≡ Masters). absurd cc })
+body_takes Config o c r d e =
+    let a = bind_ok (word c) (λ base. word base.1 >>= λ overlay. Ok (record o { base_mask = base.0; overlay_mask = overlay.0 }, overlay.1)) (r, d) e in
+    let b = bind_ok (word a.0.1) (λ overlay. Ok (record o { base_mask = a.0.0; overlay_mask = overlay.0 }, overlay.1)) (r, d) a.2 in
+    let text : c.left ≡ a.0.0 ∷ b.0.0 ∷ b.0.1.left = before _ _ _ _ (word_takes c a.0.0 a.0.1 a.1) (word_takes a.0.1 b.0.0 b.0.1 b.1) in
+    subst (λ (p : Object × Cursor). IsBody Config o c p.0 p.1) (ok_is (record o { base_mask = a.0.0; overlay_mask = b.0.0 }, b.0.1) (r, d) b.2)
+    (record { words = text; is = refl; together = tt; some = λ (same : Config ≡ Masters). absurd cc })
+body_takes Gpo o c r d e =
+    let a = bind_ok (word c) (λ w. Ok (record o { gpo = w.0 }, w.1)) (r, d) e in
+    subst (λ (p : Object × Cursor). IsBody Gpo o c p.0 p.1) (ok_is (record o { gpo = a.0.0 }, a.0.1) (r, d) a.2)
+    (record { words = word_takes c a.0.0 a.0.1 a.1; is = refl; together = tt; some = λ (same : Gpo ≡ Masters). absurd cc })
 
-body_again : (s : Section) (p o : Object) (c : Cursor) (rest : List ℕ) → is_built s ≡ true → c.left ≡ body_words s p ++ rest → IsSection s p → 0 < length p.masters → Again (section_body s o c) (with_body s p o) rest
+body_again : (s : Section) (p o : Object) (c : Cursor) (rest : List ℕ) → c.left ≡ body_words s p ++ rest → IsSection s p → 0 < length p.masters → Again (section_body s o c) (with_body s p o) rest
 unfolding section_body
-body_again Masters p o c rest built text together some =
+body_again Masters p o c rest text together some =
     let a = masters_again c p.masters rest text together some in
     record { after = a.after; is = rw a.is refl; left = a.left }
-body_again Slaves p o c rest built text together some =
-    let a = slaves_again c p.slaves rest text together in
+body_again Slaves p o c rest text together some =
+    let a = counted_again slave slave_words Any (Differ (λ s. s.node)) slave_reader c p.slaves rest text (λ k v within. tt) together in
     record { after = a.after; is = rw a.is refl; left = a.left }
-body_again Prealloc p o c rest built text together some = absurd cc
-body_again Power p o c rest built text together some = absurd cc
-body_again Reset p o c rest built text together some = absurd cc
-body_again Shutdown p o c rest built text together some = absurd cc
-body_again Config p o c rest built text together some = absurd cc
-body_again Gpo p o c rest built text together some = absurd cc
+body_again Prealloc p o c rest text together some =
+    let a = counted_again group group_words HasOwnNodes AnyTwo group_reader c p.groups rest text together (λ i j v below within. tt) in
+    record { after = a.after; is = rw a.is refl; left = a.left }
+body_again Power p o c rest text together some =
+    let a = counted_again pair pair_words Any (Differ (λ p. p.key)) pair_reader c p.power rest text (λ k v within. tt) together in
+    record { after = a.after; is = rw a.is refl; left = a.left }
+body_again Reset p o c rest text together some =
+    let a = counted_again pair pair_words Any (Differ (λ p. p.key)) pair_reader c p.reset rest text (λ k v within. tt) together in
+    record { after = a.after; is = rw a.is refl; left = a.left }
+body_again Shutdown p o c rest text together some =
+    let a = counted_again pair pair_words Any (Differ (λ p. p.key)) pair_reader c p.shutdown rest text (λ k v within. tt) together in
+    record { after = a.after; is = rw a.is refl; left = a.left }
+body_again Config p o c rest text together some =
+    let base = word_again c p.base_mask _ text in
+    let overlay = word_again base.after p.overlay_mask rest base.left in
+    record { after = overlay.after; is = rw (base.is, overlay.is) refl; left = overlay.left }
+body_again Gpo p o c rest text together some =
+    let a = word_again c p.gpo rest text in
+    record { after = a.after; is = rw a.is refl; left = a.left }
 
 -- ---- a section with its identifier
 
@@ -89,7 +125,6 @@ pub record IsNext (o : Object) (c : Cursor) (p : Object) (d : Cursor) : Type 0 w
   pub is : p ≡ with_section name p o
   pub together : IsSection name p
   pub some : name ≡ Masters → 0 < length p.masters
-  pub built : IsTrue (is_built name)
 
 named_words : (s : Section) (r : Object) → body_words s (with_name s r) ≡ body_words s r
 named_words Masters r = refl
@@ -133,12 +168,12 @@ section_takes o c p d e =
     let text : c.left ≡ section_words (with_name s r) s ++ b.0.1.left = name.0 ∙ ap (λ (l : List ℕ). identifier s ∷ l) (body.words ∙ ap (λ (l : List ℕ). l ++ b.0.1.left) (sym (named_words s r))) in
     let is : with_name s r ≡ with_section s (with_name s r) o = ap (with_name s) body.is ∙ body_then_name s r o ∙ sym (named_part s r o) in
     subst (λ (q : Object × Cursor). IsNext o c q.0 q.1) (ok_is (with_name s r, b.0.1) (p, d) b.2)
-    (record { name = s; may = name.1; words = text; is = is; together = named_together s r body.together; some = body.some; built = body.built })
+    (record { name = s; may = name.1; words = text; is = is; together = named_together s r body.together; some = body.some })
 
-pub section_again : (s : Section) (p o : Object) (c : Cursor) (rest : List ℕ) → is_built s ≡ true → MayFollow o.order s → c.left ≡ section_words p s ++ rest → IsSection s p → 0 < length p.masters → Again (section o c) (with_section s p o) rest
+pub section_again : (s : Section) (p o : Object) (c : Cursor) (rest : List ℕ) → MayFollow o.order s → c.left ≡ section_words p s ++ rest → IsSection s p → 0 < length p.masters → Again (section o c) (with_section s p o) rest
 unfolding section
-section_again s p o c rest built may text together some =
+section_again s p o c rest may text together some =
     let name = name_again o.order c s (body_words s p ++ rest) text may in
-    let body = body_again s p o name.after rest built name.left together some in
+    let body = body_again s p o name.after rest name.left together some in
     let read : section o c ≡ Ok (with_name s (with_body s p o), body.after) = rw (name.is, body.is) refl in
     record { after = body.after; is = read ∙ ap (λ (q : Object). Ok (q, body.after)) (body_then_name s p o); left = body.left }

@@ -7,7 +7,7 @@ use Rattle.pm_object.specs.declared.header.Header.{Header}
 use Rattle.pm_object.specs.declared.object.ObjectCause.TheVariants.{HeaderShort, BadType}
 use Rattle.pm_object.specs.Reading.{Cursor, Step, word, header, records}
 use Rattle.pm_object.proofs.Steps.{bind_ok, passed, ok_is, Again, before, word_takes, word_again, not_false}
-use Rattle.pm_object.proofs.Records.{IsReader, records_take, records_again, flat_map_words}
+use Rattle.pm_object.proofs.ReadLists.{IsReader, records_take, records_again, flat_map_words}
 
 abbrev one : List ℕ → Cursor → Step ℕ
 one earlier c = word c

@@ -9,7 +9,7 @@ use Rattle.pm_object.specs.declared.object.ObjectCause.TheVariants.{NoMasters, B
 use Rattle.pm_object.specs.Grammar.{is_master_node, splits_lockstep, master_words, counted, IsMaster, AreApart, AreMasters}
 use Rattle.pm_object.specs.Reading.{Cursor, fault, word, master_node, master_mask, master, masters, records}
 use Rattle.pm_object.proofs.Steps.{bind_ok, passed, ok_is, Again, before, word_takes, word_again, tested_takes, or_false, not_false, any_false}
-use Rattle.pm_object.proofs.Records.{IsReader, records_take, records_again}
+use Rattle.pm_object.proofs.ReadLists.{IsReader, records_take, records_again}
 
 -- ---- the node
 

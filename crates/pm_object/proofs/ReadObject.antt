@@ -1,6 +1,6 @@
 -- The two laws: the bytes that are read spell the object, and the bytes that spell an object are read as it.
-use Rattle.std.proofs.Common.{◌≡◌, ◌≢◌, ℕ, ◌+◌, ◌*◌, ◌%◌, ◌^◌, ◌<◌, ◌≤◌, Bool, true, false, cond, not, eqb, ltb, List, [], ◌∷◌, ◌++◌, length, slice_get, Some, ◌↔◌, ◌⊎◌, inl, inr, Result, Ok, Err, refl, sym, ap, subst, ◌∙◌, arith}
-use Rattle.std.specs.Prelude.{IfOk, IsTrue}
+use Rattle.std.proofs.Common.{◌≡◌, ◌≢◌, ℕ, ◌+◌, ◌*◌, ◌%◌, ◌^◌, ◌<◌, ◌≤◌, Bool, true, false, cond, not, eqb, ltb, List, [], ◌∷◌, ◌++◌, length, slice_get, Some, None, ◌↔◌, ◌⊎◌, inl, inr, Result, Ok, Err, refl, sym, ap, subst, ◌∙◌, arith}
+use Rattle.std.specs.Prelude.{IfOk}
 use Rattle.std.specs.List.{All, AllPairs, Contains, flat_map}
 use Rattle.std.proofs.lemmas.Bool.{eqb-true, eqb-false, ne_eqb, eq-eqb, ltb-false, le-ltb}
 use Rattle.std.proofs.lemmas.List.{append-nil}
@@ -10,9 +10,10 @@ use Rattle.pm_object.specs.declared.object.Section.{Section}
 use Rattle.pm_object.specs.declared.object.Section.TheVariants.{Masters, Slaves, Prealloc, Power, Reset, Shutdown, Config, Gpo}
 use Rattle.pm_object.specs.declared.object.Object.{Object}
 use Rattle.pm_object.specs.declared.object.DecodeError.{DecodeError}
+use Rattle.pm_object.specs.declared.object.ObjectFault.{ObjectFault}
 use Rattle.pm_object.specs.declared.object.ObjectCause.TheVariants.{TooLong, Length, NoMasters, Trailing}
-use Rattle.pm_object.specs.Grammar.{Reads, little_endian, words_of, section_words, IsSection, IsUnset, IsMaster, AreApart, HasOwnNodes}
-use Rattle.pm_object.specs.Reading.{Cursor, fault, header, sections, unset, object, words, reading, is_built, IsBuilt, Gives}
+use Rattle.pm_object.specs.Grammar.{IsObject, Reads, little_endian, words_of, section_words, IsSection, IsUnset, IsMaster, AreApart, HasOwnNodes}
+use Rattle.pm_object.specs.Reading.{Cursor, fault, header, sections, unset, object, words, reading, fault_of, first_fault, Gives}
 use Rattle.pm_object.proofs.Bytes.{IsBytes, bytes_fit, words_again, length_little_endian, bytes_again, words_fit}
 use Rattle.pm_object.proofs.Steps.{bind_ok, passed, ok_is, not_false}
 use Rattle.pm_object.proofs.ReadHeader.{header_takes, header_again}
@@ -44,7 +45,7 @@ unset_says extra Config = (refl, refl)
 unset_says extra Gpo = refl
 
 unset_part : (extra : List ℕ) → IsPart (unset extra)
-unset_part extra = record { once = none_apart (λ s t. s ≢ t); unset = λ s hasnt. unset_says extra s; sections = unset_sections extra; begun = inl refl; built = All-nil (λ s. IsTrue (is_built s)) }
+unset_part extra = record { once = none_apart (λ s t. s ≢ t); unset = λ s hasnt. unset_says extra s; sections = unset_sections extra; begun = inl refl }
 
 -- ---- the words
 
@@ -100,7 +101,7 @@ object_again p good c text =
 
 -- ---- the bytes
 
-pub reads_what_it_reads : (bytes : List ℕ) (o : Object) → IsBytes bytes → reading bytes ≡ Ok o → Reads bytes o × IsBuilt o
+pub reads_what_it_reads : (bytes : List ℕ) (o : Object) → IsBytes bytes → reading bytes ≡ Ok o → Reads bytes o
 unfolding reading
 reads_what_it_reads bytes o fit e =
     let g = passed (ltb 16384 (length bytes)) TooLong 4096 _ o e in
@@ -108,47 +109,60 @@ reads_what_it_reads bytes o fit e =
     let aligned : length bytes % 4 ≡ 0 = eqb-true _ _ (not_false (eqb (length bytes % 4) 0) h.0) in
     let taken = object_takes (record { place = 0; left = words bytes }) o h.1 in
     let again : little_endian (words bytes) ≡ bytes = bytes_again bytes fit aligned in
-    let size : length (words bytes) ≤ 4096 = omega (arith, length_little_endian (words bytes), ap length again, ltb-false 16384 (length bytes) g.0) in (
-      record {
-        object = record {
-          first = taken.2;
-          once = taken.1.once;
-          unset = taken.1.unset;
-          sections = taken.1.sections;
-          some_master = taken.3;
-          words = subst (λ (l : List ℕ). All (λ w. w < 2 ^ 32) l) taken.0 (words_fit bytes fit);
-          size = subst (λ (l : List ℕ). length l ≤ 4096) taken.0 size;
-        };
-        spelling = sym again ∙ ap little_endian taken.0;
-      },
-      taken.1.built,
-    )
+    let size : length (words bytes) ≤ 4096 = omega (arith, length_little_endian (words bytes), ap length again, ltb-false 16384 (length bytes) g.0) in
+    record {
+      object = record {
+        first = taken.2;
+        once = taken.1.once;
+        unset = taken.1.unset;
+        sections = taken.1.sections;
+        some_master = taken.3;
+        words = subst (λ (l : List ℕ). All (λ w. w < 2 ^ 32) l) taken.0 (words_fit bytes fit);
+        size = subst (λ (l : List ℕ). length l ≤ 4096) taken.0 size;
+      };
+      spelling = sym again ∙ ap little_endian taken.0;
+    }
 
-pub reads_what_is_written : (bytes : List ℕ) (o : Object) → IsBuilt o → Reads bytes o → reading bytes ≡ Ok o
+pub reads_what_is_written : (bytes : List ℕ) (o : Object) → Reads bytes o → reading bytes ≡ Ok o
 unfolding reading
-reads_what_is_written bytes o built reads =
+reads_what_is_written bytes o reads =
     let good = reads.object in
     let long : length bytes ≡ 4 * length (words_of o) = ap length reads.spelling ∙ length_little_endian (words_of o) in
     let short : ltb 16384 (length bytes) ≡ false = le-ltb _ _ (omega (arith, long, good.size)) in
     let aligned : eqb (length bytes % 4) 0 ≡ true = eq-eqb (length bytes % 4) 0 (omega (arith, long)) in
     let text : words bytes ≡ words_of o = ap words reads.spelling ∙ words_again (words_of o) good.words in
     let read : object (record { place = 0; left = words bytes }) ≡ Ok o =
-    object_again o (record { first = good.first; once = good.once; unset = good.unset; sections = good.sections; some_master = good.some_master; built = built }) (record { place = 0; left = words bytes }) text in
+    object_again o (record { first = good.first; once = good.once; unset = good.unset; sections = good.sections; some_master = good.some_master }) (record { place = 0; left = words bytes }) text in
     rw (short, aligned) read
 
 -- ---- what decode answers
 
-pub is_found : (bytes : List ℕ) (r : Result Object DecodeError) → IsBytes bytes → Gives r (reading bytes) → IfOk r (λ o. Reads bytes o × IsBuilt o)
+pub is_found : (bytes : List ℕ) (r : Result Object DecodeError) → IsBytes bytes → Gives r (reading bytes) → IfOk r (λ o. Reads bytes o)
 is_found bytes (Ok o) fit given = reads_what_it_reads bytes o fit given
 is_found bytes (Err e) fit given = tt
 
-pub is_only : (bytes : List ℕ) (r : Result Object DecodeError) (o : Object) → Gives r (reading bytes) → IsBuilt o → Reads bytes o → Gives r (Ok o)
-is_only bytes r o given built reads = subst (λ (read : Result Object DecodeError). Gives r read) (reads_what_is_written bytes o built reads) given
+pub is_only : (bytes : List ℕ) (r : Result Object DecodeError) (o : Object) → Gives r (reading bytes) → Reads bytes o → Gives r (Ok o)
+is_only bytes r o given reads = subst (λ (read : Result Object ObjectFault). Gives r read) (reads_what_is_written bytes o reads) given
 
 -- ---- one reading
 
-pub reads_exactly : (bytes : List ℕ) (o : Object) → All (λ b. b < 256) bytes → reading bytes ≡ Ok o ↔ (Reads bytes o × IsBuilt o)
-reads_exactly bytes o fit = (λ e. reads_what_it_reads bytes o (bytes_fit bytes fit) e, λ reads. reads_what_is_written bytes o reads.1 reads.0)
+pub reads_exactly : (bytes : List ℕ) (o : Object) → All (λ b. b < 256) bytes → reading bytes ≡ Ok o ↔ Reads bytes o
+reads_exactly bytes o fit = (λ e. reads_what_it_reads bytes o (bytes_fit bytes fit) e, λ reads. reads_what_is_written bytes o reads)
 
-pub one_object : (bytes : List ℕ) (o p : Object) → Reads bytes o → IsBuilt o → Reads bytes p → IsBuilt p → o ≡ p
-one_object bytes o p reads_o built_o reads_p built_p = ok_is o p (sym (reads_what_is_written bytes o built_o reads_o) ∙ reads_what_is_written bytes p built_p reads_p)
+pub one_object : (bytes : List ℕ) (o p : Object) → Reads bytes o → Reads bytes p → o ≡ p
+one_object bytes o p reads_o reads_p = ok_is o p (sym (reads_what_is_written bytes o reads_o) ∙ reads_what_is_written bytes p reads_p)
+
+-- what is written is read again
+pub reads_again : (o : Object) → IsObject o → reading (little_endian (words_of o)) ≡ Ok o
+reads_again o good = reads_what_is_written (little_endian (words_of o)) o (record { object = good; spelling = refl })
+
+without_fault : (read : Result Object ObjectFault) → fault_of read ≡ None → (o : Object) × (read ≡ Ok o)
+without_fault (Ok o) e = (o, refl)
+without_fault (Err f) e = absurd cc
+
+-- bytes spell an object exactly where nothing is wrong with them
+pub reads_or_faults : (bytes : List ℕ) → All (λ b. b < 256) bytes → first_fault bytes ≡ None ↔ ((o : Object) × Reads bytes o)
+reads_or_faults bytes fit = (
+  λ none. let read = without_fault (reading bytes) none in (read.0, reads_what_it_reads bytes read.0 (bytes_fit bytes fit) read.1),
+  λ reads. ap fault_of (reads_what_is_written bytes reads.0 reads.1),
+)

@@ -1,19 +1,18 @@
 -- The sections that are read, one after another, are the sections that are written.
-use Rattle.std.proofs.Common.{◌≡◌, ◌≢◌, ℕ, zero, suc, ◌<◌, true, List, [], ◌∷◌, ◌++◌, length, slice_get, Some, ◌⊎◌, inl, inr, Ok, refl, sym, ap, subst, ◌∙◌, append_assoc}
-use Rattle.std.specs.Prelude.{IsTrue}
+use Rattle.std.proofs.Common.{◌≡◌, ◌≢◌, ℕ, zero, suc, ◌<◌, List, [], ◌∷◌, ◌++◌, length, slice_get, Some, ◌⊎◌, inl, inr, Ok, refl, sym, ap, subst, ◌∙◌, append_assoc}
 use Rattle.std.specs.List.{All, AllPairs, Contains, flat_map}
 use Rattle.std.proofs.lemmas.List.{append-nil}
 use Rattle.std.proofs.lemmas.List.Concat.{flat_map-cons}
-use Rattle.std.proofs.lemmas.List.Elements.{Contains-append_left, Contains-push, Contains-push_cases, All-push}
+use Rattle.std.proofs.lemmas.List.Elements.{Contains-append_left, Contains-push, Contains-push_cases}
 use Rattle.std.proofs.lemmas.List.Quantifiers.{all_pairs_push}
 use Rattle.std.proofs.lemmas.Option.{slice_get_within, get_or_from_slice_get}
 use Rattle.pm_object.specs.declared.object.Section.{Section}
 use Rattle.pm_object.specs.declared.object.Section.TheVariants.{Masters}
 use Rattle.pm_object.specs.declared.object.Object.{Object}
 use Rattle.pm_object.specs.Grammar.{section_words, identifier, IsSection, IsUnset}
-use Rattle.pm_object.specs.Reading.{Cursor, section, sections, is_built}
+use Rattle.pm_object.specs.Reading.{Cursor, section, sections}
 use Rattle.pm_object.proofs.Steps.{bind_ok, ok_is, Again}
-use Rattle.pm_object.proofs.Records.{next_pair, next_one}
+use Rattle.pm_object.proofs.ReadLists.{next_pair}
 use Rattle.pm_object.proofs.ReadNames.{MayFollow}
 use Rattle.pm_object.proofs.ReadBodies.{IsNext, section_takes, section_again}
 use Rattle.pm_object.proofs.Parts.{SameIn, same_trans, same_words, same_section, same_unset, both_unset, same_object, same_or_not, contains_or_not, not_among, with_section, with_order, with_extra, with_same, with_others, same_refl, same_sym, some_is}
@@ -25,7 +24,6 @@ pub record IsPart (o : Object) : Type 0 where
   pub unset : (s : Section) → (Contains o.order s → ⊥) → IsUnset s o
   pub sections : (s : Section) → IsSection s o
   pub begun : (o.order ≡ []) ⊎ ((slice_get o.order 0 ≡ Some Masters) × (0 < length o.masters))
-  pub built : All (λ s. IsTrue (is_built s)) o.order
 
 -- the other sections stay
 next_others : (o : Object) (c : Cursor) (p : Object) (d : Cursor) (next : IsNext o c p d) (t : Section) → t ≢ next.name → SameIn t o p
@@ -71,7 +69,6 @@ next_part o c p d part next =
         | inr differ ↦ same_section s o p (next_others o c p d next s differ) (part.sections s)
       ];
       begun = inr (next_begun o c p d next part.begun);
-      built = subst (λ (l : List Section). All (λ s. IsTrue (is_built s)) l) (sym order) (All-push (λ s. IsTrue (is_built s)) o.order name part.built next.built);
     }
 
 -- ---- what is read is what is written
@@ -132,7 +129,6 @@ pub record IsReadable (p : Object) : Type 0 where
   pub unset : (s : Section) → (Contains p.order s → ⊥) → IsUnset s p
   pub sections : (s : Section) → IsSection s p
   pub some_master : 0 < length p.masters
-  pub built : All (λ s. IsTrue (is_built s)) p.order
 
 whole : (done : List Section) (o p : Object) → p.order ≡ done → ((s : Section) → (Contains p.order s → ⊥) → IsUnset s p) → UpTo done o p → o ≡ p
 whole done o p all unset so_far =
@@ -172,7 +168,6 @@ sections_again p good (s ∷ left) done o all so_far c rest text =
     let new : All (λ t. t ≢ s) done = next_pair (λ (a b : Section). a ≢ b) done s left (subst (λ (l : List Section). AllPairs (λ a b. a ≢ b) l) all good.once) in
     let first : done ≡ [] → s ≡ Masters = λ (none : done ≡ []). some_is s Masters (first_of_rest done left s Masters none (ap (λ (l : List Section). slice_get l 0) (sym all) ∙ good.first)) in
     let may : MayFollow o.order s = subst (λ (l : List Section). MayFollow l s) (sym so_far.order) (record { new = new; first = first }) in
-    let built : is_built s ≡ true = next_one (λ (t : Section). IsTrue (is_built t)) done s left (subst (λ (l : List Section). All (λ t. IsTrue (is_built t)) l) all good.built) in
-    let here = section_again s p o c (flat_map (section_words p) left ++ rest) built may split (good.sections s) good.some_master in
+    let here = section_again s p o c (flat_map (section_words p) left ++ rest) may split (good.sections s) good.some_master in
     let after = sections_again p good left (done ++ s ∷ []) (with_section s p o) (all ∙ sym (append_assoc done (s ∷ []) left)) (one_more done s o p so_far new) here.after rest here.left in
     record { after = after.after; is = rw here.is after.is; left = after.left }

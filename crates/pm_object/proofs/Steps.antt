@@ -6,22 +6,22 @@ use Rattle.std.proofs.lemmas.List.Elements.{All-nil, All-cons, All-weaker}
 use Rattle.std.proofs.lemmas.List.Folds.{list_any_none}
 use Rattle.pm_object.specs.declared.object.ObjectCause.{ObjectCause}
 use Rattle.pm_object.specs.declared.object.ObjectCause.TheVariants.{RepeatedNode}
-use Rattle.pm_object.specs.declared.object.DecodeError.{DecodeError}
+use Rattle.pm_object.specs.declared.object.ObjectFault.{ObjectFault}
 use Rattle.pm_object.specs.Reading.{Cursor, Step, ◌>>=◌, fault, word_from, word, own_key}
 
 -- ---- steps that don't fail
 
 -- the value of a step that did not fail
-pub bind_ok : {A B : Type 0} (r : Result A DecodeError) (f : A → Result B DecodeError) (y : B) → (r >>= f) ≡ Ok y → (x : A) × (r ≡ Ok x) × (f x ≡ Ok y)
+pub bind_ok : {A B : Type 0} (r : Result A ObjectFault) (f : A → Result B ObjectFault) (y : B) → (r >>= f) ≡ Ok y → (x : A) × (r ≡ Ok x) × (f x ≡ Ok y)
 bind_ok (Ok x) f y e = (x, refl, e)
 bind_ok (Err d) f y e = absurd cc
 
 -- a test that did not refuse
-pub passed : {A : Type 0} (b : Bool) (cause : ObjectCause) (offset : ℕ) (r : Result A DecodeError) (y : A) → cond b (fault cause offset) r ≡ Ok y → (b ≡ false) × (r ≡ Ok y)
+pub passed : {A : Type 0} (b : Bool) (cause : ObjectCause) (offset : ℕ) (r : Result A ObjectFault) (y : A) → cond b (fault cause offset) r ≡ Ok y → (b ≡ false) × (r ≡ Ok y)
 passed true cause offset r y e = absurd cc
 passed false cause offset r y e = (refl, e)
 
-abbrev done : {A : Type 0} → A → Result A DecodeError
+abbrev done : {A : Type 0} → A → Result A ObjectFault
 done x = Ok x
 
 pub ok_is : {A : Type 0} (x y : A) → done x ≡ done y → x ≡ y

@@ -1,9 +1,12 @@
 -- Reading an object word by word from the front, up to the first fault.
-use Rattle.std.specs.Prelude.{◌≡◌, ℕ, zero, suc, ◌+◌, ◌-◌, ◌/◌, ◌%◌, Bool, not, ◌==◌, nat_lt, if◌then◌else◌, ◌||◌, ◌&&◌, List, [], ◌∷◌, ◌++◌, length, IsTrue, Option, Some, None, Result, Ok, Err, bit_and, count_ones, ⊤}
-use Rattle.std.specs.List.{list_any, All}
+use Rattle.std.specs.Prelude.{◌≡◌, ℕ, zero, suc, ◌+◌, ◌-◌, ◌/◌, ◌%◌, Bool, not, ◌==◌, nat_lt, if◌then◌else◌, ◌||◌, ◌&&◌, List, [], ◌∷◌, ◌++◌, length, Option, Some, None, Result, Ok, Err, bit_and, count_ones, ⊤}
+use Rattle.std.specs.List.{list_any}
 use Rattle.std.specs.Int.{w32, from_le_bytes}
 use Rattle.pm_object.specs.declared.object.MasterRec.{MasterRec}
 use Rattle.pm_object.specs.declared.object.SlaveRec.{SlaveRec}
+use Rattle.pm_object.specs.declared.object.PreRec.{PreRec}
+use Rattle.pm_object.specs.declared.object.PreGroup.{PreGroup}
+use Rattle.pm_object.specs.declared.object.Pair.{Pair}
 use Rattle.pm_object.specs.declared.object.Section.{Section}
 use Rattle.pm_object.specs.declared.object.Section.TheVariants.{Masters, Slaves, Prealloc, Power, Reset, Shutdown, Config, Gpo}
 use Rattle.pm_object.specs.declared.object.Object.{Object}
@@ -11,7 +14,7 @@ use Rattle.pm_object.specs.declared.object.ObjectCause.{ObjectCause}
 use Rattle.pm_object.specs.declared.object.ObjectCause.TheVariants.{Length, TooLong, Truncated, HeaderShort, BadType, UnknownSection, RepeatedSection, NoMasters, BadMaster, MaskRepeated, RepeatedNode, Trailing}
 use Rattle.pm_object.specs.declared.object.ObjectFault.{ObjectFault}
 use Rattle.pm_object.specs.declared.object.DecodeError.{DecodeError}
-use Rattle.pm_object.specs.declared.object.DecodeError.TheVariants.{Bad, Memory, SectionUnbuilt}
+use Rattle.pm_object.specs.declared.object.DecodeError.TheVariants.{Bad, Memory}
 use Rattle.pm_object.specs.declared.header.Header.{Header}
 use Rattle.pm_object.specs.Grammar.{identifier, is_master_node, splits_lockstep}
 
@@ -24,15 +27,15 @@ pub record Cursor : Type 0 where
 
 -- what is read at a place, and the place after it; or the first fault
 abbrev pub Step : Type 0 → Type 0
-Step A = Result (A × Cursor) DecodeError
+Step A = Result (A × Cursor) ObjectFault
 
 infixl 10 ◌>>=◌
-abbrev pub ◌>>=◌ : {A B : Type 0} → Result A DecodeError → (A → Result B DecodeError) → Result B DecodeError
+abbrev pub ◌>>=◌ : {A B : Type 0} → Result A ObjectFault → (A → Result B ObjectFault) → Result B ObjectFault
 (Ok x) >>= f = f x
 (Err e) >>= f = Err e
 
-abbrev pub fault : {A : Type 0} → ObjectCause → ℕ → Result A DecodeError
-fault cause offset = Err (Bad (record { cause = cause; offset = offset }))
+abbrev pub fault : {A : Type 0} → ObjectCause → ℕ → Result A ObjectFault
+fault cause offset = Err (record { cause = cause; offset = offset })
 
 abbrev pub word_from : ℕ → List ℕ → Step ℕ
 word_from place [] = fault Truncated place
@@ -48,6 +51,12 @@ records one zero earlier c = Ok (earlier, c)
 records one (suc n) earlier c = do
   r ← one earlier c
   records one n (earlier ++ r.0 ∷ []) r.1
+
+-- their number, and then the records
+unfoldable pub counted_records : {A : Type 0} → (List A → Cursor → Step A) → Cursor → Step (List A)
+counted_records one c = do
+  count ← word c
+  records one count.0 [] count.1
 
 -- the first word of a record, which no earlier record of its list has
 unfoldable pub own_key : {A : Type 0} → (A → ℕ) → List A → Cursor → Step ℕ
@@ -103,10 +112,29 @@ slave earlier c = do
   mask ← word flags.1
   Ok (record { node = node.0; flags = flags.0; mask = mask.0 }, mask.1)
 
-unfoldable pub slaves : Cursor → Step (List SlaveRec)
-slaves c = do
-  count ← word c
-  records slave count.0 [] count.1
+-- ---- the preallocations
+
+unfoldable pub preset : List PreRec → Cursor → Step PreRec
+preset earlier c = do
+  node ← own_key (λ r. r.node) earlier c
+  flags ← word node.1
+  current ← word flags.1
+  preset ← word current.1
+  Ok (record { node = node.0; flags = flags.0; current = current.0; preset = preset.0 }, preset.1)
+
+unfoldable pub group : List PreGroup → Cursor → Step PreGroup
+group earlier c = do
+  mask ← word c
+  recs ← counted_records preset mask.1
+  Ok (record { mask = mask.0; recs = recs.0 }, recs.1)
+
+-- ---- pairs of a key and a mask
+
+unfoldable pub pair : List Pair → Cursor → Step Pair
+pair earlier c = do
+  key ← own_key (λ p. p.key) earlier c
+  mask ← word key.1
+  Ok (record { key = key.0; mask = mask.0 }, mask.1)
 
 -- ---- the sections
 
@@ -128,7 +156,7 @@ abbrev pub is_among : Section → List Section → Bool
 is_among section order = list_any (λ s. identifier s == identifier section) order
 
 -- whether the section may come after these: none comes twice, and the masters come first
-abbrev pub section_after : List Section → ℕ → Option Section → Result Section DecodeError
+abbrev pub section_after : List Section → ℕ → Option Section → Result Section ObjectFault
 section_after order place None = fault UnknownSection place
 section_after order place (Some s) =
     if is_among s order then fault RepeatedSection place
@@ -141,20 +169,33 @@ section_name order c = do
   s ← section_after order c.place (section_of w.0)
   Ok (s, w.1)
 
--- the object so far, with what stands in a section. The sections after the slaves aren't read yet
+-- the object so far, with what stands in a section
 unfoldable pub section_body : Section → Object → Cursor → Step Object
 section_body Masters o c = do
   r ← masters c
   Ok (record o { masters = r.0 }, r.1)
 section_body Slaves o c = do
-  r ← slaves c
+  r ← counted_records slave c
   Ok (record o { slaves = r.0 }, r.1)
-section_body Prealloc o c = Err SectionUnbuilt
-section_body Power o c = Err SectionUnbuilt
-section_body Reset o c = Err SectionUnbuilt
-section_body Shutdown o c = Err SectionUnbuilt
-section_body Config o c = Err SectionUnbuilt
-section_body Gpo o c = Err SectionUnbuilt
+section_body Prealloc o c = do
+  r ← counted_records group c
+  Ok (record o { groups = r.0 }, r.1)
+section_body Power o c = do
+  r ← counted_records pair c
+  Ok (record o { power = r.0 }, r.1)
+section_body Reset o c = do
+  r ← counted_records pair c
+  Ok (record o { reset = r.0 }, r.1)
+section_body Shutdown o c = do
+  r ← counted_records pair c
+  Ok (record o { shutdown = r.0 }, r.1)
+section_body Config o c = do
+  base ← word c
+  overlay ← word base.1
+  Ok (record o { base_mask = base.0; overlay_mask = overlay.0 }, overlay.1)
+section_body Gpo o c = do
+  r ← word c
+  Ok (record o { gpo = r.0 }, r.1)
 
 unfoldable pub section : Object → Cursor → Step Object
 section o c = do
@@ -175,7 +216,7 @@ abbrev pub unset : List ℕ → Object
 unset extra = record { extra = extra; order = []; masters = []; slaves = []; groups = []; power = []; reset = []; shutdown = []; base_mask = 0; overlay_mask = 0; gpo = 0 }
 
 -- all the words
-unfoldable pub object : Cursor → Result Object DecodeError
+unfoldable pub object : Cursor → Result Object ObjectFault
 object c = do
   h ← header c
   if h.0.sections == 0 then fault NoMasters h.1.place else do
@@ -191,39 +232,29 @@ words (a ∷ b ∷ c ∷ []) = []
 words (a ∷ b ∷ c ∷ d ∷ bytes) = from_le_bytes w32 (a ∷ b ∷ c ∷ d ∷ []) ∷ words bytes
 
 -- the object that the bytes are, or the first thing that is wrong with them
-unfoldable pub reading : List ℕ → Result Object DecodeError
+unfoldable pub reading : List ℕ → Result Object ObjectFault
 reading bytes =
     if nat_lt 16384 (length bytes) then fault TooLong 4096
     else if not (length bytes % 4 == 0) then fault Length (length bytes / 4)
     else object (record { place = 0; left = words bytes })
 
--- the first thing that is wrong
-abbrev pub fault_of : Result Object DecodeError → Option ObjectFault
+-- the first thing that is wrong, if something is
+abbrev pub fault_of : Result Object ObjectFault → Option ObjectFault
 fault_of (Ok o) = None
-fault_of (Err (Bad f)) = Some f
-fault_of (Err (Memory e)) = None
-fault_of (Err SectionUnbuilt) = None
+fault_of (Err f) = Some f
 
 abbrev pub first_fault : List ℕ → Option ObjectFault
 first_fault bytes = fault_of (reading bytes)
 
--- an object has no section that isn't read yet
-abbrev pub is_built : Section → Bool
-is_built section = (identifier section == identifier Masters) || (identifier section == identifier Slaves)
-
-abbrev pub IsBuilt : Object → Type 0
-IsBuilt o = All (λ section. IsTrue (is_built section)) o.order
-
 -- ---- what functions return
 
 -- what a function failed with is what reading fails with, unless memory ran out
-abbrev pub Fails : {A : Type 0} → DecodeError → Result A DecodeError → Type 0
+abbrev pub Fails : {A : Type 0} → DecodeError → Result A ObjectFault → Type 0
 Fails (Memory e) read = ⊤
-Fails (Bad f) read = read ≡ Err (Bad f)
-Fails SectionUnbuilt read = read ≡ Err SectionUnbuilt
+Fails (Bad f) read = read ≡ Err f
 
 -- what a function returned is what reading gives, unless memory ran out
-abbrev pub Gives : {A : Type 0} → Result A DecodeError → Result A DecodeError → Type 0
+abbrev pub Gives : {A : Type 0} → Result A DecodeError → Result A ObjectFault → Type 0
 Gives (Ok x) read = read ≡ Ok x
 Gives (Err e) read = Fails e read
 

@@ -3,7 +3,7 @@
 ghost use Rattle.std.specs.Prelude.{◌≡◌, IfOk, Ok, Err, Some};
 ghost use Rattle.pm_object.specs.declared.object.ObjectFault.{ObjectFault};
 ghost use Rattle.pm_object.specs.Grammar.{Reads};
-ghost use Rattle.pm_object.specs.Reading.{Gives, IsBuilt, first_fault, object, reading, unset};
+ghost use Rattle.pm_object.specs.Reading.{Gives, first_fault, object, reading, unset};
 
 use crate::header::read_header;
 use crate::object::{DecodeError, Object, ObjectCause};
@@ -65,12 +65,11 @@ fn read_bytes(alloc: Global, bytes: &[u8]) -> Result<Object, DecodeError>
 /// Reads a configuration object, in its binary form (UG1137, configuration object).
 ///
 /// `Bad` is the first thing that is wrong, in the order of the words, and its place.
-/// `SectionUnbuilt`: a section after the slaves' begins, and nothing is wrong up to there.
 pub fn decode(alloc: Global, bytes: &[u8]) -> Result<Object, DecodeError>
-    // The bytes spell what is read, and it has no section after the slaves'.
-    ensures found { IfOk result (λ o. Reads bytes.now o × IsBuilt o) }
-    // What the bytes spell is read, if it has no section after the slaves'.
-    ensures only { (o : Object) → Reads bytes.now o → IsBuilt o → Gives result (Ok o) }
+    // The bytes spell what is read.
+    ensures found { IfOk result (λ o. Reads bytes.now o) }
+    // What the bytes spell is read.
+    ensures only { (o : Object) → Reads bytes.now o → Gives result (Ok o) }
     // What is wrong is the first fault.
     ensures bad { (f : ObjectFault) → result ≡ Err (DecodeError.Bad f) → first_fault bytes.now ≡ Some f }
     // The answer is what reading word by word gives: the object, or the first fault.

@@ -1,9 +1,9 @@
 //! The header of an object.
 
-ghost use Rattle.std.specs.Prelude.{◌≡◌, []};
-ghost use Rattle.pm_object.specs.Reading.{GivesAt, header, records, word};
+ghost use Rattle.pm_object.specs.Reading.{GivesAt, header};
 
 use crate::object::{DecodeError, ObjectCause};
+use crate::records::read_records;
 use crate::words::{Words, fault};
 use pm_base::List;
 use std::alloc::Global;
@@ -13,16 +13,6 @@ use std::alloc::Global;
 pub struct Header {
     pub sections: u32,
     pub extra: List<u32>,
-}
-
-fn read_extra(alloc: Global, count: u32, words: &mut Words) -> Result<List<u32>, DecodeError>
-    ensures { GivesAt words.new result (records (λ _ c. word c) count [] words.old) }
-{
-    let mut extra = List::new(alloc);
-    for _ in 0..count {
-        extra.push(words.next()?)?;
-    }
-    Ok(extra)
 }
 
 /// Reads the header: the number of words that follow in it, the number of sections, the type of the
@@ -39,7 +29,7 @@ pub fn read_header(alloc: Global, words: &mut Words) -> Result<Header, DecodeErr
     let sections = words.next()?;
     let place = words.place();
     let kind = words.next()?;
-    let extra = read_extra(alloc, more - 2, words)?;
+    let extra = read_records(alloc, more - 2, words)?;
     if kind != 1 {
         return Err(fault(ObjectCause::BadType, place));
     }

@@ -2,16 +2,23 @@
 //! and shut down what (UG1137, configuration object).
 #![tactic(auto)]
 
+mod copying;
 mod decoding;
+mod encoding;
+mod groups;
 mod header;
 mod laws;
 mod masters;
 pub mod object;
+mod pairs;
+mod records;
 mod sections;
 mod slaves;
+mod spelling;
 mod words;
 
 pub use decoding::decode;
+pub use encoding::encode;
 pub use laws::one_reading;
 pub use object::{
     DecodeError, MasterRec, Object, ObjectCause, ObjectFault, Pair, PreGroup, PreRec, Section,

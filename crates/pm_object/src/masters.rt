@@ -6,6 +6,7 @@ ghost use Rattle.pm_object.specs.Grammar.{is_master_node, splits_lockstep};
 ghost use Rattle.pm_object.specs.Reading.{GivesAt, master, master_mask, master_node, masters, records};
 
 use crate::object::{DecodeError, MasterRec, ObjectCause};
+use crate::records::{Keyed, Record, has_key, read_records};
 use crate::words::{Words, fault};
 use pm_base::List;
 use std::alloc::Global;
@@ -31,12 +32,6 @@ fn has_split(earlier: &[MasterRec], node: u32) -> bool
     earlier.iter().any(|master| is_split(master.node, node))
 }
 
-fn has_node(earlier: &[MasterRec], node: u32) -> bool
-    ensures { result ≡ list_any (λ m. m.node == node) earlier.now }
-{
-    earlier.iter().any(|master| master.node == node)
-}
-
 fn has_bit(earlier: &[MasterRec], mask: u32) -> bool
     ensures { result ≡ list_any (λ m. not (bit_and m.mask mask == 0)) earlier.now }
 {
@@ -52,7 +47,7 @@ fn read_node(earlier: &[MasterRec], words: &mut Words) -> Result<u32, DecodeErro
     if !is_master(node) || has_split(earlier, node) {
         return Err(fault(ObjectCause::BadMaster, place));
     }
-    if has_node(earlier, node) {
+    if has_key(earlier, node) {
         return Err(fault(ObjectCause::RepeatedNode, place));
     }
     Ok(node)
@@ -70,36 +65,36 @@ fn read_mask(earlier: &[MasterRec], words: &mut Words) -> Result<u32, DecodeErro
     Ok(mask)
 }
 
-#[tactic(auto, unfolding(crate::specs::Reading::master))]
-fn read_master(earlier: &[MasterRec], words: &mut Words) -> Result<MasterRec, DecodeError>
-    ensures { GivesAt words.new result (master earlier.now words.old) }
-{
-    let node = read_node(earlier, words)?;
-    let mask = read_mask(earlier, words)?;
-    let timeout = words.next()?;
-    let suspend = words.next()?;
-    let wake = words.next()?;
-    Ok(MasterRec {
-        node,
-        mask,
-        timeout,
-        suspend,
-        wake,
-    })
+impl Keyed for MasterRec {
+    ghost key_of = { λ m. m.node };
+
+    fn key(&self) -> u32 {
+        self.node
+    }
 }
 
-fn read_records(
-    alloc: Global,
-    count: u32,
-    words: &mut Words,
-) -> Result<List<MasterRec>, DecodeError>
-    ensures { GivesAt words.new result (records master count [] words.old) }
-{
-    let mut masters = List::new(alloc);
-    for _ in 0..count {
-        masters.push(read_master(masters.as_slice(), words)?)?;
+impl Record for MasterRec {
+    ghost one = { master };
+
+    #[tactic(auto, unfolding(crate::specs::Reading::master))]
+    fn read(
+        _alloc: Global,
+        earlier: &[MasterRec],
+        words: &mut Words,
+    ) -> Result<MasterRec, DecodeError> {
+        let node = read_node(earlier, words)?;
+        let mask = read_mask(earlier, words)?;
+        let timeout = words.next()?;
+        let suspend = words.next()?;
+        let wake = words.next()?;
+        Ok(MasterRec {
+            node,
+            mask,
+            timeout,
+            suspend,
+            wake,
+        })
     }
-    Ok(masters)
 }
 
 /// Reads the masters. There is at least one, their nodes differ and go together, and each has one

@@ -121,9 +121,6 @@ pub enum DecodeError {
     Bad(ObjectFault),
     #[error(transparent)]
     Memory(NoMemory),
-    /// A section after the slaves' begins, and nothing is wrong up to there.
-    #[error("section not supported yet")]
-    SectionUnbuilt,
 }
 
 impl From<NoMemory> for DecodeError {

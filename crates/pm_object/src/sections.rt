@@ -6,7 +6,7 @@ ghost use Rattle.pm_object.specs.Reading.{GivesAt, GivesInto, is_among, section,
 
 use crate::masters::read_masters;
 use crate::object::{DecodeError, Object, ObjectCause, Section};
-use crate::slaves::read_slaves;
+use crate::records::read_list;
 use crate::words::{Words, fault};
 use std::alloc::Global;
 
@@ -83,8 +83,16 @@ fn read_body(
 {
     match section {
         Section::Masters => object.masters = read_masters(alloc, words)?,
-        Section::Slaves => object.slaves = read_slaves(alloc, words)?,
-        _ => return Err(DecodeError::SectionUnbuilt),
+        Section::Slaves => object.slaves = read_list(alloc, words)?,
+        Section::Prealloc => object.groups = read_list(alloc, words)?,
+        Section::Power => object.power = read_list(alloc, words)?,
+        Section::Reset => object.reset = read_list(alloc, words)?,
+        Section::Shutdown => object.shutdown = read_list(alloc, words)?,
+        Section::Config => {
+            object.base_mask = words.next()?;
+            object.overlay_mask = words.next()?;
+        }
+        Section::Gpo => object.gpo = words.next()?,
     }
     Ok(())
 }

@@ -1,57 +1,32 @@
-//! The section of the slaves.
+//! The records of the slaves.
 
-ghost use Rattle.std.specs.Prelude.{◌≡◌, ◌==◌, []};
-ghost use Rattle.std.specs.List.{list_any};
-ghost use Rattle.pm_object.specs.Reading.{GivesAt, own_key, records, slave, slaves};
+ghost use Rattle.pm_object.specs.Reading.{slave};
 
-use crate::object::{DecodeError, ObjectCause, SlaveRec};
-use crate::words::{Words, fault};
-use pm_base::List;
+use crate::object::{DecodeError, SlaveRec};
+use crate::records::{Keyed, Record, read_key};
+use crate::words::Words;
 use std::alloc::Global;
 
-fn has_node(earlier: &[SlaveRec], node: u32) -> bool
-    ensures { result ≡ list_any (λ s. s.node == node) earlier.now }
-{
-    earlier.iter().any(|slave| slave.node == node)
-}
+impl Keyed for SlaveRec {
+    ghost key_of = { λ s. s.node };
 
-#[tactic(auto, unfolding(crate::specs::Reading::own_key))]
-fn read_node(earlier: &[SlaveRec], words: &mut Words) -> Result<u32, DecodeError>
-    ensures { GivesAt words.new result (own_key (λ s. s.node) earlier.now words.old) }
-{
-    let place = words.place();
-    let node = words.next()?;
-    if has_node(earlier, node) {
-        return Err(fault(ObjectCause::RepeatedNode, place));
+    fn key(&self) -> u32 {
+        self.node
     }
-    Ok(node)
 }
 
-#[tactic(auto, unfolding(crate::specs::Reading::slave))]
-fn read_slave(earlier: &[SlaveRec], words: &mut Words) -> Result<SlaveRec, DecodeError>
-    ensures { GivesAt words.new result (slave earlier.now words.old) }
-{
-    let node = read_node(earlier, words)?;
-    let flags = words.next()?;
-    let mask = words.next()?;
-    Ok(SlaveRec { node, flags, mask })
-}
+impl Record for SlaveRec {
+    ghost one = { slave };
 
-fn read_records(alloc: Global, count: u32, words: &mut Words) -> Result<List<SlaveRec>, DecodeError>
-    ensures { GivesAt words.new result (records slave count [] words.old) }
-{
-    let mut slaves = List::new(alloc);
-    for _ in 0..count {
-        slaves.push(read_slave(slaves.as_slice(), words)?)?;
+    #[tactic(auto, unfolding(crate::specs::Reading::slave))]
+    fn read(
+        _alloc: Global,
+        earlier: &[SlaveRec],
+        words: &mut Words,
+    ) -> Result<SlaveRec, DecodeError> {
+        let node = read_key(earlier, words)?;
+        let flags = words.next()?;
+        let mask = words.next()?;
+        Ok(SlaveRec { node, flags, mask })
     }
-    Ok(slaves)
-}
-
-/// Reads the slaves. Their nodes differ.
-#[tactic(auto, unfolding(crate::specs::Reading::slaves))]
-pub fn read_slaves(alloc: Global, words: &mut Words) -> Result<List<SlaveRec>, DecodeError>
-    ensures { GivesAt words.new result (slaves words.old) }
-{
-    let count = words.next()?;
-    read_records(alloc, count, words)
 }

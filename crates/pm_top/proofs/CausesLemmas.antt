@@ -42,7 +42,7 @@ before_fails limit (Some at) bytes front is fails = go (nat_le at (min limit (le
     go true same is = let reach : at ≤ min limit (length bytes) = leb-true at (min limit (length bytes)) same in omega arith
     go false same is = absurd (within_fails limit bytes front is fails)
 
-told_fails : (limit : ℕ) (told : Option File) (room : ℕ) (front : Front) → front ≡ front_of limit told room → front.reached ≡ Failure → ((told ≡ None) ⊎ (room ≡ 0)) ⊎ IsSomeAnd told (FailsWithin limit)
+pub told_fails : (limit : ℕ) (told : Option File) (room : ℕ) (front : Front) → front ≡ front_of limit told room → front.reached ≡ Failure → ((told ≡ None) ⊎ (room ≡ 0)) ⊎ IsSomeAnd told (FailsWithin limit)
 told_fails limit None room front is fails = inl (inl refl)
 told_fails limit (Some file) room front is fails = go (room == 0) refl is
   where

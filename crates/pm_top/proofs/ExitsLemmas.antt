@@ -5,8 +5,7 @@ use Rattle.pm_base.specs.Inputs.{Moment}
 use Rattle.pm_base.specs.Sink.{SinkMoment, HasFailed}
 use Rattle.pm_base.specs.declared.errors.Exit.{Exit}
 use Rattle.pm_base.specs.declared.errors.Exit.TheVariants as exit
-use Rattle.pm_object.specs.declared.object.DecodeError.{DecodeError}
-use Rattle.pm_object.specs.declared.object.DecodeError.TheVariants.{Bad, SectionUnbuilt, Memory as MemoryError}
+use Rattle.pm_object.specs.declared.object.ObjectFault.{ObjectFault}
 use Rattle.pm_core.specs.State.{State}
 use Rattle.pm_core.specs.Load.{load_of}
 use Rattle.pm_top.specs.declared.fronts.Reached.{Reached}
@@ -23,7 +22,6 @@ use Rattle.pm_top.proofs.RanLemmas.{Stops, Runs, Ways, Judgement, failed, refuse
 pub data StopExit (answer : Exit) : Type 0 where
   at_unread : answer ≡ exit.ReadFault → StopExit answer
   at_bad : answer ≡ exit.BadObject → StopExit answer
-  at_memory : answer ≡ exit.Memory → StopExit answer
 
 -- the exits of a run of a script
 pub data RunExit (answer : Exit) : Type 0 where
@@ -33,14 +31,9 @@ pub data RunExit (answer : Exit) : Type 0 where
   at_unread_script : answer ≡ exit.ReadFault → RunExit answer
   at_broken : answer ≡ exit.WriteFault → RunExit answer
 
-refused_exit : (answer : Exit) (error : DecodeError) → answer ≡ exit_of (fault_of error) → StopExit answer
-refused_exit answer (Bad fault) is = at_bad is
-refused_exit answer SectionUnbuilt is = at_bad is
-refused_exit answer (MemoryError error) is = at_memory is
-
 stop_exit : (reached : Reached) (bytes : List ℕ) (fault : Fault) (answer : Exit) → Judgement reached bytes fault → answer ≡ exit_of fault → StopExit answer
 stop_exit reached bytes fault answer (failed at is) answers = at_unread (answers ∙ ap exit_of is)
-stop_exit reached bytes fault answer (refused error whole read is) answers = refused_exit answer error (answers ∙ ap exit_of is)
+stop_exit reached bytes fault answer (refused error whole read is) answers = at_bad (answers ∙ ap exit_of is)
 
 ended_exit : (bad : Option ℕ) (reached : Reached) (text : List ℕ) (book : State) (answer : Exit) → answer ≡ exit_after (ended bad reached text book).fault → RunExit answer
 ended_exit (Some n) reached text book answer is = at_line is
@@ -74,7 +67,6 @@ usage_only I_tells O_tells before last taken_before taken_after answer (Some (na
     clash : StopExit answer → ⊥
     clash (at_unread e) = cc
     clash (at_bad e) = cc
-    clash (at_memory e) = cc
 usage_only I_tells O_tells before last taken_before taken_after answer (Some (name, script)) (inr (inr runs)) is = absurd (clash (runs_exit I_tells O_tells before last taken_before taken_after answer name script runs))
   where
     clash : RunExit answer → ⊥
@@ -98,7 +90,6 @@ write_fault I_tells O_tells before last taken_before taken_after answer (Some (n
     clash : StopExit answer → ⊥
     clash (at_unread e) = cc
     clash (at_bad e) = cc
-    clash (at_memory e) = cc
 write_fault I_tells O_tells before last taken_before taken_after answer (Some (name, script)) (inr (inr runs)) is = goes runs.goes
   where
     goes : Goes O_tells (run_of (load_of runs.o) runs.script) taken_before taken_after answer → HasFailed taken_before taken_after
@@ -107,10 +98,8 @@ write_fault I_tells O_tells before last taken_before taken_after answer (Some (n
 
 -- ---- a failure of an input
 
-pub not_unread : (error : DecodeError) → exit.ReadFault ≡ exit_of (fault_of error) → ⊥
-not_unread (Bad fault) e = cc
-not_unread SectionUnbuilt e = cc
-not_unread (MemoryError error) e = cc
+pub not_unread : (error : ObjectFault) → exit.ReadFault ≡ exit_of (fault_of error) → ⊥
+not_unread error e = cc
 
 pub read_fault : (I_tells O_tells : Type 0) (before last : Moment) (taken_before taken_after : SinkMoment) (answer : Exit) (names : Option (List ℕ × List ℕ)) → Ways I_tells O_tells names before last taken_before taken_after answer → answer ≡ exit.ReadFault → Rose before.faults last.faults
 read_fault I_tells O_tells before last taken_before taken_after answer None way is = let usage : answer ≡ exit.Usage = way.answers in absurd (cc)
@@ -128,3 +117,22 @@ read_fault I_tells O_tells before last taken_before taken_after answer (Some (na
         let rose : Rose runs.between.faults last.faults = runs.read_script.fault at in
         let later : before.faults ≤ runs.between.faults = runs.read_object.later in omega arith
     goes (inr breaks) = let broke : answer ≡ exit.WriteFault = breaks.answers in absurd (cc)
+
+-- ---- a text
+
+pub no_text : (I_tells O_tells : Type 0) (before last : Moment) (taken_before taken_after : SinkMoment) (answer : Exit) (names : Option (List ℕ × List ℕ)) → Ways I_tells O_tells names before last taken_before taken_after answer → answer ≡ exit.BadText → ⊥
+no_text I_tells O_tells before last taken_before taken_after answer None way is = let usage : answer ≡ exit.Usage = way.answers in cc
+no_text I_tells O_tells before last taken_before taken_after answer (Some (name, script)) (inl wants) is = let memory : answer ≡ exit.Memory = wants.answers in cc
+no_text I_tells O_tells before last taken_before taken_after answer (Some (name, script)) (inr (inl stops)) is = clash (stops_exit I_tells O_tells before last taken_before taken_after answer name stops)
+  where
+    clash : StopExit answer → ⊥
+    clash (at_unread e) = cc
+    clash (at_bad e) = cc
+no_text I_tells O_tells before last taken_before taken_after answer (Some (name, script)) (inr (inr runs)) is = clash (runs_exit I_tells O_tells before last taken_before taken_after answer name script runs)
+  where
+    clash : RunExit answer → ⊥
+    clash (at_done e) = cc
+    clash (at_line e) = cc
+    clash (at_large e) = cc
+    clash (at_unread_script e) = cc
+    clash (at_broken e) = cc

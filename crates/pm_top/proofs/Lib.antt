@@ -1,4 +1,6 @@
 pub mod CausesLemmas
+pub mod CommandsLemmas
+pub mod ConversionsLemmas
 pub mod EndsLemmas
 pub mod ExitsLemmas
 pub mod FrontsLemmas

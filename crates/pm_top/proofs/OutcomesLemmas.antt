@@ -1,25 +1,21 @@
 -- The clauses of the top call on an object without a reading, a bad line, a script past its limit and want of memory.
-use Rattle.std.proofs.Common.{◌≡◌, ℕ, ◌+◌, List, ◌++◌, length, take, refl, sym, ◌∙◌, ap, subst, Option, Some, None, Ok, inl, inr}
+use Rattle.std.proofs.Common.{◌≡◌, ℕ, ◌+◌, List, ◌++◌, length, take, sym, ◌∙◌, ap, subst, Option, Some, None, Ok, inl, inr}
 use Rattle.pm_base.specs.Inputs.{Moment}
 use Rattle.pm_base.specs.Sink.{SinkMoment, Wrote}
 use Rattle.pm_base.specs.declared.errors.Exit.{Exit}
 use Rattle.pm_base.specs.declared.errors.Exit.TheVariants as exit
-use Rattle.pm_object.specs.declared.object.DecodeError.{DecodeError}
-use Rattle.pm_object.specs.declared.object.DecodeError.TheVariants.{Bad, SectionUnbuilt, Memory as MemoryError}
 use Rattle.pm_object.specs.Reading.{reading}
 use Rattle.pm_object.proofs.ReadObject.{reads_what_is_written}
 use Rattle.pm_core.specs.Load.{load_of}
 use Rattle.pm_top.specs.declared.fronts.Reached.{Reached}
 use Rattle.pm_top.specs.declared.fronts.Reached.TheVariants.{End, Limit, Failure}
-use Rattle.pm_top.specs.declared.text.faults.Fault.{Fault}
-use Rattle.pm_top.specs.declared.text.faults.Fault.TheVariants.{Memory}
 use Rattle.pm_top.specs.Fronts.{HasSize}
-use Rattle.pm_top.specs.Run.{run_of, stopped, bad_line, lines_text, lines_book, script_lines}
-use Rattle.pm_top.specs.Ends.{Ends, Goes, WantsMemory, exit_of, last_line}
-use Rattle.pm_top.specs.Ran.{fault_of, script_limit, form}
+use Rattle.pm_top.specs.Run.{run_of, bad_line, lines_text, lines_book, script_lines}
+use Rattle.pm_top.specs.Ends.{Goes, WantsMemory, exit_of, last_line}
+use Rattle.pm_top.specs.Ran.{script_limit, form}
 use Rattle.pm_top.specs.Outcomes.{HasBadObject, HasBadLine, IsTooLarge, ReadsBoth}
 use Rattle.pm_top.proofs.RanLemmas.{Runs, Ways, Judgement, failed, refused, judgement, ended_bad, ended_large}
-use Rattle.pm_top.proofs.ExitsLemmas.{StopExit, at_unread, at_bad, at_memory, RunExit, at_done, at_line, at_large, at_unread_script, at_broken, stops_exit, runs_exit}
+use Rattle.pm_top.proofs.ExitsLemmas.{StopExit, at_unread, at_bad, RunExit, at_done, at_line, at_large, at_unread_script, at_broken, stops_exit, runs_exit}
 
 -- ---- an object without a reading
 
@@ -41,7 +37,7 @@ bad_object I_tells O_tells before last taken_before taken_after answer words (So
       named = named;
       read = stops.read;
       whole = whole;
-      unreadable = λ o built reads. let same : reading stops.object.bytes ≡ Ok o = reads_what_is_written stops.object.bytes o built reads in absurd (cc);
+      unreadable = λ o reads. let same : reading stops.object.bytes ≡ Ok o = reads_what_is_written stops.object.bytes o reads in absurd (cc);
     }
 bad_object I_tells O_tells before last taken_before taken_after answer words (Some (name, script)) named (inr (inr runs)) is = absurd (clash (runs_exit I_tells O_tells before last taken_before taken_after answer name script runs))
   where
@@ -76,7 +72,6 @@ bad_line_of I_tells O_tells before last taken_before taken_after answer words (S
     clash : StopExit answer → ⊥
     clash (at_unread e) = cc
     clash (at_bad e) = cc
-    clash (at_memory e) = cc
 bad_line_of I_tells O_tells before last taken_before taken_after answer words (Some (name, script)) named (inr (inr runs)) is = goes runs.goes
   where
     goes : Goes O_tells (run_of (load_of runs.o) runs.script) taken_before taken_after answer → HasBadLine I_tells O_tells words before last taken_before taken_after
@@ -108,7 +103,6 @@ too_large I_tells O_tells before last taken_before taken_after answer words (Som
     clash : StopExit answer → ⊥
     clash (at_unread e) = cc
     clash (at_bad e) = cc
-    clash (at_memory e) = cc
 too_large I_tells O_tells before last taken_before taken_after answer words (Some (name, script)) named (inr (inr runs)) is = goes runs.goes
   where
     goes : Goes O_tells (run_of (load_of runs.o) runs.script) taken_before taken_after answer → IsTooLarge I_tells O_tells words before last taken_before taken_after
@@ -127,11 +121,6 @@ too_large I_tells O_tells before last taken_before taken_after answer words (Som
 
 -- ---- want of memory
 
-memory_error : (error : DecodeError) → exit_of (fault_of error) ≡ exit.Memory → fault_of error ≡ Memory
-memory_error (Bad fault) is = absurd (cc)
-memory_error SectionUnbuilt is = absurd (cc)
-memory_error (MemoryError error) is = refl
-
 pub memory : (I_tells O_tells : Type 0) (before last : Moment) (taken_before taken_after : SinkMoment) (answer : Exit) (names : Option (List ℕ × List ℕ)) → Ways I_tells O_tells names before last taken_before taken_after answer → answer ≡ exit.Memory → WantsMemory O_tells taken_before taken_after answer
 memory I_tells O_tells before last taken_before taken_after answer None way is = let usage : answer ≡ exit.Usage = way.answers in absurd (cc)
 memory I_tells O_tells before last taken_before taken_after answer (Some (name, script)) (inl wants) is = wants
@@ -139,9 +128,7 @@ memory I_tells O_tells before last taken_before taken_after answer (Some (name, 
   where
     by_judgement : Judgement stops.object.reached stops.object.bytes stops.fault → WantsMemory O_tells taken_before taken_after answer
     by_judgement (failed at fault) = let unread : answer ≡ exit.ReadFault = stops.ends.answers ∙ ap exit_of fault in absurd (cc)
-    by_judgement (refused error whole read fault) =
-        let same : stops.fault ≡ Memory = fault ∙ memory_error error (ap exit_of (sym fault) ∙ sym stops.ends.answers ∙ is) in
-        let P : Fault → Type 0 = λ f. Ends O_tells (stopped f) taken_before taken_after answer in subst P same stops.ends
+    by_judgement (refused error whole read fault) = let bad : answer ≡ exit.BadObject = stops.ends.answers ∙ ap exit_of fault in absurd (cc)
 memory I_tells O_tells before last taken_before taken_after answer (Some (name, script)) (inr (inr runs)) is = absurd (clash (runs_exit I_tells O_tells before last taken_before taken_after answer name script runs))
   where
     clash : RunExit answer → ⊥

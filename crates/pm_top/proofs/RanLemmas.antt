@@ -6,9 +6,9 @@ use Rattle.pm_base.specs.Sink.{SinkMoment}
 use Rattle.pm_base.specs.declared.errors.Exit.{Exit}
 use Rattle.pm_base.specs.declared.errors.Exit.TheVariants as exit
 use Rattle.pm_object.specs.declared.object.Object.{Object}
-use Rattle.pm_object.specs.declared.object.DecodeError.{DecodeError}
+use Rattle.pm_object.specs.declared.object.ObjectFault.{ObjectFault}
 use Rattle.pm_object.specs.Grammar.{Reads}
-use Rattle.pm_object.specs.Reading.{reading, IsBuilt}
+use Rattle.pm_object.specs.Reading.{reading}
 use Rattle.pm_core.specs.State.{State}
 use Rattle.pm_core.specs.Load.{load_of}
 use Rattle.pm_top.specs.declared.fronts.Reached.{Reached}
@@ -51,37 +51,37 @@ ways I_tells O_tells None before last taken_before taken_after answer ran = ran
 ways I_tells O_tells (Some (name, script_name)) before last taken_before taken_after answer (inl wants) = inl wants
 ways I_tells O_tells (Some (name, script_name)) before last taken_before taken_after answer (inr runs) = goes (judged runs.object.reached runs.object.bytes) refl runs.reads runs.goes_on
   where
-    goes : (verdict : Result Object Fault) → judged runs.object.reached runs.object.bytes ≡ verdict → IfOk verdict (λ o. Reads runs.object.bytes o × IsBuilt o) → GoesOn I_tells O_tells script_name verdict runs.between last taken_before taken_after answer → Ways I_tells O_tells (Some (name, script_name)) before last taken_before taken_after answer
+    goes : (verdict : Result Object Fault) → judged runs.object.reached runs.object.bytes ≡ verdict → IfOk verdict (Reads runs.object.bytes) → GoesOn I_tells O_tells script_name verdict runs.between last taken_before taken_after answer → Ways I_tells O_tells (Some (name, script_name)) before last taken_before taken_after answer
     goes (Err fault) is reads goes_on = inr (inl (record { object = runs.object; between = runs.between; fault = fault; read = runs.read; judgement = is; stays = goes_on.0; ends = goes_on.1 }))
     goes (Ok o) is reads (inl wants) = inl wants
-    goes (Ok o) is reads (inr replays) = inr (inr (record { object = runs.object; between = runs.between; o = o; script = replays.script; read_object = runs.read; judgement = is; reads = reads.0; read_script = replays.read; goes = replays.run }))
+    goes (Ok o) is reads (inr replays) = inr (inr (record { object = runs.object; between = runs.between; o = o; script = replays.script; read_object = runs.read; judgement = is; reads = reads; read_script = replays.read; goes = replays.run }))
 
 -- ---- exits of faults
 
 -- an object is judged by what was read of it
 pub data Judgement (reached : Reached) (bytes : List ℕ) (fault : Fault) : Type 0 where
   failed : reached ≡ Failure → fault ≡ Read → Judgement reached bytes fault
-  refused : (error : DecodeError) → (reached ≡ Failure → ⊥) → reading bytes ≡ Err error → fault ≡ fault_of error → Judgement reached bytes fault
+  refused : (error : ObjectFault) → (reached ≡ Failure → ⊥) → reading bytes ≡ Err error → fault ≡ fault_of error → Judgement reached bytes fault
 
-end_is_failure : End ≡ Failure → ⊥
+pub end_is_failure : End ≡ Failure → ⊥
 end_is_failure e = cc
 
-limit_is_failure : Limit ≡ Failure → ⊥
+pub limit_is_failure : Limit ≡ Failure → ⊥
 limit_is_failure e = cc
 
-ok_is_err : {X Y : Type 0} {x : X} {y : Y} → Ok x ≡ Err y → ⊥
+pub ok_is_err : {X Y : Type 0} {x : X} {y : Y} → Ok x ≡ Err y → ⊥
 ok_is_err e = cc
 
 pub judgement : (reached : Reached) (bytes : List ℕ) (fault : Fault) → judged reached bytes ≡ Err fault → Judgement reached bytes fault
 judgement Failure bytes fault is = failed refl (cc)
 judgement End bytes fault is = by_reading (reading bytes) refl is
   where
-    by_reading : (read : Result Object DecodeError) → reading bytes ≡ read → read_or_fault read ≡ Err fault → Judgement End bytes fault
+    by_reading : (read : Result Object ObjectFault) → reading bytes ≡ read → read_or_fault read ≡ Err fault → Judgement End bytes fault
     by_reading (Ok o) same is = absurd (ok_is_err is)
     by_reading (Err error) same is = refused error end_is_failure same (cc)
 judgement Limit bytes fault is = by_reading (reading bytes) refl is
   where
-    by_reading : (read : Result Object DecodeError) → reading bytes ≡ read → read_or_fault read ≡ Err fault → Judgement Limit bytes fault
+    by_reading : (read : Result Object ObjectFault) → reading bytes ≡ read → read_or_fault read ≡ Err fault → Judgement Limit bytes fault
     by_reading (Ok o) same is = absurd (ok_is_err is)
     by_reading (Err error) same is = refused error limit_is_failure same (cc)
 

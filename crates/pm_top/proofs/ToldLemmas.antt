@@ -12,7 +12,7 @@ use Rattle.pm_base.specs.declared.errors.Exit.{Exit}
 use Rattle.pm_base.specs.declared.errors.Exit.TheVariants as exit
 use Rattle.pm_base.specs.declared.events.Event.{Event}
 use Rattle.pm_object.specs.declared.object.Object.{Object}
-use Rattle.pm_object.specs.declared.object.DecodeError.{DecodeError}
+use Rattle.pm_object.specs.declared.object.ObjectFault.{ObjectFault}
 use Rattle.pm_object.specs.Reading.{reading}
 use Rattle.pm_core.specs.State.{State}
 use Rattle.pm_core.specs.Load.{load_of}
@@ -28,7 +28,7 @@ use Rattle.pm_top.specs.Ends.{Goes, last_line}
 use Rattle.pm_top.specs.Ran.{judged, read_or_fault, object_limit, script_limit, form}
 use Rattle.pm_top.specs.Outcomes.{IsReplayed}
 use Rattle.pm_top.proofs.RanLemmas.{Ways, ended_done}
-use Rattle.pm_top.proofs.ExitsLemmas.{StopExit, at_unread, at_bad, at_memory, stops_exit}
+use Rattle.pm_top.proofs.ExitsLemmas.{StopExit, at_unread, at_bad, stops_exit}
 
 -- ---- a file that was read to its end
 
@@ -53,7 +53,7 @@ before_end limit (Some at) bytes front is ends = go (nat_le at (min limit (lengt
     go true is = absurd (failure_is_end (sym (ap (λ (f : Front). f.reached) is) ∙ ends))
     go false is = within_end limit bytes front is ends
 
-told_end : (limit : ℕ) (told : Option File) (room : ℕ) (front : Front) → front ≡ front_of limit told room → front.reached ≡ End → IsSomeAnd told (λ file. file.bytes ≡ front.bytes)
+pub told_end : (limit : ℕ) (told : Option File) (room : ℕ) (front : Front) → front ≡ front_of limit told room → front.reached ≡ End → IsSomeAnd told (λ file. file.bytes ≡ front.bytes)
 told_end limit None room front is ends = absurd (failure_is_end (sym (ap (λ (f : Front). f.reached) is) ∙ ends))
 told_end limit (Some file) room front is ends = go (room == 0) is
   where
@@ -63,10 +63,10 @@ told_end limit (Some file) room front is ends = go (room == 0) is
 
 -- ---- an object that has a reading was read to its end
 
-err_is_ok : {X Y : Type 0} {x : X} {y : Y} → Err y ≡ Ok x → ⊥
+pub err_is_ok : {X Y : Type 0} {x : X} {y : Y} → Err y ≡ Ok x → ⊥
 err_is_ok e = cc
 
-read_ok : (read : Result Object DecodeError) (o : Object) → read_or_fault read ≡ Ok o → read ≡ Ok o
+read_ok : (read : Result Object ObjectFault) (o : Object) → read_or_fault read ≡ Ok o → read ≡ Ok o
 read_ok (Ok p) o is = let same : p ≡ o = cc in ap (λ (x : Object). Ok x) same
 read_ok (Err error) o is = absurd (err_is_ok is)
 
@@ -74,7 +74,7 @@ too_long : (bytes : List ℕ) (o : Object) → 16384 < length bytes → reading 
 unfolding reading
 too_long bytes o long is = let test : nat_lt 16384 (length bytes) ≡ true = lt-ltb 16384 (length bytes) long in err_is_ok (rw test at is)
 
-judged_end : (reached : Reached) (bytes : List ℕ) (o : Object) → HasSize object_limit reached (length bytes) → judged reached bytes ≡ Ok o → reached ≡ End
+pub judged_end : (reached : Reached) (bytes : List ℕ) (o : Object) → HasSize object_limit reached (length bytes) → judged reached bytes ≡ Ok o → reached ≡ End
 judged_end End bytes o size is = refl
 judged_end Limit bytes o size is = absurd (too_long bytes o (omega arith) (read_ok (reading bytes) o is))
 judged_end Failure bytes o size is = absurd (err_is_ok is)
@@ -133,7 +133,6 @@ done I_tells O_tells before last taken_before taken_after answer words (Some (na
     clash : StopExit answer → ⊥
     clash (at_unread e) = cc
     clash (at_bad e) = cc
-    clash (at_memory e) = cc
 done I_tells O_tells before last taken_before taken_after answer words (Some (name, script)) named (inr (inr runs)) inputs_told sink_told is = goes runs.goes
   where
     goes : Goes O_tells (run_of (load_of runs.o) runs.script) taken_before taken_after answer → IsReplayed words before taken_before.bytes taken_after.bytes

@@ -5,7 +5,7 @@ use Rattle.pm_base.specs.declared.errors.Exit.TheVariants as exit
 use Rattle.pm_base.specs.declared.errors.Failed.{Failed}
 use Rattle.pm_base.specs.Sink.{SinkMoment, Wrote, HasFailed}
 use Rattle.pm_top.specs.declared.text.faults.Fault.{Fault}
-use Rattle.pm_top.specs.declared.text.faults.Fault.TheVariants.{Usage, Object, Unbuilt, Line, Read, Memory, Size}
+use Rattle.pm_top.specs.declared.text.faults.Fault.TheVariants.{Usage, Object, Text, Line, Read, Memory, Size}
 use Rattle.pm_top.specs.declared.stops.Stop.{Stop}
 use Rattle.pm_top.specs.declared.stops.Stop.TheVariants.{Fault as FaultStop, Sink}
 use Rattle.pm_top.specs.FaultLines.{fault_text}
@@ -31,8 +31,8 @@ Leaves tells run before after (Err Sink) = Breaks tells run.text before after
 -- the exit of a run that a fault stops
 abbrev pub exit_of : Fault → Exit
 exit_of Usage = exit.Usage
-exit_of Object = exit.BadObject
-exit_of Unbuilt = exit.BadObject
+exit_of (Object fault) = exit.BadObject
+exit_of (Text fault) = exit.BadText
 exit_of (Line n) = exit.BadLine
 exit_of Read = exit.ReadFault
 exit_of Memory = exit.Memory

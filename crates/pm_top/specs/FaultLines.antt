@@ -1,16 +1,43 @@
 -- The line that a run ends with where it fails.
 use Rattle.std.specs.Prelude.{ℕ, List, [], ◌∷◌}
 use Rattle.pm_top.specs.declared.text.faults.Fault.{Fault}
-use Rattle.pm_top.specs.declared.text.faults.Fault.TheVariants.{Usage, Object, Unbuilt, Line, Read, Memory, Size}
+use Rattle.pm_top.specs.declared.text.faults.Fault.TheVariants.{Usage, Object, Text, Line, Read, Memory, Size}
+use Rattle.pm_object.specs.declared.object.ObjectCause.{ObjectCause}
+use Rattle.pm_object.specs.declared.object.ObjectCause.TheVariants as objects
+use Rattle.pm_objtext.specs.declared.fault.TextCause.{TextCause}
+use Rattle.pm_objtext.specs.declared.fault.TextCause.TheVariants as texts
 use Rattle.pm_top.specs.declared.text.line.Word.{Word}
 use Rattle.pm_top.specs.declared.text.line.Word.TheVariants as word
 use Rattle.pm_top.specs.TextLines.{line_text}
 
--- what a fault is called
+-- the number of a cause for which an object has no reading
+abbrev pub object_cause : ObjectCause → ℕ
+object_cause objects.Length = 1
+object_cause objects.TooLong = 2
+object_cause objects.Truncated = 3
+object_cause objects.HeaderShort = 4
+object_cause objects.BadType = 5
+object_cause objects.UnknownSection = 6
+object_cause objects.RepeatedSection = 7
+object_cause objects.NoMasters = 8
+object_cause objects.BadMaster = 9
+object_cause objects.MaskRepeated = 10
+object_cause objects.RepeatedNode = 11
+object_cause objects.Trailing = 12
+
+-- the number of a cause for which a text has no reading
+abbrev pub text_cause : TextCause → ℕ
+text_cause texts.Form = 1
+text_cause texts.Place = 2
+text_cause texts.Repeated = 3
+text_cause texts.Master = 4
+text_cause texts.Size = 5
+
+-- what a fault is called, with its place
 abbrev pub fault_words : Fault → List Word
 fault_words Usage = word.Usage ∷ []
-fault_words Object = word.Object ∷ []
-fault_words Unbuilt = word.Unbuilt ∷ []
+fault_words (Object fault) = word.Object ∷ word.Number (object_cause fault.cause) ∷ word.Number fault.offset ∷ []
+fault_words (Text fault) = word.Text ∷ word.Number fault.line ∷ word.Number (text_cause fault.cause) ∷ []
 fault_words (Line n) = word.Line ∷ word.Number n ∷ []
 fault_words Read = word.Read ∷ []
 fault_words Memory = word.Memory ∷ []

@@ -1,3 +1,5 @@
+pub mod Commands
+pub mod Conversions
 pub mod Ends
 pub mod FaultLines
 pub mod Fronts

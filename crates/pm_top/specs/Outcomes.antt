@@ -5,7 +5,6 @@ use Rattle.pm_base.specs.Inputs.{Moment, MayFail}
 use Rattle.pm_base.specs.Sink.{SinkMoment, Wrote}
 use Rattle.pm_object.specs.declared.object.Object.{Object}
 use Rattle.pm_object.specs.Grammar.{Reads}
-use Rattle.pm_object.specs.Reading.{IsBuilt}
 use Rattle.pm_core.specs.Load.{load_of}
 use Rattle.pm_core.specs.Run.{after, outputs_along}
 use Rattle.pm_top.specs.declared.fronts.Reached.TheVariants.{Failure}
@@ -47,7 +46,7 @@ pub record HasBadObject (tells : Type 0) (words : List (List ℕ)) (before : Mom
   pub named : form words ≡ Some (object_name, script_name)
   pub read : ReadsFront tells object_name object_limit before between object
   pub whole : object.reached ≡ Failure → ⊥
-  pub unreadable : (o : Object) → IsBuilt o → Reads object.bytes o → ⊥
+  pub unreadable : (o : Object) → Reads object.bytes o → ⊥
 
 -- an object was read, and then its script was
 pub record ReadsBoth (tells : Type 0) (words : List (List ℕ)) (before last : Moment) (o : Object) (script : Front) : Type 0 where

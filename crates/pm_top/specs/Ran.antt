@@ -5,16 +5,15 @@ use Rattle.pm_base.specs.declared.errors.Exit.{Exit}
 use Rattle.pm_base.specs.Inputs.{Moment}
 use Rattle.pm_base.specs.Sink.{SinkMoment}
 use Rattle.pm_object.specs.declared.object.Object.{Object}
-use Rattle.pm_object.specs.declared.object.DecodeError.{DecodeError}
-use Rattle.pm_object.specs.declared.object.DecodeError.TheVariants.{Bad, SectionUnbuilt, Memory as MemoryError}
+use Rattle.pm_object.specs.declared.object.ObjectFault.{ObjectFault}
 use Rattle.pm_object.specs.Grammar.{Reads}
-use Rattle.pm_object.specs.Reading.{reading, IsBuilt}
+use Rattle.pm_object.specs.Reading.{reading}
 use Rattle.pm_core.specs.State.{State}
 use Rattle.pm_core.specs.Load.{load_of}
 use Rattle.pm_top.specs.declared.fronts.Reached.{Reached}
 use Rattle.pm_top.specs.declared.fronts.Reached.TheVariants.{End, Limit, Failure}
 use Rattle.pm_top.specs.declared.text.faults.Fault.{Fault}
-use Rattle.pm_top.specs.declared.text.faults.Fault.TheVariants.{Usage, Object as ObjectFault, Unbuilt, Read, Memory}
+use Rattle.pm_top.specs.declared.text.faults.Fault.TheVariants.{Usage, Object as Unreadable, Read}
 use Rattle.pm_top.specs.Fronts.{Front, ReadsFront}
 use Rattle.pm_top.specs.Run.{run_of, stopped}
 use Rattle.pm_top.specs.Ends.{Ends, Goes, WantsMemory}
@@ -41,12 +40,10 @@ abbrev pub Replayed : Type 0 → Type 0 → List ℕ → State → Moment → Mo
 Replayed I_tells O_tells name book before after taken_before taken_after answer = WantsMemory O_tells taken_before taken_after answer ⊎ Replays I_tells O_tells name book before after taken_before taken_after answer
 
 -- an object that has no reading
-abbrev pub fault_of : DecodeError → Fault
-fault_of (Bad fault) = ObjectFault
-fault_of SectionUnbuilt = Unbuilt
-fault_of (MemoryError error) = Memory
+abbrev pub fault_of : ObjectFault → Fault
+fault_of fault = Unreadable fault
 
-abbrev pub read_or_fault : Result Object DecodeError → Result Object Fault
+abbrev pub read_or_fault : Result Object ObjectFault → Result Object Fault
 read_or_fault (Ok object) = Ok object
 read_or_fault (Err error) = Err (fault_of error)
 
@@ -61,7 +58,7 @@ pub record ReadsObject (tells : Type 0) (name : List ℕ) (before after : Moment
   pub object : Front
   pub read : ReadsFront tells name object_limit before after object
   pub judgement : judged object.reached object.bytes ≡ verdict
-  pub reads : IfOk verdict (λ o. Reads object.bytes o × IsBuilt o)
+  pub reads : IfOk verdict (Reads object.bytes)
 
 -- a run goes on with its object, or stops
 abbrev pub GoesOn : Type 0 → Type 0 → List ℕ → Result Object Fault → Moment → Moment → SinkMoment → SinkMoment → Exit → Type 0
@@ -73,7 +70,7 @@ pub record RunsObject (I_tells O_tells : Type 0) (name script : List ℕ) (befor
   pub object : Front
   pub between : Moment
   pub read : ReadsFront I_tells name object_limit before between object
-  pub reads : IfOk (judged object.reached object.bytes) (λ o. Reads object.bytes o × IsBuilt o)
+  pub reads : IfOk (judged object.reached object.bytes) (Reads object.bytes)
   pub goes_on : GoesOn I_tells O_tells script (judged object.reached object.bytes) between after taken_before taken_after answer
 
 -- a run of words of this form

@@ -2,7 +2,7 @@
 use Rattle.std.specs.Prelude.{ℕ, List, [], ◌∷◌, ◌++◌, map, codes, decimal}
 use Rattle.std.specs.List.{join_with_byte}
 use Rattle.pm_top.specs.declared.text.line.Word.{Word}
-use Rattle.pm_top.specs.declared.text.line.Word.TheVariants.{Number, Reply, Drop, Call, End, Slave, Fault, Usage, Object, Unbuilt, Line, Read, Memory, Size}
+use Rattle.pm_top.specs.declared.text.line.Word.TheVariants.{Number, Reply, Drop, Call, End, Slave, Fault, Usage, Object, Text, Line, Read, Memory, Size}
 
 -- the bytes of a word
 abbrev pub word_text : Word → List ℕ
@@ -15,7 +15,7 @@ word_text Slave = codes "slave"
 word_text Fault = codes "fault"
 word_text Usage = codes "usage"
 word_text Object = codes "object"
-word_text Unbuilt = codes "unbuilt"
+word_text Text = codes "text"
 word_text Line = codes "line"
 word_text Read = codes "read"
 word_text Memory = codes "memory"

@@ -2,7 +2,9 @@
 //! answers are written line by line.
 #![tactic(auto)]
 
+mod conversions;
 mod fronts;
+mod objects;
 mod program;
 mod run;
 mod script;

@@ -33,7 +33,8 @@ fn exit_of(fault: Fault) -> Exit
 {
     match fault {
         Fault::Usage => Exit::Usage,
-        Fault::Object | Fault::Unbuilt => Exit::BadObject,
+        Fault::Object(_) => Exit::BadObject,
+        Fault::Text(_) => Exit::BadText,
         Fault::Line(_) => Exit::BadLine,
         Fault::Read => Exit::ReadFault,
         Fault::Memory => Exit::Memory,

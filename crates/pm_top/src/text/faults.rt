@@ -1,19 +1,21 @@
 //! The line that a run ends with where it fails.
 
 ghost use Rattle.std.specs.Prelude.{◌≡◌};
-ghost use Rattle.pm_top.specs.FaultLines.{fault_text};
+ghost use Rattle.pm_top.specs.FaultLines.{fault_text, object_cause, text_cause};
 
 use crate::text::line::{TextLine, Word, write_line};
+use pm_object::{ObjectCause, ObjectFault};
+use pm_objtext::{TextCause, TextFault};
 
 /// Why a run failed, as its last line tells it.
 #[derive(Clone, Copy, Debug, PartialEq, Eq)]
 pub enum Fault {
     /// The words of the command line have no form.
     Usage,
-    /// The object has no reading.
-    Object,
-    /// The object has a section of a kind that isn't built.
-    Unbuilt,
+    /// The object has no reading: its first fault.
+    Object(ObjectFault),
+    /// The text of an object has no reading: its first bad line.
+    Text(TextFault),
     /// The script line of this number, counted from 1, has no meaning.
     Line(u32),
     /// An input could not be begun or read.
@@ -30,11 +32,41 @@ pub fn write_fault(fault: Fault, line: &mut TextLine)
 {
     match fault {
         Fault::Usage => write_line(line, Word::Fault, &[Word::Usage]),
-        Fault::Object => write_line(line, Word::Fault, &[Word::Object]),
-        Fault::Unbuilt => write_line(line, Word::Fault, &[Word::Unbuilt]),
+        Fault::Object(fault) => write_line(
+            line,
+            Word::Fault,
+            &[
+                Word::Object,
+                Word::Number(object_cause(fault.cause)),
+                Word::Number(fault.offset),
+            ],
+        ),
+        Fault::Text(fault) => write_line(
+            line,
+            Word::Fault,
+            &[
+                Word::Text,
+                Word::Number(fault.line),
+                Word::Number(text_cause(fault.cause)),
+            ],
+        ),
         Fault::Line(n) => write_line(line, Word::Fault, &[Word::Line, Word::Number(n)]),
         Fault::Read => write_line(line, Word::Fault, &[Word::Read]),
         Fault::Memory => write_line(line, Word::Fault, &[Word::Memory]),
         Fault::Size => write_line(line, Word::Fault, &[Word::Size]),
     }
+}
+
+/// The number of a cause for which an object has no reading.
+fn object_cause(cause: ObjectCause) -> u32
+    ensures { result ≡ object_cause cause }
+{
+    cause as u32
+}
+
+/// The number of a cause for which a text has no reading.
+fn text_cause(cause: TextCause) -> u32
+    ensures { result ≡ text_cause cause }
+{
+    cause as u32
 }

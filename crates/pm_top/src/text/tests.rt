@@ -1,6 +1,8 @@
 use super::*;
 use pm_base::NodeId;
 use pm_core::{Answer, Outbox, Response};
+use pm_object::{ObjectCause, ObjectFault};
+use pm_objtext::{TextCause, TextFault};
 
 #[test]
 fn each_answer_is_its_line(rt: HostRuntime) {
@@ -62,8 +64,20 @@ fn the_longest_line_has_room(rt: HostRuntime) {
 fn each_fault_is_its_line(rt: HostRuntime) {
     let cases: [(Fault, &[u8]); 8] = [
         (Fault::Usage, b"fault usage\n"),
-        (Fault::Object, b"fault object\n"),
-        (Fault::Unbuilt, b"fault unbuilt\n"),
+        (
+            Fault::Object(ObjectFault {
+                cause: ObjectCause::Trailing,
+                offset: 23,
+            }),
+            b"fault object 12 23\n",
+        ),
+        (
+            Fault::Text(TextFault {
+                line: 1,
+                cause: TextCause::Place,
+            }),
+            b"fault text 1 2\n",
+        ),
         (Fault::Line(9), b"fault line 9\n"),
         (Fault::Line(16777216), b"fault line 16777216\n"),
         (Fault::Read, b"fault read\n"),

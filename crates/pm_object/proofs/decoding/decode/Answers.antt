@@ -6,4 +6,4 @@ pub returns-clause-found : goal.returns-clause-found
 returns-clause-found c = is_found c.args.bytes.now c.read_bytes.result (λ i. omega (arith, c.type_inv.bytes i)) c.read_bytes.ensures
 
 pub returns-clause-only : goal.returns-clause-only
-returns-clause-only c = λ o reads built. is_only c.args.bytes.now c.read_bytes.result o c.read_bytes.ensures built reads
+returns-clause-only c = λ o reads. is_only c.args.bytes.now c.read_bytes.result o c.read_bytes.ensures reads

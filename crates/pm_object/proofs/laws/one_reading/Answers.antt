@@ -1,4 +1,4 @@
-use Rattle.pm_object.proofs.ReadObject.{reads_exactly, one_object}
+use Rattle.pm_object.proofs.ReadObject.{reads_exactly, reads_or_faults, reads_again, one_object}
 use Rattle.pm_object.proofs.laws.one_reading.Goals as goal
 
 pub returns-clause-read : goal.returns-clause-read
@@ -6,3 +6,9 @@ returns-clause-read c = reads_exactly
 
 pub returns-clause-one : goal.returns-clause-one
 returns-clause-one c = one_object
+
+pub returns-clause-fault : goal.returns-clause-fault
+returns-clause-fault c = reads_or_faults
+
+pub returns-clause-again : goal.returns-clause-again
+returns-clause-again c = reads_again

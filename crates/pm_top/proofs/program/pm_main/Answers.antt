@@ -1,24 +1,28 @@
-use Rattle.std.proofs.Common.{refl}
-use Rattle.pm_top.proofs.CausesLemmas.{read_cause, told_exit}
-use Rattle.pm_top.proofs.RanLemmas.{ways}
-use Rattle.pm_top.proofs.ExitsLemmas.{usage_only, usage_when, write_fault, read_fault}
-use Rattle.pm_top.proofs.ToldLemmas.{done}
-use Rattle.pm_top.proofs.OutcomesLemmas.{bad_object, bad_line_of, too_large, memory}
+use Rattle.std.proofs.Common.{Global, map, string_bytes}
+use Rattle.pm_top.specs.Conversions.{conversion}
+use Rattle.pm_top.proofs.CommandsLemmas.{done, usage_only, usage_when, bad_object_of, bad_text_of, bad_line_of, too_large_of, memory_of, write_fault_of, read_fault_of, read_cause_of, told_of}
 use Rattle.pm_top.proofs.program.pm_main.Goals as goal
 
 pub returns : goal.returns
 returns g c =
-    let way = ways g.I.Inputs.tells g.O.Sink.tells _ _ _ _ _ _ c.run_words.ensures in
+    let words = map (string_bytes {Z = Global}) c.args.words.now in
+    let before = g.I.Inputs.state c.args.inputs.now in
+    let last = g.I.Inputs.state c.run_words.new.inputs in
+    let taken = g.O.Sink.state c.args.out.now in
+    let left = g.O.Sink.state c.run_words.new.out in
+    let answer = c.run_words.result in
+    let ran = c.run_words.ensures in
     record {
-      done = done g.I.Inputs.tells g.O.Sink.tells _ _ _ _ _ _ _ refl way;
-      usage = (usage_only g.I.Inputs.tells g.O.Sink.tells _ _ _ _ _ _ way, λ none. usage_when g.I.Inputs.tells g.O.Sink.tells _ _ _ _ _ _ none way);
-      bad_object = bad_object g.I.Inputs.tells g.O.Sink.tells _ _ _ _ _ _ _ refl way;
-      bad_line = bad_line_of g.I.Inputs.tells g.O.Sink.tells _ _ _ _ _ _ _ refl way;
-      too_large = too_large g.I.Inputs.tells g.O.Sink.tells _ _ _ _ _ _ _ refl way;
-      memory = memory g.I.Inputs.tells g.O.Sink.tells _ _ _ _ _ _ way;
-      write_fault = write_fault g.I.Inputs.tells g.O.Sink.tells _ _ _ _ _ _ way;
-      read_fault = read_fault g.I.Inputs.tells g.O.Sink.tells _ _ _ _ _ _ way;
-      read_cause = read_cause g.I.Inputs.tells g.O.Sink.tells _ _ _ _ _ _ way;
-      told = told_exit g.I.Inputs.tells g.O.Sink.tells _ _ _ _ _ _ way;
-      ran = c.run_words.ensures;
+      done = done g.I.Inputs.tells g.O.Sink.tells words (conversion words) before last taken left answer ran;
+      usage = (usage_only g.I.Inputs.tells g.O.Sink.tells words (conversion words) before last taken left answer ran, usage_when g.I.Inputs.tells g.O.Sink.tells words (conversion words) before last taken left answer ran);
+      bad_object = bad_object_of g.I.Inputs.tells g.O.Sink.tells words (conversion words) before last taken left answer ran;
+      bad_text = bad_text_of g.I.Inputs.tells g.O.Sink.tells words (conversion words) before last taken left answer ran;
+      bad_line = bad_line_of g.I.Inputs.tells g.O.Sink.tells words (conversion words) before last taken left answer ran;
+      too_large = too_large_of g.I.Inputs.tells g.O.Sink.tells words (conversion words) before last taken left answer ran;
+      memory = memory_of g.I.Inputs.tells g.O.Sink.tells words (conversion words) before last taken left answer ran;
+      write_fault = write_fault_of g.I.Inputs.tells g.O.Sink.tells words (conversion words) before last taken left answer ran;
+      read_fault = read_fault_of g.I.Inputs.tells g.O.Sink.tells words (conversion words) before last taken left answer ran;
+      read_cause = read_cause_of g.I.Inputs.tells g.O.Sink.tells words (conversion words) before last taken left answer ran;
+      told = told_of g.I.Inputs.tells g.O.Sink.tells words (conversion words) before last taken left answer ran;
+      ran = ran;
     }
