@@ -276,6 +276,53 @@ fn an_input_that_fails(rt: HostRuntime) -> Result<(), Fail> {
     Ok(())
 }
 
+#[test]
+fn an_input_that_fails_at_each_byte(rt: HostRuntime) -> Result<(), Fail> {
+    let script = b"ipi 8 3 11\nipi 8 3 12";
+    for at in 0..93u32 {
+        let mut out = MemSink::new(rt.alloc(), None)?;
+        let answer = replay(rt.alloc(), &OBJECT, script, &[(0, at)], &mut out)?;
+        assert_eq!(rt; answer, Exit::ReadFault, "byte {at} of the object");
+        assert_eq!(rt;
+            out.bytes(),
+            "fault read\n".as_bytes(),
+            "byte {at} of the object"
+        );
+    }
+    for at in 0..22u32 {
+        let text = if at < 11 {
+            "fault read\n"
+        } else {
+            "1 drop 8\nfault read\n"
+        };
+        let mut out = MemSink::new(rt.alloc(), None)?;
+        let answer = replay(rt.alloc(), &OBJECT, script, &[(1, at)], &mut out)?;
+        assert_eq!(rt; answer, Exit::ReadFault, "byte {at} of the script");
+        assert_eq!(rt; out.bytes(), text.as_bytes(), "byte {at} of the script");
+    }
+    Ok(())
+}
+
+#[test]
+fn a_script_of_the_limit_and_one_byte_more(rt: HostRuntime) -> Result<(), Fail> {
+    let mut line = [b' '; 256];
+    line[0] = b'#';
+    line[255] = b'\n';
+    let mut script = Vec::new(rt.alloc());
+    for _ in 0..65_536u32 {
+        script.extend_from_slice(&line)?;
+    }
+    let mut out = MemSink::new(rt.alloc(), None)?;
+    let answer = replay(rt.alloc(), &OBJECT, script.as_slice(), &[], &mut out)?;
+    assert_eq!(rt; answer, Exit::Done);
+    assert_eq!(rt; out.bytes(), "".as_bytes());
+    script.push(b'#')?;
+    let answer = replay(rt.alloc(), &OBJECT, script.as_slice(), &[], &mut out)?;
+    assert_eq!(rt; answer, Exit::TooLarge);
+    assert_eq!(rt; out.bytes(), "fault size\n".as_bytes());
+    Ok(())
+}
+
 /// A sink that takes one byte of each piece.
 #[derive(Drop)]
 struct Trickle {
