@@ -191,6 +191,59 @@ fn objects_are_printed_and_built_again(rt: HostRuntime) -> Result<(), Fail> {
     Ok(())
 }
 
+/// An object with masks of power nodes and reset lines.
+const LABORATORY: [u32; 40] = [
+    2, 4, 1, 0x101, 2, 1, 0x1, 100, 0x100, 0x100, 7, 0x100, 100, 0, 0, 0x102, 5, 11, 1, 0x101, 28,
+    0, 0x101, 33, 0, 0x1, 39, 0, 0x101, 46, 1, 0x101, 0x104, 1, 10, 0x100, 0x105, 1, 33, 0x1,
+];
+
+/// An object of three masters with all sections.
+fn three_masters(alloc: Global) -> Result<Vec<u32>, AllocError> {
+    let mut words = Vec::new(alloc);
+    words.extend_from_slice(&[2, 8, 1, 0x101, 3])?;
+    for master in [[1, 0x1], [7, 0x100], [8, 0x200]] {
+        words.extend_from_slice(&master)?;
+        words.extend_from_slice(&[0xFFFF_FFFF, 0x301, 0x301])?;
+    }
+    words.extend_from_slice(&[0x102, 58])?;
+    for node in 11..70u32 {
+        if node != 62 {
+            words.extend_from_slice(&[node, 1, 0x301])?;
+        }
+    }
+    words.extend_from_slice(&[0x103, 3, 0x1, 4, 11, 2, 1, 1, 19, 2, 1, 1, 55, 2, 1, 1])?;
+    words.extend_from_slice(&[56, 2, 1, 1, 0x100, 2, 15, 2, 1, 1, 57, 2, 1, 1])?;
+    words.extend_from_slice(&[0x200, 2, 17, 2, 1, 1, 64, 2, 1, 1])?;
+    words.extend_from_slice(&[0x104, 4, 1, 0x301, 6, 0x301, 9, 0x301, 10, 0x301])?;
+    words.extend_from_slice(&[0x105, 4, 1000, 0x301, 1001, 0x301, 1002, 0x301, 1003, 0x301])?;
+    words.extend_from_slice(&[0x106, 0, 0x107, 0x301, 0x301, 0x108, 0])?;
+    Ok(words)
+}
+
+#[test]
+fn what_is_printed_is_built_again(rt: HostRuntime) -> Result<(), Fail> {
+    let three = three_masters(rt.alloc())?;
+    assert_eq!(rt; three.len(), 263);
+    for object in [LABORATORY.as_slice(), three.as_slice()] {
+        let mut text = MemSink::new(rt.alloc(), None)?;
+        let answer = run(rt.alloc(), "print obj", object, b"", &[], &mut text)?;
+        assert_eq!(rt; answer, Exit::Done);
+        let mut built = MemSink::new(rt.alloc(), None)?;
+        let answer = run(
+            rt.alloc(),
+            "build script",
+            &[],
+            text.bytes(),
+            &[],
+            &mut built,
+        )?;
+        assert_eq!(rt; answer, Exit::Done);
+        let bytes = bytes_of(rt.alloc(), object)?;
+        assert_eq!(rt; built.bytes(), bytes.as_slice());
+    }
+    Ok(())
+}
+
 #[test]
 fn a_text_that_is_refused_or_fails(rt: HostRuntime) -> Result<(), Fail> {
     for (text, at, written, exit) in [
