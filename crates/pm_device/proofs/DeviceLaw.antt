@@ -1,17 +1,14 @@
 -- The two devices move as a device does.
-use Rattle.std.proofs.Common.{◌≡◌, ℕ, ◌+◌, ◌-◌, ◌^◌, ◌≤◌, ◌==◌, ◌&&◌, ◌||◌, min, Bool, true, false, not, cond, List, [], ◌∷◌, map, refl, arith, ap, sym, ◌∙◌, Result, Ok, Err, is_ok, OnErr, subst}
+use Rattle.std.proofs.Common.{◌≡◌, ℕ, ◌+◌, ◌-◌, ◌^◌, ◌≤◌, ◌==◌, ◌&&◌, ◌||◌, min, Bool, true, false, not, cond, [], ◌∷◌, map, refl, arith, ap, ◌∙◌, Result, Ok, Err, is_ok}
 use Rattle.std.specs.Prelude.{⊤}
-use Rattle.std.specs.List.{list_any, list_all}
-use Rattle.pm_base.specs.Faults.{Rose, HasCause}
+use Rattle.std.specs.List.{list_any}
+use Rattle.pm_base.specs.Faults.{HasCause, raised}
 use Rattle.pm_base.specs.declared.names.Unit.{Unit}
 use Rattle.pm_base.specs.declared.names.NodeId.{NodeId}
 use Rattle.pm_base.specs.declared.names.Command.{Command}
-use Rattle.pm_base.specs.declared.names.Unit.TheVariants.{Node, Line}
 use Rattle.pm_topology.specs.declared.topology.Topology.{Topology}
-use Rattle.pm_device.specs.declared.board.NodeCell.{NodeCell}
-use Rattle.pm_device.specs.declared.board.LineCell.{LineCell}
-use Rattle.pm_device.specs.Device.{DeviceMoment, Commanded, Rigged, answered, fails, value_after, is_broken, rises, rigged}
-use Rattle.pm_device.specs.Board.{IsFresh, value_of, has_unit, broken_of, numbers, nodes_by, lines_by, rig_node, is_node, is_broken_cell, nodes_of, lines_of}
+use Rattle.pm_device.specs.Device.{Commanded, CountsBy, Rigged, answered, fails, rises, rigged}
+use Rattle.pm_device.specs.Board.{IsFresh, value_of, has_unit, broken_of, numbers, rig_node, is_node, nodes_of, lines_of}
 use Rattle.pm_device.specs.Model.{Bench, moment_of, bench_after, bench_rigged, does_fail}
 use Rattle.pm_device.specs.Listed.{Listed, listed_moment, listed_after, next_fails, next}
 use Rattle.pm_device.proofs.BoardLaw.{value_of-by, has_unit-by, broken_of-by, value_of-rig, has_unit-rig, broken_of-rig, broken_of-rig_absent, broken_rises, is_broken_unit, risen_rigged}
@@ -44,24 +41,30 @@ rose : {T E : Type 0} (result : Result T E) (old new : ℕ) → is_ok result ≡
 rose (Ok x) old new is cause = cc
 rose (Err e) old new is cause = let failed = cause.failed in omega arith
 
+-- a count that is raised rose by one
+one_more : (old new : ℕ) → new ≡ raised old → CountsBy 1 old new
+one_more old new is = (omega arith, omega arith)
+
 -- a new device is fresh
 pub fresh_model : (t : Topology) (b : Bench)
-    → b.nodes ≡ nodes_of t → b.lines ≡ lines_of t → b.faults ≡ 0
+    → b.nodes ≡ nodes_of t → b.lines ≡ lines_of t → b.commands ≡ 0 → b.faults ≡ 0
     → IsFresh t (moment_of b)
-fresh_model t b nodes lines faults = record {
+fresh_model t b nodes lines commands faults = record {
   values = λ unit. ap (λ nodes. value_of nodes b.lines unit) nodes ∙ ap (λ lines. value_of (nodes_of t) lines unit) lines ∙ fresh-value t unit;
   units = λ unit. ap (λ nodes. has_unit nodes b.lines unit) nodes ∙ ap (λ lines. has_unit (nodes_of t) lines unit) lines ∙ fresh-has t unit;
   broken = ap broken_of nodes ∙ fresh-broken t;
+  commands = commands;
   faults = faults;
 }
 
 pub fresh_listed : (t : Topology) (d : Listed)
-    → d.nodes ≡ nodes_of t → d.lines ≡ lines_of t → d.faults ≡ 0
+    → d.nodes ≡ nodes_of t → d.lines ≡ lines_of t → d.commands ≡ 0 → d.faults ≡ 0
     → IsFresh t (listed_moment d)
-fresh_listed t d nodes lines faults = record {
+fresh_listed t d nodes lines commands faults = record {
   values = λ unit. ap (λ nodes. value_of nodes d.lines unit) nodes ∙ ap (λ lines. value_of (nodes_of t) lines unit) lines ∙ fresh-value t unit;
   units = λ unit. ap (λ nodes. has_unit nodes d.lines unit) nodes ∙ ap (λ lines. has_unit (nodes_of t) lines unit) lines ∙ fresh-has t unit;
   broken = refl;
+  commands = commands;
   faults = faults;
 }
 
@@ -78,6 +81,7 @@ model_moves command b new result true is answer after cause =
     record {
       later = cause.later;
       counted = let later = cause.later in omega arith;
+      given = one_more b.commands new.commands (ap (λ (n : Bench). n.commands) after);
       values = λ told unit.
           ap (λ (n : Bench). value_of n.nodes n.lines unit) after
           ∙ value_of-by command.unit command.value b.nodes b.lines unit has;
@@ -90,6 +94,7 @@ model_moves command b new result false is answer after cause =
     record {
       later = cause.later;
       counted = rose result b.faults new.faults is cause;
+      given = one_more b.commands new.commands (ap (λ (n : Bench). n.commands) after);
       values = λ told unit. ap (λ (n : Bench). value_of n.nodes n.lines unit) after;
       units = λ told unit. ap (λ (n : Bench). has_unit n.nodes n.lines unit) after;
       broken = λ told. ap (λ (n : Bench). broken_of n.nodes) after;
@@ -109,6 +114,7 @@ pub model_rigged : (node : NodeId) (broken : Bool) (b new : Bench)
     → new ≡ bench_rigged node broken b
     → Rigged ⊤ ⊤ node broken (moment_of b) (moment_of new)
 model_rigged node broken b new rising after = record {
+  commands = ap (λ (n : Bench). n.commands) after;
   faults = ap (λ (n : Bench). n.faults) after;
   values = λ told unit. ap (λ (n : Bench). value_of n.nodes n.lines unit) after ∙ value_of-rig node.0 broken b.nodes b.lines unit;
   units = λ told unit. ap (λ (n : Bench). has_unit n.nodes n.lines unit) after ∙ has_unit-rig node.0 broken b.nodes b.lines unit;
@@ -133,6 +139,7 @@ listed_moves command d new result true is answer after cause =
     record {
       later = cause.later;
       counted = let later = cause.later in omega arith;
+      given = one_more d.commands new.commands (ap (λ (n : Listed). n.commands) after);
       values = λ told unit.
           ap (λ (n : Listed). value_of n.nodes n.lines unit) after
           ∙ value_of-by command.unit command.value d.nodes d.lines unit has;
@@ -144,6 +151,7 @@ listed_moves command d new result false is answer after cause =
     record {
       later = cause.later;
       counted = rose result d.faults new.faults is cause;
+      given = one_more d.commands new.commands (ap (λ (n : Listed). n.commands) after);
       values = λ told unit. ap (λ (n : Listed). value_of n.nodes n.lines unit) after;
       units = λ told unit. absurd told;
       broken = λ told. absurd told;

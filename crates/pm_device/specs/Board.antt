@@ -1,5 +1,5 @@
 -- The units of a chip with their values, and which nodes of them are broken.
-use Rattle.std.specs.Prelude.{◌≡◌, ℕ, ◌==◌, Bool, true, false, ◌||◌, ◌&&◌, nat_lt, if◌then◌else◌, Option, unwrap_or, List, [], ◌∷◌, ◌++◌, zero, suc, map, filter, find, fold, insert}
+use Rattle.std.specs.Prelude.{◌≡◌, ℕ, ◌==◌, Bool, false, ◌||◌, ◌&&◌, nat_lt, if◌then◌else◌, Option, unwrap_or, List, [], ◌∷◌, suc, map, filter, find, fold, insert}
 use Rattle.std.specs.Option.{option_map}
 use Rattle.std.specs.List.{list_any}
 use Rattle.pm_base.specs.declared.names.Unit.{Unit}
@@ -10,18 +10,19 @@ use Rattle.pm_topology.specs.declared.topology.Topology.{Topology}
 use Rattle.pm_topology.specs.FirstFault.{has_power, has_proc, has_slave}
 use Rattle.pm_device.specs.declared.board.NodeCell.{NodeCell}
 use Rattle.pm_device.specs.declared.board.LineCell.{LineCell}
-use Rattle.pm_device.specs.Device.{DeviceMoment, rises}
+use Rattle.pm_device.specs.Device.{DeviceMoment}
 
 -- the device of a chip has its nodes and its lines
 abbrev pub has_of : Topology → Unit → Bool
 has_of t (Node n) = has_power n.0 t.powers || (has_proc n.0 t.procs || has_slave n.0 t.slaves)
 has_of t (Line l) = list_any (λ e. e.line.0 == l.0) t.lines
 
--- a new device: all stands at 0, nothing is broken, and nothing failed yet
+-- a new device: all stands at 0, nothing is broken, and nothing was commanded or failed yet
 pub record IsFresh (t : Topology) (now : DeviceMoment) : Type 0 where
   pub values : (unit : Unit) → now.value unit ≡ 0
   pub units : (unit : Unit) → now.has unit ≡ has_of t unit
   pub broken : now.broken ≡ []
+  pub commands : now.commands ≡ 0
   pub faults : now.faults ≡ 0
 
 abbrev pub is_node : ℕ → NodeCell → Bool

@@ -1,16 +1,17 @@
 -- What a device of units tells at a moment, and how that moves from call to call.
-use Rattle.std.specs.Prelude.{◌≡◌, ℕ, ◌+◌, ◌-◌, ◌^◌, ◌≤◌, ◌==◌, min, Bool, true, false, not, ◌&&◌, ◌||◌, nat_lt, if◌then◌else◌, List, [], ◌∷◌, ◌++◌, filter, count_by}
+use Rattle.std.specs.Prelude.{◌≡◌, ℕ, ◌+◌, ◌-◌, ◌^◌, ◌≤◌, ◌==◌, min, Bool, true, false, not, ◌&&◌, ◌||◌, nat_lt, if◌then◌else◌, List, [], ◌∷◌, ◌++◌, filter, length, count_by}
 use Rattle.std.specs.List.{list_any, list_all}
 use Rattle.pm_base.specs.declared.names.Unit.{Unit}
 use Rattle.pm_base.specs.declared.names.Unit.TheVariants.{Node, Line}
 use Rattle.pm_base.specs.declared.names.NodeId.{NodeId}
 use Rattle.pm_base.specs.declared.names.Command.{Command}
 
--- the value of each unit, the units that the device has, its broken nodes in rising order, and how often a command failed
+-- the value of each unit, the units that the device has, its broken nodes in rising order, how often a command was given, and how often one failed
 pub record DeviceMoment : Type 0 where
   pub value : Unit → ℕ
   pub has : Unit → Bool
   pub broken : List ℕ
+  pub commands : ℕ
   pub faults : ℕ
 
 -- a command, and whether it was carried out
@@ -47,10 +48,15 @@ fails now unit = not (now.has unit) || is_broken now.broken unit
 abbrev pub RoseBy : ℕ → ℕ → ℕ → Type 0
 RoseBy by before now = min (before + by) (2 ^ 64 - 1) ≤ now
 
+-- a count of commands rose by exactly this much, or stands at its last value
+abbrev pub CountsBy : ℕ → ℕ → ℕ → Type 0
+CountsBy by before now = (min (before + by) (2 ^ 64 - 1) ≤ now) × (now ≤ before + by)
+
 -- between two moments these commands were given, with these answers, and nothing else was done
 pub record Commanded (tells_values tells_broken : Type 0) (answers : List Answered) (old new : DeviceMoment) : Type 0 where
   pub later : old.faults ≤ new.faults
   pub counted : RoseBy (count_by (λ a. not a.ok) answers) old.faults new.faults
+  pub given : CountsBy (length answers) old.commands new.commands
   pub values : tells_values → (unit : Unit) → new.value unit ≡ value_after answers old.value unit
   pub units : tells_broken → (unit : Unit) → new.has unit ≡ old.has unit
   pub broken : tells_broken → new.broken ≡ old.broken
@@ -68,6 +74,7 @@ rigged node broken before =
 
 -- between two moments a node was broken or mended, and nothing else was done
 pub record Rigged (tells_values tells_broken : Type 0) (node : NodeId) (broken : Bool) (old new : DeviceMoment) : Type 0 where
+  pub commands : new.commands ≡ old.commands
   pub faults : new.faults ≡ old.faults
   pub values : tells_values → (unit : Unit) → new.value unit ≡ old.value unit
   pub units : tells_broken → (unit : Unit) → new.has unit ≡ old.has unit

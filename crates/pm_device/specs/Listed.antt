@@ -16,9 +16,9 @@ pub record Listed : Type 0 where
   pub commands : ℕ
   pub faults : ℕ
 
--- what it tells: its values alone
+-- what it tells: its values alone, beside its counts
 abbrev pub listed_moment : Listed → DeviceMoment
-listed_moment d = record { value = value_of d.nodes d.lines; has = has_unit d.nodes d.lines; broken = []; faults = d.faults }
+listed_moment d = record { value = value_of d.nodes d.lines; has = has_unit d.nodes d.lines; broken = []; commands = d.commands; faults = d.faults }
 
 -- the next number, or the last one
 abbrev pub next : ℕ → ℕ

@@ -13,10 +13,11 @@ pub trait Device {
     /// Whether it tells the units that it has and its broken nodes.
     ghost tells_broken: { Type 0 } = { ⊥ };
 
-    /// What it tells at a moment, and how often a command has failed.
+    /// What it tells at a moment, how often a command was given, and how often one failed. The counts
+    /// are `u64`s that never fall and stand still at their last value.
     ghost state: { Self → DeviceMoment };
 
-    /// Sets a unit to a value.
+    /// Sets a unit to a value. The command is counted, whether it succeeds or fails.
     ///
     /// # Errors
     ///

@@ -97,6 +97,7 @@ impl Device for ListedDevice {
         ensures listed { is_ok result ≡ not (next_fails self.old command.unit) }
         ensures number { self.new.commands ≡ next self.old.commands }
         ensures failing { self.new.failing ≡ self.old.failing }
+        ensures after { self.new ≡ listed_after command (is_ok result) self.old }
     {
         self.carry_out(command)
     }

@@ -1,4 +1,4 @@
-ghost use Rattle.std.specs.Prelude.{◌≡◌, ◌||◌, IfOk, is_ok, not, true};
+ghost use Rattle.std.specs.Prelude.{◌≡◌, ◌∷◌, [], ◌||◌, IfOk, is_ok, not, true};
 ghost use Rattle.pm_base.specs.Faults.{HasCause};
 ghost use Rattle.pm_device.specs.Board.{IsFresh, has_unit, is_broken_cell, numbers};
 ghost use Rattle.pm_device.specs.Device.{rises};
@@ -17,6 +17,7 @@ use std::marker::Model;
 pub struct ModelDevice {
     nodes: Vec<NodeCell>,
     lines: Vec<LineCell>,
+    commands: u64,
     faults: u64,
 }
 
@@ -28,7 +29,12 @@ impl Model for ModelDevice {
 
     ghost Value = { Bench };
 
-    ghost view = { λ device. record { nodes = device.nodes.items; lines = device.lines.items; faults = device.faults } };
+    ghost view = { λ device. record {
+      nodes = device.nodes.items;
+      lines = device.lines.items;
+      commands = device.commands;
+      faults = device.faults;
+    } };
 
     ghost invariant = { λ device. rises (numbers device.nodes.items) ≡ true };
 }
@@ -45,6 +51,7 @@ impl ModelDevice {
         Ok(ModelDevice {
             nodes: board::nodes_of(alloc, t)?,
             lines: board::lines_of(alloc, t)?,
+            commands: 0,
             faults: 0,
         })
     }
@@ -62,6 +69,7 @@ impl ModelDevice {
         ensures after { self.new ≡ bench_after command (is_ok result) self.old }
         ensures cause { HasCause self.old.faults self.new.faults result }
     {
+        self.commands = self.commands.saturating_add(1);
         if does_fail(&self.nodes, &self.lines, command.unit) {
             self.faults = self.faults.saturating_add(1);
             return Err(Failed);
@@ -81,7 +89,8 @@ impl ModelDevice {
 
 impl Device for ModelDevice {
     ghost use Rattle.std.specs.Prelude.{⊤};
-    ghost use Rattle.pm_device.specs.Model.{moment_of};
+    ghost use Rattle.pm_device.specs.Device.{Commanded, answered};
+    ghost use Rattle.pm_device.specs.Model.{bench_after, does_fail, moment_of};
 
     ghost tells_values = { ⊤ };
 
@@ -89,7 +98,12 @@ impl Device for ModelDevice {
 
     ghost state = { moment_of };
 
-    fn command(&mut self, command: Command) -> Result<(), Failed> {
+    fn command(&mut self, command: Command) -> Result<(), Failed>
+        ensures cause { HasCause self.old.faults self.new.faults result }
+        ensures commanded { Commanded ⊤ ⊤ (answered command (is_ok result) ∷ []) (moment_of self.old) (moment_of self.new) }
+        ensures answer { is_ok result ≡ not (does_fail self.old command.unit) }
+        ensures after { self.new ≡ bench_after command (is_ok result) self.old }
+    {
         self.carry_out(command)
     }
 

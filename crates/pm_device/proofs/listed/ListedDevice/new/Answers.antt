@@ -1,4 +1,4 @@
-use Rattle.std.proofs.Common.{rules, refl}
+use Rattle.std.proofs.Common.{refl}
 use Rattle.pm_device.specs.Listed.{Listed}
 use Rattle.pm_device.proofs.DeviceLaw.{fresh_listed}
 use Rattle.pm_device.proofs.listed.ListedDevice.new.Goals as goal
@@ -12,4 +12,4 @@ returns-clause-fresh c =
       commands = 0;
       faults = 0;
     } in
-    fresh_listed c.args.t.now device c.in_ok-nodes_of.ensures c.in_ok-lines_of.ensures refl
+    fresh_listed c.args.t.now device c.in_ok-nodes_of.ensures c.in_ok-lines_of.ensures refl refl

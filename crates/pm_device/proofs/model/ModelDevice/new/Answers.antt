@@ -1,4 +1,4 @@
-use Rattle.std.proofs.Common.{◌≡◌, true, refl, sym, ◌∙◌, ap}
+use Rattle.std.proofs.Common.{refl, ◌∙◌, ap}
 use Rattle.pm_device.specs.Board.{numbers}
 use Rattle.pm_device.specs.Device.{rises}
 use Rattle.pm_device.specs.Model.{Bench}
@@ -11,5 +11,5 @@ invariant_of-result c = ap (λ nodes. rises (numbers nodes)) c.in_ok-nodes_of.en
 
 pub returns : goal.returns
 returns c =
-    let device : Bench = record { nodes = c.in_ok-nodes_of.field-0.items; lines = c.in_ok-lines_of.field-0.items; faults = 0 } in
-    fresh_model c.args.t.now device c.in_ok-nodes_of.ensures c.in_ok-lines_of.ensures refl
+    let device : Bench = record { nodes = c.in_ok-nodes_of.field-0.items; lines = c.in_ok-lines_of.field-0.items; commands = 0; faults = 0 } in
+    fresh_model c.args.t.now device c.in_ok-nodes_of.ensures c.in_ok-lines_of.ensures refl refl
