@@ -1,11 +1,19 @@
-//! The program `pmu`, over the files and the standard output of the host.
+//! The program `pmu`, over the files and the standard output of the host and a device in memory.
 #![tactic(auto)]
+
+ghost use Rattle.std.specs.Prelude.{IfOk};
+ghost use Rattle.pm_topology.specs.Chip.{chip};
+ghost use Rattle.pm_device.specs.Board.{IsFresh};
+ghost use Rattle.pm_device.specs.Model.{moment_of};
 
 mod host;
 
 use host::{HostInputs, HostSink};
-use pm_base::Exit;
+use pm_base::{Exit, NoMemory};
+use pm_device::ModelDevice;
 use pm_top::pm_main;
+use pm_topology::zynqmp;
+use std::alloc::Global;
 use std::process::ExitCode;
 use std::rt::{Env, Files};
 use std::{env, io};
@@ -22,9 +30,25 @@ fn run<R: Env + Files + Print + AllocGlobal>(rt: &R) -> Exit {
         Err(error) if error.kind() == io::ErrorKind::InvalidData => Vec::new(rt.alloc()),
         Err(_) => return Exit::Memory,
     };
+    let Ok(mut device) = device(rt.alloc()) else {
+        return Exit::Memory;
+    };
     let mut inputs = HostInputs::new(rt.alloc(), rt);
     let mut out = HostSink::new(io::writer(rt));
-    pm_main(rt.alloc(), words.as_slice(), &mut inputs, &mut out)
+    pm_main(
+        rt.alloc(),
+        words.as_slice(),
+        &mut inputs,
+        &mut out,
+        &mut device,
+    )
+}
+
+/// The device of the chip, all of whose units stand at 0.
+fn device(alloc: Global) -> Result<ModelDevice, NoMemory>
+    ensures { IfOk result (λ device. IsFresh chip (moment_of device)) }
+{
+    ModelDevice::new(alloc, &zynqmp(alloc)?)
 }
 
 /// The words after the program's name.

@@ -1,16 +1,13 @@
 -- How many elements of a list pass a test, and the first one that does.
-use Rattle.std.proofs.Common.{◌≡◌, ◌+◌, ◌≤◌, Bool, true, false, ◌&&◌, cond, List, [], ◌∷◌, ◌++◌, Some, None, refl, sym, ◌∙◌, ap, arith, inl, inr, ◌⊎◌}
+use Rattle.std.proofs.Common.{◌≡◌, ◌+◌, ◌≤◌, Bool, true, false, cond, List, [], ◌∷◌, ◌++◌, Some, None, refl, sym, ◌∙◌, ap, arith, inl, inr, ◌⊎◌}
 use Rattle.std.specs.Prelude.{count_by, find}
-use Rattle.std.specs.List.{list_all}
-use Rattle.std.proofs.lemmas.List.Sums.{sum_by-append}
+use Rattle.std.proofs.lemmas.List.Sums.{sum_by-append, sum_by-cons}
 
 pub count_by-append : {X : Type 0} (p : X → Bool) (xs ys : List X) → count_by p (xs ++ ys) ≡ count_by p xs + count_by p ys
 count_by-append p xs ys = sum_by-append _ xs ys
 
 pub count_by-cons : {X : Type 0} (p : X → Bool) (x : X) (xs : List X) → count_by p (x ∷ xs) ≡ cond (p x) 1 0 + count_by p xs
-count_by-cons p x xs =
-    let parts : count_by p (x ∷ xs) ≡ count_by p (x ∷ []) + count_by p xs = count_by-append p (x ∷ []) xs in
-    omega arith
+count_by-cons p x xs = sum_by-cons _ x xs
 
 either_at : (p q r : Bool) → (p ≡ true → (q ≡ true) ⊎ (r ≡ true)) → cond p 1 0 ≤ cond q 1 0 + cond r 1 0
 either_at false q r either = omega arith
@@ -58,12 +55,3 @@ none_at p x xs false none later = omega (arith, later none)
 pub count_by_none : {X : Type 0} (p : X → Bool) (xs : List X) → find p xs ≡ None → count_by p xs ≡ 0
 count_by_none p [] none = refl
 count_by_none p (x ∷ xs) none = rw (count_by-cons p x xs) (none_at p x xs (p x) none (count_by_none p xs))
-
-all_at : (b c d : Bool) → (b && (c && d)) ≡ ((b && c) && d)
-all_at true c d = refl
-all_at false c d = refl
-
-pub list_all-append : {X : Type 0} (p : X → Bool) (xs ys : List X) → list_all p (xs ++ ys) ≡ (list_all p xs && list_all p ys)
-list_all-append p [] ys = refl
-list_all-append p (x ∷ xs) ys =
-    ap (λ rest. p x && rest) (list_all-append p xs ys) ∙ all_at (p x) (list_all p xs) (list_all p ys)

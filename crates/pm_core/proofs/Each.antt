@@ -1,9 +1,6 @@
 -- What holds of each element of a list, by recursion.
 use Rattle.std.proofs.Common.{List, [], ◌∷◌, ◌++◌}
-
-abbrev pub Each : {X : Type 0} → (X → Type 0) → List X → Type 0
-Each P [] = Unit {0}
-Each P (x ∷ xs) = P x × Each P xs
+use Rattle.std.specs.List.{AllByRecursion as Each}
 
 pub Each-append : {X : Type 0} (P : X → Type 0) (xs ys : List X) → Each P xs → Each P ys → Each P (xs ++ ys)
 Each-append P [] ys first second = second

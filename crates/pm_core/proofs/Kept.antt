@@ -3,6 +3,7 @@ use Rattle.std.proofs.Common.{◌≡◌, ℕ, ◌+◌, ◌≤◌, Bool, true, fa
 use Rattle.std.specs.Prelude.{count_by, find, option_map}
 use Rattle.std.specs.List.{list_all}
 use Rattle.std.proofs.lemmas.Bool.{and_parts, and_from, eqb-true}
+use Rattle.std.proofs.lemmas.List.Folds.{list_all-append}
 use Rattle.pm_core.specs.declared.rows.Entry.{Entry}
 use Rattle.pm_core.specs.declared.rows.Row.{Row}
 use Rattle.pm_core.specs.declared.rows.Change.{Change}
@@ -11,13 +12,13 @@ use Rattle.pm_core.specs.Prims.{Prim, At_row, changed}
 use Rattle.pm_core.specs.State.{State}
 use Rattle.pm_core.specs.Sound.{is_sole_user, is_able, IsSound}
 use Rattle.pm_core.proofs.Changed.{Replaced, replaced, pairs_stay, rows_at}
-use Rattle.pm_core.proofs.Counts.{count_by-append, count_by-cons, count_by_either, count_by_none, list_all-append}
+use Rattle.pm_core.proofs.Counts.{count_by-append, count_by-cons, count_by_either, count_by_none}
 use Rattle.pm_core.proofs.Pairs.{pairs_once}
 
 -- no pair has two rows
 pub once : (m s : ℕ) (book : State) → IsSound book → count_by (is_at m s) book.now.rows ≤ 1
 once m s book sound =
-    rw (rows_at m s book.now.rows, sound.pairs) (pairs_once m s book.fixed.object book.fixed.slaves)
+    rw (rows_at m s book.now.rows, sound.pairs) (pairs_once m s book.fixed.object book.fixed.topology.slaves)
 
 -- a used row on a slave that can't be shared is the master's own, or a rival's
 user_at : (here own used alone : Bool) → IsTrue (here && (used && alone)) → (IsTrue (own && here)) ⊎ (IsTrue (((not own && here) && used) && alone))

@@ -2,10 +2,17 @@ pub mod Bits
 pub mod Changed
 pub mod Counts
 pub mod Each
+pub mod FedLaw
 pub mod Full
 pub mod Judged
 pub mod Kept
+pub mod MetLaw
+pub mod MovesLemmas
+pub mod NeedsLemmas
+pub mod OrderLemmas
 pub mod Pairs
 pub mod Refused
+pub mod SettledLemmas
 pub mod SoundSteps
+pub mod UnitsLemmas
 pub mod Wants

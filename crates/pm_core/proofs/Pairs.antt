@@ -1,17 +1,18 @@
 -- Of the permitted pairs: none stands twice, and each has the capabilities of its slave.
 use Rattle.std.proofs.Common.{◌≡◌, ◌≢◌, ℕ, ◌+◌, ◌<◌, ◌≤◌, Bool, true, false, ◌&&◌, ◌==◌, cond, if◌then◌else◌, List, [], ◌∷◌, Option, Some, None, slice_get, refl, zero, suc, ap, arith, inl, inr}
 use Rattle.std.specs.Prelude.{count_by}
+use Rattle.std.specs.List.{AllByRecursion as Each}
 use Rattle.std.proofs.lemmas.Bool.{cases_eq}
 use Rattle.std.proofs.lemmas.Bool.Decides.{nat_tests}
 use Rattle.pm_object.specs.declared.object.Object.{Object}
 use Rattle.pm_object.specs.declared.object.MasterRec.{MasterRec}
 use Rattle.pm_object.specs.declared.object.SlaveRec.{SlaveRec}
-use Rattle.pm_core.specs.declared.choice.SlaveDef.{SlaveDef}
+use Rattle.pm_topology.specs.declared.topology.SlaveDef.{SlaveDef}
 use Rattle.pm_core.specs.declared.rows.RowSeed.{RowSeed}
 use Rattle.pm_core.specs.Choice.{all_of}
 use Rattle.pm_core.specs.Permits.{may_use, seed_of, record_of, pairs_of_masters, pairs_on, pairs_from, pairs_of}
 use Rattle.pm_core.proofs.Counts.{count_by-append}
-use Rattle.pm_core.proofs.Each.{Each, Each-append, Each-imply}
+use Rattle.pm_core.proofs.Each.{Each-append, Each-imply}
 
 abbrev pub is_pair : ℕ → ℕ → RowSeed → Bool
 is_pair m s seed = (seed.master == m) && (seed.slave == s)

@@ -16,7 +16,7 @@ use Rattle.pm_core.specs.declared.views.RowView.{RowView}
 use Rattle.pm_core.specs.declared.views.StatusView.{StatusView}
 use Rattle.pm_core.specs.Choice.{has_all}
 use Rattle.pm_core.specs.Rows.{unused, rival_of, entry_at}
-use Rattle.pm_core.specs.Chip.{chip_slaves}
+use Rattle.pm_topology.specs.declared.topology.Topology.{Topology}
 use Rattle.pm_core.specs.Permits.{pairs_of}
 use Rattle.pm_core.specs.Load.{load_of}
 use Rattle.pm_core.specs.Prims.{Prim, changed}
@@ -55,12 +55,12 @@ able_at_load : (seeds : List RowSeed) → IsTrue (list_all is_able (map unused s
 able_at_load [] = refl
 able_at_load (x ∷ xs) = and_from _ _ (has_all_nothing x.all) (able_at_load xs)
 
-pub load_sound : (object : Object) → IsSound (load_of object)
-load_sound object =
+pub load_sound : (object : Object) (topology : Topology) → IsSound (load_of object topology)
+load_sound object topology =
     record {
-      pairs = pairs_at_load (pairs_of object chip_slaves);
-      alone = λ s. omega (arith, none_used s (pairs_of object chip_slaves));
-      able = able_at_load (pairs_of object chip_slaves);
+      pairs = pairs_at_load (pairs_of object topology.slaves);
+      alone = λ s. omega (arith, none_used s (pairs_of object topology.slaves));
+      able = able_at_load (pairs_of object topology.slaves);
     }
 
 -- no change keeps the book sound

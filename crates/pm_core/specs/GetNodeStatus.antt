@@ -4,10 +4,10 @@ use Rattle.pm_core.specs.declared.views.StatusView.{StatusView}
 use Rattle.pm_core.specs.Status.{invalid_node}
 use Rattle.pm_core.specs.Outcome.{Outcome, Check, must, judged, told}
 
--- any slave has a status; no permission is needed
+-- any node has a status; no permission is needed
 abbrev pub status_checks : StatusView → List Check
 status_checks view = must (is_some view.state) invalid_node ∷ []
 
--- the words are the slave's state, the capabilities that the caller wants now, and who uses it
+-- the words are the node's state, and for a slave the capabilities that the caller wants now and who uses it
 abbrev pub get_node_status : StatusView → Outcome
 get_node_status view = judged (status_checks view) (told (unwrap_or view.state 0 ∷ view.requested.0 ∷ view.usage ∷ []))

@@ -3,7 +3,7 @@ use Rattle.std.specs.Prelude.{ℕ, ◌+◌, Bool, not, ◌==◌, if◌then◌els
 use Rattle.pm_object.specs.declared.object.Object.{Object}
 use Rattle.pm_object.specs.declared.object.MasterRec.{MasterRec}
 use Rattle.pm_object.specs.declared.object.SlaveRec.{SlaveRec}
-use Rattle.pm_core.specs.declared.choice.SlaveDef.{SlaveDef}
+use Rattle.pm_topology.specs.declared.topology.SlaveDef.{SlaveDef}
 use Rattle.pm_core.specs.declared.rows.RowSeed.{RowSeed}
 use Rattle.pm_core.specs.Choice.{all_of}
 

@@ -1,7 +1,7 @@
 -- Runs: one event after another.
 use Rattle.std.specs.Prelude.{List, [], ◌∷◌}
 use Rattle.pm_base.specs.declared.events.Event.{Event}
-use Rattle.pm_core.specs.declared.replies.Outbox.{Outbox}
+use Rattle.pm_core.specs.Outbox.{Outputs}
 use Rattle.pm_core.specs.State.{State}
 use Rattle.pm_core.specs.Step.{effect, outputs}
 
@@ -11,6 +11,6 @@ after [] book = book
 after (event ∷ events) book = after events (effect event book)
 
 -- what the step of each of these events puts out
-abbrev pub outputs_along : List Event → State → List Outbox
+abbrev pub outputs_along : List Event → State → List Outputs
 outputs_along [] book = []
 outputs_along (event ∷ events) book = outputs event book ∷ outputs_along events (effect event book)

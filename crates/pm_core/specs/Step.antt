@@ -12,7 +12,8 @@ use Rattle.pm_core.specs.declared.calls.AckKind.TheVariants.{No, Blocking, NonBl
 use Rattle.pm_core.specs.declared.replies.Response.{Response}
 use Rattle.pm_core.specs.declared.replies.Answer.{Answer}
 use Rattle.pm_core.specs.declared.replies.Answer.TheVariants.{Silent, Drop, Reply, Ack}
-use Rattle.pm_core.specs.declared.replies.Outbox.{Outbox}
+use Rattle.pm_core.specs.Outbox.{Outputs}
+use Rattle.pm_core.specs.Units.{moved}
 use Rattle.pm_core.specs.Status.{no_feature}
 use Rattle.pm_core.specs.Calls.{call_of, ack_of, node_of}
 use Rattle.pm_core.specs.Views.{row_view, status_view}
@@ -63,9 +64,13 @@ abbrev pub answer_to : Event → State → Answer
 answer_to (Ipi master message) book = answered master (call_of message) (verdict master message book) (effect (Ipi master message) book)
 answer_to _ book = Silent
 
--- what a step puts out
-abbrev pub outputs : Event → State → Outbox
-outputs event book = record { answer = answer_to event book }
+-- what a step puts out: the units whose value it changes, and the answer
+abbrev pub outputs : Event → State → Outputs
+outputs event book = record { moved = moved (λ u. value u book) (effect event book); answer = answer_to event book }
+
+-- what the load puts out: before it all values are 0
+abbrev pub outputs_at_load : State → Outputs
+outputs_at_load book = record { moved = moved (λ u. 0) book; answer = Silent }
 
 abbrev pub is_refusal : Option Outcome → Bool
 is_refusal None = true

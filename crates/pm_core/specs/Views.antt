@@ -6,7 +6,12 @@ use Rattle.pm_object.specs.declared.object.MasterRec.{MasterRec}
 use Rattle.pm_core.specs.declared.views.RowView.{RowView}
 use Rattle.pm_core.specs.declared.views.StatusView.{StatusView}
 use Rattle.pm_core.specs.Rows.{entry_at, rival_of, now_of, usage_of}
-use Rattle.pm_core.specs.Values.{slave_place, state_of}
+use Rattle.pm_topology.specs.declared.places.Kind.{Kind}
+use Rattle.pm_topology.specs.declared.places.Kind.TheVariants.{Proc, Slave, Power, Unknown}
+use Rattle.pm_topology.specs.Places.{kind_of}
+use Rattle.pm_core.specs.Values.{slave_place, master_place, state_of, value_at}
+use Rattle.pm_core.specs.declared.rows.Entry.{Entry}
+use Rattle.pm_core.specs.declared.rows.Row.{Row}
 use Rattle.pm_core.specs.State.{State}
 
 -- the node of the master at a place, and 0 past the last one
@@ -30,15 +35,31 @@ row_view_at m (Some s) book = record {
 abbrev pub row_view : ℕ → NodeId → State → RowView
 row_view m node book = row_view_at m (slave_place node book) book
 
-abbrev pub status_view_at : ℕ → Option ℕ → State → StatusView
-status_view_at m None book = record { state = None; requested = record { 0 = 0 }; usage = 0 }
-status_view_at m (Some s) book = record {
+-- a node that isn't a slave is told with its value alone
+abbrev pub plain : ℕ → StatusView
+plain value = record { state = Some value; requested = record { 0 = 0 }; usage = 0 }
+
+abbrev pub status_view_at : ℕ → Kind → State → StatusView
+status_view_at m Unknown book = record { state = None; requested = record { 0 = 0 }; usage = 0 }
+status_view_at m (Proc p) book = plain 0
+status_view_at m (Power w) book = plain (value_at (Power w) book)
+status_view_at m (Slave s) book = record {
   state = Some (state_of s book);
   requested = now_of (entry_at m s book.now.rows);
   usage = usage_of m s book.now.rows;
 }
 
--- what the master at place m is told of a slave: its chosen state, the capabilities that the master
--- wants of it now, and who uses it
+-- what the master at place m is told of a node: of a slave its chosen state, the capabilities that the
+-- master wants of it now, and who uses it; of a processor its mode, which is off; of a power node
+-- whether it is up
 abbrev pub status_view : ℕ → NodeId → State → StatusView
-status_view m node book = status_view_at m (slave_place node book) book
+status_view m node book = status_view_at m (kind_of book.fixed.topology node) book
+
+abbrev pub row_at : Option ℕ → Option ℕ → State → Option Row
+row_at (Some m) (Some s) book = option_map (λ (entry : Entry). entry.row) (entry_at m s book.now.rows)
+row_at (Some m) None book = None
+row_at None s book = None
+
+-- the row of a configured master on a slave, where the object permits the pair
+abbrev pub row : NodeId → NodeId → State → Option Row
+row master slave book = row_at (master_place master book) (slave_place slave book) book

@@ -4,22 +4,30 @@
 
 mod book;
 mod calls;
-mod chip;
 mod choice;
-mod load;
+mod moves;
+mod needs;
+mod outbox;
 mod permits;
 mod release_call;
 mod replies;
 mod request_call;
 mod rows;
+mod settled;
+mod shelf;
 mod status;
 mod status_call;
 mod step;
+mod table;
 #[cfg(test)]
 mod tests;
+mod units;
 mod views;
 
 pub use book::Book;
-pub use choice::{SlaveDef, SlaveState, Wanted};
-pub use replies::{Answer, Outbox, Response};
+pub use choice::Wanted;
+pub use outbox::{Done, Outbox};
+pub use replies::{Answer, Response};
 pub use rows::{Entry, Row, RowSeed};
+pub use shelf::Shelf;
+pub use units::units_of;

@@ -4,10 +4,11 @@ ghost use Rattle.std.specs.Prelude.{◌≡◌, ◌++◌, map, find, OnOk};
 ghost use Rattle.pm_core.specs.Permits.{record_of, may_use, is_shareable, seed_of, pairs_of_masters, pairs_on, pairs_from};
 ghost use Rattle.pm_core.specs.Rows.{unused};
 
-use crate::choice::{SlaveDef, all_caps};
 use crate::rows::{Entry, RowSeed, Rows};
 use pm_base::NoMemory;
 use pm_object::{MasterRec, Object, SlaveRec};
+use pm_slaves::capabilities;
+use pm_topology::SlaveDef;
 
 fn record_of(object: &Object, slave: &SlaveDef) -> Option<SlaveRec>
     ensures { result ≡ record_of object.now slave.now }
@@ -33,7 +34,7 @@ fn seed_of(master: usize, slave: usize, def: &SlaveDef, entry: &SlaveRec) -> Row
         master,
         slave,
         shareable: entry.flags & 1 == 1,
-        all: all_caps(def.states.as_slice()),
+        all: capabilities(def.states.as_slice()),
     }
 }
 

@@ -4,13 +4,13 @@ ghost use Rattle.std.specs.Prelude.{◌≡◌};
 ghost use Rattle.pm_core.specs.ReleaseNode.{release_node};
 ghost use Rattle.pm_core.specs.Prims.{changed};
 
-use crate::book::Book;
 use crate::replies::Response;
 use crate::rows::Change;
+use crate::settled::Settled;
 use crate::status::{INVALID_NODE, NO_ACCESS};
 use crate::views::RowView;
 
-impl Book {
+impl Settled {
     /// The caller doesn't use the slave any more.
     pub(crate) fn release_node(&mut self, view: &RowView) -> Response
         ensures response { result ≡ (release_node view.now).response }

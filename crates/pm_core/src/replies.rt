@@ -1,6 +1,5 @@
 ghost use Rattle.std.specs.Prelude.{◌≡◌};
 ghost use Rattle.pm_core.specs.Outcome.{success, refusal, used_by};
-ghost use Rattle.pm_core.specs.declared.replies.Answer.TheVariants.{Silent};
 
 use crate::status::{NODE_USED, SUCCESS};
 use pm_base::NodeId;
@@ -68,21 +67,4 @@ pub enum Answer {
         point: u32,
         shown: bool,
     },
-}
-
-/// What a step puts out.
-#[derive(Clone, Copy, Debug, PartialEq, Eq)]
-pub struct Outbox {
-    pub answer: Answer,
-}
-
-impl Outbox {
-    /// An outbox with nothing in it.
-    pub fn new() -> Outbox
-        ensures { result.answer ≡ Silent }
-    {
-        Outbox {
-            answer: Answer::Silent,
-        }
-    }
 }

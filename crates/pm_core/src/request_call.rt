@@ -4,16 +4,16 @@ ghost use Rattle.std.specs.Prelude.{◌≡◌};
 ghost use Rattle.pm_core.specs.RequestNode.{request_node};
 ghost use Rattle.pm_core.specs.Prims.{changed};
 
-use crate::book::Book;
 use crate::calls::ack_kind;
 use crate::replies::Response;
 use crate::rows::Change;
+use crate::settled::Settled;
 use crate::status::{DOUBLE_REQUEST, INVALID_NODE, INVALID_PARAMETER, NO_ACCESS, NO_FEATURE};
 use crate::views::RowView;
 use bitflags::Flags;
 use pm_base::Caps;
 
-impl Book {
+impl Settled {
     /// The caller uses the slave from now on, with these capabilities.
     pub(crate) fn request_node(&mut self, view: &RowView, caps: Caps, ack: u32) -> Response
         ensures response { result ≡ (request_node caps ack view.now).response }

@@ -1,38 +1,21 @@
-//! The step of the book: one event.
+//! What one event does to the rows, and how it is answered.
 
-ghost use Rattle.std.specs.Prelude.{◌≡◌, IsTrue};
-ghost use Rattle.pm_core.specs.Step.{called, effect, outputs, answer_to, acknowledged, is_refused};
-ghost use Rattle.pm_core.specs.Sound.{IsSound};
+ghost use Rattle.std.specs.Prelude.{◌≡◌};
+ghost use Rattle.pm_core.specs.Step.{called, effect, answer_to, acknowledged};
 ghost use Rattle.pm_core.specs.Calls.{ack_of, node_of};
 ghost use Rattle.pm_core.specs.Prims.{changed};
 ghost use Rattle.pm_base.specs.declared.events.Event.TheVariants.{Ipi};
 
-use crate::book::Book;
 use crate::calls::{AckKind, Call, call_of};
-use crate::replies::{Answer, Outbox, Response};
+use crate::replies::{Answer, Response};
+use crate::settled::Settled;
 use crate::status::NO_FEATURE;
 use crate::status_call::get_node_status;
 use pm_base::{Event, Message, NodeId, Unit};
 
-impl Book {
-    /// One event. A message of a configured master is a call, which is checked, changes the book
-    /// where all checks pass, and is answered as its acknowledge kind says. No other event changes
-    /// the book. The outbox then holds what this step puts out.
-    #[tactic(auto, using(crate::proofs::Refused::refused_stays))]
-    pub fn step(&mut self, event: &Event, out: &mut Outbox)
-        ensures book { self.new ≡ effect event.now self.old }
-        ensures out { out.new ≡ outputs event.now self.old }
-
-        // A message that is dropped, or whose status isn't 0, changes nothing.
-        ensures refused { IsTrue (is_refused event.now self.old) → self.new ≡ self.old }
-
-        // Exactly the permitted pairs have a row, and a slave that can't be shared has one user.
-        ensures sound { IsSound self.old → IsSound self.new }
-    {
-        out.answer = self.take(event);
-    }
-
-    fn take(&mut self, event: &Event) -> Answer
+impl Settled {
+    /// One event: the rows by its effect, and its answer.
+    pub(crate) fn take(&mut self, event: &Event) -> Answer
         ensures book { self.new ≡ effect event.now self.old }
         ensures answer { result ≡ answer_to event.now self.old }
     {
@@ -46,7 +29,7 @@ impl Book {
         ensures book { self.new ≡ effect (Ipi master message.now) self.old }
         ensures answer { result ≡ answer_to (Ipi master message.now) self.old }
     {
-        let Some(place) = self.master_place(master) else {
+        let Some(place) = self.table.master_place(master) else {
             return Answer::Drop { master };
         };
         let call = call_of(message);
@@ -61,11 +44,11 @@ impl Book {
         match call {
             Call::GetNodeStatus { node } => get_node_status(&self.status_view(master, node)),
             Call::RequestNode { node, caps, ack } => {
-                let view = self.row_view(master, node);
+                let view = self.table.row_view(master, node);
                 self.request_node(&view, caps, ack)
             }
             Call::ReleaseNode { node } => {
-                let view = self.row_view(master, node);
+                let view = self.table.row_view(master, node);
                 self.release_node(&view)
             }
             Call::Unknown => Response::refusal(NO_FEATURE),

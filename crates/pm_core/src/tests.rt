@@ -1,6 +1,9 @@
+ghost use Rattle.pm_core.specs.Outbox.{HasRoom};
+
 use super::*;
-use pm_base::{Event, List, Message, NoMemory, NodeId, Unit};
+use pm_base::{Event, LineId, List, Message, NoMemory, NodeId, Unit};
 use pm_object::{MasterRec, Object, SlaveRec};
+use pm_topology::zynqmp;
 use std::alloc::Global;
 use std::process::Abort;
 use std::test::Fail;
@@ -44,9 +47,11 @@ fn object(alloc: Global, records: &[(u32, u32, u32)]) -> Result<Object, NoMemory
 /// status and the words.
 type Case = (u32, u32, [u32; 4], u32, [u32; 3]);
 
-fn send(book: &mut Book, master: u32, api: u32, args: [u32; 4]) -> Answer {
+fn send(book: &mut Book, out: &mut Outbox, master: u32, api: u32, args: [u32; 4]) -> Answer
+    requires { HasRoom book.old.fixed.topology out.old }
+    ensures { HasRoom book.new.fixed.topology out.new }
+{
     let [a, b, c, d] = args;
-    let mut out = Outbox::new();
     let message = Message {
         api,
         args: [a, b, c, d, 0],
@@ -55,11 +60,14 @@ fn send(book: &mut Book, master: u32, api: u32, args: [u32; 4]) -> Answer {
         master: NodeId(master),
         message,
     };
-    book.step(&event, &mut out);
+    book.step(&event, out);
     out.answer
 }
 
-fn check_replies(rt: &impl Abort, book: &mut Book, cases: &[Case]) {
+fn check_replies(rt: &impl Abort, book: &mut Book, out: &mut Outbox, cases: &[Case])
+    requires { HasRoom book.old.fixed.topology out.old }
+    ensures { HasRoom book.new.fixed.topology out.new }
+{
     for (master, api, args, status, words) in cases {
         let reply = Answer::Reply {
             master: NodeId(*master),
@@ -68,24 +76,35 @@ fn check_replies(rt: &impl Abort, book: &mut Book, cases: &[Case]) {
                 words: *words,
             },
         };
-        let answer = send(book, *master, *api, *args);
+        let answer = send(book, out, *master, *api, *args);
         assert_eq!(rt; answer, reply, "master {master}, call {api}, {args:?}");
     }
 }
 
 /// Drops, by the number of the sender.
-fn check_drops(rt: &impl Abort, book: &mut Book, senders: &[u32]) {
+fn check_drops(rt: &impl Abort, book: &mut Book, out: &mut Outbox, senders: &[u32])
+    requires { HasRoom book.old.fixed.topology out.old }
+    ensures { HasRoom book.new.fixed.topology out.new }
+{
     for sender in senders {
         let drop = Answer::Drop {
             master: NodeId(*sender),
         };
-        assert_eq!(rt; send(book, *sender, 3, [11, 0, 0, 0]), drop);
+        assert_eq!(rt; send(book, out, *sender, 3, [11, 0, 0, 0]), drop);
     }
 }
 
 /// Requests with the acknowledge kind 3: the master, the node, the capabilities, the status and the
 /// operating point.
-fn check_acks(rt: &impl Abort, book: &mut Book, cases: &[(u32, u32, u32, u32, u32)]) {
+fn check_acks(
+    rt: &impl Abort,
+    book: &mut Book,
+    out: &mut Outbox,
+    cases: &[(u32, u32, u32, u32, u32)],
+)
+    requires { HasRoom book.old.fixed.topology out.old }
+    ensures { HasRoom book.new.fixed.topology out.new }
+{
     for (master, node, caps, status, point) in cases {
         let ack = Answer::Ack {
             master: NodeId(*master),
@@ -94,18 +113,26 @@ fn check_acks(rt: &impl Abort, book: &mut Book, cases: &[(u32, u32, u32, u32, u3
             point: *point,
             shown: true,
         };
-        assert_eq!(rt; send(book, *master, 13, [*node, *caps, 0, 3]), ack);
+        assert_eq!(rt; send(book, out, *master, 13, [*node, *caps, 0, 3]), ack);
     }
 }
 
 fn check_values(rt: &impl Abort, book: &Book, values: &[(u32, u32)]) {
-    assert_eq!(rt; book.units(), values.len());
-    for (k, (number, value)) in values.iter().enumerate() {
-        let unit = Unit::Node(NodeId(*number));
-        if k < book.units() {
-            assert_eq!(rt; book.unit(k), unit);
-        }
-        assert_eq!(rt; book.value(unit), *value, "slave {number}");
+    for (number, value) in values {
+        assert_eq!(rt;
+            book.value(Unit::Node(NodeId(*number))),
+            *value,
+            "node {number}"
+        );
+    }
+}
+
+/// The nodes that moved, in order.
+fn check_moved(rt: &impl Abort, out: &Outbox, nodes: &[u32]) {
+    let moved = out.moved.as_slice();
+    assert_eq!(rt; moved.len(), nodes.len());
+    for (unit, node) in moved.iter().zip(nodes) {
+        assert_eq!(rt; *unit, Unit::Node(NodeId(*node)));
     }
 }
 
@@ -121,10 +148,17 @@ static TWO_MASTERS: [Case; 5] = [
 
 #[test]
 fn request_release_and_status_of_two_masters(rt: HostRuntime) -> Result<(), Fail> {
-    let mut book = Book::load(rt.alloc(), object(rt.alloc(), &SHARED_AND_OWN)?)?;
-    check_replies(&rt, &mut book, &TWO_MASTERS);
-    check_drops(&rt, &mut book, &[8]);
-    check_acks(&rt, &mut book, &[(1, 33, 8, 19, 0)]);
+    let chip = zynqmp(rt.alloc())?;
+    let mut out = Outbox::load(rt.alloc(), &chip, 2)?;
+    let mut book = Book::load(
+        rt.alloc(),
+        object(rt.alloc(), &SHARED_AND_OWN)?,
+        chip,
+        &mut out,
+    )?;
+    check_replies(&rt, &mut book, &mut out, &TWO_MASTERS);
+    check_drops(&rt, &mut book, &mut out, &[8]);
+    check_acks(&rt, &mut book, &mut out, &[(1, 33, 8, 19, 0)]);
     check_values(&rt, &book, &[(11, 1), (12, 0), (33, 0)]);
     assert_eq!(rt; book.object().masters.len(), 2);
     Ok(())
@@ -133,7 +167,7 @@ fn request_release_and_status_of_two_masters(rt: HostRuntime) -> Result<(), Fail
 static ONE_USER: [(u32, u32, u32); 3] = [(11, 1, 0x101), (12, 0, 0x101), (33, 0, 0x1)];
 
 /// Each check failing alone, and together with a later one.
-static CHECKS: [Case; 27] = [
+static CHECKS: [Case; 28] = [
     // the call: these aren't known, whatever their arguments
     (1, 0, [11, 0, 0, 0], 19, [0, 0, 0]),
     (1, 12, [99, 0, 0, 0], 19, [0, 0, 0]),
@@ -142,11 +176,13 @@ static CHECKS: [Case; 27] = [
     (1, 13, [11, 1, 0, 0], 15, [0, 0, 0]),
     (1, 13, [11, 1, 0, 4], 15, [0, 0, 0]),
     (1, 13, [99, 1, 0, 4], 15, [0, 0, 0]),
-    // the node: a master isn't a slave
+    // the node: a power node and a processor are no slaves
     (1, 13, [99, 1, 0, 2], 2003, [0, 0, 0]),
     (1, 13, [1, 8, 0, 2], 2003, [0, 0, 0]),
-    (1, 14, [13, 0, 0, 0], 2003, [0, 0, 0]),
-    (1, 3, [2, 0, 0, 0], 2003, [0, 0, 0]),
+    (1, 14, [2, 0, 0, 0], 2003, [0, 0, 0]),
+    (1, 3, [70, 0, 0, 0], 2003, [0, 0, 0]),
+    // a slave with no record in the object
+    (1, 14, [13, 0, 0, 0], 2002, [0, 0, 0]),
     // the permission, alone and with a bad capability
     (7, 13, [33, 1, 0, 2], 2002, [0, 0, 0]),
     (7, 13, [33, 8, 0, 2], 2002, [0, 0, 0]),
@@ -174,9 +210,11 @@ static CHECKS: [Case; 27] = [
 
 #[test]
 fn the_first_check_that_fails_decides(rt: HostRuntime) -> Result<(), Fail> {
-    let mut book = Book::load(rt.alloc(), object(rt.alloc(), &ONE_USER)?)?;
-    check_drops(&rt, &mut book, &[0, 2, 6, 8, 11]);
-    check_replies(&rt, &mut book, &CHECKS);
+    let chip = zynqmp(rt.alloc())?;
+    let mut out = Outbox::load(rt.alloc(), &chip, 2)?;
+    let mut book = Book::load(rt.alloc(), object(rt.alloc(), &ONE_USER)?, chip, &mut out)?;
+    check_drops(&rt, &mut book, &mut out, &[0, 2, 6, 8, 11]);
+    check_replies(&rt, &mut book, &mut out, &CHECKS);
     Ok(())
 }
 
@@ -191,20 +229,117 @@ static USERS: [Case; 5] = [
 
 #[test]
 fn acknowledgements_and_other_events(rt: HostRuntime) -> Result<(), Fail> {
-    let mut book = Book::load(rt.alloc(), object(rt.alloc(), &ONE_USER)?)?;
+    let chip = zynqmp(rt.alloc())?;
+    let mut out = Outbox::load(rt.alloc(), &chip, 2)?;
+    let mut book = Book::load(rt.alloc(), object(rt.alloc(), &ONE_USER)?, chip, &mut out)?;
     for node in [11, 11, 99] {
-        let answer = send(&mut book, 1, 13, [node, 2, 0, 1]);
+        let answer = send(&mut book, &mut out, 1, 13, [node, 2, 0, 1]);
         assert_eq!(rt; answer, Answer::Silent, "node {node}");
     }
     // the operating point is that after the step
     check_acks(
         &rt,
         &mut book,
+        &mut out,
         &[(7, 11, 1, 0, 2), (7, 11, 1, 2004, 2), (7, 99, 1, 2003, 0)],
     );
-    let mut out = Outbox::new();
     book.step(&Event::Tick { count: 5 }, &mut out);
     assert_eq!(rt; out.answer, Answer::Silent);
-    check_replies(&rt, &mut book, &USERS);
+    check_replies(&rt, &mut book, &mut out, &USERS);
+    Ok(())
+}
+
+/// Slaves below FPD (28, 42, 55), the RPU's island (15) and PLD (63). Both masters may use them.
+static BELOW: [(u32, u32, u32); 5] = [
+    (28, 0, 0x101),
+    (15, 0, 0x101),
+    (42, 0, 0x101),
+    (55, 0, 0x101),
+    (63, 0, 0x101),
+];
+
+/// The status of a slave, of its power node, of one that is held, of one that is down and of a
+/// processor.
+static UP: [Case; 5] = [
+    (7, 3, [28, 0, 0, 0], 0, [1, 1, 1]),
+    (7, 3, [10, 0, 0, 0], 0, [1, 0, 0]),
+    (7, 3, [62, 0, 0, 0], 0, [1, 0, 0]),
+    (7, 3, [9, 0, 0, 0], 0, [0, 0, 0]),
+    (7, 3, [2, 0, 0, 0], 0, [0, 0, 0]),
+];
+
+/// Calls of master 7, and the nodes that move: the call, the node, the capabilities, and the nodes
+/// in order.
+static MOVES: [(u32, u32, u32, &[u32]); 13] = [
+    // FPD comes with its first slave that needs it, and goes with its last
+    (13, 28, 1, &[10, 28]),
+    (13, 42, 4, &[42]),
+    (14, 28, 0, &[28]),
+    (14, 42, 0, &[10, 42]),
+    // the DDR keeps its content without its power node, and gives access with it alone
+    (13, 55, 2, &[55]),
+    (14, 55, 0, &[55]),
+    (13, 55, 3, &[10, 55]),
+    (14, 55, 0, &[10, 55]),
+    // the RPU's island comes alone, since LPD is held
+    (13, 15, 2, &[6, 15]),
+    (13, 63, 1, &[9, 63]),
+    // refused, and without a requirement
+    (13, 63, 1, &[]),
+    (13, 28, 0, &[]),
+    (14, 63, 0, &[9, 63]),
+];
+
+#[test]
+fn slaves_take_their_power_nodes_with_them(rt: HostRuntime) -> Result<(), Fail> {
+    let chip = zynqmp(rt.alloc())?;
+    let mut out = Outbox::load(rt.alloc(), &chip, 2)?;
+    let mut book = Book::load(rt.alloc(), object(rt.alloc(), &BELOW)?, chip, &mut out)?;
+    check_moved(&rt, &out, &[62]);
+    for (api, node, caps, moved) in &MOVES {
+        send(&mut book, &mut out, 7, *api, [*node, *caps, 0, 2]);
+        check_moved(&rt, &out, moved);
+    }
+    check_values(&rt, &book, &[(6, 1), (9, 0), (10, 0), (15, 1), (62, 1)]);
+    Ok(())
+}
+
+#[test]
+fn each_node_has_a_status(rt: HostRuntime) -> Result<(), Fail> {
+    let chip = zynqmp(rt.alloc())?;
+    let mut out = Outbox::load(rt.alloc(), &chip, 2)?;
+    let mut book = Book::load(rt.alloc(), object(rt.alloc(), &BELOW)?, chip, &mut out)?;
+    send(&mut book, &mut out, 7, 13, [28, 1, 0, 2]);
+    check_replies(&rt, &mut book, &mut out, &UP);
+    check_moved(&rt, &out, &[]);
+    Ok(())
+}
+
+/// Places of units, and the units there: the ends of all nodes, and of each row of lines that stand
+/// number by number. No line resets a power node.
+static PLACES: [(usize, Unit); 10] = [
+    (0, Unit::Node(NodeId(1))),
+    (68, Unit::Node(NodeId(69))),
+    (69, Unit::Line(LineId(2))),
+    (72, Unit::Line(LineId(5))),
+    (73, Unit::Line(LineId(7))),
+    (74, Unit::Line(LineId(8))),
+    (75, Unit::Line(LineId(11))),
+    (125, Unit::Line(LineId(61))),
+    (126, Unit::Line(LineId(63))),
+    (132, Unit::Line(LineId(69))),
+];
+
+#[test]
+fn units_stand_by_number(rt: HostRuntime) -> Result<(), Fail> {
+    let chip = zynqmp(rt.alloc())?;
+    let mut out = Outbox::load(rt.alloc(), &chip, 2)?;
+    let book = Book::load(rt.alloc(), object(rt.alloc(), &BELOW)?, chip, &mut out)?;
+    assert_eq!(rt; book.units(), 133);
+    for (place, unit) in &PLACES {
+        if *place < book.units() {
+            assert_eq!(rt; book.unit(*place), *unit, "place {place}");
+        }
+    }
     Ok(())
 }

@@ -4,10 +4,12 @@ ghost use Rattle.std.specs.Prelude.{◌≡◌};
 ghost use Rattle.pm_core.specs.Rows.{now_of};
 ghost use Rattle.pm_core.specs.Views;
 
-use crate::book::Book;
 use crate::rows::Entry;
+use crate::settled::Settled;
+use crate::table::Table;
 use pm_base::{Caps, NodeId};
 use pm_object::MasterRec;
+use pm_topology::Kind;
 
 /// What a master sees of its row on a slave: the slave's place, the row where the pair is permitted,
 /// and the other master that uses the slave where it can't be shared.
@@ -18,9 +20,9 @@ pub struct RowView {
     pub rival: Option<NodeId>,
 }
 
-/// What a master is told of a slave: its state, the capabilities that the master wants of it now,
-/// and who uses it (0 nobody, 1 only the master, 2 only others, 3 both). There is no state where
-/// the node is no slave.
+/// What a master is told of a node: its state, and for a slave the capabilities that the master
+/// wants of it now and who uses it (0 nobody, 1 only the master, 2 only others, 3 both). There is no
+/// state where no node has the number.
 #[derive(Clone, Copy, Debug, PartialEq, Eq)]
 pub struct StatusView {
     pub state: Option<u32>,
@@ -45,8 +47,8 @@ fn master_node(masters: &[MasterRec], place: usize) -> NodeId
         .map_or(NodeId(0), |master| NodeId(master.node))
 }
 
-impl Book {
-    ghost use Rattle.pm_core.specs.Views.{row_view, status_view};
+impl Table {
+    ghost use Rattle.pm_core.specs.Views.{row_view};
 
     pub(crate) fn row_view(&self, master: usize, node: NodeId) -> RowView
         ensures { result ≡ row_view master node self.now }
@@ -73,20 +75,37 @@ impl Book {
             None => None,
         }
     }
+}
+
+/// What is told of a node that isn't a slave: its value alone.
+fn plain(value: u32) -> StatusView
+    ensures { result ≡ Views.plain value }
+{
+    StatusView {
+        state: Some(value),
+        requested: Caps(0),
+        usage: 0,
+    }
+}
+
+impl Settled {
+    ghost use Rattle.pm_core.specs.Views.{status_view};
 
     pub(crate) fn status_view(&self, master: usize, node: NodeId) -> StatusView
         ensures { result ≡ status_view master node self.now }
     {
-        match self.slave_place(node) {
-            None => StatusView {
+        match self.table.topology.kind(node) {
+            Kind::Unknown => StatusView {
                 state: None,
                 requested: Caps(0),
                 usage: 0,
             },
-            Some(slave) => StatusView {
-                state: Some(self.state_of(slave)),
-                requested: now_of(self.rows.entry_at(master, slave)),
-                usage: self.rows.usage(master, slave),
+            Kind::Proc(_) => plain(0),
+            Kind::Power(place) => plain(self.power_value(place)),
+            Kind::Slave(slave) => StatusView {
+                state: Some(self.table.state_of(slave)),
+                requested: now_of(self.table.rows.entry_at(master, slave)),
+                usage: self.table.rows.usage(master, slave),
             },
         }
     }

@@ -14,13 +14,13 @@ use Rattle.pm_objtext.specs.Building.{building}
 use Rattle.pm_top.specs.declared.conversions.Conversion.{Conversion}
 use Rattle.pm_top.specs.declared.conversions.Conversion.TheVariants.{Print, Build}
 use Rattle.pm_top.specs.declared.fronts.Reached.{Reached}
-use Rattle.pm_top.specs.declared.fronts.Reached.TheVariants.{End, Limit, Failure}
+use Rattle.pm_top.specs.declared.fronts.Reached.TheVariants.{End, Limit, Failure, Unbegun}
 use Rattle.pm_top.specs.declared.text.faults.Fault.{Fault}
 use Rattle.pm_top.specs.declared.text.faults.Fault.TheVariants.{Text, Read}
-use Rattle.pm_top.specs.Fronts.{Front, HasSize, ReadsFront}
+use Rattle.pm_top.specs.Fronts.{Front, HasSize, IsUnread, ReadsFront}
 use Rattle.pm_top.specs.Ends.{Ends, Goes, WantsMemory, exit_of}
 use Rattle.pm_top.specs.Conversions.{Judges, Converted, Says, limit_of, text_limit, judged_by, judged_text, built_or_fault, written_by, whole, run_of_verdict}
-use Rattle.pm_top.proofs.RanLemmas.{Judgement, failed, refused, judgement, end_is_failure, limit_is_failure, ok_is_err}
+use Rattle.pm_top.proofs.RanLemmas.{Judgement, failed, refused, judgement, ok_is_err}
 use Rattle.pm_top.proofs.ToldLemmas.{judged_end, err_is_ok}
 
 -- ---- what is judged well is converted
@@ -40,21 +40,22 @@ converted_ok I_tells O_tells c name before after taken_before taken_after answer
 -- ---- a text that is refused
 
 pub data TextJudgement (reached : Reached) (bytes : List ℕ) (fault : Fault) : Type 0 where
-  unread_text : reached ≡ Failure → fault ≡ Read → TextJudgement reached bytes fault
-  refused_text : (error : TextFault) → (reached ≡ Failure → ⊥) → building bytes ≡ Err error → fault ≡ Text error → TextJudgement reached bytes fault
+  unread_text : IsUnread reached → fault ≡ Read → TextJudgement reached bytes fault
+  refused_text : (error : TextFault) → (IsUnread reached → ⊥) → building bytes ≡ Err error → fault ≡ Text error → TextJudgement reached bytes fault
 
 text_judgement : (reached : Reached) (bytes : List ℕ) (fault : Fault) → judged_text reached bytes ≡ Err fault → TextJudgement reached bytes fault
-text_judgement Failure bytes fault is = unread_text refl (cc)
+text_judgement Failure bytes fault is = unread_text tt (cc)
+text_judgement Unbegun bytes fault is = unread_text tt (cc)
 text_judgement End bytes fault is = by_building (building bytes) refl is
   where
     by_building : (built : Result Object TextFault) → building bytes ≡ built → built_or_fault built ≡ Err fault → TextJudgement End bytes fault
     by_building (Ok o) same is = absurd (ok_is_err is)
-    by_building (Err error) same is = refused_text error end_is_failure same (cc)
+    by_building (Err error) same is = refused_text error (λ unread. unread) same (cc)
 text_judgement Limit bytes fault is = by_building (building bytes) refl is
   where
     by_building : (built : Result Object TextFault) → building bytes ≡ built → built_or_fault built ≡ Err fault → TextJudgement Limit bytes fault
     by_building (Ok o) same is = absurd (ok_is_err is)
-    by_building (Err error) same is = refused_text error limit_is_failure same (cc)
+    by_building (Err error) same is = refused_text error (λ unread. unread) same (cc)
 
 -- ---- what says an object was read to its end
 
@@ -70,6 +71,7 @@ text_end : (reached : Reached) (bytes : List ℕ) (o : Object) → HasSize text_
 text_end End bytes o size is = refl
 text_end Limit bytes o size is = absurd (text_too_long bytes o (omega arith) (built_ok (building bytes) o is))
 text_end Failure bytes o size is = absurd (err_is_ok is)
+text_end Unbegun bytes o size is = absurd (err_is_ok is)
 
 pub converted_end : (c : Conversion) (reached : Reached) (bytes : List ℕ) (o : Object) → HasSize (limit_of c) reached (length bytes) → judged_by c reached bytes ≡ Ok o → reached ≡ End
 converted_end Print reached bytes o size is = judged_end reached bytes o size is
@@ -81,9 +83,9 @@ pub data Way (I_tells O_tells : Type 0) (c : Conversion) (name : List ℕ) (befo
   wanted : WantsMemory O_tells taken_before taken_after answer → Way I_tells O_tells c name before last taken_before taken_after answer
   broke : HasFailed taken_before taken_after → answer ≡ exit.WriteFault → Way I_tells O_tells c name before last taken_before taken_after answer
   wrote : (front : Front) (o : Object) → ReadsFront I_tells name (limit_of c) before last front → judged_by c front.reached front.bytes ≡ Ok o → Says c front.bytes o → Ends O_tells (whole (written_by c o)) taken_before taken_after answer → Way I_tells O_tells c name before last taken_before taken_after answer
-  unread : (front : Front) → ReadsFront I_tells name (limit_of c) before last front → front.reached ≡ Failure → answer ≡ exit.ReadFault → Way I_tells O_tells c name before last taken_before taken_after answer
-  bad_object : (front : Front) (error : ObjectFault) → c ≡ Print → ReadsFront I_tells name (limit_of c) before last front → (front.reached ≡ Failure → ⊥) → reading front.bytes ≡ Err error → answer ≡ exit.BadObject → Way I_tells O_tells c name before last taken_before taken_after answer
-  bad_text : (front : Front) (error : TextFault) → c ≡ Build → ReadsFront I_tells name (limit_of c) before last front → (front.reached ≡ Failure → ⊥) → building front.bytes ≡ Err error → answer ≡ exit.BadText → Way I_tells O_tells c name before last taken_before taken_after answer
+  unread : (front : Front) → ReadsFront I_tells name (limit_of c) before last front → IsUnread front.reached → answer ≡ exit.ReadFault → Way I_tells O_tells c name before last taken_before taken_after answer
+  bad_object : (front : Front) (error : ObjectFault) → c ≡ Print → ReadsFront I_tells name (limit_of c) before last front → (IsUnread front.reached → ⊥) → reading front.bytes ≡ Err error → answer ≡ exit.BadObject → Way I_tells O_tells c name before last taken_before taken_after answer
+  bad_text : (front : Front) (error : TextFault) → c ≡ Build → ReadsFront I_tells name (limit_of c) before last front → (IsUnread front.reached → ⊥) → building front.bytes ≡ Err error → answer ≡ exit.BadText → Way I_tells O_tells c name before last taken_before taken_after answer
 
 by_fault : (I_tells O_tells : Type 0) (c : Conversion) (name : List ℕ) (before last : Moment) (taken_before taken_after : SinkMoment) (answer : Exit) (front : Front) (fault : Fault) → ReadsFront I_tells name (limit_of c) before last front → judged_by c front.reached front.bytes ≡ Err fault → answer ≡ exit_of fault → Way I_tells O_tells c name before last taken_before taken_after answer
 by_fault I_tells O_tells Print name before last taken_before taken_after answer front fault read is answers = go (judgement front.reached front.bytes fault is)

@@ -8,13 +8,14 @@ use Rattle.pm_base.specs.Inputs.{File, Input, Moment, rest, Advances, Began, Can
 use Rattle.pm_base.specs.Faults.{Rose}
 use Rattle.pm_top.specs.Fronts.{Front, front_before, front_of, HasSize, StandsAt, ReadsRest, ReadsFront}
 use Rattle.pm_top.specs.declared.fronts.Reached.{Reached}
-use Rattle.pm_top.specs.declared.fronts.Reached.TheVariants.{End, Limit, Failure}
+use Rattle.pm_top.specs.declared.fronts.Reached.TheVariants.{End, Limit, Failure, Unbegun}
 
 -- how the reading of a file ended, by its failing byte and what is left of it
 abbrev pub EndsAt : Reached → Option ℕ → ℕ → List ℕ → Type 0
 EndsAt End fails_at place left = (left ≡ []) × (fails_at ≡ Some place → ⊥)
 EndsAt Limit fails_at place left = Unit {0}
 EndsAt Failure fails_at place left = fails_at ≡ Some place
+EndsAt Unbegun fails_at place left = ⊥
 
 front_at_end : (limit : ℕ) (fails_at : Option ℕ) (bytes : List ℕ) → length bytes ≤ limit → IfSome fails_at (λ at. length bytes ≤ at) → (fails_at ≡ Some (length bytes) → ⊥) → record { bytes = bytes; reached = End } ≡ front_before limit fails_at bytes
 front_at_end limit None bytes within not_past free = grind (arith, nat_tests)
@@ -46,6 +47,7 @@ front_is limit fails_at bytes taken left End whole size not_past ends =
     rw same (front_at_end limit fails_at taken size not_past ends.1)
 front_is limit fails_at bytes taken left Limit whole size not_past ends = rw whole (front_over limit fails_at taken left size not_past)
 front_is limit fails_at bytes taken left Failure whole size not_past ends = rw whole (front_at_fault limit fails_at taken left size ends)
+front_is limit fails_at bytes taken left Unbegun whole size not_past ends = absurd ends
 
 -- at a name that can be begun what is read is that of its file
 front_of_file : (limit room : ℕ) (told : Option File) (file : File) → told ≡ Some file → (room ≡ 0 → ⊥) → front_of limit told room ≡ front_before limit file.fails_at file.bytes
@@ -74,6 +76,7 @@ front_told tells name id limit first begun last front told start can reads =
     ending End input fails_at count same place stands = (stands.0, λ fails. stands.1 (same ∙ fails ∙ ap (λ n. Some n) (sym place)))
     ending Limit input fails_at count same place stands = tt
     ending Failure input fails_at count same place stands = sym same ∙ stands ∙ ap (λ n. Some n) place
+    ending Unbegun input fails_at count same place stands = absurd stands
 
 -- a named input was begun and read
 pub front_read : (tells : Type 0) (name : List ℕ) (id limit : ℕ) (first begun last : Moment) (front : Front) → first.faults ≤ begun.faults → (tells → Began name id first begun) → (tells → CannotBegin name first → ⊥) → ReadsRest tells id limit begun last front → ReadsFront tells name limit first last front

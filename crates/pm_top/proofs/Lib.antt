@@ -11,3 +11,9 @@ pub mod RunLemmas
 pub mod RanLemmas
 pub mod TextLinesLemmas
 pub mod ToldLemmas
+mod EntriesLemmas
+mod StepsLemmas
+mod ScriptLemmas
+mod FollowsLemmas
+mod ReplayLemmas
+mod YesLemmas

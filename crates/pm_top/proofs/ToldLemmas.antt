@@ -1,5 +1,5 @@
 -- A replay that comes to its end, over inputs and a sink that tell.
-use Rattle.std.proofs.Common.{◌≡◌, ℕ, ◌+◌, ◌<◌, ◌==◌, min, Bool, true, false, nat_le, nat_lt, if◌then◌else◌, List, [], ◌∷◌, ◌++◌, map, length, take, refl, sym, ◌∙◌, ap, arith, Option, Some, None, Result, Ok, Err, inl, inr}
+use Rattle.std.proofs.Common.{◌≡◌, ℕ, ◌+◌, ◌<◌, ◌==◌, min, Bool, true, false, nat_le, nat_lt, if◌then◌else◌, List, [], ◌∷◌, ◌++◌, map, length, take, refl, sym, ◌∙◌, ap, subst, arith, Option, Some, None, Result, Ok, Err, inl, inr}
 use Rattle.std.specs.Prelude.{IsSomeAnd, codes}
 use Rattle.std.specs.Str.{bytes_eq}
 use Rattle.std.proofs.lemmas.Bool.{lt-ltb}
@@ -14,26 +14,34 @@ use Rattle.pm_base.specs.declared.events.Event.{Event}
 use Rattle.pm_object.specs.declared.object.Object.{Object}
 use Rattle.pm_object.specs.declared.object.ObjectFault.{ObjectFault}
 use Rattle.pm_object.specs.Reading.{reading}
-use Rattle.pm_core.specs.State.{State}
-use Rattle.pm_core.specs.Load.{load_of}
+use Rattle.pm_core.specs.declared.outbox.Done.{Done}
+use Rattle.pm_topology.specs.Chip.{chip}
+use Rattle.pm_top.specs.Stand.{Stand, loaded, begun, first_answers, later_answers}
 use Rattle.pm_top.specs.declared.script.meaning.LineFault.{LineFault}
 use Rattle.pm_top.specs.declared.fronts.Reached.{Reached}
-use Rattle.pm_top.specs.declared.fronts.Reached.TheVariants.{End, Limit, Failure}
+use Rattle.pm_top.specs.declared.fronts.Reached.TheVariants.{End, Limit, Failure, Unbegun}
 use Rattle.pm_top.specs.Lines.{lines_of}
 use Rattle.pm_top.specs.Meaning.{meaning}
-use Rattle.pm_top.specs.Text.{closing_text}
+use Rattle.pm_top.specs.Text.{step_text, closing_text}
 use Rattle.pm_top.specs.Fronts.{Front, HasSize, unread, front_within, front_before, front_of}
-use Rattle.pm_top.specs.Run.{run_of, bad_line, events_of, lines_text, lines_book, script_lines, ended}
+use Rattle.pm_top.specs.declared.text.faults.Fault.{Fault}
+use Rattle.pm_top.specs.Driven.{Given, at_exit}
+use Rattle.pm_top.specs.Run.{run_of, bad_line, events_of, lines_text, script_lines, fault_after, fault_by, commands_of, begun_commands, last_stand}
+use Rattle.pm_top.proofs.ScriptLemmas.{commands_begun}
+use Rattle.pm_top.proofs.YesLemmas.{text_yes}
 use Rattle.pm_top.specs.Ends.{Goes, last_line}
 use Rattle.pm_top.specs.Ran.{judged, read_or_fault, object_limit, script_limit, form}
 use Rattle.pm_top.specs.Outcomes.{IsReplayed}
-use Rattle.pm_top.proofs.RanLemmas.{Ways, ended_done}
-use Rattle.pm_top.proofs.ExitsLemmas.{StopExit, at_unread, at_bad, stops_exit}
+use Rattle.pm_top.proofs.RanLemmas.{Ways, run_fault, ended_done, text_whole}
+use Rattle.pm_top.proofs.ExitsLemmas.{exit_is, StopExit, at_unread, at_bad, stops_exit}
 
 -- ---- a file that was read to its end
 
 failure_is_end : Failure ≡ End → ⊥
 failure_is_end e = cc
+
+unbegun_is_end : Unbegun ≡ End → ⊥
+unbegun_is_end e = cc
 
 limit_is_end : Limit ≡ End → ⊥
 limit_is_end e = cc
@@ -54,11 +62,11 @@ before_end limit (Some at) bytes front is ends = go (nat_le at (min limit (lengt
     go false is = within_end limit bytes front is ends
 
 pub told_end : (limit : ℕ) (told : Option File) (room : ℕ) (front : Front) → front ≡ front_of limit told room → front.reached ≡ End → IsSomeAnd told (λ file. file.bytes ≡ front.bytes)
-told_end limit None room front is ends = absurd (failure_is_end (sym (ap (λ (f : Front). f.reached) is) ∙ ends))
+told_end limit None room front is ends = absurd (unbegun_is_end (sym (ap (λ (f : Front). f.reached) is) ∙ ends))
 told_end limit (Some file) room front is ends = go (room == 0) is
   where
     go : (full : Bool) → front ≡ (if full then unread else front_before limit file.fails_at file.bytes) → file.bytes ≡ front.bytes
-    go true is = absurd (failure_is_end (sym (ap (λ (f : Front). f.reached) is) ∙ ends))
+    go true is = absurd (unbegun_is_end (sym (ap (λ (f : Front). f.reached) is) ∙ ends))
     go false is = before_end limit file.fails_at file.bytes front is ends
 
 -- ---- an object that has a reading was read to its end
@@ -78,6 +86,7 @@ pub judged_end : (reached : Reached) (bytes : List ℕ) (o : Object) → HasSize
 judged_end End bytes o size is = refl
 judged_end Limit bytes o size is = absurd (too_long bytes o (omega arith) (read_ok (reading bytes) o is))
 judged_end Failure bytes o size is = absurd (err_is_ok is)
+judged_end Unbegun bytes o size is = absurd (err_is_ok is)
 
 -- ---- the words
 
@@ -122,22 +131,51 @@ all_mean n (line ∷ lines) good = mean_first n line lines (meaning line) refl g
 lines_whole : (script : Front) → script.reached ≡ End → script_lines script ≡ lines_of script.bytes
 lines_whole script ends = rw ends refl
 
-text_whole : (bad : Option ℕ) (reached : Reached) (text : List ℕ) (book : State) (count : ℕ) → bad ≡ None → reached ≡ End → (ended bad reached text book).text ++ take count (last_line (ended bad reached text book).fault) ≡ text ++ closing_text book
-text_whole bad reached text book count good ends = rw (good, ends) (ap (λ (more : List ℕ). text ++ closing_text book ++ more) (take-nil count) ∙ append-nil (text ++ closing_text book))
+no_fault : (bad : Option ℕ) (reached : Reached) → bad ≡ None → reached ≡ End → fault_by reached (fault_after bad reached) ≡ None
+no_fault bad reached good ends = rw (good, ends) refl
 
-pub done : (I_tells O_tells : Type 0) (before last : Moment) (taken_before taken_after : SinkMoment) (answer : Exit) (words : List (List ℕ)) (names : Option (List ℕ × List ℕ)) → form words ≡ names → Ways I_tells O_tells names before last taken_before taken_after answer → I_tells → O_tells → answer ≡ exit.Done → IsReplayed words before taken_before.bytes taken_after.bytes
-done I_tells O_tells before last taken_before taken_after answer words None named way inputs_told sink_told is = let usage : answer ≡ exit.Usage = way.answers in absurd (cc)
-done I_tells O_tells before last taken_before taken_after answer words (Some (name, script)) named (inl wants) inputs_told sink_told is = let memory : answer ≡ exit.Memory = wants.answers in absurd (cc)
-done I_tells O_tells before last taken_before taken_after answer words (Some (name, script)) named (inr (inl stops)) inputs_told sink_told is = absurd (clash (stops_exit I_tells O_tells before last taken_before taken_after answer name stops))
+none_after : (bad : Option ℕ) (reached : Reached) → bad ≡ None → reached ≡ End → fault_after bad reached ≡ None
+none_after bad reached good ends = rw (good, ends) refl
+
+begun_at_end : (reached : Reached) → reached ≡ End → reached ≡ Unbegun → ⊥
+begun_at_end reached ends is = cc
+
+-- what is written of a run that is done: all of its text, and no fault line
+all_text : (s : Stand) (given : List (List Bool)) (script : Front) (count : ℕ) → bad_line 1 (script_lines script) ≡ None → script.reached ≡ End → (run_of s given script).text ++ take count (last_line (run_of s given script).fault) ≡ step_text 0 (begun (first_answers given) s).output ++ (lines_text 1 (script_lines script) (later_answers given) (begun (first_answers given) s) ++ closing_text (last_stand s given script))
+all_text s given script count good ends =
+    ap (λ (fault : Option Fault). (run_of s given script).text ++ take count (last_line fault)) (run_fault s given script ∙ no_fault (bad_line 1 (script_lines script)) script.reached good ends)
+    ∙ ap (λ (more : List ℕ). (run_of s given script).text ++ more) (take-nil count)
+    ∙ append-nil (run_of s given script).text
+    ∙ text_whole s given script (begun_at_end script.reached ends) (none_after (bad_line 1 (script_lines script)) script.reached good ends)
+
+not_broken : (answer : Exit) → answer ≡ exit.Done → answer ≡ exit.WriteFault → ⊥
+not_broken answer is broken = cc
+
+-- the device was given all commands of a run that is done
+all_given : (Saw : List Done → Option Stand → Type 0) (o : Object) (given : List (List Bool)) (script : Front) (answer : Exit) → answer ≡ exit.Done → script.reached ≡ End → Given Saw (commands_of (loaded o chip) given script) (answer ≡ exit.WriteFault → ⊥) (at_exit answer (last_stand (loaded o chip) given script)) → Saw (begun_commands script (later_answers given) (begun (first_answers given) (loaded o chip))) (Some (last_stand (loaded o chip) given script))
+all_given Saw o given script answer is ends commands =
+    let last : Stand = last_stand (loaded o chip) given script in
+    let left : commands.left ≡ [] = commands.whole (not_broken answer is) in
+    let whole : commands.commands ≡ begun_commands script (later_answers given) (begun (first_answers given) (loaded o chip)) =
+    sym (append-nil commands.commands) ∙ ap (λ (more : List Done). commands.commands ++ more) (sym left) ∙ sym commands.front
+    ∙ commands_begun script.reached script given (loaded o chip) (begun_at_end script.reached ends) in
+    let P : Option Stand → Type 0 = λ s. Saw commands.commands s in
+    let Q : List Done → Type 0 = λ done. Saw done (Some last) in
+    subst Q whole (subst P (ap (λ (e : Exit). at_exit e last) is) commands.saw)
+
+pub done : (I_tells O_tells : Type 0) (Saw : List Done → Option Stand → Type 0) (before last : Moment) (taken_before taken_after : SinkMoment) (answer : Exit) (words : List (List ℕ)) (names : Option (List ℕ × List ℕ)) → form words ≡ names → Ways I_tells O_tells Saw names before last taken_before taken_after answer → I_tells → O_tells → answer ≡ exit.Done → IsReplayed Saw words before taken_before.bytes taken_after.bytes
+done I_tells O_tells Saw before last taken_before taken_after answer words None named way inputs_told sink_told is = let usage : answer ≡ exit.Usage = way.answers in absurd (cc)
+done I_tells O_tells Saw before last taken_before taken_after answer words (Some (name, script)) named (inl wants) inputs_told sink_told is = let memory : answer ≡ exit.Memory = wants.answers in absurd (cc)
+done I_tells O_tells Saw before last taken_before taken_after answer words (Some (name, script)) named (inr (inl stops)) inputs_told sink_told is = absurd (clash (stops_exit I_tells O_tells before last taken_before taken_after answer name stops))
   where
     clash : StopExit answer → ⊥
     clash (at_unread e) = cc
     clash (at_bad e) = cc
-done I_tells O_tells before last taken_before taken_after answer words (Some (name, script)) named (inr (inr runs)) inputs_told sink_told is = goes runs.goes
+done I_tells O_tells Saw before last taken_before taken_after answer words (Some (name, script)) named (inr (inr runs)) inputs_told sink_told is = goes runs.goes
   where
-    goes : Goes O_tells (run_of (load_of runs.o) runs.script) taken_before taken_after answer → IsReplayed words before taken_before.bytes taken_after.bytes
+    goes : Goes O_tells (run_of (loaded runs.o chip) runs.given runs.script) taken_before taken_after answer → IsReplayed Saw words before taken_before.bytes taken_after.bytes
     goes (inl ends) =
-        let at = ended_done (bad_line 1 (script_lines runs.script)) runs.script.reached (lines_text 1 (script_lines runs.script) (load_of runs.o)) (lines_book (script_lines runs.script) (load_of runs.o)) (sym ends.answers ∙ is) in
+        let at = ended_done (bad_line 1 (script_lines runs.script)) runs.script.reached (sym (exit_is O_tells (loaded runs.o chip) runs.given runs.script taken_before taken_after answer ends) ∙ is) in
         let lines_are : script_lines runs.script ≡ lines_of runs.script.bytes = lines_whole runs.script at.1 in
         record {
           object_name = name;
@@ -151,6 +189,9 @@ done I_tells O_tells before last taken_before taken_after answer words (Some (na
           script_held = rw (← runs.read_object.files inputs_told script) (told_end script_limit (runs.between.file script) runs.between.room runs.script (runs.read_script.told inputs_told) at.1);
           reads = runs.reads;
           means = rw (← lines_are) (all_mean 1 (script_lines runs.script) at.0);
-          text = ends.wrote.appended sink_told ∙ ap (λ (text : List ℕ). taken_before.bytes ++ text) (text_whole (bad_line 1 (script_lines runs.script)) runs.script.reached (lines_text 1 (script_lines runs.script) (load_of runs.o)) (lines_book (script_lines runs.script) (load_of runs.o)) ends.count at.0 at.1);
+          answers = runs.given;
+          text = ends.wrote.appended sink_told ∙ ap (λ (text : List ℕ). taken_before.bytes ++ text) (all_text (loaded runs.o chip) runs.given runs.script ends.count at.0 at.1);
+          unfailing = λ all. ends.wrote.appended sink_told ∙ ap (λ (text : List ℕ). taken_before.bytes ++ text) (all_text (loaded runs.o chip) runs.given runs.script ends.count at.0 at.1 ∙ text_yes runs.o (events_of (script_lines runs.script)) runs.given all);
+          saw = all_given Saw runs.o runs.given runs.script answer is at.1 runs.commands;
         }
     goes (inr breaks) = let broke : answer ≡ exit.WriteFault = breaks.answers in absurd (cc)

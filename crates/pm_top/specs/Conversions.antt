@@ -12,11 +12,13 @@ use Rattle.pm_objtext.specs.Building.{building}
 use Rattle.pm_top.specs.declared.conversions.Conversion.{Conversion}
 use Rattle.pm_top.specs.declared.conversions.Conversion.TheVariants.{Print, Build}
 use Rattle.pm_top.specs.declared.fronts.Reached.{Reached}
-use Rattle.pm_top.specs.declared.fronts.Reached.TheVariants.{End, Limit, Failure}
+use Rattle.pm_top.specs.declared.fronts.Reached.TheVariants.{End, Limit, Failure, Unbegun}
 use Rattle.pm_top.specs.declared.text.faults.Fault.{Fault}
 use Rattle.pm_top.specs.declared.text.faults.Fault.TheVariants.{Text, Read}
 use Rattle.pm_top.specs.Fronts.{Front, ReadsFront}
 use Rattle.pm_top.specs.Run.{Run, stopped}
+use Rattle.pm_core.specs.declared.outbox.Done.{Done}
+use Rattle.pm_top.specs.Stand.{Stand}
 use Rattle.pm_top.specs.Ends.{Goes, WantsMemory}
 use Rattle.pm_top.specs.Ran.{Ran, form, judged, object_limit}
 
@@ -52,6 +54,7 @@ abbrev pub judged_text : Reached → List ℕ → Result Object Fault
 judged_text End bytes = built_or_fault (building bytes)
 judged_text Limit bytes = built_or_fault (building bytes)
 judged_text Failure bytes = Err Read
+judged_text Unbegun bytes = Err Read
 
 -- the object of what was read, or the fault that stops the run
 abbrev pub judged_by : Conversion → Reached → List ℕ → Result Object Fault
@@ -99,7 +102,7 @@ pub record Converts (I_tells O_tells : Type 0) (c : Conversion) (name : List ℕ
 abbrev pub Converted : Type 0 → Type 0 → Conversion → List ℕ → Moment → Moment → SinkMoment → SinkMoment → Exit → Type 0
 Converted I_tells O_tells c name before after taken_before taken_after answer = WantsMemory O_tells taken_before taken_after answer ⊎ Converts I_tells O_tells c name before after taken_before taken_after answer
 
--- a run of words: a conversion, or a replay
-abbrev pub RanWords : Type 0 → Type 0 → List (List ℕ) → Option (Conversion × List ℕ) → Moment → Moment → SinkMoment → SinkMoment → Exit → Type 0
-RanWords I_tells O_tells words (Some (c, name)) before after taken_before taken_after answer = Converted I_tells O_tells c name before after taken_before taken_after answer
-RanWords I_tells O_tells words None before after taken_before taken_after answer = Ran I_tells O_tells (form words) before after taken_before taken_after answer
+-- a run of words: a conversion, which issues no command, or a replay
+abbrev pub RanWords : Type 0 → Type 0 → (List Done → Option Stand → Type 0) → List (List ℕ) → Option (Conversion × List ℕ) → Moment → Moment → SinkMoment → SinkMoment → Exit → Type 0
+RanWords I_tells O_tells Saw words (Some (c, name)) before after taken_before taken_after answer = Converted I_tells O_tells c name before after taken_before taken_after answer × Saw [] None
+RanWords I_tells O_tells Saw words None before after taken_before taken_after answer = Ran I_tells O_tells Saw (form words) before after taken_before taken_after answer

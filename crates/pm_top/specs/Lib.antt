@@ -1,5 +1,6 @@
 pub mod Commands
 pub mod Conversions
+pub mod Driven
 pub mod Ends
 pub mod FaultLines
 pub mod Fronts
@@ -8,5 +9,6 @@ pub mod Meaning
 pub mod Outcomes
 pub mod Ran
 pub mod Run
+pub mod Stand
 pub mod Text
 pub mod TextLines

@@ -14,8 +14,10 @@ pub enum Reached {
     End,
     /// The byte past the limit came, and is the last one.
     Limit,
-    /// The input could not be begun, or a read failed.
+    /// A read failed.
     Failure,
+    /// The input could not be begun.
+    Unbegun,
 }
 
 /// The bytes that were read of an input, and why no more were.
@@ -71,7 +73,7 @@ pub fn gather<I: Inputs>(
         Ok(id) => read_rest(alloc, inputs, id, limit),
         Err(Failed) => Ok(Gathered {
             bytes: Vec::new(alloc),
-            reached: Reached::Failure,
+            reached: Reached::Unbegun,
         }),
     }
 }

@@ -2,6 +2,7 @@
 //! answers are written line by line.
 #![tactic(auto)]
 
+mod controller;
 mod conversions;
 mod fronts;
 mod objects;

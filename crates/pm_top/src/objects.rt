@@ -29,7 +29,7 @@ pub fn read_object<I: Inputs>(alloc: Global, inputs: &mut I, name: &str) -> Resu
         return Err(Fault::Memory);
     };
     match front.reached() {
-        Reached::Failure => Err(Fault::Read),
+        Reached::Failure | Reached::Unbegun => Err(Fault::Read),
         Reached::End | Reached::Limit => judge(alloc, front.bytes()),
     }
 }
@@ -55,7 +55,7 @@ pub fn read_text<I: Inputs>(alloc: Global, inputs: &mut I, name: &str) -> Result
         return Err(Fault::Memory);
     };
     match front.reached() {
-        Reached::Failure => Err(Fault::Read),
+        Reached::Failure | Reached::Unbegun => Err(Fault::Read),
         Reached::End | Reached::Limit => judge_text(alloc, front.bytes()),
     }
 }

@@ -1,35 +1,52 @@
 //! The top call: a run of the program.
 
-ghost use Rattle.std.specs.Prelude.{◌≡◌, ◌↔◌, ℕ, List, None, map, string_bytes, MatchOption};
+ghost use Rattle.std.specs.Prelude.{◌≡◌, ◌↔◌, ℕ, List, [], None, map, string_bytes, MatchOption};
 ghost use Rattle.std.specs.Option.{option_map};
 ghost use Rattle.pm_base.specs.Faults.{Rose};
+ghost use Rattle.pm_base.specs.declared.names.Unit.{Unit as Place};
+ghost use Rattle.pm_device.specs.Device.{Commanded};
+ghost use Rattle.pm_topology.specs.Chip.{chip};
 ghost use Rattle.pm_base.specs.Sink.{HasFailed};
 ghost use Rattle.pm_top.specs.Ends.{WantsMemory};
 ghost use Rattle.pm_top.specs.Outcomes.{HasBadLine, IsTooLarge};
-ghost use Rattle.pm_top.specs.Ran.{Ran, form};
+ghost use Rattle.pm_top.specs.Ran.{Ran, Replayed, form};
+ghost use Rattle.pm_top.specs.Stand.{loaded};
 ghost use Rattle.pm_top.specs.Conversions.{RanWords, conversion, conversion_of};
-ghost use Rattle.pm_top.specs.Commands.{IsDone, NamesBadObject, NamesBadText, InputsMayFail, IsTold};
+ghost use Rattle.pm_top.specs.Commands.{IsDone, NamesBadObject, NamesBadText, InputsMayFail, IsTold, IsBeforeRun};
+ghost use Rattle.pm_top.specs.Driven.{Sees};
 
 use crate::conversions::{Conversion, convert};
 use crate::objects::read_object;
 use crate::run::replay;
 use crate::stops::refuse;
 use crate::text::Fault;
-use pm_base::{Exit, Inputs, Sink};
+use pm_base::{Exit, Inputs, NoMemory, Sink};
+use pm_device::Device;
+use pm_object::Object;
+use pm_topology::zynqmp;
 use std::alloc::Global;
 
 /// Does all that the program does, for its words without its own name. `replay OBJ SCRIPT` runs the
 /// script of one name over the object of another, `print OBJ` writes the text of an object, and
-/// `build TEXT` the bytes of the object that a text says. No other words have a form.
-pub fn pm_main<I: Inputs, O: Sink>(
+/// `build TEXT` the bytes of the object that a text says. No other words have a form. A replay makes
+/// the device, which stands at 0 everywhere, follow the book of requirements; no other words command
+/// it.
+pub fn pm_main<I: Inputs, O: Sink, D: Device>(
     alloc: Global,
     words: &[String],
     inputs: &mut I,
     out: &mut O,
+    dev: &mut D,
 ) -> Exit
+    requires idle { D.tells_values → (unit : Place) → (D.state dev.old).value unit ≡ 0 }
     // On Done the inputs held what the words name, and the whole text of what the words ask for was
     // written: of the run of a script over an object, of an object, or the bytes of a text's object.
-    ensures done { I.tells → O.tells → result ≡ Exit.Done → IsDone (map string_bytes words.now) (conversion (map string_bytes words.now)) (I.state inputs.old) (O.state out.old).bytes (O.state out.new).bytes }
+    // The text of a run is that under the device's own answers, and the device was given the commands
+    // of that run. While it reports no failure each command succeeds, the text is that over a device
+    // that never fails, and the device stands at the values of the last book, and so as the requirements
+    // ask for: each slave in the first of its states that meets all that is required of it, and each
+    // power node up exactly where it is held or something directly below needs it.
+    ensures done { I.tells → O.tells → result ≡ Exit.Done → IsDone (Sees D.tells_values D.tells_broken (D.state dev.old) (D.state dev.new)) (map string_bytes words.now) (conversion (map string_bytes words.now)) (I.state inputs.old) (O.state out.old).bytes (O.state out.new).bytes }
     // Usage comes exactly where the words have no form.
     ensures usage { (result ≡ Exit.Usage) ↔ ((conversion (map string_bytes words.now) ≡ None) × (form (map string_bytes words.now) ≡ None)) }
     // BadObject comes only where the object was read to its end or past its limit and has no reading.
@@ -52,24 +69,28 @@ pub fn pm_main<I: Inputs, O: Sink>(
     // Where the inputs tell and as many can be begun as are named, the exit is that of the run of what
     // they tell, unless memory is wanted or the sink fails.
     ensures told { I.tells → IsTold (map string_bytes words.now) (conversion (map string_bytes words.now)) (I.state inputs.old) result }
+    // Before a script is run no command is issued.
+    ensures untouched { IsBeforeRun result → Commanded D.tells_values D.tells_broken [] (D.state dev.old) (D.state dev.new) }
     // All of it: what was read, what was made of it, and what of that was written.
-    ensures ran { RanWords I.tells O.tells (map string_bytes words.now) (conversion (map string_bytes words.now)) (I.state inputs.old) (I.state inputs.new) (O.state out.old) (O.state out.new) result }
+    ensures ran { RanWords I.tells O.tells (Sees D.tells_values D.tells_broken (D.state dev.old) (D.state dev.new)) (map string_bytes words.now) (conversion (map string_bytes words.now)) (I.state inputs.old) (I.state inputs.new) (O.state out.old) (O.state out.new) result }
 {
-    run_words(alloc, words, inputs, out)
+    run_words(alloc, words, inputs, out, dev)
 }
 
 /// Runs the words.
-fn run_words<I: Inputs, O: Sink>(
+fn run_words<I: Inputs, O: Sink, D: Device>(
     alloc: Global,
     words: &[String],
     inputs: &mut I,
     out: &mut O,
+    dev: &mut D,
 ) -> Exit
-    ensures { RanWords I.tells O.tells (map string_bytes words.now) (conversion (map string_bytes words.now)) (I.state inputs.old) (I.state inputs.new) (O.state out.old) (O.state out.new) result }
+    requires idle { D.tells_values → (unit : Place) → (D.state dev.old).value unit ≡ 0 }
+    ensures { RanWords I.tells O.tells (Sees D.tells_values D.tells_broken (D.state dev.old) (D.state dev.new)) (map string_bytes words.now) (conversion (map string_bytes words.now)) (I.state inputs.old) (I.state inputs.new) (O.state out.old) (O.state out.new) result }
 {
     match conversion(words) {
         Some((conversion, name)) => convert(alloc, conversion, inputs, name, out),
-        None => run_script(alloc, words, inputs, out),
+        None => run_script(alloc, words, inputs, out, dev),
     }
 }
 
@@ -100,20 +121,40 @@ fn conversion_of(command: &str) -> Option<Conversion>
 }
 
 /// Runs a script over an object, where the words ask for that.
-fn run_script<I: Inputs, O: Sink>(
+fn run_script<I: Inputs, O: Sink, D: Device>(
     alloc: Global,
     words: &[String],
     inputs: &mut I,
     out: &mut O,
+    dev: &mut D,
 ) -> Exit
-    ensures { Ran I.tells O.tells (form (map string_bytes words.now)) (I.state inputs.old) (I.state inputs.new) (O.state out.old) (O.state out.new) result }
+    requires idle { D.tells_values → (unit : Place) → (D.state dev.old).value unit ≡ 0 }
+    ensures { Ran I.tells O.tells (Sees D.tells_values D.tells_broken (D.state dev.old) (D.state dev.new)) (form (map string_bytes words.now)) (I.state inputs.old) (I.state inputs.new) (O.state out.old) (O.state out.new) result }
 {
     let Some((object, script)) = form(words) else {
         return refuse(Fault::Usage, out);
     };
     match read_object(alloc, inputs, object) {
-        Ok(object) => replay(alloc, object, inputs, script, out),
+        Ok(object) => run_object(alloc, object, inputs, script, out, dev),
         Err(fault) => refuse(fault, out),
+    }
+}
+
+/// Runs a script over an object and the chip.
+fn run_object<I: Inputs, O: Sink, D: Device>(
+    alloc: Global,
+    object: Object,
+    inputs: &mut I,
+    script: &str,
+    out: &mut O,
+    dev: &mut D,
+) -> Exit
+    requires idle { D.tells_values → (unit : Place) → (D.state dev.old).value unit ≡ 0 }
+    ensures { Replayed I.tells O.tells (Sees D.tells_values D.tells_broken (D.state dev.old) (D.state dev.new)) script.now (loaded object chip) (I.state inputs.old) (I.state inputs.new) (O.state out.old) (O.state out.new) result }
+{
+    match zynqmp(alloc) {
+        Ok(chip) => replay(alloc, object, chip, inputs, script, out, dev),
+        Err(NoMemory) => refuse(Fault::Memory, out),
     }
 }
 

@@ -1,19 +1,29 @@
 //! The lines of one step.
 
-ghost use Rattle.std.specs.Prelude.{◌≡◌, ◌<◌, ◌∷◌, [], Some, length, map, slice_get};
-ghost use Rattle.pm_top.specs.Text.{step_words, step_lines, answer_words, numbered_line};
+ghost use Rattle.std.specs.Prelude.{◌≡◌, ◌<◌, ◌+◌, ◌∷◌, [], Some, length, map, slice_get};
+ghost use Rattle.pm_top.specs.Stand.{output_of};
+ghost use Rattle.pm_top.specs.Text.{step_words, step_lines, answer_words, command_words, numbered_line};
 
 use crate::text::line::{TextLine, Word, write_line};
-use pm_core::{Answer, Outbox};
+use pm_base::Unit;
+use pm_core::{Answer, Done, Outbox};
 
 /// The number of the acknowledge callback (UG1200, callbacks).
 const ACKNOWLEDGE: u32 = 31;
 
 /// The number of lines of a step.
 pub fn entries(out: &Outbox) -> usize
-    ensures { result ≡ length (step_words out.now) }
+    ensures { result ≡ length (step_words (output_of out.now)) }
 {
-    match out.answer {
+    out.done.as_slice().len() + answer_entries(&out.answer)
+}
+
+/// The number of lines of an answer: one where it is written.
+fn answer_entries(answer: &Answer) -> usize
+    ensures lines { result ≡ length (answer_words answer.now) }
+    ensures one { result < 2 }
+{
+    match answer {
         Answer::Silent | Answer::Ack { shown: false, .. } => 0,
         _ => 1,
     }
@@ -22,10 +32,41 @@ pub fn entries(out: &Outbox) -> usize
 /// Leaves in `line` the `k`-th line, counted from 0, of the step of script line `n`, with its line
 /// feed.
 pub fn entry(n: u32, out: &Outbox, k: usize, line: &mut TextLine)
-    requires place { k < length (step_words out.now) }
-    ensures { slice_get (step_lines n out.now) k ≡ Some line.new.items }
+    requires place { k < length (step_words (output_of out.now)) }
+    ensures { slice_get (step_lines n (output_of out.now)) k ≡ Some line.new.items }
 {
-    write_answer(n, &out.answer, line);
+    match command_at(out.done.as_slice(), k) {
+        Some(done) => write_command(n, done, line),
+        None => write_answer(n, &out.answer, line),
+    }
+}
+
+fn command_at(done: &[Done], k: usize) -> Option<Done>
+    ensures { result ≡ slice_get done.now k }
+{
+    done.get(k).copied()
+}
+
+/// Leaves in `line` the line of a command that was issued.
+fn write_command(n: u32, done: Done, line: &mut TextLine)
+    ensures { line.new.items ≡ numbered_line n (command_words done) }
+{
+    let (name, number) = match (done.command.unit, done.ok) {
+        (Unit::Node(node), true) => (Word::Set, node.0),
+        (Unit::Node(node), false) => (Word::Fail, node.0),
+        (Unit::Line(reset), true) => (Word::Line, reset.0),
+        (Unit::Line(reset), false) => (Word::LineFail, reset.0),
+    };
+    write_line(
+        line,
+        Word::Number(n),
+        &[
+            name,
+            Word::Number(number),
+            Word::Number(done.from),
+            Word::Number(done.command.value),
+        ],
+    );
 }
 
 /// Leaves in `line` the line of an answer that has one.

@@ -1,60 +1,71 @@
 //! The closing table, which follows the last step.
 
-ghost use Rattle.std.specs.Prelude.{◌≡◌, ◌<◌, ◌↔◌, [], Some, IsTrue, length, map, slice_get, slice_index};
+ghost use Rattle.std.specs.Prelude.{◌≡◌, ◌<◌, ◌↔◌, ◌∷◌, [], Some, IsTrue, length, slice_get};
 ghost use Rattle.std.specs.Bool.{OnFalse};
-ghost use Rattle.pm_core.specs.Values.{units};
-ghost use Rattle.pm_top.specs.Text.{unit_text, unit_line, unit_values};
+ghost use Rattle.pm_core.specs.Units.{units};
+ghost use Rattle.pm_core.specs.Values.{value};
+ghost use Rattle.pm_base.specs.declared.names.Unit.{Unit as Place};
+ghost use Rattle.pm_top.specs.declared.text.line.Word.TheVariants as word;
+ghost use Rattle.pm_top.specs.Text.{unit_line, unit_name, kind_name};
 
 use crate::text::line::{TextLine, Word, write_line};
 use pm_base::Unit;
 use pm_core::Book;
+use pm_topology::{Kind, Topology};
 
-/// Leaves in `line` the closing line of the `k`-th unit of the book, counted from 0, with its line
-/// feed, and answers whether there is one. A unit isn't shown where its value is 0, and then `line`
-/// is empty.
-pub fn closing(book: &Book, k: usize, line: &mut TextLine) -> bool
+/// Leaves in `line` the closing line of the `k`-th unit of the book, counted from 0, with its value
+/// and then `told`, what the device was last told for it, and a line feed; answers whether there is
+/// one. A unit isn't shown where both are 0, and then `line` is empty.
+pub fn closing(book: &Book, k: usize, told: u32, line: &mut TextLine) -> bool
     requires place { k < length (units book.now) }
-    ensures text { slice_get (map (unit_text book.now) (units book.now)) k ≡ Some line.new.items }
-    ensures shown { IsTrue result ↔ (0 < slice_index (unit_values book.now) k) }
+    ensures text { (unit : Place) → slice_get (units book.now) k ≡ Some unit → line.new.items ≡ unit_line book.now.fixed.topology unit (value unit book.now) told }
+    ensures shown { (unit : Place) → slice_get (units book.now) k ≡ Some unit → IsTrue result ↔ ((value unit book.now ≡ 0) × (told ≡ 0) → ⊥) }
     ensures hidden { OnFalse result (line.new.items ≡ []) }
 {
     let unit = book.unit(k);
-    write_unit(unit, book.value(unit), line)
+    write_unit(book.topology(), unit, book.value(unit), told, line)
 }
 
 /// Leaves in `line` the closing line of a unit with this value, if it has one.
-fn write_unit(unit: Unit, value: u32, line: &mut TextLine) -> bool
-    ensures text { line.new.items ≡ unit_line unit value }
-    ensures shown { IsTrue result ↔ (0 < value) }
+fn write_unit(t: &Topology, unit: Unit, value: u32, told: u32, line: &mut TextLine) -> bool
+    ensures text { line.new.items ≡ unit_line t.now unit value told }
+    ensures shown { IsTrue result ↔ ((value ≡ 0) × (told ≡ 0) → ⊥) }
     ensures hidden { OnFalse result (line.new.items ≡ []) }
 {
-    if value == 0 {
+    if value == 0 && told == 0 {
         line.clear();
         return false;
     }
-    let (kind, number) = match unit {
-        Unit::Node(node) => (Word::Slave, node.0),
-        Unit::Line(reset) => (Word::Line, reset.0),
-    };
+    let (name, number) = name_of(t, unit);
     write_line(
         line,
         Word::End,
-        &[kind, Word::Number(number), Word::Number(value)],
+        &[
+            name,
+            Word::Number(number),
+            Word::Number(value),
+            Word::Number(told),
+        ],
     );
     true
 }
 
-#[cfg(test)]
-mod tests {
-    use super::*;
-    use pm_base::NodeId;
+/// What a unit is called, and its number.
+fn name_of(t: &Topology, unit: Unit) -> (Word, u32)
+    ensures { unit_name t.now unit ≡ result.0 ∷ word.Number result.1 ∷ [] }
+{
+    match unit {
+        Unit::Node(node) => (kind_name(t.kind(node)), node.0),
+        Unit::Line(reset) => (Word::Line, reset.0),
+    }
+}
 
-    #[test]
-    fn a_unit_is_shown_where_its_value_is_not_0(rt: HostRuntime) {
-        let mut line = TextLine::new();
-        assert!(rt; write_unit(Unit::Node(NodeId(11)), 1, &mut line));
-        assert_eq!(rt; line.as_slice(), b"end slave 11 1\n".as_slice());
-        assert!(rt; !write_unit(Unit::Node(NodeId(11)), 0, &mut line));
-        assert!(rt; line.is_empty());
+fn kind_name(kind: Kind) -> Word
+    ensures { result ≡ kind_name kind }
+{
+    match kind {
+        Kind::Proc(_) => Word::Proc,
+        Kind::Slave(_) | Kind::Unknown => Word::Slave,
+        Kind::Power(_) => Word::Power,
     }
 }

@@ -1,11 +1,26 @@
 use super::*;
-use pm_base::NodeId;
-use pm_core::{Answer, Outbox, Response};
+use pm_base::{Command, LineId, NoMemory, NodeId, Unit};
+use pm_core::{Answer, Done, Outbox, Response, Shelf};
 use pm_object::{ObjectCause, ObjectFault};
 use pm_objtext::{TextCause, TextFault};
+use std::alloc::Global;
+use std::test::Fail;
+
+/// An outbox of a step that did at most one command.
+fn outbox(alloc: Global, done: Option<Done>, answer: Answer) -> Result<Outbox, NoMemory> {
+    let mut commands = Shelf::with_room(alloc, 1)?;
+    if let Some(done) = done {
+        commands.push(done);
+    }
+    Ok(Outbox {
+        moved: Shelf::with_room(alloc, 0)?,
+        done: commands,
+        answer,
+    })
+}
 
 #[test]
-fn each_answer_is_its_line(rt: HostRuntime) {
+fn each_answer_is_its_line(rt: HostRuntime) -> Result<(), Fail> {
     let reply = Response {
         status: 0,
         words: [2, 1, 3],
@@ -32,7 +47,7 @@ fn each_answer_is_its_line(rt: HostRuntime) {
         (10, acknowledge(false), None),
     ];
     for (n, answer, text) in cases {
-        let out = Outbox { answer };
+        let out = outbox(rt.alloc(), None, answer)?;
         let mut line = TextLine::new();
         if let Some(text) = text {
             assert_eq!(rt; entries(&out), 1);
@@ -42,22 +57,58 @@ fn each_answer_is_its_line(rt: HostRuntime) {
             assert_eq!(rt; entries(&out), 0);
         }
     }
+    Ok(())
 }
 
 #[test]
-fn the_longest_line_has_room(rt: HostRuntime) {
+fn each_command_is_its_line_before_the_answer(rt: HostRuntime) -> Result<(), Fail> {
+    let node = Unit::Node(NodeId(10));
+    let reset = Unit::Line(LineId(33));
+    let cases: [(u32, Unit, u32, u32, bool, &[u8]); 6] = [
+        (0, node, 0, 1, true, b"0 set 10 0 1\n"),
+        (5, node, 1, 0, true, b"5 set 10 1 0\n"),
+        (16777216, node, 2, 1, true, b"16777216 set 10 2 1\n"),
+        (5, node, 0, 1, false, b"5 fail 10 0 1\n"),
+        (2, reset, 0, 1, true, b"2 line 33 0 1\n"),
+        (2, reset, 1, 0, false, b"2 linefail 33 1 0\n"),
+    ];
+    for (n, unit, from, value, ok, text) in cases {
+        let done = Done {
+            command: Command { unit, value },
+            from,
+            ok,
+        };
+        let drop = Answer::Drop { master: NodeId(8) };
+        let out = outbox(rt.alloc(), Some(done), drop)?;
+        let mut line = TextLine::new();
+        assert_eq!(rt; entries(&out), 2);
+        entry(n, &out, 0, &mut line);
+        assert_eq!(rt; line.as_slice(), text);
+        entry(7, &out, 1, &mut line);
+        assert_eq!(rt; line.as_slice(), b"7 drop 8\n".as_slice());
+        let silent = outbox(rt.alloc(), Some(done), Answer::Silent)?;
+        assert_eq!(rt; entries(&silent), 1);
+    }
+    Ok(())
+}
+
+#[test]
+fn the_longest_line_has_room(rt: HostRuntime) -> Result<(), Fail> {
     let most = u32::MAX;
-    let answer = Answer::Reply {
+    let answer = Answer::Ack {
         master: NodeId(most),
-        response: Response {
-            status: most,
-            words: [most, 0, 10],
-        },
+        node: NodeId(most),
+        status: most,
+        point: most,
+        shown: true,
     };
+    let out = outbox(rt.alloc(), None, answer)?;
     let mut line = TextLine::new();
-    entry(most, &Outbox { answer }, 0, &mut line);
-    let text = b"4294967295 reply 4294967295 4294967295 4294967295 0 10\n";
+    assert_eq!(rt; entries(&out), 1);
+    entry(most, &out, 0, &mut line);
+    let text = b"4294967295 call 4294967295 31 4294967295 4294967295 4294967295 0\n";
     assert_eq!(rt; line.as_slice(), text.as_slice());
+    Ok(())
 }
 
 #[test]

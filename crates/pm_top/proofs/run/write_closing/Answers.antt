@@ -1,6 +1,6 @@
 use Rattle.std.proofs.Common.{◌∙◌, sym, ap, Some, List, ℕ, map}
 use Rattle.std.proofs.lemmas.Result.{err_from_is_err_and}
-use Rattle.pm_core.specs.Values.{units}
+use Rattle.pm_core.specs.Units.{units}
 use Rattle.pm_top.specs.Text.{unit_text}
 use Rattle.pm_top.proofs.EndsLemmas.{Writing-more, Writing-breaks}
 use Rattle.pm_top.proofs.run.write_closing.Goals as goal
@@ -8,7 +8,7 @@ use Rattle.pm_top.proofs.run.write_closing.Goals as goal
 pub returns-in_err-write_all : goal.returns-in_err-write_all
 returns-in_err-write_all g c =
     let p = err_from_is_err_and c.from_residual.result c.from_residual.ensures.1 in
-    rw p.1 (Writing-breaks g.O.Sink.tells (map (unit_text c.args.book.now) (units c.args.book.now)) c.loop-k.k c.as_slice.result.now (g.O.Sink.state c.args.out.now) (g.O.Sink.state c.loop-k.out) (g.O.Sink.state c.write_all.new.sink) (c.closing.ensures.text ∙ ap (λ (line : List ℕ). Some line) (sym c.as_slice.ensures.value)) c.loop-k.invariant (record { count = c.in_err-write_all.ensures.front.0; wrote = c.in_err-write_all.ensures.front.1; cause = c.in_err-write_all.ensures.cause }))
+    rw p.1 (Writing-breaks g.O.Sink.tells (map (unit_text c.args.controller.now) (units c.args.controller.now.book)) c.loop-k.k c.as_slice.result.now (g.O.Sink.state c.args.out.now) (g.O.Sink.state c.loop-k.out) (g.O.Sink.state c.write_all.new.sink) (c.closing_line.ensures ∙ ap (λ (line : List ℕ). Some line) (sym c.as_slice.ensures.value)) c.loop-k.invariant (record { count = c.in_err-write_all.ensures.front.0; wrote = c.in_err-write_all.ensures.front.1; cause = c.in_err-write_all.ensures.cause }))
 
 pub loop-k-preserved : goal.loop-k-preserved
-loop-k-preserved g c = Writing-more g.O.Sink.tells (map (unit_text c.args.book.now) (units c.args.book.now)) c.loop-k.k c.as_slice.result.now (g.O.Sink.state c.args.out.now) (g.O.Sink.state c.loop-k.out) (g.O.Sink.state c.write_all.new.sink) (c.closing.ensures.text ∙ ap (λ (line : List ℕ). Some line) (sym c.as_slice.ensures.value)) c.loop-k.invariant c.in_ok-write_all.ensures.written
+loop-k-preserved g c = Writing-more g.O.Sink.tells (map (unit_text c.args.controller.now) (units c.args.controller.now.book)) c.loop-k.k c.as_slice.result.now (g.O.Sink.state c.args.out.now) (g.O.Sink.state c.loop-k.out) (g.O.Sink.state c.write_all.new.sink) (c.closing_line.ensures ∙ ap (λ (line : List ℕ). Some line) (sym c.as_slice.ensures.value)) c.loop-k.invariant c.in_ok-write_all.ensures.written

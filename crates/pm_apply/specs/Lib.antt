@@ -1,0 +1,4 @@
+pub mod Record
+pub mod Plan
+pub mod Order
+pub mod Carried

@@ -1,0 +1,36 @@
+-- The outbox: the room that it has, and what a step puts into it.
+use Rattle.std.specs.Prelude.{◌≡◌, ℕ, ◌+◌, ◌≤◌, List, [], length}
+use Rattle.pm_base.specs.declared.names.Unit.{Unit as Place}
+use Rattle.pm_topology.specs.declared.topology.Topology.{Topology}
+use Rattle.pm_core.specs.declared.replies.Answer.{Answer}
+use Rattle.pm_core.specs.declared.replies.Answer.TheVariants.{Silent}
+use Rattle.pm_core.specs.declared.outbox.Outbox.{Outbox}
+
+-- how many units a chip has
+abbrev pub unit_count : Topology → ℕ
+unit_count t = length t.slaves + length t.procs + length t.powers + length t.lines
+
+-- how many commands a step does at most: each unit has one turn, and each power node one more
+abbrev pub command_count : Topology → ℕ
+command_count t = unit_count t + length t.powers
+
+-- there is room for each unit to move, and for the commands of a step
+pub record HasRoom (t : Topology) (out : Outbox) : Type 0 where
+  pub moved : unit_count t ≤ out.moved.room
+  pub done : command_count t ≤ out.done.room
+
+pub record IsEmpty (out : Outbox) : Type 0 where
+  pub moved : out.moved.items ≡ []
+  pub done : out.done.items ≡ []
+  pub answer : out.answer ≡ Silent
+
+-- what a step puts out: the units that move, and the answer
+pub record Outputs : Type 0 where
+  pub moved : List Place
+  pub answer : Answer
+
+-- an outbox holds these outputs, and no command is done yet
+pub record Holds (outputs : Outputs) (out : Outbox) : Type 0 where
+  pub moved : out.moved.items ≡ outputs.moved
+  pub answer : out.answer ≡ outputs.answer
+  pub done : out.done.items ≡ []

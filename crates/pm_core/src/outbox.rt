@@ -1,0 +1,66 @@
+ghost use Rattle.std.specs.Prelude.{◌≡◌, IfOk};
+ghost use Rattle.pm_core.specs.Outbox.{HasRoom, IsEmpty, unit_count};
+ghost use Rattle.pm_topology.specs.WellFormed.{IsWellFormed};
+
+use crate::replies::Answer;
+use crate::shelf::Shelf;
+use pm_base::{Command, NoMemory, Unit};
+use pm_topology::Topology;
+use std::alloc::Global;
+
+/// A device command that was issued: the value before it, and whether the device took it.
+#[derive(Clone, Copy, Debug, PartialEq, Eq)]
+pub struct Done {
+    pub command: Command,
+    pub from: u32,
+    pub ok: bool,
+}
+
+/// What a step puts out: the units whose value it changed, in the order of the units, and the answer.
+/// The commands that are done for it are put in by whoever drives the device.
+#[derive(Drop)]
+pub struct Outbox {
+    pub moved: Shelf<Unit>,
+    pub done: Shelf<Done>,
+    pub answer: Answer,
+}
+
+impl Outbox {
+    /// An empty outbox with room for the largest step of a book of this topology and so many
+    /// masters.
+    ///
+    /// # Errors
+    ///
+    /// `NoMemory` where there is not enough memory.
+    pub fn load(alloc: Global, t: &Topology, _masters: usize) -> Result<Outbox, NoMemory>
+        requires formed { IsWellFormed t.now }
+        ensures room { IfOk result (HasRoom t.now) }
+        ensures empty { IfOk result IsEmpty }
+    {
+        let units = count(t);
+        Ok(Outbox {
+            moved: Shelf::with_room(alloc, units)?,
+            done: Shelf::with_room(alloc, units + t.powers.len())?,
+            answer: Answer::Silent,
+        })
+    }
+
+    /// Takes out all that the last step put in.
+    pub(crate) fn clear(&mut self)
+        ensures empty { IsEmpty self.new }
+        ensures moved { self.new.moved.room ≡ self.old.moved.room }
+        ensures done { self.new.done.room ≡ self.old.done.room }
+    {
+        self.moved.clear();
+        self.done.clear();
+        self.answer = Answer::Silent;
+    }
+}
+
+/// The number of units of a chip.
+fn count(t: &Topology) -> usize
+    requires { IsWellFormed t.now }
+    ensures { result ≡ unit_count t.now }
+{
+    t.slaves.len() + t.procs.len() + t.powers.len() + t.lines.len()
+}
