@@ -30,22 +30,22 @@ Advances-trans a b first mid last before after = record {
   not_past = not_past first.file.fails_at first.place mid.place last.place before.not_past (subst (λ (file : File). IfSome file.fails_at (λ at. mid.place ≤ at → last.place ≤ at)) before.file after.not_past);
 }
 
-pub Took-refl : (tells : Type 0) (id : ℕ) (now : Moment) → Took tells id [] now now
-Took-refl tells id now = record {
+pub Took-refl : (shown : Type 0) (id : ℕ) (now : Moment) → Took shown id [] now now
+Took-refl shown id now = record {
   later = omega arith;
-  read = λ told. Advances-refl (now.input id);
-  others = λ told other differs. refl;
-  files = λ told name. refl;
-  room = λ told. omega arith;
+  read = λ seen. Advances-refl (now.input id);
+  others = λ seen other differs. refl;
+  files = λ seen name. refl;
+  room = λ seen. omega arith;
 }
 
-pub Took-trans : (tells : Type 0) (id : ℕ) (a b : List ℕ) (first mid last : Moment) → Took tells id a first mid → Took tells id b mid last → Took tells id (a ++ b) first last
-Took-trans tells id a b first mid last before after = record {
+pub Took-trans : (shown : Type 0) (id : ℕ) (a b : List ℕ) (first mid last : Moment) → Took shown id a first mid → Took shown id b mid last → Took shown id (a ++ b) first last
+Took-trans shown id a b first mid last before after = record {
   later = omega arith;
-  read = λ told. Advances-trans a b (first.input id) (mid.input id) (last.input id) (before.read told) (after.read told);
-  others = λ told other differs. after.others told other differs ∙ before.others told other differs;
-  files = λ told name. after.files told name ∙ before.files told name;
-  room = λ told. let one : first.room ≤ mid.room = before.room told in let two : mid.room ≤ last.room = after.room told in omega arith;
+  read = λ seen. Advances-trans a b (first.input id) (mid.input id) (last.input id) (before.read seen) (after.read seen);
+  others = λ seen other differs. after.others seen other differs ∙ before.others seen other differs;
+  files = λ seen name. after.files seen name ∙ before.files seen name;
+  room = λ seen. let one : first.room ≤ mid.room = before.room seen in let two : mid.room ≤ last.room = after.room seen in omega arith;
 }
 
 -- a byte at which a reading of at most `limit` bytes from the front of a file stops, is one that fails within the limit
@@ -54,7 +54,7 @@ FailsWithin-at limit at file bytes left fails stops read within =
     let reach : at ≤ min (length file.bytes) limit = omega (arith, ap length read, length-append bytes left) in
     rw fails reach
 
--- an input was begun, at most `limit` bytes of it were read, and it stands at its failing byte: as told before, that may be
+-- an input was begun, at most `limit` bytes of it were read, and it stands at its failing byte: as shown before, that may be
 pub may_fail : (name : List ℕ) (id limit : ℕ) (bytes : List ℕ) (first begun last : Moment) → Began name id first begun → Took (Unit {0}) id bytes begun last → length bytes ≤ limit → IsStuck (last.input id) → MayFail name limit first
 may_fail name id limit bytes first begun last start reads within stuck =
     let read : Advances (begun.input id) (last.input id) bytes = reads.read tt in

@@ -1,7 +1,14 @@
+pub mod Booleans
+pub mod Counts
 pub mod InPlace
 pub mod InputsLemmas
+pub mod LinesLemmas
 pub mod ListLemmas
 pub mod NumbersLemmas
+pub mod PrefixEnds
+pub mod PrefixLemmas
 pub mod ShelfLemmas
 pub mod SinkLemmas
+pub mod Tests
+pub mod WordTexts
 pub mod WordsLemmas

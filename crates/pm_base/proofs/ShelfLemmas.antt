@@ -50,7 +50,7 @@ found name files place here =
       held = get_or files place none;
       at = at;
       named = (bytes_eq-Decides (get_or files place none).name name).0 facts.1;
-      told = ap (option_map (λ (held : NamedFile). held.file)) (find-Some (is_named name) files place here ∙ at);
+      shown = ap (option_map (λ (held : NamedFile). held.file)) (find-Some (is_named name) files place here ∙ at);
     }
 
 pub found_or_not : (name : List ℕ) (files : List NamedFile) (place : Option ℕ) → position (is_named name) files ≡ place → MatchOption place (file_of name files ≡ None) (FoundFile name files)

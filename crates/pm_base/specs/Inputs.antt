@@ -1,12 +1,12 @@
--- What a source of inputs tells at a moment, and how that moves from call to call.
+-- What a source of inputs shows at a moment, and how that moves from call to call.
 use Rattle.std.specs.Prelude.{◌≡◌, ◌≢◌, ℕ, ◌+◌, ◌≤◌, ◌⊎◌, min, List, ◌++◌, [], drop, length, Option, Some, None, IfSome, IsSomeAnd}
 
--- what is told of a name: its bytes, and its least failing byte, the place at which each read fails
+-- what is shown of a name: its bytes, and its least failing byte, the place at which each read fails
 pub record File : Type 0 where
   pub bytes : List ℕ
   pub fails_at : Option ℕ
 
--- a begun input: the name, where it is told, what was begun, and the place of the next byte that is read
+-- a begun input: the name, where it is shown, what was begun, and the place of the next byte that is read
 pub record Input : Type 0 where
   pub name : Option (List ℕ)
   pub file : File
@@ -24,7 +24,7 @@ rest input = drop input.place input.file.bytes
 abbrev pub IsStuck : Input → Type 0
 IsStuck input = input.file.fails_at ≡ Some input.place
 
--- all that is told at a moment: each name's file where it is there, how many inputs can still be begun, each begun
+-- all that is shown at a moment: each name's file where it is there, how many inputs can still be begun, each begun
 -- input by its number, and how many calls have failed
 pub record Moment : Type 0 where
   pub file : List ℕ → Option File
@@ -32,11 +32,11 @@ pub record Moment : Type 0 where
   pub input : ℕ → Input
   pub faults : ℕ
 
--- a moment of a source that tells nothing but its count
-abbrev pub untold : ℕ → Moment
-untold faults = record { file = λ _. None; room = 0; input = λ _. nothing; faults = faults }
+-- a moment of a source of which nothing is observable but its count
+abbrev pub unobserved : ℕ → Moment
+unobserved faults = record { file = λ _. None; room = 0; input = λ _. nothing; faults = faults }
 
--- nothing told of a name has changed
+-- nothing shown of a name has changed
 abbrev pub SameFiles : Moment → Moment → Type 0
 SameFiles old new = (name : List ℕ) → new.file name ≡ old.file name
 
@@ -53,17 +53,17 @@ pub record Advances (old new : Input) (bytes : List ℕ) : Type 0 where
   pub not_past : IfSome old.file.fails_at (λ at. old.place ≤ at → new.place ≤ at)
 
 -- between two moments these bytes of one input were read, and nothing else was done
-pub record Took (tells : Type 0) (id : ℕ) (bytes : List ℕ) (old new : Moment) : Type 0 where
+pub record Took (shown : Type 0) (id : ℕ) (bytes : List ℕ) (old new : Moment) : Type 0 where
   pub later : old.faults ≤ new.faults
-  pub read : tells → Advances (old.input id) (new.input id) bytes
-  pub others : tells → SameBut id old.input new.input
-  pub files : tells → SameFiles old new
-  pub room : tells → old.room ≤ new.room
+  pub read : shown → Advances (old.input id) (new.input id) bytes
+  pub others : shown → SameBut id old.input new.input
+  pub files : shown → SameFiles old new
+  pub room : shown → old.room ≤ new.room
 
--- an input that stands at the front of the file that is told of this name
-pub record IsAtFront (name : List ℕ) (told : Option File) (input : Input) : Type 0 where
+-- an input that stands at the front of the file that is shown of this name
+pub record IsAtFront (name : List ℕ) (shown : Option File) (input : Input) : Type 0 where
   pub named : IfSome input.name (λ given. given ≡ name)
-  pub file : told ≡ Some input.file
+  pub file : shown ≡ Some input.file
   pub place : input.place ≡ 0
 
 -- an input was begun under this number, and nothing else was done
@@ -79,7 +79,7 @@ pub record Stayed (old new : Moment) : Type 0 where
   pub files : SameFiles old new
   pub room : old.room ≤ new.room
 
--- as told, no input of this name can be begun: it isn't there, or too many were begun
+-- as shown, no input of this name can be begun: it isn't there, or too many were begun
 abbrev pub CannotBegin : List ℕ → Moment → Type 0
 CannotBegin name moment = (moment.file name ≡ None) ⊎ (moment.room ≡ 0)
 
@@ -87,6 +87,6 @@ CannotBegin name moment = (moment.file name ≡ None) ⊎ (moment.room ≡ 0)
 abbrev pub FailsWithin : ℕ → File → Type 0
 FailsWithin limit file = IsSomeAnd file.fails_at (λ at. at ≤ min (length file.bytes) limit)
 
--- as told, a call that reads the input of this name, to its end or to one byte past the limit, may meet a fault
+-- as shown, a call that reads the input of this name, to its end or to one byte past the limit, may meet a fault
 abbrev pub MayFail : List ℕ → ℕ → Moment → Type 0
 MayFail name limit moment = CannotBegin name moment ⊎ IsSomeAnd (moment.file name) (FailsWithin limit)

@@ -1,7 +1,9 @@
 pub mod Faults
 pub mod Inputs
+pub mod Lines
 pub mod MemInputs
 pub mod MemSink
 pub mod Numbers
+pub mod Prefix
 pub mod Sink
 pub mod Words

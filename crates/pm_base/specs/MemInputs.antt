@@ -29,12 +29,12 @@ is_named name held = bytes_eq held.name name
 abbrev pub file_of : List ℕ → List NamedFile → Option File
 file_of name files = option_map (λ held. held.file) (find (is_named name) files)
 
--- a file of this name stands at this place, and is the one that is told of the name
+-- a file of this name stands at this place, and is the one that is shown of the name
 pub record FoundFile (name : List ℕ) (files : List NamedFile) (place : ℕ) : Type 0 where
   pub held : NamedFile
   pub at : slice_get files place ≡ Some held
   pub named : held.name ≡ name
-  pub told : file_of name files ≡ Some held.file
+  pub shown : file_of name files ≡ Some held.file
 
 -- the lesser of a byte that was found and that of one more entry, if the entry is of this file
 abbrev pub least_with : ℕ → Option ℕ → ℕ × ℕ → Option ℕ
@@ -64,7 +64,7 @@ abbrev pub input_of : List NamedFile → Option Reading → Input
 input_of files None = nothing
 input_of files (Some reading) = input_in (slice_get files reading.file) reading.place
 
--- what inputs in memory tell
+-- what inputs in memory show
 abbrev pub moment_of : Shelf → Moment
 moment_of shelf = record {
   file = λ name. file_of name shelf.files;

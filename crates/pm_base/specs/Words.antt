@@ -1,5 +1,6 @@
 -- The words of a line: the same for every text of the project and for its scripts.
-use Rattle.std.specs.Prelude.{ℕ, ◌+◌, ◌-◌, ◌==◌, ◌||◌, Bool, if◌then◌else◌, List, [], ◌∷◌, Option, Some, None, length, take, slice_index}
+use Rattle.std.specs.Prelude.{ℕ, ◌+◌, ◌==◌, ◌||◌, Bool, if◌then◌else◌, List, [], ◌∷◌, Option, Some, None, map, slice_range}
+pub use Rattle.pm_base.specs.Lines.{without_return}
 
 -- a space or a tab stands between words
 unfoldable pub is_blank : ℕ → Bool
@@ -17,10 +18,14 @@ words_from (Some start) at (byte ∷ bytes) =
     if is_blank byte then (start, at) ∷ words_from None (at + 1) bytes
     else words_from (Some start) (at + 1) bytes
 
--- one carriage return at a line's end is no part of a word
-abbrev pub without_return : List ℕ → List ℕ
-without_return line = if slice_index line (length line - 1) == 13 then take (length line - 1) line else line
-
--- the words of a line in order, without its comment
+-- the words of a line in order, without its comment, and without one carriage return at its end
 unfoldable pub words : List ℕ → List (ℕ × ℕ)
 words line = words_from None 0 (without_return line)
+
+-- the bytes between two places of a line
+abbrev pub text_between : List ℕ → ℕ × ℕ → List ℕ
+text_between line place = slice_range line place.0 place.1
+
+-- the words of a line as texts
+abbrev pub word_texts : List ℕ → List (List ℕ)
+word_texts line = map (text_between line) (words line)

@@ -1,3 +1,5 @@
+//! Sets of capabilities.
+
 ghost use Rattle.std.specs.Prelude.{⊤, [], ◌∷◌, codes};
 
 use bitflags::{Flag, Flags, bitflag_items};

@@ -1,3 +1,5 @@
+//! Where named inputs are read from.
+
 ghost use Rattle.std.specs.Prelude.{◌≡◌, ◌<◌, ◌≤◌, ◌↔◌, [], length, take, IsErr, IfOk, MatchResult};
 ghost use Rattle.pm_base.specs.Faults.{HasCause};
 ghost use Rattle.pm_base.specs.Inputs.{rest, IsStuck, Moment, Took, Began, Stayed, CannotBegin};
@@ -6,40 +8,41 @@ use crate::errors::Failed;
 
 /// A source of named inputs, each of which is read from its front.
 ///
-/// No call changes what is told of a name. The count of faults is a `u64` that never falls and
+/// No call changes what is shown of a name. The count of faults is a `u64` that never falls and
 /// stands still at its last value.
 pub trait Inputs {
-    /// Whether the source tells what its inputs hold. The files of the host tell nothing.
-    ghost tells: { Type 0 } = { ⊥ };
+    /// Whether contracts see what the inputs hold. They see nothing of the files of the host.
+    ghost observable: { Type 0 } = { ⊥ };
 
-    /// What is told at a moment, and how many calls have failed.
+    /// What is shown at a moment, and how many calls have failed.
     ghost state: { Self → Moment };
 
     /// Begins the named input, and answers the number under which it is read from its front. What
-    /// is left under other numbers stays.
+    /// is left under other numbers stays. A number that no `begin` answered has nothing left: an
+    /// implementation says so of itself when it is made.
     ///
-    /// `Failed` comes only where the count of faults rose. Where the source tells, it comes exactly
-    /// where the name isn't there or no more inputs can be begun.
+    /// `Failed` comes only where the count of faults rose. Where the inputs are observable, it
+    /// comes exactly where the name isn't there or no more inputs can be begun.
     fn begin(&mut self, name: &str) -> Result<u32, Failed>
         ensures cause { HasCause (state self.old).faults (state self.new).faults result }
-        ensures begun { tells → MatchResult result
+        ensures begun { observable → MatchResult result
             (λ id. Began name.now id (state self.old) (state self.new))
             (λ _. Stayed (state self.old) (state self.new)) }
-        ensures failed { tells → IsErr result ↔ CannotBegin name.now (state self.old) };
+        ensures failed { observable → IsErr result ↔ CannotBegin name.now (state self.old) };
 
     /// Takes the next bytes of the input `id` into the front of `buf`, and answers how many. They
     /// don't go past the name's least failing byte. For a `buf` that isn't empty, 0 is the end of
     /// the input.
     ///
-    /// `Failed` comes only where the count of faults rose, and takes nothing. Where the source
-    /// tells, it comes exactly where the input stands at its name's least failing byte.
+    /// `Failed` comes only where the count of faults rose, and takes nothing. Where the
+    /// inputs are observable, it comes exactly where the input stands at its name's least failing byte.
     fn read(&mut self, id: u32, buf: &mut [u8]) -> Result<usize, Failed>
         ensures bound { IfOk result (λ count. count ≤ length buf.new) }
         ensures cause { HasCause (state self.old).faults (state self.new).faults result }
         ensures taken { MatchResult result
-            (λ count. Took tells id (take count buf.new) (state self.old) (state self.new))
-            (λ _. Took tells id [] (state self.old) (state self.new)) }
-        ensures end { tells → IfOk result (λ count.
+            (λ count. Took observable id (take count buf.new) (state self.old) (state self.new))
+            (λ _. Took observable id [] (state self.old) (state self.new)) }
+        ensures end { observable → IfOk result (λ count.
             0 < length buf.new → count ≡ 0 ↔ (rest ((state self.old).input id) ≡ [])) }
-        ensures failed { tells → IsErr result ↔ IsStuck ((state self.old).input id) };
+        ensures failed { observable → IsErr result ↔ IsStuck ((state self.old).input id) };
 }

@@ -1,3 +1,5 @@
+//! A list that contracts see as a list.
+
 ghost use Rattle.std.specs.Prelude.{◌≡◌, ◌<◌, ◌↔◌, ◌++◌, ◌∷◌, [], length, slice_get, IsTrue, OnOk, OnErr};
 
 use crate::errors::NoMemory;

@@ -1,4 +1,6 @@
-ghost use Rattle.std.specs.Prelude.{◌≡◌, ◌<◌, ◌≤◌, ◌↔◌, ◌⊎◌, ◌++◌, ◌∷◌, [], ⊤, min, length, take, None, IsErr, IfOk, OnOk, OnErr, IsTrue, IsSome, is_ok, if◌then◌else◌, IsNone, IfSome, MatchOption, MatchResult, position, slice_get, ◌+◌, ◌^◌};
+//! Inputs in memory.
+
+ghost use Rattle.std.specs.Prelude.{ℕ, ◌≡◌, ◌<◌, ◌≤◌, ◌↔◌, ◌⊎◌, ◌++◌, ◌∷◌, [], ⊤, min, length, take, None, Ok, IsErr, IfOk, OnOk, OnErr, IsTrue, IsSome, is_ok, if◌then◌else◌, IsNone, IfSome, MatchOption, MatchResult, position, slice_get, ◌+◌, ◌^◌};
 ghost use Rattle.pm_base.specs.Faults.{HasCause, raised};
 ghost use Rattle.pm_base.specs.Inputs.{rest, IsStuck, Advances, Took, Began, Stayed, CannotBegin};
 ghost use Rattle.pm_base.specs.MemInputs.{most_begun, is_named, FoundFile, file_of, least_with, least_failing, reach_of, input_in, input_of, moment_of};
@@ -49,16 +51,17 @@ impl Model for MemInputs {
 }
 
 impl MemInputs {
-    /// No files, and room for 16 begun inputs. An entry `(f, at)` of `failing` makes each read of
+    /// No files, and room for 16 begun inputs. No number has anything left to read. An entry `(f, at)` of `failing` makes each read of
     /// the file at place `f` fail that begins at byte `at`, and a read that begins earlier stops
     /// there.
     pub fn new(alloc: Global, failing: &[(u32, u32)]) -> Result<MemInputs, NoMemory>
-        ensures { IfOk result (λ inputs. inputs ≡ record {
+        ensures made { IfOk result (λ inputs. inputs ≡ record {
           failing = failing.now;
           files = [];
           begun = [];
           faults = 0;
         }) }
+        ensures unbegun { IfOk result (λ inputs. (id : ℕ) → rest ((moment_of inputs).input id) ≡ []) }
     {
         let failing = Vec::from_slice(alloc, failing).map_err(|_| NoMemory)?;
         let begun = Vec::with_capacity(alloc, MOST_BEGUN).map_err(|_| NoMemory)?;
@@ -96,7 +99,7 @@ impl MemInputs {
 }
 
 impl Inputs for MemInputs {
-    ghost tells = { ⊤ };
+    ghost observable = { ⊤ };
 
     ghost state = { moment_of };
 
@@ -127,7 +130,7 @@ impl Inputs for MemInputs {
         }
     }
 
-    /// A number that `begin` didn't answer has nothing left.
+    /// A number that `begin` didn't answer has nothing left: its reads take 0.
     fn read(&mut self, id: u32, buf: &mut [u8]) -> Result<usize, Failed>
         ensures bound { IfOk result (λ count. count ≤ length buf.new) }
         ensures cause { HasCause self.old.faults self.new.faults result }
@@ -139,6 +142,7 @@ impl Inputs for MemInputs {
         ensures failed { IsErr result ↔ IsStuck ((moment_of self.old).input id) }
 
         // Exactly how much it takes, and the count: each failure raises it, and nothing else does.
+        ensures unbegun { length self.old.begun ≤ id → result ≡ Ok 0 }
         ensures count { let input = (moment_of self.old).input id in
             IfOk result (λ count. count ≡ min (length buf.new) (reach_of input.file input.place)) }
         ensures faults { self.new.faults ≡ (if is_ok result then self.old.faults else raised self.old.faults) }

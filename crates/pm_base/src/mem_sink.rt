@@ -1,3 +1,5 @@
+//! A sink in memory.
+
 ghost use Rattle.std.specs.Prelude.{◌≡◌, ◌<◌, ◌≤◌, ◌↔◌, ◌++◌, ⊤, [], length, take, IsErr, IfOk, IfSome, MatchResult};
 ghost use Rattle.pm_base.specs.Faults.{HasCause, raised};
 ghost use Rattle.pm_base.specs.Sink.{Wrote, CountsStalls};
@@ -56,7 +58,7 @@ impl MemSink {
 }
 
 impl Sink for MemSink {
-    ghost tells = { ⊤ };
+    ghost observable = { ⊤ };
 
     ghost state = { moment_of };
 

@@ -18,7 +18,7 @@ pub enum Mode {
 }
 
 /// What a device command sets: a node or a reset line.
-#[derive(Clone, Copy, Debug, PartialEq, Eq)]
+#[derive(Clone, Copy, Debug, PartialEq, Eq, Hash)]
 pub enum Unit {
     Node(NodeId),
     Line(LineId),

@@ -1,6 +1,8 @@
-ghost use Rattle.std.specs.Prelude.{ℕ, ◌≤◌, [], length, take, IfOk, OnOk, OnErr, MatchResult};
+//! What takes the bytes that a run writes.
+
+ghost use Rattle.std.specs.Prelude.{ℕ, ◌≤◌, ◌∷◌, [], length, take, IfOk, OnOk, OnErr, MatchResult};
 ghost use Rattle.pm_base.specs.Faults.{HasCause};
-ghost use Rattle.pm_base.specs.Sink.{SinkMoment, Wrote, CountsStalls, HasFailed};
+ghost use Rattle.pm_base.specs.Sink.{SinkMoment, Wrote, CountsStalls, BreaksIn};
 
 use crate::errors::Failed;
 
@@ -9,8 +11,8 @@ use crate::errors::Failed;
 /// The counts of faults and of stalls are `u64`s that never fall and stand still at their last
 /// value.
 pub trait Sink {
-    /// Whether the sink tells the bytes that it took. The host's output tells nothing.
-    ghost tells: { Type 0 } = { ⊥ };
+    /// Whether contracts see the bytes that the sink took. They see nothing of the host's output.
+    ghost observable: { Type 0 } = { ⊥ };
 
     /// The bytes so far, how many writes have failed, and how many took 0 of a piece that isn't
     /// empty.
@@ -25,18 +27,18 @@ pub trait Sink {
         ensures cause { HasCause (state self.old).faults (state self.new).faults result }
         ensures stalls { CountsStalls piece.now (state self.old) (state self.new) result }
         ensures wrote { MatchResult result
-            (λ count. Wrote tells (take count piece.now) (state self.old) (state self.new))
-            (λ _. Wrote tells [] (state self.old) (state self.new)) };
+            (λ count. Wrote observable (take count piece.now) (state self.old) (state self.new))
+            (λ _. Wrote observable [] (state self.old) (state self.new)) };
 }
 
 /// Writes all of `bytes`, in as many pieces as the sink wants.
 ///
 /// `Failed` comes only where the sink failed or took 0 of a piece that isn't empty. The sink then
-/// has some first bytes of them.
+/// has some first bytes of them, never all.
 pub fn write_all<K: Sink>(sink: &mut K, bytes: &[u8]) -> Result<(), Failed>
-    ensures written { OnOk result (Wrote K.tells bytes.now (K.state sink.old) (K.state sink.new)) }
-    ensures front { (count : ℕ) × Wrote K.tells (take count bytes.now) (K.state sink.old) (K.state sink.new) }
-    ensures cause { OnErr result (HasFailed (K.state sink.old) (K.state sink.new)) }
+    ensures written { OnOk result (Wrote K.observable bytes.now (K.state sink.old) (K.state sink.new)) }
+    ensures short { OnErr result
+        (BreaksIn K.observable 0 (bytes.now ∷ []) (K.state sink.old) (K.state sink.new)) }
 {
     let mut written = 0;
     while written < bytes.len() {

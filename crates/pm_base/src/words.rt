@@ -1,7 +1,9 @@
 //! The words of a line, the same for every text and script of the project.
 
-ghost use Rattle.std.specs.Prelude.{◌≡◌, slice_get};
-ghost use Rattle.pm_base.specs.Words.{is_blank, without_return, words_from, words};
+ghost use Rattle.std.specs.Prelude.{◌≡◌, slice_get, option_copied};
+ghost use Rattle.pm_base.specs.Words.{is_blank, words_from, words, word_texts};
+
+use crate::lines::without_return;
 
 /// The `k`-th word of a line, counted from 0: its first place and the place after its end.
 ///
@@ -13,6 +15,15 @@ pub fn word(line: &[u8], k: usize) -> Option<(usize, usize)>
     ensures { result ≡ slice_get (words line.now) k }
 {
     word_of(without_return(line), k)
+}
+
+/// The bytes of the `k`-th word of a line, counted from 0, as `word` finds it.
+#[tactic(auto, using(crate::proofs::WordTexts::word_within, crate::proofs::WordTexts::word_text_at, crate::proofs::WordTexts::no_word_text))]
+pub fn word_text(line: &[u8], k: usize) -> Option<&[u8]>
+    ensures { option_copied result ≡ slice_get (word_texts line.now) k }
+{
+    let (start, end) = word(line, k)?;
+    Some(&line[start..end])
 }
 
 fn word_of(text: &[u8], k: usize) -> Option<(usize, usize)>
@@ -46,13 +57,4 @@ fn is_blank(byte: u8) -> bool
     ensures { result ≡ is_blank byte }
 {
     byte == b' ' || byte == b'\t'
-}
-
-fn without_return(line: &[u8]) -> &[u8]
-    ensures { result.now ≡ without_return line.now }
-{
-    match line {
-        [text @ .., b'\r'] => text,
-        _ => line,
-    }
 }

@@ -3,7 +3,7 @@ use Rattle.pm_base.specs.Sink.{Wrote}
 use Rattle.pm_base.proofs.sink.write_all.Given as goal
 
 abbrev pub invariant-loop-written : goal.invariant-loop-written
-invariant-loop-written g l = (l.written ≤ length l.bytes) × Wrote g.K.Sink.tells (take l.written l.bytes) (g.K.Sink.state l.initial.sink) (g.K.Sink.state l.sink)
+invariant-loop-written g l = (l.written ≤ length l.bytes) × Wrote g.K.Sink.observable (take l.written l.bytes) (g.K.Sink.state l.initial.sink) (g.K.Sink.state l.sink)
 
 abbrev pub decreases-loop-written : goal.decreases-loop-written
 decreases-loop-written g l = length l.bytes - l.written
