@@ -1,1 +1,2 @@
+pub mod NeedsSet
 pub mod UpLaw

@@ -1,5 +1,5 @@
 -- The needs of processors and slaves, and how one of them is set.
-use Rattle.std.specs.Prelude.{ℕ, ◌==◌, Bool, false, Option, Some, None, List, ◌++◌, map, find, if◌then◌else◌}
+use Rattle.std.specs.Prelude.{ℕ, ◌==◌, Bool, false, Option, Some, None, List, [], ◌∷◌, ◌++◌, map, find, if◌then◌else◌}
 use Rattle.std.specs.Option.{option_map}
 use Rattle.pm_base.specs.declared.names.NodeId.{NodeId}
 use Rattle.pm_topology.specs.declared.topology.Topology.{Topology}
@@ -11,11 +11,11 @@ use Rattle.pm_power.specs.Forest.{Needs, is_up}
 abbrev pub child : NodeId → ℕ → Bool → Child
 child node parent needs = record { node = node; parent = parent; needs = needs }
 
--- the processors and then the slaves of a chip, where these nodes need their parents
+-- the slaves and then the processors of a chip, where these nodes need their parents
 abbrev pub children_of : Topology → (ℕ → Bool) → List Child
 children_of t needs =
-    map (λ p. child p.node p.parent (needs p.node.0)) t.procs
-    ++ map (λ s. child s.node s.parent (needs s.node.0)) t.slaves
+    map (λ s. child s.node s.parent (needs s.node.0)) t.slaves
+    ++ map (λ p. child p.node p.parent (needs p.node.0)) t.procs
 
 abbrev pub needs_of : Topology → (ℕ → Bool) → Needs
 needs_of t needs = record { powers = t.powers; children = children_of t needs }
@@ -26,6 +26,12 @@ set_child node on c = if c.node.0 == node.0 then child c.node c.parent on else c
 
 abbrev pub set_need : NodeId → Bool → Needs → Needs
 set_need node on n = record n { children = map (set_child node on) n.children }
+
+-- the children with these needs, in their order; those past the last need don't need their parents
+abbrev pub with_needs : List Bool → List Child → List Child
+with_needs needs [] = []
+with_needs [] (c ∷ later) = child c.node c.parent false ∷ with_needs [] later
+with_needs (need ∷ needs) (c ∷ later) = child c.node c.parent need ∷ with_needs needs later
 
 -- whether a processor or slave needs its parent; None for any other node
 abbrev pub child_need : List Child → NodeId → Option Bool

@@ -1,6 +1,8 @@
-ghost use Rattle.std.specs.Prelude.{◌≡◌, ◌++◌, ◌∷◌, [], ◌==◌, IfOk, false, map, find};
+//! The processors and slaves below the power nodes, and whether they need them.
+
+ghost use Rattle.std.specs.Prelude.{◌≡◌, ◌++◌, ◌∷◌, [], ◌==◌, IfOk, false, map, find, slice_get, unwrap_or};
 ghost use Rattle.std.specs.Option.{option_map};
-ghost use Rattle.pm_power.specs.Needs.{child, child_need, children_of, set_child};
+ghost use Rattle.pm_power.specs.Needs.{child, child_need, children_of, set_child, with_needs};
 
 use pm_base::{NoMemory, NodeId};
 use pm_topology::{ProcDef, SlaveDef, Topology};
@@ -14,23 +16,14 @@ pub struct Child {
     pub needs: bool,
 }
 
-/// The processors and then the slaves of a chip, none of which needs its power node.
+/// The slaves and then the processors of a chip, none of which needs its power node.
 pub(crate) fn idle_children(alloc: Global, t: &Topology) -> Result<Vec<Child>, NoMemory>
     ensures { IfOk result (λ children. children.items ≡ children_of t.now (λ _. false)) }
 {
     let mut children = Vec::new(alloc);
-    push_procs(&mut children, t.procs.as_slice())?;
     push_slaves(&mut children, t.slaves.as_slice())?;
+    push_procs(&mut children, t.procs.as_slice())?;
     Ok(children)
-}
-
-fn push_procs(children: &mut Vec<Child>, procs: &[ProcDef]) -> Result<(), NoMemory>
-    ensures { IfOk result (λ _. children.new.items ≡ children.old.items ++ map (λ p. child p.node p.parent false) procs.now) }
-{
-    for proc in procs {
-        push(children, idle(proc.node, proc.parent))?;
-    }
-    Ok(())
 }
 
 fn push_slaves(children: &mut Vec<Child>, slaves: &[SlaveDef]) -> Result<(), NoMemory>
@@ -38,6 +31,15 @@ fn push_slaves(children: &mut Vec<Child>, slaves: &[SlaveDef]) -> Result<(), NoM
 {
     for slave in slaves {
         push(children, idle(slave.node, slave.parent))?;
+    }
+    Ok(())
+}
+
+fn push_procs(children: &mut Vec<Child>, procs: &[ProcDef]) -> Result<(), NoMemory>
+    ensures { IfOk result (λ _. children.new.items ≡ children.old.items ++ map (λ p. child p.node p.parent false) procs.now) }
+{
+    for proc in procs {
+        push(children, idle(proc.node, proc.parent))?;
     }
     Ok(())
 }
@@ -76,6 +78,28 @@ fn with_need(child: Child, node: NodeId, on: bool) -> Child
     } else {
         child
     }
+}
+
+/// Sets the needs of all children, in their order. Those past the last need don't need their power node.
+pub(crate) fn set_needs(children: &mut [Child], needs: &[bool])
+    ensures { children.new ≡ with_needs needs.now children.old }
+{
+    for k in 0..children.len() {
+        let child = children[k];
+        children[k] = child_with(child, need_at(needs, k));
+    }
+}
+
+fn need_at(needs: &[bool], place: usize) -> bool
+    ensures { result ≡ unwrap_or (slice_get needs.now place) false }
+{
+    needs.get(place).copied().unwrap_or(false)
+}
+
+fn child_with(of: Child, needs: bool) -> Child
+    ensures { result ≡ child of.node of.parent needs }
+{
+    Child { needs, ..of }
 }
 
 /// Whether the child with this number needs its power node.

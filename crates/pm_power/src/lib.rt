@@ -4,7 +4,5 @@
 pub mod child;
 pub mod power;
 pub mod settle;
-#[cfg(test)]
-mod tests;
 
 pub use power::Power;

@@ -1,9 +1,11 @@
+//! The power nodes of a chip, and which of them are up.
+
 ghost use Rattle.std.specs.Option.{option_map_or};
 ghost use Rattle.std.specs.Prelude.{replicate, length, ◌≡◌, ◌<◌, ◌⊎◌, ◌↔◌, IfOk, IsTrue, Some, false, not};
 ghost use Rattle.pm_topology.specs.Places.{power_place};
 ghost use Rattle.pm_topology.specs.WellFormed.{IsWellFormed};
-ghost use Rattle.pm_power.specs.Forest.{AreUps, ChildNeeds, IsHeld, PowerNeeds, is_up};
-ghost use Rattle.pm_power.specs.Needs.{child_need, does_need, needs_of, power_need, set_need};
+ghost use Rattle.pm_power.specs.Forest.{AreUps, ChildNeeds, IsHeld, PowerNeeds, is_up, ups};
+ghost use Rattle.pm_power.specs.Needs.{child_need, does_need, needs_of, power_need, set_need, with_needs};
 
 use crate::child::{self, Child};
 use crate::settle::settle;
@@ -59,6 +61,26 @@ impl Power {
     {
         child::set_need(&mut self.children, child, on);
         settle(self.powers.as_slice(), &self.children, &mut self.ups);
+    }
+
+    /// Sets the needs of all slaves and then of all processors, each in their order in the table. Those
+    /// past the last need don't need their power node.
+    pub fn recompute(&mut self, needs: &[bool])
+        ensures { self.new ≡ record self.old { children = with_needs needs.now self.old.children } }
+    {
+        child::set_needs(&mut self.children, needs);
+        settle(
+            self.powers.as_slice(),
+            self.children.as_slice(),
+            &mut self.ups,
+        );
+    }
+
+    /// Whether each power node is up, by its place.
+    pub fn ups(&self) -> &[bool]
+        ensures { result.now ≡ ups self.now }
+    {
+        &self.ups
     }
 
     /// Whether a node needs its power node: a processor or slave as it was set, a power node while

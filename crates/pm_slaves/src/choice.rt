@@ -1,3 +1,5 @@
+//! The first state of a slave that meets what is wanted of it.
+
 ghost use Rattle.std.specs.Prelude.{◌≡◌, ◌≤◌, ◌&&◌, ◌==◌, IsSome, IfSome, Some, bit_and, length, position};
 ghost use Rattle.pm_slaves.specs.Choice.{IsFirstToMeet, LastHas, capabilities, meets, within};
 ghost use Rattle.pm_topology.specs.WellFormed.{HasFullLast};

@@ -3,7 +3,5 @@
 #![tactic(auto)]
 
 pub mod choice;
-#[cfg(test)]
-mod tests;
 
 pub use choice::{capabilities, first_that_meets, least_state};

@@ -6,3 +6,6 @@ pub mod ChipLaw
 pub mod Upwards
 pub mod BelowLaw
 pub mod KindLaw
+pub mod MastersLaw
+pub mod UnitsLaw
+pub mod UnitMapLaw

@@ -1,5 +1,8 @@
 pub mod Chip
 pub mod Classes
 pub mod FirstFault
+pub mod Masters
 pub mod Places
+pub mod UnitMap
+pub mod Units
 pub mod WellFormed

@@ -220,25 +220,25 @@ impl Topology {
     }
 }
 
-fn has_power(powers: &[PowerDef], node: NodeId) -> bool
+pub(crate) fn has_power(powers: &[PowerDef], node: NodeId) -> bool
     ensures { result ≡ has_power node.0 powers.now }
 {
     powers.iter().any(|power| power.node == node)
 }
 
-fn has_proc(procs: &[ProcDef], node: NodeId) -> bool
+pub(crate) fn has_proc(procs: &[ProcDef], node: NodeId) -> bool
     ensures { result ≡ has_proc node.0 procs.now }
 {
     procs.iter().any(|proc| proc.node == node)
 }
 
-fn has_slave(slaves: &[SlaveDef], node: NodeId) -> bool
+pub(crate) fn has_slave(slaves: &[SlaveDef], node: NodeId) -> bool
     ensures { result ≡ has_slave node.0 slaves.now }
 {
     slaves.iter().any(|slave| slave.node == node)
 }
 
-fn has_line(lines: &[LineDef], line: LineId) -> bool
+pub(crate) fn has_line(lines: &[LineDef], line: LineId) -> bool
     ensures { result ≡ list_any (λ e. e.line.0 == line.0) lines.now }
 {
     lines.iter().any(|entry| entry.line == line)

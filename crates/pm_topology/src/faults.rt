@@ -1,3 +1,5 @@
+//! What is wrong with a table of the chip.
+
 use thiserror::Error;
 
 /// What an entry of a topology breaks. The causes are numbered from 1.

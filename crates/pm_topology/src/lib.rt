@@ -5,15 +5,16 @@
 pub mod check;
 pub mod chip;
 pub mod classes;
-#[cfg(test)]
-mod fault_tests;
 pub mod faults;
+pub mod laws;
 pub mod places;
-#[cfg(test)]
-mod tests;
 pub mod topology;
+pub mod unit_map;
+pub mod units;
 
 pub use chip::zynqmp;
 pub use faults::{TopoCause, TopoFault};
 pub use places::Kind;
 pub use topology::{LineDef, MasterDef, PowerDef, ProcDef, SlaveDef, SlaveState, Topology};
+pub use unit_map::UnitMap;
+pub use units::{has_unit, is_before, needs_in, needs_power, parent_of_unit, same_unit, units_of};

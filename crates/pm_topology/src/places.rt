@@ -55,7 +55,7 @@ impl Topology {
     }
 
     /// The place of the power node directly above a node.
-    fn parent(&self, n: NodeId) -> Option<usize>
+    pub(crate) fn parent(&self, n: NodeId) -> Option<usize>
         ensures { result ≡ parent_at self.now (kind_of self.now n) }
     {
         match self.kind(n) {

@@ -1,3 +1,5 @@
+//! The table of a chip: its slaves, processors, power nodes, reset lines and masters.
+
 ghost use Rattle.std.specs.Prelude.{◌≡◌, IfOk};
 
 use pm_base::{Caps, LineId, List, NoMemory, NodeId};

@@ -8,8 +8,8 @@ joined front back none first whole empty put more = cc
 
 pub returns : goal.returns
 returns c =
-    joined (map (λ p. child p.node p.parent false) c.args.t.now.procs) (map (λ s. child s.node s.parent false) c.args.t.now.slaves)
-    c.new-children.result.items c.push_procs.new.children.items c.push_slaves.new.children.items
+    joined (map (λ s. child s.node s.parent false) c.args.t.now.slaves) (map (λ p. child p.node p.parent false) c.args.t.now.procs)
+    c.new-children.result.items c.push_slaves.new.children.items c.push_procs.new.children.items
     c.new-children.ensures.items
     (search rules)
     (search rules)

@@ -1,0 +1,27 @@
+-- The needs of children are set one after another.
+use Rattle.std.proofs.Common.{◌≡◌, ℕ, ◌+◌, ◌<◌, Bool, false, List, [], ◌∷◌, ◌++◌, length, take, drop, get_or, slice_get, unwrap_or, refl, zero, suc, arith, ap, ◌∙◌, subst}
+use Rattle.std.specs.Prelude.{slice_set}
+use Rattle.pm_power.specs.declared.child.Child.{Child}
+use Rattle.pm_power.specs.Needs.{child, with_needs}
+
+-- what is left once one more need is set, and what was left before it
+set_first : (needs : List Bool) (c : Child) (cs : List Child) (d : Child) → d ≡ child c.node c.parent (unwrap_or (slice_get needs zero) false) → d ∷ with_needs (drop (suc zero) needs) cs ≡ with_needs needs (c ∷ cs)
+set_first [] c cs d is = ap (λ (x : Child). x ∷ with_needs [] cs) is
+set_first (need ∷ needs) c cs d is = ap (λ (x : Child). x ∷ with_needs needs cs) is
+
+none_left : (k : ℕ) → drop {A = Bool} k [] ≡ []
+none_left zero = refl
+none_left (suc k) = refl
+
+set_at : (needs : List Bool) (cs : List Child) (k : ℕ) (e d : Child) → k < length cs → d ≡ child (get_or cs k e).node (get_or cs k e).parent (unwrap_or (slice_get needs k) false) → take (suc k) (slice_set cs k d) ++ with_needs (drop (suc k) needs) (drop (suc k) (slice_set cs k d)) ≡ take k cs ++ with_needs (drop k needs) (drop k cs)
+set_at needs [] k e d within is = absurd (omega arith)
+set_at needs (c ∷ cs) zero e d within is = set_first needs c cs d is
+set_at [] (c ∷ cs) (suc k) e d within is =
+    ap (λ xs. c ∷ xs) (set_at [] cs k e d (omega arith) is ∙ ap (λ (ns : List Bool). take k cs ++ with_needs ns (drop k cs)) (none_left k))
+set_at (need ∷ needs) (c ∷ cs) (suc k) e d within is = ap (λ xs. c ∷ xs) (set_at needs cs k e d (omega arith) is)
+
+pub need_step : (needs : List Bool) (cs : List Child) (k : ℕ) (e d : Child) (whole : List Child) → k < length cs → d ≡ child (get_or cs k e).node (get_or cs k e).parent (unwrap_or (slice_get needs k) false) → take k cs ++ with_needs (drop k needs) (drop k cs) ≡ whole → take (k + 1) (slice_set cs k d) ++ with_needs (drop (k + 1) needs) (drop (k + 1) (slice_set cs k d)) ≡ whole
+need_step needs cs k e d whole within is before =
+    let next : suc k ≡ k + 1 = omega arith in
+    let P : ℕ → Type 0 = λ n. take n (slice_set cs k d) ++ with_needs (drop n needs) (drop n (slice_set cs k d)) ≡ whole in
+    subst P next (set_at needs cs k e d within is ∙ before)
