@@ -1,5 +1,4 @@
-pub mod BoardLaw
-pub mod Cells
-pub mod Rising
+pub mod CellsLaw
+pub mod ChainLaw
 pub mod DeviceLaw
-pub mod FreshLaw
+pub mod Rising

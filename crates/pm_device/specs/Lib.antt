@@ -1,4 +1,7 @@
-pub mod Board
+pub mod Act
+pub mod Cells
+pub mod Chains
 pub mod Device
+pub mod Fresh
 pub mod Listed
 pub mod Model

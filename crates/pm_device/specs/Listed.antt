@@ -1,24 +1,28 @@
 -- A device that fails at listed commands.
-use Rattle.std.specs.Prelude.{ℕ, ◌+◌, ◌-◌, ◌^◌, ◌==◌, min, Bool, true, false, not, ◌||◌, List, []}
+use Rattle.std.specs.Prelude.{◌≡◌, ℕ, ◌+◌, ◌-◌, ◌^◌, ◌==◌, min, Bool, true, false, not, ◌||◌, unwrap_or, List, [], ⊤}
 use Rattle.std.specs.List.{list_any}
 use Rattle.pm_base.specs.declared.names.Unit.{Unit}
 use Rattle.pm_base.specs.declared.names.Command.{Command}
-use Rattle.pm_device.specs.declared.board.NodeCell.{NodeCell}
-use Rattle.pm_device.specs.declared.board.LineCell.{LineCell}
+use Rattle.pm_topology.specs.UnitMap.{value_of, with_value}
+use Rattle.pm_device.specs.Act.{Act, Order, Rig, Shows}
 use Rattle.pm_device.specs.Device.{DeviceMoment}
-use Rattle.pm_device.specs.Board.{value_of, has_unit, nodes_by, lines_by}
+use Rattle.pm_device.specs.Cells.{is_there}
 
--- the units, the numbers of the commands that fail, how many commands were given, and how many failed
+-- the values of the units, the numbers of the commands that fail, how many commands were given, and how many failed
 pub record Listed : Type 0 where
-  pub nodes : List NodeCell
-  pub lines : List LineCell
+  pub values : List (Unit × ℕ)
   pub failing : List ℕ
   pub commands : ℕ
   pub faults : ℕ
 
--- what it tells: its values alone, beside its counts
+-- what it shows: its values alone, beside its count of faults
 abbrev pub listed_moment : Listed → DeviceMoment
-listed_moment d = record { value = value_of d.nodes d.lines; has = has_unit d.nodes d.lines; broken = []; commands = d.commands; faults = d.faults }
+listed_moment d = record {
+  value = λ unit. unwrap_or (value_of d.values unit) 0;
+  has = is_there d.values;
+  broken = [];
+  faults = d.faults;
+}
 
 -- the next number, or the last one
 abbrev pub next : ℕ → ℕ
@@ -26,14 +30,26 @@ next count = min (count + 1) (2 ^ 64 - 1)
 
 -- the next command fails where its number is listed, and on a unit that isn't there
 abbrev pub next_fails : Listed → Unit → Bool
-next_fails d unit = list_any (λ number. number == next d.commands) d.failing || not (has_unit d.nodes d.lines unit)
+next_fails d unit = list_any (λ number. number == next d.commands) d.failing || not (is_there d.values unit)
 
 -- after a command that was carried out, and after one that failed
 abbrev pub listed_after : Command → Bool → Listed → Listed
 listed_after command true d =
-    record d {
-      nodes = nodes_by command.unit command.value d.nodes;
-      lines = lines_by command.unit command.value d.lines;
-      commands = next d.commands;
-    }
+    record d { values = with_value command.unit command.value d.values; commands = next d.commands }
 listed_after command false d = record d { commands = next d.commands; faults = next d.faults }
+
+-- after an act; a node that is rigged changes nothing
+abbrev pub listed_by : Act → Listed → Listed
+listed_by (Order command ok) d = listed_after command ok d
+listed_by (Rig node broken) d = d
+
+-- an order is refused exactly where it fails by its number or its unit
+abbrev pub IsAnsweredBy : Act → Listed → Type 0
+IsAnsweredBy (Order command ok) d = ok ≡ not (next_fails d command.unit)
+IsAnsweredBy (Rig node broken) d = ⊤
+
+-- an act leads from the one to the other
+pub record ListedDoes (act : Act) (old new : Listed) : Type 0 where
+  pub shows : Shows ⊤ ⊥ act (listed_moment old) (listed_moment new)
+  pub after : new ≡ listed_by act old
+  pub answer : IsAnsweredBy act old

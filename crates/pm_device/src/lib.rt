@@ -2,13 +2,13 @@
 //! memory for tests and for replays.
 #![tactic(auto)]
 
-pub mod board;
+pub mod cells;
 pub mod device;
+mod laws;
 pub mod listed;
 pub mod model;
-#[cfg(test)]
-mod tests;
 
 pub use device::Device;
+pub use laws::{acts_append, chain_shows, chains_join, none_is_refused};
 pub use listed::ListedDevice;
 pub use model::ModelDevice;

@@ -1,13 +1,17 @@
-ghost use Rattle.std.specs.Prelude.{◌≡◌, ◌==◌, ◌∷◌, [], IfOk, is_ok, not};
+//! A device that fails at listed commands.
+
+ghost use Rattle.std.specs.Prelude.{◌≡◌, ◌==◌, IfOk, is_ok, not};
 ghost use Rattle.std.specs.List.{list_any};
 ghost use Rattle.pm_base.specs.Faults.{HasCause};
-ghost use Rattle.pm_device.specs.Board.{IsFresh};
+ghost use Rattle.pm_base.specs.declared.names.Unit.{Unit as Part};
+ghost use Rattle.pm_device.specs.Act.{Order, value_by};
+ghost use Rattle.pm_device.specs.Fresh.{IsFresh};
 ghost use Rattle.pm_device.specs.Listed.{listed_after, listed_moment, next, next_fails};
 
-use crate::board::{self, LineCell, NodeCell};
+use crate::cells::is_there;
 use crate::device::Device;
 use pm_base::{Command, Failed, NoMemory, NodeId, Unit};
-use pm_topology::Topology;
+use pm_topology::{Topology, UnitMap};
 use std::alloc::Global;
 use std::marker::Model;
 
@@ -15,8 +19,7 @@ use std::marker::Model;
 /// on units that the chip doesn't have.
 #[derive(Drop)]
 pub struct ListedDevice {
-    nodes: Vec<NodeCell>,
-    lines: Vec<LineCell>,
+    values: UnitMap<u32>,
     failing: Vec<u32>,
     commands: u64,
     faults: u64,
@@ -28,8 +31,7 @@ impl Model for ListedDevice {
     ghost Value = { Listed };
 
     ghost view = { λ device. record {
-      nodes = device.nodes.items;
-      lines = device.lines.items;
+      values = device.values;
       failing = device.failing.items;
       commands = device.commands;
       faults = device.faults;
@@ -48,9 +50,9 @@ impl ListedDevice {
         ensures failing { IfOk result (λ device. device.failing ≡ failing.now) }
         ensures first { IfOk result (λ device. device.commands ≡ 0) }
     {
+        let values = UnitMap::load(alloc, t, 0)?;
         Ok(ListedDevice {
-            nodes: board::nodes_of(alloc, t)?,
-            lines: board::lines_of(alloc, t)?,
+            values,
             failing: Vec::from_slice(alloc, failing).map_err(|_| NoMemory)?,
             commands: 0,
             faults: 0,
@@ -61,7 +63,7 @@ impl ListedDevice {
     pub fn value(&self, unit: Unit) -> u32
         ensures { result ≡ (listed_moment self.now).value unit }
     {
-        board::value_of(&self.nodes, &self.lines, unit)
+        self.values.get(unit).unwrap_or(0)
     }
 
     /// Carries a command out, or counts a fault.
@@ -69,31 +71,35 @@ impl ListedDevice {
         ensures answer { is_ok result ≡ not (next_fails self.old command.unit) }
         ensures after { self.new ≡ listed_after command (is_ok result) self.old }
         ensures cause { HasCause self.old.faults self.new.faults result }
+        ensures values { (unit : Part) → (listed_moment self.new).value unit
+            ≡ value_by (Order command (is_ok result)) (listed_moment self.old).value unit }
     {
         self.commands = self.commands.saturating_add(1);
-        if is_listed(&self.failing, self.commands)
-            || !board::has_unit(&self.nodes, &self.lines, command.unit)
-        {
+        if is_listed(&self.failing, self.commands) || !is_there(&self.values, command.unit) {
             self.faults = self.faults.saturating_add(1);
             return Err(Failed);
         }
-        board::set(&mut self.nodes, &mut self.lines, command);
+        self.values.set(command.unit, command.value);
         Ok(())
     }
 }
 
 impl Device for ListedDevice {
     ghost use Rattle.std.specs.Prelude.{⊤};
-    ghost use Rattle.pm_device.specs.Device.{Commanded, Rigged, answered};
-    ghost use Rattle.pm_device.specs.Listed.{listed_moment};
+    ghost use Rattle.pm_device.specs.Act.{Order, Rig};
+    ghost use Rattle.pm_device.specs.Listed.{ListedDoes, listed_moment};
 
-    ghost tells_values = { ⊤ };
+    ghost values_observable = { ⊤ };
 
     ghost state = { listed_moment };
 
+    ghost Does = { ListedDoes };
+
+    ghost shows = { λ _ _ _ does. does.shows };
+
     fn command(&mut self, command: Command) -> Result<(), Failed>
         ensures cause { HasCause self.old.faults self.new.faults result }
-        ensures commanded { Commanded ⊤ ⊥ (answered command (is_ok result) ∷ []) (listed_moment self.old) (listed_moment self.new) }
+        ensures does { ListedDoes (Order command (is_ok result)) self.old self.new }
         ensures listed { is_ok result ≡ not (next_fails self.old command.unit) }
         ensures number { self.new.commands ≡ next self.old.commands }
         ensures failing { self.new.failing ≡ self.old.failing }
@@ -103,7 +109,7 @@ impl Device for ListedDevice {
     }
 
     fn rig(&mut self, _node: NodeId, _broken: bool)
-        ensures rigged { Rigged ⊤ ⊥ _node _broken (listed_moment self.old) (listed_moment self.new) }
+        ensures does { ListedDoes (Rig _node _broken) self.old self.new }
         ensures same { self.new ≡ self.old }
     {}
 }

@@ -1,13 +1,18 @@
-ghost use Rattle.std.specs.Prelude.{◌≡◌, ◌∷◌, [], ◌||◌, IfOk, is_ok, not, true};
+//! A device that fails on broken nodes.
+
+ghost use Rattle.std.specs.Prelude.{◌≡◌, ◌||◌, IfOk, is_ok, not, true, false};
 ghost use Rattle.pm_base.specs.Faults.{HasCause};
-ghost use Rattle.pm_device.specs.Board.{IsFresh, has_unit, is_broken_cell, numbers};
-ghost use Rattle.pm_device.specs.Device.{rises};
+ghost use Rattle.pm_base.specs.declared.names.Unit.{Unit as Part};
+ghost use Rattle.pm_device.specs.Act.{Order, Rig, broken_by, value_by};
+ghost use Rattle.pm_device.specs.Cells.{broken_of, is_broken_cell, is_there};
+ghost use Rattle.pm_device.specs.Device.{fails, is_broken, rises};
+ghost use Rattle.pm_device.specs.Fresh.{IsFresh, IsWhole};
 ghost use Rattle.pm_device.specs.Model.{bench_after, bench_rigged, does_fail, moment_of};
 
-use crate::board::{self, LineCell, NodeCell};
+use crate::cells::{self, Cell};
 use crate::device::Device;
 use pm_base::{Command, Failed, NoMemory, NodeId, Unit};
-use pm_topology::Topology;
+use pm_topology::{Topology, UnitMap};
 use std::alloc::Global;
 use std::marker::Model;
 
@@ -15,52 +20,38 @@ use std::marker::Model;
 /// chip doesn't have.
 #[derive(Drop)]
 pub struct ModelDevice {
-    nodes: Vec<NodeCell>,
-    lines: Vec<LineCell>,
-    commands: u64,
+    cells: UnitMap<Cell>,
     faults: u64,
 }
 
 impl Model for ModelDevice {
-    ghost use Rattle.std.specs.Prelude.{◌≡◌, true};
-    ghost use Rattle.pm_device.specs.Board.{numbers};
-    ghost use Rattle.pm_device.specs.Device.{rises};
     ghost use Rattle.pm_device.specs.Model.{Bench};
 
     ghost Value = { Bench };
 
-    ghost view = { λ device. record {
-      nodes = device.nodes.items;
-      lines = device.lines.items;
-      commands = device.commands;
-      faults = device.faults;
-    } };
-
-    ghost invariant = { λ device. rises (numbers device.nodes.items) ≡ true };
+    ghost view = { λ device. record { cells = device.cells; faults = device.faults } };
 }
 
 impl ModelDevice {
-    /// The device of a chip. All its units stand at 0, and nothing is broken.
+    /// The device of a chip. All its units stand at 0, nothing is broken, and it refuses no order on
+    /// a unit of the chip until a node is broken.
     ///
     /// # Errors
     ///
     /// `NoMemory` where there is not enough memory.
     pub fn new(alloc: Global, t: &Topology) -> Result<ModelDevice, NoMemory>
-        ensures { IfOk result (λ device. IsFresh t.now (moment_of device)) }
+        ensures fresh { IfOk result (λ device. IsFresh t.now (moment_of device)) }
+        ensures whole { IfOk result (λ device. IsWhole t.now (moment_of device)) }
     {
-        Ok(ModelDevice {
-            nodes: board::nodes_of(alloc, t)?,
-            lines: board::lines_of(alloc, t)?,
-            commands: 0,
-            faults: 0,
-        })
+        let cells = cells::idle_cells(alloc, t)?;
+        Ok(ModelDevice { cells, faults: 0 })
     }
 
     /// The value of a unit, and 0 of an unknown one.
     pub fn value(&self, unit: Unit) -> u32
         ensures { result ≡ (moment_of self.now).value unit }
     {
-        board::value_of(&self.nodes, &self.lines, unit)
+        cells::cell_of(&self.cells, unit).value
     }
 
     /// Carries a command out, or counts a fault.
@@ -68,53 +59,72 @@ impl ModelDevice {
         ensures answer { is_ok result ≡ not (does_fail self.old command.unit) }
         ensures after { self.new ≡ bench_after command (is_ok result) self.old }
         ensures cause { HasCause self.old.faults self.new.faults result }
+        ensures values { (unit : Part) → (moment_of self.new).value unit
+            ≡ value_by (Order command (is_ok result)) (moment_of self.old).value unit }
+        ensures units { (unit : Part) → (moment_of self.new).has unit ≡ (moment_of self.old).has unit }
+        ensures broken { broken_of self.new.cells ≡ broken_of self.old.cells }
+        ensures listed { does_fail self.old command.unit ≡ fails (moment_of self.old) command.unit }
+        ensures rising { rises (broken_of self.old.cells) ≡ true }
     {
-        self.commands = self.commands.saturating_add(1);
-        if does_fail(&self.nodes, &self.lines, command.unit) {
+        if does_fail(&self.cells, command.unit) {
             self.faults = self.faults.saturating_add(1);
             return Err(Failed);
         }
-        board::set(&mut self.nodes, &mut self.lines, command);
+        cells::set_value(&mut self.cells, command.unit, command.value);
         Ok(())
     }
 
     /// Breaks or mends a node.
     fn set_broken(&mut self, node: NodeId, broken: bool)
-        ensures rising { rises (numbers self.old.nodes) ≡ true }
         ensures after { self.new ≡ bench_rigged node broken self.old }
+        ensures values { (unit : Part) → (moment_of self.new).value unit ≡ (moment_of self.old).value unit }
+        ensures units { (unit : Part) → (moment_of self.new).has unit ≡ (moment_of self.old).has unit }
+        ensures broken { broken_of self.new.cells ≡ broken_by (Rig node broken) (moment_of self.old) }
+        ensures rising { rises (broken_of self.new.cells) ≡ true }
     {
-        board::rig_node(&mut self.nodes, node, broken);
+        cells::set_broken(&mut self.cells, node, broken);
     }
 }
 
 impl Device for ModelDevice {
     ghost use Rattle.std.specs.Prelude.{⊤};
-    ghost use Rattle.pm_device.specs.Device.{Commanded, answered};
-    ghost use Rattle.pm_device.specs.Model.{bench_after, does_fail, moment_of};
+    ghost use Rattle.pm_device.specs.Act.{Order, Rig};
+    ghost use Rattle.pm_device.specs.Model.{BenchDoes, bench_after, bench_rigged, does_fail, moment_of};
 
-    ghost tells_values = { ⊤ };
+    ghost values_observable = { ⊤ };
 
-    ghost tells_broken = { ⊤ };
+    ghost nodes_observable = { ⊤ };
 
     ghost state = { moment_of };
 
+    ghost Does = { BenchDoes };
+
+    ghost shows = { λ _ _ _ does. does.shows };
+
     fn command(&mut self, command: Command) -> Result<(), Failed>
         ensures cause { HasCause self.old.faults self.new.faults result }
-        ensures commanded { Commanded ⊤ ⊤ (answered command (is_ok result) ∷ []) (moment_of self.old) (moment_of self.new) }
+        ensures does { BenchDoes (Order command (is_ok result)) self.old self.new }
         ensures answer { is_ok result ≡ not (does_fail self.old command.unit) }
         ensures after { self.new ≡ bench_after command (is_ok result) self.old }
     {
         self.carry_out(command)
     }
 
-    fn rig(&mut self, node: NodeId, broken: bool) {
+    fn rig(&mut self, node: NodeId, broken: bool)
+        ensures does { BenchDoes (Rig node broken) self.old self.new }
+        ensures after { self.new ≡ bench_rigged node broken self.old }
+    {
         self.set_broken(node, broken);
     }
 }
 
 /// Whether a command on this unit fails.
-fn does_fail(nodes: &[NodeCell], lines: &[LineCell], unit: Unit) -> bool
-    ensures { result ≡ (not (has_unit nodes.now lines.now unit) || is_broken_cell nodes.now unit) }
+fn does_fail(cells: &UnitMap<Cell>, unit: Unit) -> bool
+    ensures answer { result ≡ (not (is_there cells.now unit) || is_broken_cell cells.now unit) }
+    ensures works { result ≡ false → is_there cells.now unit ≡ true }
+    ensures listed { is_broken_cell cells.now unit ≡ is_broken (broken_of cells.now) unit }
+    ensures rising { rises (broken_of cells.now) ≡ true }
 {
-    !board::has_unit(nodes, lines, unit) || board::is_broken(nodes, unit)
+    let broken = cells::is_broken(cells, unit);
+    !cells::is_there(cells, unit) || broken
 }
