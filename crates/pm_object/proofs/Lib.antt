@@ -5,9 +5,13 @@ pub mod ReadLists
 pub mod ReadMasters
 pub mod ReadRecords
 pub mod ReadHeader
-pub mod Parts
+pub mod Bodies
+pub mod SectionNames
 pub mod ReadNames
 pub mod ReadBodies
 pub mod ReadSections
 pub mod ReadObject
 pub mod Fitting
+pub mod Local
+pub mod LocalReaders
+pub mod Fatal

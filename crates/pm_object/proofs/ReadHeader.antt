@@ -1,12 +1,12 @@
 -- The header that is read is the header that is written.
 use Rattle.std.proofs.Common.{◌≡◌, ℕ, ◌+◌, ◌-◌, false, not, eqb, ltb, List, [], ◌∷◌, ◌++◌, length, Ok, refl, sym, ap, subst, ◌∙◌, arith}
 use Rattle.std.specs.Bool.{⊤}
-use Rattle.std.proofs.lemmas.Bool.{eqb-true, ltb-false, le-ltb}
+use Rattle.std.proofs.lemmas.Bool.{eqb-true, ltb-false, le-ltb, not-false}
 use Rattle.std.proofs.lemmas.List.Elements.{All-nil}
 use Rattle.pm_object.specs.declared.header.Header.{Header}
 use Rattle.pm_object.specs.declared.object.ObjectCause.TheVariants.{HeaderShort, BadType}
 use Rattle.pm_object.specs.Reading.{Cursor, Step, word, header, records}
-use Rattle.pm_object.proofs.Steps.{bind_ok, passed, ok_is, Again, before, word_takes, word_again, not_false}
+use Rattle.pm_object.proofs.Steps.{bind_ok, passed, ok_is, Again, before, word_takes, word_again}
 use Rattle.pm_object.proofs.ReadLists.{IsReader, records_take, records_again, flat_map_words}
 
 abbrev one : List ℕ → Cursor → Step ℕ
@@ -34,7 +34,7 @@ header_takes c h d e =
     let more = word_takes c m.0.0 m.0.1 m.1 in
     let sections = word_takes m.0.1 s.0.0 s.0.1 s.1 in
     let kind = word_takes s.0.1 t.0.0 t.0.1 t.1 in
-    let one_is : t.0.0 ≡ 1 = eqb-true _ _ (not_false (eqb t.0.0 1) k.0) in
+    let one_is : t.0.0 ≡ 1 = eqb-true _ _ (not-false (eqb t.0.0 1) k.0) in
     let taken = records_take one spell (λ _. ⊤) (λ _ _. ⊤) reader (m.0.0 - 2) [] t.0.1 x.0.0 x.0.1 (All-nil (λ _. ⊤)) (λ i j v below within. tt) x.1 in
     let long : 2 + length x.0.0 ≡ m.0.0 = omega (arith, ap length taken.is, taken.count, ltb-false m.0.0 2 g.0) in
     let extra : t.0.1.left ≡ x.0.0 ++ x.0.1.left = taken.words ∙ ap (λ (l : List ℕ). l ++ x.0.1.left) (flat_map_words taken.new ∙ sym taken.is) in

@@ -1,14 +1,15 @@
 -- The masters that are read are the masters that are written.
 use Rattle.std.proofs.Common.{◌≡◌, ◌≢◌, ℕ, ◌+◌, ◌<◌, true, false, cond, not, ◌||◌, eqb, List, [], ◌∷◌, ◌++◌, length, bit_and, count_ones, Ok, refl, sym, ap, subst, ◌∙◌, arith}
 use Rattle.std.specs.List.{All, list_any, flat_map}
-use Rattle.std.proofs.lemmas.Bool.{eqb-false, eqb-true, ne_eqb, eq-eqb}
+use Rattle.std.proofs.lemmas.Bool.{eqb-false, eqb-true, ne_eqb, eq-eqb, not-false}
 use Rattle.std.proofs.lemmas.List.Elements.{All-nil, All-weaker}
 use Rattle.std.proofs.lemmas.List.Folds.{list_any_none}
+use Rattle.pm_base.proofs.Booleans.{neither}
 use Rattle.pm_object.specs.declared.object.MasterRec.{MasterRec}
 use Rattle.pm_object.specs.declared.object.ObjectCause.TheVariants.{NoMasters, BadMaster, MaskRepeated, RepeatedNode}
 use Rattle.pm_object.specs.Grammar.{is_master_node, splits_lockstep, master_words, counted, IsMaster, AreApart, AreMasters}
 use Rattle.pm_object.specs.Reading.{Cursor, fault, word, master_node, master_mask, master, masters, records}
-use Rattle.pm_object.proofs.Steps.{bind_ok, passed, ok_is, Again, before, word_takes, word_again, tested_takes, or_false, not_false, any_false}
+use Rattle.pm_object.proofs.Steps.{bind_ok, passed, ok_is, Again, before, word_takes, word_again, tested_takes, any_false}
 use Rattle.pm_object.proofs.ReadLists.{IsReader, records_take, records_again}
 
 -- ---- the node
@@ -29,10 +30,10 @@ node_takes earlier c w d e =
     let is = ok_is a.0 (w, d) h.1 in
     let good : bad w ≡ false = subst (λ (p : ℕ × Cursor). bad p.0 ≡ false) is g.0 in
     let free : taken w ≡ false = subst (λ (p : ℕ × Cursor). taken p.0 ≡ false) is h.0 in
-    let parts = or_false (not (is_master_node w)) (list_any (λ m. splits_lockstep m.node w) earlier) good in (
+    let parts = neither (not (is_master_node w)) (list_any (λ m. splits_lockstep m.node w) earlier) good in (
       word_takes c w d (a.1 ∙ h.1),
       record {
-        known = not_false (is_master_node w) parts.0;
+        known = not-false (is_master_node w) parts.0;
         modes = any_false (λ (m : MasterRec). splits_lockstep m.node w) earlier parts.1;
         own = All-weaker (λ (e : MasterRec). eqb e.node w ≡ false) (λ e. e.node ≢ w) (λ e differs. eqb-false e.node w differs) earlier (any_false (λ (m : MasterRec). eqb m.node w) earlier free);
       },
@@ -56,11 +57,11 @@ mask_takes : (earlier : List MasterRec) (c : Cursor) (w : ℕ) (d : Cursor) → 
 unfolding master_mask
 mask_takes earlier c w d e =
     let t = tested_takes (λ v. not (eqb (count_ones v) 1) || list_any (λ m. not (eqb (bit_and m.mask v) 0)) earlier) MaskRepeated c w d e in
-    let parts = or_false (not (eqb (count_ones w) 1)) (list_any (λ m. not (eqb (bit_and m.mask w) 0)) earlier) t.1 in (
+    let parts = neither (not (eqb (count_ones w) 1)) (list_any (λ m. not (eqb (bit_and m.mask w) 0)) earlier) t.1 in (
       t.0,
       record {
-        one_bit = eqb-true _ _ (not_false (eqb (count_ones w) 1) parts.0);
-        own = All-weaker (λ (e : MasterRec). not (eqb (bit_and e.mask w) 0) ≡ false) (λ e. bit_and e.mask w ≡ 0) (λ e no. eqb-true (bit_and e.mask w) 0 (not_false (eqb (bit_and e.mask w) 0) no)) earlier (any_false (λ (m : MasterRec). not (eqb (bit_and m.mask w) 0)) earlier parts.1);
+        one_bit = eqb-true _ _ (not-false (eqb (count_ones w) 1) parts.0);
+        own = All-weaker (λ (e : MasterRec). not (eqb (bit_and e.mask w) 0) ≡ false) (λ e. bit_and e.mask w ≡ 0) (λ e no. eqb-true (bit_and e.mask w) 0 (not-false (eqb (bit_and e.mask w) 0) no)) earlier (any_false (λ (m : MasterRec). not (eqb (bit_and m.mask w) 0)) earlier parts.1);
       },
     )
 

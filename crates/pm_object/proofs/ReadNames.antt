@@ -1,7 +1,7 @@
 -- The identifier that is read is that of a section which may come next.
-use Rattle.std.proofs.Common.{◌≡◌, ◌≢◌, ℕ, Bool, true, false, cond, not, ◌&&◌, eqb, List, [], ◌∷◌, length, Option, Some, None, ◌⊎◌, inl, inr, Ok, refl, ap, subst, ◌∙◌, arith}
+use Rattle.std.proofs.Common.{◌≡◌, ◌≢◌, ℕ, Bool, true, false, cond, not, ◌&&◌, eqb, List, [], ◌∷◌, length, Option, Some, None, Ok, refl, ap, subst, ◌∙◌, arith}
 use Rattle.std.specs.List.{All}
-use Rattle.std.proofs.lemmas.Bool.{eqb-false, eqb-true, ne_eqb}
+use Rattle.std.proofs.lemmas.Bool.{eqb-false, eqb-true, ne_eqb, not-false}
 use Rattle.std.proofs.lemmas.List.Elements.{All-weaker}
 use Rattle.std.proofs.lemmas.List.Folds.{list_any_none}
 use Rattle.pm_object.specs.declared.object.Section.{Section}
@@ -9,8 +9,8 @@ use Rattle.pm_object.specs.declared.object.Section.TheVariants.{Masters, Slaves,
 use Rattle.pm_object.specs.declared.object.ObjectCause.TheVariants.{RepeatedSection, NoMasters}
 use Rattle.pm_object.specs.Grammar.{identifier}
 use Rattle.pm_object.specs.Reading.{Cursor, ◌>>=◌, fault, word, section_of, is_among, section_after, section_name}
-use Rattle.pm_object.proofs.Steps.{bind_ok, passed, ok_is, Again, word_takes, word_again, not_false, any_false}
-use Rattle.pm_object.proofs.Parts.{some_is, section_again, same_section_from_identifier}
+use Rattle.pm_object.proofs.Steps.{bind_ok, passed, ok_is, Again, word_takes, word_again, any_false}
+use Rattle.pm_object.proofs.SectionNames.{some_is, section_again, same_section_from_identifier}
 
 -- a section that may come after these
 pub record MayFollow (order : List Section) (s : Section) : Type 0 where
@@ -19,44 +19,17 @@ pub record MayFollow (order : List Section) (s : Section) : Type 0 where
 
 -- ---- a word names at most one section
 
-chosen : (b : Bool) (x y : Option Section) (s : Section) → cond b x y ≡ Some s → ((b ≡ true) × (x ≡ Some s)) ⊎ ((b ≡ false) × (y ≡ Some s))
-chosen true x y s e = inl (refl, e)
-chosen false x y s e = inr (refl, e)
-
-named : (w : ℕ) (s t : Section) → eqb w (identifier t) ≡ true → Some t ≡ Some s → w ≡ identifier s
-named w s t e same = eqb-true w (identifier t) e ∙ ap identifier (some_is t s same)
+-- where the word isn't this section's, it is that of another
+one : (w : ℕ) (s t : Section) (others : Option Section) → (others ≡ Some s → w ≡ identifier s) → cond (eqb w (identifier t)) (Some t) others ≡ Some s → w ≡ identifier s
+one w s t others later = at (eqb w (identifier t)) refl
+  where
+    at : (b : Bool) → eqb w (identifier t) ≡ b → cond b (Some t) others ≡ Some s → w ≡ identifier s
+    at true is e = eqb-true w (identifier t) is ∙ ap identifier (some_is t s e)
+    at false is e = later e
 
 pub section_of_is : (w : ℕ) (s : Section) → section_of w ≡ Some s → w ≡ identifier s
-section_of_is w s e =
-    elim (chosen (eqb w 0x101) _ _ s e) [
-      | inl a ↦ named w s Masters a.0 a.1
-      | inr a ↦
-          elim (chosen (eqb w 0x102) _ _ s a.1) [
-            | inl b ↦ named w s Slaves b.0 b.1
-            | inr b ↦
-                elim (chosen (eqb w 0x103) _ _ s b.1) [
-                  | inl c ↦ named w s Prealloc c.0 c.1
-                  | inr c ↦
-                      elim (chosen (eqb w 0x104) _ _ s c.1) [
-                        | inl d ↦ named w s Power d.0 d.1
-                        | inr d ↦
-                            elim (chosen (eqb w 0x105) _ _ s d.1) [
-                              | inl f ↦ named w s Reset f.0 f.1
-                              | inr f ↦
-                                  elim (chosen (eqb w 0x106) _ _ s f.1) [
-                                    | inl g ↦ named w s Shutdown g.0 g.1
-                                    | inr g ↦
-                                        elim (chosen (eqb w 0x107) _ _ s g.1) [
-                                          | inl h ↦ named w s Config h.0 h.1
-                                          | inr h ↦
-                                              elim (chosen (eqb w 0x108) _ _ s h.1) [ inl i ↦ named w s Gpo i.0 i.1 | inr i ↦ absurd cc ]
-                                        ]
-                                  ]
-                            ]
-                      ]
-                ]
-          ]
-    ]
+section_of_is w s =
+    one w s Masters _ (one w s Slaves _ (one w s Prealloc _ (one w s Power _ (one w s Reset _ (one w s Shutdown _ (one w s Config _ (one w s Gpo None (λ none. cc))))))))
 
 -- ---- whether it may come
 
@@ -65,7 +38,7 @@ out_of_place order s = (eqb (length order) 0) && not (eqb (identifier s) (identi
 
 first_is : (order : List Section) (s : Section) → out_of_place order s ≡ false → order ≡ [] → s ≡ Masters
 unfolding out_of_place
-first_is [] s e none = same_section_from_identifier s Masters (eqb-true _ _ (not_false (eqb (identifier s) (identifier Masters)) e))
+first_is [] s e none = same_section_from_identifier s Masters (eqb-true _ _ (not-false (eqb (identifier s) (identifier Masters)) e))
 first_is (t ∷ order) s e none = absurd cc
 
 in_place : (order : List Section) (s : Section) → (order ≡ [] → s ≡ Masters) → out_of_place order s ≡ false

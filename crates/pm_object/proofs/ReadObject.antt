@@ -2,7 +2,7 @@
 use Rattle.std.proofs.Common.{◌≡◌, ◌≢◌, ℕ, ◌+◌, ◌*◌, ◌%◌, ◌^◌, ◌<◌, ◌≤◌, Bool, true, false, cond, not, eqb, ltb, List, [], ◌∷◌, ◌++◌, length, slice_get, Some, None, ◌↔◌, ◌⊎◌, inl, inr, Result, Ok, Err, refl, sym, ap, subst, ◌∙◌, arith}
 use Rattle.std.specs.Prelude.{IfOk}
 use Rattle.std.specs.List.{All, AllPairs, Contains, flat_map}
-use Rattle.std.proofs.lemmas.Bool.{eqb-true, eqb-false, ne_eqb, eq-eqb, ltb-false, le-ltb}
+use Rattle.std.proofs.lemmas.Bool.{eqb-true, eqb-false, ne_eqb, eq-eqb, ltb-false, le-ltb, not-false}
 use Rattle.std.proofs.lemmas.List.{append-nil}
 use Rattle.std.proofs.lemmas.List.Elements.{All-nil}
 use Rattle.pm_object.specs.declared.header.Header.{Header}
@@ -12,11 +12,13 @@ use Rattle.pm_object.specs.declared.object.Object.{Object}
 use Rattle.pm_object.specs.declared.object.DecodeError.{DecodeError}
 use Rattle.pm_object.specs.declared.object.ObjectFault.{ObjectFault}
 use Rattle.pm_object.specs.declared.object.ObjectCause.TheVariants.{TooLong, Length, NoMasters, Trailing}
-use Rattle.pm_object.specs.Grammar.{IsObject, Reads, little_endian, words_of, section_words, IsSection, IsUnset, IsMaster, AreApart, HasOwnNodes}
-use Rattle.pm_object.specs.Reading.{Cursor, fault, header, sections, unset, object, words, reading, fault_of, first_fault, Gives}
+use Rattle.pm_object.specs.Bodies.{no_body, unset}
+use Rattle.pm_object.specs.Grammar.{IsObject, Reads, little_endian, words_of, section_words, IsBody, IsMaster, AreApart, HasOwnNodes}
+use Rattle.pm_object.specs.Reading.{Cursor, fault, header, sections, object, words, reading, fault_of, first_fault, Gives}
 use Rattle.pm_object.proofs.Bytes.{IsBytes, bytes_fit, words_again, length_little_endian, bytes_again, words_fit}
-use Rattle.pm_object.proofs.Steps.{bind_ok, passed, ok_is, not_false}
+use Rattle.pm_object.proofs.Steps.{bind_ok, passed, ok_is}
 use Rattle.pm_object.proofs.ReadHeader.{header_takes, header_again}
+use Rattle.pm_object.proofs.Bodies.{body-unset}
 use Rattle.pm_object.proofs.ReadSections.{IsPart, UpTo, IsReadable, sections_take, sections_again}
 
 -- ---- an object without sections
@@ -24,28 +26,18 @@ use Rattle.pm_object.proofs.ReadSections.{IsPart, UpTo, IsReadable, sections_tak
 none_apart : {A : Type 0} (R : A → A → Type 0) → AllPairs R []
 none_apart R i j d below within = absurd (omega arith)
 
-unset_sections : (extra : List ℕ) (s : Section) → IsSection s (unset extra)
-unset_sections extra Masters = record { each = All-nil IsMaster; apart = none_apart AreApart }
-unset_sections extra Slaves = none_apart (λ a b. a.node ≢ b.node)
-unset_sections extra Prealloc = All-nil HasOwnNodes
-unset_sections extra Power = none_apart (λ a b. a.key ≢ b.key)
-unset_sections extra Reset = none_apart (λ a b. a.key ≢ b.key)
-unset_sections extra Shutdown = none_apart (λ a b. a.key ≢ b.key)
-unset_sections extra Config = tt
-unset_sections extra Gpo = tt
-
-unset_says : (extra : List ℕ) (s : Section) → IsUnset s (unset extra)
-unset_says extra Masters = refl
-unset_says extra Slaves = refl
-unset_says extra Prealloc = refl
-unset_says extra Power = refl
-unset_says extra Reset = refl
-unset_says extra Shutdown = refl
-unset_says extra Config = (refl, refl)
-unset_says extra Gpo = refl
+none_together : (s : Section) → IsBody s (no_body s)
+none_together Masters = record { each = All-nil IsMaster; apart = none_apart AreApart }
+none_together Slaves = none_apart (λ a b. a.node ≢ b.node)
+none_together Prealloc = All-nil HasOwnNodes
+none_together Power = none_apart (λ a b. a.key ≢ b.key)
+none_together Reset = none_apart (λ a b. a.key ≢ b.key)
+none_together Shutdown = none_apart (λ a b. a.key ≢ b.key)
+none_together Config = tt
+none_together Gpo = tt
 
 unset_part : (extra : List ℕ) → IsPart (unset extra)
-unset_part extra = record { once = none_apart (λ s t. s ≢ t); unset = λ s hasnt. unset_says extra s; sections = unset_sections extra; begun = inl refl }
+unset_part extra = record { once = none_apart (λ s t. s ≢ t); unset = λ s hasnt. body-unset s extra; sections = λ s. subst (IsBody s) (sym (body-unset s extra)) (none_together s); begun = inl refl }
 
 -- ---- the words
 
@@ -53,7 +45,7 @@ ended_not : (b : Bool) → b ≡ false → (place : ℕ) (o p : Object) → cond
 ended_not true is place o p e = absurd cc
 ended_not false is place o p e = absurd cc
 
-ended : (left : List ℕ) (place : ℕ) (o p : Object) → cond (eqb (length left) 0) (Ok o) (fault Trailing place) ≡ Ok p → (left ≡ []) × (o ≡ p)
+pub ended : (left : List ℕ) (place : ℕ) (o p : Object) → cond (eqb (length left) 0) (Ok o) (fault Trailing place) ≡ Ok p → (left ≡ []) × (o ≡ p)
 ended [] place o p e = (refl, ok_is o p e)
 ended (w ∷ left) place o p e = absurd (ended_not (eqb (length (w ∷ left)) 0) (ne_eqb (length (w ∷ left)) 0 (λ (none : length (w ∷ left) ≡ 0). omega arith)) place o p e)
 
@@ -94,7 +86,7 @@ unfolding object
 object_again p good c text =
     let h : Header = record { sections = length p.order; extra = p.extra } in
     let front = header_again c h (flat_map (section_words p) p.order) text in
-    let start : UpTo [] (unset p.extra) p = record { order = refl; extra = refl; kept = λ s has. absurd (none_in s has); unset = λ s hasnt. unset_says p.extra s } in
+    let start : UpTo [] (unset p.extra) p = record { order = refl; extra = refl; kept = λ s has. absurd (none_in s has); unset = λ s hasnt. body-unset s p.extra } in
     let body = sections_again p good p.order [] (unset p.extra) refl start front.after [] (front.left ∙ sym (append-nil (flat_map (section_words p) p.order))) in
     let some : eqb (length p.order) 0 ≡ false = ne_eqb (length p.order) 0 (λ (none : length p.order ≡ 0). first_not p.order none good.first) in
     rw (front.is, some, body.is, body.left) refl
@@ -106,7 +98,7 @@ unfolding reading
 reads_what_it_reads bytes o fit e =
     let g = passed (ltb 16384 (length bytes)) TooLong 4096 _ o e in
     let h = passed (not (eqb (length bytes % 4) 0)) Length _ _ o g.1 in
-    let aligned : length bytes % 4 ≡ 0 = eqb-true _ _ (not_false (eqb (length bytes % 4) 0) h.0) in
+    let aligned : length bytes % 4 ≡ 0 = eqb-true _ _ (not-false (eqb (length bytes % 4) 0) h.0) in
     let taken = object_takes (record { place = 0; left = words bytes }) o h.1 in
     let again : little_endian (words bytes) ≡ bytes = bytes_again bytes fit aligned in
     let size : length (words bytes) ≤ 4096 = omega (arith, length_little_endian (words bytes), ap length again, ltb-false 16384 (length bytes) g.0) in

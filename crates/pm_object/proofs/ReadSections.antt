@@ -9,31 +9,36 @@ use Rattle.std.proofs.lemmas.Option.{slice_get_within, get_or_from_slice_get}
 use Rattle.pm_object.specs.declared.object.Section.{Section}
 use Rattle.pm_object.specs.declared.object.Section.TheVariants.{Masters}
 use Rattle.pm_object.specs.declared.object.Object.{Object}
-use Rattle.pm_object.specs.Grammar.{section_words, identifier, IsSection, IsUnset}
+use Rattle.pm_object.specs.Bodies.{body_of, no_body, with_section}
+use Rattle.pm_object.specs.Grammar.{section_words, body_words, identifier, IsBody}
 use Rattle.pm_object.specs.Reading.{Cursor, section, sections}
 use Rattle.pm_object.proofs.Steps.{bind_ok, ok_is, Again}
 use Rattle.pm_object.proofs.ReadLists.{next_pair}
 use Rattle.pm_object.proofs.ReadNames.{MayFollow}
-use Rattle.pm_object.proofs.ReadBodies.{IsNext, section_takes, section_again}
-use Rattle.pm_object.proofs.Parts.{SameIn, same_trans, same_words, same_section, same_unset, both_unset, same_object, same_or_not, contains_or_not, not_among, with_section, with_order, with_extra, with_same, with_others, same_refl, same_sym, some_is}
+use Rattle.pm_object.proofs.ReadBodies.{HasSome, IsNext, section_takes, section_again}
+use Rattle.pm_object.proofs.Bodies.{words-inner, order-section, extra-section, body-section, others-section, same_object}
+use Rattle.pm_object.proofs.SectionNames.{same_or_not, contains_or_not, not_among, some_is}
 
 -- ---- an object whose sections are read one by one
 
 pub record IsPart (o : Object) : Type 0 where
   pub once : AllPairs (λ s t. s ≢ t) o.order
-  pub unset : (s : Section) → (Contains o.order s → ⊥) → IsUnset s o
-  pub sections : (s : Section) → IsSection s o
+  pub unset : (s : Section) → (Contains o.order s → ⊥) → body_of s o ≡ no_body s
+  pub sections : (s : Section) → IsBody s (body_of s o)
   pub begun : (o.order ≡ []) ⊎ ((slice_get o.order 0 ≡ Some Masters) × (0 < length o.masters))
 
 -- the other sections stay
-next_others : (o : Object) (c : Cursor) (p : Object) (d : Cursor) (next : IsNext o c p d) (t : Section) → t ≢ next.name → SameIn t o p
-next_others o c p d next t differ = subst (λ (q : Object). SameIn t o q) (sym next.is) (with_others next.name t p o differ)
+next_others : (o : Object) (c : Cursor) (p : Object) (d : Cursor) (next : IsNext o c p d) (t : Section) → t ≢ next.name → body_of t p ≡ body_of t o
+next_others o c p d next t differ = ap (body_of t) next.is ∙ others-section next.name t next.inside o differ
+
+next_body : (o : Object) (c : Cursor) (p : Object) (d : Cursor) (next : IsNext o c p d) → body_of next.name p ≡ next.inside
+next_body o c p d next = ap (body_of next.name) next.is ∙ body-section next.name next.inside o
 
 next_order : (o : Object) (c : Cursor) (p : Object) (d : Cursor) (next : IsNext o c p d) → p.order ≡ o.order ++ next.name ∷ []
-next_order o c p d next = ap (λ (q : Object). q.order) next.is ∙ with_order next.name p o
+next_order o c p d next = ap (λ (q : Object). q.order) next.is ∙ order-section next.name next.inside o
 
 next_extra : (o : Object) (c : Cursor) (p : Object) (d : Cursor) (next : IsNext o c p d) → p.extra ≡ o.extra
-next_extra o c p d next = ap (λ (q : Object). q.extra) next.is ∙ with_extra next.name p o
+next_extra o c p d next = ap (λ (q : Object). q.extra) next.is ∙ extra-section next.name next.inside o
 
 has_first : (order : List Section) (s : Section) → slice_get order 0 ≡ Some s → Contains order s
 has_first order s e = (0, slice_get_within order 0 s e, get_or_from_slice_get order 0 s s e)
@@ -46,13 +51,12 @@ next_begun : (o : Object) (c : Cursor) (p : Object) (d : Cursor) (next : IsNext 
 next_begun o c p d next (inl none) =
     let is : next.name ≡ Masters = next.may.first none in
     let order : p.order ≡ Masters ∷ [] = next_order o c p d next ∙ ap (λ (l : List Section). l ++ next.name ∷ []) none ∙ ap (λ (s : Section). s ∷ []) is in
-    (ap (λ (l : List Section). slice_get l 0) order, next.some is)
+    (ap (λ (l : List Section). slice_get l 0) order, subst (λ (s : Section). HasSome s (body_of s p)) is (subst (HasSome next.name) (sym (next_body o c p d next)) next.some))
 next_begun o c p d next (inr begun) =
     let order = next_order o c p d next in
     let has = has_first o.order Masters begun.0 in
     let differ : Masters ≢ next.name = λ (same : Masters ≡ next.name). not_among o.order next.name next.may.new (subst (λ (s : Section). Contains o.order s) same has) in
-    let stays : o.masters ≡ p.masters = next_others o c p d next Masters differ in
-    (ap (λ (l : List Section). slice_get l 0) order ∙ first_stays o.order Masters next.name begun.0, rw (← stays) begun.1)
+    (ap (λ (l : List Section). slice_get l 0) order ∙ first_stays o.order Masters next.name begun.0, subst (HasSome Masters) (sym (next_others o c p d next Masters differ)) begun.1)
 
 pub next_part : (o : Object) (c : Cursor) (p : Object) (d : Cursor) → IsPart o → IsNext o c p d → IsPart p
 next_part o c p d part next =
@@ -63,10 +67,10 @@ next_part o c p d part next =
       unset = λ s hasnt.
           let out : Contains o.order s → ⊥ = λ (has : Contains o.order s). hasnt (subst (λ (l : List Section). Contains l s) (sym order) (Contains-append_left o.order (name ∷ []) s has)) in
           let differ : s ≢ name = λ (same : s ≡ name). hasnt (subst (λ (l : List Section). Contains l s) (sym order) (subst (λ (t : Section). Contains (o.order ++ t ∷ []) s) same (Contains-push o.order s))) in
-          same_unset s o p (next_others o c p d next s differ) (part.unset s out);
+          next_others o c p d next s differ ∙ part.unset s out;
       sections = λ s. elim (same_or_not s name) [
-        | inl same ↦ subst (λ (t : Section). IsSection t p) (sym same) next.together
-        | inr differ ↦ same_section s o p (next_others o c p d next s differ) (part.sections s)
+        | inl same ↦ subst (λ (t : Section). IsBody t (body_of t p)) (sym same) (subst (IsBody name) (sym (next_body o c p d next)) next.together)
+        | inr differ ↦ subst (IsBody s) (sym (next_others o c p d next s differ)) (part.sections s)
       ];
       begun = inr (next_begun o c p d next part.begun);
     }
@@ -77,7 +81,7 @@ pub record AreNext (n : ℕ) (o : Object) (c : Cursor) (p : Object) (d : Cursor)
   pub new : List Section
   pub order : p.order ≡ o.order ++ new
   pub count : length new ≡ n
-  pub kept : (s : Section) → Contains o.order s → SameIn s o p
+  pub kept : (s : Section) → Contains o.order s → body_of s p ≡ body_of s o
   pub extra : p.extra ≡ o.extra
   pub words : c.left ≡ flat_map (section_words p) new ++ d.left
   pub part : IsPart p
@@ -86,7 +90,7 @@ pub sections_take : (n : ℕ) (o : Object) (c : Cursor) (p : Object) (d : Cursor
 unfolding sections
 sections_take zero o c p d part e =
     subst (λ (q : Object × Cursor). AreNext 0 o c q.0 q.1) (ok_is (o, c) (p, d) e)
-    (record { new = []; order = sym (append-nil o.order); count = refl; kept = λ s has. same_refl s o; extra = refl; words = refl; part = part })
+    (record { new = []; order = sym (append-nil o.order); count = refl; kept = λ s has. refl; extra = refl; words = refl; part = part })
 sections_take (suc n) o c p d part e =
     let a = bind_ok (section o c) (λ r. sections n r.0 r.1) (p, d) e in
     let q = a.0.0 in
@@ -95,9 +99,9 @@ sections_take (suc n) o c p d part e =
     let order = next_order o c q a.0.1 next in
     let after = sections_take n q a.0.1 p d (next_part o c q a.0.1 part next) a.2 in
     let here : Contains q.order name = subst (λ (l : List Section). Contains l name) (sym order) (Contains-push o.order name) in
-    let text : section_words q name ≡ section_words p name = ap (λ (l : List ℕ). identifier name ∷ l) (same_words name q p (after.kept name here)) in
+    let inside : next.inside ≡ body_of name p = sym (after.kept name here ∙ next_body o c q a.0.1 next) in
     let words : c.left ≡ flat_map (section_words p) (name ∷ after.new) ++ d.left =
-    next.words ∙ ap (λ (l : List ℕ). l ++ a.0.1.left) text ∙ ap (λ (l : List ℕ). section_words p name ++ l) after.words
+    next.words ∙ ap (λ b. identifier name ∷ body_words name b ++ a.0.1.left) inside ∙ ap (λ ws. identifier name ∷ ws ++ a.0.1.left) (sym (words-inner name p)) ∙ ap (λ (l : List ℕ). section_words p name ++ l) after.words
     ∙ sym (append_assoc (section_words p name) (flat_map (section_words p) after.new) d.left)
     ∙ ap (λ (l : List ℕ). l ++ d.left) (sym (flat_map-cons (section_words p) name after.new)) in
     record {
@@ -107,7 +111,7 @@ sections_take (suc n) o c p d part e =
       kept = λ s has.
           let differ : s ≢ name = λ (same : s ≡ name). not_among o.order name next.may.new (subst (λ (t : Section). Contains o.order t) same has) in
           let there : Contains q.order s = subst (λ (l : List Section). Contains l s) (sym order) (Contains-append_left o.order (name ∷ []) s has) in
-          same_trans s o q p (next_others o c q a.0.1 next s differ) (after.kept s there);
+          after.kept s there ∙ next_others o c q a.0.1 next s differ;
       extra = after.extra ∙ next_extra o c q a.0.1 next;
       words = words;
       part = after.part;
@@ -119,44 +123,48 @@ sections_take (suc n) o c p d part e =
 pub record UpTo (done : List Section) (o p : Object) : Type 0 where
   pub order : o.order ≡ done
   pub extra : o.extra ≡ p.extra
-  pub kept : (s : Section) → Contains done s → SameIn s o p
-  pub unset : (s : Section) → (Contains done s → ⊥) → IsUnset s o
+  pub kept : (s : Section) → Contains done s → body_of s o ≡ body_of s p
+  pub unset : (s : Section) → (Contains done s → ⊥) → body_of s o ≡ no_body s
 
 -- what p is to be read from sections
 pub record IsReadable (p : Object) : Type 0 where
   pub first : slice_get p.order 0 ≡ Some Masters
   pub once : AllPairs (λ s t. s ≢ t) p.order
-  pub unset : (s : Section) → (Contains p.order s → ⊥) → IsUnset s p
-  pub sections : (s : Section) → IsSection s p
+  pub unset : (s : Section) → (Contains p.order s → ⊥) → body_of s p ≡ no_body s
+  pub sections : (s : Section) → IsBody s (body_of s p)
   pub some_master : 0 < length p.masters
 
-whole : (done : List Section) (o p : Object) → p.order ≡ done → ((s : Section) → (Contains p.order s → ⊥) → IsUnset s p) → UpTo done o p → o ≡ p
+whole : (done : List Section) (o p : Object) → p.order ≡ done → ((s : Section) → (Contains p.order s → ⊥) → body_of s p ≡ no_body s) → UpTo done o p → o ≡ p
 whole done o p all unset so_far =
     same_object o p so_far.extra (so_far.order ∙ sym all) (λ s. elim (contains_or_not done s) [
       | inl has ↦ so_far.kept s has
-      | inr hasnt ↦ both_unset s o p (so_far.unset s hasnt) (unset s (λ (has : Contains p.order s). hasnt (subst (λ (l : List Section). Contains l s) all has)))
+      | inr hasnt ↦ so_far.unset s hasnt ∙ sym (unset s (λ (has : Contains p.order s). hasnt (subst (λ (l : List Section). Contains l s) all has)))
     ])
 
-one_more : (done : List Section) (name : Section) (o p : Object) → UpTo done o p → All (λ t. t ≢ name) done → UpTo (done ++ name ∷ []) (with_section name p o) p
+one_more : (done : List Section) (name : Section) (o p : Object) → UpTo done o p → All (λ t. t ≢ name) done → UpTo (done ++ name ∷ []) (with_section name (body_of name p) o) p
 one_more done name o p so_far new = record {
-  order = with_order name p o ∙ ap (λ (l : List Section). l ++ name ∷ []) so_far.order;
-  extra = with_extra name p o ∙ so_far.extra;
+  order = order-section name (body_of name p) o ∙ ap (λ (l : List Section). l ++ name ∷ []) so_far.order;
+  extra = extra-section name (body_of name p) o ∙ so_far.extra;
   kept = λ s has. elim (same_or_not s name) [
-    | inl same ↦ subst (λ (t : Section). SameIn t (with_section name p o) p) (sym same) (with_same name p o)
+    | inl same ↦ subst (λ (t : Section). body_of t (with_section name (body_of name p) o) ≡ body_of t p) (sym same) (body-section name (body_of name p) o)
     | inr differ ↦ elim (Contains-push_cases done name s has) [
-      | inl before ↦ same_trans s (with_section name p o) o p (same_sym s o (with_section name p o) (with_others name s p o differ)) (so_far.kept s before)
+      | inl before ↦ others-section name s (body_of name p) o differ ∙ so_far.kept s before
       | inr same ↦ absurd (differ (sym same))
     ]
   ];
   unset = λ s hasnt.
       let out : Contains done s → ⊥ = λ (has : Contains done s). hasnt (Contains-append_left done (name ∷ []) s has) in
       let differ : s ≢ name = λ (same : s ≡ name). hasnt (subst (λ (t : Section). Contains (done ++ t ∷ []) s) same (Contains-push done s)) in
-      same_unset s o (with_section name p o) (with_others name s p o differ) (so_far.unset s out);
+      others-section name s (body_of name p) o differ ∙ so_far.unset s out;
 }
 
 first_of_rest : (done rest : List Section) (s t : Section) → done ≡ [] → slice_get (done ++ s ∷ rest) 0 ≡ Some t → Some s ≡ Some t
 first_of_rest [] rest s t none e = e
 first_of_rest (u ∷ done) rest s t none e = absurd cc
+
+has_some : (s : Section) (p : Object) → 0 < length p.masters → HasSome s (body_of s p)
+has_some Masters p some = some
+has_some s p some = tt
 
 pub sections_again : (p : Object) → IsReadable p → (left done : List Section) (o : Object) → p.order ≡ done ++ left → UpTo done o p → (c : Cursor) (rest : List ℕ) → c.left ≡ flat_map (section_words p) left ++ rest → Again (sections (length left) o c) p rest
 unfolding sections
@@ -168,6 +176,6 @@ sections_again p good (s ∷ left) done o all so_far c rest text =
     let new : All (λ t. t ≢ s) done = next_pair (λ (a b : Section). a ≢ b) done s left (subst (λ (l : List Section). AllPairs (λ a b. a ≢ b) l) all good.once) in
     let first : done ≡ [] → s ≡ Masters = λ (none : done ≡ []). some_is s Masters (first_of_rest done left s Masters none (ap (λ (l : List Section). slice_get l 0) (sym all) ∙ good.first)) in
     let may : MayFollow o.order s = subst (λ (l : List Section). MayFollow l s) (sym so_far.order) (record { new = new; first = first }) in
-    let here = section_again s p o c (flat_map (section_words p) left ++ rest) may split (good.sections s) good.some_master in
-    let after = sections_again p good left (done ++ s ∷ []) (with_section s p o) (all ∙ sym (append_assoc done (s ∷ []) left)) (one_more done s o p so_far new) here.after rest here.left in
+    let here = section_again s (body_of s p) o c (flat_map (section_words p) left ++ rest) may (split ∙ ap (λ ws. identifier s ∷ ws ++ (flat_map (section_words p) left ++ rest)) (words-inner s p)) (good.sections s) (has_some s p good.some_master) in
+    let after = sections_again p good left (done ++ s ∷ []) (with_section s (body_of s p) o) (all ∙ sym (append_assoc done (s ∷ []) left)) (one_more done s o p so_far new) here.after rest here.left in
     record { after = after.after; is = rw here.is after.is; left = after.left }

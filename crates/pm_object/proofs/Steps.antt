@@ -1,9 +1,10 @@
 -- A step that doesn't fail takes its words from the front, and takes them again.
-use Rattle.std.proofs.Common.{◌≡◌, ◌≢◌, ℕ, ◌+◌, Bool, true, false, cond, not, ◌||◌, eqb, List, [], ◌∷◌, Result, Ok, Err, refl, ap, subst, ◌∙◌}
+use Rattle.std.proofs.Common.{◌≡◌, ◌≢◌, ℕ, ◌+◌, Bool, true, false, cond, eqb, List, [], ◌∷◌, Result, Ok, Err, refl, ap, subst, ◌∙◌}
 use Rattle.std.specs.List.{All, list_any}
 use Rattle.std.proofs.lemmas.Bool.{eqb-false, ne_eqb}
 use Rattle.std.proofs.lemmas.List.Elements.{All-nil, All-cons, All-weaker}
 use Rattle.std.proofs.lemmas.List.Folds.{list_any_none}
+use Rattle.pm_base.proofs.Booleans.{neither}
 use Rattle.pm_object.specs.declared.object.ObjectCause.{ObjectCause}
 use Rattle.pm_object.specs.declared.object.ObjectCause.TheVariants.{RepeatedNode}
 use Rattle.pm_object.specs.declared.object.ObjectFault.{ObjectFault}
@@ -64,18 +65,10 @@ tested_again bad cause c w rest h passes = record { after = record { place = c.p
 
 -- ---- tests of all elements
 
-pub or_false : (a b : Bool) → (a || b) ≡ false → (a ≡ false) × (b ≡ false)
-or_false true b e = absurd cc
-or_false false b e = (refl, e)
-
-pub not_false : (a : Bool) → not a ≡ false → a ≡ true
-not_false true e = refl
-not_false false e = absurd cc
-
 pub any_false : {A : Type 0} (test : A → Bool) (xs : List A) → list_any test xs ≡ false → All (λ x. test x ≡ false) xs
 any_false test [] e = All-nil (λ x. test x ≡ false)
 any_false test (x ∷ xs) e =
-    let parts = or_false (test x) (list_any test xs) e in
+    let parts = neither (test x) (list_any test xs) e in
     All-cons (λ x. test x ≡ false) x xs parts.0 (any_false test xs parts.1)
 
 -- ---- the key of a record

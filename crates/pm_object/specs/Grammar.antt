@@ -10,6 +10,7 @@ use Rattle.pm_object.specs.declared.object.Pair.{Pair}
 use Rattle.pm_object.specs.declared.object.Section.{Section}
 use Rattle.pm_object.specs.declared.object.Section.TheVariants.{Masters, Slaves, Prealloc, Power, Reset, Shutdown, Config, Gpo}
 use Rattle.pm_object.specs.declared.object.Object.{Object}
+use Rattle.pm_object.specs.Bodies.{Body, body_of, no_body}
 
 -- ---- the spelling, as words of 32 bits
 
@@ -43,19 +44,24 @@ counted spell records = length records ∷ flat_map spell records
 abbrev pub group_words : PreGroup → List ℕ
 group_words group = group.mask ∷ counted preset_words group.recs
 
--- what stands in a section after its identifier
-abbrev pub body_words : Section → Object → List ℕ
-body_words Masters o = counted master_words o.masters
-body_words Slaves o = counted slave_words o.slaves
-body_words Prealloc o = counted group_words o.groups
-body_words Power o = counted pair_words o.power
-body_words Reset o = counted pair_words o.reset
-body_words Shutdown o = counted pair_words o.shutdown
-body_words Config o = o.base_mask ∷ o.overlay_mask ∷ []
-body_words Gpo o = o.gpo ∷ []
+-- how that which stands in a section is spelled
+abbrev pub body_words : (s : Section) → Body s → List ℕ
+body_words Masters masters = counted master_words masters
+body_words Slaves slaves = counted slave_words slaves
+body_words Prealloc groups = counted group_words groups
+body_words Power pairs = counted pair_words pairs
+body_words Reset pairs = counted pair_words pairs
+body_words Shutdown pairs = counted pair_words pairs
+body_words Config masks = masks.0 ∷ masks.1 ∷ []
+body_words Gpo word = word ∷ []
+
+-- the words of a section after its identifier, case by case, so that they compute at each one
+abbrev pub inner_words : Section → Object → List ℕ
+inner_words Masters o = body_words Masters (body_of Masters o)
+inner_words section o = body_words section (body_of section o)
 
 abbrev pub section_words : Object → Section → List ℕ
-section_words o section = identifier section ∷ body_words section o
+section_words o section = identifier section ∷ inner_words section o
 
 -- how many header words follow, how many sections there are, the object's type, and any further header words
 abbrev pub header_words : Object → List ℕ
@@ -65,6 +71,14 @@ abbrev pub words_of : Object → List ℕ
 words_of o = header_words o ++ flat_map (section_words o) o.order
 
 -- ---- which objects are well formed
+
+-- the most words of an object
+abbrev pub most_words : ℕ
+most_words = 4096
+
+-- whether two sections are the same one
+abbrev pub is_same : Section → Section → Bool
+is_same s t = identifier s == identifier t
 
 -- the application processors are 1, the real-time processors 6 as a pair in lockstep, or 7 and 8 each alone (UG1200, nodes)
 abbrev pub is_master_node : ℕ → Bool
@@ -97,26 +111,15 @@ abbrev pub HasOwnNodes : PreGroup → Type 0
 HasOwnNodes group = HaveOwnKeys (λ rec. rec.node) group.recs
 
 -- the records of a section go together
-abbrev pub IsSection : Section → Object → Type 0
-IsSection Masters o = AreMasters o.masters
-IsSection Slaves o = HaveOwnKeys (λ slave. slave.node) o.slaves
-IsSection Prealloc o = All HasOwnNodes o.groups
-IsSection Power o = HaveOwnKeys (λ pair. pair.key) o.power
-IsSection Reset o = HaveOwnKeys (λ pair. pair.key) o.reset
-IsSection Shutdown o = HaveOwnKeys (λ pair. pair.key) o.shutdown
-IsSection Config o = ⊤
-IsSection Gpo o = ⊤
-
--- a section says nothing
-abbrev pub IsUnset : Section → Object → Type 0
-IsUnset Masters o = o.masters ≡ []
-IsUnset Slaves o = o.slaves ≡ []
-IsUnset Prealloc o = o.groups ≡ []
-IsUnset Power o = o.power ≡ []
-IsUnset Reset o = o.reset ≡ []
-IsUnset Shutdown o = o.shutdown ≡ []
-IsUnset Config o = (o.base_mask ≡ 0) × (o.overlay_mask ≡ 0)
-IsUnset Gpo o = o.gpo ≡ 0
+abbrev pub IsBody : (s : Section) → Body s → Type 0
+IsBody Masters masters = AreMasters masters
+IsBody Slaves slaves = HaveOwnKeys (λ slave. slave.node) slaves
+IsBody Prealloc groups = All HasOwnNodes groups
+IsBody Power pairs = HaveOwnKeys (λ pair. pair.key) pairs
+IsBody Reset pairs = HaveOwnKeys (λ pair. pair.key) pairs
+IsBody Shutdown pairs = HaveOwnKeys (λ pair. pair.key) pairs
+IsBody Config masks = ⊤
+IsBody Gpo word = ⊤
 
 -- a well formed object
 pub record IsObject (o : Object) : Type 0 where
@@ -124,12 +127,12 @@ pub record IsObject (o : Object) : Type 0 where
   pub first : slice_get o.order 0 ≡ Some Masters
   pub once : AllPairs (λ s t. s ≢ t) o.order
   -- a section that doesn't come says nothing, and each that does is in order
-  pub unset : (s : Section) → (Contains o.order s → ⊥) → IsUnset s o
-  pub sections : (s : Section) → IsSection s o
+  pub unset : (s : Section) → (Contains o.order s → ⊥) → body_of s o ≡ no_body s
+  pub sections : (s : Section) → IsBody s (body_of s o)
   pub some_master : 0 < length o.masters
-  -- it has a spelling, of at most 16,384 bytes
+  -- it has a spelling, which is not too long
   pub words : All (λ w. w < 2 ^ 32) (words_of o)
-  pub size : length (words_of o) ≤ 4096
+  pub size : length (words_of o) ≤ most_words
 
 -- ---- the grammar
 

@@ -1,5 +1,5 @@
 -- Reading an object word by word from the front, up to the first fault.
-use Rattle.std.specs.Prelude.{◌≡◌, ℕ, zero, suc, ◌+◌, ◌-◌, ◌/◌, ◌%◌, Bool, not, ◌==◌, nat_lt, if◌then◌else◌, ◌||◌, ◌&&◌, List, [], ◌∷◌, ◌++◌, length, Option, Some, None, Result, Ok, Err, bit_and, count_ones, ⊤}
+use Rattle.std.specs.Prelude.{◌≡◌, ℕ, zero, suc, ◌+◌, ◌-◌, ◌*◌, ◌/◌, ◌%◌, Bool, not, ◌==◌, nat_lt, if◌then◌else◌, ◌||◌, ◌&&◌, List, [], ◌∷◌, ◌++◌, length, take, Option, Some, None, Result, Ok, Err, bit_and, count_ones, ⊤}
 use Rattle.std.specs.List.{list_any}
 use Rattle.std.specs.Int.{w32, from_le_bytes}
 use Rattle.pm_object.specs.declared.object.MasterRec.{MasterRec}
@@ -16,7 +16,8 @@ use Rattle.pm_object.specs.declared.object.ObjectFault.{ObjectFault}
 use Rattle.pm_object.specs.declared.object.DecodeError.{DecodeError}
 use Rattle.pm_object.specs.declared.object.DecodeError.TheVariants.{Bad, Memory}
 use Rattle.pm_object.specs.declared.header.Header.{Header}
-use Rattle.pm_object.specs.Grammar.{identifier, is_master_node, splits_lockstep}
+use Rattle.pm_object.specs.Bodies.{Body, with_body, unset}
+use Rattle.pm_object.specs.Grammar.{identifier, is_same, is_master_node, splits_lockstep, most_words, Reads}
 
 -- ---- steps
 
@@ -78,16 +79,24 @@ header c = do
 
 -- ---- the masters
 
+-- whether a node is no master's, or is one of the pair in lockstep together with it
+abbrev pub is_bad_node : List MasterRec → ℕ → Bool
+is_bad_node earlier node = not (is_master_node node) || list_any (λ m. splits_lockstep m.node node) earlier
+
+-- whether a mask hasn't exactly one bit, or has an earlier master's
+abbrev pub is_bad_mask : List MasterRec → ℕ → Bool
+is_bad_mask earlier mask = not (count_ones mask == 1) || list_any (λ m. not (bit_and m.mask mask == 0)) earlier
+
 unfoldable pub master_node : List MasterRec → Cursor → Step ℕ
 master_node earlier c = do
   w ← word c
-  if not (is_master_node w.0) || list_any (λ m. splits_lockstep m.node w.0) earlier then fault BadMaster c.place
+  if is_bad_node earlier w.0 then fault BadMaster c.place
       else if list_any (λ m. m.node == w.0) earlier then fault RepeatedNode c.place else Ok w
 
 unfoldable pub master_mask : List MasterRec → Cursor → Step ℕ
 master_mask earlier c = do
   w ← word c
-  if not (count_ones w.0 == 1) || list_any (λ m. not (bit_and m.mask w.0 == 0)) earlier then fault MaskRepeated c.place else Ok w
+  if is_bad_mask earlier w.0 then fault MaskRepeated c.place else Ok w
 
 unfoldable pub master : List MasterRec → Cursor → Step MasterRec
 master earlier c = do
@@ -153,7 +162,7 @@ section_of id =
 
 -- whether the section is among these
 abbrev pub is_among : Section → List Section → Bool
-is_among section order = list_any (λ s. identifier s == identifier section) order
+is_among section order = list_any (λ s. is_same s section) order
 
 -- whether the section may come after these: none comes twice, and the masters come first
 abbrev pub section_after : List Section → ℕ → Option Section → Result Section ObjectFault
@@ -169,34 +178,30 @@ section_name order c = do
   s ← section_after order c.place (section_of w.0)
   Ok (s, w.1)
 
--- the object so far, with what stands in a section
-unfoldable pub section_body : Section → Object → Cursor → Step Object
-section_body Masters o c = do
-  r ← masters c
-  Ok (record o { masters = r.0 }, r.1)
-section_body Slaves o c = do
-  r ← counted_records slave c
-  Ok (record o { slaves = r.0 }, r.1)
-section_body Prealloc o c = do
-  r ← counted_records group c
-  Ok (record o { groups = r.0 }, r.1)
-section_body Power o c = do
-  r ← counted_records pair c
-  Ok (record o { power = r.0 }, r.1)
-section_body Reset o c = do
-  r ← counted_records pair c
-  Ok (record o { reset = r.0 }, r.1)
-section_body Shutdown o c = do
-  r ← counted_records pair c
-  Ok (record o { shutdown = r.0 }, r.1)
-section_body Config o c = do
+-- what stands in a section
+unfoldable pub body : (s : Section) → Cursor → Step (Body s)
+body Masters c = masters c
+body Slaves c = counted_records slave c
+body Prealloc c = counted_records group c
+body Power c = counted_records pair c
+body Reset c = counted_records pair c
+body Shutdown c = counted_records pair c
+body Config c = do
   base ← word c
   overlay ← word base.1
-  Ok (record o { base_mask = base.0; overlay_mask = overlay.0 }, overlay.1)
-section_body Gpo o c = do
-  r ← word c
-  Ok (record o { gpo = r.0 }, r.1)
+  Ok ((base.0, overlay.0), overlay.1)
+body Gpo c = word c
 
+-- the object so far, with what stands in a section, case by case, so that it computes at each one
+unfoldable pub section_body : Section → Object → Cursor → Step Object
+section_body Masters o c = do
+  b ← body Masters c
+  Ok (with_body Masters b.0 o, b.1)
+section_body s o c = do
+  b ← body s c
+  Ok (with_body s b.0 o, b.1)
+
+-- the object so far, with one more section
 unfoldable pub section : Object → Cursor → Step Object
 section o c = do
   s ← section_name o.order c
@@ -210,10 +215,6 @@ sections (suc n) o c = do
   sections n r.0 r.1
 
 -- ---- the object
-
--- an object without sections
-abbrev pub unset : List ℕ → Object
-unset extra = record { extra = extra; order = []; masters = []; slaves = []; groups = []; power = []; reset = []; shutdown = []; base_mask = 0; overlay_mask = 0; gpo = 0 }
 
 -- all the words
 unfoldable pub object : Cursor → Result Object ObjectFault
@@ -234,7 +235,7 @@ words (a ∷ b ∷ c ∷ d ∷ bytes) = from_le_bytes w32 (a ∷ b ∷ c ∷ d �
 -- the object that the bytes are, or the first thing that is wrong with them
 unfoldable pub reading : List ℕ → Result Object ObjectFault
 reading bytes =
-    if nat_lt 16384 (length bytes) then fault TooLong 4096
+    if nat_lt (4 * most_words) (length bytes) then fault TooLong most_words
     else if not (length bytes % 4 == 0) then fault Length (length bytes / 4)
     else object (record { place = 0; left = words bytes })
 
@@ -245,6 +246,10 @@ fault_of (Err f) = Some f
 
 abbrev pub first_fault : List ℕ → Option ObjectFault
 first_fault bytes = fault_of (reading bytes)
+
+-- whatever follows the fault's word: no bytes that agree with these up to its end spell an object
+abbrev pub IsFatal : List ℕ → ObjectFault → Type 0
+IsFatal bytes f = (other : List ℕ) (o : Object) → take (4 * (f.offset + 1)) other ≡ take (4 * (f.offset + 1)) bytes → Reads other o → ⊥
 
 -- ---- what functions return
 

@@ -3,36 +3,18 @@
 ghost use Rattle.std.specs.Prelude.{◌≡◌, IfOk, Ok, Err, Some};
 ghost use Rattle.pm_object.specs.declared.object.ObjectFault.{ObjectFault};
 ghost use Rattle.pm_object.specs.Grammar.{Reads};
-ghost use Rattle.pm_object.specs.Reading.{Gives, first_fault, object, reading, unset};
+ghost use Rattle.pm_object.specs.Reading.{Gives, IsFatal, first_fault, object, reading};
 
 use crate::header::read_header;
-use crate::object::{DecodeError, Object, ObjectCause};
+use crate::object::{DecodeError, MOST_WORDS, Object, ObjectCause};
 use crate::sections::read_sections;
 use crate::words::{Words, fault};
-use pm_base::List;
 use std::alloc::Global;
 
 /// The most bytes that an object has, in words.
-const LONGEST: usize = 4096;
+const LONGEST: usize = MOST_WORDS as usize;
 
-fn unset_object(alloc: Global, extra: List<u32>) -> Object
-    ensures { result ≡ unset extra }
-{
-    Object {
-        extra,
-        order: List::new(alloc),
-        masters: List::new(alloc),
-        slaves: List::new(alloc),
-        groups: List::new(alloc),
-        power: List::new(alloc),
-        reset: List::new(alloc),
-        shutdown: List::new(alloc),
-        base_mask: 0,
-        overlay_mask: 0,
-        gpo: 0,
-    }
-}
-
+/// The object of all words.
 #[tactic(auto, unfolding(crate::specs::Reading::object))]
 fn read_object(alloc: Global, words: &mut Words) -> Result<Object, DecodeError>
     ensures { Gives result (object words.old) }
@@ -41,7 +23,7 @@ fn read_object(alloc: Global, words: &mut Words) -> Result<Object, DecodeError>
     if header.sections == 0 {
         return Err(fault(ObjectCause::NoMasters, words.place()));
     }
-    let mut object = unset_object(alloc, header.extra);
+    let mut object = Object::unset(alloc, header.extra);
     read_sections(alloc, header.sections, &mut object, words)?;
     if !words.is_empty() {
         return Err(fault(ObjectCause::Trailing, words.place()));
@@ -49,6 +31,7 @@ fn read_object(alloc: Global, words: &mut Words) -> Result<Object, DecodeError>
     Ok(object)
 }
 
+/// The object of bytes, apart from `decode` so that one proof alone unfolds what is read.
 #[tactic(auto, unfolding(crate::specs::Reading::reading))]
 fn read_bytes(alloc: Global, bytes: &[u8]) -> Result<Object, DecodeError>
     ensures { Gives result (reading bytes.now) }
@@ -72,6 +55,10 @@ pub fn decode(alloc: Global, bytes: &[u8]) -> Result<Object, DecodeError>
     ensures only { (o : Object) → Reads bytes.now o → Gives result (Ok o) }
     // What is wrong is the first fault.
     ensures bad { (f : ObjectFault) → result ≡ Err (DecodeError.Bad f) → first_fault bytes.now ≡ Some f }
+    // Where something is wrong, the bytes spell nothing, nor do others that agree with them up to the
+    // end of the fault's word.
+    ensures unreadable { (f : ObjectFault) → result ≡ Err (DecodeError.Bad f) → (o : Object) → Reads bytes.now o → ⊥ }
+    ensures fatal { (f : ObjectFault) → result ≡ Err (DecodeError.Bad f) → IsFatal bytes.now f }
     // The answer is what reading word by word gives: the object, or the first fault.
     ensures exact { Gives result (reading bytes.now) }
 {

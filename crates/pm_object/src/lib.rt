@@ -15,15 +15,16 @@ mod records;
 mod sections;
 mod slaves;
 mod spelling;
+mod unset;
 mod words;
 
 pub use decoding::decode;
 pub use encoding::encode;
 pub use laws::one_reading;
+pub use masters::{is_bad_mask, is_bad_node};
 pub use object::{
-    DecodeError, MasterRec, Object, ObjectCause, ObjectFault, Pair, PreGroup, PreRec, Section,
-    SlaveRec,
+    DecodeError, MOST_WORDS, MasterRec, Object, ObjectCause, ObjectFault, Pair, PreGroup, PreRec,
+    Section, SlaveRec,
 };
-
-#[cfg(test)]
-mod tests;
+pub use records::{Keyed, has_key};
+pub use sections::has_section;

@@ -3,7 +3,7 @@
 ghost use Rattle.std.specs.Prelude.{◌≡◌, ◌==◌, [], bit_and, not};
 ghost use Rattle.std.specs.List.{list_any};
 ghost use Rattle.pm_object.specs.Grammar.{is_master_node, splits_lockstep};
-ghost use Rattle.pm_object.specs.Reading.{GivesAt, master, master_mask, master_node, masters, records};
+ghost use Rattle.pm_object.specs.Reading.{GivesAt, is_bad_mask, is_bad_node, master, master_mask, master_node, masters, records};
 
 use crate::object::{DecodeError, MasterRec, ObjectCause};
 use crate::records::{Keyed, Record, has_key, read_records};
@@ -38,13 +38,27 @@ fn has_bit(earlier: &[MasterRec], mask: u32) -> bool
     earlier.iter().any(|master| master.mask & mask != 0)
 }
 
+/// Whether a node is no master's, or is one of the pair in lockstep together with it.
+pub fn is_bad_node(earlier: &[MasterRec], node: u32) -> bool
+    ensures { result ≡ is_bad_node earlier.now node }
+{
+    !is_master(node) || has_split(earlier, node)
+}
+
+/// Whether a mask hasn't exactly one bit, or has an earlier master's.
+pub fn is_bad_mask(earlier: &[MasterRec], mask: u32) -> bool
+    ensures { result ≡ is_bad_mask earlier.now mask }
+{
+    mask.count_ones() != 1 || has_bit(earlier, mask)
+}
+
 #[tactic(auto, unfolding(crate::specs::Reading::master_node))]
 fn read_node(earlier: &[MasterRec], words: &mut Words) -> Result<u32, DecodeError>
     ensures { GivesAt words.new result (master_node earlier.now words.old) }
 {
     let place = words.place();
     let node = words.next()?;
-    if !is_master(node) || has_split(earlier, node) {
+    if is_bad_node(earlier, node) {
         return Err(fault(ObjectCause::BadMaster, place));
     }
     if has_key(earlier, node) {
@@ -59,7 +73,7 @@ fn read_mask(earlier: &[MasterRec], words: &mut Words) -> Result<u32, DecodeErro
 {
     let place = words.place();
     let mask = words.next()?;
-    if mask.count_ones() != 1 || has_bit(earlier, mask) {
+    if is_bad_mask(earlier, mask) {
         return Err(fault(ObjectCause::MaskRepeated, place));
     }
     Ok(mask)

@@ -61,6 +61,9 @@ pub enum Section {
     Gpo,
 }
 
+/// The most words of an object.
+pub const MOST_WORDS: u32 = 4096;
+
 /// A configuration object. `extra` are the header words after the first two, `order` is the order
 /// in which the sections stand. A section that isn't in `order` is empty or 0.
 #[derive(Debug, Drop)]

@@ -36,6 +36,7 @@ impl Record for u32 {
     }
 }
 
+/// Whether an earlier record has the key.
 pub fn has_key<T: Keyed>(earlier: &[T], key: u32) -> bool
     ensures { result ≡ list_any (λ r. T.key_of r == key) earlier.now }
 {

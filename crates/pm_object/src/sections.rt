@@ -1,12 +1,12 @@
 //! The sections of an object.
 
 ghost use Rattle.std.specs.Prelude.{◌≡◌};
-ghost use Rattle.pm_object.specs.Grammar.{identifier};
+ghost use Rattle.pm_object.specs.Grammar.{identifier, is_same};
 ghost use Rattle.pm_object.specs.Reading.{GivesAt, GivesInto, is_among, section, section_body, section_name, section_of, sections};
 
 use crate::masters::read_masters;
 use crate::object::{DecodeError, Object, ObjectCause, Section};
-use crate::records::read_list;
+use crate::records::{Keyed, read_list};
 use crate::words::{Words, fault};
 use std::alloc::Global;
 
@@ -27,6 +27,13 @@ impl Section {
         }
     }
 
+    /// Whether it is the same section.
+    pub fn is_same(self, other: Section) -> bool
+        ensures { result ≡ is_same self other }
+    {
+        self.identifier() == other.identifier()
+    }
+
     /// The section that begins with this word, if there is one.
     pub fn with_identifier(word: u32) -> Option<Section>
         ensures { result ≡ section_of word }
@@ -45,12 +52,19 @@ impl Section {
     }
 }
 
-fn has_section(order: &[Section], section: Section) -> bool
+impl Keyed for Section {
+    ghost key_of = { identifier };
+
+    fn key(&self) -> u32 {
+        self.identifier()
+    }
+}
+
+/// Whether the section is one of these.
+pub fn has_section(order: &[Section], section: Section) -> bool
     ensures { result ≡ is_among section order.now }
 {
-    order
-        .iter()
-        .any(|earlier| earlier.identifier() == section.identifier())
+    order.iter().any(|earlier| earlier.is_same(section))
 }
 
 /// Reads the identifier of a section after those of `order`. The masters come first, and no section
@@ -72,7 +86,7 @@ fn read_name(order: &[Section], words: &mut Words) -> Result<Section, DecodeErro
     Ok(section)
 }
 
-#[tactic(auto, unfolding(crate::specs::Reading::section_body))]
+#[tactic(auto, unfolding(crate::specs::Reading::section_body, crate::specs::Reading::body))]
 fn read_body(
     alloc: Global,
     section: Section,

@@ -3,7 +3,7 @@
 ghost use Rattle.std.specs.Prelude.{◌≡◌, ℕ, ◌<◌, ◌^◌, ◌++◌, OnOk, IfOk};
 ghost use Rattle.std.specs.Prelude.{List as Sequence};
 ghost use Rattle.std.specs.List.{All, flat_map};
-ghost use Rattle.pm_object.specs.Grammar.{IsObject, body_words, counted, group_words, header_words, master_words, pair_words, preset_words, section_words, slave_words, words_of};
+ghost use Rattle.pm_object.specs.Grammar.{IsObject, inner_words, counted, group_words, header_words, master_words, pair_words, preset_words, section_words, slave_words, words_of};
 
 use crate::object::{MasterRec, Object, Pair, PreGroup, PreRec, Section, SlaveRec};
 use pm_base::{List, NoMemory};
@@ -66,17 +66,17 @@ impl Spell for PreGroup {
 
     fn spell(&self, out: &mut List<u32>) -> Result<(), NoMemory> {
         out.push(self.mask)?;
-        spell_list(self.recs.as_slice(), out)
+        spell_list(&self.recs, out)
     }
 }
 
 /// Writes the number of records, and then each of them.
-fn spell_list<T: Spell>(items: &[T], out: &mut List<u32>) -> Result<(), NoMemory>
+fn spell_list<T: Spell>(items: &List<T>, out: &mut List<u32>) -> Result<(), NoMemory>
     requires { All (λ w. w < 2 ^ 32) (counted T.spelling items.now) }
     ensures { OnOk result (out.new ≡ out.old ++ counted T.spelling items.now) }
 {
     out.push(items.len() as u32)?;
-    for item in items {
+    for item in items.as_slice() {
         item.spell(out)?;
     }
     Ok(())
@@ -92,16 +92,16 @@ fn spell_words(words: &[u32], out: &mut List<u32>) -> Result<(), NoMemory>
 }
 
 fn spell_body(object: &Object, section: Section, out: &mut List<u32>) -> Result<(), NoMemory>
-    requires { All (λ w. w < 2 ^ 32) (body_words section object.now) }
-    ensures { OnOk result (out.new ≡ out.old ++ body_words section object.now) }
+    requires { All (λ w. w < 2 ^ 32) (inner_words section object.now) }
+    ensures { OnOk result (out.new ≡ out.old ++ inner_words section object.now) }
 {
     match section {
-        Section::Masters => spell_list(object.masters.as_slice(), out),
-        Section::Slaves => spell_list(object.slaves.as_slice(), out),
-        Section::Prealloc => spell_list(object.groups.as_slice(), out),
-        Section::Power => spell_list(object.power.as_slice(), out),
-        Section::Reset => spell_list(object.reset.as_slice(), out),
-        Section::Shutdown => spell_list(object.shutdown.as_slice(), out),
+        Section::Masters => spell_list(&object.masters, out),
+        Section::Slaves => spell_list(&object.slaves, out),
+        Section::Prealloc => spell_list(&object.groups, out),
+        Section::Power => spell_list(&object.power, out),
+        Section::Reset => spell_list(&object.reset, out),
+        Section::Shutdown => spell_list(&object.shutdown, out),
         Section::Config => spell_words(&[object.base_mask, object.overlay_mask], out),
         Section::Gpo => out.push(object.gpo),
     }

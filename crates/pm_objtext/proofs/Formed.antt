@@ -1,8 +1,8 @@
 -- An object so far: what stays true of it from line to line.
-use Rattle.std.proofs.Common.{◌≡◌, ◌≢◌, ℕ, suc, ◌+◌, ◌^◌, ◌<◌, ◌≤◌, Bool, true, false, not, ◌==◌, eqb, ◌&&◌, ◌||◌, cond, List, [], ◌∷◌, ◌++◌, length, get_or, refl, ap, sym, ◌∙◌, subst, arith, length-append, bit_and, count_ones}
+use Rattle.std.proofs.Common.{◌≡◌, ◌≢◌, ℕ, suc, ◌+◌, ◌^◌, ◌<◌, ◌≤◌, Bool, true, false, not, ◌==◌, eqb, ◌&&◌, cond, ◌⊎◌, inl, inr, List, [], ◌∷◌, ◌++◌, length, get_or, refl, ap, sym, ◌∙◌, subst, arith, length-append, bit_and, count_ones}
 use Rattle.std.specs.Prelude.{⊤}
 use Rattle.std.specs.List.{flat_map, list_any, All, AllPairs, AllByRecursion}
-use Rattle.std.proofs.lemmas.Bool.{false≢true}
+use Rattle.std.proofs.lemmas.Bool.{false≢true, not-false}
 use Rattle.std.proofs.lemmas.Bool.Decides.{nat_tests}
 use Rattle.std.proofs.lemmas.List.Folds.{list_any_at}
 use Rattle.std.proofs.lemmas.List.Concat.{flat_map-append}
@@ -14,16 +14,21 @@ use Rattle.pm_object.specs.declared.object.PreGroup.{PreGroup}
 use Rattle.pm_object.specs.declared.object.Object.{Object}
 use Rattle.pm_object.specs.declared.object.Section.{Section}
 use Rattle.pm_object.specs.declared.object.Section.TheVariants as sections
-use Rattle.pm_object.specs.Grammar.{master_words, slave_words, preset_words, pair_words, group_words, section_words, splits_lockstep, is_master_node, IsMaster, AreApart, AreMasters, HaveOwnKeys, HasOwnNodes, IsSection, IsUnset}
+use Rattle.pm_object.specs.Bodies.{Body, body_of, with_body, no_body}
+use Rattle.pm_object.specs.Grammar.{identifier, master_words, slave_words, preset_words, pair_words, group_words, body_words, section_words, splits_lockstep, is_master_node, IsMaster, AreApart, AreMasters, HaveOwnKeys, HasOwnNodes, IsBody}
+use Rattle.pm_object.proofs.Bodies.{body-with, body-others, order-with, extra-with, words-inner}
+use Rattle.pm_object.proofs.SectionNames.{same_or_not}
+use Rattle.pm_base.proofs.Booleans.{neither, differs}
 use Rattle.pm_objtext.specs.declared.stage.Stage.{Stage}
 use Rattle.pm_objtext.specs.declared.stage.Stage.TheVariants as stages
-use Rattle.pm_objtext.specs.declared.draft.Draft.{Draft}
 use Rattle.pm_objtext.specs.Groups.{last_recs, with_preset}
-use Rattle.pm_objtext.specs.Drafts.{is_same, is_in, awaits_record, takes_section, has_bad_node, has_bad_mask}
+use Rattle.pm_object.specs.Grammar.{is_same}
+use Rattle.pm_object.specs.Reading.{is_bad_node, is_bad_mask}
+use Rattle.pm_objtext.specs.Stage.{is_in, awaits_record, takes_section}
 use Rattle.pm_objtext.proofs.ItemTexts.{AreSmall}
 use Rattle.pm_objtext.proofs.LineTexts.{AllByRecursion-append}
 use Rattle.pm_objtext.proofs.TextLaw.{AreSmall-split}
-use Rattle.pm_objtext.proofs.Whole.{same_section, is_same_itself, apart_later}
+use Rattle.pm_objtext.proofs.Whole.{same_section, other_section, apart_later}
 
 -- ---- a section of an object so far
 
@@ -34,19 +39,19 @@ abbrev pub group_numbers : PreGroup → List ℕ
 group_numbers group = group.mask ∷ flat_map preset_words group.recs
 
 -- the numbers in a section, without its counts
-abbrev pub section_numbers : Section → Object → List ℕ
-section_numbers sections.Masters o = flat_map master_words o.masters
-section_numbers sections.Slaves o = flat_map slave_words o.slaves
-section_numbers sections.Prealloc o = flat_map group_numbers o.groups
-section_numbers sections.Power o = flat_map pair_words o.power
-section_numbers sections.Reset o = flat_map pair_words o.reset
-section_numbers sections.Shutdown o = flat_map pair_words o.shutdown
-section_numbers sections.Config o = o.base_mask ∷ o.overlay_mask ∷ []
-section_numbers sections.Gpo o = o.gpo ∷ []
+abbrev pub body_numbers : (s : Section) → Body s → List ℕ
+body_numbers sections.Masters masters = flat_map master_words masters
+body_numbers sections.Slaves slaves = flat_map slave_words slaves
+body_numbers sections.Prealloc groups = flat_map group_numbers groups
+body_numbers sections.Power pairs = flat_map pair_words pairs
+body_numbers sections.Reset pairs = flat_map pair_words pairs
+body_numbers sections.Shutdown pairs = flat_map pair_words pairs
+body_numbers sections.Config masks = masks.0 ∷ masks.1 ∷ []
+body_numbers sections.Gpo word = word ∷ []
 
--- it is unset where it isn't there, its records go together, and their numbers have 32 bits
-abbrev pub IsFine : Section → Object → Bool → Type 0
-IsFine s o there = (there ≡ false → IsUnset s o) × IsSection s o × AreSmall (section_numbers s o)
+-- it is empty where it isn't there, its records go together, and their numbers have 32 bits
+abbrev pub IsFine : (s : Section) → Body s → Bool → Type 0
+IsFine s b there = (there ≡ false → b ≡ no_body s) × IsBody s b × AreSmall (body_numbers s b)
 
 -- the masters stand first
 abbrev pub IsLedByMasters : List Section → Type 0
@@ -61,14 +66,9 @@ IsOpened (stages.In s filled) order = is_there s order ≡ true
 
 -- the words of a section that has not yet its one record
 abbrev pub unfilled : Section → ℕ
-unfilled sections.Masters = 0
-unfilled sections.Slaves = 0
-unfilled sections.Prealloc = 0
-unfilled sections.Power = 0
-unfilled sections.Reset = 0
-unfilled sections.Shutdown = 0
 unfilled sections.Config = 2
 unfilled sections.Gpo = 1
+unfilled s = 0
 
 -- the words of the object that no line has brought yet
 abbrev pub missing : Stage → ℕ
@@ -76,35 +76,21 @@ missing stages.Start = 3
 missing (stages.Header full) = 0
 missing (stages.In s filled) = cond filled 0 (unfilled s)
 
-abbrev pub whole : Draft → Object
-whole d = record d.object { groups = d.groups }
-
 -- the words of the sections
 abbrev pub size_of : List Section → Object → ℕ
 size_of order o = length (flat_map (section_words o) order)
 
-pub record IsFormed (d : Draft) : Type 0 where
-  pub led : IsLedByMasters d.object.order
-  pub once : AllPairs (λ s t. s ≢ t) d.object.order
-  pub opened : IsOpened d.stage d.object.order
-  pub fine : (s : Section) → IsFine s (whole d) (is_there s d.object.order)
-  pub extra : AreSmall d.object.extra
-  pub size : d.size + missing d.stage ≡ 3 + length d.object.extra + size_of d.object.order (whole d)
-  pub most : d.size ≤ 4096
+-- an object so far, with its size and what comes next
+pub record IsFormed (stage : Stage) (size : ℕ) (o : Object) : Type 0 where
+  pub led : IsLedByMasters o.order
+  pub once : AllPairs (λ s t. s ≢ t) o.order
+  pub opened : IsOpened stage o.order
+  pub fine : (s : Section) → IsFine s (body_of s o) (is_there s o.order)
+  pub extra : AreSmall o.extra
+  pub words : size + missing stage ≡ 3 + length o.extra + size_of o.order o
+  pub most : size ≤ 4096
 
 -- ---- tests
-
-pub either_false : (a b : Bool) → (a || b) ≡ false → (a ≡ false) × (b ≡ false)
-either_false true b none = absurd (false≢true (sym none))
-either_false false b none = (refl, none)
-
-pub both_hold : (a b : Bool) → (a && b) ≡ true → (a ≡ true) × (b ≡ true)
-both_hold true b both = (refl, both)
-both_hold false b both = absurd (false≢true both)
-
-pub not_false : (a : Bool) → not a ≡ false → a ≡ true
-not_false true is = refl
-not_false false is = absurd (false≢true (sym is))
 
 -- no element passes
 pub none_at : {X : Type 0} (p : X → Bool) (xs : List X) (k : ℕ) (d : X) → list_any p xs ≡ false → k < length xs → p (get_or xs k d) ≡ false
@@ -117,12 +103,9 @@ none_at p xs k d none within = at (p (get_or xs k d)) refl
 same_number : (a b : ℕ) → eqb a b ≡ true → a ≡ b
 same_number a b is = grind (arith, nat_tests)
 
-other_number : (a b : ℕ) → eqb a b ≡ false → a ≢ b
-other_number a b apart = grind (arith, nat_tests)
-
 -- one more record with a key of its own
 pub keys_push : {X : Type 0} (key : X → ℕ) (xs : List X) (x : X) → HaveOwnKeys key xs → list_any (λ e. key e == key x) xs ≡ false → HaveOwnKeys key (xs ++ x ∷ [])
-keys_push key xs x own none = all_pairs_push (λ a b. key a ≢ key b) xs x own (λ k d within. other_number (key (get_or xs k d)) (key x) (none_at (λ e. key e == key x) xs k d none within))
+keys_push key xs x own none = all_pairs_push (λ a b. key a ≢ key b) xs x own (λ k d within. differs (key (get_or xs k d)) (key x) (none_at (λ e. key e == key x) xs k d none within))
 
 pub small_push : {X : Type 0} (words : X → List ℕ) (xs : List X) (x : X) → AreSmall (flat_map words xs) → AreSmall (words x) → AreSmall (flat_map words (xs ++ x ∷ []))
 small_push words xs x small one = subst AreSmall (sym (flat_map-append words xs (x ∷ []))) (AllByRecursion-append (λ n. n < 2 ^ 32) (flat_map words xs) (words x ++ []) small (AllByRecursion-append (λ n. n < 2 ^ 32) (words x) [] one tt))
@@ -165,50 +148,86 @@ size_kept [] o p same = refl
 size_kept (t ∷ order) o p same =
     omega (arith, length-append (section_words p t) (flat_map (section_words p) order), length-append (section_words o t) (flat_map (section_words o) order), same t, size_kept order o p same)
 
-size_kept_apart : (order : List Section) (o p : Object) (s : Section) → ((t : Section) → t ≢ s → length (section_words p t) ≡ length (section_words o t)) → AllByRecursion (λ t. s ≢ t) order → size_of order p ≡ size_of order o
-size_kept_apart [] o p s same apart = refl
-size_kept_apart (t ∷ order) o p s same apart =
-    omega (arith, length-append (section_words p t) (flat_map (section_words p) order), length-append (section_words o t) (flat_map (section_words o) order), same t (λ is. apart.0 (sym is)), size_kept_apart order o p s same apart.1)
+module _ (s : Section) (b : Body s) (o : Object) where
+  other_kept : (t : Section) → t ≢ s → length (section_words (with_body s b o) t) ≡ length (section_words o t)
+  other_kept t differ = ap (λ ws. length (identifier t ∷ ws)) (words-inner t (with_body s b o) ∙ ap (body_words t) (body-others s t b o differ) ∙ sym (words-inner t o))
 
-pairs_rest : (s : Section) (order : List Section) → AllPairs (λ a b. a ≢ b) (s ∷ order) → AllPairs (λ a b. a ≢ b) order
-pairs_rest s order once i j d before within = once (suc i) (suc j) d (omega arith) (omega arith)
+  this_put : length (section_words (with_body s b o) s) + length (body_words s (body_of s o)) ≡ length (section_words o s) + length (body_words s b)
+  this_put = omega (arith, ap length (words-inner s o), ap length (words-inner s (with_body s b o)), ap (λ c. length (body_words s c)) (body-with s b o))
 
--- one section that is there grows
-pub size_grown : (order : List Section) (o p : Object) (s : Section) (words : ℕ) → AllPairs (λ a b. a ≢ b) order → is_there s order ≡ true → ((t : Section) → t ≢ s → length (section_words p t) ≡ length (section_words o t)) → length (section_words p s) ≡ length (section_words o s) + words → size_of order p ≡ size_of order o + words
-size_grown [] o p s words once there same more = absurd (false≢true there)
-size_grown (t ∷ order) o p s words once there same more = at (is_same t s) refl (λ later. size_grown order o p s words (pairs_rest t order once) later same more)
-  where
-    long_p : size_of (t ∷ order) p ≡ length (section_words p t) + size_of order p
-    long_p = length-append (section_words p t) (flat_map (section_words p) order)
+  others_kept : (order : List Section) → AllByRecursion (λ t. s ≢ t) order → size_of order (with_body s b o) ≡ size_of order o
+  others_kept [] apart = refl
+  others_kept (t ∷ order) apart =
+      let same = other_kept t (λ is. apart.0 (sym is)) in
+      omega (arith, length-append (section_words (with_body s b o) t) (flat_map (section_words (with_body s b o)) order), length-append (section_words o t) (flat_map (section_words o) order), others_kept order apart.1)
 
-    long_o : size_of (t ∷ order) o ≡ length (section_words o t) + size_of order o
-    long_o = length-append (section_words o t) (flat_map (section_words o) order)
+  -- a section that is there has other words
+  size_put : (order : List Section) → AllPairs (λ a c. a ≢ c) order → is_there s order ≡ true → size_of order (with_body s b o) + length (body_words s (body_of s o)) ≡ size_of order o + length (body_words s b)
+  size_put [] once there = absurd (false≢true there)
+  size_put (t ∷ order) once there = at (same_or_not t s) (λ later. size_put order pairs_rest later)
+    where
+      long_p : size_of (t ∷ order) (with_body s b o) ≡ length (section_words (with_body s b o) t) + size_of order (with_body s b o)
+      long_p = length-append (section_words (with_body s b o) t) (flat_map (section_words (with_body s b o)) order)
 
-    at : (b : Bool) → is_same t s ≡ b → (is_there s order ≡ true → size_of order p ≡ size_of order o + words) → size_of (t ∷ order) p ≡ size_of (t ∷ order) o + words
-    at true is grown =
-        let here : t ≡ s = same_section t s is in
-        let first : length (section_words p t) ≡ length (section_words o t) + words = subst (λ u. length (section_words p u) ≡ length (section_words o u) + words) (sym here) more in
-        let apart : AllByRecursion (λ u. s ≢ u) order = subst (λ u. AllByRecursion (λ v. u ≢ v) order) here (apart_later [] t order once) in
-        omega (arith, long_p, long_o, first, size_kept_apart order o p s same apart)
-    at false is grown =
-        let later : is_there s order ≡ true = rw is at there in
-        let other : t ≢ s = λ here. false≢true (sym is ∙ ap (λ u. is_same u s) here ∙ is_same_itself s) in
-        omega (arith, long_p, long_o, same t other, grown later)
+      long_o : size_of (t ∷ order) o ≡ length (section_words o t) + size_of order o
+      long_o = length-append (section_words o t) (flat_map (section_words o) order)
+
+      pairs_rest : AllPairs (λ a c. a ≢ c) order
+      pairs_rest i j d before within = once (suc i) (suc j) d (omega arith) (omega arith)
+
+      at : (t ≡ s) ⊎ (t ≢ s) → (is_there s order ≡ true → size_of order (with_body s b o) + length (body_words s (body_of s o)) ≡ size_of order o + length (body_words s b)) → size_of (t ∷ order) (with_body s b o) + length (body_words s (body_of s o)) ≡ size_of (t ∷ order) o + length (body_words s b)
+      at (inl here) others =
+          let first : length (section_words (with_body s b o) t) + length (body_words s (body_of s o)) ≡ length (section_words o t) + length (body_words s b) =
+          subst (λ u. length (section_words (with_body s b o) u) + length (body_words s (body_of s o)) ≡ length (section_words o u) + length (body_words s b)) (sym here) this_put in
+          let apart : AllByRecursion (λ u. s ≢ u) order = subst (λ u. AllByRecursion (λ v. u ≢ v) order) here (apart_later [] t order once) in
+          omega (arith, long_p, long_o, first, others_kept order apart)
+      at (inr other) others =
+          let later : is_there s order ≡ true = rw (other_section t s other) at there in
+          omega (arith, long_p, long_o, other_kept t other, others later)
+
+-- ---- a section that is changed
+
+module _ (o : Object) (there : Section → Bool) (fine : (t : Section) → IsFine t (body_of t o) (there t)) where
+  fine_put : (s : Section) (b : Body s) → there s ≡ true → IsBody s b → AreSmall (body_numbers s b) → (t : Section) → IsFine t (body_of t (with_body s b o)) (there t)
+  fine_put s b is together small t = at (same_or_not t s)
+    where
+      at : (t ≡ s) ⊎ (t ≢ s) → IsFine t (body_of t (with_body s b o)) (there t)
+      at (inl here) =
+          subst (λ u. IsFine u (body_of u (with_body s b o)) (there u)) (sym here)
+          (subst (λ c. IsFine s c (there s)) (sym (body-with s b o)) (λ none. absurd (false≢true (sym none ∙ is)), together, small))
+      at (inr other) = subst (λ c. IsFine t c (there t)) (sym (body-others s t b o other)) (fine t)
+
+-- a section that is there has something else in it
+pub formed_put : (stage after : Stage) (size now : ℕ) (o : Object) (s : Section) (b : Body s) → IsFormed stage size o → is_there s o.order ≡ true → IsOpened after o.order → IsBody s b → AreSmall (body_numbers s b)
+    → now + missing after + length (body_words s (body_of s o)) ≡ size + missing stage + length (body_words s b) → now ≤ 4096 → IsFormed after now (with_body s b o)
+formed_put stage after size now o s b f there opened together small words most =
+    let order = order-with s b o in
+    let extra = extra-with s b o in
+    let all : now + missing after ≡ 3 + length o.extra + size_of o.order (with_body s b o) = let before = f.words in omega (arith, size_put s b o o.order f.once there) in
+    record {
+      led = subst IsLedByMasters (sym order) f.led;
+      once = subst (AllPairs (λ s t. s ≢ t)) (sym order) f.once;
+      opened = subst (IsOpened after) (sym order) opened;
+      fine = λ t. subst (λ l. IsFine t (body_of t (with_body s b o)) (is_there t l)) (sym order) (fine_put o (λ t. is_there t o.order) f.fine s b there together small t);
+      extra = subst AreSmall (sym extra) f.extra;
+      words = subst (λ l. now + missing after ≡ 3 + length (with_body s b o).extra + size_of l (with_body s b o)) (sym order) (subst (λ x. now + missing after ≡ 3 + length x + size_of o.order (with_body s b o)) (sym extra) all);
+      most = most;
+    }
 
 -- ---- masters
 
-pub masters_push : (masters : List MasterRec) (m : MasterRec) → AreMasters masters → list_any (λ e. e.node == m.node) masters ≡ false → has_bad_node m masters ≡ false → has_bad_mask m masters ≡ false → AreMasters (masters ++ m ∷ [])
+pub masters_push : (masters : List MasterRec) (m : MasterRec) → AreMasters masters → list_any (λ e. e.node == m.node) masters ≡ false → is_bad_node masters m.node ≡ false → is_bad_mask masters m.mask ≡ false → AreMasters (masters ++ m ∷ [])
 masters_push masters m are new node mask =
-    let nodes = either_false (not (is_master_node m.node)) (list_any (λ e. splits_lockstep e.node m.node) masters) node in
-    let masks = either_false (not (count_ones m.mask == 1)) (list_any (λ e. not (bit_and e.mask m.mask == 0)) masters) mask in
-    let one : eqb (count_ones m.mask) 1 ≡ true = not_false (eqb (count_ones m.mask) 1) masks.0 in
-    let is : IsMaster m = record { node = not_false (is_master_node m.node) nodes.0; one_bit = grind (arith, nat_tests) } in
+    let nodes = neither (not (is_master_node m.node)) (list_any (λ e. splits_lockstep e.node m.node) masters) node in
+    let masks = neither (not (count_ones m.mask == 1)) (list_any (λ e. not (bit_and e.mask m.mask == 0)) masters) mask in
+    let one : eqb (count_ones m.mask) 1 ≡ true = not-false (eqb (count_ones m.mask) 1) masks.0 in
+    let is : IsMaster m = record { node = not-false (is_master_node m.node) nodes.0; one_bit = grind (arith, nat_tests) } in
     record {
       each = All-push IsMaster masters m are.each is;
       apart = all_pairs_push AreApart masters m are.apart (λ k d within. record {
-        nodes = other_number _ _ (none_at (λ e. e.node == m.node) masters k d new within);
+        nodes = differs _ _ (none_at (λ e. e.node == m.node) masters k d new within);
         modes = none_at (λ e. splits_lockstep e.node m.node) masters k d nodes.1 within;
-        bits = same_number _ _ (not_false _ (none_at (λ e. not (bit_and e.mask m.mask == 0)) masters k d masks.1 within));
+        bits = same_number _ _ (not-false _ (none_at (λ e. not (bit_and e.mask m.mask == 0)) masters k d masks.1 within));
       });
     }
 

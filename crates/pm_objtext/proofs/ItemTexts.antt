@@ -13,10 +13,11 @@ use Rattle.pm_objtext.specs.declared.names.Keyword.{Keyword}
 use Rattle.pm_objtext.specs.declared.names.Keyword.TheVariants as keywords
 use Rattle.pm_objtext.specs.declared.item.Item.{Item}
 use Rattle.pm_objtext.specs.declared.item.Item.TheVariants.{Empty, Header, Opens, Master, Slave, Group, Prefer, Power, Reset, Shutdown, Config, Gpo}
-use Rattle.pm_objtext.specs.Lines.{is_feed}
+use Rattle.pm_base.proofs.Booleans.{both}
+use Rattle.pm_base.proofs.LinesLemmas.{is_feed}
 use Rattle.pm_objtext.specs.Names.{keyword_text, section_text}
 use Rattle.pm_objtext.specs.Printing.{number_text, numbers_line, line_of}
-use Rattle.pm_objtext.specs.Reading.{texts, keyword_of, section_of, record_of, keyword_item, item_of}
+use Rattle.pm_objtext.specs.Reading.{keyword_of, section_of, record_of, keyword_item, item_of}
 use Rattle.pm_objtext.proofs.LineTexts.{IsPlain, IsLineByte, IsWord, spaced, words_line, IsLineByte-words_line, texts-words_line, is_readable-words_line, numbers-decimals, IsWord-decimals, length-decimals}
 
 -- ---- names
@@ -24,94 +25,45 @@ use Rattle.pm_objtext.proofs.LineTexts.{IsPlain, IsLineByte, IsWord, spaced, wor
 abbrev is_plain : ℕ → Bool
 is_plain byte = leb 48 byte && leb byte 122
 
-both_true : (a b : Bool) → (a && b) ≡ true → (a ≡ true) × (b ≡ true)
-both_true true b both = (refl, both)
-both_true false b both = cc
-
 IsPlain-from_test : (byte : ℕ) → is_plain byte ≡ true → IsPlain byte
 IsPlain-from_test byte test =
-    let both = both_true (leb 48 byte) (leb byte 122) test in
-    let low = both.0 in
-    let high = both.1 in
+    let parts = both (leb 48 byte) (leb byte 122) test in
+    let low = parts.0 in
+    let high = parts.1 in
     record { low = grind (arith, nat_tests); high = grind (arith, nat_tests) }
 
 all_plain : (word : List ℕ) → list_all is_plain word ≡ true → AllByRecursion IsPlain word
 all_plain [] test = tt
 all_plain (byte ∷ word) test =
-    let both = both_true (is_plain byte) (list_all is_plain word) test in
-    (IsPlain-from_test byte both.0, all_plain word both.1)
+    let parts = both (is_plain byte) (list_all is_plain word) test in
+    (IsPlain-from_test byte parts.0, all_plain word parts.1)
 
 IsWord-from_test : (word : List ℕ) → nat_lt 0 (length word) ≡ true → list_all is_plain word ≡ true → IsWord word
 IsWord-from_test word some test = record { some = grind (arith, nat_tests); plain = all_plain word test }
 
 IsWord-keyword : (k : Keyword) → IsWord (keyword_text k)
 IsWord-keyword keywords.Header = IsWord-from_test _ refl refl
-IsWord-keyword keywords.Section = IsWord-from_test _ refl refl
-IsWord-keyword keywords.Master = IsWord-from_test _ refl refl
-IsWord-keyword keywords.Slave = IsWord-from_test _ refl refl
-IsWord-keyword keywords.Group = IsWord-from_test _ refl refl
-IsWord-keyword keywords.Prefer = IsWord-from_test _ refl refl
-IsWord-keyword keywords.Power = IsWord-from_test _ refl refl
-IsWord-keyword keywords.Reset = IsWord-from_test _ refl refl
-IsWord-keyword keywords.Shutdown = IsWord-from_test _ refl refl
-IsWord-keyword keywords.Config = IsWord-from_test _ refl refl
-IsWord-keyword keywords.Gpo = IsWord-from_test _ refl refl
+IsWord-keyword k = IsWord-from_test _ refl refl
 
 IsWord-section : (s : Section) → IsWord (section_text s)
 IsWord-section sections.Masters = IsWord-from_test _ refl refl
-IsWord-section sections.Slaves = IsWord-from_test _ refl refl
-IsWord-section sections.Prealloc = IsWord-from_test _ refl refl
-IsWord-section sections.Power = IsWord-from_test _ refl refl
-IsWord-section sections.Reset = IsWord-from_test _ refl refl
-IsWord-section sections.Shutdown = IsWord-from_test _ refl refl
-IsWord-section sections.Config = IsWord-from_test _ refl refl
-IsWord-section sections.Gpo = IsWord-from_test _ refl refl
+IsWord-section s = IsWord-from_test _ refl refl
 
 keyword_of-text : (k : Keyword) → keyword_of (keyword_text k) ≡ Some k
 keyword_of-text keywords.Header = refl
-keyword_of-text keywords.Section = refl
-keyword_of-text keywords.Master = refl
-keyword_of-text keywords.Slave = refl
-keyword_of-text keywords.Group = refl
-keyword_of-text keywords.Prefer = refl
-keyword_of-text keywords.Power = refl
-keyword_of-text keywords.Reset = refl
-keyword_of-text keywords.Shutdown = refl
-keyword_of-text keywords.Config = refl
-keyword_of-text keywords.Gpo = refl
+keyword_of-text k = refl
 
 section_of-text : (s : Section) → section_of (section_text s) ≡ Some s
 section_of-text sections.Masters = refl
-section_of-text sections.Slaves = refl
-section_of-text sections.Prealloc = refl
-section_of-text sections.Power = refl
-section_of-text sections.Reset = refl
-section_of-text sections.Shutdown = refl
-section_of-text sections.Config = refl
-section_of-text sections.Gpo = refl
+section_of-text s = refl
 
 length-keyword_text : (k : Keyword) → length (keyword_text k) ≤ 8
 length-keyword_text keywords.Header = omega arith
-length-keyword_text keywords.Section = omega arith
-length-keyword_text keywords.Master = omega arith
-length-keyword_text keywords.Slave = omega arith
-length-keyword_text keywords.Group = omega arith
-length-keyword_text keywords.Prefer = omega arith
-length-keyword_text keywords.Power = omega arith
-length-keyword_text keywords.Reset = omega arith
-length-keyword_text keywords.Shutdown = omega arith
-length-keyword_text keywords.Config = omega arith
-length-keyword_text keywords.Gpo = omega arith
+length-keyword_text k = omega arith
 
 length-section_text : (s : Section) → length (section_text s) ≤ 8
 length-section_text sections.Masters = omega arith
-length-section_text sections.Slaves = omega arith
-length-section_text sections.Prealloc = omega arith
-length-section_text sections.Power = omega arith
-length-section_text sections.Reset = omega arith
-length-section_text sections.Shutdown = omega arith
-length-section_text sections.Config = omega arith
-length-section_text sections.Gpo = omega arith
+length-section_text s = omega arith
 
 -- ---- lines
 
@@ -155,7 +107,7 @@ item_of-section_line s =
     ap item_of (section_line-words s) ∙ item_of-words_line (keyword_text keywords.Section) (section_text s ∷ []) keywords.Section (IsWord-keyword keywords.Section) (IsWord-section s, tt) short refl ∙ ap (option_map Opens) (section_of-text s)
 
 item_of-empty : item_of [] ≡ Some Empty
-unfolding item_of texts words
+unfolding item_of words
 item_of-empty = refl
 
 -- ---- items

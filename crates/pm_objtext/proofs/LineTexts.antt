@@ -1,15 +1,17 @@
 -- The words of a line that is a keyword and further words, with one space between.
-use Rattle.std.proofs.Common.{◌≡◌, ℕ, zero, suc, ◌+◌, ◌-◌, ◌*◌, ◌^◌, ◌<◌, ◌≤◌, Bool, true, false, ◌&&◌, eqb, leb, nat_lt, List, [], ◌∷◌, ◌++◌, length, get_or, map, Some, None, decimal, refl, ap, sym, ◌∙◌, arith, append_assoc, length-append, zero-add}
+use Rattle.std.proofs.Common.{◌≡◌, ℕ, zero, suc, ◌+◌, ◌-◌, ◌*◌, ◌^◌, ◌<◌, ◌≤◌, true, false, eqb, leb, nat_lt, List, [], ◌∷◌, ◌++◌, length, get_or, map, Some, None, decimal, refl, ap, sym, ◌∙◌, arith, append_assoc, length-append, zero-add}
 use Rattle.std.specs.List.{flat_map, list_all, AllByRecursion}
 use Rattle.std.specs.Char.{digit_value, is_digit}
 use Rattle.std.specs.Str.Parse.{AllDigits, IsNumeral, digits_value}
 use Rattle.std.proofs.lemmas.Bool.Decides.{nat_tests}
 use Rattle.std.proofs.lemmas.List.{length-map}
 use Rattle.std.proofs.lemmas.Fmt.{decimal_is_IsNumeral, length-decimal-le}
+use Rattle.std.proofs.Math.Bool.{and-false}
 use Rattle.std.proofs.Math.Seq.{drop-append_seam, take-append_seam}
-use Rattle.pm_base.specs.Words.{is_blank, words_from, without_return, words}
+use Rattle.pm_base.specs.Lines.{without_return, is_plain}
+use Rattle.pm_base.specs.Words.{is_blank, words_from, words, word_texts, text_between}
 use Rattle.pm_base.specs.Numbers.{number_of}
-use Rattle.pm_objtext.specs.Reading.{is_text, is_readable, bytes_at, texts, number, numbers_in, numbers}
+use Rattle.pm_objtext.specs.Reading.{is_readable, number, numbers_in, numbers}
 
 -- ---- bytes
 
@@ -64,20 +66,20 @@ words_from-spaced [] first at are = refl
 words_from-spaced (word ∷ more) first at are =
     rw space_is_blank (ap (λ (others : List (ℕ × ℕ)). (first, at) ∷ others) (word_begins word (flat_map spaced more) (at + 1) are.0 ∙ words_from-spaced more (at + 1) (at + 1 + length word) are.1))
 
-bytes_between : (front word rest : List ℕ) → bytes_at (front ++ (word ++ rest)) (length front, length front + length word) ≡ word
+bytes_between : (front word rest : List ℕ) → text_between (front ++ (word ++ rest)) (length front, length front + length word) ≡ word
 bytes_between front word rest =
     let count : length front + length word - length front ≡ length word = omega arith in
     rw (count, drop-append_seam front (word ++ rest)) (take-append_seam word rest)
 
-texts_at : (line front : List ℕ) (more : List (List ℕ)) → line ≡ front ++ flat_map spaced more → map (bytes_at line) (places (length front) more) ≡ more
+texts_at : (line front : List ℕ) (more : List (List ℕ)) → line ≡ front ++ flat_map spaced more → map (text_between line) (places (length front) more) ≡ more
 texts_at line front [] is = refl
 texts_at line front (word ∷ more) is =
     let begun : length (front ++ 32 ∷ []) ≡ length front + 1 = omega (arith, length-append front (32 ∷ [])) in
     let ended : length (front ++ 32 ∷ [] ++ word) ≡ length front + 1 + length word = omega (arith, begun, length-append (front ++ 32 ∷ []) word) in
     let here : line ≡ (front ++ 32 ∷ []) ++ (word ++ flat_map spaced more) = is ∙ sym (append_assoc front (32 ∷ []) (word ++ flat_map spaced more)) in
     let later : line ≡ front ++ 32 ∷ [] ++ word ++ flat_map spaced more = here ∙ sym (append_assoc (front ++ 32 ∷ []) word (flat_map spaced more)) in
-    let first : bytes_at line (length front + 1, length front + 1 + length word) ≡ word = rw (here, ← begun) (bytes_between (front ++ 32 ∷ []) word (flat_map spaced more)) in
-    let others : map (bytes_at line) (places (length front + 1 + length word) more) ≡ more = rw (← ended) (texts_at line (front ++ 32 ∷ [] ++ word) more later) in
+    let first : text_between line (length front + 1, length front + 1 + length word) ≡ word = rw (here, ← begun) (bytes_between (front ++ 32 ∷ []) word (flat_map spaced more)) in
+    let others : map (text_between line) (places (length front + 1 + length word) more) ≡ more = rw (← ended) (texts_at line (front ++ 32 ∷ [] ++ word) more later) in
     λ i. first i ∷ others i
 
 -- ---- what a line of such words is
@@ -103,12 +105,12 @@ no_return (byte ∷ line) (suc k) bytes = no_return line k bytes.1
 without_return-none : (line : List ℕ) → AllByRecursion IsLineByte line → without_return line ≡ line
 without_return-none line bytes = rw (no_return line (length line - 1) bytes) refl
 
-all_text : (line : List ℕ) → AllByRecursion IsLineByte line → list_all is_text line ≡ true
+all_text : (line : List ℕ) → AllByRecursion IsLineByte line → list_all is_plain line ≡ true
 all_text [] bytes = refl
 all_text (byte ∷ line) bytes =
     let low = bytes.0.low in
     let high = bytes.0.high in
-    let here : is_text byte ≡ true = grind (arith, nat_tests) in
+    let here : is_plain byte ≡ true = grind (arith, nat_tests) in
     rw here (all_text line bytes.1)
 
 -- a line of a first word and more words
@@ -118,20 +120,20 @@ words_line first more = first ++ flat_map spaced more
 pub IsLineByte-words_line : (first : List ℕ) (more : List (List ℕ)) → IsWord first → AllByRecursion IsWord more → AllByRecursion IsLineByte (words_line first more)
 IsLineByte-words_line first more is are = AllByRecursion-append IsLineByte first (flat_map spaced more) (IsLineByte-plain first is.plain) (IsLineByte-spaced more are)
 
-pub texts-words_line : (first : List ℕ) (more : List (List ℕ)) → IsWord first → AllByRecursion IsWord more → texts (words_line first more) ≡ first ∷ more
-unfolding texts words
+pub texts-words_line : (first : List ℕ) (more : List (List ℕ)) → IsWord first → AllByRecursion IsWord more → word_texts (words_line first more) ≡ first ∷ more
+unfolding words
 texts-words_line first more is are =
     let line = words_line first more in
     let whole : without_return line ≡ line = without_return-none line (IsLineByte-words_line first more is are) in
     let found : words_from None 0 line ≡ (0, length first) ∷ places (length first) more = word_begins first (flat_map spaced more) 0 is ∙ ap (λ n. words_from (Some 0) n (flat_map spaced more)) (zero-add (length first)) ∙ words_from-spaced more 0 (length first) are in
-    let begin : bytes_at line (0, length first) ≡ first = ap (λ n. bytes_at line (0, n)) (sym (zero-add (length first))) ∙ bytes_between [] first (flat_map spaced more) in
+    let begin : text_between line (0, length first) ≡ first = ap (λ n. text_between line (0, n)) (sym (zero-add (length first))) ∙ bytes_between [] first (flat_map spaced more) in
     rw (whole, found) (λ i. begin i ∷ texts_at line first more refl i)
 
 pub is_readable-words_line : (first : List ℕ) (more : List (List ℕ)) → IsWord first → AllByRecursion IsWord more → length (words_line first more) ≤ 255 → is_readable (words_line first more) ≡ true
 is_readable-words_line first more is are short =
     let line = words_line first more in
     let bytes = IsLineByte-words_line first more is are in
-    let few : leb (length line) 255 ≡ true = grind (arith, nat_tests) in
+    let few : nat_lt (length line) 256 ≡ true = grind (arith, nat_tests) in
     rw (few, without_return-none line bytes) (all_text line bytes)
 
 -- ---- numbers
@@ -157,14 +159,10 @@ no_x (c ∷ ds) (suc k) all = no_x ds k all.1
 pub IsWord-decimal : (n : ℕ) → n < 2 ^ 32 → IsWord (decimal n)
 IsWord-decimal n small = let is = (decimal_is_IsNumeral n (omega arith)).0 in record { some = is.0; plain = IsPlain-digits (decimal n) is.1 }
 
-and_false : (b : Bool) → (b && false) ≡ false
-and_false true = refl
-and_false false = refl
-
 number_of-digits : (ds : List ℕ) → IsNumeral 10 ds → number_of ds ≡ Some (digits_value 10 ds)
 number_of-digits ds is =
     let some : nat_lt 0 (length ds) ≡ true = let first = is.0 in grind (arith, nat_tests) in
-    rw (no_x ds 1 is.1, and_false (eqb (get_or ds 0 0) 48), some, all_digits ds is.1) refl
+    rw (no_x ds 1 is.1, and-false (eqb (get_or ds 0 0) 48), some, all_digits ds is.1) refl
 
 pub number-decimal : (n : ℕ) → n < 2 ^ 32 → number (decimal n) ≡ Some n
 number-decimal n small =

@@ -1,8 +1,14 @@
 pub mod Answers
 pub mod Building
-pub mod Drafts
+pub mod Causes
+pub mod Draft
+pub mod FirstBad
 pub mod Groups
-pub mod Lines
+pub mod Items
+pub mod Meaning
 pub mod Names
 pub mod Printing
 pub mod Reading
+pub mod SoFar
+pub mod Stage
+pub mod Table

@@ -1,15 +1,13 @@
 -- The text of an object.
-use Rattle.std.specs.Prelude.{ℕ, zero, suc, ◌-◌, ◌/◌, List, [], ◌∷◌, ◌++◌, length, take, drop, map, decimal}
+use Rattle.std.specs.Prelude.{ℕ, ◌-◌, ◌/◌, List, [], ◌∷◌, ◌++◌, length, decimal}
 use Rattle.std.specs.List.{flat_map}
-use Rattle.pm_object.specs.declared.object.PreGroup.{PreGroup}
 use Rattle.pm_object.specs.declared.object.Object.{Object}
-use Rattle.pm_object.specs.declared.object.Section.{Section}
-use Rattle.pm_object.specs.declared.object.Section.TheVariants as sections
 use Rattle.pm_object.specs.Grammar.{master_words, slave_words, preset_words, pair_words}
 use Rattle.pm_objtext.specs.declared.names.Keyword.{Keyword}
 use Rattle.pm_objtext.specs.declared.names.Keyword.TheVariants as keywords
 use Rattle.pm_objtext.specs.declared.item.Item.{Item}
 use Rattle.pm_objtext.specs.declared.item.Item.TheVariants.{Empty, Header, Opens, Master, Slave, Group, Prefer, Power, Reset, Shutdown, Config, Gpo}
+use Rattle.pm_objtext.specs.Items.{header_lines, section_items}
 use Rattle.pm_objtext.specs.Names.{keyword_text, section_text}
 
 -- ---- the lines
@@ -46,31 +44,9 @@ lines_text items = flat_map ended_line items
 
 -- ---- the items of an object
 
--- so many header lines of 16 words each, and one with the words that are left
-abbrev pub header_lines : ℕ → List ℕ → List Item
-header_lines zero extra = Header (record { items = extra }) ∷ []
-header_lines (suc full) extra = Header (record { items = take 16 extra }) ∷ header_lines full (drop 16 extra)
-
 -- one line where there are no extra header words; else each line but the last has 16, and the last 1 to 16
 abbrev pub header_items : List ℕ → List Item
 header_items extra = header_lines ((length extra - 1) / 16) extra
-
-abbrev pub group_items : PreGroup → List Item
-group_items group = Group group.mask ∷ map Prefer group.recs
-
--- what stands in a section, in order
-abbrev pub record_items : Section → Object → List Item
-record_items sections.Masters o = map Master o.masters
-record_items sections.Slaves o = map Slave o.slaves
-record_items sections.Prealloc o = flat_map group_items o.groups
-record_items sections.Power o = map Power o.power
-record_items sections.Reset o = map Reset o.reset
-record_items sections.Shutdown o = map Shutdown o.shutdown
-record_items sections.Config o = Config o.base_mask o.overlay_mask ∷ []
-record_items sections.Gpo o = Gpo o.gpo ∷ []
-
-abbrev pub section_items : Object → Section → List Item
-section_items o section = Opens section ∷ record_items section o
 
 -- the header and the sections, in the object's order
 abbrev pub items_of : Object → List Item

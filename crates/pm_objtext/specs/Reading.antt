@@ -1,10 +1,12 @@
 -- What a line of a text says, or that its form is wrong.
-use Rattle.std.specs.Prelude.{ℕ, Bool, ◌==◌, ◌&&◌, ◌||◌, nat_le, nat_lt, if◌then◌else◌, List, [], ◌∷◌, length, drop, map, find, slice_get, slice_index, Option, Some, None, option_and_then}
-use Rattle.std.specs.List.{list_all, slice_range}
+use Rattle.std.specs.Prelude.{ℕ, Bool, ◌==◌, ◌&&◌, nat_lt, if◌then◌else◌, List, [], ◌∷◌, length, drop, find, slice_get, slice_index, Option, Some, None, option_and_then}
+use Rattle.std.specs.List.{list_all}
 use Rattle.std.specs.Option.{option_map}
 use Rattle.std.specs.Str.{bytes_eq}
-use Rattle.pm_base.specs.Words.{words, without_return}
+use Rattle.pm_base.specs.Lines.{without_return, is_plain}
+use Rattle.pm_base.specs.Words.{word_texts}
 use Rattle.pm_base.specs.Numbers.{number_of, at_most}
+use Rattle.pm_object.specs.declared.object.Pair.{Pair}
 use Rattle.pm_object.specs.declared.object.Section.{Section}
 use Rattle.pm_objtext.specs.declared.names.Keyword.{Keyword}
 use Rattle.pm_objtext.specs.declared.names.Keyword.TheVariants as keywords
@@ -14,20 +16,9 @@ use Rattle.pm_objtext.specs.Names.{all_keywords, all_sections, keyword_text, sec
 
 -- ---- words and numbers
 
--- a byte that a line may have: a tab, or a character of ASCII that is printed
-abbrev pub is_text : ℕ → Bool
-is_text byte = (byte == 9) || (nat_le 32 byte && nat_le byte 126)
-
--- a line has at most 255 bytes without its line feed, and is ASCII, its comment too
+-- a line has less than 256 bytes without its line feed, and is plain, its comment too
 abbrev pub is_readable : List ℕ → Bool
-is_readable line = nat_le (length line) 255 && list_all is_text (without_return line)
-
-abbrev pub bytes_at : List ℕ → ℕ × ℕ → List ℕ
-bytes_at line place = slice_range line place.0 place.1
-
--- the words of a line
-unfoldable pub texts : List ℕ → List (List ℕ)
-texts line = map (bytes_at line) (words line)
+is_readable line = nat_lt (length line) 256 && list_all is_plain (without_return line)
 
 -- a number of 32 bits
 abbrev pub number : List ℕ → Option ℕ
@@ -72,14 +63,8 @@ group_of ns = if length ns == 1 then Some (Group (slice_index ns 0)) else None
 abbrev pub preset_of : List ℕ → Option Item
 preset_of ns = if length ns == 4 then Some (Prefer (record { node = slice_index ns 0; flags = slice_index ns 1; current = slice_index ns 2; preset = slice_index ns 3 })) else None
 
-abbrev pub power_of : List ℕ → Option Item
-power_of ns = if length ns == 2 then Some (Power (record { key = slice_index ns 0; mask = slice_index ns 1 })) else None
-
-abbrev pub reset_of : List ℕ → Option Item
-reset_of ns = if length ns == 2 then Some (Reset (record { key = slice_index ns 0; mask = slice_index ns 1 })) else None
-
-abbrev pub shutdown_of : List ℕ → Option Item
-shutdown_of ns = if length ns == 2 then Some (Shutdown (record { key = slice_index ns 0; mask = slice_index ns 1 })) else None
+abbrev pub pair_of : List ℕ → Option Pair
+pair_of ns = if length ns == 2 then Some (record { key = slice_index ns 0; mask = slice_index ns 1 }) else None
 
 abbrev pub config_of : List ℕ → Option Item
 config_of ns = if length ns == 2 then Some (Config (slice_index ns 0) (slice_index ns 1)) else None
@@ -95,9 +80,9 @@ record_of keywords.Master ns = master_of ns
 record_of keywords.Slave ns = slave_of ns
 record_of keywords.Group ns = group_of ns
 record_of keywords.Prefer ns = preset_of ns
-record_of keywords.Power ns = power_of ns
-record_of keywords.Reset ns = reset_of ns
-record_of keywords.Shutdown ns = shutdown_of ns
+record_of keywords.Power ns = option_map Power (pair_of ns)
+record_of keywords.Reset ns = option_map Reset (pair_of ns)
+record_of keywords.Shutdown ns = option_map Shutdown (pair_of ns)
 record_of keywords.Config ns = config_of ns
 record_of keywords.Gpo ns = gpo_of ns
 
@@ -113,4 +98,4 @@ words_item (Some first) words = option_and_then (λ keyword. keyword_item keywor
 
 -- what a line says; None where its form is wrong
 unfoldable pub item_of : List ℕ → Option Item
-item_of line = if is_readable line then words_item (slice_get (texts line) 0) (texts line) else None
+item_of line = if is_readable line then words_item (slice_get (word_texts line) 0) (word_texts line) else None

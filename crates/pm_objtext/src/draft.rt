@@ -1,52 +1,72 @@
 //! An object while its text is read, line by line.
 
-ghost use Rattle.std.specs.Prelude.{◌≡◌, ◌==◌, ◌+◌, ◌≤◌, ◌<◌, ◌++◌, ◌^◌, length, Some, None, OnOk, []};
-ghost use Rattle.std.specs.List.{list_any};
-ghost use Rattle.pm_objtext.specs.Drafts.{is_same, stands, repeats, breaks_masters, header_size, words_in, cause_of, start, placed, accepting, end_cause, finished};
+ghost use Rattle.std.specs.Prelude.{◌≡◌, ◌+◌, ◌≤◌, ◌<◌, ◌++◌, ◌^◌, false, length, Some, None, OnOk, IfOk};
+ghost use Rattle.pm_objtext.specs.SoFar.{start, header_size, words_in, stage_after, with_item};
+ghost use Rattle.pm_objtext.specs.Causes.{stands, repeats, lacks_masters, breaks_masters, cause_of, end_cause};
+ghost use Rattle.pm_objtext.specs.Draft.{so_far, accepting, reading, finished};
 ghost use Rattle.pm_objtext.specs.declared.fault.BuildError.TheVariants.{Bad};
 ghost use Rattle.pm_objtext.specs.Answers.{Gives, GivesInto};
-ghost use Rattle.pm_objtext.specs.Building.{reading};
 
 use crate::fault::{BuildError, TextCause, TextFault};
 use crate::groups::Groups;
 use crate::item::Item;
-use crate::masters::{has_bad_mask, has_bad_node, has_master, lacks_masters};
 use crate::reading::item_of;
-use crate::stage::{Stage, is_same, is_single};
+use crate::stage::{Stage, is_single};
+use crate::table::Table;
 use pm_base::{List, NoMemory};
-use pm_object::{Object, Pair, Section, SlaveRec};
+use pm_object::{
+    MOST_WORDS, MasterRec, Object, Pair, PreGroup, Section, SlaveRec, has_key, is_bad_mask,
+    is_bad_node,
+};
 use std::alloc::Global;
 
 /// What the lines so far say. `line` is the number of the line that comes next, `size` the number
-/// of the object's words so far. The groups of `object` stand in `groups`.
-#[derive(Debug, Drop)]
+/// of the object's words so far. What may not come twice stands in tables; the masters are four at
+/// most, and stand in a list.
+#[derive(Drop)]
 pub struct Draft {
     pub line: u32,
     pub stage: Stage,
     pub size: u32,
-    pub object: Object,
+    pub extra: List<u32>,
+    pub order: Table<Section>,
+    pub masters: List<MasterRec>,
+    pub slaves: Table<SlaveRec>,
     pub groups: Groups,
+    pub power: Table<Pair>,
+    pub reset: Table<Pair>,
+    pub shutdown: Table<Pair>,
+    pub base_mask: u32,
+    pub overlay_mask: u32,
+    pub gpo: u32,
 }
-
-/// The greatest number of words of an object.
-const MOST_WORDS: u32 = 4096;
 
 impl Draft {
     /// Nothing yet.
     pub fn new(alloc: Global) -> Self
-        ensures { result ≡ start }
+        ensures first { result.line ≡ 1 }
+        ensures none { so_far result ≡ start }
     {
         Draft {
             line: 1,
             stage: Stage::Start,
             size: 0,
-            object: empty_object(alloc),
+            extra: List::new(alloc),
+            order: Table::new(alloc),
+            masters: List::new(alloc),
+            slaves: Table::new(alloc),
             groups: Groups::new(alloc),
+            power: Table::new(alloc),
+            reset: Table::new(alloc),
+            shutdown: Table::new(alloc),
+            base_mask: 0,
+            overlay_mask: 0,
+            gpo: 0,
         }
     }
 
     fn stands(&self, item: &Item) -> bool
-        ensures { result ≡ stands item.now self.now }
+        ensures { result ≡ stands item.now (so_far self.now) }
     {
         let stage = self.stage;
         match item {
@@ -66,40 +86,50 @@ impl Draft {
     }
 
     fn repeats(&self, item: &Item) -> bool
-        ensures { result ≡ repeats item.now self.now }
+        ensures { result ≡ repeats item.now (so_far self.now) }
     {
-        let object = &self.object;
         match item {
-            Item::Opens(section) => has_section(object.order.as_slice(), *section),
-            Item::Master(master) => has_master(object.masters.as_slice(), master.node),
-            Item::Slave(slave) => has_slave(object.slaves.as_slice(), slave.node),
+            Item::Opens(section) => self.order.has(section.identifier()),
+            Item::Master(master) => has_key(self.masters.as_slice(), master.node),
+            Item::Slave(slave) => self.slaves.has(slave.node),
             Item::Prefer(rec) => self.groups.has_node(rec.node),
-            Item::Power(pair) => has_key(object.power.as_slice(), pair.key),
-            Item::Reset(pair) => has_key(object.reset.as_slice(), pair.key),
-            Item::Shutdown(pair) => has_key(object.shutdown.as_slice(), pair.key),
+            Item::Power(pair) => self.power.has(pair.key),
+            Item::Reset(pair) => self.reset.has(pair.key),
+            Item::Shutdown(pair) => self.shutdown.has(pair.key),
             Item::Empty | Item::Header(_) | Item::Group(_) | Item::Config(_, _) | Item::Gpo(_) => {
                 false
             }
         }
     }
 
+    /// Whether a section may not begin, since the masters' section isn't the first or has no master.
+    fn lacks_masters(&self, section: Section) -> bool
+        ensures { result ≡ lacks_masters section (so_far self.now).object }
+    {
+        if self.order.is_empty() {
+            !section.is_same(Section::Masters)
+        } else {
+            self.masters.is_empty()
+        }
+    }
+
     fn breaks_masters(&self, item: &Item) -> bool
-        ensures { result ≡ breaks_masters item.now self.now }
+        ensures { result ≡ breaks_masters item.now (so_far self.now) }
     {
         match item {
-            Item::Opens(section) => lacks_masters(*section, &self.object),
+            Item::Opens(section) => self.lacks_masters(*section),
             Item::Master(master) => {
-                let earlier = self.object.masters.as_slice();
-                has_bad_node(master, earlier) || has_bad_mask(master, earlier)
+                let earlier = self.masters.as_slice();
+                is_bad_node(earlier, master.node) || is_bad_mask(earlier, master.mask)
             }
             _ => false,
         }
     }
 
-    #[tactic(auto, unfolding(crate::specs::Drafts::cause_of))]
+    #[tactic(auto, unfolding(crate::specs::Causes::cause_of))]
     fn cause_of(&self, item: &Item) -> Option<TextCause>
         requires { self.now.size ≤ 4096 }
-        ensures { result ≡ cause_of item.now self.now }
+        ensures { result ≡ cause_of item.now (so_far self.now) }
     {
         if !self.stands(item) {
             Some(TextCause::Place)
@@ -124,56 +154,57 @@ impl Draft {
     }
 
     fn place(&mut self, alloc: Global, item: Item) -> Result<(), NoMemory>
-        ensures { OnOk result (self.new ≡ placed item self.old) }
+        requires { repeats item (so_far self.old) ≡ false }
+        ensures said { OnOk result (so_far self.new ≡ record (so_far self.old) { stage = stage_after item self.old.stage; object = with_item item (so_far self.old).object }) }
+        ensures line { OnOk result (self.new.line ≡ self.old.line) }
     {
-        let object = &mut self.object;
         match item {
             Item::Empty => {}
             Item::Header(extra) => {
                 self.stage = Stage::Header {
                     full: extra.len() == 16,
                 };
-                append(&mut object.extra, extra.as_slice())?;
+                append(&mut self.extra, extra.as_slice())?;
             }
             Item::Opens(section) => {
                 self.stage = Stage::In {
                     section,
                     filled: false,
                 };
-                object.order.push(section)?;
+                self.order.push(section)?;
             }
-            Item::Master(master) => object.masters.push(master)?,
-            Item::Slave(slave) => object.slaves.push(slave)?,
+            Item::Master(master) => self.masters.push(master)?,
+            Item::Slave(slave) => self.slaves.push(slave)?,
             Item::Group(mask) => self.groups.begin(alloc, mask)?,
             Item::Prefer(rec) => self.groups.add(rec)?,
-            Item::Power(pair) => object.power.push(pair)?,
-            Item::Reset(pair) => object.reset.push(pair)?,
-            Item::Shutdown(pair) => object.shutdown.push(pair)?,
+            Item::Power(pair) => self.power.push(pair)?,
+            Item::Reset(pair) => self.reset.push(pair)?,
+            Item::Shutdown(pair) => self.shutdown.push(pair)?,
             Item::Config(base, overlay) => {
                 self.stage = Stage::In {
                     section: Section::Config,
                     filled: true,
                 };
-                object.base_mask = base;
-                object.overlay_mask = overlay;
+                self.base_mask = base;
+                self.overlay_mask = overlay;
             }
             Item::Gpo(word) => {
                 self.stage = Stage::In {
                     section: Section::Gpo,
                     filled: true,
                 };
-                object.gpo = word;
+                self.gpo = word;
             }
         }
         Ok(())
     }
 
     /// Takes a line of right form. Where it is refused, the draft stays as it was.
-    #[tactic(auto, unfolding(crate::specs::Drafts::accepting, crate::specs::Drafts::cause_of))]
+    #[tactic(auto, unfolding(crate::specs::Draft::accepting, crate::specs::Causes::cause_of))]
     pub fn accept(&mut self, alloc: Global, item: Item) -> Result<(), BuildError>
         requires small { self.old.size ≤ 4096 }
         requires early { self.old.line + 1 < 2 ^ 32 }
-        ensures next { GivesInto self.new result (accepting item self.old) }
+        ensures next { GivesInto (so_far self.new) result (accepting self.old.line item (so_far self.old)) }
         ensures small { OnOk result (self.new.size ≤ 4096) }
         ensures line { OnOk result (self.new.line ≡ self.old.line + 1) }
     {
@@ -188,11 +219,11 @@ impl Draft {
     }
 
     /// Takes a line. Where it is refused, the answer names the line's number.
-    #[tactic(auto, unfolding(crate::specs::Building::reading))]
+    #[tactic(auto, unfolding(crate::specs::Draft::reading, crate::specs::Draft::accepting))]
     pub fn read(&mut self, alloc: Global, line: &[u8]) -> Result<(), BuildError>
         requires small { self.old.size ≤ 4096 }
         requires early { self.old.line + 1 < 2 ^ 32 }
-        ensures next { GivesInto self.new result (reading line.now self.old) }
+        ensures next { GivesInto (so_far self.new) result (reading self.old.line line.now (so_far self.old)) }
         ensures small { OnOk result (self.new.size ≤ 4096) }
         ensures line { OnOk result (self.new.line ≡ self.old.line + 1) }
     {
@@ -203,11 +234,11 @@ impl Draft {
     }
 
     fn end_cause(&self) -> Option<TextCause>
-        ensures { result ≡ end_cause self.now }
+        ensures { result ≡ end_cause (so_far self.now) }
     {
         if !self.stage.takes_section() {
             Some(TextCause::Place)
-        } else if self.object.order.is_empty() || self.object.masters.is_empty() {
+        } else if self.order.is_empty() || self.masters.is_empty() {
             Some(TextCause::Master)
         } else {
             None
@@ -215,53 +246,65 @@ impl Draft {
     }
 
     /// The object, where the text ends here.
-    #[tactic(auto, unfolding(crate::specs::Drafts::finished))]
+    #[tactic(auto, unfolding(crate::specs::Draft::finished))]
     pub fn finish(self, alloc: Global) -> Result<Object, BuildError>
-        ensures { Gives result (finished self) }
+        ensures { Gives result (finished self.line (so_far self)) }
     {
         if let Some(cause) = self.end_cause() {
             return Err(self.fault(cause));
         }
-        let mut object = self.object;
-        object.groups = self.groups.into_list(alloc)?;
-        Ok(object)
+        Ok(self.into_object(alloc)?)
+    }
+
+    fn into_object(self, alloc: Global) -> Result<Object, NoMemory>
+        ensures { IfOk result (λ object. object ≡ (so_far self).object) }
+    {
+        let (power, reset, shutdown) = pair_lists(alloc, self.power, self.reset, self.shutdown)?;
+        let (order, slaves, groups) = other_lists(alloc, self.order, self.slaves, self.groups)?;
+        Ok(Object {
+            extra: self.extra,
+            order,
+            masters: self.masters,
+            slaves,
+            groups,
+            power,
+            reset,
+            shutdown,
+            base_mask: self.base_mask,
+            overlay_mask: self.overlay_mask,
+            gpo: self.gpo,
+        })
     }
 }
 
-fn empty_object(alloc: Global) -> Object
-    ensures { result ≡ start.object }
+/// The tables of pairs as lists, apart from `into_object` so that few values are open at each exit.
+fn pair_lists(
+    alloc: Global,
+    power: Table<Pair>,
+    reset: Table<Pair>,
+    shutdown: Table<Pair>,
+) -> Result<(List<Pair>, List<Pair>, List<Pair>), NoMemory>
+    ensures { IfOk result (λ lists. (lists.0 ≡ power) × (lists.1 ≡ reset) × (lists.2 ≡ shutdown)) }
 {
-    Object {
-        extra: List::new(alloc),
-        order: List::new(alloc),
-        masters: List::new(alloc),
-        slaves: List::new(alloc),
-        groups: List::new(alloc),
-        power: List::new(alloc),
-        reset: List::new(alloc),
-        shutdown: List::new(alloc),
-        base_mask: 0,
-        overlay_mask: 0,
-        gpo: 0,
-    }
+    let power = power.into_list(alloc)?;
+    let reset = reset.into_list(alloc)?;
+    let shutdown = shutdown.into_list(alloc)?;
+    Ok((power, reset, shutdown))
 }
 
-fn has_section(order: &[Section], section: Section) -> bool
-    ensures { result ≡ list_any (λ s. is_same s section) order.now }
+/// The other tables as lists, apart from `into_object` so that few values are open at each exit.
+fn other_lists(
+    alloc: Global,
+    order: Table<Section>,
+    slaves: Table<SlaveRec>,
+    groups: Groups,
+) -> Result<(List<Section>, List<SlaveRec>, List<PreGroup>), NoMemory>
+    ensures { IfOk result (λ lists. (lists.0 ≡ order) × (lists.1 ≡ slaves) × (lists.2 ≡ groups)) }
 {
-    order.iter().any(|s| is_same(*s, section))
-}
-
-fn has_slave(slaves: &[SlaveRec], node: u32) -> bool
-    ensures { result ≡ list_any (λ e. e.node == node) slaves.now }
-{
-    slaves.iter().any(|e| e.node == node)
-}
-
-fn has_key(pairs: &[Pair], key: u32) -> bool
-    ensures { result ≡ list_any (λ e. e.key == key) pairs.now }
-{
-    pairs.iter().any(|e| e.key == key)
+    let order = order.into_list(alloc)?;
+    let slaves = slaves.into_list(alloc)?;
+    let groups = groups.into_list(alloc)?;
+    Ok((order, slaves, groups))
 }
 
 fn header_size(stage: Stage, extra: usize) -> u32

@@ -8,17 +8,13 @@ mod fault;
 mod groups;
 mod item;
 mod laws;
-mod lines;
-mod masters;
 mod names;
 mod printing;
 mod reading;
 mod stage;
+mod table;
 
 pub use building::build;
 pub use fault::{BuildError, TextCause, TextFault};
-pub use laws::printed_object_is_built_again;
+pub use laws::{one_meaning, printed_object_is_built_again};
 pub use printing::print;
-
-#[cfg(test)]
-mod tests;

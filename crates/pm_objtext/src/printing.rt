@@ -4,7 +4,8 @@ ghost use Rattle.std.specs.Prelude.{◌≡◌, ◌++◌, ◌∷◌, [], map, IfO
 ghost use Rattle.std.specs.List.{flat_map};
 ghost use Rattle.pm_objtext.specs.declared.item.Item.TheVariants.{Opens, Master, Slave, Prefer, Power, Reset, Shutdown};
 ghost use Rattle.pm_objtext.specs.Names.{keyword_text, section_text};
-ghost use Rattle.pm_objtext.specs.Printing.{numbers_line, number_text, ended_line, lines_text, header_items, group_items, record_items, section_items, text_of};
+ghost use Rattle.pm_objtext.specs.Items.{group_items, record_items, section_items};
+ghost use Rattle.pm_objtext.specs.Printing.{numbers_line, number_text, ended_line, lines_text, header_items, text_of};
 
 use crate::names::{Keyword, keyword_text, section_text};
 use itoa::Buffer;

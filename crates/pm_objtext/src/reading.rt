@@ -1,50 +1,19 @@
 //! What a line of a text says.
 
 ghost use Rattle.std.specs.Prelude.{◌≡◌, slice_get, drop};
-ghost use Rattle.std.specs.Option.{option_copied, option_map};
-ghost use Rattle.std.specs.List.{list_all};
-ghost use Rattle.pm_base.specs.Words.{without_return};
-ghost use Rattle.pm_objtext.specs.Reading.{is_text, is_readable, texts, number, numbers, keyword_of, section_of, opening, master_of, slave_of, group_of, preset_of, power_of, reset_of, shutdown_of, config_of, gpo_of, record_of, keyword_item, words_item, item_of};
+ghost use Rattle.std.specs.Option.{option_map};
+ghost use Rattle.pm_base.specs.Words.{word_texts};
+ghost use Rattle.pm_objtext.specs.Reading.{is_readable, number, numbers, keyword_of, section_of, opening, master_of, slave_of, group_of, preset_of, pair_of, config_of, gpo_of, record_of, keyword_item, words_item, item_of};
 
 use crate::item::{Item, Numbers};
 use crate::names::{ALL_KEYWORDS, ALL_SECTIONS, Keyword, keyword_text, section_text};
-use pm_base::{number, word};
+use pm_base::{TOO_LONG, is_plain, number, without_return, word_text};
 use pm_object::{MasterRec, Pair, PreRec, Section, SlaveRec};
-
-fn is_text(byte: u8) -> bool
-    ensures { result ≡ is_text byte }
-{
-    byte == b'\t' || 32 <= byte && byte <= 126
-}
-
-fn without_return(line: &[u8]) -> &[u8]
-    ensures { result.now ≡ without_return line.now }
-{
-    match line {
-        [text @ .., b'\r'] => text,
-        _ => line,
-    }
-}
-
-fn is_all_text(text: &[u8]) -> bool
-    ensures { result ≡ list_all is_text text.now }
-{
-    text.iter().all(|byte| is_text(*byte))
-}
 
 fn is_readable(line: &[u8]) -> bool
     ensures { result ≡ is_readable line.now }
 {
-    line.len() <= 255 && is_all_text(without_return(line))
-}
-
-/// The `k`-th word of a line, counted from 0.
-#[tactic(auto, unfolding(crate::specs::Reading::texts))]
-fn word_at(line: &[u8], k: usize) -> Option<&[u8]>
-    ensures { option_copied result ≡ slice_get (texts line.now) k }
-{
-    let (first, end) = word(line, k)?;
-    Some(&line[first..end])
+    line.len() < TOO_LONG && is_plain(without_return(line))
 }
 
 fn number_at(word: &[u8]) -> Option<u32>
@@ -55,11 +24,11 @@ fn number_at(word: &[u8]) -> Option<u32>
 
 /// The words after the first one as numbers, where there are at most 16.
 fn numbers_after(line: &[u8]) -> Option<Numbers>
-    ensures { option_map (λ numbers. numbers.items) result ≡ numbers (drop 1 (texts line.now)) }
+    ensures { option_map (λ numbers. numbers.items) result ≡ numbers (drop 1 (word_texts line.now)) }
 {
     let mut numbers = Numbers::new();
     let mut k = 1;
-    'words: while let Some(word) = word_at(line, k) {
+    'words: while let Some(word) = word_text(line, k) {
         if numbers.is_full() {
             return None;
         }
@@ -88,10 +57,10 @@ fn section_of(word: &[u8]) -> Option<Section>
 }
 
 fn opening(line: &[u8]) -> Option<Item>
-    ensures { result ≡ opening (slice_get (texts line.now) 1) (slice_get (texts line.now) 2) }
+    ensures { result ≡ opening (slice_get (word_texts line.now) 1) (slice_get (word_texts line.now) 2) }
 {
-    let name = word_at(line, 1)?;
-    if word_at(line, 2).is_some() {
+    let name = word_text(line, 1)?;
+    if word_text(line, 2).is_some() {
         return None;
     }
     section_of(name).map(Item::Opens)
@@ -144,31 +113,13 @@ fn preset_of(numbers: &[u32]) -> Option<Item>
     }))
 }
 
-fn power_of(numbers: &[u32]) -> Option<Item>
-    ensures { result ≡ power_of numbers.now }
+fn pair_of(numbers: &[u32]) -> Option<Pair>
+    ensures { result ≡ pair_of numbers.now }
 {
     let [key, mask] = *numbers else {
         return None;
     };
-    Some(Item::Power(Pair { key, mask }))
-}
-
-fn reset_of(numbers: &[u32]) -> Option<Item>
-    ensures { result ≡ reset_of numbers.now }
-{
-    let [key, mask] = *numbers else {
-        return None;
-    };
-    Some(Item::Reset(Pair { key, mask }))
-}
-
-fn shutdown_of(numbers: &[u32]) -> Option<Item>
-    ensures { result ≡ shutdown_of numbers.now }
-{
-    let [key, mask] = *numbers else {
-        return None;
-    };
-    Some(Item::Shutdown(Pair { key, mask }))
+    Some(Pair { key, mask })
 }
 
 fn config_of(numbers: &[u32]) -> Option<Item>
@@ -200,16 +151,16 @@ fn record_of(keyword: Keyword, numbers: Numbers) -> Option<Item>
         Keyword::Slave => slave_of(words),
         Keyword::Group => group_of(words),
         Keyword::Prefer => preset_of(words),
-        Keyword::Power => power_of(words),
-        Keyword::Reset => reset_of(words),
-        Keyword::Shutdown => shutdown_of(words),
+        Keyword::Power => pair_of(words).map(Item::Power),
+        Keyword::Reset => pair_of(words).map(Item::Reset),
+        Keyword::Shutdown => pair_of(words).map(Item::Shutdown),
         Keyword::Config => config_of(words),
         Keyword::Gpo => gpo_of(words),
     }
 }
 
 fn keyword_item(keyword: Keyword, line: &[u8]) -> Option<Item>
-    ensures { result ≡ keyword_item keyword (texts line.now) }
+    ensures { result ≡ keyword_item keyword (word_texts line.now) }
 {
     match keyword {
         Keyword::Section => opening(line),
@@ -226,7 +177,7 @@ pub fn item_of(line: &[u8]) -> Option<Item>
     if !is_readable(line) {
         return None;
     }
-    let Some(first) = word_at(line, 0) else {
+    let Some(first) = word_text(line, 0) else {
         return Some(Item::Empty);
     };
     keyword_item(keyword_of(first)?, line)

@@ -1,7 +1,7 @@
 //! What is open while the text of an object is read.
 
 ghost use Rattle.std.specs.Prelude.{◌≡◌};
-ghost use Rattle.pm_objtext.specs.Drafts.{is_same, is_single, awaits_record, takes_header, takes_section, is_in};
+ghost use Rattle.pm_objtext.specs.Stage.{is_single, awaits_record, takes_header, takes_section, is_in};
 
 use pm_object::Section;
 
@@ -16,18 +16,11 @@ pub enum Stage {
     In { section: Section, filled: bool },
 }
 
-/// Whether two sections are the same one.
-pub fn is_same(a: Section, b: Section) -> bool
-    ensures { result ≡ is_same a b }
-{
-    a == b
-}
-
 /// Whether a section has exactly one record.
 pub fn is_single(section: Section) -> bool
     ensures { result ≡ is_single section }
 {
-    is_same(section, Section::Config) || is_same(section, Section::Gpo)
+    section.is_same(Section::Config) || section.is_same(Section::Gpo)
 }
 
 impl Stage {
@@ -69,7 +62,7 @@ impl Stage {
     {
         match self {
             Stage::Start | Stage::Header { .. } => false,
-            Stage::In { section: open, .. } => is_same(open, section),
+            Stage::In { section: open, .. } => open.is_same(section),
         }
     }
 }

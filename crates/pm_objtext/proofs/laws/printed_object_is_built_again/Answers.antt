@@ -1,5 +1,5 @@
-use Rattle.pm_objtext.proofs.TextLaw.{building-text_of}
+use Rattle.pm_objtext.proofs.MeaningLaw.{printed}
 use Rattle.pm_objtext.proofs.laws.printed_object_is_built_again.Goals as goal
 
 pub returns : goal.returns
-returns c = building-text_of
+returns c = printed

@@ -1,5 +1,6 @@
 use Rattle.std.proofs.Common.{◌≡◌, ◌+◌, ◌-◌, ◌≤◌, length, drop}
-use Rattle.pm_objtext.specs.Reading.{texts, numbers_in}
+use Rattle.pm_base.specs.Words.{word_texts}
+use Rattle.pm_objtext.specs.Reading.{numbers_in}
 use Rattle.pm_objtext.proofs.ReadingLemmas.{with_front}
 use Rattle.pm_objtext.proofs.reading.numbers_after.Given as goal
 
@@ -7,7 +8,7 @@ abbrev pub invariant-words : goal.invariant-words
 invariant-words l = record {
   count : l.k ≡ length l.numbers.items + 1;
   within : length l.numbers.items ≤ 16;
-  read : with_front l.numbers.items (numbers_in (drop l.k (texts l.line))) ≡ numbers_in (drop 1 (texts l.line));
+  read : with_front l.numbers.items (numbers_in (drop l.k (word_texts l.line))) ≡ numbers_in (drop 1 (word_texts l.line));
 }
 
 abbrev pub decreases-words : goal.decreases-words
