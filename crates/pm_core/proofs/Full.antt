@@ -5,7 +5,7 @@ use Rattle.std.proofs.lemmas.Bool.Decides.{nat_tests}
 use Rattle.pm_topology.specs.declared.topology.SlaveDef.{SlaveDef}
 use Rattle.pm_topology.specs.WellFormed.{HasFullLast}
 use Rattle.pm_slaves.specs.Choice.{meets}
-use Rattle.pm_core.specs.declared.choice.Wanted.{Wanted}
+use Rattle.pm_rows.specs.declared.wanted.Wanted.{Wanted}
 use Rattle.pm_core.specs.Choice.{state_for}
 
 position_small : (place len : ℕ) → len ≤ 4 → unwrap_or (cond (nat_lt place len) (Some place) None) 0 < 2 ^ 32

@@ -2,12 +2,12 @@
 use Rattle.std.proofs.Common.{◌≡◌, ℕ, Bool, true, false, IsTrue, List, [], ◌∷◌, Option, Some, None, refl, inl, inr, ◌⊎◌, is_none}
 use Rattle.std.specs.List.{list_all}
 use Rattle.pm_base.specs.declared.names.NodeId.{NodeId}
-use Rattle.pm_core.specs.Outcome.{Outcome, Check, judged, must, must_be_free}
+use Rattle.pm_core.specs.Outcome.{Deed, Check, judged, must, must_be_free}
 
 abbrev pub passes : Check → Bool
 passes check = is_none check
 
-pub judged_either : (checks : List Check) (outcome : Outcome) → (IsTrue (list_all passes checks) × ((judged checks outcome).changes ≡ outcome.changes)) ⊎ ((judged checks outcome).changes ≡ [])
+pub judged_either : (checks : List Check) (outcome : Deed) → (IsTrue (list_all passes checks) × ((judged checks outcome).changes ≡ outcome.changes)) ⊎ ((judged checks outcome).changes ≡ [])
 judged_either [] outcome = inl (refl, refl)
 judged_either (None ∷ checks) outcome = judged_either checks outcome
 judged_either (Some response ∷ checks) outcome = inr refl

@@ -2,7 +2,8 @@
 use Rattle.std.proofs.Common.{◌≡◌, ℕ, Bool, true, false, cond, Option, Some, None, IsSome, ◌↔◌, ◌⊎◌, List, position, slice_get, unwrap_or, bit_and, refl, sym, ap, ◌∙◌, subst, arith}
 use Rattle.std.proofs.lemmas.Bool.{eqb-true}
 use Rattle.std.proofs.lemmas.Option.{slice_get_within}
-use Rattle.pm_base.specs.declared.names.Unit.TheVariants.{Node}
+use Rattle.pm_base.specs.declared.names.Unit.{Unit as Place}
+use Rattle.pm_base.specs.declared.names.Unit.TheVariants.{Node, Line}
 use Rattle.pm_topology.specs.declared.topology.PowerDef.{PowerDef}
 use Rattle.pm_topology.specs.declared.topology.SlaveDef.{SlaveDef}
 use Rattle.pm_topology.specs.declared.topology.SlaveState.{SlaveState}
@@ -16,27 +17,25 @@ use Rattle.pm_slaves.specs.Choice.{meets, capabilities}
 use Rattle.pm_slaves.proofs.Full.{first_found, always_one}
 use Rattle.pm_power.specs.Forest.{is_up, IsHeld, ChildNeeds, PowerNeeds}
 use Rattle.pm_power.proofs.UpLaw.{up_exactly, after_parents}
-use Rattle.pm_core.specs.declared.choice.Wanted.{Wanted}
+use Rattle.pm_rows.specs.declared.wanted.Wanted.{Wanted}
 use Rattle.pm_core.specs.Choice.{state_for, StandsMet}
-use Rattle.pm_core.specs.InForce.{wanted_of}
-use Rattle.pm_core.specs.Sound.{IsSound, MeetsRequirements}
+use Rattle.pm_rows.specs.Wanted.{wanted_of}
+use Rattle.pm_core.specs.Sound.{IsSound, StandsAsWanted}
 use Rattle.pm_core.specs.State.{State}
 use Rattle.pm_core.specs.Values.{forest, state_at, value_at, value}
 use Rattle.pm_core.proofs.Wants.{wanted_able}
 
-slave_kind : (t : Topology) (s : ℕ) (slave : SlaveDef) → IsWellFormed t → slice_get t.slaves s ≡ Some slave → kind_of t slave.node ≡ Slave s
+pub slave_kind : (t : Topology) (s : ℕ) (slave : SlaveDef) → IsWellFormed t → slice_get t.slaves s ≡ Some slave → kind_of t slave.node ≡ Slave s
 slave_kind t s slave well here = sym (kind_alone t slave.node well (Slave s) (slave, here, refl))
 
-power_kind : (t : Topology) (w : ℕ) (power : PowerDef) → IsWellFormed t → slice_get t.powers w ≡ Some power → kind_of t power.node ≡ Power w
+pub power_kind : (t : Topology) (w : ℕ) (power : PowerDef) → IsWellFormed t → slice_get t.powers w ≡ Some power → kind_of t power.node ≡ Power w
 power_kind t w power well here = sym (kind_alone t power.node well (Power w) (power, here, refl))
 
 -- the value of a slave is its chosen state
-slave_value : (s : ℕ) (book : State) (slave : SlaveDef) → IsWellFormed book.fixed.topology → slice_get book.fixed.topology.slaves s ≡ Some slave → value (Node slave.node) book ≡ state_for (wanted_of s book.now.rows) slave.states
+slave_value : (s : ℕ) (book : State) (slave : SlaveDef) → IsWellFormed book.fixed.topology → slice_get book.fixed.topology.slaves s ≡ Some slave → value (Node slave.node) book ≡ state_for (wanted_of s book.now.core.rows) slave.states
 slave_value s book slave well here =
-    let kind : value_at (kind_of book.fixed.topology slave.node) book ≡ value_at (Slave s) book =
-    ap (λ (k : Kind). value_at k book) (slave_kind book.fixed.topology s slave well here)
-    in
-    kind ∙ ap (λ (o : Option SlaveDef). state_at s o book) here
+    ap (λ (k : Kind). value_at k book.fixed book.now.core) (slave_kind book.fixed.topology s slave well here)
+    ∙ ap (λ (o : Option SlaveDef). state_at s o book.now.core) here
 
 found_meets : (wanted : Wanted) (states : List SlaveState) (found : Option ℕ) → found ≡ position (meets wanted.caps.0 wanted.limit) states → IsSome found → StandsMet wanted states (unwrap_or found 0)
 found_meets wanted states None is some = cc
@@ -48,9 +47,9 @@ chosen_meets wanted states full able =
     found_meets wanted states (position (meets wanted.caps.0 wanted.limit) states) refl
     (always_one states wanted.caps.0 wanted.limit (position (meets wanted.caps.0 wanted.limit) states) refl full able)
 
-slave_meets : (s : ℕ) (book : State) (slave : SlaveDef) → IsWellFormed book.fixed.topology → IsSound book → slice_get book.fixed.topology.slaves s ≡ Some slave → StandsMet (wanted_of s book.now.rows) slave.states (value (Node slave.node) book)
+pub slave_meets : (s : ℕ) (book : State) (slave : SlaveDef) → IsWellFormed book.fixed.topology → IsSound book → slice_get book.fixed.topology.slaves s ≡ Some slave → StandsMet (wanted_of s book.now.core.rows) slave.states (value (Node slave.node) book)
 slave_meets s book slave well sound here =
-    let wanted : Wanted = wanted_of s book.now.rows in
+    let wanted : Wanted = wanted_of s book.now.core.rows in
     let able : bit_and (capabilities slave.states) wanted.caps.0 ≡ wanted.caps.0 =
     eqb-true (bit_and (capabilities slave.states) wanted.caps.0) wanted.caps.0 (wanted_able s book slave sound here)
     in
@@ -66,21 +65,25 @@ one_is true k is up = is
 one_is false k is up = cc
 
 -- the value of a power node is 1 where it is up, and else 0
-pub power_value : (w : ℕ) (book : State) (power : PowerDef) → IsWellFormed book.fixed.topology → slice_get book.fixed.topology.powers w ≡ Some power → value (Node power.node) book ≡ cond (is_up (forest book) w) 1 0
-power_value w book power well here = ap (λ (k : Kind). value_at k book) (power_kind book.fixed.topology w power well here)
+pub power_value : (w : ℕ) (book : State) (power : PowerDef) → IsWellFormed book.fixed.topology → slice_get book.fixed.topology.powers w ≡ Some power → value (Node power.node) book ≡ cond (is_up (forest book.fixed book.now.core) w) 1 0
+power_value w book power well here = ap (λ (k : Kind). value_at k book.fixed book.now.core) (power_kind book.fixed.topology w power well here)
 
 -- a power node has the value 1 exactly where it is held or something directly below needs it
-pub power_meets : (w : ℕ) (book : State) (power : PowerDef) → IsWellFormed book.fixed.topology → slice_get book.fixed.topology.powers w ≡ Some power → (value (Node power.node) book ≡ 1) ↔ (IsHeld (forest book) w ⊎ (ChildNeeds (forest book) w ⊎ PowerNeeds (forest book) w))
+pub power_meets : (w : ℕ) (book : State) (power : PowerDef) → IsWellFormed book.fixed.topology → slice_get book.fixed.topology.powers w ≡ Some power → (value (Node power.node) book ≡ 1) ↔ (IsHeld (forest book.fixed book.now.core) w ⊎ (ChildNeeds (forest book.fixed book.now.core) w ⊎ PowerNeeds (forest book.fixed book.now.core) w))
 power_meets w book power well here =
     let is = power_value w book power well here in
-    let exactly = up_exactly (forest book) w (is_up (forest book) w) (after_parents book.fixed.topology well) (slice_get_within book.fixed.topology.powers w power here) refl in (
-      λ one. exactly.0 (is_one (is_up (forest book) w) (value (Node power.node) book) is one),
-      λ reason. one_is (is_up (forest book) w) (value (Node power.node) book) is (exactly.1 reason),
+    let exactly = up_exactly (forest book.fixed book.now.core) w (is_up (forest book.fixed book.now.core) w) (after_parents book.fixed.topology well) (slice_get_within book.fixed.topology.powers w power here) refl in (
+      λ one. exactly.0 (is_one (is_up (forest book.fixed book.now.core) w) (value (Node power.node) book) is one),
+      λ reason. one_is (is_up (forest book.fixed book.now.core) w) (value (Node power.node) book) is (exactly.1 reason),
     )
 
-pub book_meets : (book : State) → IsWellFormed book.fixed.topology → IsSound book → MeetsRequirements book (λ u. value u book)
-book_meets book well sound =
-    record {
-      slaves = λ s slave here. slave_meets s book slave well sound here;
-      domains = λ w power here. power_meets w book power well here;
-    }
+-- a slave stands in its first state that meets what is wanted of it, by whatever number its value is asked
+pub unit_stands : (unit : Place) (book : State) → IsWellFormed book.fixed.topology → IsSound book → StandsAsWanted unit (value unit book) book
+unit_stands (Node node) book well sound = λ s is slave here.
+    let wanted : Wanted = wanted_of s book.now.core.rows in
+    let same : value (Node node) book ≡ value (Node slave.node) book =
+    ap (λ (k : Kind). value_at k book.fixed book.now.core) (is ∙ sym (slave_kind book.fixed.topology s slave well here))
+    in
+    let P : ℕ → Type 0 = λ k. StandsMet wanted slave.states k in
+    subst P (sym same) (slave_meets s book slave well sound here)
+unit_stands (Line line) book well sound = tt

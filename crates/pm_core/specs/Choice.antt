@@ -1,14 +1,10 @@
 -- Which state a slave stands in: the first one in its list that meets what is wanted of it.
-use Rattle.std.specs.Prelude.{ℕ, Bool, ◌==◌, List, bit_and}
+use Rattle.std.specs.Prelude.{ℕ, List}
 use Rattle.pm_base.specs.declared.caps.Caps.{Caps}
 use Rattle.pm_topology.specs.declared.topology.SlaveState.{SlaveState}
 use Rattle.pm_slaves.specs.Choice.{capabilities, IsFirstToMeet}
 use Rattle.pm_slaves.specs.Choice as least
-use Rattle.pm_core.specs.declared.choice.Wanted.{Wanted}
-
--- these capabilities hold all of those
-abbrev pub has_all : Caps → Caps → Bool
-has_all caps others = bit_and caps.0 others.0 == others.0
+use Rattle.pm_rows.specs.declared.wanted.Wanted.{Wanted}
 
 -- the place of the first state that meets what is wanted, and 0 where none does
 abbrev pub state_for : Wanted → List SlaveState → ℕ

@@ -1,29 +1,16 @@
--- Which units need power in a value, and values in which each node that needs it has it.
-use Rattle.std.specs.Prelude.{◌≡◌, ℕ, ◌≤◌, ◌==◌, Bool, true, false, slice_get, Some}
-use Rattle.std.specs.Option.{option_map_or}
+-- Values in which each node that needs power has it.
+use Rattle.std.specs.Prelude.{◌≡◌, ℕ, ◌≤◌, true, slice_get, Some}
 use Rattle.pm_base.specs.declared.names.NodeId.{NodeId}
 use Rattle.pm_base.specs.declared.names.Unit.{Unit as Place}
-use Rattle.pm_base.specs.declared.names.Unit.TheVariants.{Node, Line}
+use Rattle.pm_base.specs.declared.names.Unit.TheVariants.{Node}
 use Rattle.pm_topology.specs.declared.topology.Topology.{Topology}
 use Rattle.pm_topology.specs.declared.topology.PowerDef.{PowerDef}
-use Rattle.pm_topology.specs.declared.topology.SlaveDef.{SlaveDef}
-use Rattle.pm_topology.specs.declared.places.Kind.{Kind}
-use Rattle.pm_topology.specs.declared.places.Kind.TheVariants.{Proc, Slave, Power, Unknown}
-use Rattle.pm_topology.specs.Places.{kind_of, parent_of}
-use Rattle.pm_core.specs.Values.{needs_in}
+use Rattle.pm_topology.specs.Places.{parent_of}
+use Rattle.pm_topology.specs.Units.{needs_power, parent_of_unit}
 
--- whether a node of this kind needs power in a value: a slave as that state says, and a processor or a
--- power node in value 1
-abbrev pub kind_needs_power : Topology → Kind → ℕ → Bool
-kind_needs_power t (Slave s) value = option_map_or (λ (slave : SlaveDef). needs_in value slave) (slice_get t.slaves s) false
-kind_needs_power t (Proc p) value = value == 1
-kind_needs_power t (Power w) value = value == 1
-kind_needs_power t Unknown value = false
-
--- whether a unit needs power in a value; a reset line never does
-abbrev pub needs_power : Topology → Place → ℕ → Bool
-needs_power t (Node node) value = kind_needs_power t (kind_of t node) value
-needs_power t (Line line) value = false
+-- some unit directly below the power node at w needs power in its value
+abbrev pub IsNeeded : Topology → (Place → ℕ) → ℕ → Type 0
+IsNeeded t values w = (u : Place) × (parent_of_unit t u ≡ Some w) × (needs_power t u (values u) ≡ true)
 
 pub record IsFed (t : Topology) (values : Place → ℕ) : Type 0 where
   -- a node that needs power in its value stands directly below a power node that is up

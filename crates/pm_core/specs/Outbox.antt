@@ -5,6 +5,7 @@ use Rattle.pm_topology.specs.declared.topology.Topology.{Topology}
 use Rattle.pm_core.specs.declared.replies.Answer.{Answer}
 use Rattle.pm_core.specs.declared.replies.Answer.TheVariants.{Silent}
 use Rattle.pm_core.specs.declared.outbox.Outbox.{Outbox}
+use Rattle.pm_core.specs.State.{State, in_force}
 
 -- how many units a chip has
 abbrev pub unit_count : Topology → ℕ
@@ -14,10 +15,19 @@ unit_count t = length t.slaves + length t.procs + length t.powers + length t.lin
 abbrev pub command_count : Topology → ℕ
 command_count t = unit_count t + length t.powers
 
--- there is room for each unit to move, and for the commands of a step
-pub record HasRoom (t : Topology) (out : Outbox) : Type 0 where
+-- an outbox of a chip and so many masters: there is room for each unit to move, and for the commands of a step
+pub record HasRoom (t : Topology) (masters : ℕ) (out : Outbox) : Type 0 where
   pub moved : unit_count t ≤ out.moved.room
   pub done : command_count t ≤ out.done.room
+
+-- the same for the chip and the masters of a book
+abbrev pub HasRoomFor : State → Outbox → Type 0
+HasRoomFor book out = HasRoom book.fixed.topology (length (in_force book).masters) out
+
+-- an outbox has the room that it had before
+pub record KeepsRoom (before after : Outbox) : Type 0 where
+  pub moved : after.moved.room ≡ before.moved.room
+  pub done : after.done.room ≡ before.done.room
 
 pub record IsEmpty (out : Outbox) : Type 0 where
   pub moved : out.moved.items ≡ []

@@ -2,21 +2,9 @@
 -- the changes of the book where all pass.
 use Rattle.std.specs.Prelude.{ℕ, Bool, if◌then◌else◌, List, [], ◌∷◌, Option, Some, None}
 use Rattle.pm_base.specs.declared.names.NodeId.{NodeId}
-use Rattle.pm_core.specs.declared.replies.Response.{Response}
-use Rattle.pm_core.specs.Status.{node_used}
+use Rattle.pm_ipi.specs.declared.responses.Response.{Response}
+use Rattle.pm_ipi.specs.Responses.{success, refusal, used_by}
 use Rattle.pm_core.specs.Prims.{Prim}
-
--- the call was done, and tells these words
-abbrev pub success : List ℕ → Response
-success words = record { status = 0; words = words }
-
--- the call was refused, and tells nothing
-abbrev pub refusal : ℕ → Response
-refusal status = record { status = status; words = 0 ∷ 0 ∷ 0 ∷ [] }
-
--- the call was refused since this master uses the slave
-abbrev pub used_by : NodeId → Response
-used_by master = record { status = node_used; words = master.0 ∷ 0 ∷ 0 ∷ [] }
 
 pub record Outcome : Type 0 where
   pub response : Response
@@ -26,13 +14,18 @@ pub record Outcome : Type 0 where
 abbrev pub refused : Response → Outcome
 refused response = record { response = response; changes = [] }
 
+-- what a call does once its checks pass: the words that it tells, and its changes
+pub record Deed : Type 0 where
+  pub words : List ℕ
+  pub changes : List Prim
+
 -- a call that only tells words
-abbrev pub told : List ℕ → Outcome
-told words = record { response = success words; changes = [] }
+abbrev pub told : List ℕ → Deed
+told words = record { words = words; changes = [] }
 
 -- a call that only changes the book
-abbrev pub done : List Prim → Outcome
-done changes = record { response = success (0 ∷ 0 ∷ 0 ∷ []); changes = changes }
+abbrev pub done : List Prim → Deed
+done changes = record { words = 0 ∷ 0 ∷ 0 ∷ []; changes = changes }
 
 -- a check of a call: nothing where it passes, and else the response to the call
 abbrev pub Check : Type 0
@@ -48,7 +41,19 @@ must_be_free None = None
 must_be_free (Some rival) = Some (used_by rival)
 
 -- the first check that fails decides, and where all pass the call is done
-abbrev pub judged : List Check → Outcome → Outcome
-judged [] outcome = outcome
-judged (None ∷ checks) outcome = judged checks outcome
-judged (Some response ∷ checks) outcome = refused response
+abbrev pub judged : List Check → Deed → Outcome
+judged [] deed = record { response = success deed.words; changes = deed.changes }
+judged (None ∷ checks) deed = judged checks deed
+judged (Some response ∷ checks) deed = refused response
+
+-- a call before it is judged: its checks, and what it does
+pub record Tried : Type 0 where
+  pub checks : List Check
+  pub deed : Deed
+
+abbrev pub tried : List Check → Deed → Tried
+tried checks deed = record { checks = checks; deed = deed }
+
+-- what such a call comes to
+abbrev pub outcome_of : Tried → Outcome
+outcome_of call = judged call.checks call.deed

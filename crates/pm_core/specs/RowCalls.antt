@@ -2,10 +2,10 @@
 use Rattle.std.specs.Prelude.{Bool, false, List, [], ◌∷◌, Option, Some, None}
 use Rattle.std.specs.Option.{option_map_or}
 use Rattle.pm_base.specs.declared.caps.Caps.{Caps}
-use Rattle.pm_core.specs.declared.rows.Entry.{Entry}
-use Rattle.pm_core.specs.declared.rows.Change.{Change}
+use Rattle.pm_rows.specs.declared.row.Entry.{Entry}
+use Rattle.pm_rows.specs.declared.row.Change.{Change}
 use Rattle.pm_core.specs.declared.views.RowView.{RowView}
-use Rattle.pm_core.specs.Choice.{has_all}
+use Rattle.pm_rows.specs.Rows.{has_all}
 use Rattle.pm_core.specs.Prims.{Prim, At_row}
 
 -- the caller uses the slave

@@ -3,17 +3,28 @@
 use Rattle.std.specs.Prelude.{List}
 use Rattle.pm_object.specs.declared.object.Object.{Object}
 use Rattle.pm_topology.specs.declared.topology.Topology.{Topology}
-use Rattle.pm_core.specs.declared.rows.Entry.{Entry}
+use Rattle.pm_rows.specs.declared.row.Entry.{Entry}
 
 -- the configuration object, and the parts of the chip
 pub record Fixed : Type 0 where
   pub object : Object
   pub topology : Topology
 
--- the rows of the permitted pairs
-pub record Now : Type 0 where
+-- what the values of the units follow from: the rows of the permitted pairs
+pub record CoreHalf : Type 0 where
   pub rows : List Entry
+
+-- what the masters are told, from which no value follows: nothing yet
+pub record TalkHalf : Type 0 where
+
+pub record Now : Type 0 where
+  pub core : CoreHalf
+  pub talk : TalkHalf
 
 pub record State : Type 0 where
   pub fixed : Fixed
   pub now : Now
+
+-- the configuration object in force
+abbrev pub in_force : State → Object
+in_force book = book.fixed.object

@@ -1,36 +1,43 @@
 -- The step: what an event does to the book, and what it puts out.
-use Rattle.std.specs.Prelude.{ℕ, Bool, true, false, not, ◌==◌, List, [], Option, Some, None, option_map}
+use Rattle.std.specs.Prelude.{ℕ, Bool, true, false, not, ◌==◌, List, [], ◌∷◌, Option, Some, None, option_map}
 use Rattle.pm_base.specs.declared.names.NodeId.{NodeId}
 use Rattle.pm_base.specs.declared.names.Unit.TheVariants.{Node}
 use Rattle.pm_base.specs.declared.events.Message.{Message}
 use Rattle.pm_base.specs.declared.events.Event.{Event}
 use Rattle.pm_base.specs.declared.events.Event.TheVariants.{Ipi}
-use Rattle.pm_core.specs.declared.calls.Call.{Call}
-use Rattle.pm_core.specs.declared.calls.Call.TheVariants.{GetNodeStatus, RequestNode, ReleaseNode, Unknown}
-use Rattle.pm_core.specs.declared.calls.AckKind.{AckKind}
-use Rattle.pm_core.specs.declared.calls.AckKind.TheVariants.{No, Blocking, NonBlocking}
-use Rattle.pm_core.specs.declared.replies.Response.{Response}
+use Rattle.pm_ipi.specs.declared.calls.Call.{Call}
+use Rattle.pm_ipi.specs.declared.calls.Call.TheVariants.{GetNodeStatus, RequestNode, ReleaseNode, Unknown}
+use Rattle.pm_ipi.specs.declared.calls.AckKind.{AckKind}
+use Rattle.pm_ipi.specs.declared.calls.AckKind.TheVariants.{No, Blocking, NonBlocking}
+use Rattle.pm_ipi.specs.declared.responses.Response.{Response}
 use Rattle.pm_core.specs.declared.replies.Answer.{Answer}
 use Rattle.pm_core.specs.declared.replies.Answer.TheVariants.{Silent, Drop, Reply, Ack}
+use Rattle.pm_core.specs.declared.step.Heard.{Heard}
+use Rattle.pm_core.specs.declared.step.Heard.TheVariants.{Nothing, Dropped, Served}
 use Rattle.pm_core.specs.Outbox.{Outputs}
 use Rattle.pm_core.specs.Units.{moved}
-use Rattle.pm_core.specs.Status.{no_feature}
-use Rattle.pm_core.specs.Calls.{call_of, ack_of, node_of}
+use Rattle.pm_ipi.specs.Status.{no_feature}
+use Rattle.pm_ipi.specs.Calls.{call_of, ack_of, node_of}
 use Rattle.pm_core.specs.Views.{row_view, status_view}
-use Rattle.pm_core.specs.GetNodeStatus.{get_node_status}
-use Rattle.pm_core.specs.RequestNode.{request_node}
-use Rattle.pm_core.specs.ReleaseNode.{release_node}
-use Rattle.pm_core.specs.Outcome.{Outcome, refusal, refused}
+use Rattle.pm_core.specs.calls.GetNodeStatus.{get_node_status}
+use Rattle.pm_core.specs.calls.RequestNode.{request_node}
+use Rattle.pm_core.specs.calls.ReleaseNode.{release_node}
+use Rattle.pm_ipi.specs.Responses.{refusal}
+use Rattle.pm_core.specs.Outcome.{Outcome, Tried, tried, done, outcome_of}
 use Rattle.pm_core.specs.Prims.{Prim, changed}
 use Rattle.pm_core.specs.Values.{master_place, value}
 use Rattle.pm_core.specs.State.{State}
 
--- what a call of the configured master at place m comes to
+-- a call of the configured master at place m, over what it reads of the book: its checks, and what it does
+abbrev pub tried_by : ℕ → Call → State → Tried
+tried_by m (GetNodeStatus node) book = get_node_status (status_view m node book)
+tried_by m (RequestNode node caps ack) book = request_node caps ack (row_view m node book)
+tried_by m (ReleaseNode node) book = release_node (row_view m node book)
+tried_by m Unknown book = tried (Some (refusal no_feature) ∷ []) (done [])
+
+-- what it comes to
 abbrev pub called : ℕ → Call → State → Outcome
-called m (GetNodeStatus node) book = get_node_status (status_view m node book)
-called m (RequestNode node caps ack) book = request_node caps ack (row_view m node book)
-called m (ReleaseNode node) book = release_node (row_view m node book)
-called m Unknown book = refused (refusal no_feature)
+called m call book = outcome_of (tried_by m call book)
 
 -- what a message comes to: nothing where its sender is no configured master
 abbrev pub verdict : NodeId → Message → State → Option Outcome
@@ -45,9 +52,27 @@ abbrev pub changes : Event → State → List Prim
 changes (Ipi master message) book = changes_of (verdict master message book)
 changes _ book = []
 
+-- the stages of a step: each event has one
+abbrev pub stages : Event → State → List (List Prim)
+stages event book = changes event book ∷ []
+
+-- the books after each of these stages
+abbrev pub path_from : List (List Prim) → State → List State
+path_from [] book = []
+path_from (stage ∷ later) book = changed stage book ∷ path_from later (changed stage book)
+
+-- the books along a step
+abbrev pub path : Event → State → List State
+path event book = path_from (stages event book) book
+
+-- the last of these books, and the first one where there is none
+abbrev pub last_of : State → List State → State
+last_of book [] = book
+last_of book (next ∷ books) = last_of next books
+
 -- the book after an event
 abbrev pub effect : Event → State → State
-effect event book = changed (changes event book) book
+effect event book = last_of book (path event book)
 
 -- how a response reaches the caller, by the acknowledge kind of the call, in the book after it
 abbrev pub acknowledged : AckKind → NodeId → NodeId → Response → State → Answer
@@ -55,14 +80,24 @@ acknowledged No master node response after = Silent
 acknowledged Blocking master node response after = Reply master response
 acknowledged NonBlocking master node response after = Ack master node response.status (value (Node node) after) true
 
-abbrev pub answered : NodeId → Call → Option Outcome → State → Answer
-answered master call None after = Drop master
-answered master call (Some outcome) after = acknowledged (ack_of call) master (node_of call) outcome.response after
+-- what an event came to
+abbrev pub heard_by : NodeId → Call → Option Outcome → Heard
+heard_by master call None = Dropped master
+heard_by master call (Some outcome) = Served master call outcome.response
+
+abbrev pub heard_of : Event → State → Heard
+heard_of (Ipi master message) book = heard_by master (call_of message) (verdict master message book)
+heard_of _ book = Nothing
+
+-- what the sender of a message gets for it, in the book after it
+abbrev pub answer_by : Heard → State → Answer
+answer_by Nothing after = Silent
+answer_by (Dropped master) after = Drop master
+answer_by (Served master call response) after = acknowledged (ack_of call) master (node_of call) response after
 
 -- the answer to an event
 abbrev pub answer_to : Event → State → Answer
-answer_to (Ipi master message) book = answered master (call_of message) (verdict master message book) (effect (Ipi master message) book)
-answer_to _ book = Silent
+answer_to event book = answer_by (heard_of event book) (effect event book)
 
 -- what a step puts out: the units whose value it changes, and the answer
 abbrev pub outputs : Event → State → Outputs

@@ -2,17 +2,18 @@
 use Rattle.std.specs.Prelude.{ℕ, List, slice_get, Option, Some, None, option_map}
 use Rattle.std.specs.Option.{option_map_or}
 use Rattle.pm_base.specs.declared.names.NodeId.{NodeId}
+use Rattle.pm_base.specs.declared.names.Unit.TheVariants.{Node}
 use Rattle.pm_object.specs.declared.object.MasterRec.{MasterRec}
 use Rattle.pm_core.specs.declared.views.RowView.{RowView}
 use Rattle.pm_core.specs.declared.views.StatusView.{StatusView}
-use Rattle.pm_core.specs.Rows.{entry_at, rival_of, now_of, usage_of}
+use Rattle.pm_rows.specs.Rows.{entry_at, rival_of, now_of, usage_of}
 use Rattle.pm_topology.specs.declared.places.Kind.{Kind}
 use Rattle.pm_topology.specs.declared.places.Kind.TheVariants.{Proc, Slave, Power, Unknown}
 use Rattle.pm_topology.specs.Places.{kind_of}
-use Rattle.pm_core.specs.Values.{slave_place, master_place, state_of, value_at}
-use Rattle.pm_core.specs.declared.rows.Entry.{Entry}
-use Rattle.pm_core.specs.declared.rows.Row.{Row}
-use Rattle.pm_core.specs.State.{State}
+use Rattle.pm_core.specs.Values.{slave_place, master_place, value}
+use Rattle.pm_rows.specs.declared.row.Entry.{Entry}
+use Rattle.pm_rows.specs.declared.row.Row.{Row}
+use Rattle.pm_core.specs.State.{State, in_force}
 
 -- the node of the master at a place, and 0 past the last one
 abbrev pub master_node : List MasterRec → ℕ → NodeId
@@ -20,13 +21,13 @@ master_node masters place = option_map_or (λ (master : MasterRec). record { 0 =
 
 -- the node of the other master that uses a slave which can't be shared
 abbrev pub rival_node : ℕ → ℕ → State → Option NodeId
-rival_node m s book = option_map (master_node book.fixed.object.masters) (rival_of m s book.now.rows)
+rival_node m s book = option_map (master_node (in_force book).masters) (rival_of m s book.now.core.rows)
 
 abbrev pub row_view_at : ℕ → Option ℕ → State → RowView
 row_view_at m None book = record { slave = None; entry = None; rival = None }
 row_view_at m (Some s) book = record {
   slave = Some s;
-  entry = entry_at m s book.now.rows;
+  entry = entry_at m s book.now.core.rows;
   rival = rival_node m s book;
 }
 
@@ -39,24 +40,23 @@ row_view m node book = row_view_at m (slave_place node book) book
 abbrev pub plain : ℕ → StatusView
 plain value = record { state = Some value; requested = record { 0 = 0 }; usage = 0 }
 
-abbrev pub status_view_at : ℕ → Kind → State → StatusView
-status_view_at m Unknown book = record { state = None; requested = record { 0 = 0 }; usage = 0 }
-status_view_at m (Proc p) book = plain 0
-status_view_at m (Power w) book = plain (value_at (Power w) book)
-status_view_at m (Slave s) book = record {
-  state = Some (state_of s book);
-  requested = now_of (entry_at m s book.now.rows);
-  usage = usage_of m s book.now.rows;
+abbrev pub status_view_at : ℕ → Kind → ℕ → State → StatusView
+status_view_at m Unknown value book = record { state = None; requested = record { 0 = 0 }; usage = 0 }
+status_view_at m (Proc p) value book = plain value
+status_view_at m (Power w) value book = plain value
+status_view_at m (Slave s) value book = record {
+  state = Some value;
+  requested = now_of (entry_at m s book.now.core.rows);
+  usage = usage_of m s book.now.core.rows;
 }
 
--- what the master at place m is told of a node: of a slave its chosen state, the capabilities that the
--- master wants of it now, and who uses it; of a processor its mode, which is off; of a power node
--- whether it is up
+-- what the master at place m is told of a node: its value, and of a slave the capabilities that the master wants of it
+-- now, and who uses it
 abbrev pub status_view : ℕ → NodeId → State → StatusView
-status_view m node book = status_view_at m (kind_of book.fixed.topology node) book
+status_view m node book = status_view_at m (kind_of book.fixed.topology node) (value (Node node) book) book
 
 abbrev pub row_at : Option ℕ → Option ℕ → State → Option Row
-row_at (Some m) (Some s) book = option_map (λ (entry : Entry). entry.row) (entry_at m s book.now.rows)
+row_at (Some m) (Some s) book = option_map (λ (entry : Entry). entry.row) (entry_at m s book.now.core.rows)
 row_at (Some m) None book = None
 row_at None s book = None
 

@@ -3,31 +3,21 @@
 #![tactic(auto)]
 
 mod book;
+mod caches;
 mod calls;
 mod choice;
+mod inner;
+mod laws;
 mod moves;
-mod needs;
 mod outbox;
-mod permits;
-mod release_call;
+mod pairs;
 mod replies;
-mod request_call;
-mod rows;
-mod settled;
 mod shelf;
-mod status;
-mod status_call;
 mod step;
-mod table;
-#[cfg(test)]
-mod tests;
-mod units;
 mod views;
 
 pub use book::Book;
-pub use choice::Wanted;
+pub use laws::{books_of_a_run, values_are_fed};
 pub use outbox::{Done, Outbox};
-pub use replies::{Answer, Response};
-pub use rows::{Entry, Row, RowSeed};
+pub use replies::Answer;
 pub use shelf::Shelf;
-pub use units::units_of;

@@ -1,40 +1,68 @@
 //! Which units a step moves.
 
-ghost use Rattle.std.specs.Prelude.{◌≡◌, ◌+◌, ◌<◌, ◌≤◌, ◌++◌, ◌==◌, ◌∷◌, [], if◌then◌else◌, length, map};
-ghost use Rattle.pm_core.specs.Units.{moved_from};
-ghost use Rattle.pm_core.specs.Values.{value};
+ghost use Rattle.std.specs.Prelude.{◌≡◌, ◌+◌, ◌<◌, ◌≤◌, ◌++◌, false, length, slice_get, unwrap_or};
+ghost use Rattle.pm_topology.specs.UnitMap.{with_value_at};
+ghost use Rattle.pm_core.specs.Caches.{kind_value, moved_at, moved_by, revalued};
 
-use crate::settled::Settled;
 use crate::shelf::Shelf;
 use pm_base::Unit;
+use pm_topology::{Kind, UnitMap};
 
-/// Puts the unit into `moved` if its value isn't the one before, and answers its value.
-fn note_move(settled: &Settled, unit: Unit, before: u32, moved: &mut Shelf<Unit>) -> u32
-    requires room { length moved.old.items < moved.old.room }
-    ensures value { result ≡ value unit settled.now }
-    ensures moved { moved.new ≡ record moved.old { items = moved.old.items ++ (if before == value unit settled.now then [] else unit ∷ []) } }
-{
-    let value = settled.value(unit);
-    if before != value {
-        moved.push(unit);
-    }
-    value
-}
-
-/// Writes the value of each unit, and puts those units into `moved` whose value isn't the one before.
+/// Writes the value of each unit by its kind, and puts those units into `moved` whose value isn't the
+/// one before.
 pub(crate) fn note_moves(
-    settled: &Settled,
-    units: &[Unit],
-    values: &mut [u32],
+    kinds: &[Kind],
+    states: &[u32],
+    ups: &[bool],
+    values: &mut UnitMap<u32>,
     moved: &mut Shelf<Unit>,
 )
-    requires places { length values.old ≡ length units.now }
-    requires room { length moved.old.items + length units.now ≤ moved.old.room }
-    ensures values { values.new ≡ map (λ u. value u settled.now) units.now }
-    ensures moved { moved.new ≡ record moved.old { items = moved.old.items ++ moved_from values.old units.now settled.now } }
+    requires places { length kinds.now ≡ length values.old }
+    requires room { length moved.old.items + length values.old ≤ moved.old.room }
+    ensures values { values.new ≡ revalued (kind_value states.now ups.now) kinds.now values.old }
+    ensures moved { moved.new ≡ record moved.old {
+      items = moved.old.items
+          ++ moved_by (kind_value states.now ups.now) kinds.now values.old;
+    } }
 {
-    for (k, unit) in units.iter().enumerate() {
-        let value = note_move(settled, *unit, values[k], moved);
-        values[k] = value;
+    for (k, kind) in kinds.iter().enumerate() {
+        note_move(k, kind_value(*kind, states, ups), values, moved);
     }
+}
+
+/// Writes the value of the unit at a place, and puts the unit into `moved` if that isn't the one before.
+fn note_move(k: usize, value: u32, values: &mut UnitMap<u32>, moved: &mut Shelf<Unit>)
+    requires { length moved.old.items < moved.old.room }
+    ensures values { values.new ≡ with_value_at k value values.old }
+    ensures moved { moved.new ≡ record moved.old { items = moved.old.items ++ moved_at value (slice_get values.old k) } }
+{
+    if let Some((unit, before)) = values.entry(k) {
+        if before != value {
+            moved.push(unit);
+        }
+    }
+    values.set_at(k, value);
+}
+
+/// The value of a unit of this kind: the state of a slave, 1 for a power node that is up, and else 0.
+fn kind_value(kind: Kind, states: &[u32], ups: &[bool]) -> u32
+    ensures { result ≡ kind_value states.now ups.now kind }
+{
+    match kind {
+        Kind::Slave(place) => state_at(states, place),
+        Kind::Power(place) => { if is_up(ups, place) { 1 } else { 0 } }
+        Kind::Proc(_) | Kind::Unknown => 0,
+    }
+}
+
+fn state_at(states: &[u32], place: usize) -> u32
+    ensures { result ≡ unwrap_or (slice_get states.now place) 0 }
+{
+    states.get(place).copied().unwrap_or(0)
+}
+
+fn is_up(ups: &[bool], place: usize) -> bool
+    ensures { result ≡ unwrap_or (slice_get ups.now place) false }
+{
+    ups.get(place).copied().unwrap_or(false)
 }

@@ -1,5 +1,7 @@
+//! What a step puts out, with room that is reserved at load.
+
 ghost use Rattle.std.specs.Prelude.{◌≡◌, IfOk};
-ghost use Rattle.pm_core.specs.Outbox.{HasRoom, IsEmpty, unit_count};
+ghost use Rattle.pm_core.specs.Outbox.{HasRoom, IsEmpty, KeepsRoom, unit_count};
 ghost use Rattle.pm_topology.specs.WellFormed.{IsWellFormed};
 
 use crate::replies::Answer;
@@ -32,9 +34,9 @@ impl Outbox {
     /// # Errors
     ///
     /// `NoMemory` where there is not enough memory.
-    pub fn load(alloc: Global, t: &Topology, _masters: usize) -> Result<Outbox, NoMemory>
+    pub fn load(alloc: Global, t: &Topology, masters: usize) -> Result<Outbox, NoMemory>
         requires formed { IsWellFormed t.now }
-        ensures room { IfOk result (HasRoom t.now) }
+        ensures room { IfOk result (HasRoom t.now masters) }
         ensures empty { IfOk result IsEmpty }
     {
         let units = count(t);
@@ -48,8 +50,7 @@ impl Outbox {
     /// Takes out all that the last step put in.
     pub(crate) fn clear(&mut self)
         ensures empty { IsEmpty self.new }
-        ensures moved { self.new.moved.room ≡ self.old.moved.room }
-        ensures done { self.new.done.room ≡ self.old.done.room }
+        ensures room { KeepsRoom self.old self.new }
     {
         self.moved.clear();
         self.done.clear();

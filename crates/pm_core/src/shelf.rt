@@ -1,3 +1,5 @@
+//! A list with room that is reserved when it is made.
+
 ghost use Rattle.std.specs.Prelude.{◌≡◌, ◌<◌, ◌++◌, ◌∷◌, [], length, IfOk};
 
 use pm_base::NoMemory;

@@ -1,14 +1,15 @@
 //! What the calls read of the book.
 
 ghost use Rattle.std.specs.Prelude.{◌≡◌};
-ghost use Rattle.pm_core.specs.Rows.{now_of};
+ghost use Rattle.pm_rows.specs.Rows.{now_of};
+ghost use Rattle.pm_core.specs.Caches.{AreKept};
 ghost use Rattle.pm_core.specs.Views;
 
-use crate::rows::Entry;
-use crate::settled::Settled;
-use crate::table::Table;
-use pm_base::{Caps, NodeId};
+use crate::caches::Caches;
+use crate::inner::Inner;
+use pm_base::{Caps, NodeId, Unit};
 use pm_object::MasterRec;
+use pm_rows::Entry;
 use pm_topology::Kind;
 
 /// What a master sees of its row on a slave: the slave's place, the row where the pair is permitted,
@@ -47,7 +48,7 @@ fn master_node(masters: &[MasterRec], place: usize) -> NodeId
         .map_or(NodeId(0), |master| NodeId(master.node))
 }
 
-impl Table {
+impl Inner {
     ghost use Rattle.pm_core.specs.Views.{row_view};
 
     pub(crate) fn row_view(&self, master: usize, node: NodeId) -> RowView
@@ -88,24 +89,25 @@ fn plain(value: u32) -> StatusView
     }
 }
 
-impl Settled {
+impl Inner {
     ghost use Rattle.pm_core.specs.Views.{status_view};
 
-    pub(crate) fn status_view(&self, master: usize, node: NodeId) -> StatusView
+    pub(crate) fn status_view(&self, caches: &Caches, master: usize, node: NodeId) -> StatusView
+        requires { AreKept self.now caches.now }
         ensures { result ≡ status_view master node self.now }
     {
-        match self.table.topology.kind(node) {
+        let value = self.value(caches, Unit::Node(node));
+        match self.kind(node) {
             Kind::Unknown => StatusView {
                 state: None,
                 requested: Caps(0),
                 usage: 0,
             },
-            Kind::Proc(_) => plain(0),
-            Kind::Power(place) => plain(self.power_value(place)),
+            Kind::Proc(_) | Kind::Power(_) => plain(value),
             Kind::Slave(slave) => StatusView {
-                state: Some(self.table.state_of(slave)),
-                requested: now_of(self.table.rows.entry_at(master, slave)),
-                usage: self.table.rows.usage(master, slave),
+                state: Some(value),
+                requested: now_of(self.rows.entry_at(master, slave)),
+                usage: self.rows.usage(master, slave),
             },
         }
     }

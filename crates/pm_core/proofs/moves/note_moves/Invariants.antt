@@ -1,16 +1,14 @@
-use Rattle.std.proofs.Common.{◌≡◌, ◌+◌, ◌≤◌, ◌++◌, length, map, take, drop}
-use Rattle.pm_core.specs.Units.{moved_from}
-use Rattle.pm_core.specs.Values.{value}
+use Rattle.std.proofs.Common.{◌≡◌, ◌+◌, ◌≤◌, ◌++◌, length, take, drop}
+use Rattle.pm_core.specs.Caches.{kind_value, moved_by, revalued}
 use Rattle.pm_core.proofs.moves.note_moves.Given as goal
 
--- the values before place k are written, and the units that moved so far and those that are left make
--- the whole
+-- the values before place k are written, and the values and the units that moved so far and those that are left make the
+-- whole
 abbrev pub invariant-loop-k : goal.invariant-loop-k
 invariant-loop-k l = record {
-  places : length l.values ≡ length l.units;
+  places : length l.values ≡ length l.kinds;
   room : l.moved.room ≡ l.fn.moved.room;
-  count : length l.moved.items + length (drop l.k l.units) ≤ l.moved.room;
-  later : drop l.k l.values ≡ drop l.k l.fn.values;
-  values : take l.k l.values ≡ map (λ u. value u l.settled) (take l.k l.units);
-  moved : l.moved.items ++ moved_from (drop l.k l.fn.values) (drop l.k l.units) l.settled ≡ l.fn.moved.items ++ moved_from l.fn.values l.units l.settled;
+  count : length l.moved.items + length (drop l.k l.kinds) ≤ l.moved.room;
+  written : take l.k l.values ++ revalued (kind_value l.states l.ups) (drop l.k l.kinds) (drop l.k l.values) ≡ revalued (kind_value l.states l.ups) l.kinds l.fn.values;
+  moved : l.moved.items ++ moved_by (kind_value l.states l.ups) (drop l.k l.kinds) (drop l.k l.values) ≡ l.fn.moved.items ++ moved_by (kind_value l.states l.ups) l.kinds l.fn.values;
 }

@@ -1,40 +1,42 @@
-use Rattle.std.proofs.Common.{◌≡◌, ℕ, ◌++◌, sym, ◌∙◌, ap, length, arith}
-use Rattle.std.specs.Prelude.{replicate}
+use Rattle.std.proofs.Common.{◌≡◌, ◌≤◌, ◌++◌, length, sym, ◌∙◌, ap, subst, arith}
+use Rattle.std.proofs.lemmas.List.{length-map}
 use Rattle.pm_base.specs.declared.names.Unit.{Unit as Place}
+use Rattle.pm_topology.specs.Units.{units_of, entry_count}
 use Rattle.pm_topology.specs.WellFormed.{IsWellFormed}
+use Rattle.pm_topology.proofs.UnitsLaw.{units_of-few}
+use Rattle.pm_core.specs.Caches.{moved_by}
 use Rattle.pm_core.specs.Shelf.{ShelfOf}
-use Rattle.pm_core.specs.Outbox.{unit_count}
 use Rattle.pm_core.specs.State.{State}
-use Rattle.pm_core.specs.Units.{units, units_of, moved_from}
-use Rattle.pm_core.proofs.MetLaw.{book_meets}
-use Rattle.pm_core.proofs.UnitsLemmas.{length-units_of}
-use Rattle.pm_core.proofs.MovesLemmas.{moved_at_load}
+use Rattle.pm_core.specs.Values.{value_at}
+use Rattle.pm_core.proofs.CachesLaw.{moves_are}
+use Rattle.pm_core.proofs.NeededLaw.{book_meets}
 use Rattle.pm_core.proofs.book.Book.load.Goals as goal
 
-pub note_moves-requires-clause-room : goal.note_moves-requires-clause-room
-note_moves-requires-clause-room c =
-    let units : c.as_slice.result.now ≡ units_of c.args.topology =
-    c.as_slice.ensures ∙ (c.in_ok-units.ensures ∙ ap units_of (c.topology.ensures.topology ∙ ap (λ (b : State). b.fixed.topology) c.in_ok-settled.ensures.book))
+pub update-requires-clause-room : goal.update-requires-clause-room
+update-requires-clause-room c =
+    let zeros : length c.in_ok-caches.caches.values ≡ length (units_of c.in_ok-inner.inner.fixed.topology) =
+    ap length c.in_ok-caches.ensures.zeros ∙ length-map (units_of c.in_ok-inner.inner.fixed.topology) (λ u. (u, 0))
     in
-    let count : length c.as_slice.result.now ≡ unit_count c.args.topology = ap length units ∙ length-units_of c.args.topology in
+    let topology : length (units_of c.in_ok-inner.inner.fixed.topology) ≡ length (units_of c.args.topology) =
+    ap (λ (b : State). length (units_of b.fixed.topology)) c.in_ok-inner.ensures.book
+    in
+    let few : length (units_of c.args.topology) ≤ entry_count c.args.topology = units_of-few c.args.topology in
     let none = ap length c.clear.ensures.empty.moved in
-    omega arith
+    omega (arith, zeros, topology, few, none, c.requires.room.moved, c.clear.ensures.room.moved)
 
 pub returns-clause-met : goal.returns-clause-met
 returns-clause-met c =
-    let formed : IsWellFormed c.in_ok-settled.settled.fixed.topology = rw (← c.topology.ensures.topology) c.topology.ensures.formed in
-    book_meets c.in_ok-settled.settled formed c.in_ok-settled.ensures.sound
+    let P : State → Type 0 = λ b. IsWellFormed b.fixed.topology in
+    book_meets c.in_ok-inner.inner (subst P (sym c.in_ok-inner.ensures.book) c.requires.formed) c.in_ok-inner.ensures.sound
 
 pub returns-clause-out : goal.returns-clause-out
 returns-clause-out c =
-    let values = c.in_ok-values.ensures in
-    let zeros : c.deref_mut.result.now ≡ replicate {A = ℕ} c.len.result 0 = c.deref_mut.ensures.value ∙ values in
-    let count : c.len.result ≡ length c.as_slice.result.now = c.len.ensures ∙ ap length (sym c.as_slice.ensures) in
-    let units : c.as_slice.result.now ≡ units c.in_ok-settled.settled = c.as_slice.ensures ∙ (c.in_ok-units.ensures ∙ ap units_of c.topology.ensures.topology) in
+    let book = c.in_ok-inner.inner in
+    let caches = c.in_ok-caches.caches in
     record {
-      moved = ap (λ (s : ShelfOf Place). s.items) c.note_moves.ensures.moved ∙ (
-          ap (λ xs. xs ++ moved_from c.deref_mut.result.now c.as_slice.result.now c.in_ok-settled.settled) c.clear.ensures.empty.moved
-          ∙ moved_at_load c.in_ok-settled.settled c.as_slice.result.now c.deref_mut.result.now c.len.result zeros count units);
+      moved = ap (λ (s : ShelfOf Place). s.items) c.update.ensures.moved ∙ (
+          ap (λ xs. xs ++ moved_by (λ kind. value_at kind book.fixed book.now.core) caches.kinds.items caches.values) c.clear.ensures.empty.moved
+          ∙ moves_are book (λ _. 0) caches.kinds.items caches.values c.in_ok-caches.ensures.places.kinds c.in_ok-caches.ensures.zeros);
       answer = c.clear.ensures.empty.answer;
       done = c.clear.ensures.empty.done;
     }

@@ -1,50 +1,62 @@
-use Rattle.std.proofs.Common.{◌≡◌, ◌++◌, sym, ◌∙◌, ap, map, length, arith}
+use Rattle.std.proofs.Common.{◌≡◌, ◌≤◌, ◌++◌, length, ◌∙◌, ap, arith}
+use Rattle.std.proofs.lemmas.List.{length-map}
 use Rattle.pm_base.specs.declared.names.Unit.{Unit as Place}
-use Rattle.pm_topology.specs.WellFormed.{IsWellFormed}
-use Rattle.pm_core.specs.Outbox.{unit_count}
+use Rattle.pm_topology.specs.Units.{units_of, entry_count}
+use Rattle.pm_topology.proofs.UnitsLaw.{units_of-few}
+use Rattle.pm_core.specs.Caches.{moved_by}
 use Rattle.pm_core.specs.Shelf.{ShelfOf}
-use Rattle.pm_core.specs.Sound.{IsSound}
-use Rattle.pm_core.specs.Step.{answer_to}
-use Rattle.pm_core.specs.Units.{units, units_of, moved_from}
-use Rattle.pm_core.specs.Values.{value}
-use Rattle.pm_core.proofs.MetLaw.{book_meets}
-use Rattle.pm_core.proofs.MovesLemmas.{moved_in_step}
-use Rattle.pm_core.proofs.SoundSteps.{effect_sound}
-use Rattle.pm_core.proofs.UnitsLemmas.{length-units_of}
+use Rattle.pm_core.specs.Sound.{IsBook}
+use Rattle.pm_core.specs.State.{State}
+use Rattle.pm_core.specs.Step.{effect, heard_of, answer_by, answer_to}
+use Rattle.pm_core.specs.Units.{units, moved}
+use Rattle.pm_core.specs.Values.{value, value_at}
+use Rattle.pm_core.proofs.CachesLaw.{kept_places, step_moves}
+use Rattle.pm_core.proofs.NeededLaw.{book_meets}
+use Rattle.pm_core.proofs.SoundSteps.{kept_by}
 use Rattle.pm_core.proofs.book.Book.step.Goals as goal
 
-pub note_moves-requires-clause-room : goal.note_moves-requires-clause-room
-note_moves-requires-clause-room c =
-    let us : c.as_slice.result.now ≡ units_of c.args.self.now.fixed.topology =
-    c.as_slice.ensures ∙ (c.self.invariant.0 ∙ ap units c.self.view_is)
+pub update-requires-clause-places : goal.update-requires-clause-places
+update-requires-clause-places c =
+    kept_places c.self.inside.inner c.self.inside.caches c.take-heard.new.self.fixed.topology
+    (ap (λ (b : State). b.fixed.topology) c.take-heard.ensures.book) c.self.invariant.1
+
+pub update-requires-clause-room : goal.update-requires-clause-room
+update-requires-clause-room c =
+    let old = c.self.inside.inner in
+    let values : length c.self.inside.caches.values ≡ length (units old) =
+    ap length c.self.invariant.1.values ∙ length-map (units old) (λ u. (u, value u old))
     in
-    let count : length c.as_slice.result.now ≡ unit_count c.args.self.now.fixed.topology = ap length us ∙ length-units_of c.args.self.now.fixed.topology in
+    let same : length (units old) ≡ length (units_of c.args.self.now.fixed.topology) = ap (λ (b : State). length (units b)) c.self.view_is in
+    let few : length (units_of c.args.self.now.fixed.topology) ≤ entry_count c.args.self.now.fixed.topology = units_of-few c.args.self.now.fixed.topology in
     let none = ap length c.clear.ensures.empty.moved in
-    omega arith
+    omega (arith, values, same, few, none, c.requires.room.moved, c.clear.ensures.room.moved)
+
+pub invariant_of-self : goal.invariant_of-self
+invariant_of-self c = (
+  kept_by c.args.event.now c.self.inside.inner c.take-heard.new.self c.take-heard.ensures.book c.self.invariant.0,
+  c.update.ensures.kept,
+)
 
 pub returns-clause-sound : goal.returns-clause-sound
-returns-clause-sound c sound =
-    rw (c.take-out.ensures.book, c.self.view_is) (effect_sound c.args.event.now c.args.self.now sound)
+returns-clause-sound c = (kept_by c.args.event.now c.self.inside.inner c.take-heard.new.self c.take-heard.ensures.book c.self.invariant.0).sound
 
 pub returns-clause-met : goal.returns-clause-met
-returns-clause-met c sound =
-    let kept : IsSound c.take-out.new.self =
-    rw (c.take-out.ensures.book, c.self.view_is) (effect_sound c.args.event.now c.args.self.now sound)
-    in
-    let formed : IsWellFormed c.take-out.new.self.fixed.topology = rw c.take-out.ensures.book c.self.invariant.2 in
-    book_meets c.take-out.new.self formed kept
+returns-clause-met c =
+    let kept : IsBook c.take-heard.new.self = kept_by c.args.event.now c.self.inside.inner c.take-heard.new.self c.take-heard.ensures.book c.self.invariant.0 in
+    book_meets c.take-heard.new.self kept.formed kept.sound
 
 pub returns-clause-out : goal.returns-clause-out
 returns-clause-out c =
-    let old = c.self.inside.settled in
-    let us : c.as_slice.result.now ≡ units old = c.as_slice.ensures ∙ c.self.invariant.0 in
-    let values : c.deref_mut.result.now ≡ map (λ u. value u old) c.as_slice.result.now =
-    c.deref_mut.ensures.value ∙ (c.self.invariant.1 ∙ ap (map (λ u. value u old)) (sym c.as_slice.ensures))
-    in
+    let event = c.args.event.now in
+    let old = c.self.inside.inner in
+    let new = c.take-heard.new.self in
+    let caches = c.self.inside.caches in
     record {
-      moved = ap (λ (s : ShelfOf Place). s.items) c.note_moves.ensures.moved ∙ (
-          ap (λ xs. xs ++ moved_from c.deref_mut.result.now c.as_slice.result.now c.take-out.new.self) c.clear.ensures.empty.moved
-          ∙ moved_in_step c.args.event.now old c.args.self.now c.take-out.new.self c.as_slice.result.now c.deref_mut.result.now c.self.view_is us values c.take-out.ensures.book);
-      answer = c.take-out.ensures.answer ∙ ap (answer_to c.args.event.now) c.self.view_is;
+      moved = ap (λ (s : ShelfOf Place). s.items) c.update.ensures.moved ∙ (
+          ap (λ xs. xs ++ moved_by (λ kind. value_at kind new.fixed new.now.core) caches.kinds.items caches.values) c.clear.ensures.empty.moved
+          ∙ (step_moves event old new caches.kinds.items caches.values c.take-heard.ensures.book c.self.invariant.1.kinds c.self.invariant.1.values
+          ∙ ap (λ (b : State). moved (λ u. value u b) (effect event b)) c.self.view_is));
+      answer = c.answer-out.ensures ∙ (ap (λ h. answer_by h new) c.take-heard.ensures.heard ∙ (
+          ap (λ b. answer_by (heard_of event old) b) c.take-heard.ensures.book ∙ ap (answer_to event) c.self.view_is));
       done = c.clear.ensures.empty.done;
     }

@@ -1,0 +1,3 @@
+pub mod GetNodeStatus
+pub mod ReleaseNode
+pub mod RequestNode

@@ -1,0 +1,119 @@
+//! What the book keeps of its values.
+
+ghost use Rattle.std.specs.Prelude.{◌≡◌, ◌+◌, ◌≤◌, ◌++◌, IfOk, length, map, option_map, slice_get};
+ghost use Rattle.pm_topology.specs.Units.{units_of};
+ghost use Rattle.pm_topology.specs.UnitMap.{all_at};
+ghost use Rattle.pm_core.specs.Caches.{AreKept, HasPlaces, kind_of_unit, moved_by, value_kept};
+ghost use Rattle.pm_core.specs.Values.{value_at};
+
+use crate::inner::Inner;
+use crate::moves::note_moves;
+use crate::shelf::Shelf;
+use pm_base::{NoMemory, Unit};
+use pm_power::Power;
+use pm_topology::{Kind, Topology, UnitMap, units_of};
+use std::alloc::Global;
+
+/// What is kept of the values of a book: the kind of each unit by its place, the chosen state of each
+/// slave and whether it needs its power node in it, the power nodes, and the value of each unit.
+#[derive(Drop)]
+pub(crate) struct Caches {
+    kinds: Vec<Kind>,
+    states: Vec<u32>,
+    needs: Vec<bool>,
+    power: Power,
+    values: UnitMap<u32>,
+}
+
+impl Caches {
+    /// The caches of a chip, before anything is found: each value is 0.
+    pub(crate) fn load(alloc: Global, inner: &Inner) -> Result<Caches, NoMemory>
+        ensures places { IfOk result (HasPlaces inner.now.fixed.topology) }
+        ensures zeros { IfOk result (λ caches. caches.values ≡ all_at 0 (units_of inner.now.fixed.topology)) }
+    {
+        let t = inner.topology();
+        let slaves = t.slaves.len();
+        Ok(Caches {
+            kinds: kinds_of(alloc, t, units_of(alloc, t)?.as_slice())?,
+            states: zeros(alloc, slaves)?,
+            needs: no_needs(alloc, slaves)?,
+            power: Power::load(alloc, t)?,
+            values: UnitMap::load(alloc, t, 0)?,
+        })
+    }
+
+    /// The number of units.
+    pub(crate) fn units(&self) -> usize
+        ensures { result ≡ length self.now.values }
+    {
+        self.values.len()
+    }
+
+    /// The `k`-th unit.
+    pub(crate) fn unit(&self, k: usize) -> Option<Unit>
+        ensures { result ≡ option_map (λ e. e.0) (slice_get self.now.values k) }
+    {
+        self.values.entry(k).map(|entry| entry.0)
+    }
+
+    /// The value of a unit, and 0 for a unit that isn't there.
+    pub(crate) fn value(&self, unit: Unit) -> u32
+        ensures { result ≡ value_kept unit self.now.values }
+    {
+        self.values.get(unit).unwrap_or(0)
+    }
+
+    /// Brings all that is kept up to date, and puts the units whose value isn't the one before into
+    /// `moved`, in their order.
+    pub(crate) fn update(&mut self, inner: &Inner, moved: &mut Shelf<Unit>)
+        requires places { HasPlaces inner.now.fixed.topology self.old }
+        requires room { length moved.old.items + length self.old.values ≤ moved.old.room }
+        ensures kept { AreKept inner.now self.new }
+        ensures moved { moved.new ≡ record moved.old {
+          items = moved.old.items
+              ++ moved_by (λ kind. value_at kind inner.now.fixed inner.now.now.core) self.old.kinds.items self.old.values;
+        } }
+    {
+        inner.choose(&mut self.states, &mut self.needs);
+        self.power.recompute(&self.needs);
+        note_moves(
+            &self.kinds,
+            &self.states,
+            self.power.ups(),
+            &mut self.values,
+            moved,
+        );
+    }
+}
+
+/// The kind of each of these units.
+fn kinds_of(alloc: Global, t: &Topology, units: &[Unit]) -> Result<Vec<Kind>, NoMemory>
+    ensures { IfOk result (λ kinds. kinds.items ≡ map (kind_of_unit t.now) units.now) }
+{
+    let mut kinds = Vec::new(alloc);
+    for unit in units {
+        kinds.push(kind_of_unit(t, *unit)).map_err(|_| NoMemory)?;
+    }
+    Ok(kinds)
+}
+
+fn kind_of_unit(t: &Topology, unit: Unit) -> Kind
+    ensures { result ≡ kind_of_unit t.now unit }
+{
+    match unit {
+        Unit::Node(node) => t.kind(node),
+        Unit::Line(_) => Kind::Unknown,
+    }
+}
+
+fn zeros(alloc: Global, count: usize) -> Result<Vec<u32>, NoMemory>
+    ensures { IfOk result (λ zeros. length zeros.items ≡ count) }
+{
+    Vec::from_elem(alloc, 0, count).map_err(|_| NoMemory)
+}
+
+fn no_needs(alloc: Global, count: usize) -> Result<Vec<bool>, NoMemory>
+    ensures { IfOk result (λ needs. length needs.items ≡ count) }
+{
+    Vec::from_elem(alloc, false, count).map_err(|_| NoMemory)
+}

@@ -1,0 +1,32 @@
+//! PM_RELEASE_NODE (UG1200).
+
+ghost use Rattle.std.specs.Prelude.{◌≡◌};
+ghost use Rattle.pm_core.specs.Outcome.{outcome_of};
+ghost use Rattle.pm_core.specs.calls.ReleaseNode.{release_node};
+ghost use Rattle.pm_core.specs.Prims.{changed};
+
+use crate::inner::Inner;
+use crate::views::RowView;
+use pm_ipi::Response;
+use pm_ipi::status::{INVALID_NODE, NO_ACCESS};
+use pm_rows::Change;
+
+impl Inner {
+    /// The caller doesn't use the slave any more.
+    pub(crate) fn release_node(&mut self, view: &RowView) -> Response
+        ensures response { result ≡ (outcome_of (release_node view.now)).response }
+        ensures book { self.new ≡ changed (outcome_of (release_node view.now)).changes self.old }
+    {
+        if view.slave.is_none() {
+            return Response::refusal(INVALID_NODE);
+        }
+        let Some(entry) = view.entry else {
+            return Response::refusal(NO_ACCESS);
+        };
+        if !entry.row.used {
+            return Response::refusal(NO_ACCESS);
+        }
+        self.change_row(entry.seed.master, entry.seed.slave, Change::Release);
+        Response::success([0; 3])
+    }
+}

@@ -1,0 +1,154 @@
+//! The book without what is kept of its values.
+
+ghost use Rattle.std.specs.Prelude.{◌≡◌, ◌∷◌, [], length, slice_get, Some, IfOk};
+ghost use Rattle.std.specs.Option.{option_copied};
+ghost use Rattle.pm_topology.specs.WellFormed.{IsWellFormed};
+ghost use Rattle.pm_topology.specs.Places.{kind_of};
+ghost use Rattle.pm_core.specs.Caches.{AreKept};
+ghost use Rattle.pm_core.specs.Load.{load_of};
+ghost use Rattle.pm_core.specs.Prims.{changed, At_row};
+ghost use Rattle.pm_core.specs.Sound.{IsSound};
+ghost use Rattle.pm_core.specs.State.{in_force};
+ghost use Rattle.pm_core.specs.Values.{value, slave_place, master_place, state_at, placed, chosen, need_of};
+ghost use Rattle.pm_core.specs.Views.{row};
+
+use crate::caches::Caches;
+use crate::choice::chosen_state;
+use crate::pairs::push_rows;
+use pm_base::{NoMemory, NodeId, Unit};
+use pm_object::Object;
+use pm_rows::{Change, Row, Rows};
+use pm_topology::{Kind, SlaveDef, Topology, needs_in};
+use std::alloc::Global;
+use std::marker::Model;
+
+/// The object, the parts of the chip, and a row for each permitted pair of a master and a slave. A
+/// change of it owes nothing to what is kept of the book's values.
+#[derive(Debug, Drop)]
+pub(crate) struct Inner {
+    pub(crate) object: Object,
+    pub(crate) topology: Topology,
+    pub(crate) rows: Rows,
+}
+
+impl Model for Inner {
+    ghost use Rattle.pm_topology.specs.WellFormed.{IsWellFormed};
+    ghost use Rattle.pm_core.specs.State.{State};
+
+    ghost Value = { State };
+
+    ghost view = { λ inner. record { fixed = record { object = inner.object; topology = inner.topology }; now = record { core = record { rows = inner.rows }; talk = record {} } } };
+
+    ghost invariant = { λ inner. IsWellFormed inner.topology };
+}
+
+fn slave_at(slaves: &[SlaveDef], place: usize) -> Option<&SlaveDef>
+    ensures { option_copied result ≡ slice_get slaves.now place }
+{
+    slaves.get(place)
+}
+
+impl Inner {
+    /// A row for each permitted pair, and none is used.
+    pub(crate) fn load(alloc: Global, object: Object, topology: Topology) -> Result<Inner, NoMemory>
+        requires { IsWellFormed topology }
+        ensures book { IfOk result (λ inner. inner ≡ load_of object topology) }
+        ensures sound { IfOk result IsSound }
+    {
+        let mut rows = Rows::new(alloc);
+        push_rows(&mut rows, &object, topology.slaves.as_slice())?;
+        Ok(Inner {
+            object,
+            topology,
+            rows,
+        })
+    }
+
+    /// The configuration object in force.
+    pub(crate) fn in_force(&self) -> &Object
+        ensures { result.now ≡ in_force self.now }
+    {
+        &self.object
+    }
+
+    pub(crate) fn topology(&self) -> &Topology
+        ensures formed { IsWellFormed result.now }
+        ensures topology { result.now ≡ self.now.fixed.topology }
+    {
+        &self.topology
+    }
+
+    pub(crate) fn kind(&self, node: NodeId) -> Kind
+        ensures { result ≡ kind_of self.now.fixed.topology node }
+    {
+        self.topology.kind(node)
+    }
+
+    pub(crate) fn slave_place(&self, node: NodeId) -> Option<usize>
+        ensures { result ≡ slave_place node self.now }
+    {
+        self.topology
+            .slaves
+            .as_slice()
+            .iter()
+            .position(|slave| slave.node.0 == node.0)
+    }
+
+    pub(crate) fn master_place(&self, node: NodeId) -> Option<usize>
+        ensures { result ≡ master_place node self.now }
+    {
+        self.object
+            .masters
+            .as_slice()
+            .iter()
+            .position(|master| master.node == node.0)
+    }
+
+    /// The row of a master on a slave, where the object permits the pair.
+    pub(crate) fn row(&self, master: NodeId, slave: NodeId) -> Option<Row>
+        ensures { result ≡ row master slave self.now }
+    {
+        let master = self.master_place(master)?;
+        let slave = self.slave_place(slave)?;
+        self.rows.entry_at(master, slave).map(|entry| entry.row)
+    }
+
+    /// The value of a unit, as it is kept.
+    #[tactic(auto, using(crate::proofs::CachesLaw::kept_value))]
+    pub(crate) fn value(&self, caches: &Caches, unit: Unit) -> u32
+        requires { AreKept self.now caches.now }
+        ensures { result ≡ value unit self.now }
+    {
+        caches.value(unit)
+    }
+
+    /// The chosen state of the slave at a place, and 0 past the last one.
+    fn state_of(&self, place: usize) -> u32
+        ensures { result ≡ state_at place (slice_get self.now.fixed.topology.slaves place) self.now.now.core }
+    {
+        match slave_at(self.topology.slaves.as_slice(), place) {
+            Some(slave) => chosen_state(slave, self.rows.wanted(place)),
+            None => 0,
+        }
+    }
+
+    /// Writes the chosen state of each slave, and whether it needs its power node in that state.
+    pub(crate) fn choose(&self, states: &mut [u32], needs: &mut [bool])
+        requires states { length states.old ≡ length self.now.fixed.topology.slaves }
+        requires needs { length needs.old ≡ length self.now.fixed.topology.slaves }
+        ensures states { states.new ≡ placed (chosen self.now.now.core) 0 self.now.fixed.topology.slaves }
+        ensures needs { needs.new ≡ placed (need_of self.now.now.core) 0 self.now.fixed.topology.slaves }
+    {
+        for s in 0..self.topology.slaves.len() {
+            let state = self.state_of(s);
+            states[s] = state;
+            needs[s] = needs_in(self.topology.slaves.get(s), state);
+        }
+    }
+
+    pub(crate) fn change_row(&mut self, master: usize, slave: usize, by: Change)
+        ensures { self.new ≡ changed (At_row master slave by ∷ []) self.old }
+    {
+        self.rows.change(master, slave, by);
+    }
+}

@@ -1,0 +1,5 @@
+pub mod Bits
+pub mod Changed
+pub mod Kept
+pub mod There
+pub mod Wants
