@@ -1,52 +1,80 @@
--- The three parts of a step together: exactly the commands of its plan.
-use Rattle.std.proofs.Common.{◌≡◌, ℕ, ◌==◌, not, List, [], ◌++◌, sym, ap, subst, ◌∙◌}
+-- A step that was carried out: it is the part of its device under its answers, and what holds of each part holds of it.
+use Rattle.std.proofs.Common.{◌≡◌, ℕ, List, [], ◌++◌, sym, ap, subst, ◌∙◌}
 use Rattle.pm_base.specs.declared.names.Unit.{Unit as Place}
-use Rattle.pm_topology.specs.declared.topology.Topology.{Topology}
 use Rattle.pm_topology.specs.WellFormed.{IsWellFormed}
-use Rattle.pm_device.specs.Device.{Commanded, DeviceMoment}
+use Rattle.pm_device.specs.Act.{Act, AreHarmless, Chain, values_after}
+use Rattle.pm_device.specs.Chains.{values_after-same}
+use Rattle.pm_device.specs.Device.{DeviceMoment}
 use Rattle.pm_core.specs.declared.outbox.Done.{Done}
-use Rattle.pm_apply.specs.declared.kept.KeptUnit.{KeptUnit}
-use Rattle.pm_apply.specs.Carried.{AreMarked, Takes, all_answered, raises, settles, lowers}
-use Rattle.pm_apply.specs.Plan.{Carried, plan, turns_of, answers_of}
-use Rattle.pm_apply.specs.Record.{IsRecordOf, marked}
-use Rattle.pm_apply.proofs.MarksLemmas.{lags_in-marked}
-use Rattle.pm_apply.proofs.RecordLaw.{has_cell_in, record_after}
-use Rattle.pm_apply.proofs.RecordLemmas.{told-marked}
-use Rattle.pm_apply.proofs.TakesLemmas.{Takes-trans}
+use Rattle.pm_core.specs.declared.outbox.Outbox.{Outbox}
+use Rattle.pm_core.specs.Fed.{IsFed}
+use Rattle.pm_core.specs.State.{State}
+use Rattle.pm_core.specs.Values.{value}
+use Rattle.pm_apply.specs.Carried.{AreMarked, KeepsRest, Takes}
+use Rattle.pm_apply.specs.Order.{IsOrdered, LagsAreExplained}
+use Rattle.pm_apply.specs.Part.{Part, answers_in, orders_in, orders_of, outputs_in, part_in, part_of}
+use Rattle.pm_apply.specs.Plan.{Carried, answers_of, plan, turns_of}
+use Rattle.pm_apply.specs.Record.{IsRecordOf, Kept, StandsAs, kept_value, marked}
+use Rattle.pm_apply.proofs.StepLaw.{part_explained, part_follows, part_known, part_marks, part_ordered, part_record}
 
--- exactly these commands were issued, under the answers that the device gave
-pub record IsWholeStep (tells_values tells_broken : Type 0) (t : Topology) (values : Place → ℕ) (kept_before kept_after : List KeptUnit) (done : List Done) (before after : DeviceMoment) : Type 0 where
-  pub planned : plan t values (turns_of t) kept_before (answers_of done) ≡ record { done = done; kept = kept_after }
-  pub commanded : Commanded tells_values tells_broken (all_answered done) before after
+-- what holds of the commands of a step and of the record that they leave
+pub record IsSafe (kept : Kept) (book : State) (part : Part) : Type 0 where
+  pub ordered : IsOrdered book.fixed.topology (kept_value kept) (orders_of part.commands)
+  pub explained : LagsAreExplained book.fixed.topology (λ u. value u book) part.kept part.commands
+  pub known : AreHarmless book.fixed.topology (orders_of part.commands)
+  pub record_of : IsRecordOf book.fixed.topology part.kept
+  pub marks : AreMarked book.fixed.topology (λ u. value u book) part.kept
+  pub follows : (unit : Place) → kept_value part.kept unit ≡ values_after (orders_of part.commands) (kept_value kept) unit
 
-module _ (tells_values tells_broken : Type 0) (t : Topology) (values : Place → ℕ) where
-  whole_step : (kept₀ kept₁ : List KeptUnit) (done₀ done₁ : List Done) (m₀ m₁ : DeviceMoment)
-      → done₀ ≡ []
-      → Takes tells_values tells_broken t values (turns_of t) kept₀ kept₁ done₀ done₁ m₀ m₁
-      → IsWholeStep tells_values tells_broken t values kept₀ kept₁ done₁ m₀ m₁
-  whole_step kept₀ kept₁ done₀ done₁ m₀ m₁ fresh takes =
-      let all : done₁ ≡ takes.done = takes.put ∙ ap (λ done. done ++ takes.done) fresh in
-      let P : List Done → Type 0 = λ done. IsWholeStep tells_values tells_broken t values kept₀ kept₁ done m₀ m₁ in
-      subst P (sym all) (record { planned = takes.planned; commanded = takes.commanded })
+-- exactly the step's part, given command by command
+pub record IsCarried {D : Type 0} (Does : Act → D → D → Type 0) (kept now : Kept) (book : State) (before after : Outbox) (old new : D) : Type 0 where
+  pub part : part_in now after ≡ part_of kept (answers_in after) book (outputs_in before)
+  pub given : Chain Does (orders_in after) old new
+  pub safe : IsSafe kept book (part_in now after)
 
-  pub step_of_parts : (kept₀ kept₁ kept₂ kept₃ : List KeptUnit) (done₀ done₁ done₂ done₃ : List Done) (m₀ m₁ m₂ m₃ : DeviceMoment)
-      → done₀ ≡ []
-      → Takes tells_values tells_broken t values (raises t) kept₀ kept₁ done₀ done₁ m₀ m₁
-      → Takes tells_values tells_broken t values (settles t) kept₁ kept₂ done₁ done₂ m₁ m₂
-      → Takes tells_values tells_broken t values (lowers t) kept₂ kept₃ done₂ done₃ m₂ m₃
-      → IsWholeStep tells_values tells_broken t values kept₀ kept₃ done₃ m₀ m₃
-  step_of_parts kept₀ kept₁ kept₂ kept₃ done₀ done₁ done₂ done₃ m₀ m₁ m₂ m₃ fresh up settled down =
-      let rest = Takes-trans tells_values tells_broken t values (settles t) (lowers t) kept₁ kept₂ kept₃ done₁ done₂ done₃ m₁ m₂ m₃ settled down in
-      whole_step kept₀ kept₃ done₀ done₃ m₀ m₃ fresh
-      (Takes-trans tells_values tells_broken t values (raises t) (settles t ++ lowers t) kept₀ kept₁ kept₃ done₀ done₁ done₃ m₀ m₁ m₃ up rest)
+module _ {D : Type 0} (Does : Act → D → D → Type 0) (kept left now : Kept) (book : State) (before after : Outbox) (old new : D) where
+  -- the record that is left and the outbox are the part of the step
+  part_is : plan book.fixed.topology (λ u. value u book) (turns_of book.fixed.topology) kept (answers_in after) ≡ record { done = after.done.items; kept = left }
+      → now ≡ marked (λ u. value u book) left
+      → after.answer ≡ before.answer
+      → part_in now after ≡ part_of kept (answers_in after) book (outputs_in before)
+  part_is planned marks answer =
+      let values : Place → ℕ = λ u. value u book in
+      ap (λ (kept : Kept). part_in kept after) marks
+      ∙ ap (λ answer. record { commands = after.done.items; kept = marked values left; answer = answer }) answer
+      ∙ sym (ap (λ (c : Carried). record { commands = c.done; kept = marked values c.kept; answer = before.answer }) planned)
 
--- the record that a step leaves marks exactly what differs
-pub step_marks : (t : Topology) (values : Place → ℕ) (kept after : List KeptUnit) (done : List Done)
-    → plan t values (turns_of t) kept (answers_of done) ≡ record { done = done; kept = after }
-    → IsWellFormed t
-    → IsRecordOf t kept
-    → AreMarked t values (marked values after)
-step_marks t values kept after done planned well record_of unit has =
-    let P : Carried → Type 0 = λ carried. IsRecordOf t carried.kept in
-    let left : IsRecordOf t after = subst P planned (record_after t values well (turns_of t) kept (answers_of done) record_of) in
-    lags_in-marked values after unit (has_cell_in t after unit left has) ∙ ap (λ n. not (n == values unit)) (sym (told-marked values after unit))
+  -- the turns of a step were taken, and then the record was marked
+  pub carried : IsWellFormed book.fixed.topology
+      → IsFed book.fixed.topology (λ u. value u book)
+      → IsRecordOf book.fixed.topology kept
+      → before.done.items ≡ []
+      → Takes Does book.fixed.topology (λ u. value u book) (turns_of book.fixed.topology) kept left before.done.items after.done.items old new
+      → KeepsRest before after
+      → now ≡ marked (λ u. value u book) left
+      → IsCarried Does kept now book before after old new
+  carried well fed record_of fresh takes rest marks =
+      let all : takes.done ≡ after.done.items = sym (takes.put ∙ ap (λ done. done ++ takes.done) fresh) in
+      let Planned : List Done → Type 0 = λ done. plan book.fixed.topology (λ u. value u book) (turns_of book.fixed.topology) kept (answers_of done) ≡ record { done = done; kept = left } in
+      let Given : List Done → Type 0 = λ done. Chain Does (orders_of done) old new in
+      let part = part_is (subst Planned all takes.planned) marks rest.answer in
+      record {
+        part = part;
+        given = subst Given all takes.given;
+        safe = subst (IsSafe kept book) (sym part) (record {
+          ordered = part_ordered kept (answers_in after) book (outputs_in before) well record_of;
+          explained = part_explained kept (answers_in after) book (outputs_in before) well record_of fed;
+          known = part_known kept (answers_in after) book (outputs_in before) well;
+          record_of = part_record kept (answers_in after) book (outputs_in before) well record_of;
+          marks = part_marks kept (answers_in after) book (outputs_in before) well record_of;
+          follows = part_follows kept (answers_in after) book (outputs_in before) well record_of;
+        });
+      }
+
+-- a device whose values were those of a record, and are those after some acts, stands as the record that has these
+pub stands_then : (acts : List Act) (kept after : Kept) (old new : DeviceMoment)
+    → ((unit : Place) → kept_value after unit ≡ values_after acts (kept_value kept) unit)
+    → ((unit : Place) → new.value unit ≡ values_after acts old.value unit)
+    → StandsAs kept old → StandsAs after new
+stands_then acts kept after old new follows shown stands unit =
+    shown unit ∙ values_after-same acts old.value (kept_value kept) stands unit ∙ sym (follows unit)

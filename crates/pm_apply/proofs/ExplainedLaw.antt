@@ -13,14 +13,13 @@ use Rattle.pm_topology.specs.Places.{parent_at, IsAtOrAbove, here as at_it, high
 use Rattle.pm_topology.specs.WellFormed.{IsWellFormed}
 use Rattle.pm_core.specs.declared.outbox.Done.{Done}
 use Rattle.pm_core.specs.Fed.{IsFed}
-use Rattle.pm_core.specs.Units.{units_of}
-use Rattle.pm_apply.specs.declared.kept.KeptUnit.{KeptUnit}
+use Rattle.pm_topology.specs.Units.{units_of}
 use Rattle.pm_apply.specs.declared.turns.Turn.TheVariants.{Raise, Settle, Lower}
-use Rattle.pm_apply.specs.Record.{told, IsRecordOf}
+use Rattle.pm_apply.specs.Record.{Kept, kept_value, IsRecordOf}
 use Rattle.pm_apply.specs.Plan.{plan, turns_of, power_places, is_power}
-use Rattle.pm_apply.specs.Order.{has_unit, IsOnPath, IsExplained, LagsAreExplained}
+use Rattle.pm_apply.specs.Order.{IsOnPath, IsExplained, LagsAreExplained}
 use Rattle.pm_apply.proofs.PlanLeads.{Leads, leads_append}
-use Rattle.pm_apply.proofs.OrdersUnits.{IsPowerAt, power_kind, power_place_of}
+use Rattle.pm_apply.proofs.OrdersUnits.{is_listed, listed-is, IsPowerAt, power_kind, power_place_of}
 use Rattle.pm_apply.proofs.OrdersFailed.{FailsAtOrAbove}
 use Rattle.pm_apply.proofs.OrdersRaise.{Raised, raise_from}
 use Rattle.pm_apply.proofs.OrdersSettle.{IsStarved, Lags, Settled, settle_all}
@@ -45,15 +44,15 @@ module _ (t : Topology) (values : Place → ℕ) (well : IsWellFormed t) (fed : 
   abbrev n : ℕ
   n = length t.powers
 
-  from_raised : (kept : List KeptUnit) (front : List Done) → Raised t values well fed n kept front → Settled t values (units_of t) kept front
+  from_raised : (kept : Kept) (front : List Done) → Raised t values well fed n kept front → Settled t values (units_of t) kept front
   from_raised kept front r = record {
     record_of = r.record_of;
     among = λ x has. has;
     raised = λ v p here. r.explained v p (slice_get_within t.powers v p here) here;
-    settled = λ x has other lags off. absurd (both_ways (has_unit t x) off has);
+    settled = λ x has other lags off. absurd (both_ways (is_listed t x) off has);
   }
 
-  from_settled : (kept : List KeptUnit) (front : List Done) → Settled t values [] kept front → Lowered t values well fed n kept front
+  from_settled : (kept : Kept) (front : List Done) → Settled t values [] kept front → Lowered t values well fed n kept front
   from_settled kept front s = record {
     record_of = s.record_of;
     raised = s.raised;
@@ -61,7 +60,7 @@ module _ (t : Topology) (values : Place → ℕ) (well : IsWellFormed t) (fed : 
     lowered = λ v p from here. let within = slice_get_within t.powers v p here in absurd (omega arith);
   }
 
-  abbrev Begins : List KeptUnit → List Done → Type 0
+  abbrev Begins : Kept → List Done → Type 0
   Begins kept front = IsRecordOf t kept
 
   raises_lead : Leads t values Begins (map Raise (power_places t)) (Settled t values (units_of t))
@@ -121,10 +120,10 @@ module _ (t : Topology) (values : Place → ℕ) (well : IsWellFormed t) (fed : 
 
   -- ---- each unit
 
-  module _ (kept : List KeptUnit) (done : List Done) (l : Lowered t values well fed 0 kept done) where
-    power_explained : (unit : Place) (w : ℕ) (p : PowerDef) → IsPowerAt t unit w p → told kept unit ≢ values unit → IsExplained t done unit
+  module _ (kept : Kept) (done : List Done) (l : Lowered t values well fed 0 kept done) where
+    power_explained : (unit : Place) (w : ℕ) (p : PowerDef) → IsPowerAt t unit w p → kept_value kept unit ≢ values unit → IsExplained t done unit
     power_explained unit w p at lags =
-        let differs : told kept (Node p.node) ≢ values (Node p.node) = λ same. lags (ap (told kept) at.is ∙ same ∙ ap values (sym at.is)) in
+        let differs : kept_value kept (Node p.node) ≢ values (Node p.node) = λ same. lags (ap (kept_value kept) at.is ∙ same ∙ ap values (sym at.is)) in
         let record_small = l.record_of.up_or_down w p at.here in
         let value_small = fed.up_or_down w p at.here in
         subst (IsExplained t done) (sym at.is)
@@ -141,9 +140,9 @@ module _ (t : Topology) (values : Place → ℕ) (well : IsWellFormed t) (fed : 
     each_explained unit has lags =
         elim (cases_Bool (is_power t unit)) [
           | inl power ↦ let at = power_place_of t unit power in power_explained unit at.0 at.1 at.2 lags
-          | inr other ↦ other_explained unit (l.settled unit has other lags)
+          | inr other ↦ other_explained unit (l.settled unit (listed-is t unit ∙ has) other lags)
         ]
 
   -- for any record and any answers
-  pub explained : (kept : List KeptUnit) (answers : List Bool) → IsRecordOf t kept → LagsAreExplained t values (plan t values (turns_of t) kept answers).kept (plan t values (turns_of t) kept answers).done
+  pub explained : (kept : Kept) (answers : List Bool) → IsRecordOf t kept → LagsAreExplained t values (plan t values (turns_of t) kept answers).kept (plan t values (turns_of t) kept answers).done
   explained kept answers record_of = each_explained _ _ (step_leads kept [] answers record_of)

@@ -1,5 +1,5 @@
 pub mod CarryLemmas
-pub mod CommandedLemmas
+pub mod CountLemmas
 pub mod ExplainedLaw
 pub mod MarksLemmas
 pub mod OrderLaw

@@ -1,17 +1,16 @@
 -- When a turn has a command, which one, and why a turn has none.
-use Rattle.std.proofs.Common.{◌≡◌, ◌≢◌, ℕ, ◌==◌, Bool, true, false, not, ◌&&◌, ◌||◌, Option, Some, None, List, refl, ap, sym, ◌∙◌}
+use Rattle.std.proofs.Common.{◌≡◌, ◌≢◌, ℕ, ◌==◌, Bool, true, false, not, ◌&&◌, ◌||◌, Option, Some, None, refl, ap, sym, ◌∙◌}
 use Rattle.std.specs.Prelude.{slice_get}
 use Rattle.std.proofs.lemmas.Bool.{and_parts, eqb-true, eq-eqb, ne_eqb, not-true, not_from_false, not-false}
+use Rattle.pm_topology.specs.Units.{needs_power, parent_of_unit}
 use Rattle.pm_base.specs.declared.names.Unit.{Unit as Place}
 use Rattle.pm_base.specs.declared.names.Unit.TheVariants.{Node}
 use Rattle.pm_base.specs.declared.names.Command.{Command}
 use Rattle.pm_topology.specs.declared.topology.Topology.{Topology}
 use Rattle.pm_topology.specs.declared.topology.PowerDef.{PowerDef}
-use Rattle.pm_core.specs.Fed.{needs_power}
-use Rattle.pm_apply.specs.declared.kept.KeptUnit.{KeptUnit}
 use Rattle.pm_apply.specs.declared.turns.Turn.TheVariants.{Raise, Settle, Lower}
-use Rattle.pm_apply.specs.Record.{told}
-use Rattle.pm_apply.specs.Plan.{due, raise, lower, where_due, command, is_fed, is_used, is_power, parent_of_unit}
+use Rattle.pm_apply.specs.Record.{Kept, kept_value}
+use Rattle.pm_apply.specs.Plan.{due, raise, lower, where_due, command, is_fed, is_used, is_power}
 
 -- ---- tests
 
@@ -39,14 +38,14 @@ not_met : (a b : Bool) → (not a || b) ≡ false → (a ≡ true) × (b ≡ fal
 not_met true b is = (refl, is)
 not_met false b is = cc
 
-module _ (t : Topology) (values : Place → ℕ) (kept : List KeptUnit) where
+module _ (t : Topology) (values : Place → ℕ) (kept : Kept) where
   -- ---- a power node goes up
 
   pub record Raises (w : ℕ) (c : Command) : Type 0 where
     pub power : PowerDef
     pub here : slice_get t.powers w ≡ Some power
     pub value : values (Node power.node) ≡ 1
-    pub told : told kept (Node power.node) ≡ 0
+    pub kept_value : kept_value kept (Node power.node) ≡ 0
     pub fed : is_fed t kept power.parent ≡ true
     pub is : c ≡ command (Node power.node) 1
 
@@ -55,12 +54,12 @@ module _ (t : Topology) (values : Place → ℕ) (kept : List KeptUnit) where
   raises_at w c (Some p) here is =
       let passed = due_where _ (command (Node p.node) 1) c is in
       let value = and_parts (values (Node p.node) == 1) _ passed.0 in
-      let rest = and_parts (told kept (Node p.node) == 0) (is_fed t kept p.parent) value.1 in
+      let rest = and_parts (kept_value kept (Node p.node) == 0) (is_fed t kept p.parent) value.1 in
       record {
         power = p;
         here = here;
         value = eqb-true (values (Node p.node)) 1 value.0;
-        told = eqb-true (told kept (Node p.node)) 0 rest.0;
+        kept_value = eqb-true (kept_value kept (Node p.node)) 0 rest.0;
         fed = rest.1;
         is = passed.1;
       }
@@ -70,18 +69,18 @@ module _ (t : Topology) (values : Place → ℕ) (kept : List KeptUnit) where
 
   -- where it should go up and doesn't, its parent is down in the record
   pub starves : (w : ℕ) (p : PowerDef) → slice_get t.powers w ≡ Some p → due t values kept (Raise w) ≡ None
-      → values (Node p.node) ≡ 1 → told kept (Node p.node) ≡ 0 → is_fed t kept p.parent ≡ false
-  starves w p here none value told_is =
+      → values (Node p.node) ≡ 1 → kept_value kept (Node p.node) ≡ 0 → is_fed t kept p.parent ≡ false
+  starves w p here none value kept_is =
       let stays : raise t values kept (Some p) ≡ None = ap (raise t values kept) (sym here) ∙ none in
-      third_fails (values (Node p.node) == 1) (told kept (Node p.node) == 0) (is_fed t kept p.parent)
+      third_fails (values (Node p.node) == 1) (kept_value kept (Node p.node) == 0) (is_fed t kept p.parent)
       (due_nowhere _ (command (Node p.node) 1) stays)
-      (eq-eqb (values (Node p.node)) 1 value) (eq-eqb (told kept (Node p.node)) 0 told_is)
+      (eq-eqb (values (Node p.node)) 1 value) (eq-eqb (kept_value kept (Node p.node)) 0 kept_is)
 
   -- ---- another unit takes its value
 
   pub record Settles (unit : Place) (c : Command) : Type 0 where
     pub other : is_power t unit ≡ false
-    pub differs : (told kept unit == values unit) ≡ false
+    pub differs : (kept_value kept unit == values unit) ≡ false
     pub fed : needs_power t unit (values unit) ≡ true → is_fed t kept (parent_of_unit t unit) ≡ true
     pub is : c ≡ command unit (values unit)
 
@@ -89,23 +88,23 @@ module _ (t : Topology) (values : Place → ℕ) (kept : List KeptUnit) where
   settles unit c is =
       let passed = due_where _ (command unit (values unit)) c is in
       let other = and_parts (not (is_power t unit)) _ passed.0 in
-      let differs = and_parts (not (told kept unit == values unit)) (not (needs_power t unit (values unit)) || is_fed t kept (parent_of_unit t unit)) other.1 in
+      let differs = and_parts (not (kept_value kept unit == values unit)) (not (needs_power t unit (values unit)) || is_fed t kept (parent_of_unit t unit)) other.1 in
       record {
         other = not-true (is_power t unit) other.0;
-        differs = not-true (told kept unit == values unit) differs.0;
+        differs = not-true (kept_value kept unit == values unit) differs.0;
         fed = asked (needs_power t unit (values unit)) (is_fed t kept (parent_of_unit t unit)) differs.1;
         is = passed.1;
       }
 
   -- where it should and doesn't, it needs power for that, and its parent is down in the record
-  pub waits : (unit : Place) → due t values kept (Settle unit) ≡ None → is_power t unit ≡ false → told kept unit ≢ values unit
+  pub waits : (unit : Place) → due t values kept (Settle unit) ≡ None → is_power t unit ≡ false → kept_value kept unit ≢ values unit
       → (needs_power t unit (values unit) ≡ true) × (is_fed t kept (parent_of_unit t unit) ≡ false)
   waits unit none other differs =
       not_met (needs_power t unit (values unit)) (is_fed t kept (parent_of_unit t unit))
-      (third_fails (not (is_power t unit)) (not (told kept unit == values unit)) _
+      (third_fails (not (is_power t unit)) (not (kept_value kept unit == values unit)) _
       (due_nowhere _ (command unit (values unit)) none)
       (not_from_false (is_power t unit) other)
-      (not_from_false (told kept unit == values unit) (ne_eqb (told kept unit) (values unit) differs)))
+      (not_from_false (kept_value kept unit == values unit) (ne_eqb (kept_value kept unit) (values unit) differs)))
 
   -- ---- a power node goes down
 
@@ -121,7 +120,7 @@ module _ (t : Topology) (values : Place → ℕ) (kept : List KeptUnit) where
   lowers_at w c (Some p) here is =
       let passed = due_where _ (command (Node p.node) 0) c is in
       let value = and_parts (values (Node p.node) == 0) _ passed.0 in
-      let rest = and_parts (told kept (Node p.node) == 1) (not (is_used t kept w)) value.1 in
+      let rest = and_parts (kept_value kept (Node p.node) == 1) (not (is_used t kept w)) value.1 in
       record {
         power = p;
         here = here;
@@ -135,10 +134,10 @@ module _ (t : Topology) (values : Place → ℕ) (kept : List KeptUnit) where
 
   -- where it should go down and doesn't, a unit directly below needs power by the record
   pub stays_used : (w : ℕ) (p : PowerDef) → slice_get t.powers w ≡ Some p → due t values kept (Lower w) ≡ None
-      → values (Node p.node) ≡ 0 → told kept (Node p.node) ≡ 1 → is_used t kept w ≡ true
-  stays_used w p here none value told_is =
+      → values (Node p.node) ≡ 0 → kept_value kept (Node p.node) ≡ 1 → is_used t kept w ≡ true
+  stays_used w p here none value kept_is =
       let stays : lower t values kept w (Some p) ≡ None = ap (lower t values kept w) (sym here) ∙ none in
       not-false (is_used t kept w)
-      (third_fails (values (Node p.node) == 0) (told kept (Node p.node) == 1) (not (is_used t kept w))
+      (third_fails (values (Node p.node) == 0) (kept_value kept (Node p.node) == 1) (not (is_used t kept w))
       (due_nowhere _ (command (Node p.node) 0) stays)
-      (eq-eqb (values (Node p.node)) 0 value) (eq-eqb (told kept (Node p.node)) 1 told_is))
+      (eq-eqb (values (Node p.node)) 0 value) (eq-eqb (kept_value kept (Node p.node)) 1 kept_is))

@@ -3,6 +3,7 @@ use Rattle.std.proofs.Common.{◌≡◌, ℕ, ◌==◌, true, false, Option, Som
 use Rattle.std.specs.Prelude.{slice_get}
 use Rattle.std.specs.Option.{option_map_or}
 use Rattle.std.proofs.lemmas.Bool.{not-false, eqb-true}
+use Rattle.pm_topology.specs.Units.{needs_power}
 use Rattle.pm_base.specs.declared.names.NodeId.{NodeId}
 use Rattle.pm_base.specs.declared.names.Unit.{Unit as Place}
 use Rattle.pm_base.specs.declared.names.Unit.TheVariants.{Node}
@@ -11,10 +12,9 @@ use Rattle.pm_topology.specs.declared.topology.PowerDef.{PowerDef}
 use Rattle.pm_topology.specs.Places.{parent_of, power_parent, IsAtOrAbove, higher}
 use Rattle.pm_topology.specs.WellFormed.{IsWellFormed}
 use Rattle.pm_core.specs.declared.outbox.Done.{Done}
-use Rattle.pm_core.specs.Fed.{needs_power, IsFed}
-use Rattle.pm_apply.specs.declared.kept.KeptUnit.{KeptUnit}
-use Rattle.pm_apply.specs.Record.{told}
-use Rattle.pm_apply.specs.Plan.{is_fed, power_told}
+use Rattle.pm_core.specs.Fed.{IsFed}
+use Rattle.pm_apply.specs.Record.{Kept, kept_value}
+use Rattle.pm_apply.specs.Plan.{is_fed, power_value}
 use Rattle.pm_apply.specs.Order.{FailedOn}
 use Rattle.pm_apply.proofs.OrdersUnits.{power_above}
 
@@ -53,25 +53,25 @@ fails_higher t done v u parent f = record { u = f.u; power = f.power; is = f.is;
 
 module _ (t : Topology) (values : Place → ℕ) where
   -- the power node above a node is down in the record and up by these values
-  pub record Waits (kept : List KeptUnit) (node : NodeId) : Type 0 where
+  pub record Waits (kept : Kept) (node : NodeId) : Type 0 where
     pub u : ℕ
     pub power : PowerDef
     pub above : parent_of t node ≡ Some u
     pub is : slice_get t.powers u ≡ Some power
     pub value : values (Node power.node) ≡ 1
-    pub down : told kept (Node power.node) ≡ 0
+    pub down : kept_value kept (Node power.node) ≡ 0
 
-  parent_down : (kept : List KeptUnit) (parent : Option ℕ) → is_fed t kept parent ≡ false → (u : ℕ) × (parent ≡ Some u) × (power_told t kept u ≡ 0)
+  parent_down : (kept : Kept) (parent : Option ℕ) → is_fed t kept parent ≡ false → (u : ℕ) × (parent ≡ Some u) × (power_value t kept u ≡ 0)
   parent_down kept None unfed = cc
-  parent_down kept (Some u) unfed = (u, refl, eqb-true (power_told t kept u) 0 (not-false (power_told t kept u == 0) unfed))
+  parent_down kept (Some u) unfed = (u, refl, eqb-true (power_value t kept u) 0 (not-false (power_value t kept u == 0) unfed))
 
   -- so it is where a node that needs power for its value has none by the record
-  pub waits_for : IsWellFormed t → IsFed t values → (kept : List KeptUnit) (node : NodeId)
+  pub waits_for : IsWellFormed t → IsFed t values → (kept : Kept) (node : NodeId)
       → needs_power t (Node node) (values (Node node)) ≡ true → is_fed t kept (parent_of t node) ≡ false → Waits kept node
   waits_for well fed kept node needs unfed =
       let down = parent_down kept (parent_of t node) unfed in
       let found = power_above t well node down.0 down.1 in
-      let same : power_told t kept down.0 ≡ told kept (Node found.0.node) = ap (λ got. option_map_or (λ (p : PowerDef). told kept (Node p.node)) got 0) found.1 in
+      let same : power_value t kept down.0 ≡ kept_value kept (Node found.0.node) = ap (λ got. option_map_or (λ (p : PowerDef). kept_value kept (Node p.node)) got 0) found.1 in
       record {
         u = down.0;
         power = found.0;

@@ -1,8 +1,8 @@
 -- Power nodes go down: one that should be down and isn't has a failed command on it or on a unit below it.
 use Rattle.std.proofs.Common.{◌≡◌, ◌≢◌, ℕ, ◌+◌, ◌≤◌, Bool, true, false, ◌&&◌, Option, Some, None, List, [], ◌∷◌, ◌++◌, map, refl, ap, sym, ◌∙◌, subst, arith, ◌⊎◌, inl, inr, zero, suc}
 use Rattle.std.specs.Prelude.{slice_get}
-use Rattle.std.specs.List.{list_any}
 use Rattle.std.proofs.lemmas.Bool.{cases_lt, cases_Bool, and_parts, both_ways, eqb-true, eqb-false, false_from_ne_true}
+use Rattle.pm_topology.specs.Units.{needs_power, parent_of_unit}
 use Rattle.pm_base.specs.declared.names.NodeId.{NodeId}
 use Rattle.pm_base.specs.declared.names.Unit.{Unit as Place}
 use Rattle.pm_base.specs.declared.names.Unit.TheVariants.{Node, Line}
@@ -12,17 +12,17 @@ use Rattle.pm_topology.specs.declared.topology.PowerDef.{PowerDef}
 use Rattle.pm_topology.specs.Places.{parent_of, parent_at, power_parent, IsAtOrAbove, IsBelow, here as at_it, higher}
 use Rattle.pm_topology.specs.WellFormed.{IsWellFormed}
 use Rattle.pm_core.specs.declared.outbox.Done.{Done}
-use Rattle.pm_core.specs.Fed.{needs_power, IsFed}
-use Rattle.pm_core.specs.Units.{units_of}
-use Rattle.pm_apply.specs.declared.kept.KeptUnit.{KeptUnit}
+use Rattle.pm_core.specs.Fed.{IsFed}
+use Rattle.pm_topology.specs.UnitMap.{units_in}
+use Rattle.pm_topology.specs.Units.{has_in, units_of}
 use Rattle.pm_apply.specs.declared.turns.Turn.TheVariants.{Lower}
-use Rattle.pm_apply.specs.Record.{is_of, told, IsRecordOf}
-use Rattle.pm_apply.specs.Plan.{due, done_as, after_answer, is_place, is_power, is_used, parent_of_unit}
-use Rattle.pm_apply.specs.Order.{has_unit, FailedOn}
+use Rattle.pm_apply.specs.Record.{Kept, kept_value, IsRecordOf}
+use Rattle.pm_apply.specs.Plan.{due, done_as, after_answer, is_place, is_power, is_used}
+use Rattle.pm_apply.specs.Order.{FailedOn}
 use Rattle.pm_apply.proofs.PlanLeads.{Leads, leads_none, leads_turn}
-use Rattle.pm_apply.proofs.RecordLemmas.{told_by, told_stays, was_refused}
+use Rattle.pm_apply.proofs.RecordLemmas.{kept_by, kept_stays, was_refused}
 use Rattle.pm_apply.proofs.RecordLaw.{has_cell_in, turn_keeps}
-use Rattle.pm_apply.proofs.OrdersUnits.{IsPowerAt, parent_of_power, passes_one, power_has_unit, power_is_power, power_kind, power_needs, power_place_of, stands_earlier}
+use Rattle.pm_apply.proofs.OrdersUnits.{is_listed, IsPowerAt, parent_of_power, passes_one, power_is_listed, power_is_power, power_kind, power_needs, power_place_of, stands_earlier}
 use Rattle.pm_apply.proofs.OrdersDue.{lowers, stays_used}
 use Rattle.pm_apply.proofs.OrdersFailed.{fails_before, failed_before, failed_last}
 use Rattle.pm_apply.proofs.OrdersSettle.{AllRaised, Lags, lags_before}
@@ -51,40 +51,40 @@ is_place_of w None is = cc
 is_place_of w (Some v) is = ap Some (eqb-true v w is)
 
 -- a node directly below a power node that needs power by the record
-record IsUser (t : Topology) (kept : List KeptUnit) (w : ℕ) : Type 0 where
+record IsUser (t : Topology) (kept : Kept) (w : ℕ) : Type 0 where
   node : NodeId
   above : parent_of t node ≡ Some w
-  needs : needs_power t (Node node) (told kept (Node node)) ≡ true
-  has : has_unit t (Node node) ≡ true
+  needs : needs_power t (Node node) (kept_value kept (Node node)) ≡ true
+  has : is_listed t (Node node) ≡ true
 
-user_at : (t : Topology) (kept : List KeptUnit) (w : ℕ) (unit : Place) → (is_place w (parent_of_unit t unit) && needs_power t unit (told kept unit)) ≡ true → has_unit t unit ≡ true → IsUser t kept w
+user_at : (t : Topology) (kept : Kept) (w : ℕ) (unit : Place) → (is_place w (parent_of_unit t unit) && needs_power t unit (kept_value kept unit)) ≡ true → is_listed t unit ≡ true → IsUser t kept w
 user_at t kept w (Line line) passes has = cc
 user_at t kept w (Node node) passes has =
-    let parts = and_parts (is_place w (parent_of t node)) (needs_power t (Node node) (told kept (Node node))) passes in
+    let parts = and_parts (is_place w (parent_of t node)) (needs_power t (Node node) (kept_value kept (Node node))) passes in
     record { node = node; above = is_place_of w (parent_of t node) parts.0; needs = parts.1; has = has }
 
-user_of : (t : Topology) (kept : List KeptUnit) (w : ℕ) → is_used t kept w ≡ true → IsUser t kept w
+user_of : (t : Topology) (kept : Kept) (w : ℕ) → is_used t kept w ≡ true → IsUser t kept w
 user_of t kept w used =
-    let found = passes_one (λ u. is_place w (parent_of_unit t u) && needs_power t u (told kept u)) (units_of t) used in
+    let found = passes_one (λ u. is_place w (parent_of_unit t u) && needs_power t u (kept_value kept u)) (units_of t) used in
     user_at t kept w found.0 found.1 found.2
 
 module _ (t : Topology) (values : Place → ℕ) (well : IsWellFormed t) (fed : IsFed t values) where
   -- each power node that should be up and each other unit is explained, and so is each power node from this place on that
   -- should be down
-  pub record Lowered (w : ℕ) (kept : List KeptUnit) (front : List Done) : Type 0 where
+  pub record Lowered (w : ℕ) (kept : Kept) (front : List Done) : Type 0 where
     pub record_of : IsRecordOf t kept
     pub raised : AllRaised t values kept front
-    pub settled : (x : Place) → has_unit t x ≡ true → is_power t x ≡ false → told kept x ≢ values x → Lags t values front x
-    pub lowered : (v : ℕ) (p : PowerDef) → w ≤ v → slice_get t.powers v ≡ Some p → values (Node p.node) ≡ 0 → told kept (Node p.node) ≡ 1 → FailsAtOrBelow t front v p
+    pub settled : (x : Place) → is_listed t x ≡ true → is_power t x ≡ false → kept_value kept x ≢ values x → Lags t values front x
+    pub lowered : (v : ℕ) (p : PowerDef) → w ≤ v → slice_get t.powers v ≡ Some p → values (Node p.node) ≡ 0 → kept_value kept (Node p.node) ≡ 1 → FailsAtOrBelow t front v p
 
-  module _ (w : ℕ) (kept : List KeptUnit) (front : List Done) (l : Lowered (w + 1) kept front) where
+  module _ (w : ℕ) (kept : Kept) (front : List Done) (l : Lowered (w + 1) kept front) where
     -- a user that is a power node should be down too: a command failed on it or below it
     used_by_power : (p : PowerDef) (node : NodeId) → parent_of t node ≡ Some w
-        → needs_power t (Node node) (told kept (Node node)) ≡ true → needs_power t (Node node) (values (Node node)) ≡ false
+        → needs_power t (Node node) (kept_value kept (Node node)) ≡ true → needs_power t (Node node) (values (Node node)) ≡ false
         → (v : ℕ) (q : PowerDef) → IsPowerAt t (Node node) v q → FailsAtOrBelow t front w p
     used_by_power p node above needs idle v q at =
         let is : node ≡ q.node = node_is at.is in
-        let up : told kept (Node q.node) ≡ 1 = eqb-true (told kept (Node q.node)) 1 (sym (power_needs t well v q (told kept (Node q.node)) at.here) ∙ ap (λ n. needs_power t (Node n) (told kept (Node n))) (sym is) ∙ needs) in
+        let up : kept_value kept (Node q.node) ≡ 1 = eqb-true (kept_value kept (Node q.node)) 1 (sym (power_needs t well v q (kept_value kept (Node q.node)) at.here) ∙ ap (λ n. needs_power t (Node n) (kept_value kept (Node n))) (sym is) ∙ needs) in
         let off : values (Node q.node) ≢ 1 = eqb-false (values (Node q.node)) 1 (sym (power_needs t well v q (values (Node q.node)) at.here) ∙ ap (λ n. needs_power t (Node n) (values (Node n))) (sym is) ∙ idle) in
         let small = fed.up_or_down v q at.here in
         let parent : power_parent t.powers v ≡ Some w = sym (ap (parent_at t) (power_kind t well v q at.here)) ∙ ap (parent_of t) (sym is) ∙ above in
@@ -103,17 +103,17 @@ module _ (t : Topology) (values : Place → ℕ) (well : IsWellFormed t) (fed : 
         node_is same = cc
 
     -- another user that needs no power for its value has had its command, which failed
-    used_by_other : (p : PowerDef) (node : NodeId) → parent_of t node ≡ Some w → has_unit t (Node node) ≡ true
-        → needs_power t (Node node) (told kept (Node node)) ≡ true → needs_power t (Node node) (values (Node node)) ≡ false
+    used_by_other : (p : PowerDef) (node : NodeId) → parent_of t node ≡ Some w → is_listed t (Node node) ≡ true
+        → needs_power t (Node node) (kept_value kept (Node node)) ≡ true → needs_power t (Node node) (values (Node node)) ≡ false
         → is_power t (Node node) ≡ false → FailsAtOrBelow t front w p
     used_by_other p node above has needs idle other =
-        let differs : told kept (Node node) ≢ values (Node node) = λ same. both_ways _ idle (ap (needs_power t (Node node)) (sym same) ∙ needs) in
+        let differs : kept_value kept (Node node) ≢ values (Node node) = λ same. both_ways _ idle (ap (needs_power t (Node node)) (sym same) ∙ needs) in
         elim (l.settled (Node node) has other differs) [
           | inl failed ↦ record { node = node; failed = failed; at = inr (w, above, at_it) }
           | inr starved ↦ absurd (both_ways _ idle starved.needs)
         ]
 
-    lower_skips : due t values kept (Lower w) ≡ None → (p : PowerDef) → slice_get t.powers w ≡ Some p → values (Node p.node) ≡ 0 → told kept (Node p.node) ≡ 1 → FailsAtOrBelow t front w p
+    lower_skips : due t values kept (Lower w) ≡ None → (p : PowerDef) → slice_get t.powers w ≡ Some p → values (Node p.node) ≡ 0 → kept_value kept (Node p.node) ≡ 1 → FailsAtOrBelow t front w p
     lower_skips none p here value up =
         let user = user_of t kept w (stays_used t values kept w p here none value up) in
         let idle : needs_power t (Node user.node) (values (Node user.node)) ≡ false =
@@ -152,13 +152,13 @@ module _ (t : Topology) (values : Place → ℕ) (well : IsWellFormed t) (fed : 
       value_is : c.value ≡ 0
       value_is = ap (λ (c : Command). c.value) (lowers t values kept w c is).is
 
-      has_cell : list_any (is_of c.unit) kept ≡ true
-      has_cell = has_cell_in t kept c.unit l.record_of (ap (has_unit t) unit ∙ power_has_unit t well w q here)
+      has_cell : has_in (units_in kept) c.unit ≡ true
+      has_cell = has_cell_in t kept c.unit l.record_of (ap (is_listed t) unit ∙ power_is_listed t well w q here)
 
       -- one that should be up and isn't wasn't before
       raised_still : AllRaised t values (after_answer c ok kept) (front ++ done_as c kept ok ∷ [])
       raised_still v p there value down =
-          elim (told_by c ok kept (Node p.node) has_cell) [
+          elim (kept_by c ok kept (Node p.node) has_cell) [
             | inl stays ↦ fails_before t front (done_as c kept ok ∷ []) v (l.raised v p there value (sym stays ∙ down))
             | inr now ↦
                 let same : values (Node p.node) ≡ values (Node q.node) = ap values (sym now.0 ∙ unit) in
@@ -166,25 +166,25 @@ module _ (t : Topology) (values : Place → ℕ) (well : IsWellFormed t) (fed : 
                 absurd (omega arith)
           ]
 
-      settled_still : (x : Place) → has_unit t x ≡ true → is_power t x ≡ false → told (after_answer c ok kept) x ≢ values x → Lags t values (front ++ done_as c kept ok ∷ []) x
+      settled_still : (x : Place) → is_listed t x ≡ true → is_power t x ≡ false → kept_value (after_answer c ok kept) x ≢ values x → Lags t values (front ++ done_as c kept ok ∷ []) x
       settled_still x has other differs =
           let apart : c.unit ≡ x → ⊥ = λ same. both_ways (is_power t x) other (ap (is_power t) (sym same ∙ unit) ∙ power_is_power t well w q here) in
-          lags_before t values front (done_as c kept ok ∷ []) x (l.settled x has other (λ same. differs (told_stays c ok kept x apart ∙ same)))
+          lags_before t values front (done_as c kept ok ∷ []) x (l.settled x has other (λ same. differs (kept_stays c ok kept x apart ∙ same)))
 
       -- the power node is down then, or its command failed
-      lower_fails : (p : PowerDef) → slice_get t.powers w ≡ Some p → told (after_answer c ok kept) (Node p.node) ≡ 1 → FailsAtOrBelow t (front ++ done_as c kept ok ∷ []) w p
+      lower_fails : (p : PowerDef) → slice_get t.powers w ≡ Some p → kept_value (after_answer c ok kept) (Node p.node) ≡ 1 → FailsAtOrBelow t (front ++ done_as c kept ok ∷ []) w p
       lower_fails p there up =
           let found : Some q ≡ Some p = sym here ∙ there in
           let same : q ≡ p = cc in
           let at : c.unit ≡ Node p.node = unit ∙ ap (λ (p : PowerDef). Node p.node) same in
-          let off : told (after_answer c ok kept) c.unit ≡ c.value → ⊥ = λ is. let on : told (after_answer c ok kept) (Node p.node) ≡ c.value = ap (told (after_answer c ok kept)) (sym at) ∙ is in absurd (omega (arith, value_is)) in
+          let off : kept_value (after_answer c ok kept) c.unit ≡ c.value → ⊥ = λ is. let on : kept_value (after_answer c ok kept) (Node p.node) ≡ c.value = ap (kept_value (after_answer c ok kept)) (sym at) ∙ is in absurd (omega (arith, value_is)) in
           record { node = p.node; failed = failed_last front (done_as c kept ok) (Node p.node) at (was_refused c ok kept has_cell off); at = inl refl }
 
-      lowered_still : (v : ℕ) (p : PowerDef) → w ≤ v → slice_get t.powers v ≡ Some p → values (Node p.node) ≡ 0 → told (after_answer c ok kept) (Node p.node) ≡ 1 → FailsAtOrBelow t (front ++ done_as c kept ok ∷ []) v p
+      lowered_still : (v : ℕ) (p : PowerDef) → w ≤ v → slice_get t.powers v ≡ Some p → values (Node p.node) ≡ 0 → kept_value (after_answer c ok kept) (Node p.node) ≡ 1 → FailsAtOrBelow t (front ++ done_as c kept ok ∷ []) v p
       lowered_still v p from there value up =
           elim (cases_lt w v) [
             | inl later ↦
-                elim (told_by c ok kept (Node p.node) has_cell) [
+                elim (kept_by c ok kept (Node p.node) has_cell) [
                   | inl stays ↦ lower_before t front (done_as c kept ok ∷ []) v p (l.lowered v p (omega arith) there value (sym stays ∙ up))
                   | inr now ↦ absurd (omega (arith, value_is, now.2))
                 ]
@@ -207,5 +207,5 @@ module _ (t : Topology) (values : Place → ℕ) (well : IsWellFormed t) (fed : 
       leads_turn t values (Lowered (suc n)) (Lowered n) (Lowered 0) (Lower n) (map Lower (downs n))
       (λ kept front l. lowered_none n kept front (next n kept front l)) (λ kept front l. lowered_some n kept front (next n kept front l)) (lower_all n)
     where
-      next : (n : ℕ) (kept : List KeptUnit) (front : List Done) → Lowered (suc n) kept front → Lowered (n + 1) kept front
+      next : (n : ℕ) (kept : Kept) (front : List Done) → Lowered (suc n) kept front → Lowered (n + 1) kept front
       next n kept front l = record { record_of = l.record_of; raised = l.raised; settled = l.settled; lowered = λ v p from. l.lowered v p (omega arith) }

@@ -12,18 +12,17 @@ use Rattle.pm_topology.specs.declared.topology.Topology.{Topology}
 use Rattle.pm_topology.specs.declared.topology.PowerDef.{PowerDef}
 use Rattle.pm_topology.specs.Places.{parent_of}
 use Rattle.pm_topology.specs.WellFormed.{IsWellFormed}
-use Rattle.pm_device.specs.Device.{same_unit}
+use Rattle.pm_topology.specs.Units.{needs_power, parent_of_unit, same_unit}
 use Rattle.pm_core.specs.declared.outbox.Done.{Done}
-use Rattle.pm_core.specs.Fed.{needs_power, IsFed}
-use Rattle.pm_apply.specs.declared.kept.KeptUnit.{KeptUnit}
+use Rattle.pm_core.specs.Fed.{IsFed}
 use Rattle.pm_apply.specs.declared.turns.Turn.TheVariants.{Settle}
-use Rattle.pm_apply.specs.Record.{told, IsRecordOf}
-use Rattle.pm_apply.specs.Plan.{due, done_as, after_answer, is_fed, is_power, parent_of_unit}
-use Rattle.pm_apply.specs.Order.{has_unit, FailedOn}
+use Rattle.pm_apply.specs.Record.{Kept, kept_value, IsRecordOf}
+use Rattle.pm_apply.specs.Plan.{due, done_as, after_answer, is_fed, is_power}
+use Rattle.pm_apply.specs.Order.{FailedOn}
 use Rattle.pm_apply.proofs.PlanLeads.{Leads, leads_none, leads_turn}
-use Rattle.pm_apply.proofs.RecordLemmas.{same_unit-true, same_unit-refl, told_stays, was_refused}
+use Rattle.pm_apply.proofs.RecordLemmas.{same_unit-true, same_unit-refl, kept_stays, was_refused}
 use Rattle.pm_apply.proofs.RecordLaw.{has_cell_in, turn_keeps}
-use Rattle.pm_apply.proofs.OrdersUnits.{power_is_power}
+use Rattle.pm_apply.proofs.OrdersUnits.{is_listed, power_is_power}
 use Rattle.pm_apply.proofs.OrdersDue.{settles, waits}
 use Rattle.pm_apply.proofs.OrdersFailed.{FailsAtOrAbove, fails_before, failed_before, failed_last, waits_for}
 
@@ -53,19 +52,19 @@ module _ (t : Topology) (values : Place → ℕ) where
   })
 
   -- each power node that should be up and isn't has a failed command on it or above it
-  abbrev pub AllRaised : List KeptUnit → List Done → Type 0
-  AllRaised kept front = (v : ℕ) (p : PowerDef) → slice_get t.powers v ≡ Some p → values (Node p.node) ≡ 1 → told kept (Node p.node) ≡ 0 → FailsAtOrAbove t front v
+  abbrev pub AllRaised : Kept → List Done → Type 0
+  AllRaised kept front = (v : ℕ) (p : PowerDef) → slice_get t.powers v ≡ Some p → values (Node p.node) ≡ 1 → kept_value kept (Node p.node) ≡ 0 → FailsAtOrAbove t front v
 
   -- so it is, and each unit that is no power node, has had its turn and isn't at its value lags for such a reason
-  pub record Settled (rest : List Place) (kept : List KeptUnit) (front : List Done) : Type 0 where
+  pub record Settled (rest : List Place) (kept : Kept) (front : List Done) : Type 0 where
     pub record_of : IsRecordOf t kept
-    pub among : (x : Place) → list_any (λ u. same_unit u x) rest ≡ true → has_unit t x ≡ true
+    pub among : (x : Place) → list_any (λ u. same_unit u x) rest ≡ true → is_listed t x ≡ true
     pub raised : AllRaised kept front
-    pub settled : (x : Place) → has_unit t x ≡ true → is_power t x ≡ false → told kept x ≢ values x → list_any (λ u. same_unit u x) rest ≡ false → Lags front x
+    pub settled : (x : Place) → is_listed t x ≡ true → is_power t x ≡ false → kept_value kept x ≢ values x → list_any (λ u. same_unit u x) rest ≡ false → Lags front x
 
 module _ (t : Topology) (values : Place → ℕ) (well : IsWellFormed t) (fed : IsFed t values) where
   -- a unit that needs power and has none by the record
-  starved : (kept : List KeptUnit) (front : List Done) (unit : Place) → AllRaised t values kept front
+  starved : (kept : Kept) (front : List Done) (unit : Place) → AllRaised t values kept front
       → needs_power t unit (values unit) ≡ true → is_fed t kept (parent_of_unit t unit) ≡ false → IsStarved t values front unit
   starved kept front (Line line) raised needs unfed = cc
   starved kept front (Node node) raised needs unfed =
@@ -79,7 +78,7 @@ module _ (t : Topology) (values : Place → ℕ) (well : IsWellFormed t) (fed : 
         failed = raised waits.u waits.power waits.is waits.value waits.down;
       }
 
-  module _ (u : Place) (rest : List Place) (kept : List KeptUnit) (front : List Done) (s : Settled t values (u ∷ rest) kept front) where
+  module _ (u : Place) (rest : List Place) (kept : Kept) (front : List Done) (s : Settled t values (u ∷ rest) kept front) where
     settled_none : due t values kept (Settle u) ≡ None → Settled t values rest kept front
     settled_none none = record {
       record_of = s.record_of;
@@ -88,7 +87,7 @@ module _ (t : Topology) (values : Place → ℕ) (well : IsWellFormed t) (fed : 
       settled = λ x has other lags off. by_turn x (same_unit u x) refl has other lags off;
     }
       where
-        by_turn : (x : Place) (same : Bool) → same_unit u x ≡ same → has_unit t x ≡ true → is_power t x ≡ false → told kept x ≢ values x → list_any (λ u. same_unit u x) rest ≡ false → Lags t values front x
+        by_turn : (x : Place) (same : Bool) → same_unit u x ≡ same → is_listed t x ≡ true → is_power t x ≡ false → kept_value kept x ≢ values x → list_any (λ u. same_unit u x) rest ≡ false → Lags t values front x
         by_turn x false is has other lags off = s.settled x has other lags (or_from (same_unit u x) _ is off)
         by_turn x true is has other lags off =
             let at = same_unit-true u x is in
@@ -101,7 +100,7 @@ module _ (t : Topology) (values : Place → ℕ) (well : IsWellFormed t) (fed : 
       among = λ x is. s.among x (or_right (same_unit u x) _ is);
       raised = λ v p here value down.
           fails_before t front (done_as c kept ok ∷ []) v
-          (s.raised v p here value (sym (told_stays c ok kept (Node p.node) (not_power v p here)) ∙ down));
+          (s.raised v p here value (sym (kept_stays c ok kept (Node p.node) (not_power v p here)) ∙ down));
       settled = λ x has other lags off. by_turn x (same_unit u x) refl has other lags off;
     }
       where
@@ -116,16 +115,16 @@ module _ (t : Topology) (values : Place → ℕ) (well : IsWellFormed t) (fed : 
             both_ways (is_power t u) (settles t values kept u c is).other
             (ap (is_power t) (sym unit ∙ same) ∙ power_is_power t well v p here)
 
-        by_turn : (x : Place) (same : Bool) → same_unit u x ≡ same → has_unit t x ≡ true → is_power t x ≡ false → told (after_answer c ok kept) x ≢ values x → list_any (λ u. same_unit u x) rest ≡ false → Lags t values (front ++ done_as c kept ok ∷ []) x
+        by_turn : (x : Place) (same : Bool) → same_unit u x ≡ same → is_listed t x ≡ true → is_power t x ≡ false → kept_value (after_answer c ok kept) x ≢ values x → list_any (λ u. same_unit u x) rest ≡ false → Lags t values (front ++ done_as c kept ok ∷ []) x
         by_turn x false is has other lags off =
             let apart : c.unit ≡ x → ⊥ = λ same. both_ways (same_unit u x) is (ap (same_unit u) (sym (sym unit ∙ same)) ∙ same_unit-refl u) in
-            let before : told kept x ≢ values x = λ same. lags (told_stays c ok kept x apart ∙ same) in
+            let before : kept_value kept x ≢ values x = λ same. lags (kept_stays c ok kept x apart ∙ same) in
             lags_before t values front (done_as c kept ok ∷ []) x (s.settled x has other before (or_from (same_unit u x) _ is off))
         by_turn x true is has other lags off =
             let at : c.unit ≡ x = unit ∙ same_unit-true u x is in
             let wants : c.value ≡ values x = value ∙ ap values (same_unit-true u x is) in
-            let cell = has_cell_in t kept c.unit s.record_of (ap (has_unit t) at ∙ has) in
-            let fails = was_refused c ok kept cell (λ same. lags (ap (told (after_answer c ok kept)) (sym at) ∙ same ∙ wants)) in
+            let cell = has_cell_in t kept c.unit s.record_of (ap (is_listed t) at ∙ has) in
+            let fails = was_refused c ok kept cell (λ same. lags (ap (kept_value (after_answer c ok kept)) (sym at) ∙ same ∙ wants)) in
             inl (failed_last front (done_as c kept ok) x at fails)
 
   pub settle_all : (units : List Place) → Leads t values (Settled t values units) (map Settle units) (Settled t values [])

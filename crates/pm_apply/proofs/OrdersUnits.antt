@@ -1,10 +1,9 @@
 -- The units of a chip: each node that has a place in its lists is one, and a power node is known by its number.
-use Rattle.std.proofs.Common.{◌≡◌, ℕ, ◌<◌, ◌==◌, Bool, true, false, ◌||◌, cond, nat_le, Option, Some, List, [], ◌∷◌, ◌++◌, length, map, refl, ap, sym, ◌∙◌, subst, arith, IfSome, inl, inr}
+use Rattle.std.proofs.Common.{◌≡◌, ℕ, ◌<◌, ◌==◌, Bool, true, false, Option, Some, List, [], ◌∷◌, length, refl, ap, sym, ◌∙◌, subst, arith, IfSome, inl, inr}
 use Rattle.std.specs.Prelude.{slice_get, option_and_then}
 use Rattle.std.specs.List.{list_any}
 use Rattle.std.specs.Option.{option_map}
 use Rattle.std.proofs.lemmas.Bool.{eq-eqb, or_left, or_right, or_cases, or_parts}
-use Rattle.std.proofs.lemmas.List.Folds.{list_any-append}
 use Rattle.std.proofs.lemmas.Option.{slice_get_within, slice_get_cases}
 use Rattle.pm_base.specs.declared.names.NodeId.{NodeId}
 use Rattle.pm_base.specs.declared.names.Unit.{Unit as Place}
@@ -19,99 +18,38 @@ use Rattle.pm_topology.specs.Places.{kind_of, parent_of, parent_at, IsKind}
 use Rattle.pm_topology.specs.WellFormed.{IsWellFormed}
 use Rattle.pm_topology.proofs.KindLaw.{kind_of_is, kind_alone}
 use Rattle.pm_topology.proofs.Entries.{present_from}
-use Rattle.pm_device.specs.Device.{same_unit}
-use Rattle.pm_core.specs.Units.{put_in_order, put_all, in_order, node_numbers, line_numbers, node_unit, line_unit}
-use Rattle.pm_core.specs.Fed.{needs_power, kind_needs_power}
+use Rattle.pm_topology.specs.Units.{has_unit, kind_needs_power, needs_power, same_unit}
+use Rattle.pm_topology.specs.FirstFault.{has_power, has_proc}
+use Rattle.pm_topology.specs.Units.{units_of}
+use Rattle.pm_topology.proofs.UnitsLaw.{units_of-has}
 use Rattle.pm_apply.specs.Plan.{is_power, is_power_kind}
-use Rattle.pm_apply.specs.Order.{has_unit}
 use Rattle.pm_apply.proofs.RecordLemmas.{same_unit-true, same_unit-refl, same_node}
-
--- ---- numbers in order
-
-or_swap : (a b c : Bool) → (b || (a || c)) ≡ (a || (b || c))
-or_swap true true c = refl
-or_swap true false c = refl
-or_swap false true c = refl
-or_swap false false c = refl
-
-or_turn : (a b c : Bool) → ((b || a) || c) ≡ (a || (b || c))
-or_turn true true c = refl
-or_turn true false c = refl
-or_turn false true c = refl
-or_turn false false c = refl
-
-module _ (q : ℕ → Bool) where
-  put_any : (least : Bool) (n x : ℕ) (xs put : List ℕ)
-      → list_any q put ≡ (q n || list_any q xs)
-      → list_any q (cond least (n ∷ x ∷ xs) (x ∷ put)) ≡ (q n || (q x || list_any q xs))
-  put_any true n x xs put is = refl
-  put_any false n x xs put is = ap (λ b. q x || b) is ∙ or_swap (q n) (q x) (list_any q xs)
-
-  -- a number put in its place is there, with the others
-  any_put : (xs : List ℕ) (n : ℕ) → list_any q (put_in_order xs n) ≡ (q n || list_any q xs)
-  any_put [] n = refl
-  any_put (x ∷ xs) n = put_any (nat_le n x) n x xs (put_in_order xs n) (any_put xs n)
-
-  any_put_all : (numbers sorted : List ℕ) → list_any q (put_all sorted numbers) ≡ (list_any q sorted || list_any q numbers)
-  any_put_all [] sorted = or_false (list_any q sorted)
-    where
-      or_false : (b : Bool) → b ≡ (b || false)
-      or_false true = refl
-      or_false false = refl
-  any_put_all (n ∷ numbers) sorted =
-      any_put_all numbers (put_in_order sorted n)
-      ∙ ap (λ b. b || list_any q numbers) (any_put sorted n)
-      ∙ or_turn (list_any q sorted) (q n) (list_any q numbers)
-
-  any_in_order : (numbers : List ℕ) → list_any q (in_order numbers) ≡ list_any q numbers
-  any_in_order numbers = any_put_all numbers []
-
-any-map : {X Y : Type 0} (q : Y → Bool) (f : X → Y) (xs : List X) → list_any q (map f xs) ≡ list_any (λ x. q (f x)) xs
-any-map q f [] = refl
-any-map q f (x ∷ xs) = ap (λ b. q (f x) || b) (any-map q f xs)
 
 -- ---- the units
 
+-- the unit is in the list of the chip's units
+abbrev pub is_listed : Topology → Place → Bool
+is_listed t unit = list_any (λ u. same_unit u unit) (units_of t)
+
+-- exactly the units of the chip are
+pub listed-is : (t : Topology) (unit : Place) → is_listed t unit ≡ has_unit t unit
+listed-is t unit = units_of-has t unit
+
 module _ (t : Topology) where
-  abbrev slave_numbers : List ℕ
-  slave_numbers = map (λ s. s.node.0) t.slaves
-
-  abbrev proc_numbers : List ℕ
-  proc_numbers = map (λ p. p.node.0) t.procs
-
-  abbrev power_numbers : List ℕ
-  power_numbers = map (λ p. p.node.0) t.powers
-
-  -- a node that has a kind is among the numbers of the nodes
-  is_numbered : (node : NodeId) (kind : Kind) → IsKind t node kind → (kind ≡ Unknown → ⊥) → list_any (λ n. n == node.0) (node_numbers t) ≡ true
-  is_numbered node (Slave k) is known =
-      let q : ℕ → Bool = λ n. n == node.0 in
-      list_any-append q slave_numbers (proc_numbers ++ power_numbers)
-      ∙ or_left _ _ (any-map q (λ s. s.node.0) t.slaves ∙ present_from (λ s. q s.node.0) t.slaves k is.0 is.1 (eq-eqb is.0.node.0 node.0 is.2))
-  is_numbered node (Proc k) is known =
-      let q : ℕ → Bool = λ n. n == node.0 in
-      list_any-append q slave_numbers (proc_numbers ++ power_numbers)
-      ∙ or_right (list_any q slave_numbers) _
-      (list_any-append q proc_numbers power_numbers
-      ∙ or_left _ _ (any-map q (λ p. p.node.0) t.procs ∙ present_from (λ p. q p.node.0) t.procs k is.0 is.1 (eq-eqb is.0.node.0 node.0 is.2)))
-  is_numbered node (Power k) is known =
-      let q : ℕ → Bool = λ n. n == node.0 in
-      list_any-append q slave_numbers (proc_numbers ++ power_numbers)
-      ∙ or_right (list_any q slave_numbers) _
-      (list_any-append q proc_numbers power_numbers
-      ∙ or_right (list_any q proc_numbers) _ (any-map q (λ p. p.node.0) t.powers ∙ present_from (λ p. q p.node.0) t.powers k is.0 is.1 (eq-eqb is.0.node.0 node.0 is.2)))
-  is_numbered node Unknown is known = absurd (known refl)
-
-  has_unit_of : (node : NodeId) → list_any (λ n. n == node.0) (node_numbers t) ≡ true → has_unit t (Node node) ≡ true
-  has_unit_of node has =
-      let u : Place → Bool = λ u. same_unit u (Node node) in
-      list_any-append u (map node_unit (in_order (node_numbers t))) (map line_unit (in_order (line_numbers t)))
-      ∙ or_left _ _ (any-map u node_unit (in_order (node_numbers t)) ∙ any_in_order (λ n. n == node.0) (node_numbers t) ∙ has)
+  -- a node that has a kind is a unit
+  is_known : (node : NodeId) (kind : Kind) → IsKind t node kind → (kind ≡ Unknown → ⊥) → has_unit t (Node node) ≡ true
+  is_known node (Slave k) is known =
+      or_right (has_power node.0 t.powers) _ (or_right (has_proc node.0 t.procs) _ (present_from (λ (s : SlaveDef). s.node.0 == node.0) t.slaves k is.0 is.1 (eq-eqb is.0.node.0 node.0 is.2)))
+  is_known node (Proc k) is known =
+      or_right (has_power node.0 t.powers) _ (or_left _ _ (present_from (λ (p : ProcDef). p.node.0 == node.0) t.procs k is.0 is.1 (eq-eqb is.0.node.0 node.0 is.2)))
+  is_known node (Power k) is known =
+      or_left _ _ (present_from (λ (p : PowerDef). p.node.0 == node.0) t.powers k is.0 is.1 (eq-eqb is.0.node.0 node.0 is.2))
+  is_known node Unknown is known = absurd (known refl)
 
   -- a node with a power node above it is a unit
-  pub has_unit_below : (node : NodeId) (w : ℕ) → parent_of t node ≡ Some w → has_unit t (Node node) ≡ true
-  has_unit_below node w above =
-      has_unit_of node (is_numbered node (kind_of t node) (kind_of_is t node) (λ unknown. let none = ap (parent_at t) unknown in cc))
+  pub listed_below : (node : NodeId) (w : ℕ) → parent_of t node ≡ Some w → is_listed t (Node node) ≡ true
+  listed_below node w above =
+      listed-is t (Node node) ∙ is_known node (kind_of t node) (kind_of_is t node) (λ unknown. let none = ap (parent_at t) unknown in cc)
 
   entry_at : {X : Type 0} (xs : List X) (k : ℕ) → k < length xs → (x : X) × (slice_get xs k ≡ Some x)
   entry_at xs k within =
@@ -166,9 +104,9 @@ module _ (t : Topology) where
   pub power_needs : IsWellFormed t → (w : ℕ) (p : PowerDef) (value : ℕ) → slice_get t.powers w ≡ Some p → needs_power t (Node p.node) value ≡ (value == 1)
   power_needs well w p value here = ap (λ kind. kind_needs_power t kind value) (power_kind well w p here)
 
-  pub power_has_unit : IsWellFormed t → (w : ℕ) (p : PowerDef) → slice_get t.powers w ≡ Some p → has_unit t (Node p.node) ≡ true
-  power_has_unit well w p here =
-      has_unit_of p.node (is_numbered p.node (Power w) (p, here, refl) (λ unknown. cc))
+  pub power_is_listed : IsWellFormed t → (w : ℕ) (p : PowerDef) → slice_get t.powers w ≡ Some p → is_listed t (Node p.node) ≡ true
+  power_is_listed well w p here =
+      listed-is t (Node p.node) ∙ is_known p.node (Power w) (p, here, refl) (λ unknown. cc)
 
   -- where a power node stands, and that the unit is that one
   pub record IsPowerAt (unit : Place) (w : ℕ) (p : PowerDef) : Type 0 where

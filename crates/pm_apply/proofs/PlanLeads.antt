@@ -4,17 +4,17 @@ use Rattle.pm_base.specs.declared.names.Unit.{Unit as Place}
 use Rattle.pm_base.specs.declared.names.Command.{Command}
 use Rattle.pm_topology.specs.declared.topology.Topology.{Topology}
 use Rattle.pm_core.specs.declared.outbox.Done.{Done}
-use Rattle.pm_apply.specs.declared.kept.KeptUnit.{KeptUnit}
+use Rattle.pm_apply.specs.Record.{Kept}
 use Rattle.pm_apply.specs.declared.turns.Turn.{Turn}
 use Rattle.pm_apply.specs.Plan.{plan, due, take_turn, before, done_as, after_answer, next_answer, later_answers, Carried}
 use Rattle.pm_apply.proofs.PlanLemmas.{behind}
 
 -- what may hold of the record and of the commands so far
 abbrev pub Fact : Type 1
-Fact = List KeptUnit → List Done → Type 0
+Fact = Kept → List Done → Type 0
 
-turn_parts : (command : Option Command) (kept : List KeptUnit) (answers : List Bool) (first whole others : List KeptUnit → List Bool → Carried)
-    → ((kept : List KeptUnit) (answers : List Bool) → (later : List Bool) × (whole kept answers ≡ behind (first kept answers).done (others (first kept answers).kept later)))
+turn_parts : (command : Option Command) (kept : Kept) (answers : List Bool) (first whole others : Kept → List Bool → Carried)
+    → ((kept : Kept) (answers : List Bool) → (later : List Bool) × (whole kept answers ≡ behind (first kept answers).done (others (first kept answers).kept later)))
     → (later : List Bool) × (take_turn command kept answers whole ≡ behind (take_turn command kept answers first).done (others (take_turn command kept answers first).kept later))
 turn_parts None kept answers first whole others next = next kept answers
 turn_parts (Some c) kept answers first whole others next =
@@ -23,7 +23,7 @@ turn_parts (Some c) kept answers first whole others next =
 
 module _ (t : Topology) (values : Place → ℕ) where
   -- the plan of some turns and others is that of the first and, with the answers that are left, that of the others
-  pub plan-parts : (turns others : List Turn) (kept : List KeptUnit) (answers : List Bool)
+  pub plan-parts : (turns others : List Turn) (kept : Kept) (answers : List Bool)
       → (later : List Bool) × (plan t values (turns ++ others) kept answers ≡ behind (plan t values turns kept answers).done (plan t values others (plan t values turns kept answers).kept later))
   plan-parts [] others kept answers = (answers, refl)
   plan-parts (turn ∷ turns) others kept answers =
@@ -31,17 +31,17 @@ module _ (t : Topology) (values : Place → ℕ) where
 
   -- where the one holds before these turns, the other holds after them
   abbrev pub Leads : Fact → List Turn → Fact → Type 0
-  Leads I turns F = (kept : List KeptUnit) (front : List Done) (answers : List Bool) → I kept front → F (plan t values turns kept answers).kept (front ++ (plan t values turns kept answers).done)
+  Leads I turns F = (kept : Kept) (front : List Done) (answers : List Bool) → I kept front → F (plan t values turns kept answers).kept (front ++ (plan t values turns kept answers).done)
 
-  pub leads_none : (I F : Fact) → ((kept : List KeptUnit) (front : List Done) → I kept front → F kept front) → Leads I [] F
+  pub leads_none : (I F : Fact) → ((kept : Kept) (front : List Done) → I kept front → F kept front) → Leads I [] F
   leads_none I F now kept front answers holds =
       subst (F kept) (sym (append-nil front)) (now kept front holds)
 
   module _ (I M F : Fact) where
-    leads_through : (turn : Turn) (command : Option Command) (kept : List KeptUnit) (front : List Done) (answers : List Bool) (later : List KeptUnit → List Bool → Carried)
+    leads_through : (turn : Turn) (command : Option Command) (kept : Kept) (front : List Done) (answers : List Bool) (later : Kept → List Bool → Carried)
         → (due t values kept turn ≡ None → M kept front)
         → ((c : Command) (ok : Bool) → due t values kept turn ≡ Some c → M (after_answer c ok kept) (front ++ done_as c kept ok ∷ []))
-        → ((kept : List KeptUnit) (front : List Done) (answers : List Bool) → M kept front → F (later kept answers).kept (front ++ (later kept answers).done))
+        → ((kept : Kept) (front : List Done) (answers : List Bool) → M kept front → F (later kept answers).kept (front ++ (later kept answers).done))
         → due t values kept turn ≡ command
         → F (take_turn command kept answers later).kept (front ++ (take_turn command kept answers later).done)
     leads_through turn None kept front answers later skips issues next is = next kept front answers (skips is)
@@ -54,8 +54,8 @@ module _ (t : Topology) (values : Place → ℕ) where
 
     -- a turn that has no command, and one that has one, with either answer
     pub leads_turn : (turn : Turn) (turns : List Turn)
-        → ((kept : List KeptUnit) (front : List Done) → I kept front → due t values kept turn ≡ None → M kept front)
-        → ((kept : List KeptUnit) (front : List Done) → I kept front → (c : Command) (ok : Bool) → due t values kept turn ≡ Some c → M (after_answer c ok kept) (front ++ done_as c kept ok ∷ []))
+        → ((kept : Kept) (front : List Done) → I kept front → due t values kept turn ≡ None → M kept front)
+        → ((kept : Kept) (front : List Done) → I kept front → (c : Command) (ok : Bool) → due t values kept turn ≡ Some c → M (after_answer c ok kept) (front ++ done_as c kept ok ∷ []))
         → Leads M turns F
         → Leads I (turn ∷ turns) F
     leads_turn turn turns skips issues next kept front answers holds =

@@ -6,12 +6,12 @@ use Rattle.pm_base.specs.declared.names.Unit.{Unit as Place}
 use Rattle.pm_base.specs.declared.names.Command.{Command}
 use Rattle.pm_topology.specs.declared.topology.Topology.{Topology}
 use Rattle.pm_core.specs.declared.outbox.Done.{Done}
-use Rattle.pm_apply.specs.declared.kept.KeptUnit.{KeptUnit}
+use Rattle.pm_apply.specs.Record.{Kept}
 use Rattle.pm_apply.specs.declared.turns.Turn.{Turn}
 use Rattle.pm_apply.specs.Plan.{plan, due, take_turn, before, done_as, after_answer, next_answer, later_answers, answers_of, Carried}
-use Rattle.pm_apply.specs.Order.{recorded}
+use Rattle.pm_apply.proofs.RecordLemmas.{recorded}
 
-abbrev pub carried : List Done → List KeptUnit → Carried
+abbrev pub carried : List Done → Kept → Carried
 carried done kept = record { done = done; kept = kept }
 
 -- what was done, and behind it what a plan comes to
@@ -19,11 +19,11 @@ abbrev pub behind : List Done → Carried → Carried
 behind done carried = record carried { done = done ++ carried.done }
 
 -- the parts of a plan that begins with a command
-pub record BeginsWith (d : Done) (done : List Done) (after : List KeptUnit) (first : Done) (later : Carried) : Type 0 where
+pub record BeginsWith (d : Done) (done : List Done) (after : Kept) (first : Done) (later : Carried) : Type 0 where
   pub command : first ≡ d
   pub rest : later ≡ record { done = done; kept = after }
 
-begins_with : (d : Done) (done : List Done) (after : List KeptUnit) (first : Done) (later : Carried)
+begins_with : (d : Done) (done : List Done) (after : Kept) (first : Done) (later : Carried)
     → before first later ≡ record { done = d ∷ done; kept = after }
     → BeginsWith d done after first later
 begins_with d done after first later is =
@@ -40,8 +40,8 @@ answers_of-append [] back = refl
 answers_of-append (d ∷ front) back = ap (λ answers. d.ok ∷ answers) (answers_of-append front back)
 
 -- one turn, where what comes later goes on like that
-turn_behind : (command : Option Command) (kept after : List KeptUnit) (done : List Done) (rest : List Bool) (first whole : List KeptUnit → List Bool → Carried) (others : Carried)
-    → ((kept : List KeptUnit) (done : List Done) → first kept (answers_of done) ≡ record { done = done; kept = after } → whole kept (answers_of done ++ rest) ≡ behind done others)
+turn_behind : (command : Option Command) (kept after : Kept) (done : List Done) (rest : List Bool) (first whole : Kept → List Bool → Carried) (others : Carried)
+    → ((kept : Kept) (done : List Done) → first kept (answers_of done) ≡ record { done = done; kept = after } → whole kept (answers_of done ++ rest) ≡ behind done others)
     → take_turn command kept (answers_of done) first ≡ record { done = done; kept = after }
     → take_turn command kept (answers_of done ++ rest) whole ≡ behind done others
 turn_behind None kept after done rest first whole others next is = next kept done is
@@ -55,7 +55,7 @@ turn_behind (Some c) kept after (d ∷ done) rest first whole others next is =
 module _ (t : Topology) (values : Place → ℕ) where
   -- some turns whose plan used up exactly these answers, and others after them: these begin with the record that the first
   -- left, and with the answers that are left
-  pub plan-behind : (turns others : List Turn) (kept after : List KeptUnit) (done : List Done) (rest : List Bool)
+  pub plan-behind : (turns others : List Turn) (kept after : Kept) (done : List Done) (rest : List Bool)
       → plan t values turns kept (answers_of done) ≡ record { done = done; kept = after }
       → plan t values (turns ++ others) kept (answers_of done ++ rest) ≡ behind done (plan t values others after rest)
   plan-behind [] others kept after done rest is =
@@ -68,7 +68,7 @@ module _ (t : Topology) (values : Place → ℕ) where
       (λ kept done. plan-behind turns others kept after done rest) is
 
   -- the plan of some turns and then others, each of which used up exactly its answers
-  pub plan-append : (turns others : List Turn) (kept middle after : List KeptUnit) (front back : List Done)
+  pub plan-append : (turns others : List Turn) (kept middle after : Kept) (front back : List Done)
       → plan t values turns kept (answers_of front) ≡ record { done = front; kept = middle }
       → plan t values others middle (answers_of back) ≡ record { done = back; kept = after }
       → plan t values (turns ++ others) kept (answers_of (front ++ back)) ≡ record { done = front ++ back; kept = after }
@@ -77,62 +77,51 @@ module _ (t : Topology) (values : Place → ℕ) where
       ∙ plan-behind turns others kept middle front (answers_of back) first
       ∙ ap (behind front) second
 
-  turn_used : (command : Option Command) (kept : List KeptUnit) (answers : List Bool) (later : List KeptUnit → List Bool → Carried)
-      → ((kept : List KeptUnit) (answers : List Bool) → later kept (answers_of (later kept answers).done) ≡ later kept answers)
+  turn_used : (command : Option Command) (kept : Kept) (answers : List Bool) (later : Kept → List Bool → Carried)
+      → ((kept : Kept) (answers : List Bool) → later kept (answers_of (later kept answers).done) ≡ later kept answers)
       → take_turn command kept (answers_of (take_turn command kept answers later).done) later ≡ take_turn command kept answers later
   turn_used None kept answers later next = next kept answers
   turn_used (Some c) kept answers later next =
       ap (before (done_as c kept (next_answer answers))) (next (after_answer c (next_answer answers) kept) (later_answers answers))
 
   -- a plan depends only on the answers of its own commands
-  pub plan-used : (turns : List Turn) (kept : List KeptUnit) (answers : List Bool)
+  pub plan-used : (turns : List Turn) (kept : Kept) (answers : List Bool)
       → plan t values turns kept (answers_of (plan t values turns kept answers).done) ≡ plan t values turns kept answers
   plan-used [] kept answers = refl
   plan-used (turn ∷ turns) kept answers =
       turn_used (due t values kept turn) kept answers (plan t values turns) (plan-used turns)
 
   -- the record after a plan is the record once its commands were done
-  turn_recorded : (command : Option Command) (kept : List KeptUnit) (answers : List Bool) (later : List KeptUnit → List Bool → Carried)
-      → ((kept : List KeptUnit) (answers : List Bool) → (later kept answers).kept ≡ recorded kept (later kept answers).done)
+  turn_recorded : (command : Option Command) (kept : Kept) (answers : List Bool) (later : Kept → List Bool → Carried)
+      → ((kept : Kept) (answers : List Bool) → (later kept answers).kept ≡ recorded kept (later kept answers).done)
       → (take_turn command kept answers later).kept ≡ recorded kept (take_turn command kept answers later).done
   turn_recorded None kept answers later next = next kept answers
   turn_recorded (Some c) kept answers later next = next (after_answer c (next_answer answers) kept) (later_answers answers)
 
-  pub plan-recorded : (turns : List Turn) (kept : List KeptUnit) (answers : List Bool)
+  pub plan-recorded : (turns : List Turn) (kept : Kept) (answers : List Bool)
       → (plan t values turns kept answers).kept ≡ recorded kept (plan t values turns kept answers).done
   plan-recorded [] kept answers = refl
   plan-recorded (turn ∷ turns) kept answers =
       turn_recorded (due t values kept turn) kept answers (plan t values turns) (plan-recorded turns)
 
 -- this holds of each command, with the record as it stands before it
-abbrev pub Along : (List KeptUnit → Done → Type 0) → List KeptUnit → List Done → Type 0
+abbrev pub Along : (Kept → Done → Type 0) → Kept → List Done → Type 0
 Along P kept [] = Unit {0}
 Along P kept (d ∷ done) = P kept d × Along P (after_answer d.command d.ok kept) done
 
--- so it holds at each point, with the record once the commands before it were done
-pub along_at : (P : List KeptUnit → Done → Type 0) (front : List Done) (d : Done) (back done : List Done) (kept : List KeptUnit)
-    → done ≡ front ++ d ∷ back → Along P kept done → P (recorded kept front) d
-along_at P front d back done kept is along =
-    let Q : List Done → Type 0 = λ done. Along P kept done in
-    along_front front kept (subst Q is along)
-  where
-    along_front : (front : List Done) (kept : List KeptUnit) → Along P kept (front ++ d ∷ back) → P (recorded kept front) d
-    along_front [] kept along = along.0
-    along_front (f ∷ front) kept along = along_front front (after_answer f.command f.ok kept) along.1
-
 -- it holds along a plan where it holds of the command of each turn
-module _ (t : Topology) (values : Place → ℕ) (P : List KeptUnit → Done → Type 0) (q : Turn → Bool)
-    (each : (turn : Turn) (kept : List KeptUnit) (c : Command) (ok : Bool) → q turn ≡ true → due t values kept turn ≡ Some c → P kept (done_as c kept ok)) where
-  turn_along : (turn : Turn) (command : Option Command) (kept : List KeptUnit) (answers : List Bool) (later : List KeptUnit → List Bool → Carried)
+module _ (t : Topology) (values : Place → ℕ) (P : Kept → Done → Type 0) (q : Turn → Bool)
+    (each : (turn : Turn) (kept : Kept) (c : Command) (ok : Bool) → q turn ≡ true → due t values kept turn ≡ Some c → P kept (done_as c kept ok)) where
+  turn_along : (turn : Turn) (command : Option Command) (kept : Kept) (answers : List Bool) (later : Kept → List Bool → Carried)
       → q turn ≡ true
       → due t values kept turn ≡ command
-      → ((kept : List KeptUnit) (answers : List Bool) → Along P kept (later kept answers).done)
+      → ((kept : Kept) (answers : List Bool) → Along P kept (later kept answers).done)
       → Along P kept (take_turn command kept answers later).done
   turn_along turn None kept answers later is none next = next kept answers
   turn_along turn (Some c) kept answers later is some next =
       (each turn kept c (next_answer answers) is some, next (after_answer c (next_answer answers) kept) (later_answers answers))
 
-  pub along_plan : (turns : List Turn) (kept : List KeptUnit) (answers : List Bool)
+  pub along_plan : (turns : List Turn) (kept : Kept) (answers : List Bool)
       → list_all q turns ≡ true → Along P kept (plan t values turns kept answers).done
   along_plan [] kept answers all = tt
   along_plan (turn ∷ turns) kept answers all =

@@ -1,4 +1,5 @@
-pub mod Record
-pub mod Plan
-pub mod Order
 pub mod Carried
+pub mod Order
+pub mod Part
+pub mod Plan
+pub mod Record

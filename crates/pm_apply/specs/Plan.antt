@@ -1,4 +1,4 @@
--- The commands of a step: what a device is told so that it follows the book, and what it was told after that.
+-- The commands of a step: what makes a device follow the book, under its answers, and the record that they leave.
 use Rattle.std.specs.Prelude.{ℕ, ◌==◌, Bool, true, false, not, ◌&&◌, ◌||◌, if◌then◌else◌, Option, Some, None, List, [], ◌∷◌, ◌++◌, length, map, reverse, slice_get}
 use Rattle.std.specs.List.{list_any, range_with_len}
 use Rattle.std.specs.Option.{option_map_or}
@@ -9,14 +9,13 @@ use Rattle.pm_topology.specs.declared.topology.Topology.{Topology}
 use Rattle.pm_topology.specs.declared.topology.PowerDef.{PowerDef}
 use Rattle.pm_topology.specs.declared.places.Kind.{Kind}
 use Rattle.pm_topology.specs.declared.places.Kind.TheVariants.{Power}
-use Rattle.pm_topology.specs.Places.{kind_of, parent_of}
+use Rattle.pm_topology.specs.Places.{kind_of}
+use Rattle.pm_topology.specs.Units.{needs_power, parent_of_unit}
 use Rattle.pm_core.specs.declared.outbox.Done.{Done}
-use Rattle.pm_core.specs.Fed.{needs_power}
-use Rattle.pm_core.specs.Units.{units_of}
-use Rattle.pm_apply.specs.declared.kept.KeptUnit.{KeptUnit}
+use Rattle.pm_topology.specs.Units.{units_of}
 use Rattle.pm_apply.specs.declared.turns.Turn.{Turn}
 use Rattle.pm_apply.specs.declared.turns.Turn.TheVariants.{Raise, Settle, Lower}
-use Rattle.pm_apply.specs.Record.{told, with_told}
+use Rattle.pm_apply.specs.Record.{Kept, keep, kept_value}
 
 -- ---- the order
 
@@ -32,25 +31,21 @@ turns_of t = map Raise (power_places t) ++ (map Settle (units_of t) ++ map Lower
 -- ---- one turn
 
 -- the unit of the power node at a place, where there is one
-abbrev pub power_told : Topology → List KeptUnit → ℕ → ℕ
-power_told t kept w = option_map_or (λ (p : PowerDef). told kept (Node p.node)) (slice_get t.powers w) 0
+abbrev pub power_value : Topology → Kept → ℕ → ℕ
+power_value t kept w = option_map_or (λ (p : PowerDef). kept_value kept (Node p.node)) (slice_get t.powers w) 0
 
 -- by the record the power node above is up, or there is none above
-abbrev pub is_fed : Topology → List KeptUnit → Option ℕ → Bool
+abbrev pub is_fed : Topology → Kept → Option ℕ → Bool
 is_fed t kept None = true
-is_fed t kept (Some w) = not (power_told t kept w == 0)
-
-abbrev pub parent_of_unit : Topology → Place → Option ℕ
-parent_of_unit t (Node node) = parent_of t node
-parent_of_unit t (Line line) = None
+is_fed t kept (Some w) = not (power_value t kept w == 0)
 
 abbrev pub is_place : ℕ → Option ℕ → Bool
 is_place w None = false
 is_place w (Some v) = v == w
 
 -- by the record some unit directly below the power node at a place needs power
-abbrev pub is_used : Topology → List KeptUnit → ℕ → Bool
-is_used t kept w = list_any (λ u. is_place w (parent_of_unit t u) && needs_power t u (told kept u)) (units_of t)
+abbrev pub is_used : Topology → Kept → ℕ → Bool
+is_used t kept w = list_any (λ u. is_place w (parent_of_unit t u) && needs_power t u (kept_value kept u)) (units_of t)
 
 abbrev pub is_power_kind : Kind → Bool
 is_power_kind (Power w) = true
@@ -68,23 +63,23 @@ where_due true c = Some c
 where_due false c = None
 
 -- a power node that is up in the book and down in the record goes up, unless its parent is down in the record
-abbrev pub raise : Topology → (Place → ℕ) → List KeptUnit → Option PowerDef → Option Command
+abbrev pub raise : Topology → (Place → ℕ) → Kept → Option PowerDef → Option Command
 raise t values kept None = None
-raise t values kept (Some p) = where_due ((values (Node p.node) == 1) && ((told kept (Node p.node) == 0) && is_fed t kept p.parent)) (command (Node p.node) 1)
+raise t values kept (Some p) = where_due ((values (Node p.node) == 1) && ((kept_value kept (Node p.node) == 0) && is_fed t kept p.parent)) (command (Node p.node) 1)
 
 -- a unit that is no power node takes the book's value where the record differs, unless that value needs power and the
 -- parent is down in the record
-abbrev pub settle : Topology → (Place → ℕ) → List KeptUnit → Place → Option Command
-settle t values kept unit = where_due (not (is_power t unit) && (not (told kept unit == values unit) && (not (needs_power t unit (values unit)) || is_fed t kept (parent_of_unit t unit)))) (command unit (values unit))
+abbrev pub settle : Topology → (Place → ℕ) → Kept → Place → Option Command
+settle t values kept unit = where_due (not (is_power t unit) && (not (kept_value kept unit == values unit) && (not (needs_power t unit (values unit)) || is_fed t kept (parent_of_unit t unit)))) (command unit (values unit))
 
 -- a power node that is down in the book and up in the record goes down, unless by the record a unit directly below
 -- needs power
-abbrev pub lower : Topology → (Place → ℕ) → List KeptUnit → ℕ → Option PowerDef → Option Command
+abbrev pub lower : Topology → (Place → ℕ) → Kept → ℕ → Option PowerDef → Option Command
 lower t values kept w None = None
-lower t values kept w (Some p) = where_due ((values (Node p.node) == 0) && ((told kept (Node p.node) == 1) && not (is_used t kept w))) (command (Node p.node) 0)
+lower t values kept w (Some p) = where_due ((values (Node p.node) == 0) && ((kept_value kept (Node p.node) == 1) && not (is_used t kept w))) (command (Node p.node) 0)
 
 -- the command of a turn, if there is one: from the book's values and the record
-abbrev pub due : Topology → (Place → ℕ) → List KeptUnit → Turn → Option Command
+abbrev pub due : Topology → (Place → ℕ) → Kept → Turn → Option Command
 due t values kept (Raise w) = raise t values kept (slice_get t.powers w)
 due t values kept (Settle unit) = settle t values kept unit
 due t values kept (Lower w) = lower t values kept w (slice_get t.powers w)
@@ -94,17 +89,17 @@ due t values kept (Lower w) = lower t values kept w (slice_get t.powers w)
 -- the commands that were issued, each with the record before it and its answer, and the record after them
 pub record Carried : Type 0 where
   pub done : List Done
-  pub kept : List KeptUnit
+  pub kept : Kept
 
 -- the record once a command was answered
-abbrev pub after_answer : Command → Bool → List KeptUnit → List KeptUnit
-after_answer c ok kept = if ok then with_told c.unit c.value kept else kept
+abbrev pub after_answer : Command → Bool → Kept → Kept
+after_answer c ok kept = if ok then keep c.unit c.value kept else kept
 
 abbrev pub before : Done → Carried → Carried
 before d carried = record carried { done = d ∷ carried.done }
 
-abbrev pub done_as : Command → List KeptUnit → Bool → Done
-done_as c kept ok = record { command = c; from = told kept c.unit; ok = ok }
+abbrev pub done_as : Command → Kept → Bool → Done
+done_as c kept ok = record { command = c; from = kept_value kept c.unit; ok = ok }
 
 -- the next answer; one that isn't given is a yes
 abbrev pub next_answer : List Bool → Bool
@@ -116,12 +111,12 @@ later_answers [] = []
 later_answers (ok ∷ answers) = answers
 
 -- a turn, and what comes later; it takes an answer where it has a command
-abbrev pub take_turn : Option Command → List KeptUnit → List Bool → (List KeptUnit → List Bool → Carried) → Carried
+abbrev pub take_turn : Option Command → Kept → List Bool → (Kept → List Bool → Carried) → Carried
 take_turn None kept answers later = later kept answers
 take_turn (Some c) kept answers later = before (done_as c kept (next_answer answers)) (later (after_answer c (next_answer answers) kept) (later_answers answers))
 
 -- the commands of these turns under these answers of the device, in order
-abbrev pub plan : Topology → (Place → ℕ) → List Turn → List KeptUnit → List Bool → Carried
+abbrev pub plan : Topology → (Place → ℕ) → List Turn → Kept → List Bool → Carried
 plan t values [] kept answers = record { done = []; kept = kept }
 plan t values (turn ∷ turns) kept answers = take_turn (due t values kept turn) kept answers (plan t values turns)
 

@@ -1,56 +1,59 @@
--- The record: what the device was last told with success, for each unit.
-use Rattle.std.specs.Prelude.{◌≡◌, ℕ, ◌≤◌, ◌==◌, Bool, false, not, if◌then◌else◌, List, map, find, slice_get, Some}
-use Rattle.std.specs.Option.{option_map_or}
+-- The record: the kept value of each unit, which is the one that the device last took for it.
+use Rattle.std.specs.Prelude.{◌≡◌, ℕ, ◌≤◌, ◌==◌, Bool, false, not, List, unwrap_or, slice_get, Some}
 use Rattle.pm_base.specs.declared.names.Unit.{Unit as Place}
 use Rattle.pm_base.specs.declared.names.Unit.TheVariants.{Node}
 use Rattle.pm_topology.specs.declared.topology.Topology.{Topology}
 use Rattle.pm_topology.specs.declared.topology.PowerDef.{PowerDef}
-use Rattle.pm_device.specs.Device.{same_unit, DeviceMoment}
-use Rattle.pm_core.specs.Units.{units_of}
-use Rattle.pm_apply.specs.declared.kept.KeptUnit.{KeptUnit}
+use Rattle.pm_topology.specs.Units.{units_of}
+use Rattle.pm_topology.specs.UnitMap.{all_at, mapped, units_in, value_of, with_value}
+use Rattle.pm_device.specs.Device.{DeviceMoment}
+use Rattle.pm_apply.specs.declared.kept.KeptValue.{KeptValue}
 
-abbrev pub is_of : Place → KeptUnit → Bool
-is_of unit cell = same_unit cell.unit unit
+-- the kept values of all units
+abbrev pub Kept : Type 0
+Kept = List (Place × KeptValue)
 
--- the value of a unit in the record, and 0 for a unit that isn't there
-abbrev pub told : List KeptUnit → Place → ℕ
-told kept unit = option_map_or (λ (cell : KeptUnit). cell.value) (find (is_of unit) kept) 0
+-- a unit that stands at 0 and doesn't lag
+abbrev pub idle : KeptValue
+idle = record { value = 0; lags = false }
+
+-- what is kept of a unit, and of one that isn't there as of an idle one
+abbrev pub kept_of : Kept → Place → KeptValue
+kept_of kept unit = unwrap_or (value_of kept unit) idle
+
+-- the kept value of a unit, and 0 for a unit that isn't there
+abbrev pub kept_value : Kept → Place → ℕ
+kept_value kept unit = (kept_of kept unit).value
 
 -- whether a unit lags, and not so for a unit that isn't there
-abbrev pub lags_in : List KeptUnit → Place → Bool
-lags_in kept unit = option_map_or (λ (cell : KeptUnit). cell.lags) (find (is_of unit) kept) false
+abbrev pub lags_in : Kept → Place → Bool
+lags_in kept unit = (kept_of kept unit).lags
 
--- the record once a unit was told a value
-abbrev pub tell : Place → ℕ → KeptUnit → KeptUnit
-tell unit value cell = if is_of unit cell then record cell { value = value } else cell
-
-abbrev pub with_told : Place → ℕ → List KeptUnit → List KeptUnit
-with_told unit value kept = map (tell unit value) kept
+-- the record once the device took a value for a unit; nothing changes for one that isn't there
+abbrev pub keep : Place → ℕ → Kept → Kept
+keep unit value kept = with_value unit (record { value = value; lags = lags_in kept unit }) kept
 
 -- the record with a mark at exactly the units whose value isn't this one
-abbrev pub mark : (Place → ℕ) → KeptUnit → KeptUnit
-mark values cell = record cell { lags = not (cell.value == values cell.unit) }
+abbrev pub mark : (Place → ℕ) → Place → KeptValue → KeptValue
+mark values unit kept = record kept { lags = not (kept.value == values unit) }
 
-abbrev pub marked : (Place → ℕ) → List KeptUnit → List KeptUnit
-marked values kept = map (mark values) kept
+abbrev pub marked : (Place → ℕ) → Kept → Kept
+marked values kept = mapped (mark values) kept
 
--- at first the device was told nothing: all stands at 0, and nothing lags
-abbrev pub untold : Place → KeptUnit
-untold unit = record { unit = unit; value = 0; lags = false }
-
-abbrev pub first_record : Topology → List KeptUnit
-first_record t = map untold (units_of t)
+-- at first each unit of the chip stands at 0, and none lags
+abbrev pub at_zero : Topology → Kept
+at_zero t = all_at idle (units_of t)
 
 -- a record in which all stands at 0, also a unit that isn't there, and nothing lags
-pub record IsUntold (kept : List KeptUnit) : Type 0 where
-  pub values : (unit : Place) → told kept unit ≡ 0
+pub record IsAtZero (kept : Kept) : Type 0 where
+  pub values : (unit : Place) → kept_value kept unit ≡ 0
   pub marks : (unit : Place) → lags_in kept unit ≡ false
 
 -- a record of the units of this chip, in which each power node is up or down
-pub record IsRecordOf (t : Topology) (kept : List KeptUnit) : Type 0 where
-  pub units : map (λ cell. cell.unit) kept ≡ units_of t
-  pub up_or_down : (w : ℕ) (power : PowerDef) → slice_get t.powers w ≡ Some power → told kept (Node power.node) ≤ 1
+pub record IsRecordOf (t : Topology) (kept : Kept) : Type 0 where
+  pub units : units_in kept ≡ units_of t
+  pub up_or_down : (w : ℕ) (power : PowerDef) → slice_get t.powers w ≡ Some power → kept_value kept (Node power.node) ≤ 1
 
 -- the device stands as the record says
-abbrev pub StandsAs : List KeptUnit → DeviceMoment → Type 0
-StandsAs kept moment = (unit : Place) → moment.value unit ≡ told kept unit
+abbrev pub StandsAs : Kept → DeviceMoment → Type 0
+StandsAs kept moment = (unit : Place) → moment.value unit ≡ kept_value kept unit

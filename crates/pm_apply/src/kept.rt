@@ -1,61 +1,60 @@
-//! The record of what a device was last told with success.
+//! The record: the value that a device last took for each unit.
 
-ghost use Rattle.std.specs.Prelude.{◌≡◌, IfOk, find, map};
+ghost use Rattle.std.specs.Prelude.{◌≡◌, IfOk, IfSome, slice_get};
+ghost use Rattle.pm_topology.specs.UnitMap.{with_value_at};
 ghost use Rattle.pm_core.specs.Values.{value};
 ghost use Rattle.pm_apply.specs.Plan.{after_answer};
-ghost use Rattle.pm_apply.specs.Record.{IsRecordOf, IsUntold, first_record, is_of, lags_in, mark, marked, tell, told, untold, with_told};
+ghost use Rattle.pm_apply.specs.Record.{IsAtZero, IsRecordOf, at_zero, idle, keep, kept_of, kept_value, lags_in, mark, marked};
 
 use pm_base::{Command, NoMemory, Unit};
-use pm_core::{Book, units_of};
-use pm_topology::Topology;
+use pm_core::Book;
+use pm_topology::{Topology, UnitMap};
 use std::alloc::Global;
 use std::marker::Model;
 
-/// A unit, the value that the device last took for it, and whether that differs from the book's.
+/// The value that the device last took for a unit, and whether that differs from the book's.
 #[derive(Clone, Copy, Debug, PartialEq, Eq)]
-pub struct KeptUnit {
-    pub unit: Unit,
+pub struct KeptValue {
     pub value: u32,
     pub lags: bool,
 }
 
-/// What a device was last told with success, for each unit. Contracts see the list of the units.
+/// The value that a device last took for each unit. Contracts see the list of the units.
 #[derive(Drop)]
 pub struct Kept {
-    cells: Vec<KeptUnit>,
+    values: UnitMap<KeptValue>,
 }
 
 impl Model for Kept {
     ghost use Rattle.std.specs.Prelude.{List};
-    ghost use Rattle.pm_apply.specs.declared.kept.KeptUnit.{KeptUnit};
+    ghost use Rattle.pm_base.specs.declared.names.Unit.{Unit};
+    ghost use Rattle.pm_apply.specs.declared.kept.KeptValue.{KeptValue};
 
-    ghost Value = { List KeptUnit };
+    ghost Value = { List (Unit × KeptValue) };
 
-    ghost view = { λ kept. kept.cells.items };
+    ghost view = { λ kept. kept.values };
 }
 
 impl Kept {
-    /// The record of a device that was told nothing yet: each unit of the chip stands at 0, and none
-    /// lags.
+    /// The record of a device that took nothing yet: each unit of the chip stands at 0, and none lags.
     ///
     /// # Errors
     ///
     /// `NoMemory` where there is not enough memory.
     pub fn load(alloc: Global, t: &Topology) -> Result<Kept, NoMemory>
-        ensures first { IfOk result (λ kept. kept ≡ first_record t.now) }
+        ensures first { IfOk result (λ kept. kept ≡ at_zero t.now) }
         ensures record { IfOk result (IsRecordOf t.now) }
-        ensures nothing { IfOk result IsUntold }
+        ensures idle { IfOk result IsAtZero }
     {
-        let units = units_of(alloc, t)?;
-        let cells = untold_all(alloc, units.as_slice())?;
-        Ok(Kept { cells })
+        let values = UnitMap::load(alloc, t, idle())?;
+        Ok(Kept { values })
     }
 
     /// The value that the device last took for a unit, and 0 for a unit that isn't there.
     pub fn value(&self, unit: Unit) -> u32
-        ensures { result ≡ told self.now unit }
+        ensures { result ≡ kept_value self.now unit }
     {
-        cell_of(&self.cells, unit).map_or(0, |cell| cell.value)
+        kept_of(&self.values, unit).value
     }
 
     /// Whether the value that the device last took for a unit wasn't the book's after the last step,
@@ -63,7 +62,7 @@ impl Kept {
     pub fn lags(&self, unit: Unit) -> bool
         ensures { result ≡ lags_in self.now unit }
     {
-        cell_of(&self.cells, unit).map_or(false, |cell| cell.lags)
+        kept_of(&self.values, unit).lags
     }
 
     /// Takes down what a device answered to a command.
@@ -71,7 +70,7 @@ impl Kept {
         ensures { self.new ≡ after_answer command ok self.old }
     {
         if ok {
-            tell_all(&mut self.cells, command);
+            keep(&mut self.values, command);
         }
     }
 
@@ -79,71 +78,64 @@ impl Kept {
     pub(crate) fn mark(&mut self, book: &Book)
         ensures { self.new ≡ marked (λ u. value u book.now) self.old }
     {
-        mark_all(&mut self.cells, book);
+        mark_all(&mut self.values, book);
     }
 }
 
-fn untold_all(alloc: Global, units: &[Unit]) -> Result<Vec<KeptUnit>, NoMemory>
-    ensures { IfOk result (λ cells. cells.items ≡ map untold units.now) }
+/// A unit that stands at 0 and doesn't lag.
+fn idle() -> KeptValue
+    ensures { result ≡ idle }
 {
-    let mut cells = Vec::new(alloc);
-    for unit in units {
-        cells.push(untold(*unit)).map_err(|_| NoMemory)?;
-    }
-    Ok(cells)
-}
-
-fn untold(unit: Unit) -> KeptUnit
-    ensures { result ≡ untold unit }
-{
-    KeptUnit {
-        unit,
+    KeptValue {
         value: 0,
         lags: false,
     }
 }
 
-/// The first unit of the record that is this one.
-fn cell_of(cells: &[KeptUnit], unit: Unit) -> Option<KeptUnit>
-    ensures { result ≡ find (is_of unit) cells.now }
+/// What is kept of a unit, and of one that isn't there as of an idle one.
+fn kept_of(values: &UnitMap<KeptValue>, unit: Unit) -> KeptValue
+    ensures { result ≡ kept_of values.now unit }
 {
-    cells.iter().copied().find(|cell| cell.unit == unit)
+    values.get(unit).unwrap_or(idle())
 }
 
-fn tell_all(cells: &mut [KeptUnit], command: Command)
-    ensures { cells.new ≡ with_told command.unit command.value cells.old }
+/// Keeps the value of a command for its unit. Nothing changes where the unit isn't there.
+fn keep(values: &mut UnitMap<KeptValue>, command: Command)
+    ensures { values.new ≡ keep command.unit command.value values.old }
 {
-    for cell in cells.iter_mut() {
-        *cell = told_to(*cell, command);
-    }
-}
-
-fn told_to(cell: KeptUnit, command: Command) -> KeptUnit
-    ensures { result ≡ tell command.unit command.value cell }
-{
-    if cell.unit == command.unit {
-        KeptUnit {
+    let kept = kept_of(values, command.unit);
+    values.set(
+        command.unit,
+        KeptValue {
             value: command.value,
-            ..cell
-        }
-    } else {
-        cell
+            ..kept
+        },
+    );
+}
+
+fn mark_all(values: &mut UnitMap<KeptValue>, book: &Book)
+    ensures { values.new ≡ marked (λ u. value u book.now) values.old }
+{
+    for place in 0..values.len() {
+        mark_at(values, place, book);
     }
 }
 
-fn mark_all(cells: &mut [KeptUnit], book: &Book)
-    ensures { cells.new ≡ marked (λ u. value u book.now) cells.old }
+/// Marks the unit at a place exactly where its value isn't the book's.
+fn mark_at(values: &mut UnitMap<KeptValue>, place: usize, book: &Book)
+    ensures { IfSome (slice_get values.old place) (λ e. values.new
+        ≡ with_value_at place (mark (λ u. value u book.now) e.0 e.1) values.old) }
 {
-    for cell in cells.iter_mut() {
-        *cell = marked_by(*cell, book);
+    if let Some((unit, kept)) = values.entry(place) {
+        values.set_at(place, mark(unit, kept, book));
     }
 }
 
-fn marked_by(cell: KeptUnit, book: &Book) -> KeptUnit
-    ensures { result ≡ mark (λ u. value u book.now) cell }
+fn mark(unit: Unit, kept: KeptValue, book: &Book) -> KeptValue
+    ensures { result ≡ mark (λ u. value u book.now) unit kept }
 {
-    KeptUnit {
-        lags: cell.value != book.value(cell.unit),
-        ..cell
+    KeptValue {
+        lags: kept.value != book.value(unit),
+        ..kept
     }
 }

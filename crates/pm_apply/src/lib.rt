@@ -4,11 +4,10 @@
 
 mod commands;
 mod kept;
-mod needs;
-#[cfg(test)]
-mod tests;
+mod laws;
 mod turns;
 
 pub use commands::carry;
-pub use kept::{Kept, KeptUnit};
+pub use kept::{Kept, KeptValue};
+pub use laws::{a_part_without_refusal, at_zero_is_a_record, each_part_is_safe, orders_join};
 pub use turns::Turn;

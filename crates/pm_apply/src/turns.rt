@@ -1,17 +1,18 @@
 //! The turns of a step: each may issue one command.
 
-ghost use Rattle.std.specs.Prelude.{◌≡◌, ◌==◌, ◌&&◌, ◌||◌, not, slice_get, Some};
+ghost use Rattle.std.specs.Prelude.{◌≡◌, ◌<◌, ◌==◌, ◌&&◌, ◌||◌, not, length, slice_get, Some};
 ghost use Rattle.pm_base.specs.declared.names.Unit.TheVariants.{Node};
-ghost use Rattle.pm_core.specs.Fed.{needs_power};
+ghost use Rattle.pm_topology.specs.WellFormed.{IsWellFormed};
+ghost use Rattle.pm_topology.specs.Units.{needs_power, parent_of_unit};
+ghost use Rattle.pm_core.specs.Fed.{IsFed};
 ghost use Rattle.pm_core.specs.Values.{value};
-ghost use Rattle.pm_apply.specs.Plan.{due, is_fed, is_place, is_power, is_used, lower, parent_of_unit, power_told, raise, settle, where_due};
-ghost use Rattle.pm_apply.specs.Record.{told};
+ghost use Rattle.pm_apply.specs.Plan.{due, is_fed, is_place, is_power, is_power_kind, is_used, lower, power_value, raise, settle, turns_of, where_due};
+ghost use Rattle.pm_apply.specs.Record.{kept_value};
 
 use crate::kept::Kept;
-use crate::needs::{is_power, needs_power, parent_of_unit, power_at};
 use pm_base::{Command, Unit};
 use pm_core::Book;
-use pm_topology::{PowerDef, Topology};
+use pm_topology::{Kind, PowerDef, Topology, needs_power, parent_of_unit};
 
 /// A turn of a step: the power node at a place goes up, a unit that is no power node takes its value,
 /// or the power node at a place goes down.
@@ -20,6 +21,33 @@ pub enum Turn {
     Raise(usize),
     Settle(Unit),
     Lower(usize),
+}
+
+/// The number of turns of a step.
+pub(crate) fn turn_count(book: &Book) -> usize
+    ensures count { result ≡ length (turns_of book.now.fixed.topology) }
+    ensures formed { IsWellFormed book.now.fixed.topology }
+    ensures fed { IsFed book.now.fixed.topology (λ u. value u book.now) }
+{
+    let powers = book.topology().powers.len();
+    powers + book.units() + powers
+}
+
+/// The turn at a place, counted from 0: power nodes go up, parents first; then the other units take
+/// their values; then power nodes go down, parents last.
+pub(crate) fn turn_at(k: usize, book: &Book) -> Turn
+    requires { k < length (turns_of book.now.fixed.topology) }
+    ensures { slice_get (turns_of book.now.fixed.topology) k ≡ Some result }
+{
+    let powers = book.topology().powers.len();
+    let units = book.units();
+    if k < powers {
+        Turn::Raise(k)
+    } else if k - powers < units {
+        Turn::Settle(book.unit(k - powers))
+    } else {
+        Turn::Lower(powers - 1 - (k - powers - units))
+    }
 }
 
 /// The command of a turn, if there is one: from the book's values and the record.
@@ -55,7 +83,7 @@ fn raise(place: usize, book: &Book, kept: &Kept) -> Option<Command>
 /// Whether a power node is up in the book and down in the record, and its parent isn't down in the
 /// record.
 fn goes_up(power: &PowerDef, book: &Book, kept: &Kept) -> bool
-    ensures { result ≡ ((value (Node power.now.node) book.now == 1) && ((told kept.now (Node power.now.node) == 0) && is_fed book.now.fixed.topology kept.now power.now.parent)) }
+    ensures { result ≡ ((value (Node power.now.node) book.now == 1) && ((kept_value kept.now (Node power.now.node) == 0) && is_fed book.now.fixed.topology kept.now power.now.parent)) }
 {
     let unit = Unit::Node(power.node);
     book.value(unit) == 1 && kept.value(unit) == 0 && is_fed(book.topology(), kept, power.parent)
@@ -66,14 +94,14 @@ fn is_fed(t: &Topology, kept: &Kept, parent: Option<usize>) -> bool
     ensures { result ≡ is_fed t.now kept.now parent }
 {
     match parent {
-        Some(place) => power_told(t, kept, place) != 0,
+        Some(place) => power_value(t, kept, place) != 0,
         None => true,
     }
 }
 
-/// What the power node at a place was last told.
-fn power_told(t: &Topology, kept: &Kept, place: usize) -> u32
-    ensures { result ≡ power_told t.now kept.now place }
+/// The kept value of the power node at a place.
+fn power_value(t: &Topology, kept: &Kept, place: usize) -> u32
+    ensures { result ≡ power_value t.now kept.now place }
 {
     match power_at(t, place) {
         Some(power) => kept.value(Unit::Node(power.node)),
@@ -96,7 +124,7 @@ fn settle(unit: Unit, book: &Book, kept: &Kept) -> Option<Command>
 /// Whether a unit is no power node, the record has another value for it, and the value doesn't need
 /// power or the power node above isn't down in the record.
 fn takes(unit: Unit, value: u32, t: &Topology, kept: &Kept) -> bool
-    ensures { result ≡ (not (is_power t.now unit) && (not (told kept.now unit == value) && (not (needs_power t.now unit value) || is_fed t.now kept.now (parent_of_unit t.now unit)))) }
+    ensures { result ≡ (not (is_power t.now unit) && (not (kept_value kept.now unit == value) && (not (needs_power t.now unit value) || is_fed t.now kept.now (parent_of_unit t.now unit)))) }
 {
     !is_power(t, unit)
         && kept.value(unit) != value
@@ -119,7 +147,7 @@ fn lower(place: usize, book: &Book, kept: &Kept) -> Option<Command>
 /// Whether the power node at a place is down in the book and up in the record, and nothing directly
 /// below needs power by the record.
 fn goes_down(unit: Unit, place: usize, book: &Book, kept: &Kept) -> bool
-    ensures { result ≡ ((value unit book.now == 0) && ((told kept.now unit == 1) && not (is_used book.now.fixed.topology kept.now place))) }
+    ensures { result ≡ ((value unit book.now == 0) && ((kept_value kept.now unit == 1) && not (is_used book.now.fixed.topology kept.now place))) }
 {
     book.value(unit) == 0 && kept.value(unit) == 1 && !is_used(book, kept, place)
 }
@@ -138,7 +166,7 @@ fn is_used(book: &Book, kept: &Kept, place: usize) -> bool
 
 /// Whether a unit stands directly below the power node at a place and needs power by the record.
 fn uses(unit: Unit, place: usize, t: &Topology, kept: &Kept) -> bool
-    ensures { result ≡ (is_place place (parent_of_unit t.now unit) && needs_power t.now unit (told kept.now unit)) }
+    ensures { result ≡ (is_place place (parent_of_unit t.now unit) && needs_power t.now unit (kept_value kept.now unit)) }
 {
     is_place(place, parent_of_unit(t, unit)) && needs_power(t, unit, kept.value(unit))
 }
@@ -150,4 +178,29 @@ fn is_place(place: usize, parent: Option<usize>) -> bool
         Some(other) => other == place,
         None => false,
     }
+}
+
+// ---- power nodes
+
+/// The power node at a place.
+fn power_at(t: &Topology, place: usize) -> Option<PowerDef>
+    ensures { result ≡ slice_get t.now.powers place }
+{
+    t.powers.as_slice().get(place).copied()
+}
+
+/// Whether a unit is a power node.
+fn is_power(t: &Topology, unit: Unit) -> bool
+    ensures { result ≡ is_power t.now unit }
+{
+    match unit {
+        Unit::Node(node) => is_power_kind(t.kind(node)),
+        Unit::Line(_) => false,
+    }
+}
+
+fn is_power_kind(kind: Kind) -> bool
+    ensures { result ≡ is_power_kind kind }
+{
+    matches!(kind, Kind::Power(_))
 }

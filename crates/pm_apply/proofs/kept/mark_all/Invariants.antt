@@ -1,8 +1,9 @@
-use Rattle.std.proofs.Common.{◌≡◌, ◌++◌, take, drop, map}
+use Rattle.std.proofs.Common.{◌≡◌, ◌++◌, take, drop}
+use Rattle.pm_topology.specs.UnitMap.{mapped}
 use Rattle.pm_core.specs.Values.{value}
 use Rattle.pm_apply.specs.Record.{mark}
 use Rattle.pm_apply.proofs.kept.mark_all.Given as goal
 
-abbrev pub invariant-loop-cell : goal.invariant-loop-cell
-invariant-loop-cell l =
-    l.cells ≡ map (mark (λ u. value u l.book)) (take l.cell-index l.initial.cells) ++ drop l.cell-index l.initial.cells
+abbrev pub invariant-loop-place : goal.invariant-loop-place
+invariant-loop-place l =
+    l.values ≡ mapped (mark (λ u. value u l.book)) (take l.place l.fn.values) ++ drop l.place l.fn.values
