@@ -1,8 +1,8 @@
-//! The files and the standard output of the host, as inputs and sink of a run. They tell nothing of
-//! what they hold.
+//! The files and the standard output of the host, as inputs and sink of a run. Contracts see nothing
+//! of what they hold.
 
 ghost use Rattle.std.specs.Prelude.{◌≡◌, [], take, length, ◌≤◌, IfSome};
-ghost use Rattle.pm_base.specs.Inputs.{untold};
+ghost use Rattle.pm_base.specs.Inputs.{unobserved};
 
 use pm_base::{Failed, Inputs, Sink};
 use std::alloc::Global;
@@ -47,7 +47,7 @@ impl<'a, R: Files> HostInputs<'a, R> {
 }
 
 impl<R: Files> Inputs for HostInputs<'_, R> {
-    ghost state = { λ inputs. untold inputs.faults };
+    ghost state = { λ inputs. unobserved inputs.faults };
 
     fn begin(&mut self, name: &str) -> Result<u32, Failed> {
         match self.open(name) {

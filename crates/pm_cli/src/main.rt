@@ -3,7 +3,7 @@
 
 ghost use Rattle.std.specs.Prelude.{IfOk};
 ghost use Rattle.pm_topology.specs.Chip.{chip};
-ghost use Rattle.pm_device.specs.Board.{IsFresh};
+ghost use Rattle.pm_device.specs.Fresh.{IsFresh};
 ghost use Rattle.pm_device.specs.Model.{moment_of};
 
 mod host;

@@ -1,150 +1,223 @@
--- The clauses of the top call on each exit.
-use Rattle.std.proofs.Common.{◌≡◌, ℕ, ◌≤◌, Bool, List, refl, sym, ◌∙◌, ap, arith, Option, Some, None, inl, inr}
+-- The exits of the program, and what each of them means.
+use Rattle.std.proofs.Common.{◌≡◌, ℕ, ◌+◌, ◌⊎◌, Bool, true, false, List, [], ◌∷◌, length, Option, Some, None, Result, Ok, Err, if◌then◌else◌, refl, sym, ◌∙◌, ap, subst, arith, inl, inr}
+use Rattle.std.specs.Prelude.{nat_lt}
+use Rattle.std.proofs.lemmas.Bool.Decides.{nat_tests}
 use Rattle.pm_base.specs.Faults.{Rose}
-use Rattle.pm_base.specs.Inputs.{Moment}
-use Rattle.pm_base.specs.Sink.{SinkMoment, HasFailed}
 use Rattle.pm_base.specs.declared.errors.Exit.{Exit}
 use Rattle.pm_base.specs.declared.errors.Exit.TheVariants as exit
-use Rattle.pm_object.specs.declared.object.ObjectFault.{ObjectFault}
-use Rattle.pm_core.specs.declared.outbox.Done.{Done}
-use Rattle.pm_topology.specs.Chip.{chip}
-use Rattle.pm_top.specs.Stand.{Stand, loaded}
-use Rattle.pm_top.specs.declared.fronts.Reached.{Reached}
-use Rattle.pm_top.specs.declared.fronts.Reached.TheVariants.{End, Limit, Failure, Unbegun}
-use Rattle.pm_top.specs.declared.text.faults.Fault.{Fault}
-use Rattle.pm_top.specs.Fronts.{Front, IsUnread}
-use Rattle.pm_top.specs.Run.{run_of, bad_line, script_lines, fault_after, fault_by, script_fault}
-use Rattle.pm_top.specs.Ends.{Ends, Goes, exit_after, exit_of}
-use Rattle.pm_top.specs.Ran.{fault_of}
-use Rattle.pm_top.proofs.RanLemmas.{Stops, Runs, Ways, Judgement, failed, refused, judgement, run_fault, ended_unread}
+use Rattle.pm_base.specs.declared.inputs.Inputs as Inputs
+use Rattle.pm_base.specs.declared.sink.Sink as Sink
+use Rattle.pm_base.specs.Sink.{HasFailed, Leaves}
+use Rattle.pm_script.specs.Script.{Stop}
+use Rattle.pm_script.specs.Script.Stop.{End, Bad, Past, Failed}
+use Rattle.pm_trace.specs.declared.faults.Fault.{Fault}
+use Rattle.pm_trace.specs.declared.faults.Fault.TheVariants.{Object as BadObject, Text as BadText, Line, Memory, Read, Size, Usage}
+use Rattle.pm_trace.specs.Faults.{exit_after, exit_by, fault_text}
+use Rattle.pm_trace.specs.Report.{Did, Report, exit_of, pieces, refusal, report_of}
+use Rattle.pm_replay.specs.Replay.{fault_at}
+use Rattle.pm_top.specs.declared.form.Form.{Form}
+use Rattle.pm_top.specs.declared.form.Form.TheVariants.{Replay, Print, Build}
+use Rattle.pm_top.specs.Job.{FailsToRead, IsAsked, IsFaultOf, IsKnown, Job, job_of, report}
+use Rattle.pm_top.specs.Ran.{FormDecides, IsStarved, job_exit}
 
--- ---- which exits come where
+-- ---- exits
 
--- the exits of a run that stops at its object
-pub data StopExit (answer : Exit) : Type 0 where
-  at_unread : answer ≡ exit.ReadFault → StopExit answer
-  at_bad : answer ≡ exit.BadObject → StopExit answer
+-- the exits of a job that isn't refused
+pub data RunExit : Exit → Type 0 where
+  at_done : (e : Exit) → e ≡ exit.Done → RunExit e
+  at_line : (e : Exit) → e ≡ exit.BadLine → RunExit e
+  at_large : (e : Exit) → e ≡ exit.TooLarge → RunExit e
+  at_unread : (e : Exit) → e ≡ exit.ReadFault → RunExit e
+  at_broken : (e : Exit) → e ≡ exit.WriteFault → RunExit e
 
--- the exits of a run of a script
-pub data RunExit (answer : Exit) : Type 0 where
-  at_done : answer ≡ exit.Done → RunExit answer
-  at_line : answer ≡ exit.BadLine → RunExit answer
-  at_large : answer ≡ exit.TooLarge → RunExit answer
-  at_unread_script : answer ≡ exit.ReadFault → RunExit answer
-  at_broken : answer ≡ exit.WriteFault → RunExit answer
+stop_exit : (n : ℕ) (stop : Stop) → RunExit (exit_after (fault_at n stop))
+stop_exit n End = at_done exit.Done refl
+stop_exit n (Bad cause) = at_line exit.BadLine refl
+stop_exit n Past = at_large exit.TooLarge refl
+stop_exit n Failed = at_unread exit.ReadFault refl
 
-stop_exit : (reached : Reached) (bytes : List ℕ) (fault : Fault) (answer : Exit) → Judgement reached bytes fault → answer ≡ exit_of fault → StopExit answer
-stop_exit reached bytes fault answer (failed at is) answers = at_unread (answers ∙ ap exit_of is)
-stop_exit reached bytes fault answer (refused error whole read is) answers = at_bad (answers ∙ ap exit_of is)
+fault_exit : (f : Form) (job : Job f) (answers : List (List Bool)) → RunExit (exit_after (report f job answers).fault)
+fault_exit Replay job answers = stop_exit (1 + length job.1.events) job.1.stop
+fault_exit Print job answers = at_done exit.Done refl
+fault_exit Build job answers = at_done exit.Done refl
 
-ended_exit : (bad : Option ℕ) (reached : Reached) (answer : Exit) → answer ≡ exit_after (fault_by reached (fault_after bad reached)) → RunExit answer
-ended_exit bad Unbegun answer is = at_unread_script is
-ended_exit (Some n) End answer is = at_line is
-ended_exit (Some n) Limit answer is = at_line is
-ended_exit (Some n) Failure answer is = at_line is
-ended_exit None End answer is = at_done is
-ended_exit None Limit answer is = at_large is
-ended_exit None Failure answer is = at_unread_script is
+-- an exit is that of the report's fault, or the sink broke off within its body
+data ReportExit (r : Report) (cut : Option ℕ) : Exit → Type 0 where
+  whole : (e : Exit) → e ≡ exit_after r.fault → ReportExit r cut e
+  broken : (e : Exit) (k : ℕ) → cut ≡ Some k → e ≡ exit.WriteFault → ReportExit r cut e
 
-ended_breaks : (bad : Option ℕ) (reached : Reached) → exit.WriteFault ≡ exit_after (fault_by reached (fault_after bad reached)) → ⊥
-ended_breaks bad Unbegun is = cc
-ended_breaks (Some n) End is = cc
-ended_breaks (Some n) Limit is = cc
-ended_breaks (Some n) Failure is = cc
-ended_breaks None End is = cc
-ended_breaks None Limit is = cc
-ended_breaks None Failure is = cc
-
--- the exit of a run of a script that came to its end
-pub exit_is : (O_tells : Type 0) (s : Stand) (given : List (List Bool)) (script : Front) (before after : SinkMoment) (answer : Exit) → Ends O_tells (run_of s given script) before after answer → answer ≡ exit_after (script_fault script)
-exit_is O_tells s given script before after answer ends = ends.answers ∙ ap exit_after (run_fault s given script)
-
-pub stops_exit : (I_tells O_tells : Type 0) (before last : Moment) (taken_before taken_after : SinkMoment) (answer : Exit) (name : List ℕ) → Stops I_tells O_tells name before last taken_before taken_after answer → StopExit answer
-stops_exit I_tells O_tells before last taken_before taken_after answer name stops = stop_exit stops.object.reached stops.object.bytes stops.fault answer (judgement stops.object.reached stops.object.bytes stops.fault stops.judgement) stops.ends.answers
-
-pub script_exit : (O_tells : Type 0) (s : Stand) (given : List (List Bool)) (script : Front) (before after : SinkMoment) (answer : Exit) → Goes O_tells (run_of s given script) before after answer → RunExit answer
-script_exit O_tells s given script before after answer (inl ends) = ended_exit (bad_line 1 (script_lines script)) script.reached answer (exit_is O_tells s given script before after answer ends)
-script_exit O_tells s given script before after answer (inr breaks) = at_broken breaks.answers
-
-pub runs_exit : (I_tells O_tells : Type 0) (Saw : List Done → Option Stand → Type 0) (before last : Moment) (taken_before taken_after : SinkMoment) (answer : Exit) (name script : List ℕ) → Runs I_tells O_tells Saw name script before last taken_before taken_after answer → RunExit answer
-runs_exit I_tells O_tells Saw before last taken_before taken_after answer name script runs = script_exit O_tells (loaded runs.o chip) runs.given runs.script taken_before taken_after answer runs.goes
-
--- ---- usage
-
-pub usage_only : (I_tells O_tells : Type 0) (Saw : List Done → Option Stand → Type 0) (before last : Moment) (taken_before taken_after : SinkMoment) (answer : Exit) (names : Option (List ℕ × List ℕ)) → Ways I_tells O_tells Saw names before last taken_before taken_after answer → answer ≡ exit.Usage → names ≡ None
-usage_only I_tells O_tells Saw before last taken_before taken_after answer None way is = refl
-usage_only I_tells O_tells Saw before last taken_before taken_after answer (Some (name, script)) (inl wants) is = let memory : answer ≡ exit.Memory = wants.answers in absurd (cc)
-usage_only I_tells O_tells Saw before last taken_before taken_after answer (Some (name, script)) (inr (inl stops)) is = absurd (clash (stops_exit I_tells O_tells before last taken_before taken_after answer name stops))
+report_exit : (r : Report) (cut : Option ℕ) → ReportExit r cut (exit_of r cut)
+report_exit r None = whole (exit_after r.fault) refl
+report_exit r (Some k) = by (nat_lt k (length r.body))
   where
-    clash : StopExit answer → ⊥
-    clash (at_unread e) = cc
-    clash (at_bad e) = cc
-usage_only I_tells O_tells Saw before last taken_before taken_after answer (Some (name, script)) (inr (inr runs)) is = absurd (clash (runs_exit I_tells O_tells Saw before last taken_before taken_after answer name script runs))
+    by : (b : Bool) → ReportExit r (Some k) (if b then exit.WriteFault else exit_after r.fault)
+    by true = broken exit.WriteFault k refl refl
+    by false = whole (exit_after r.fault) refl
+
+pub refused_exit : (fault : Fault) (cut : Option ℕ) → exit_of (refusal fault) cut ≡ exit_by fault
+refused_exit fault None = refl
+refused_exit fault (Some k) = ap (λ (b : Bool). if b then exit.WriteFault else exit_by fault) (none k)
   where
-    clash : RunExit answer → ⊥
-    clash (at_done e) = cc
-    clash (at_line e) = cc
-    clash (at_large e) = cc
-    clash (at_unread_script e) = cc
-    clash (at_broken e) = cc
+    none : (k : ℕ) → nat_lt k 0 ≡ false
+    none k = grind (arith, nat_tests)
 
-pub usage_when : (I_tells O_tells : Type 0) (Saw : List Done → Option Stand → Type 0) (before last : Moment) (taken_before taken_after : SinkMoment) (answer : Exit) (names : Option (List ℕ × List ℕ)) → names ≡ None → Ways I_tells O_tells Saw names before last taken_before taken_after answer → answer ≡ exit.Usage
-usage_when I_tells O_tells Saw before last taken_before taken_after answer None none way = way.answers
-usage_when I_tells O_tells Saw before last taken_before taken_after answer (Some (name, script)) none way = absurd (cc)
-
--- ---- a failure of the sink
-
-pub write_fault : (I_tells O_tells : Type 0) (Saw : List Done → Option Stand → Type 0) (before last : Moment) (taken_before taken_after : SinkMoment) (answer : Exit) (names : Option (List ℕ × List ℕ)) → Ways I_tells O_tells Saw names before last taken_before taken_after answer → answer ≡ exit.WriteFault → HasFailed taken_before taken_after
-write_fault I_tells O_tells Saw before last taken_before taken_after answer None way is = let usage : answer ≡ exit.Usage = way.answers in absurd (cc)
-write_fault I_tells O_tells Saw before last taken_before taken_after answer (Some (name, script)) (inl wants) is = let memory : answer ≡ exit.Memory = wants.answers in absurd (cc)
-write_fault I_tells O_tells Saw before last taken_before taken_after answer (Some (name, script)) (inr (inl stops)) is = absurd (clash (stops_exit I_tells O_tells before last taken_before taken_after answer name stops))
+pub run_exit : (f : Form) (job : Job f) (answers : List (List Bool)) (cut : Option ℕ) (e : Exit) → e ≡ exit_of (report f job answers) cut → RunExit e
+run_exit f job answers cut e is = subst RunExit (sym is) (by (exit_of (report f job answers) cut) (report_exit (report f job answers) cut))
   where
-    clash : StopExit answer → ⊥
-    clash (at_unread e) = cc
-    clash (at_bad e) = cc
-write_fault I_tells O_tells Saw before last taken_before taken_after answer (Some (name, script)) (inr (inr runs)) is = goes runs.goes
-  where
-    goes : Goes O_tells (run_of (loaded runs.o chip) runs.given runs.script) taken_before taken_after answer → HasFailed taken_before taken_after
-    goes (inl ends) = absurd (ended_breaks (bad_line 1 (script_lines runs.script)) runs.script.reached (sym is ∙ exit_is O_tells (loaded runs.o chip) runs.given runs.script taken_before taken_after answer ends))
-    goes (inr breaks) = breaks.breaks.cause
+    by : (e : Exit) → ReportExit (report f job answers) cut e → RunExit e
+    by e (whole x same) = subst RunExit (sym same) (fault_exit f job answers)
+    by e (broken x k at same) = at_broken e same
 
--- ---- a failure of an input
+-- ---- faults by their exits
 
-pub not_unread : (error : ObjectFault) → exit.ReadFault ≡ exit_of (fault_of error) → ⊥
-not_unread error e = cc
+usage_by : (f : Form) (fault : Fault) → IsFaultOf f fault → exit_by fault ≡ exit.Usage → ⊥
+usage_by f Usage known is = known
+usage_by f (BadObject fault) known is = cc
+usage_by f (BadText fault) known is = cc
+usage_by f (Line n) known is = cc
+usage_by f Read known is = cc
+usage_by f Memory known is = cc
+usage_by f Size known is = cc
 
-pub read_fault : (I_tells O_tells : Type 0) (Saw : List Done → Option Stand → Type 0) (before last : Moment) (taken_before taken_after : SinkMoment) (answer : Exit) (names : Option (List ℕ × List ℕ)) → Ways I_tells O_tells Saw names before last taken_before taken_after answer → answer ≡ exit.ReadFault → Rose before.faults last.faults
-read_fault I_tells O_tells Saw before last taken_before taken_after answer None way is = let usage : answer ≡ exit.Usage = way.answers in absurd (cc)
-read_fault I_tells O_tells Saw before last taken_before taken_after answer (Some (name, script)) (inl wants) is = let memory : answer ≡ exit.Memory = wants.answers in absurd (cc)
-read_fault I_tells O_tells Saw before last taken_before taken_after answer (Some (name, script)) (inr (inl stops)) is = by_judgement (judgement stops.object.reached stops.object.bytes stops.fault stops.judgement)
-  where
-    by_judgement : Judgement stops.object.reached stops.object.bytes stops.fault → Rose before.faults last.faults
-    by_judgement (failed at fault) = let rose : Rose before.faults stops.between.faults = stops.read.fault at in let stays : last.faults ≡ stops.between.faults = ap (λ (m : Moment). m.faults) stops.stays in omega arith
-    by_judgement (refused error whole read fault) = absurd (not_unread error (sym is ∙ stops.ends.answers ∙ ap exit_of fault))
-read_fault I_tells O_tells Saw before last taken_before taken_after answer (Some (name, script)) (inr (inr runs)) is = goes runs.goes
-  where
-    goes : Goes O_tells (run_of (loaded runs.o chip) runs.given runs.script) taken_before taken_after answer → Rose before.faults last.faults
-    goes (inl ends) =
-        let at : IsUnread runs.script.reached = ended_unread (bad_line 1 (script_lines runs.script)) runs.script.reached (sym (exit_is O_tells (loaded runs.o chip) runs.given runs.script taken_before taken_after answer ends) ∙ is) in
-        let rose : Rose runs.between.faults last.faults = runs.read_script.fault at in
-        let later : before.faults ≤ runs.between.faults = runs.read_object.later in omega arith
-    goes (inr breaks) = let broke : answer ≡ exit.WriteFault = breaks.answers in absurd (cc)
+read_by : (fault : Fault) → exit_by fault ≡ exit.ReadFault → fault ≡ Read
+read_by Usage is = cc
+read_by (BadObject fault) is = cc
+read_by (BadText fault) is = cc
+read_by (Line n) is = cc
+read_by Read is = refl
+read_by Memory is = cc
+read_by Size is = cc
 
--- ---- a text
+memory_by : (fault : Fault) → exit_by fault ≡ exit.Memory → fault ≡ Memory
+memory_by Usage is = cc
+memory_by (BadObject fault) is = cc
+memory_by (BadText fault) is = cc
+memory_by (Line n) is = cc
+memory_by Read is = cc
+memory_by Memory is = refl
+memory_by Size is = cc
 
-pub no_text : (I_tells O_tells : Type 0) (Saw : List Done → Option Stand → Type 0) (before last : Moment) (taken_before taken_after : SinkMoment) (answer : Exit) (names : Option (List ℕ × List ℕ)) → Ways I_tells O_tells Saw names before last taken_before taken_after answer → answer ≡ exit.BadText → ⊥
-no_text I_tells O_tells Saw before last taken_before taken_after answer None way is = let usage : answer ≡ exit.Usage = way.answers in cc
-no_text I_tells O_tells Saw before last taken_before taken_after answer (Some (name, script)) (inl wants) is = let memory : answer ≡ exit.Memory = wants.answers in cc
-no_text I_tells O_tells Saw before last taken_before taken_after answer (Some (name, script)) (inr (inl stops)) is = clash (stops_exit I_tells O_tells before last taken_before taken_after answer name stops)
+write_by : (fault : Fault) → exit_by fault ≡ exit.WriteFault → ⊥
+write_by Usage is = cc
+write_by (BadObject fault) is = cc
+write_by (BadText fault) is = cc
+write_by (Line n) is = cc
+write_by Read is = cc
+write_by Memory is = cc
+write_by Size is = cc
+
+pub done_by : (fault : Fault) → exit_by fault ≡ exit.Done → ⊥
+done_by Usage is = cc
+done_by (BadObject fault) is = cc
+done_by (BadText fault) is = cc
+done_by (Line n) is = cc
+done_by Read is = cc
+done_by Memory is = cc
+done_by Size is = cc
+
+write_after : (fault : Option Fault) → exit_after fault ≡ exit.WriteFault → ⊥
+write_after None is = cc
+write_after (Some fault) is = write_by fault is
+
+-- ---- an input that could not be read
+
+failed_stop : (n : ℕ) (stop : Stop) → exit_after (fault_at n stop) ≡ exit.ReadFault → stop ≡ Failed
+failed_stop n End is = cc
+failed_stop n (Bad cause) is = cc
+failed_stop n Past is = cc
+failed_stop n Failed is = refl
+
+job_fails : (f : Form) (job : Job f) (answers : List (List Bool)) → exit_after (report f job answers).fault ≡ exit.ReadFault → FailsToRead f (Ok job)
+job_fails Replay job answers is = failed_stop (1 + length job.1.events) job.1.stop is
+job_fails Print job answers is = cc
+job_fails Build job answers is = cc
+
+refusal_fails : (f : Form) (fault : Fault) → fault ≡ Read → FailsToRead f (Err fault)
+refusal_fails Replay fault is = is
+refusal_fails Print fault is = is
+refusal_fails Build fault is = is
+
+pub read_exit : (f : Form) (job : Result (Job f) Fault) (answers : List (List Bool)) (cut : Option ℕ) (e : Exit) → e ≡ exit_of (report_of (report f) job answers) cut → e ≡ exit.ReadFault → FailsToRead f job
+read_exit f (Err fault) answers cut e is at = refusal_fails f fault (read_by fault (sym (refused_exit fault cut) ∙ sym is ∙ at))
+read_exit f (Ok job) answers cut e is at = by (exit_of (report f job answers) cut) (report_exit (report f job answers) cut) (sym is ∙ at)
   where
-    clash : StopExit answer → ⊥
-    clash (at_unread e) = cc
-    clash (at_bad e) = cc
-no_text I_tells O_tells Saw before last taken_before taken_after answer (Some (name, script)) (inr (inr runs)) is = clash (runs_exit I_tells O_tells Saw before last taken_before taken_after answer name script runs)
-  where
-    clash : RunExit answer → ⊥
-    clash (at_done e) = cc
-    clash (at_line e) = cc
-    clash (at_large e) = cc
-    clash (at_unread_script e) = cc
-    clash (at_broken e) = cc
+    by : (e : Exit) → ReportExit (report f job answers) cut e → e ≡ exit.ReadFault → FailsToRead f (Ok job)
+    by e (whole x same) at = job_fails f job answers (sym same ∙ at)
+    by e (broken x k cut_at same) at = let clash : exit.WriteFault ≡ exit.ReadFault = sym same ∙ at in cc
+
+-- ---- what a call that did its job means
+
+module _ {I O : Type 0} (i : Inputs.Ghosts I) (o : Sink.Ghosts O) (f : Form) (ws : List (List ℕ)) (old new : I) (sink sink' : O) (result : Exit) where
+  module _ (Touching : Result (Job f) Fault → List (List Bool) → Option ℕ → Type 0) (did : Did o (IsAsked i f ws old new) (report f) Touching sink sink' result) where
+    pub not_usage : result ≡ exit.Usage → ⊥
+    not_usage is = by did.job did.asked.known did.ends
+      where
+        clash : RunExit exit.Usage → ⊥
+        clash (at_done e same) = cc
+        clash (at_line e same) = cc
+        clash (at_large e same) = cc
+        clash (at_unread e same) = cc
+        clash (at_broken e same) = cc
+
+        by : (job : Result (Job f) Fault) → IsKnown f job → result ≡ exit_of (report_of (report f) job did.answers) did.cut → ⊥
+        by (Err fault) known ends = usage_by f fault (known_fault f fault known) (sym (refused_exit fault did.cut) ∙ sym ends ∙ is)
+          where
+            known_fault : (f : Form) (fault : Fault) → IsKnown f (Err fault) → IsFaultOf f fault
+            known_fault Replay fault known = known
+            known_fault Print fault known = known
+            known_fault Build fault known = known
+        by (Ok job) known ends = clash (subst RunExit is (run_exit f job did.answers did.cut result ends))
+
+    pub read_fault : result ≡ exit.ReadFault → Rose (i.state old).faults (i.state new).faults
+    read_fault is = did.asked.failed (read_exit f did.job did.answers did.cut result did.ends is)
+
+    pub write_fault : result ≡ exit.WriteFault → HasFailed (o.state sink) (o.state sink')
+    write_fault is = by did.cut did.left did.ends
+      where
+        by : (cut : Option ℕ) → Leaves o.observable (pieces (report_of (report f) did.job did.answers)) cut (o.state sink) (o.state sink') → result ≡ exit_of (report_of (report f) did.job did.answers) cut → HasFailed (o.state sink) (o.state sink')
+        by None left ends = absurd (write_after (report_of (report f) did.job did.answers).fault (sym ends ∙ is))
+        by (Some k) left ends = left.failed
+
+    pub starved : result ≡ exit.Memory → IsStarved o sink sink'
+    starved is = by did.job did.left did.ends
+      where
+        clash : RunExit exit.Memory → ⊥
+        clash (at_done e same) = cc
+        clash (at_line e same) = cc
+        clash (at_large e same) = cc
+        clash (at_unread e same) = cc
+        clash (at_broken e same) = cc
+
+        by : (job : Result (Job f) Fault) → Leaves o.observable (pieces (report_of (report f) job did.answers)) did.cut (o.state sink) (o.state sink') → result ≡ exit_of (report_of (report f) job did.answers) did.cut → IsStarved o sink sink'
+        by (Err fault) left ends =
+            let memory : fault ≡ Memory = memory_by fault (sym (refused_exit fault did.cut) ∙ sym ends ∙ is) in
+            (did.cut, subst (λ (fault : Fault). Leaves o.observable (fault_text fault ∷ []) did.cut (o.state sink) (o.state sink')) memory left)
+        by (Ok job) left ends = absurd (clash (subst RunExit is (run_exit f job did.answers did.cut result ends)))
+
+    pub decided : i.observable → FormDecides o (Some f) ws (i.state old) sink sink' result
+    decided seen = elim (did.asked.shown seen) [
+      | inl memory ↦ (true, λ room. refl, inr (inl (by_memory did.job memory did.ends)))
+      | inr job ↦ (job.0, job.1, by did.job (job_of f ws (i.state old) job.0) job.2 did.cut did.left did.ends)
+    ]
+      where
+        by_memory : (job : Result (Job f) Fault) → job ≡ Err Memory → result ≡ exit_of (report_of (report f) job did.answers) did.cut → result ≡ exit.Memory
+        by_memory job is ends = subst (λ (job : Result (Job f) Fault). result ≡ exit_of (report_of (report f) job did.answers) did.cut) is ends ∙ refused_exit Memory did.cut
+
+        same_fault : (f : Form) (job : Job f) (answers : List (List Bool)) → (report f job answers).fault ≡ (report f job []).fault
+        same_fault Replay job answers = refl
+        same_fault Print job answers = refl
+        same_fault Build job answers = refl
+
+        of_report : (job : Result (Job f) Fault) → exit_after (report_of (report f) job did.answers).fault ≡ job_exit f job
+        of_report (Ok job) = ap exit_after (same_fault f job did.answers)
+        of_report (Err fault) = refl
+
+        by : (job asked : Result (Job f) Fault) → job ≡ asked → (cut : Option ℕ) → Leaves o.observable (pieces (report_of (report f) job did.answers)) cut (o.state sink) (o.state sink') → result ≡ exit_of (report_of (report f) job did.answers) cut → (result ≡ job_exit f asked) ⊎ ((result ≡ exit.Memory) ⊎ ((result ≡ exit.WriteFault) × HasFailed (o.state sink) (o.state sink')))
+        by job asked is cut left ends = at (exit_of (report_of (report f) job did.answers) cut) (report_exit (report_of (report f) job did.answers) cut) ends
+          where
+            failed : (k : ℕ) → cut ≡ Some k → HasFailed (o.state sink) (o.state sink')
+            failed k is = (subst (λ (cut : Option ℕ). Leaves o.observable (pieces (report_of (report f) job did.answers)) cut (o.state sink) (o.state sink')) is left).failed
+
+            at : (e : Exit) → ReportExit (report_of (report f) job did.answers) cut e → result ≡ e → (result ≡ job_exit f asked) ⊎ ((result ≡ exit.Memory) ⊎ ((result ≡ exit.WriteFault) × HasFailed (o.state sink) (o.state sink')))
+            at e (whole x same) of = inl (of ∙ same ∙ of_report job ∙ ap (job_exit f) is)
+            at e (broken x k cut_at same) of = inr (inr (of ∙ same, failed k cut_at))

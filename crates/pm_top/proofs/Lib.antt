@@ -1,19 +1,6 @@
-pub mod CausesLemmas
-pub mod CommandsLemmas
-pub mod ConversionsLemmas
-pub mod EndsLemmas
+pub mod JobLemmas
 pub mod ExitsLemmas
-pub mod FrontsLemmas
-pub mod LinesLemmas
-pub mod MeaningLemmas
-pub mod OutcomesLemmas
-pub mod RunLemmas
-pub mod RanLemmas
-pub mod TextLinesLemmas
-pub mod ToldLemmas
-mod EntriesLemmas
-mod StepsLemmas
-mod ScriptLemmas
-mod FollowsLemmas
-mod ReplayLemmas
-mod YesLemmas
+pub mod ConversionLemmas
+pub mod ScriptLemmas
+pub mod CauseLemmas
+pub mod MainLemmas

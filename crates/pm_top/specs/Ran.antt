@@ -1,89 +1,87 @@
--- A run of the program: what it read, and what it made of that.
-use Rattle.std.specs.Prelude.{◌≡◌, ℕ, ◌⊎◌, Bool, List, [], ◌∷◌, codes, if◌then◌else◌, Option, Some, None, Result, Ok, Err, IfOk}
-use Rattle.std.specs.Str.{bytes_eq}
+-- What a run of the program did, on every exit, and what each exit means.
+use Rattle.std.specs.Prelude.{◌≡◌, ℕ, ◌<◌, ◌≤◌, ◌⊎◌, Bool, true, List, [], ◌∷◌, Option, Some, None, Result, Ok, Err, ⊤}
 use Rattle.pm_base.specs.declared.errors.Exit.{Exit}
 use Rattle.pm_base.specs.declared.errors.Exit.TheVariants as exit
-use Rattle.pm_base.specs.Inputs.{Moment}
-use Rattle.pm_base.specs.Sink.{SinkMoment}
-use Rattle.pm_object.specs.declared.object.Object.{Object}
-use Rattle.pm_object.specs.declared.object.ObjectFault.{ObjectFault}
-use Rattle.pm_object.specs.Grammar.{Reads}
-use Rattle.pm_object.specs.Reading.{reading}
-use Rattle.pm_topology.specs.Chip.{chip}
-use Rattle.pm_core.specs.declared.outbox.Done.{Done}
-use Rattle.pm_top.specs.declared.fronts.Reached.{Reached}
-use Rattle.pm_top.specs.declared.fronts.Reached.TheVariants.{End, Limit, Failure, Unbegun}
-use Rattle.pm_top.specs.declared.text.faults.Fault.{Fault}
-use Rattle.pm_top.specs.declared.text.faults.Fault.TheVariants.{Usage, Object as Unreadable, Read}
-use Rattle.pm_top.specs.Fronts.{Front, ReadsFront}
-use Rattle.pm_top.specs.Driven.{Given, at_exit}
-use Rattle.pm_top.specs.Run.{run_of, stopped, commands_of, last_stand}
-use Rattle.pm_top.specs.Stand.{Stand, loaded}
-use Rattle.pm_top.specs.Ends.{Ends, Goes, WantsMemory}
+use Rattle.pm_base.specs.declared.inputs.Inputs as Inputs
+use Rattle.pm_base.specs.declared.sink.Sink as Sink
+use Rattle.pm_base.specs.Inputs.{Moment, MayFail}
+use Rattle.pm_base.specs.Sink.{HasFailed, Leaves}
+use Rattle.pm_device.specs.declared.device.Device as Device
+use Rattle.pm_script.specs.Script.{script_limit}
+use Rattle.pm_trace.specs.declared.faults.Fault.{Fault}
+use Rattle.pm_trace.specs.declared.faults.Fault.TheVariants.{Memory, Usage}
+use Rattle.pm_trace.specs.Faults.{exit_after, fault_text}
+use Rattle.pm_trace.specs.Report.{Did, Report}
+use Rattle.pm_replay.specs.Replay.{Touched}
+use Rattle.pm_replay.specs.World.{World}
+use Rattle.pm_top.specs.declared.form.Form.{Form}
+use Rattle.pm_top.specs.declared.form.Form.TheVariants.{Replay, Print, Build}
+use Rattle.pm_top.specs.Form.{form, word}
+use Rattle.pm_top.specs.Job.{IsAsked, Job, job_of, object_limit, report, text_limit}
 
--- the most bytes of an object and of a script
-abbrev pub object_limit : ℕ
-object_limit = 16384
+-- ---- what was done
 
-abbrev pub script_limit : ℕ
-script_limit = 16777216
+-- a replay drives the device through its steps up to the cut, and nothing else touches it
+module _ {D : Type 0} (d : Device.Ghosts D) where
+  abbrev pub Touches : (f : Form) → D → D → Result (Job f) Fault → List (List Bool) → Option ℕ → Type 0
+  Touches Replay old new (Ok job) answers cut = Touched d job.0 old new (Ok job.1) answers cut
+  Touches Replay old new (Err fault) answers cut = old ≡ new
+  Touches Print old new job answers cut = old ≡ new
+  Touches Build old new job answers cut = old ≡ new
 
--- the names of the object and the script, where the words are `replay OBJ SCRIPT`
-abbrev pub form : List (List ℕ) → Option (List ℕ × List ℕ)
-form (command ∷ object ∷ script ∷ []) = if bytes_eq command (codes "replay") then Some (object, script) else None
-form words = None
+abbrev pub nothing_to_do : ⊤ → List (List Bool) → Report
+nothing_to_do job answers = record { body = []; fault = None }
 
--- a script was read, and run from the load, under some answers of the device
-pub record Replays (I_tells O_tells : Type 0) (Saw : List Done → Option Stand → Type 0) (name : List ℕ) (first : Stand) (before after : Moment) (taken_before taken_after : SinkMoment) (answer : Exit) : Type 0 where
-  pub script : Front
-  pub answers : List (List Bool)
-  pub read : ReadsFront I_tells name script_limit before after script
-  pub run : Goes O_tells (run_of first answers script) taken_before taken_after answer
-  pub given : Given Saw (commands_of first answers script) (answer ≡ exit.WriteFault → ⊥) (at_exit answer (last_stand first answers script))
+module _ {I O : Type 0} (i : Inputs.Ghosts I) (o : Sink.Ghosts O) where
+  -- the device aside
+  abbrev pub Converted : Form → List (List ℕ) → I → I → O → O → Exit → Type 0
+  Converted f ws old new sink sink' result =
+      Did o (IsAsked i f ws old new) (report f) (λ job answers cut. ⊤) sink sink' result
 
--- a run that stops for want of memory, before a command is issued
-abbrev pub NoMemory : Type 0 → (List Done → Option Stand → Type 0) → SinkMoment → SinkMoment → Exit → Type 0
-NoMemory O_tells Saw taken_before taken_after answer = WantsMemory O_tells taken_before taken_after answer × Saw [] None
+module _ {I O D : Type 0} (i : Inputs.Ghosts I) (o : Sink.Ghosts O) (d : Device.Ghosts D) where
+  -- what was asked for, what was written of it, and what was done to the device
+  abbrev pub RanForm : Option Form → List (List ℕ) → World I O D → World I O D → Exit → Type 0
+  RanForm None ws w w' result =
+      Did o (λ job. job ≡ Err Usage) nothing_to_do (λ job answers cut. w.device ≡ w'.device) w.sink w'.sink result
+  RanForm (Some f) ws w w' result =
+      Did o (IsAsked i f ws w.inputs w'.inputs) (report f) (Touches d f w.device w'.device) w.sink w'.sink result
 
-abbrev pub Replayed : Type 0 → Type 0 → (List Done → Option Stand → Type 0) → List ℕ → Stand → Moment → Moment → SinkMoment → SinkMoment → Exit → Type 0
-Replayed I_tells O_tells Saw name first before after taken_before taken_after answer = NoMemory O_tells Saw taken_before taken_after answer ⊎ Replays I_tells O_tells Saw name first before after taken_before taken_after answer
+  abbrev pub Ran : List (List ℕ) → World I O D → World I O D → Exit → Type 0
+  Ran ws w w' result = RanForm (form ws) ws w w' result
 
--- an object that has no reading
-abbrev pub fault_of : ObjectFault → Fault
-fault_of fault = Unreadable fault
+-- ---- what the exits mean
 
-abbrev pub read_or_fault : Result Object ObjectFault → Result Object Fault
-read_or_fault (Ok object) = Ok object
-read_or_fault (Err error) = Err (fault_of error)
+-- the exit of a job: that of its fault, or of the fault at which its run stops, or Done
+abbrev pub job_exit : (f : Form) → Result (Job f) Fault → Exit
+job_exit f (Ok job) = exit_after (report f job []).fault
+job_exit f (Err fault) = exit_after (Some fault)
 
--- the object that was read, or the fault that stops the run
-abbrev pub judged : Reached → List ℕ → Result Object Fault
-judged End bytes = read_or_fault (reading bytes)
-judged Limit bytes = read_or_fault (reading bytes)
-judged Failure bytes = Err Read
-judged Unbegun bytes = Err Read
+-- the exit is that of what the words ask for, unless memory is wanted or the sink fails
+module _ {O : Type 0} (o : Sink.Ghosts O) where
+  abbrev pub FormDecides : Option Form → List (List ℕ) → Moment → O → O → Exit → Type 0
+  FormDecides None ws m old new result = result ≡ exit.Usage
+  FormDecides (Some f) ws m old new result =
+      (again : Bool) × (2 ≤ m.room → again ≡ true)
+      × ((result ≡ job_exit f (job_of f ws m again))
+      ⊎ ((result ≡ exit.Memory) ⊎ ((result ≡ exit.WriteFault) × HasFailed (o.state old) (o.state new))))
 
--- a named object was read and judged
-pub record ReadsObject (tells : Type 0) (name : List ℕ) (before after : Moment) (verdict : Result Object Fault) : Type 0 where
-  pub object : Front
-  pub read : ReadsFront tells name object_limit before after object
-  pub judgement : judged object.reached object.bytes ≡ verdict
-  pub reads : IfOk verdict (Reads object.bytes)
+  abbrev pub Decides : List (List ℕ) → Moment → O → O → Exit → Type 0
+  Decides ws m old new result = FormDecides (form ws) ws m old new result
 
--- a run goes on with its object, or stops before a command is issued
-abbrev pub GoesOn : Type 0 → Type 0 → (List Done → Option Stand → Type 0) → List ℕ → Result Object Fault → Moment → Moment → SinkMoment → SinkMoment → Exit → Type 0
-GoesOn I_tells O_tells Saw script (Ok object) before after taken_before taken_after answer = Replayed I_tells O_tells Saw script (loaded object chip) before after taken_before taken_after answer
-GoesOn I_tells O_tells Saw script (Err fault) before after taken_before taken_after answer = (after ≡ before) × (Ends O_tells (stopped fault) taken_before taken_after answer × Saw [] None)
+  -- nothing was written but the fault line, as far as the sink took it
+  abbrev pub IsStarved : O → O → Type 0
+  IsStarved old new = (cut : Option ℕ) × Leaves o.observable (fault_text Memory ∷ []) cut (o.state old) (o.state new)
 
--- an object was read, and a script run over it
-pub record RunsObject (I_tells O_tells : Type 0) (Saw : List Done → Option Stand → Type 0) (name script : List ℕ) (before after : Moment) (taken_before taken_after : SinkMoment) (answer : Exit) : Type 0 where
-  pub object : Front
-  pub between : Moment
-  pub read : ReadsFront I_tells name object_limit before between object
-  pub reads : IfOk (judged object.reached object.bytes) (Reads object.bytes)
-  pub goes_on : GoesOn I_tells O_tells Saw script (judged object.reached object.bytes) between after taken_before taken_after answer
+-- an exit that comes before a script is run
+abbrev pub IsBeforeRun : Exit → Type 0
+IsBeforeRun result = (result ≡ exit.Usage) ⊎ ((result ≡ exit.BadObject) ⊎ ((result ≡ exit.BadText) ⊎ (result ≡ exit.Memory)))
 
--- a run of words of this form
-abbrev pub Ran : Type 0 → Type 0 → (List Done → Option Stand → Type 0) → Option (List ℕ × List ℕ) → Moment → Moment → SinkMoment → SinkMoment → Exit → Type 0
-Ran I_tells O_tells Saw None before after taken_before taken_after answer = Ends O_tells (stopped Usage) taken_before taken_after answer × Saw [] None
-Ran I_tells O_tells Saw (Some (object, script)) before after taken_before taken_after answer = NoMemory O_tells Saw taken_before taken_after answer ⊎ RunsObject I_tells O_tells Saw object script before after taken_before taken_after answer
+-- by what the inputs show, one that the words name can't be begun or has a failing byte within its limit
+abbrev pub FormMayFail : Option Form → List (List ℕ) → Moment → Type 0
+FormMayFail None ws m = ⊥
+FormMayFail (Some Replay) ws m = (m.room < 2) ⊎ (MayFail (word 1 ws) object_limit m ⊎ MayFail (word 2 ws) script_limit m)
+FormMayFail (Some Print) ws m = MayFail (word 1 ws) object_limit m
+FormMayFail (Some Build) ws m = MayFail (word 1 ws) text_limit m
+
+abbrev pub InputsMayFail : List (List ℕ) → Moment → Type 0
+InputsMayFail ws m = FormMayFail (form ws) ws m

@@ -1,49 +1,32 @@
-//! An object is turned into its text, and a text into the bytes of its object.
+//! An object is written as its text, and a text as the bytes of its object.
 
-ghost use Rattle.std.specs.Prelude.{◌≡◌};
-ghost use Rattle.pm_top.specs.Ends.{Goes};
-ghost use Rattle.pm_top.specs.Conversions.{Converted, whole};
+ghost use Rattle.std.specs.Prelude.{◌≡◌, ◌<◌, ◌∷◌, [], None, length, map, string_bytes};
+ghost use Rattle.pm_trace.specs.Report.{Reports};
+ghost use Rattle.pm_top.specs.declared.form.Form.TheVariants as forms;
+ghost use Rattle.pm_top.specs.Done.{IsBuilt, IsPrinted};
+ghost use Rattle.pm_top.specs.Ran.{Converted};
 
+use crate::form::word;
 use crate::objects::{read_object, read_text};
-use crate::stops::refuse;
-use crate::text::Fault;
 use pm_base::{Exit, Failed, Inputs, NoMemory, Sink, write_all};
 use pm_object::encode;
 use pm_objtext::print;
+use pm_trace::{Fault, refuse};
 use std::alloc::Global;
 
-/// What is made of what a name stands for.
-#[derive(Clone, Copy, Debug, PartialEq, Eq)]
-pub enum Conversion {
-    /// The text of an object.
-    Print,
-    /// The bytes of the object that a text says.
-    Build,
-}
-
-/// Reads what a name stands for, and writes what the conversion makes of it.
-///
-/// Answers Done, BadObject or BadText, ReadFault, WriteFault and Memory.
-pub fn convert<I: Inputs, O: Sink>(
+/// Writes the text of the object that the words name.
+pub(crate) fn print_object<I: Inputs, O: Sink>(
     alloc: Global,
-    conversion: Conversion,
+    words: &[String],
     inputs: &mut I,
-    name: &str,
     out: &mut O,
 ) -> Exit
-    ensures { Converted I.tells O.tells conversion name.now (I.state inputs.old) (I.state inputs.new) (O.state out.old) (O.state out.new) result }
+    requires place { 1 < length words.now }
+    ensures done { I.observable → O.observable → result ≡ Exit.Done
+        → IsPrinted I.Inputs O.Sink (map string_bytes words.now) inputs.old out.old out.new }
+    ensures ran { Converted I.Inputs O.Sink forms.Print (map string_bytes words.now) inputs.old inputs.new out.old out.new result }
 {
-    match conversion {
-        Conversion::Print => print_object(alloc, inputs, name, out),
-        Conversion::Build => build_object(alloc, inputs, name, out),
-    }
-}
-
-/// Writes the text of the named object.
-fn print_object<I: Inputs, O: Sink>(alloc: Global, inputs: &mut I, name: &str, out: &mut O) -> Exit
-    ensures { Converted I.tells O.tells Conversion.Print name.now (I.state inputs.old) (I.state inputs.new) (O.state out.old) (O.state out.new) result }
-{
-    match read_object(alloc, inputs, name) {
+    match read_object(alloc, inputs, word(words, 1)) {
         Ok(object) => match print(alloc, &object) {
             Ok(text) => write_whole(text.as_slice(), out),
             Err(NoMemory) => refuse(Fault::Memory, out),
@@ -52,11 +35,19 @@ fn print_object<I: Inputs, O: Sink>(alloc: Global, inputs: &mut I, name: &str, o
     }
 }
 
-/// Writes the bytes of the object that the named text says.
-fn build_object<I: Inputs, O: Sink>(alloc: Global, inputs: &mut I, name: &str, out: &mut O) -> Exit
-    ensures { Converted I.tells O.tells Conversion.Build name.now (I.state inputs.old) (I.state inputs.new) (O.state out.old) (O.state out.new) result }
+/// Writes the bytes of the object whose text the words name.
+pub(crate) fn build_object<I: Inputs, O: Sink>(
+    alloc: Global,
+    words: &[String],
+    inputs: &mut I,
+    out: &mut O,
+) -> Exit
+    requires place { 1 < length words.now }
+    ensures done { I.observable → O.observable → result ≡ Exit.Done
+        → IsBuilt I.Inputs O.Sink (map string_bytes words.now) inputs.old out.old out.new }
+    ensures ran { Converted I.Inputs O.Sink forms.Build (map string_bytes words.now) inputs.old inputs.new out.old out.new result }
 {
-    match read_text(alloc, inputs, name) {
+    match read_text(alloc, inputs, word(words, 1)) {
         Ok(object) => match encode(alloc, &object) {
             Ok(bytes) => write_whole(bytes.as_slice(), out),
             Err(NoMemory) => refuse(Fault::Memory, out),
@@ -65,9 +56,9 @@ fn build_object<I: Inputs, O: Sink>(alloc: Global, inputs: &mut I, name: &str, o
     }
 }
 
-/// Writes all that a run writes.
+/// Writes all that a command writes.
 fn write_whole<O: Sink>(text: &[u8], out: &mut O) -> Exit
-    ensures { Goes O.tells (whole text.now) (O.state out.old) (O.state out.new) result }
+    ensures { Reports O.observable (record { body = text.now ∷ []; fault = None }) (O.state out.old) (O.state out.new) result }
 {
     match write_all(out, text) {
         Ok(()) => Exit::Done,

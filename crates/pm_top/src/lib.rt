@@ -1,19 +1,11 @@
-//! The top call of the program: a script of requests is run over a configuration object, and its
-//! answers are written line by line.
+//! The top call of the program: a script is run over a configuration object, an object is printed as
+//! its text, or built from one.
 #![tactic(auto)]
 
-mod controller;
 mod conversions;
-mod fronts;
+mod form;
 mod objects;
 mod program;
-mod run;
-mod script;
-mod stops;
-mod text;
 
+pub use form::Form;
 pub use program::pm_main;
-pub use run::replay;
-
-#[cfg(test)]
-mod tests;

@@ -1,0 +1,261 @@
+-- A named script that was read, and what its run means.
+use Rattle.std.proofs.Common.{◌≡◌, ℕ, ◌+◌, ◌<◌, Bool, true, false, List, [], ◌∷◌, ◌++◌, length, Option, Some, None, Result, Ok, Err, if◌then◌else◌, refl, sym, ◌∙◌, ap, subst, arith, inl, inr}
+use Rattle.std.specs.Prelude.{map, nat_lt}
+use Rattle.std.specs.List.{concat}
+use Rattle.std.proofs.lemmas.Bool.Decides.{nat_tests}
+use Rattle.std.proofs.lemmas.List.{append-nil}
+use Rattle.std.proofs.lemmas.Option.{slice_get_within}
+use Rattle.pm_base.specs.Faults.{Rose}
+use Rattle.pm_base.specs.declared.errors.Exit.{Exit}
+use Rattle.pm_base.specs.declared.errors.Exit.TheVariants as exit
+use Rattle.pm_base.specs.declared.events.Event.{Event}
+use Rattle.pm_base.specs.declared.inputs.Inputs as Inputs
+use Rattle.pm_base.specs.declared.prefix.StopReason.{StopReason}
+use Rattle.pm_base.specs.declared.prefix.StopReason.TheVariants as reason
+use Rattle.pm_base.specs.declared.sink.Sink as Sink
+use Rattle.pm_base.specs.Inputs.{Moment}
+use Rattle.pm_base.specs.Lines.{lines_of}
+use Rattle.pm_base.specs.Prefix.{IsUnread, Prefix, ReadsPrefix, prefix_of}
+use Rattle.pm_base.specs.Sink.{Leaves, SinkMoment, Wrote}
+use Rattle.pm_base.proofs.PrefixEnds.{prefix_whole}
+use Rattle.pm_device.specs.declared.device.Device as Device
+use Rattle.pm_core.specs.Run.{Setup}
+use Rattle.pm_script.specs.declared.meaning.LineFault.{LineFault}
+use Rattle.pm_script.specs.Meaning.{meaning}
+use Rattle.pm_script.specs.Script.{Script, Stop, before, script_from, script_limit, script_lines, script_of, script_where, stop_of}
+use Rattle.pm_script.specs.Script.Stop.{End, Bad, Past, Failed}
+use Rattle.pm_trace.specs.declared.faults.Fault.{Fault}
+use Rattle.pm_trace.specs.declared.faults.Fault.TheVariants.{Line, Memory, Object, Read, Size, Text, Usage}
+use Rattle.pm_trace.specs.Faults.{exit_after, exit_by}
+use Rattle.pm_trace.specs.Report.{Report, Reports, exit_of, fault_lines, pieces, refusal, report_of}
+use Rattle.pm_replay.specs.Drive.{acts, driven}
+use Rattle.pm_replay.specs.Drove.{Drove}
+use Rattle.pm_replay.specs.Replay.{Touched, closing_after, closing_where, fault_at, replay_report, texts, until}
+use Rattle.pm_replay.specs.Replayed.{IsReadFault, Holds, IsRun, IsScriptOf, Replayed, script_in, script_or_fault}
+use Rattle.pm_replay.specs.Safe.{IsSafe}
+use Rattle.pm_replay.specs.Within.{RanScript}
+use Rattle.pm_replay.specs.World.{World}
+
+-- ---- the script of a prefix
+
+end_is_bad : (fault : LineFault) → Bad fault ≡ End → ⊥
+end_is_bad fault e = cc
+
+failed_is_bad : (fault : LineFault) → Bad fault ≡ Failed → ⊥
+failed_is_bad fault e = cc
+
+script_none : (p : Prefix) → p.stop ≡ reason.Unbegun → script_or_fault (script_of p) ≡ Err Read
+script_none p is = ap (λ (r : StopReason). script_or_fault (script_where r p)) is
+
+script_some : (p : Prefix) → (p.stop ≡ reason.Unbegun → ⊥) → script_or_fault (script_of p) ≡ Ok (script_from (script_lines p) (stop_of p.stop))
+script_some p begun = by p.stop refl
+  where
+    by : (r : StopReason) → p.stop ≡ r → script_or_fault (script_where r p) ≡ Ok (script_from (script_lines p) (stop_of p.stop))
+    by reason.End is = refl
+    by reason.Limit is = refl
+    by reason.Failure is = refl
+    by reason.Unbegun is = absurd (begun is)
+
+fails_by : (means : Result Event LineFault) (s : Script) (stop : Stop) → (s.stop ≡ Failed → stop ≡ Failed) → (before means s).stop ≡ Failed → stop ≡ Failed
+fails_by (Ok event) s stop later fails = later fails
+fails_by (Err fault) s stop later fails = absurd (failed_is_bad fault fails)
+
+-- the script of lines can't be read on only where no more lines follow for that
+stays_failed : (lines : List (List ℕ)) (stop : Stop) → (script_from lines stop).stop ≡ Failed → stop ≡ Failed
+unfolding script_from
+stays_failed [] stop fails = fails
+stays_failed (line ∷ lines) stop fails = fails_by (meaning line) (script_from lines stop) stop (stays_failed lines stop) fails
+
+unread : (r : StopReason) → stop_of r ≡ Failed → IsUnread r
+unread reason.End is = cc
+unread reason.Limit is = cc
+unread reason.Failure is = tt
+unread reason.Unbegun is = tt
+
+-- the script of lines comes to its end only where the lines do and each of them has a meaning
+pub record Whole (lines : List (List ℕ)) (stop : Stop) : Type 0 where
+  pub ends : stop ≡ End
+  pub means : map meaning lines ≡ map (λ event. Ok event) (script_from lines stop).events
+
+whole_by : (line : List ℕ) (lines : List (List ℕ)) (stop : Stop) (means : Result Event LineFault) → meaning line ≡ means → ((script_from lines stop).stop ≡ End → Whole lines stop) → (before means (script_from lines stop)).stop ≡ End → (stop ≡ End) × (map meaning (line ∷ lines) ≡ map (λ event. Ok event) (before means (script_from lines stop)).events)
+whole_by line lines stop (Ok event) is later ends =
+    let rest = later ends in
+    (rest.ends, ap (λ (first : Result Event LineFault). first ∷ map meaning lines) is ∙ ap (λ (more : List (Result Event LineFault)). Ok event ∷ more) rest.means)
+whole_by line lines stop (Err fault) is later ends = absurd (end_is_bad fault ends)
+
+script_whole : (lines : List (List ℕ)) (stop : Stop) → (script_from lines stop).stop ≡ End → Whole lines stop
+unfolding script_from
+script_whole [] stop ends = record { ends = ends; means = refl }
+script_whole (line ∷ lines) stop ends =
+    let both = whole_by line lines stop (meaning line) refl (script_whole lines stop) ends in
+    record { ends = both.0; means = both.1 }
+
+end_only : (r : StopReason) → stop_of r ≡ End → r ≡ reason.End
+end_only reason.End is = refl
+end_only reason.Limit is = cc
+end_only reason.Failure is = cc
+end_only reason.Unbegun is = cc
+
+lines_whole : (p : Prefix) → p.stop ≡ reason.End → script_lines p ≡ lines_of p.bytes
+lines_whole p ends = rw ends refl
+
+-- a script that fails to be read was not read to its end or past its limit
+pub script_unread : (p : Prefix) → IsReadFault (script_or_fault (script_of p)) → IsUnread p.stop
+script_unread p fails = by p.stop refl
+  where
+    begun : (p.stop ≡ reason.Unbegun → ⊥) → IsUnread p.stop
+    begun can =
+        let P : Result Script Fault → Type 0 = λ job. IsReadFault job in
+        unread p.stop (stays_failed (script_lines p) (stop_of p.stop) (subst P (script_some p can) fails))
+
+    by : (r : StopReason) → p.stop ≡ r → IsUnread p.stop
+    by reason.End at = begun (λ not. let clash : reason.End ≡ reason.Unbegun = sym at ∙ not in cc)
+    by reason.Limit at = begun (λ not. let clash : reason.Limit ≡ reason.Unbegun = sym at ∙ not in cc)
+    by reason.Failure at = subst IsUnread (sym at) tt
+    by reason.Unbegun at = subst IsUnread (sym at) tt
+
+-- ---- the exits of a report
+
+stop_at_done : (n : ℕ) (stop : Stop) → exit_after (fault_at n stop) ≡ exit.Done → stop ≡ End
+stop_at_done n End is = refl
+stop_at_done n (Bad cause) is = cc
+stop_at_done n Past is = cc
+stop_at_done n Failed is = cc
+
+-- a report that is Done was written whole and has no fault
+pub record IsWhole (shown : Type 0) (r : Report) (old new : SinkMoment) (cut : Option ℕ) : Type 0 where
+  pub fault : exit_after r.fault ≡ exit.Done
+  pub uncut : cut ≡ None
+  pub wrote : Wrote shown (concat (pieces r)) old new
+
+not_done : exit.WriteFault ≡ exit.Done → ⊥
+not_done e = cc
+
+never_done : (fault : Fault) → exit_by fault ≡ exit.Done → ⊥
+never_done Usage is = cc
+never_done (Object fault) is = cc
+never_done (Text fault) is = cc
+never_done (Line n) is = cc
+never_done Read is = cc
+never_done Memory is = cc
+never_done Size is = cc
+
+done_fault : (fault : Option Fault) → exit_after fault ≡ exit.Done → fault ≡ None
+done_fault None is = refl
+done_fault (Some fault) is = absurd (never_done fault is)
+
+done_whole : (shown : Type 0) (r : Report) (old new : SinkMoment) (cut : Option ℕ) (result : Exit) → Leaves shown (pieces r) cut old new → result ≡ exit_of r cut → result ≡ exit.Done → IsWhole shown r old new cut
+done_whole shown r old new None result left ends is = record { fault = sym ends ∙ is; uncut = refl; wrote = left }
+done_whole shown r old new (Some k) result left ends is = by (nat_lt k (length r.body)) refl (sym ends ∙ is)
+  where
+    clash : (n m : ℕ) → k < m → m ≡ n → nat_lt k n ≡ false → ⊥
+    clash n m within is past = grind (arith, nat_tests)
+
+    by : (b : Bool) → nat_lt k (length r.body) ≡ b → (if b then exit.WriteFault else exit_after r.fault) ≡ exit.Done → IsWhole shown r old new (Some k)
+    by true within is = absurd (not_done is)
+    by false past is =
+        let same : pieces r ≡ r.body = ap (λ (f : Option Fault). r.body ++ fault_lines f) (done_fault r.fault is) ∙ append-nil r.body in
+        absurd (clash (length r.body) (length (pieces r)) (slice_get_within (pieces r) k left.piece left.is) (ap length same) past)
+
+-- ---- what a replay means
+
+some_is_none : {X : Type 0} {x : X} → Some x ≡ None → ⊥
+some_is_none e = cc
+
+err_is_ok : {X Y : Type 0} {x : X} {y : Y} → Err y ≡ Ok x → ⊥
+err_is_ok e = cc
+
+same_in_ok : {X Y : Type 0} {x y : X} → ◌≡◌ {A = Result X Y} (Ok x) (Ok y) → x ≡ y
+same_in_ok e = cc
+
+-- a script that was read whole
+pub record ReadWhole (m : Moment) (name : List ℕ) (s : Script) : Type 0 where
+  pub bytes : List ℕ
+  pub held : Holds m name bytes
+  pub means : map meaning (lines_of bytes) ≡ map (λ event. Ok event) s.events
+
+read_whole : (m : Moment) (name : List ℕ) (s : Script) → Ok s ≡ script_in m name → s.stop ≡ End → ReadWhole m name s
+read_whole m name s is ends = by_prefix (prefix_of script_limit (m.file name) m.room) refl is
+  where
+    begun : (p : Prefix) → p ≡ prefix_of script_limit (m.file name) m.room → Ok s ≡ script_or_fault (script_of p) → (p.stop ≡ reason.Unbegun → ⊥) → ReadWhole m name s
+    begun p at is can =
+        let same : s ≡ script_from (script_lines p) (stop_of p.stop) = same_in_ok (is ∙ script_some p can) in
+        let whole : Whole (script_lines p) (stop_of p.stop) = script_whole (script_lines p) (stop_of p.stop) (ap (λ (s : Script). s.stop) (sym same) ∙ ends) in
+        let end : p.stop ≡ reason.End = end_only p.stop whole.ends in
+        record {
+          bytes = p.bytes;
+          held = prefix_whole script_limit (m.file name) m.room p at end;
+          means = ap (map meaning) (sym (lines_whole p end)) ∙ whole.means ∙ ap (λ (s : Script). map (λ event. Ok event) s.events) (sym same);
+        }
+
+    by : (p : Prefix) → p ≡ prefix_of script_limit (m.file name) m.room → Ok s ≡ script_or_fault (script_of p) → (r : StopReason) → p.stop ≡ r → ReadWhole m name s
+    by p of is reason.End at = begun p of is (λ not. let clash : reason.End ≡ reason.Unbegun = sym at ∙ not in cc)
+    by p of is reason.Limit at = begun p of is (λ not. let clash : reason.Limit ≡ reason.Unbegun = sym at ∙ not in cc)
+    by p of is reason.Failure at = begun p of is (λ not. let clash : reason.Failure ≡ reason.Unbegun = sym at ∙ not in cc)
+    by p of is reason.Unbegun at = absurd (err_is_ok (sym (is ∙ script_none p at)))
+
+    by_prefix : (p : Prefix) → p ≡ prefix_of script_limit (m.file name) m.room → Ok s ≡ script_or_fault (script_of p) → ReadWhole m name s
+    by_prefix p of is = by p of is p.stop refl
+
+module _ {I O D : Type 0} (i : Inputs.Ghosts I) (o : Sink.Ghosts O) (d : Device.Ghosts D) (c : Setup) (name : List ℕ) (w w' : World I O D) (result : Exit) where
+  pub replay_done : Replayed i o d c name w w' result → i.observable → o.observable → result ≡ exit.Done → IsRun i o d c name w w'
+  replay_done did seen written is = by did.job did.answers did.cut did.asked did.left did.ends did.touched
+    where
+      by : (job : Result Script Fault) (answers : List (List Bool)) (cut : Option ℕ) → IsScriptOf i name w.inputs w'.inputs job → Leaves o.observable (pieces (report_of (replay_report c) job answers)) cut (o.state w.sink) (o.state w'.sink) → result ≡ exit_of (report_of (replay_report c) job answers) cut → Touched d c w.device w'.device job answers cut → IsRun i o d c name w w'
+      by (Err fault) answers cut asked left ends touched =
+          let whole = done_whole o.observable (refusal fault) (o.state w.sink) (o.state w'.sink) cut result left ends is in
+          absurd (some_is_none (done_fault (Some fault) whole.fault))
+      by (Ok s) answers cut asked left ends touched =
+          let r : Report = replay_report c s answers in
+          let whole = done_whole o.observable r (o.state w.sink) (o.state w'.sink) cut result left ends is in
+          let stop : s.stop ≡ End = stop_at_done (1 + length s.events) s.stop whole.fault in
+          let steps = driven c answers s.events in
+          let all : pieces r ≡ texts 0 steps ++ closing_after c steps ∷ [] =
+          ap (λ (stop : Stop). (texts 0 steps ++ closing_where stop (closing_after c steps)) ++ fault_lines (fault_at (1 + length s.events) stop)) stop
+          ∙ append-nil (texts 0 steps ++ closing_after c steps ∷ [])
+          in
+          let read : ReadWhole (i.state w.inputs) name s = read_whole (i.state w.inputs) name s (elim (asked.shown seen) [ inl memory ↦ absurd (err_is_ok (sym memory)) | inr script ↦ script ]) stop in
+          record {
+            script_bytes = read.bytes;
+            events = s.events;
+            answers = answers;
+            held = read.held;
+            means = read.means;
+            text = whole.wrote.appended written ∙ ap (λ (ps : List (List ℕ)). (o.state w.sink).bytes ++ concat ps) all;
+            drove = subst (λ (cut : Option ℕ). Drove d c (until cut steps) w.device w'.device) whole.uncut touched;
+          }
+
+  pub replay_safe : Replayed i o d c name w w' result → IsSafe d c.topology w.device w'.device
+  replay_safe did = by did.job did.answers did.cut did.touched
+    where
+      by : (job : Result Script Fault) (answers : List (List Bool)) (cut : Option ℕ) → Touched d c w.device w'.device job answers cut → IsSafe d c.topology w.device w'.device
+      by (Err fault) answers cut same = record { acts = []; given = same; ordered = tt }
+      by (Ok s) answers cut drove = record { acts = acts (until cut (driven c answers s.events)); given = drove.given; ordered = drove.ordered }
+
+  -- ---- how a replay came about
+
+  pub replay_refused : (fault : Fault) → IsScriptOf i name w.inputs w'.inputs (Err fault) → Reports o.observable (refusal fault) (o.state w.sink) (o.state w'.sink) result → w.device ≡ w'.device → Replayed i o d c name w w' result
+  replay_refused fault asked reports same = record { job = Err fault; answers = []; cut = reports.cut; asked = asked; left = reports.left; ends = reports.ends; touched = same }
+
+  pub starved : IsScriptOf i name w.inputs w'.inputs (Err Memory)
+  starved = record { shown = λ seen. inl refl; failed = λ is. no is; known = inr refl }
+    where
+      no : Memory ≡ Read → Rose (i.state w.inputs).faults (i.state w'.inputs).faults
+      no e = cc
+
+  pub unbegun : (p : Prefix) → ReadsPrefix i.observable name script_limit (i.state w.inputs) (i.state w'.inputs) p → p.stop ≡ reason.Unbegun → IsScriptOf i name w.inputs w'.inputs (Err Read)
+  unbegun p reads is = record {
+    shown = λ seen. inr (sym (script_none p is) ∙ ap (λ (q : Prefix). script_or_fault (script_of q)) (reads.is seen));
+    failed = λ read. reads.fault (subst IsUnread (sym is) tt);
+    known = inl refl;
+  }
+
+  pub read : (p : Prefix) → ReadsPrefix i.observable name script_limit (i.state w.inputs) (i.state w'.inputs) p → (p.stop ≡ reason.Unbegun → ⊥) → IsScriptOf i name w.inputs w'.inputs (Ok (script_from (script_lines p) (stop_of p.stop)))
+  read p reads begun = record {
+    shown = λ seen. inr (sym (script_some p begun) ∙ ap (λ (q : Prefix). script_or_fault (script_of q)) (reads.is seen));
+    failed = λ fails. reads.fault (unread p.stop (stays_failed (script_lines p) (stop_of p.stop) fails));
+    known = tt;
+  }
+
+  pub replay_ran : (s : Script) → IsScriptOf i name w.inputs w'.inputs (Ok s) → (ran : RanScript o d c s w.sink w'.sink w.device w'.device result) → Drove d c (until ran.cut (driven c ran.answers s.events)) w.device w'.device → Replayed i o d c name w w' result
+  replay_ran s asked ran drove = record { job = Ok s; answers = ran.answers; cut = ran.cut; asked = asked; left = ran.went.left; ends = ran.ends; touched = drove }

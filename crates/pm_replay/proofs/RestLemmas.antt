@@ -1,0 +1,227 @@
+-- What comes after the lines of a script, and step 0 before them.
+use Rattle.std.proofs.Common.{◌≡◌, ℕ, ◌+◌, ◌<◌, ◌≤◌, Bool, true, List, [], ◌∷◌, ◌++◌, length, Option, Some, None, Ok, Err, if◌then◌else◌, suc, refl, sym, ◌∙◌, ap, subst, arith, take_all}
+use Rattle.std.specs.Prelude.{nat_lt}
+use Rattle.std.specs.List.{concat}
+use Rattle.std.proofs.lemmas.Bool.Decides.{nat_tests}
+use Rattle.std.proofs.lemmas.List.{append_assoc, append-nil, length-append}
+use Rattle.std.proofs.lemmas.Option.{slice_get_within}
+use Rattle.pm_base.specs.declared.errors.Exit.{Exit}
+use Rattle.pm_base.specs.declared.errors.Exit.TheVariants.{WriteFault}
+use Rattle.pm_base.specs.declared.events.Event.{Event}
+use Rattle.pm_base.specs.declared.prefix.StopReason.{StopReason}
+use Rattle.pm_base.specs.declared.prefix.StopReason.TheVariants as reason
+use Rattle.pm_base.specs.declared.sink.Sink as Sink
+use Rattle.pm_base.specs.Sink.{BreaksIn, Leaves, SinkMoment, Wrote}
+use Rattle.pm_base.proofs.SinkLemmas.{Wrote-is}
+use Rattle.pm_device.specs.declared.device.Device as Device
+use Rattle.pm_device.specs.Act.{Act, Chain}
+use Rattle.pm_device.specs.Chains.{Chain-append}
+use Rattle.pm_core.specs.Load.{load_of}
+use Rattle.pm_core.specs.Run.{Setup, step_0, steps_of}
+use Rattle.pm_core.specs.State.{State}
+use Rattle.pm_core.specs.Step.{outputs_at_load}
+use Rattle.pm_apply.specs.Part.{Kept, Part, answers_in, orders_in, part_in, part_of}
+use Rattle.pm_apply.specs.Record.{at_zero}
+use Rattle.pm_script.specs.Script.{Script, Stop, stop_of}
+use Rattle.pm_trace.specs.Closing.{closing_text}
+use Rattle.pm_trace.specs.declared.faults.Fault.{Fault}
+use Rattle.pm_trace.specs.declared.faults.Fault.TheVariants.{Line}
+use Rattle.pm_trace.specs.Faults.{exit_after}
+use Rattle.pm_trace.specs.Report.{Report, Reports, exit_of, fault_lines, pieces, refusal}
+use Rattle.pm_trace.specs.Step.{step_text as core_text}
+use Rattle.pm_replay.specs.declared.lines.LineStop.TheVariants as lines
+use Rattle.pm_replay.specs.Drive.{Driven, acts, acts_of, drive, driven, last_book, last_kept}
+use Rattle.pm_replay.specs.Replay.{closing_where, fault_at, replay_report, texts, until}
+use Rattle.pm_replay.specs.Within.{Controls, IsLoaded, RanLines, RanRest, RanScript, Started, Went, closing_report, driven_from, report_from, setup_of}
+use Rattle.pm_replay.proofs.DriveLemmas.{until-cons}
+use Rattle.pm_replay.proofs.LeavesLemmas.{Leaves-append, Leaves-before, behind}
+
+-- ---- reports behind pieces that were written
+
+-- a report with some pieces before it
+abbrev pub report_after : List (List ℕ) → Report → Report
+report_after done r = record { body = done ++ r.body; fault = r.fault }
+
+pub exit-after : (done : List (List ℕ)) (r : Report) (cut : Option ℕ) → exit_of (report_after done r) (behind (length done) cut) ≡ exit_of r cut
+exit-after done r None = refl
+exit-after done r (Some k) =
+    ap (λ (b : Bool). if b then WriteFault else exit_after r.fault) (same (length done) k (length r.body) (length (done ++ r.body)) (length-append done r.body))
+  where
+    same : (m k n all : ℕ) → all ≡ m + n → nat_lt (m + k) all ≡ nat_lt k n
+    same m k n all is = grind (arith, nat_tests)
+
+pub left-after : (shown : Type 0) (done : List (List ℕ)) (r : Report) (cut : Option ℕ) (first mid last : SinkMoment) → Wrote shown (concat done) first mid → Leaves shown (pieces r) cut mid last → Leaves shown (pieces (report_after done r)) (behind (length done) cut) first last
+left-after shown done r cut first mid last before after =
+    subst (λ (all : List (List ℕ)). Leaves shown all (behind (length done) cut) first last) (sym (append_assoc done r.body (fault_lines r.fault))) (Leaves-append shown done (pieces r) cut first mid last before after)
+
+-- the sink broke off within the closing table
+pub Reports-cut : (shown : Type 0) (table : List ℕ) (old new : SinkMoment) → BreaksIn shown 0 (table ∷ []) old new → Reports shown (record { body = table ∷ []; fault = None }) old new WriteFault
+Reports-cut shown table old new breaks = record { cut = Some 0; left = breaks; ends = refl }
+
+-- ---- what was driven before a cut that comes later
+
+pub length-texts : (n : ℕ) (xs : List Driven) → length (texts n xs) ≡ length xs
+length-texts n [] = refl
+length-texts n (x ∷ xs) = ap suc (length-texts (n + 1) xs)
+
+pub until-past : {X : Type 0} (m : ℕ) (cut : Option ℕ) (xs : List X) → length xs ≤ m → until (behind m cut) xs ≡ xs
+until-past m None xs long = refl
+until-past m (Some k) xs long = take_all (m + k + 1) xs (omega arith)
+
+-- the number of a line is told for a bad one alone
+fault-anywhere : (m n : ℕ) (r : StopReason) → fault_at m (stop_of r) ≡ fault_at n (stop_of r)
+fault-anywhere m n reason.End = refl
+fault-anywhere m n reason.Limit = refl
+fault-anywhere m n reason.Failure = refl
+fault-anywhere m n reason.Unbegun = refl
+
+module _ {O D : Type 0} (o : Sink.Ghosts O) (d : Device.Ghosts D) where
+  -- lines were all carried out or one is bad, and after a report was written
+  rest_by : (n : ℕ) (s : Script) (now : Controls) (old mid new : O) (from to : D) (exit : Exit) (answers : List (List Bool)) (cut : Option ℕ) (r : Report) → Went o d (texts n (driven_from now answers s.events)) (driven_from now answers s.events) cut old mid from to → cut ≡ None → Reports o.observable r (o.state mid) (o.state new) exit → report_from n now s answers ≡ report_after (texts n (driven_from now answers s.events)) r → RanRest o d n s now old new from to exit
+  rest_by n s now old mid new from to exit answers cut r went whole reports is =
+      let xs : List Driven = driven_from now answers s.events in
+      let done : List (List ℕ) = texts n xs in
+      let wrote : Wrote o.observable (concat done) (o.state old) (o.state mid) = subst (λ (c : Option ℕ). Leaves o.observable done c (o.state old) (o.state mid)) whole went.left in
+      let given : Chain d.Does (acts xs) from to = subst (λ (c : Option ℕ). Chain d.Does (acts (until c xs)) from to) whole went.given in
+      record {
+        answers = answers;
+        cut = behind (length done) reports.cut;
+        went = record {
+          left = subst (λ (all : Report). Leaves o.observable (pieces all) (behind (length done) reports.cut) (o.state old) (o.state new)) (sym is) (left-after o.observable done r reports.cut (o.state old) (o.state mid) (o.state new) wrote reports.left);
+          given = subst (λ (ys : List Driven). Chain d.Does (acts ys) from to) (sym (until-past (length done) reports.cut xs (omega (arith, length-texts n xs)))) given;
+        };
+        ends = reports.ends ∙ sym (exit-after done r reports.cut) ∙ ap (λ (all : Report). exit_of all (behind (length done) reports.cut)) (sym is);
+      }
+
+  -- lines were carried out, and what comes after them was written
+  pub RanRest-closed : (n : ℕ) (s : Script) (r : StopReason) (now after : Controls) (old mid new : O) (from to : D) (exit : Exit) → RanLines o d n s (stop_of r) now after old mid from to (Ok tt) → Reports o.observable (closing_report (stop_of r) after.book after.kept) (o.state mid) (o.state new) exit → RanRest o d n s now old new from to exit
+  RanRest-closed n s r now after old mid new from to exit ran reports =
+      let xs : List Driven = driven_from now ran.answers s.events in
+      let number : ℕ = n + length s.events in
+      let whole = ran.ends.0 in
+      let stop : s.stop ≡ stop_of r = ran.ends.1 in
+      let book : after.book ≡ last_book now.book xs = ran.ends.2 in
+      let kept : after.kept ≡ last_kept now.kept xs = ran.ends.3 in
+      let is : report_from n now s ran.answers ≡ report_after (texts n xs) (closing_report (stop_of r) after.book after.kept) =
+      ap (λ (stop : Stop). record { body = texts n xs ++ closing_where stop (closing_text (last_book now.book xs) (last_kept now.kept xs)); fault = fault_at number stop }) stop
+      ∙ ap (λ (b : State). record { body = texts n xs ++ closing_where (stop_of r) (closing_text b (last_kept now.kept xs)); fault = fault_at number (stop_of r) }) (sym book)
+      ∙ ap (λ (k : Kept). record { body = texts n xs ++ closing_where (stop_of r) (closing_text after.book k); fault = fault_at number (stop_of r) }) (sym kept)
+      ∙ ap (λ (f : Option Fault). record { body = texts n xs ++ closing_where (stop_of r) (closing_text after.book after.kept); fault = f }) (fault-anywhere number 0 r)
+      in
+      rest_by n s now old mid new from to exit ran.answers ran.cut (closing_report (stop_of r) after.book after.kept) ran.went whole reports is
+
+  -- a line has no meaning, and the line of that fault was written
+  pub RanRest-bad : (n m : ℕ) (s : Script) (stop : Stop) (now after : Controls) (old mid new : O) (from to : D) (exit : Exit) → RanLines o d n s stop now after old mid from to (Err (lines.Bad m)) → Reports o.observable (refusal (Line m)) (o.state mid) (o.state new) exit → RanRest o d n s now old new from to exit
+  RanRest-bad n m s stop now after old mid new from to exit ran reports =
+      let xs : List Driven = driven_from now ran.answers s.events in
+      let table : List ℕ = closing_text (last_book now.book xs) (last_kept now.kept xs) in
+      let is : report_from n now s ran.answers ≡ report_after (texts n xs) (refusal (Line m)) =
+      ap (λ (stop : Stop). record { body = texts n xs ++ closing_where stop table; fault = fault_at (n + length s.events) stop }) ran.ends.2
+      ∙ ap (λ (number : ℕ). record { body = texts n xs ++ []; fault = Some (Line number) }) (sym ran.ends.3)
+      in
+      rest_by n s now old mid new from to exit ran.answers ran.cut (refusal (Line m)) ran.went ran.ends.0 reports is
+
+  -- the sink broke off within the lines
+  pub RanRest-broken : (n : ℕ) (s : Script) (stop : Stop) (now after : Controls) (old new : O) (from to : D) → RanLines o d n s stop now after old new from to (Err lines.Sink) → RanRest o d n s now old new from to WriteFault
+  RanRest-broken n s stop now after old new from to ran =
+      let xs : List Driven = driven_from now ran.answers s.events in
+      let r : Report = report_from n now s ran.answers in
+      let k : ℕ = ran.ends.0 in
+      let tail : List (List ℕ) = closing_where s.stop (closing_text (last_book now.book xs) (last_kept now.kept xs)) in
+      let breaks : BreaksIn o.observable k (texts n xs) (o.state old) (o.state new) = subst (λ (c : Option ℕ). Leaves o.observable (texts n xs) c (o.state old) (o.state new)) ran.ends.1 ran.went.left in
+      let within : k < length (texts n xs) = slice_get_within (texts n xs) k breaks.piece breaks.is in
+      record {
+        answers = ran.answers;
+        cut = Some k;
+        went = record {
+          left = Leaves-before o.observable (texts n xs ++ tail) (fault_lines r.fault) k (o.state old) (o.state new) (Leaves-before o.observable (texts n xs) tail k (o.state old) (o.state new) breaks);
+          given = subst (λ (c : Option ℕ). Chain d.Does (acts (until c xs)) from to) ran.ends.1 ran.went.given;
+        };
+        ends = ap (λ (b : Bool). if b then WriteFault else exit_after r.fault) (sym (inside k (length (texts n xs)) (length tail) (length (texts n xs ++ tail)) within (length-append (texts n xs) tail)));
+      }
+    where
+      inside : (k m n all : ℕ) → k < m → all ≡ m + n → nat_lt k all ≡ true
+      inside k m n all within is = grind (arith, nat_tests)
+
+  -- ---- step 0
+
+  -- step 0 with what the device was told for it
+  abbrev pub first_step : Setup → List Event → Part → Driven
+  first_step c events part = record { step = step_0 c events; parts = part ∷ [] }
+
+  driven_first : (now after : Controls) (events : List Event) (later : List (List Bool)) (from to : D) → IsLoaded now → Started o d now after from to → driven (setup_of now.book) (answers_in after.outbox ∷ later) events ≡ first_step (setup_of now.book) events (part_in after.kept after.outbox) ∷ driven_from after later events
+  driven_first now after events later from to loaded started =
+      let c : Setup = setup_of now.book in
+      let load : State = load_of c.object c.topology in
+      let P : Part = part_of (at_zero c.topology) (answers_in after.outbox) load (outputs_at_load load) in
+      let Q : Part = part_in after.kept after.outbox in
+      let is : P ≡ Q =
+      ap (λ (b : State). part_of (at_zero c.topology) (answers_in after.outbox) b (outputs_at_load b)) (sym loaded.book)
+      ∙ ap (λ (k : Kept). part_of k (answers_in after.outbox) now.book (outputs_at_load now.book)) (sym loaded.kept)
+      ∙ sym started.part
+      in
+      ap (λ (p : Part). first_step c events p ∷ drive p.kept later (steps_of events (record { book = load }))) is
+      ∙ ap (λ (b : State). first_step c events Q ∷ drive after.kept later (steps_of events (record { book = b }))) (sym loaded.book ∙ sym started.book)
+
+  -- the report of a script is that of its lines behind the text of step 0
+  report_first : (now after : Controls) (s : Script) (later : List (List Bool)) (from to : D) → IsLoaded now → Started o d now after from to → replay_report (setup_of now.book) s (answers_in after.outbox ∷ later) ≡ report_after (core_text 0 after.outbox.done.items after.outbox.answer ∷ []) (report_from 1 after s later)
+  report_first now after s later from to loaded started =
+      let c : Setup = setup_of now.book in
+      let load : State = load_of c.object c.topology in
+      let Q : Part = part_in after.kept after.outbox in
+      let ys : List Driven = driven_from after later s.events in
+      ap (λ (xs : List Driven). record { body = texts 0 xs ++ closing_where s.stop (closing_text (last_book load xs) (last_kept (at_zero c.topology) xs)); fault = fault_at (1 + length s.events) s.stop }) (driven_first now after s.events later from to loaded started)
+      ∙ ap (λ (text : List ℕ). record { body = text ∷ (texts 1 ys ++ closing_where s.stop (closing_text (last_book load ys) (last_kept after.kept ys))); fault = fault_at (1 + length s.events) s.stop }) (append-nil (core_text 0 Q.commands Q.answer))
+      ∙ ap (λ (b : State). record { body = core_text 0 Q.commands Q.answer ∷ (texts 1 ys ++ closing_where s.stop (closing_text (last_book b ys) (last_kept after.kept ys))); fault = fault_at (1 + length s.events) s.stop }) (sym loaded.book ∙ sym started.book)
+
+  acts_first : (now after : Controls) (events : List Event) → acts_of (first_step (setup_of now.book) events (part_in after.kept after.outbox)) ≡ orders_in after.outbox
+  acts_first now after events = append-nil (orders_in after.outbox)
+
+  -- step 0 was written, and after the rest of the script was run
+  pub RanScript-first : (s : Script) (now after : Controls) (old mid new : O) (from via to : D) (exit : Exit) → IsLoaded now → Started o d now after from via → Wrote o.observable (core_text 0 after.outbox.done.items after.outbox.answer) (o.state old) (o.state mid) → RanRest o d 1 s after mid new via to exit → RanScript o d (setup_of now.book) s old new from to exit
+  RanScript-first s now after old mid new from via to exit loaded started wrote rest =
+      let c : Setup = setup_of now.book in
+      let first : List ℕ = core_text 0 after.outbox.done.items after.outbox.answer in
+      let x : Driven = first_step c s.events (part_in after.kept after.outbox) in
+      let ys : List Driven = driven_from after rest.answers s.events in
+      let is = report_first now after s rest.answers from via loaded started in
+      let xs_are = driven_first now after s.events rest.answers from via loaded started in
+      let one : Wrote o.observable (concat (first ∷ [])) (o.state old) (o.state mid) = Wrote-is o.observable first (first ++ []) (o.state old) (o.state mid) (sym (append-nil first)) wrote in
+      record {
+        answers = answers_in after.outbox ∷ rest.answers;
+        cut = behind 1 rest.cut;
+        went = record {
+          left = subst (λ (r : Report). Leaves o.observable (pieces r) (behind 1 rest.cut) (o.state old) (o.state new)) (sym is) (left-after o.observable (first ∷ []) (report_from 1 after s rest.answers) rest.cut (o.state old) (o.state mid) (o.state new) one rest.went.left);
+          given =
+              let step : Chain d.Does (acts_of x) from via = subst (λ (done : List Act). Chain d.Does done from via) (sym (acts_first now after s.events)) started.given in
+              let whole = Chain-append d.Does (acts_of x) (acts (until rest.cut ys)) from via to step rest.went.given in
+              let cut = subst (λ (xs : List Driven). Chain d.Does (acts xs) from to) (sym (until-cons rest.cut x ys)) whole in
+              subst (λ (xs : List Driven). Chain d.Does (acts (until (behind 1 rest.cut) xs)) from to) (sym xs_are) cut;
+        };
+        ends = rest.ends ∙ sym (exit-after (first ∷ []) (report_from 1 after s rest.answers) rest.cut) ∙ ap (λ (r : Report). exit_of r (behind 1 rest.cut)) (sym is);
+      }
+
+  -- the sink broke off within the text of step 0
+  pub RanScript-cut : (s : Script) (now after : Controls) (old new : O) (from to : D) → IsLoaded now → Started o d now after from to → BreaksIn o.observable 0 (core_text 0 after.outbox.done.items after.outbox.answer ∷ []) (o.state old) (o.state new) → RanScript o d (setup_of now.book) s old new from to WriteFault
+  RanScript-cut s now after old new from to loaded started breaks =
+      let c : Setup = setup_of now.book in
+      let first : List ℕ = core_text 0 after.outbox.done.items after.outbox.answer in
+      let rest : Report = report_from 1 after s [] in
+      let x : Driven = first_step c s.events (part_in after.kept after.outbox) in
+      let ys : List Driven = driven_from after [] s.events in
+      let is = report_first now after s [] from to loaded started in
+      let xs_are = driven_first now after s.events [] from to loaded started in
+      record {
+        answers = answers_in after.outbox ∷ [];
+        cut = Some 0;
+        went = record {
+          left = subst (λ (r : Report). Leaves o.observable (pieces r) (Some 0) (o.state old) (o.state new)) (sym is) (Leaves-before o.observable (first ∷ []) (rest.body ++ fault_lines rest.fault) 0 (o.state old) (o.state new) breaks);
+          given =
+              let step : Chain d.Does (acts (x ∷ [])) from to = subst (λ (done : List Act). Chain d.Does done from to) (sym (append-nil (acts_of x) ∙ acts_first now after s.events)) started.given in
+              subst (λ (xs : List Driven). Chain d.Does (acts (until (Some 0) xs)) from to) (sym xs_are) step;
+        };
+        ends = ap (λ (b : Bool). if b then WriteFault else exit_after rest.fault) (sym (some first rest.body)) ∙ ap (λ (r : Report). exit_of r (Some 0)) (sym is);
+      }
+    where
+      some : (x : List ℕ) (xs : List (List ℕ)) → nat_lt 0 (length (x ∷ xs)) ≡ true
+      some x xs = grind (arith, nat_tests)

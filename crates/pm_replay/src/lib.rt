@@ -1,0 +1,11 @@
+//! A script is run over a book of requirements and a device, line by line, and its text is written.
+#![tactic(auto)]
+
+mod controller;
+mod laws;
+mod lines;
+mod run;
+mod writing;
+
+pub use laws::{a_script_that_fails, driven_follows};
+pub use run::replay;

@@ -1,0 +1,49 @@
+//! The text of a run is written: the lines of a step, and the closing table.
+
+ghost use Rattle.std.specs.Prelude.{◌≡◌, ◌<◌, Some, length, map, slice_get};
+ghost use Rattle.pm_apply.specs.Part.{outputs_in, part_in};
+ghost use Rattle.pm_core.specs.Units.{units};
+ghost use Rattle.pm_trace.specs.Closing.{closing_lines, closing_text};
+ghost use Rattle.pm_trace.specs.Step.{step_text};
+ghost use Rattle.pm_replay.specs.Within.{Writes};
+
+use crate::controller::Controller;
+use pm_base::{Failed, Sink, write_all};
+use pm_core::Outbox;
+use pm_trace::{TextLine, closing, entries, entry};
+
+/// Writes the lines of a step.
+pub(crate) fn write_step<O: Sink>(number: u32, outbox: &Outbox, out: &mut O) -> Result<(), Failed>
+    ensures { Writes O.observable (step_text number outbox.now.done.items outbox.now.answer)
+        (O.state out.old) (O.state out.new) result }
+{
+    let mut line = TextLine::new();
+    for k in 0..entries(outbox) {
+        entry(number, outbox, k, &mut line);
+        write_all(out, line.as_slice())?;
+    }
+    Ok(())
+}
+
+/// Writes the closing table.
+pub(crate) fn write_closing<O: Sink>(controller: &Controller, out: &mut O) -> Result<(), Failed>
+    ensures { Writes O.observable (closing_text controller.now.book controller.now.kept) (O.state out.old) (O.state out.new) result }
+{
+    let mut line = TextLine::new();
+    for k in 0..controller.book().units() {
+        // The line of a unit that isn't shown is empty.
+        closing_line(controller, k, &mut line);
+        write_all(out, line.as_slice())?;
+    }
+    Ok(())
+}
+
+/// Leaves in `line` the closing line of the `k`-th unit, counted from 0.
+fn closing_line(controller: &Controller, k: usize, line: &mut TextLine)
+    requires place { k < length (units controller.now.book) }
+    ensures { slice_get (closing_lines controller.now.book controller.now.kept) k ≡ Some line.new.items }
+{
+    let book = controller.book();
+    let kept = controller.kept().value(book.unit(k));
+    closing(book, k, kept, line);
+}

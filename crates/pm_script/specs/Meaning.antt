@@ -1,0 +1,53 @@
+-- What a line of a script means.
+use Rattle.std.specs.Prelude.{ℕ, ◌-◌, ◌^◌, ◌&&◌, Bool, nat_lt, nat_le, if◌then◌else◌, List, [], ◌∷◌, length, codes, slice_get, Option, Some, None, is_some, ok_or, unwrap_or, option_and_then, Result, Ok, Err}
+use Rattle.std.specs.List.{list_all}
+use Rattle.std.specs.Str.{bytes_eq}
+use Rattle.pm_base.specs.declared.events.Event.{Event}
+use Rattle.pm_base.specs.declared.events.Event.TheVariants.{Ipi, Pass}
+use Rattle.pm_base.specs.Lines.{without_return, is_plain}
+use Rattle.pm_base.specs.Words.{word_texts}
+use Rattle.pm_base.specs.Numbers.{number_of, at_most}
+use Rattle.pm_script.specs.declared.meaning.LineFault.{LineFault}
+use Rattle.pm_script.specs.declared.meaning.LineFault.TheVariants.{Unknown, Number, Count, Long, NotAscii}
+
+-- the number of a word, where it is one that fits 32 bits
+abbrev pub number_of_word : List ℕ → Option ℕ
+number_of_word word = at_most (2 ^ 32 - 1) (number_of word)
+
+abbrev pub is_number : List ℕ → Bool
+is_number word = is_some (number_of_word word)
+
+-- the number at a place of a list of words: 0 where no word is there
+abbrev pub number_at : List (List ℕ) → ℕ → ℕ
+number_at words k = unwrap_or (option_and_then number_of_word (slice_get words k)) 0
+
+-- the number of a word that may be missing
+abbrev pub given_number : Option (List ℕ) → Result ℕ LineFault
+given_number None = Ok 0
+given_number (Some word) = ok_or (number_of_word word) Number
+
+-- what a line means whose first word is followed by `least` to `most` words, each of them a number
+abbrev pub numbers_meaning : ℕ → ℕ → (List (List ℕ) → Event) → List (List ℕ) → Result Event LineFault
+numbers_meaning least most event words =
+    if nat_le least (length words) && nat_le (length words) most then (if list_all is_number words then Ok (event words) else Err Number)
+    else Err Count
+
+-- `ipi M API` and 0 to 5 arguments: master M sends a message. Missing arguments are 0
+abbrev pub message_event : List (List ℕ) → Event
+message_event words =
+    Ipi (record { 0 = number_at words 0 })
+    (record { api = number_at words 1; args = number_at words 2 ∷ number_at words 3 ∷ number_at words 4 ∷ number_at words 5 ∷ number_at words 6 ∷ [] })
+
+abbrev pub ipi_meaning : List (List ℕ) → Result Event LineFault
+ipi_meaning words = numbers_meaning 2 7 message_event words
+
+-- what a line with these words means: the first one says what kind of line it is
+abbrev pub words_meaning : List (List ℕ) → Result Event LineFault
+words_meaning [] = Ok Pass
+words_meaning (kind ∷ words) = if bytes_eq kind (codes "ipi") then ipi_meaning words else Err Unknown
+
+-- what a line means: an event, or its first fault. A line with no word does nothing
+abbrev pub meaning : List ℕ → Result Event LineFault
+meaning line =
+    if nat_lt 255 (length line) then Err Long
+    else (if list_all is_plain (without_return line) then words_meaning (word_texts line) else Err NotAscii)

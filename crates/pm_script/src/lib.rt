@@ -1,0 +1,8 @@
+//! The lines of a script: what each of them means, and the events that they give.
+#![tactic(auto)]
+
+pub mod meaning;
+pub mod script;
+
+pub use meaning::{LineFault, parse_line};
+pub use script::{SCRIPT_LIMIT, ending_of, next_event};

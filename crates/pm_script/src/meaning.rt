@@ -1,0 +1,86 @@
+//! What a line of a script means.
+
+ghost use Rattle.std.specs.Prelude.{◌≡◌, ◌↔◌, ◌<◌, ◌≤◌, drop, length, slice_get, IsTrue};
+ghost use Rattle.pm_base.specs.Words.{words, word_texts};
+ghost use Rattle.pm_script.specs.Meaning.{meaning, ipi_meaning, given_number};
+
+use pm_base::{
+    Event, Message, NodeId, TOO_LONG, is_plain, number, without_return, word, word_text,
+};
+
+/// Why a line of a script has no meaning. Where a line has several faults, the first of `Long`,
+/// `NotAscii`, `Unknown`, `Count` and `Number` is answered.
+#[derive(Clone, Copy, Debug, PartialEq, Eq)]
+pub enum LineFault {
+    /// The first word names no kind of line.
+    Unknown = 1,
+    /// A word is no number, or doesn't fit 32 bits.
+    Number = 2,
+    /// There are too few or too many words.
+    Count = 3,
+    /// The line has more than 255 bytes, its line feed not counted.
+    Long = 4,
+    /// A byte is neither a tab nor printable ASCII.
+    NotAscii = 5,
+}
+
+/// What a line without its line feed means. A line with no word is `Event::Pass`, and the line
+/// `ipi M API` with 0 to 5 arguments is a message of master M.
+pub fn parse_line(line: &[u8]) -> Result<Event, LineFault>
+    ensures { result ≡ meaning line.now }
+{
+    if line.len() >= TOO_LONG {
+        return Err(LineFault::Long);
+    }
+    if !is_plain(without_return(line)) {
+        return Err(LineFault::NotAscii);
+    }
+    match word_text(line, 0) {
+        None => Ok(Event::Pass),
+        Some(b"ipi") => parse_ipi(line),
+        Some(_) => Err(LineFault::Unknown),
+    }
+}
+
+/// The message of a line `ipi M API` and 0 to 5 arguments.
+fn parse_ipi(line: &[u8]) -> Result<Event, LineFault>
+    ensures { result ≡ ipi_meaning (drop 1 (word_texts line.now)) }
+{
+    if !has_words(line, 3, 8) {
+        return Err(LineFault::Count);
+    }
+    let master = NodeId(number_at(line, 1)?);
+    let api = number_at(line, 2)?;
+    let args = [
+        number_at(line, 3)?,
+        number_at(line, 4)?,
+        number_at(line, 5)?,
+        number_at(line, 6)?,
+        number_at(line, 7)?,
+    ];
+    Ok(Event::Ipi {
+        master,
+        message: Message { api, args },
+    })
+}
+
+/// Whether the line has `least` to `most` words.
+fn has_words(line: &[u8], least: usize, most: usize) -> bool
+    requires { 0 < least }
+    ensures { IsTrue result ↔ ((least ≤ length (words line.now)) × (length (words line.now) ≤ most)) }
+{
+    word(line, least - 1).is_some() && word(line, most).is_none()
+}
+
+/// The number of the word at place `k`. It is 0 where there is no such word.
+fn number_at(line: &[u8], k: usize) -> Result<u32, LineFault>
+    ensures { result ≡ given_number (slice_get (word_texts line.now) k) }
+{
+    match word_text(line, k) {
+        None => Ok(0),
+        Some(text) => match number(text, u32::MAX.into()) {
+            Some(value) => Ok(value as u32),
+            None => Err(LineFault::Number),
+        },
+    }
+}

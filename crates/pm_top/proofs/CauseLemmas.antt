@@ -1,0 +1,73 @@
+-- A fault of reading comes only where the inputs show that one may fail.
+use Rattle.std.proofs.Common.{◌≡◌, ℕ, ◌<◌, ◌≤◌, ◌⊎◌, Bool, true, false, List, Some, None, Result, Ok, Err, refl, sym, ◌∙◌, subst, inl, inr}
+use Rattle.std.specs.Prelude.{IsSomeAnd}
+use Rattle.std.proofs.lemmas.Bool.{cases_lt}
+use Rattle.pm_base.specs.Inputs.{FailsWithin, MayFail, Moment}
+use Rattle.pm_base.specs.Prefix.{IsUnread, Prefix, prefix_of}
+use Rattle.pm_base.proofs.PrefixEnds.{prefix_fails}
+use Rattle.pm_object.specs.declared.object.Object.{Object}
+use Rattle.pm_script.specs.Script.{Script, script_limit, script_of}
+use Rattle.pm_trace.specs.declared.faults.Fault.{Fault}
+use Rattle.pm_replay.specs.Replayed.{IsReadFault, script_or_fault}
+use Rattle.pm_top.specs.declared.form.Form.{Form}
+use Rattle.pm_top.specs.declared.form.Form.TheVariants.{Replay, Print, Build}
+use Rattle.pm_top.specs.Form.{word}
+use Rattle.pm_top.specs.Job.{FailsToRead, built_of, first_prefix, job_of, object_limit, object_of, replay_job, second_prefix, text_limit, with_script}
+use Rattle.pm_top.specs.Ran.{FormMayFail}
+use Rattle.pm_top.proofs.JobLemmas.{object_kind, text_kind}
+
+first_fails : (limit : ℕ) (m : Moment) (name : List ℕ) → IsUnread (first_prefix limit m name).stop → MayFail name limit m
+first_fails limit m name unread = prefix_fails limit (m.file name) m.room (first_prefix limit m name) refl unread
+
+one_or_more : (room : ℕ) (again : Bool) → (2 ≤ room → again ≡ true) → again ≡ false → room < 2
+one_or_more room again more not = elim (cases_lt room 2) [
+  | inl few ↦ few
+  | inr many ↦ let clash : true ≡ false = sym (more many) ∙ not in cc
+]
+
+second_fails : (m : Moment) (again : Bool) (name : List ℕ) → (2 ≤ m.room → again ≡ true) → IsUnread (second_prefix script_limit m again name).stop → (m.room < 2) ⊎ MayFail name script_limit m
+second_fails m again name more unread = by again refl
+  where
+    at : (room : ℕ) → IsUnread (prefix_of script_limit (m.file name) room).stop → ((m.file name ≡ None) ⊎ (room ≡ 0)) ⊎ IsSomeAnd (m.file name) (FailsWithin script_limit)
+    at room unread = prefix_fails script_limit (m.file name) room (prefix_of script_limit (m.file name) room) refl unread
+
+    one_is_none : (one : ℕ) → one ≡ 1 → one ≡ 0 → ⊥
+    one_is_none one is none = cc
+
+    by : (b : Bool) → again ≡ b → (m.room < 2) ⊎ MayFail name script_limit m
+    by false is = inl (one_or_more m.room again more is)
+    by true is = elim (at 1 (subst (λ (b : Bool). IsUnread (second_prefix script_limit m b name).stop) is unread)) [
+      | inl absent ↦ elim absent [
+        | inl none ↦ inr (inl (inl none))
+        | inr zero ↦ cc
+      ]
+      | inr fails ↦ inr (inr fails)
+    ]
+
+pub job_cause : (script_unread : (p : Prefix) → IsReadFault (script_or_fault (script_of p)) → IsUnread p.stop) (f : Form) (ws : List (List ℕ)) (m : Moment) (again : Bool) → (2 ≤ m.room → again ≡ true) → FailsToRead f (job_of f ws m again) → FormMayFail (Some f) ws m
+job_cause script_unread Print ws m again more fails = by (object_of (first_prefix object_limit m (word 1 ws))) refl fails
+  where
+    by : (v : Result Object Fault) → object_of (first_prefix object_limit m (word 1 ws)) ≡ v → FailsToRead Print v → MayFail (word 1 ws) object_limit m
+    by (Ok o) is none = absurd none
+    by (Err fault) is read = first_fails object_limit m (word 1 ws) ((object_kind (first_prefix object_limit m (word 1 ws)) fault is).1.unread read)
+job_cause script_unread Build ws m again more fails = by (built_of (first_prefix text_limit m (word 1 ws))) refl fails
+  where
+    by : (v : Result Object Fault) → built_of (first_prefix text_limit m (word 1 ws)) ≡ v → FailsToRead Build v → MayFail (word 1 ws) text_limit m
+    by (Ok o) is none = absurd none
+    by (Err fault) is read = first_fails text_limit m (word 1 ws) ((text_kind (first_prefix text_limit m (word 1 ws)) fault is).unread read)
+job_cause script_unread Replay ws m again more fails = by (object_of (first_prefix object_limit m (word 1 ws))) refl fails
+  where
+    script_fails : (o : Object) (job : Result Script Fault) → FailsToRead Replay (with_script o job) → IsReadFault job
+    script_fails o (Ok s) fails = fails
+    script_fails o (Err fault) fails = fails
+
+    first : MayFail (word 1 ws) object_limit m → FormMayFail (Some Replay) ws m
+    first fails = inr (inl fails)
+
+    second : (m.room < 2) ⊎ MayFail (word 2 ws) script_limit m → FormMayFail (Some Replay) ws m
+    second (inl few) = inl few
+    second (inr fails) = inr (inr fails)
+
+    by : (v : Result Object Fault) → object_of (first_prefix object_limit m (word 1 ws)) ≡ v → FailsToRead Replay (replay_job v (script_or_fault (script_of (second_prefix script_limit m again (word 2 ws))))) → FormMayFail (Some Replay) ws m
+    by (Ok o) is fails = second (second_fails m again (word 2 ws) more (script_unread (second_prefix script_limit m again (word 2 ws)) (script_fails o (script_or_fault (script_of (second_prefix script_limit m again (word 2 ws)))) fails)))
+    by (Err fault) is read = first (first_fails object_limit m (word 1 ws) ((object_kind (first_prefix object_limit m (word 1 ws)) fault is).0.unread read))

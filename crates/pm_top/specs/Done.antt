@@ -1,0 +1,64 @@
+-- The headline: what Done means. No limit, no reason to stop and no cut occurs in it.
+use Rattle.std.specs.Prelude.{◌≡◌, ℕ, Bool, List, ◌++◌, map, Option, Some, None, Ok}
+use Rattle.pm_base.specs.declared.events.Event.{Event}
+use Rattle.pm_base.specs.declared.inputs.Inputs as Inputs
+use Rattle.pm_base.specs.declared.sink.Sink as Sink
+use Rattle.pm_base.specs.Lines.{lines_of}
+use Rattle.pm_object.specs.declared.object.Object.{Object}
+use Rattle.pm_object.specs.Grammar.{Reads, little_endian, words_of}
+use Rattle.pm_objtext.specs.Meaning.{Means}
+use Rattle.pm_objtext.specs.Printing.{text_of}
+use Rattle.pm_topology.specs.Chip.{chip}
+use Rattle.pm_device.specs.declared.device.Device as Device
+use Rattle.pm_script.specs.Meaning.{meaning}
+use Rattle.pm_replay.specs.Drive.{driven}
+use Rattle.pm_replay.specs.Drove.{Drove}
+use Rattle.pm_replay.specs.Replayed.{Holds, run_text, setup}
+use Rattle.pm_replay.specs.World.{World}
+use Rattle.pm_top.specs.declared.form.Form.{Form}
+use Rattle.pm_top.specs.declared.form.Form.TheVariants.{Replay, Print, Build}
+use Rattle.pm_top.specs.Form.{form, word}
+
+module _ {I O : Type 0} (i : Inputs.Ghosts I) (o : Sink.Ghosts O) where
+  -- an object was held under the name, and its text was written
+  pub record IsPrinted (ws : List (List ℕ)) (inputs : I) (old new : O) : Type 0 where
+    pub bytes : List ℕ
+    pub object : Object
+    pub held : Holds (i.state inputs) (word 1 ws) bytes
+    pub reads : Reads bytes object
+    pub text : (o.state new).bytes ≡ (o.state old).bytes ++ text_of object
+
+  -- the text of an object was held under the name, and the object's bytes were written, which are read again
+  pub record IsBuilt (ws : List (List ℕ)) (inputs : I) (old new : O) : Type 0 where
+    pub bytes : List ℕ
+    pub object : Object
+    pub held : Holds (i.state inputs) (word 1 ws) bytes
+    pub says : Means bytes object
+    pub text : (o.state new).bytes ≡ (o.state old).bytes ++ little_endian (words_of object)
+    pub reads : Reads (little_endian (words_of object)) object
+
+module _ {I O D : Type 0} (i : Inputs.Ghosts I) (o : Sink.Ghosts O) (d : Device.Ghosts D) where
+  -- an object and a script were held under the two names, the whole text of the run of one over the other was written under
+  -- the device's answers, and the device was driven through that run
+  pub record IsReplayed (ws : List (List ℕ)) (w w' : World I O D) : Type 0 where
+    pub object_bytes : List ℕ
+    pub script_bytes : List ℕ
+    pub object : Object
+    pub events : List Event
+    pub answers : List (List Bool)
+    pub object_held : Holds (i.state w.inputs) (word 1 ws) object_bytes
+    pub script_held : Holds (i.state w.inputs) (word 2 ws) script_bytes
+    pub reads : Reads object_bytes object
+    pub means : map meaning (lines_of script_bytes) ≡ map (λ event. Ok event) events
+    pub text : (o.state w'.sink).bytes ≡ (o.state w.sink).bytes ++ run_text (setup object chip) answers events
+    pub drove : Drove d (setup object chip) (driven (setup object chip) answers events) w.device w'.device
+
+  abbrev pub FormDone : Option Form → List (List ℕ) → World I O D → World I O D → Type 0
+  FormDone None ws w w' = ⊥
+  FormDone (Some Replay) ws w w' = IsReplayed ws w w'
+  FormDone (Some Print) ws w w' = IsPrinted i o ws w.inputs w.sink w'.sink × (w.device ≡ w'.device)
+  FormDone (Some Build) ws w w' = IsBuilt i o ws w.inputs w.sink w'.sink × (w.device ≡ w'.device)
+
+  -- the whole text of what the words ask for was written
+  abbrev pub IsDone : List (List ℕ) → World I O D → World I O D → Type 0
+  IsDone ws w w' = FormDone (form ws) ws w w'

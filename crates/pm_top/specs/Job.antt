@@ -1,0 +1,136 @@
+-- What the words ask for, by what the inputs hold: what each form has to do, or the fault that refuses it.
+use Rattle.std.specs.Prelude.{◌≡◌, ℕ, ◌≤◌, ◌⊎◌, Bool, true, if◌then◌else◌, List, [], ◌∷◌, None, Result, Ok, Err, ⊤}
+use Rattle.pm_base.specs.Faults.{Rose}
+use Rattle.pm_base.specs.Inputs.{Moment}
+use Rattle.pm_base.specs.declared.inputs.Inputs as Inputs
+use Rattle.pm_base.specs.declared.prefix.StopReason.{StopReason}
+use Rattle.pm_base.specs.declared.prefix.StopReason.TheVariants.{End, Limit, Failure, Unbegun}
+use Rattle.pm_base.specs.Prefix.{Prefix, prefix_of}
+use Rattle.pm_object.specs.declared.object.Object.{Object}
+use Rattle.pm_object.specs.declared.object.ObjectFault.{ObjectFault}
+use Rattle.pm_object.specs.Grammar.{little_endian, words_of}
+use Rattle.pm_object.specs.Reading.{reading}
+use Rattle.pm_objtext.specs.declared.fault.TextFault.{TextFault}
+use Rattle.pm_objtext.specs.Building.{building}
+use Rattle.pm_objtext.specs.Printing.{text_of}
+use Rattle.pm_topology.specs.Chip.{chip}
+use Rattle.pm_core.specs.Run.{Setup}
+use Rattle.pm_script.specs.Script.{Script, script_limit, script_of}
+use Rattle.pm_trace.specs.declared.faults.Fault.{Fault}
+use Rattle.pm_trace.specs.declared.faults.Fault.TheVariants.{Object as BadObject, Text as BadText, Line, Memory, Read, Size, Usage}
+use Rattle.pm_trace.specs.Report.{Report}
+use Rattle.pm_replay.specs.Replay.{replay_report}
+use Rattle.pm_replay.specs.Replayed.{IsReadFault as ScriptFails, script_or_fault, setup}
+use Rattle.pm_top.specs.declared.form.Form.{Form}
+use Rattle.pm_top.specs.declared.form.Form.TheVariants.{Replay, Print, Build}
+use Rattle.pm_top.specs.Form.{word}
+
+-- the most bytes of an object, and of the text of one
+abbrev pub object_limit : ℕ
+object_limit = 16384
+
+abbrev pub text_limit : ℕ
+text_limit = 1048576
+
+-- ---- what is read under a name
+
+abbrev pub object_or_fault : Result Object ObjectFault → Result Object Fault
+object_or_fault (Ok object) = Ok object
+object_or_fault (Err fault) = Err (BadObject fault)
+
+abbrev pub text_or_fault : Result Object TextFault → Result Object Fault
+text_or_fault (Ok object) = Ok object
+text_or_fault (Err fault) = Err (BadText fault)
+
+-- what was read to its end or past its limit is judged, and what could not be begun or read on is a fault
+abbrev pub judged : StopReason → Result Object Fault → Result Object Fault
+judged End verdict = verdict
+judged Limit verdict = verdict
+judged Failure verdict = Err Read
+judged Unbegun verdict = Err Read
+
+-- the object that what was read of a name spells, or that it says as a text
+abbrev pub object_of : Prefix → Result Object Fault
+object_of p = judged p.stop (object_or_fault (reading p.bytes))
+
+abbrev pub built_of : Prefix → Result Object Fault
+built_of p = judged p.stop (text_or_fault (building p.bytes))
+
+-- what is read of the first name, and of a second one where another input can be begun
+abbrev pub first_prefix : ℕ → Moment → List ℕ → Prefix
+first_prefix limit m name = prefix_of limit (m.file name) m.room
+
+abbrev pub second_prefix : ℕ → Moment → Bool → List ℕ → Prefix
+second_prefix limit m again name = prefix_of limit (m.file name) (if again then 1 else 0)
+
+-- ---- the job
+
+abbrev pub Job : Form → Type 0
+Job Replay = Setup × Script
+Job Print = Object
+Job Build = Object
+
+abbrev pub with_script : Object → Result Script Fault → Result (Setup × Script) Fault
+with_script object (Ok s) = Ok (setup object chip, s)
+with_script object (Err fault) = Err fault
+
+-- the object first, and then the script
+abbrev pub replay_job : Result Object Fault → Result Script Fault → Result (Setup × Script) Fault
+replay_job (Ok object) script = with_script object script
+replay_job (Err fault) script = Err fault
+
+abbrev pub job_of : (f : Form) → List (List ℕ) → Moment → Bool → Result (Job f) Fault
+job_of Replay ws m again =
+    replay_job (object_of (first_prefix object_limit m (word 1 ws))) (script_or_fault (script_of (second_prefix script_limit m again (word 2 ws))))
+job_of Print ws m again = object_of (first_prefix object_limit m (word 1 ws))
+job_of Build ws m again = built_of (first_prefix text_limit m (word 1 ws))
+
+-- a job of the words. Where only one more input can be begun, a source may begin a second one or not
+abbrev pub IsJobOf : (f : Form) → List (List ℕ) → Moment → Result (Job f) Fault → Type 0
+IsJobOf f ws m job = (again : Bool) × (2 ≤ m.room → again ≡ true) × (job ≡ job_of f ws m again)
+
+-- ---- what is made of it
+
+-- an input could not be begun, or a read of it failed
+abbrev pub FailsToRead : (f : Form) → Result (Job f) Fault → Type 0
+FailsToRead Replay (Ok job) = ScriptFails (Ok job.1)
+FailsToRead Replay (Err fault) = fault ≡ Read
+FailsToRead Print (Ok object) = ⊥
+FailsToRead Print (Err fault) = fault ≡ Read
+FailsToRead Build (Ok object) = ⊥
+FailsToRead Build (Err fault) = fault ≡ Read
+
+-- what is written of a job, under the device's answers
+abbrev pub report : (f : Form) → Job f → List (List Bool) → Report
+report Replay job answers = replay_report job.0 job.1 answers
+report Print object answers = record { body = text_of object ∷ []; fault = None }
+report Build object answers = record { body = little_endian (words_of object) ∷ []; fault = None }
+
+-- the faults that may refuse a form
+abbrev pub IsFaultOf : Form → Fault → Type 0
+IsFaultOf f Read = ⊤
+IsFaultOf f Memory = ⊤
+IsFaultOf Replay (BadObject fault) = ⊤
+IsFaultOf Print (BadObject fault) = ⊤
+IsFaultOf Build (BadObject fault) = ⊥
+IsFaultOf Replay (BadText fault) = ⊥
+IsFaultOf Print (BadText fault) = ⊥
+IsFaultOf Build (BadText fault) = ⊤
+IsFaultOf f Usage = ⊥
+IsFaultOf f (Line n) = ⊥
+IsFaultOf f Size = ⊥
+
+-- a job is over the chip, and a refusal is one of the form's
+abbrev pub IsKnown : (f : Form) → Result (Job f) Fault → Type 0
+IsKnown Replay (Ok job) = job.0.topology ≡ chip
+IsKnown Print (Ok object) = ⊤
+IsKnown Build (Ok object) = ⊤
+IsKnown f (Err fault) = IsFaultOf f fault
+
+module _ {I : Type 0} (i : Inputs.Ghosts I) where
+  -- the job is what the words ask for, by what the inputs show, unless memory is wanted. Where an input can't be read the
+  -- inputs' count rose
+  pub record IsAsked (f : Form) (ws : List (List ℕ)) (old new : I) (job : Result (Job f) Fault) : Type 0 where
+    pub shown : i.observable → (job ≡ Err Memory) ⊎ IsJobOf f ws (i.state old) job
+    pub failed : FailsToRead f job → Rose (i.state old).faults (i.state new).faults
+    pub known : IsKnown f job

@@ -1,0 +1,46 @@
+-- The closing table, which follows the last step: each unit's value in the book, and its kept value.
+use Rattle.std.specs.Prelude.{ℕ, ◌==◌, ◌&&◌, if◌then◌else◌, List, [], ◌∷◌, ◌++◌, map}
+use Rattle.std.specs.List.{concat}
+use Rattle.pm_base.specs.declared.names.Unit.{Unit as Place}
+use Rattle.pm_base.specs.declared.names.Unit.TheVariants.{Node, Line}
+use Rattle.pm_topology.specs.declared.topology.Topology.{Topology}
+use Rattle.pm_topology.specs.declared.places.Kind.{Kind}
+use Rattle.pm_topology.specs.declared.places.Kind.TheVariants as kind
+use Rattle.pm_topology.specs.Places.{kind_of}
+use Rattle.pm_core.specs.State.{State}
+use Rattle.pm_core.specs.Units.{units}
+use Rattle.pm_core.specs.Values.{value}
+use Rattle.pm_apply.specs.Part.{Kept}
+use Rattle.pm_apply.specs.Record.{kept_value}
+use Rattle.pm_trace.specs.declared.line.Word.{Word}
+use Rattle.pm_trace.specs.declared.line.Word.TheVariants as word
+use Rattle.pm_trace.specs.Line.{numbers, line_text}
+
+-- what a node of a kind is called in the closing table
+abbrev pub kind_name : Kind → Word
+kind_name (kind.Proc p) = word.Proc
+kind_name (kind.Slave s) = word.Slave
+kind_name (kind.Power w) = word.Power
+kind_name kind.Unknown = word.Slave
+
+-- what a unit is called in the closing table, and its number
+abbrev pub unit_name : Topology → Place → List Word
+unit_name t (Node node) = kind_name (kind_of t node) ∷ word.Number node.0 ∷ []
+unit_name t (Line reset) = word.Line ∷ word.Number reset.0 ∷ []
+
+-- the closing line of a unit with this value in the book and this kept value: nothing where both are 0
+abbrev pub unit_line : Topology → Place → ℕ → ℕ → List ℕ
+unit_line t unit book kept =
+    if (book == 0) && (kept == 0) then []
+    else line_text (word.End ∷ (unit_name t unit ++ numbers (book ∷ kept ∷ [])))
+
+abbrev pub unit_text : State → Kept → Place → List ℕ
+unit_text book kept unit = unit_line book.fixed.topology unit (value unit book) (kept_value kept unit)
+
+-- the closing lines of all units in order, where that of a unit which isn't shown is empty
+abbrev pub closing_lines : State → Kept → List (List ℕ)
+closing_lines book kept = map (unit_text book kept) (units book)
+
+-- the closing table
+abbrev pub closing_text : State → Kept → List ℕ
+closing_text book kept = concat (closing_lines book kept)

@@ -1,0 +1,65 @@
+-- The line that a command ends with where it fails, and the exit.
+use Rattle.std.specs.Prelude.{ℕ, List, [], ◌∷◌, Option, Some, None}
+use Rattle.pm_base.specs.declared.errors.Exit.{Exit}
+use Rattle.pm_base.specs.declared.errors.Exit.TheVariants as exit
+use Rattle.pm_trace.specs.declared.faults.Fault.{Fault}
+use Rattle.pm_trace.specs.declared.faults.Fault.TheVariants.{Usage, Object, Text, Line, Read, Memory, Size}
+use Rattle.pm_object.specs.declared.object.ObjectCause.{ObjectCause}
+use Rattle.pm_object.specs.declared.object.ObjectCause.TheVariants as objects
+use Rattle.pm_objtext.specs.declared.fault.TextCause.{TextCause}
+use Rattle.pm_objtext.specs.declared.fault.TextCause.TheVariants as texts
+use Rattle.pm_trace.specs.declared.line.Word.{Word}
+use Rattle.pm_trace.specs.declared.line.Word.TheVariants as word
+use Rattle.pm_trace.specs.Line.{line_text}
+
+-- the number of a cause for which an object has no reading
+abbrev pub object_cause : ObjectCause → ℕ
+object_cause objects.Length = 1
+object_cause objects.TooLong = 2
+object_cause objects.Truncated = 3
+object_cause objects.HeaderShort = 4
+object_cause objects.BadType = 5
+object_cause objects.UnknownSection = 6
+object_cause objects.RepeatedSection = 7
+object_cause objects.NoMasters = 8
+object_cause objects.BadMaster = 9
+object_cause objects.MaskRepeated = 10
+object_cause objects.RepeatedNode = 11
+object_cause objects.Trailing = 12
+
+-- the number of a cause for which a text has no reading
+abbrev pub text_cause : TextCause → ℕ
+text_cause texts.Form = 1
+text_cause texts.Place = 2
+text_cause texts.Repeated = 3
+text_cause texts.Master = 4
+text_cause texts.Size = 5
+
+-- what a fault is called, with its place
+abbrev pub fault_words : Fault → List Word
+fault_words Usage = word.Usage ∷ []
+fault_words (Object fault) = word.Object ∷ word.Number (object_cause fault.cause) ∷ word.Number fault.offset ∷ []
+fault_words (Text fault) = word.Text ∷ word.Number fault.line ∷ word.Number (text_cause fault.cause) ∷ []
+fault_words (Line n) = word.Line ∷ word.Number n ∷ []
+fault_words Read = word.Read ∷ []
+fault_words Memory = word.Memory ∷ []
+fault_words Size = word.Size ∷ []
+
+-- the line of a fault
+abbrev pub fault_text : Fault → List ℕ
+fault_text fault = line_text (word.Fault ∷ fault_words fault)
+
+-- the exit of a command that a fault stops
+abbrev pub exit_by : Fault → Exit
+exit_by Usage = exit.Usage
+exit_by (Object fault) = exit.BadObject
+exit_by (Text fault) = exit.BadText
+exit_by (Line n) = exit.BadLine
+exit_by Read = exit.ReadFault
+exit_by Memory = exit.Memory
+exit_by Size = exit.TooLarge
+
+-- the exit of a command after all that it writes
+abbrev pub exit_after : Option Fault → Exit
+exit_after None = exit.Done
+exit_after (Some fault) = exit_by fault

@@ -1,0 +1,5 @@
+pub mod Closing
+pub mod Faults
+pub mod Line
+pub mod Report
+pub mod Step

@@ -1,0 +1,35 @@
+-- The lines of output: their words and bytes.
+use Rattle.std.specs.Prelude.{ℕ, List, [], ◌∷◌, ◌++◌, map, codes, decimal}
+use Rattle.std.specs.List.{join_with_byte}
+use Rattle.pm_trace.specs.declared.line.Word.{Word}
+use Rattle.pm_trace.specs.declared.line.Word.TheVariants.{Number, Set, Fail, Reply, Drop, Call, End, Proc, Slave, Power, Fault, Usage, Object, Text, Line, LineFail, Read, Memory, Size}
+
+-- the bytes of a word
+abbrev pub word_text : Word → List ℕ
+word_text (Number n) = decimal n
+word_text Set = codes "set"
+word_text Fail = codes "fail"
+word_text Reply = codes "reply"
+word_text Drop = codes "drop"
+word_text Call = codes "call"
+word_text End = codes "end"
+word_text Proc = codes "proc"
+word_text Slave = codes "slave"
+word_text Power = codes "power"
+word_text Fault = codes "fault"
+word_text Usage = codes "usage"
+word_text Object = codes "object"
+word_text Text = codes "text"
+word_text Line = codes "line"
+word_text LineFail = codes "linefail"
+word_text Read = codes "read"
+word_text Memory = codes "memory"
+word_text Size = codes "size"
+
+-- numbers as words
+abbrev pub numbers : List ℕ → List Word
+numbers values = map Number values
+
+-- a line: its words with one space between them, and a line feed at the end
+abbrev pub line_text : List Word → List ℕ
+line_text words = join_with_byte 32 (map word_text words) ++ 10 ∷ []

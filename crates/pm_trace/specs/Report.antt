@@ -1,0 +1,53 @@
+-- What a command writes and how it ends: whole, or cut where the sink broke off.
+use Rattle.std.specs.Prelude.{◌≡◌, ℕ, Bool, List, [], ◌∷◌, ◌++◌, length, nat_lt, if◌then◌else◌, Option, Some, None, Result, Ok, Err}
+use Rattle.pm_base.specs.declared.errors.Exit.{Exit}
+use Rattle.pm_base.specs.declared.errors.Exit.TheVariants.{WriteFault}
+use Rattle.pm_base.specs.declared.sink.Sink as Sink
+use Rattle.pm_base.specs.Sink.{SinkMoment, Leaves}
+use Rattle.pm_trace.specs.declared.faults.Fault.{Fault}
+use Rattle.pm_trace.specs.Faults.{fault_text, exit_after}
+
+-- what a command writes if the sink takes all: the pieces of its body, and then the line of its fault
+pub record Report : Type 0 where
+  pub body : List (List ℕ)
+  pub fault : Option Fault
+
+abbrev pub fault_lines : Option Fault → List (List ℕ)
+fault_lines None = []
+fault_lines (Some fault) = fault_text fault ∷ []
+
+abbrev pub pieces : Report → List (List ℕ)
+pieces report = report.body ++ fault_lines report.fault
+
+-- the exit of a command whose text was written up to a cut: where only the fault line was cut its own exit stays
+abbrev pub exit_of : Report → Option ℕ → Exit
+exit_of report None = exit_after report.fault
+exit_of report (Some k) = if nat_lt k (length report.body) then WriteFault else exit_after report.fault
+
+-- a command that is refused writes the line of its fault alone
+abbrev pub refusal : Fault → Report
+refusal fault = record { body = []; fault = Some fault }
+
+-- what is written for a job, or for the fault that refuses it, under these answers of the device
+abbrev pub report_of : {J : Type 0} → (J → List (List Bool) → Report) → Result J Fault → List (List Bool) → Report
+report_of report (Ok job) answers = report job answers
+report_of report (Err fault) answers = refusal fault
+
+-- a report was written up to a cut, and this is the exit
+pub record Reports (shown : Type 0) (report : Report) (old new : SinkMoment) (exit : Exit) : Type 0 where
+  pub cut : Option ℕ
+  pub left : Leaves shown (pieces report) cut old new
+  pub ends : exit ≡ exit_of report cut
+
+module _ {O : Type 0} (o : Sink.Ghosts O) where
+  -- what a call did: what it had to do, or the fault that refuses that; the device's answers to each of its core steps;
+  -- and the piece within which the sink broke off, if it did. All that is said of the call is said of these three
+  pub record Did {J : Type 0} (IsAsked : Result J Fault → Type 0) (report : J → List (List Bool) → Report)
+      (Touches : Result J Fault → List (List Bool) → Option ℕ → Type 0) (old new : O) (exit : Exit) : Type 0 where
+    pub job : Result J Fault
+    pub answers : List (List Bool)
+    pub cut : Option ℕ
+    pub asked : IsAsked job
+    pub left : Leaves o.observable (pieces (report_of report job answers)) cut (o.state old) (o.state new)
+    pub ends : exit ≡ exit_of (report_of report job answers) cut
+    pub touched : Touches job answers cut

@@ -1,0 +1,88 @@
+//! The line that a command ends with where it fails, and the exit.
+
+ghost use Rattle.std.specs.Prelude.{◌≡◌};
+ghost use Rattle.pm_trace.specs.Faults.{fault_text, object_cause, text_cause, exit_by};
+
+use crate::line::{TextLine, Word, write_line};
+use pm_base::Exit;
+use pm_object::{ObjectCause, ObjectFault};
+use pm_objtext::{TextCause, TextFault};
+
+/// Why a command failed, as its last line says it.
+#[derive(Clone, Copy, Debug, PartialEq, Eq)]
+pub enum Fault {
+    /// The words of the command line have no form.
+    Usage,
+    /// The object has no reading: its first fault.
+    Object(ObjectFault),
+    /// The text of an object has no reading: its first bad line.
+    Text(TextFault),
+    /// The script line of this number, counted from 1, has no meaning.
+    Line(u32),
+    /// An input could not be begun or read.
+    Read,
+    /// There was not enough memory.
+    Memory,
+    /// The script is too large.
+    Size,
+}
+
+/// Leaves in `line` the line of a fault with its line feed.
+pub fn write_fault(fault: Fault, line: &mut TextLine)
+    ensures { line.new.items ≡ fault_text fault }
+{
+    match fault {
+        Fault::Usage => write_line(line, Word::Fault, &[Word::Usage]),
+        Fault::Object(fault) => write_line(
+            line,
+            Word::Fault,
+            &[
+                Word::Object,
+                Word::Number(object_cause(fault.cause)),
+                Word::Number(fault.offset),
+            ],
+        ),
+        Fault::Text(fault) => write_line(
+            line,
+            Word::Fault,
+            &[
+                Word::Text,
+                Word::Number(fault.line),
+                Word::Number(text_cause(fault.cause)),
+            ],
+        ),
+        Fault::Line(n) => write_line(line, Word::Fault, &[Word::Line, Word::Number(n)]),
+        Fault::Read => write_line(line, Word::Fault, &[Word::Read]),
+        Fault::Memory => write_line(line, Word::Fault, &[Word::Memory]),
+        Fault::Size => write_line(line, Word::Fault, &[Word::Size]),
+    }
+}
+
+/// The number of a cause for which an object has no reading.
+fn object_cause(cause: ObjectCause) -> u32
+    ensures { result ≡ object_cause cause }
+{
+    cause as u32
+}
+
+/// The number of a cause for which a text has no reading.
+fn text_cause(cause: TextCause) -> u32
+    ensures { result ≡ text_cause cause }
+{
+    cause as u32
+}
+
+/// The exit of a command that a fault stops.
+pub fn exit(fault: Fault) -> Exit
+    ensures { result ≡ exit_by fault }
+{
+    match fault {
+        Fault::Usage => Exit::Usage,
+        Fault::Object(_) => Exit::BadObject,
+        Fault::Text(_) => Exit::BadText,
+        Fault::Line(_) => Exit::BadLine,
+        Fault::Read => Exit::ReadFault,
+        Fault::Memory => Exit::Memory,
+        Fault::Size => Exit::TooLarge,
+    }
+}

@@ -1,0 +1,14 @@
+//! The lines of output: those of a step, the closing table, the line of a fault, and how a command ends.
+#![tactic(auto)]
+
+pub mod closing_table;
+pub mod faults;
+pub mod line;
+pub mod report;
+pub mod step;
+
+pub use closing_table::closing;
+pub use faults::{Fault, exit, write_fault};
+pub use line::{TextLine, Word, write_line};
+pub use report::refuse;
+pub use step::{entries, entry};

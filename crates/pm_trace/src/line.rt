@@ -1,0 +1,94 @@
+//! A line of output, made of words.
+
+ghost use Rattle.std.specs.Prelude.{◌≡◌, ◌+◌, ◌≤◌, ◌++◌, ◌∷◌, length};
+ghost use Rattle.arrayvec.specs.ArrayVec.{array_vec_len};
+ghost use Rattle.pm_trace.specs.Line.{word_text, line_text};
+
+use arrayvec::ArrayVec;
+use itoa::Buffer;
+
+/// A line of output with its line feed.
+pub type TextLine = ArrayVec<u8, 128>;
+
+/// A word of a line of output: a number in decimal, or a name.
+#[derive(Clone, Copy)]
+pub enum Word {
+    Number(u32),
+    Set,
+    Fail,
+    Reply,
+    Drop,
+    Call,
+    End,
+    Proc,
+    Slave,
+    Power,
+    Fault,
+    Usage,
+    Object,
+    Text,
+    Line,
+    LineFail,
+    Read,
+    Memory,
+    Size,
+}
+
+/// Leaves a line of these words, with one space between them and a line feed at the end.
+pub fn write_line(line: &mut TextLine, first: Word, rest: &[Word])
+    requires few { length rest.now ≤ 10 }
+    ensures { line.new.items ≡ line_text (first ∷ rest.now) }
+{
+    line.clear();
+    push_word(line, first);
+    for word in rest {
+        push_text(line, b" ");
+        push_word(line, *word);
+    }
+    push_text(line, b"\n");
+}
+
+fn push_word(line: &mut TextLine, word: Word)
+    requires room { array_vec_len line.old + 10 ≤ 128 }
+    ensures items { line.new.items ≡ line.old.items ++ word_text word }
+    ensures len { array_vec_len line.new ≤ array_vec_len line.old + 10 }
+{
+    let mut buffer = Buffer::new();
+    push_text(line, text_of(word, &mut buffer));
+}
+
+fn push_text(line: &mut TextLine, text: &[u8])
+    requires room { array_vec_len line.old + length text.now ≤ 128 }
+    ensures items { line.new.items ≡ line.old.items ++ text.now }
+    ensures len { array_vec_len line.new ≡ array_vec_len line.old + length text.now }
+{
+    line.try_extend_from_slice(text).unwrap();
+}
+
+/// The bytes of a word, at most ten. The buffer holds those of a number.
+fn text_of<'a>(word: Word, buffer: &'a mut Buffer) -> &'a [u8]
+    ensures text { result.now ≡ word_text word }
+    ensures short { length result.now ≤ 10 }
+{
+    match word {
+        Word::Number(n) => buffer.format(n).as_bytes(),
+        Word::Set => b"set",
+        Word::Fail => b"fail",
+        Word::Reply => b"reply",
+        Word::Drop => b"drop",
+        Word::Call => b"call",
+        Word::End => b"end",
+        Word::Proc => b"proc",
+        Word::Slave => b"slave",
+        Word::Power => b"power",
+        Word::Fault => b"fault",
+        Word::Usage => b"usage",
+        Word::Object => b"object",
+        Word::Text => b"text",
+        Word::Line => b"line",
+        Word::LineFail => b"linefail",
+        Word::Read => b"read",
+        Word::Memory => b"memory",
+        Word::Size => b"size",
+    }
+}

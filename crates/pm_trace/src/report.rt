@@ -1,0 +1,18 @@
+//! How a command that is refused ends.
+
+ghost use Rattle.pm_trace.specs.Report.{Reports, refusal};
+
+use crate::faults::{Fault, exit, write_fault};
+use crate::line::TextLine;
+use pm_base::{Exit, Sink, write_all};
+
+/// Writes the line of a fault that stops a command, and answers the exit. The line is tried once:
+/// where the sink fails on it, the exit stays.
+pub fn refuse<O: Sink>(fault: Fault, out: &mut O) -> Exit
+    ensures { Reports O.observable (refusal fault) (O.state out.old) (O.state out.new) result }
+{
+    let mut line = TextLine::new();
+    write_fault(fault, &mut line);
+    let _ = write_all(out, line.as_slice());
+    exit(fault)
+}
