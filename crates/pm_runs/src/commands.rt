@@ -1,0 +1,96 @@
+//! A run in which each command fails alone.
+
+use super::devices::check_listed;
+use super::run::{DOMAINS, replay_of};
+use std::alloc::{AllocError, Global};
+use std::test::Fail;
+
+/// A run that takes a slave of each class up, in each power domain, and down: a line of its script,
+/// the commands of its step with the value before and after, and what is answered. The first entry is
+/// step 0. In the script an empty line comes after each.
+static STEPS: [(&str, &[&str], &str); 15] = [
+    ("", &["62 0 1"], ""),
+    ("ipi 7 13 33 1 0 2", &["33 0 1"], "reply 7 0 0 0 0"),
+    ("ipi 7 13 15 1 0 2", &["6 0 1", "15 0 2"], "reply 7 0 0 0 0"),
+    (
+        "ipi 1 13 28 4 0 2",
+        &["10 0 1", "28 0 1"],
+        "reply 1 0 0 0 0",
+    ),
+    ("ipi 7 13 55 2 0 2", &["55 0 1"], "reply 7 0 0 0 0"),
+    ("ipi 1 13 55 1 0 3", &["55 1 2"], "call 1 31 55 0 2 0"),
+    ("ipi 7 13 63 1 0 1", &["9 0 1", "63 0 1"], ""),
+    ("ipi 1 13 49 7 0 2", &[], "reply 1 0 0 0 0"),
+    ("ipi 7 3 28", &[], "reply 7 0 1 0 2"),
+    ("ipi 1 14 28", &["28 1 0"], "reply 1 0 0 0 0"),
+    ("ipi 1 14 55", &["55 2 1", "10 1 0"], "reply 1 0 0 0 0"),
+    ("ipi 7 14 63", &["63 1 0", "9 1 0"], "reply 7 0 0 0 0"),
+    ("ipi 7 14 15", &["15 2 0", "6 1 0"], "reply 7 0 0 0 0"),
+    ("ipi 7 14 33", &["33 1 0"], "reply 7 0 0 0 0"),
+    ("ipi 1 3 55", &[], "reply 1 0 1 0 2"),
+];
+
+/// Puts a line at the end of a text: the number of a step and then words, the first of which may be
+/// left out with its space.
+fn push_line(
+    alloc: Global,
+    text: &mut String,
+    number: u64,
+    name: &str,
+    words: &str,
+) -> Result<(), AllocError> {
+    let line = format!(in alloc; "{number} {name}{words}\n")?;
+    text.push_str(line.as_str())
+}
+
+fn script_of_steps(alloc: Global) -> Result<String, AllocError> {
+    let mut script = String::new(alloc);
+    for (line, _, _) in &STEPS {
+        if !line.is_empty() {
+            script.push_str(line)?;
+            script.push_str("\n")?;
+        }
+        script.push_str("\n")?;
+    }
+    Ok(script)
+}
+
+/// The text of the steps where the command at place `k` of the step at place `failing` fails alone.
+/// It and those of its step that wait for it are carried out in the next step.
+fn text_of_steps(alloc: Global, failing: usize, k: usize) -> Result<String, AllocError> {
+    let mut text = String::new(alloc);
+    for (place, (_, commands, answer)) in STEPS.iter().enumerate() {
+        let number = (place as u64).saturating_mul(2);
+        let first = if place == failing { k } else { commands.len() };
+        for command in commands.iter().take(first) {
+            push_line(alloc, &mut text, number, "set ", command)?;
+        }
+        if let Some(command) = commands.get(first) {
+            push_line(alloc, &mut text, number, "fail ", command)?;
+        }
+        if !answer.is_empty() {
+            push_line(alloc, &mut text, number, "", answer)?;
+        }
+        for command in commands.iter().skip(first) {
+            push_line(alloc, &mut text, number.saturating_add(1), "set ", command)?;
+        }
+    }
+    text.push_str("end slave 55 1 1\nend power 62 1 1\n")?;
+    Ok(text)
+}
+
+#[test]
+fn each_command_that_fails_alone_is_issued_again(rt: HostRuntime) -> Result<(), Fail> {
+    let script = script_of_steps(rt.alloc())?;
+    let asked = replay_of(DOMAINS, script.as_bytes());
+    let mut number = 0u32;
+    for (place, (_, commands, _)) in STEPS.iter().enumerate() {
+        for k in 0..commands.len() {
+            number = number.saturating_add(1);
+            let text = text_of_steps(rt.alloc(), place, k)?;
+            check_listed(&rt, &[number], &asked, text.as_str(), &[(55, 1)])?;
+        }
+    }
+    assert_eq!(rt; number, 18);
+    Ok(())
+}

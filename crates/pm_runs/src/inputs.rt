@@ -1,0 +1,87 @@
+//! Runs over inputs that fail.
+
+use super::run::{Asked, OBJECT, check, check_with, model, node, replay_of, run_with};
+use pm_base::{Exit, MemSink};
+use pm_device::ModelDevice;
+use std::process::Abort;
+use std::test::Fail;
+
+const SCRIPT: &[u8] = b"ipi 8 3 11\nipi 8 3 12";
+
+const WHOLE: &str = "0 set 62 0 1\n1 drop 8\n2 drop 8\nend power 62 1 1\n";
+
+/// How the words, and the input and the byte at which a read fails, end: the text and the exit.
+static FAILING: [(&str, &[(u32, u32)], &str, Exit); 8] = [
+    ("replay obj script", &[(0, 93)], WHOLE, Exit::Done),
+    ("replay obj script", &[(1, 22)], WHOLE, Exit::Done),
+    ("replay no script", &[], "fault read\n", Exit::ReadFault),
+    ("replay obj no", &[], "fault read\n", Exit::ReadFault),
+    ("print no", &[], "fault read\n", Exit::ReadFault),
+    ("print obj", &[(0, 92)], "fault read\n", Exit::ReadFault),
+    ("build no", &[], "fault read\n", Exit::ReadFault),
+    ("build script", &[(1, 21)], "fault read\n", Exit::ReadFault),
+];
+
+#[test]
+fn an_input_that_fails(rt: HostRuntime) -> Result<(), Fail> {
+    for (words, failing, text, exit) in &FAILING {
+        let asked = Asked {
+            words,
+            object: OBJECT,
+            script: SCRIPT,
+            failing,
+        };
+        check(&rt, &asked, None, text.as_bytes(), *exit)?;
+    }
+    Ok(())
+}
+
+/// The inputs, and what is written where their reads fail from one byte to before another one.
+static SPANS: [(u32, u32, u32, &str); 3] = [
+    (0, 0, 93, "fault read\n"),
+    (1, 0, 11, "0 set 62 0 1\nfault read\n"),
+    (1, 11, 22, "0 set 62 0 1\n1 drop 8\nfault read\n"),
+];
+
+#[test]
+fn an_input_that_fails_at_each_byte(rt: HostRuntime) -> Result<(), Fail> {
+    for (input, first, end, text) in &SPANS {
+        for at in *first..*end {
+            let asked = Asked {
+                failing: &[(*input, at)],
+                ..replay_of(OBJECT, SCRIPT)
+            };
+            check(&rt, &asked, None, text.as_bytes(), Exit::ReadFault)?;
+        }
+    }
+    Ok(())
+}
+
+/// Words, the input and the byte at which a read fails, and the value of LPD after the run: a device is
+/// commanded only once a script was begun.
+static BEGUN: [(&str, (u32, u32), u32); 7] = [
+    ("replay obj", (9, 0), 0),
+    ("replay no script", (9, 0), 0),
+    ("replay obj no", (9, 0), 0),
+    ("replay obj script", (0, 50), 0),
+    ("replay obj script", (1, 0), 1),
+    ("print obj", (9, 0), 0),
+    ("build script", (9, 0), 0),
+];
+
+#[test]
+fn a_device_is_commanded_only_once_a_script_is_begun(rt: HostRuntime) -> Result<(), Fail> {
+    for (words, failing, value) in &BEGUN {
+        let asked = Asked {
+            words,
+            object: OBJECT,
+            script: b"header\n",
+            failing: &[*failing],
+        };
+        let mut out = MemSink::new(rt.alloc(), None)?;
+        let mut device = model(rt.alloc())?;
+        run_with(rt.alloc(), &asked, &mut out, &mut *device)?;
+        assert_eq!(rt; device.value(node(62)), *value, "{words}");
+    }
+    Ok(())
+}

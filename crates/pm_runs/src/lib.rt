@@ -1,0 +1,18 @@
+//! Tests of whole runs: the top call over inputs, sinks and devices in memory, each a table of runs and
+//! one loop over it.
+#![tactic(auto)]
+
+#[cfg(test)]
+mod commands;
+#[cfg(test)]
+mod devices;
+#[cfg(test)]
+mod inputs;
+#[cfg(test)]
+mod limits;
+#[cfg(test)]
+mod run;
+#[cfg(test)]
+mod sinks;
+#[cfg(test)]
+mod steps;

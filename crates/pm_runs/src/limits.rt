@@ -1,0 +1,49 @@
+//! Runs of a script of the limit, and of one byte more.
+
+use super::run::{OBJECT, check, replay_of};
+use pm_base::Exit;
+use std::alloc::{AllocError, Global};
+use std::test::Fail;
+
+/// A script of 16,777,216 bytes: comments of 255 bytes with their line feeds.
+fn script_of_the_limit(alloc: Global) -> Result<Vec<u8>, AllocError> {
+    let mut line = [b' '; 256];
+    line[0] = b'#';
+    line[255] = b'\n';
+    let mut script = Vec::new(alloc);
+    for _ in 0..65_536u32 {
+        script.extend_from_slice(&line)?;
+    }
+    Ok(script)
+}
+
+#[test]
+fn a_script_of_the_limit(rt: HostRuntime) -> Result<(), Fail> {
+    let script = script_of_the_limit(rt.alloc())?;
+    let text = b"0 set 62 0 1\nend power 62 1 1\n";
+    check(&rt, &replay_of(OBJECT, &script), None, text, Exit::Done)
+}
+
+/// One byte more than the limit.
+fn longer_script(alloc: Global) -> Result<Vec<u8>, AllocError> {
+    let mut script = script_of_the_limit(alloc)?;
+    script.push(b'#')?;
+    Ok(script)
+}
+
+#[test]
+fn a_script_of_one_byte_more_than_the_limit(rt: HostRuntime) -> Result<(), Fail> {
+    let script = longer_script(rt.alloc())?;
+    let text = b"0 set 62 0 1\nfault size\n";
+    check(&rt, &replay_of(OBJECT, &script), None, text, Exit::TooLarge)
+}
+
+/// Where the sink fails within the body the exit is WriteFault, and where it fails on the fault line alone
+/// it stays.
+#[test]
+fn such_a_script_over_a_sink_of_each_side_of_the_body(rt: HostRuntime) -> Result<(), Fail> {
+    let script = longer_script(rt.alloc())?;
+    let asked = replay_of(OBJECT, &script);
+    check(&rt, &asked, Some(12), b"0 set 62 0 1", Exit::WriteFault)?;
+    check(&rt, &asked, Some(13), b"0 set 62 0 1\n", Exit::TooLarge)
+}

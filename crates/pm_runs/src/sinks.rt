@@ -1,0 +1,302 @@
+//! Runs over sinks that fail, stall or take little at a time.
+
+ghost use Rattle.std.specs.Prelude.{[]};
+
+use super::run::{Asked, OBJECT, bytes_of, check, replay_of, run};
+use pm_base::{Exit, Failed, MemSink, Sink};
+use std::process::Abort;
+use std::test::Fail;
+
+/// Runs what is asked over a sink of each length up to the whole text, which takes as much of it. Where
+/// the sink fails within the body the exit is WriteFault; within the fault line, also before its first
+/// byte, it stays.
+fn check_each_length(
+    rt: &(impl Abort + AllocGlobal),
+    asked: &Asked,
+    body: &[u8],
+    fault: &str,
+    exit: Exit,
+) -> Result<(), Fail> {
+    let mut text = Vec::from_slice(rt.alloc(), body)?;
+    text.extend_from_slice(fault.as_bytes())?;
+    for length in 0..body.len() {
+        check_length(rt, asked, &text, length, Exit::WriteFault)?;
+    }
+    for length in body.len()..text.len() {
+        check_length(rt, asked, &text, length, exit)?;
+    }
+    check_length(rt, asked, &text, text.len(), exit)
+}
+
+/// Runs what is asked over a sink of one length.
+fn check_length(
+    rt: &(impl Abort + AllocGlobal),
+    asked: &Asked,
+    text: &[u8],
+    length: usize,
+    exit: Exit,
+) -> Result<(), Fail> {
+    let front = text.get(..length).ok_or("a front")?;
+    check(rt, asked, u32::try_from(length).ok(), front, exit)
+}
+
+const SMALL: &[u32] = &[3, 1, 1, 7, 0x101, 1, 1, 1, 100, 0, 0];
+
+const SMALL_TEXT: &str = "header 7\nsection masters\nmaster 1 1 100 0 0\n";
+
+/// Words, an object, the bytes of a script or of a text, the input and the byte at which a read fails,
+/// the body, the fault line and the exit.
+type Case = (
+    &'static str,
+    &'static [u32],
+    &'static str,
+    &'static [(u32, u32)],
+    &'static str,
+    &'static str,
+    Exit,
+);
+
+const REPLAY: &str = "replay obj script";
+
+const STEP_0: &str = "0 set 62 0 1\n";
+
+static EXITS: [Case; 16] = [
+    (
+        REPLAY,
+        OBJECT,
+        "ipi 7 13 11 2 0 2\nipi 8 3 11\n",
+        &[],
+        "0 set 62 0 1
+1 set 11 0 1
+1 reply 7 0 0 0 0
+2 drop 8
+end slave 11 1 1
+end power 62 1 1
+",
+        "",
+        Exit::Done,
+    ),
+    ("print obj", SMALL, "", &[], SMALL_TEXT, "", Exit::Done),
+    // words without a form
+    (
+        "replay obj",
+        OBJECT,
+        "",
+        &[],
+        "",
+        "fault usage\n",
+        Exit::Usage,
+    ),
+    // objects without a reading
+    (
+        REPLAY,
+        &[2, 1],
+        "",
+        &[],
+        "",
+        "fault object 3 2\n",
+        Exit::BadObject,
+    ),
+    (
+        "print obj",
+        &[2, 1],
+        "",
+        &[],
+        "",
+        "fault object 3 2\n",
+        Exit::BadObject,
+    ),
+    // a text without a reading
+    (
+        "build script",
+        &[],
+        "header\nx\n",
+        &[],
+        "",
+        "fault text 2 1\n",
+        Exit::BadText,
+    ),
+    // a line without a meaning, at first and after a step
+    (
+        REPLAY,
+        OBJECT,
+        "x",
+        &[],
+        STEP_0,
+        "fault line 1\n",
+        Exit::BadLine,
+    ),
+    (
+        REPLAY,
+        OBJECT,
+        "ipi 8 3 11\nx\nipi 8 3 11\n",
+        &[],
+        "0 set 62 0 1\n1 drop 8\n",
+        "fault line 2\n",
+        Exit::BadLine,
+    ),
+    // inputs that aren't there or fail
+    (
+        "replay no script",
+        OBJECT,
+        "",
+        &[],
+        "",
+        "fault read\n",
+        Exit::ReadFault,
+    ),
+    (
+        "replay obj no",
+        OBJECT,
+        "",
+        &[],
+        "",
+        "fault read\n",
+        Exit::ReadFault,
+    ),
+    (
+        "print no",
+        OBJECT,
+        "",
+        &[],
+        "",
+        "fault read\n",
+        Exit::ReadFault,
+    ),
+    (
+        "build no",
+        OBJECT,
+        "",
+        &[],
+        "",
+        "fault read\n",
+        Exit::ReadFault,
+    ),
+    (
+        REPLAY,
+        OBJECT,
+        "",
+        &[(0, 4)],
+        "",
+        "fault read\n",
+        Exit::ReadFault,
+    ),
+    (
+        REPLAY,
+        OBJECT,
+        "",
+        &[(1, 0)],
+        STEP_0,
+        "fault read\n",
+        Exit::ReadFault,
+    ),
+    (
+        REPLAY,
+        OBJECT,
+        "ipi 8 3 11\nipi 8 3 12",
+        &[(1, 20)],
+        "0 set 62 0 1\n1 drop 8\n",
+        "fault read\n",
+        Exit::ReadFault,
+    ),
+    (
+        "build script",
+        &[],
+        "header\n",
+        &[(1, 7)],
+        "",
+        "fault read\n",
+        Exit::ReadFault,
+    ),
+];
+
+#[test]
+fn a_sink_of_each_length_under_each_exit(rt: HostRuntime) -> Result<(), Fail> {
+    for (words, object, script, failing, body, fault, exit) in &EXITS {
+        let asked = Asked {
+            words,
+            object,
+            script: script.as_bytes(),
+            failing,
+        };
+        check_each_length(&rt, &asked, body.as_bytes(), fault, *exit)?;
+    }
+    Ok(())
+}
+
+#[test]
+fn a_sink_of_each_length_under_an_object(rt: HostRuntime) -> Result<(), Fail> {
+    let body = bytes_of(rt.alloc(), SMALL)?;
+    let asked = Asked {
+        words: "build script",
+        object: &[],
+        script: SMALL_TEXT.as_bytes(),
+        failing: &[],
+    };
+    check_each_length(&rt, &asked, &body, "", Exit::Done)
+}
+
+/// A sink that takes one byte of each piece.
+#[derive(Drop)]
+struct Trickle {
+    inner: MemSink,
+}
+
+impl Sink for Trickle {
+    ghost state = { λ sink. record { bytes = []; faults = sink.inner.faults; stalls = 0 } };
+
+    fn write(&mut self, piece: &[u8]) -> Result<usize, Failed> {
+        match piece {
+            [first, ..] => self.inner.write(&[*first]),
+            [] => Ok(0),
+        }
+    }
+}
+
+/// A sink that takes nothing.
+#[derive(Drop)]
+struct Full {
+    stalls: u64,
+}
+
+impl Sink for Full {
+    ghost state = { λ sink. record { bytes = []; faults = 0; stalls = sink.stalls } };
+
+    fn write(&mut self, piece: &[u8]) -> Result<usize, Failed> {
+        if !piece.is_empty() {
+            self.stalls = self.stalls.saturating_add(1);
+        }
+        Ok(0)
+    }
+}
+
+/// A script, and the text of its run over the object of two masters.
+const SCRIPT: &[u8] = b"ipi 7 13 11 2 0 2\nipi 8 3 11\n";
+
+const TEXT: &[u8] = b"0 set 62 0 1
+1 set 11 0 1
+1 reply 7 0 0 0 0
+2 drop 8
+end slave 11 1 1
+end power 62 1 1
+";
+
+#[test]
+fn a_sink_that_takes_little_at_a_time(rt: HostRuntime) -> Result<(), Fail> {
+    let mut slow = Trickle {
+        inner: MemSink::new(rt.alloc(), None)?,
+    };
+    let exit = run(rt.alloc(), &replay_of(OBJECT, SCRIPT), &mut slow)?;
+    assert_eq!(rt; exit, Exit::Done);
+    assert_eq!(rt; slow.inner.bytes(), TEXT);
+    Ok(())
+}
+
+#[test]
+fn a_sink_that_takes_nothing(rt: HostRuntime) -> Result<(), Fail> {
+    let mut full = Full { stalls: 0 };
+    let exit = run(rt.alloc(), &replay_of(OBJECT, SCRIPT), &mut full)?;
+    assert_eq!(rt; exit, Exit::WriteFault);
+    assert_eq!(rt; full.stalls, 1);
+    Ok(())
+}

@@ -1,0 +1,206 @@
+//! A device follows a book: the commands of each step, and what is kept of them.
+
+ghost use Rattle.pm_topology.specs.WellFormed.{IsWellFormed};
+ghost use Rattle.pm_topology.specs.Masters.{ObeysMasterRules};
+ghost use Rattle.pm_apply.specs.Record.{IsRecordOf};
+
+use crate::book::{Desk, bytes_of, chip, desk_with};
+use crate::rows::all_right;
+use pm_apply::{Kept, carry};
+use pm_base::{Event, Message, NoMemory, NodeId, Unit};
+use pm_core::Outbox;
+use pm_device::{Device, ListedDevice, ModelDevice};
+use pm_object::{Object, decode};
+use pm_topology::Topology;
+use std::alloc::Global;
+use std::test::Fail;
+
+/// The masters 1 and 7, each of which may use slave 28.
+const OBJECT: &[u32] = &[
+    2, 2, 1, 0x101, 2, 1, 0x1, 100, 0, 0, 7, 0x100, 100, 0, 0, 0x102, 1, 28, 0, 0x101,
+];
+
+/// A book with its outbox, and what is kept of a device that follows it.
+#[derive(Drop)]
+struct Drive {
+    kept: Kept,
+    desk: Box<Desk>,
+    ghost record_of: { IsRecordOf desk.value.book.fixed.topology kept },
+}
+
+/// The book at load, and the commands that follow it.
+fn started<D: Device>(
+    alloc: Global,
+    object: Object,
+    chip: Topology,
+    dev: &mut D,
+) -> Result<Drive, NoMemory>
+    requires formed { IsWellFormed chip }
+    requires masters { ObeysMasterRules chip }
+{
+    let mut kept = Kept::load(alloc, &chip)?;
+    let mut boxed = desk_with(alloc, object, chip)?;
+    let desk = &mut *boxed;
+    carry(dev, &mut kept, &desk.book, &mut desk.out);
+    Ok(Drive { kept, desk: boxed })
+}
+
+fn drive_of<D: Device>(alloc: Global, dev: &mut D) -> Result<Drive, Fail> {
+    let bytes = bytes_of(alloc, OBJECT)?;
+    let object = decode(alloc, &bytes)?;
+    Ok(started(alloc, object, chip(alloc)?, dev)?)
+}
+
+/// A call of master 7 on node 28 with ACCESS.
+fn call(api: u32) -> Event {
+    let message = Message {
+        api,
+        args: [28, 1, 0, 2, 0],
+    };
+    Event::Ipi {
+        master: NodeId(7),
+        message,
+    }
+}
+
+impl Drive {
+    /// An event, and the commands that follow it.
+    fn take<D: Device>(&mut self, event: &Event, dev: &mut D) {
+        let desk = &mut *self.desk;
+        desk.book.step(event, &mut desk.out);
+        carry(dev, &mut self.kept, &desk.book, &mut desk.out);
+    }
+}
+
+/// A command: the node, the value before, the value, and whether the device took it.
+type Done = (u32, u32, u32, bool);
+
+/// Whether node 28 is broken, a call, the commands that follow it, and what is kept of some nodes then:
+/// the value and the mark.
+type Turn = (bool, u32, &'static [Done], &'static [(u32, u32, bool)]);
+
+fn are_done(out: &Outbox, commands: &[Done]) -> bool {
+    let done = out.done.as_slice();
+    for (place, wanted) in commands.iter().enumerate() {
+        let found = match done.get(place) {
+            Some(d) => (d.command.unit, d.from, d.command.value, d.ok),
+            None => return false,
+        };
+        let (node, from, value, ok) = *wanted;
+        if found != (Unit::Node(NodeId(node)), from, value, ok) {
+            return false;
+        }
+    }
+    done.len() == commands.len()
+}
+
+fn are_kept(kept: &Kept, nodes: &[(u32, u32, bool)]) -> bool {
+    for (node, value, lags) in nodes {
+        let unit = Unit::Node(NodeId(*node));
+        if kept.value(unit) != *value || kept.lags(unit) != *lags {
+            return false;
+        }
+    }
+    true
+}
+
+fn wrong_turn<D: Device>(drive: &mut Drive, dev: &mut D, turns: &[Turn]) -> Option<usize> {
+    for (place, (broken, api, commands, kept)) in turns.iter().enumerate() {
+        dev.rig(NodeId(28), *broken);
+        drive.take(&call(*api), dev);
+        if !are_done(&drive.desk.out, commands) || !are_kept(&drive.kept, kept) {
+            return Some(place);
+        }
+    }
+    None
+}
+
+const REQUEST: u32 = 13;
+
+const RELEASE: u32 = 14;
+
+const STATUS: u32 = 3;
+
+static UP: [Turn; 2] = [
+    (false, REQUEST, &[(10, 0, 1, true), (28, 0, 1, true)], &[]),
+    (false, STATUS, &[], &[]),
+];
+
+static DOWN: [Turn; 1] = [(
+    false,
+    RELEASE,
+    &[(28, 1, 0, true), (10, 1, 0, true)],
+    &[
+        (62, 1, false),
+        (10, 0, false),
+        (28, 0, false),
+        (99, 0, false),
+    ],
+)];
+
+#[test]
+fn a_domain_goes_up_before_its_slave_and_down_after_it(rt: HostRuntime) -> Result<(), Fail> {
+    let mut dev = Box::new(
+        rt.alloc(),
+        ModelDevice::new(rt.alloc(), &chip(rt.alloc())?)?,
+    )?;
+    let mut drive = drive_of(rt.alloc(), &mut *dev)?;
+    assert!(rt; are_done(&drive.desk.out, &[(62, 0, 1, true)]));
+    all_right(&rt, wrong_turn(&mut drive, &mut *dev, &UP));
+    assert!(rt; dev.value(Unit::Node(NodeId(28))) == 1);
+    all_right(&rt, wrong_turn(&mut drive, &mut *dev, &DOWN));
+    Ok(())
+}
+
+/// The second command fails.
+static SKIPPED: [Turn; 2] = [
+    (
+        false,
+        REQUEST,
+        &[(10, 0, 1, false)],
+        &[(62, 1, false), (10, 0, true), (28, 0, true), (1, 0, false)],
+    ),
+    (
+        false,
+        STATUS,
+        &[(10, 0, 1, true), (28, 0, 1, true)],
+        &[(10, 1, false), (28, 1, false)],
+    ),
+];
+
+#[test]
+fn a_slave_is_skipped_while_its_domain_is_down(rt: HostRuntime) -> Result<(), Fail> {
+    let chip = chip(rt.alloc())?;
+    let mut dev = Box::new(rt.alloc(), ListedDevice::new(rt.alloc(), &chip, &[2])?)?;
+    let mut drive = drive_of(rt.alloc(), &mut *dev)?;
+    all_right(&rt, wrong_turn(&mut drive, &mut *dev, &SKIPPED));
+    Ok(())
+}
+
+/// Node 28 breaks while it is up, and is mended.
+static BROKEN: [Turn; 3] = [
+    (false, REQUEST, &[(10, 0, 1, true), (28, 0, 1, true)], &[]),
+    (
+        true,
+        RELEASE,
+        &[(28, 1, 0, false)],
+        &[(28, 1, true), (10, 1, true), (62, 1, false)],
+    ),
+    (
+        false,
+        STATUS,
+        &[(28, 1, 0, true), (10, 1, 0, true)],
+        &[(28, 0, false), (10, 0, false)],
+    ),
+];
+
+#[test]
+fn a_domain_stays_up_over_a_slave_that_is_broken(rt: HostRuntime) -> Result<(), Fail> {
+    let mut dev = Box::new(
+        rt.alloc(),
+        ModelDevice::new(rt.alloc(), &chip(rt.alloc())?)?,
+    )?;
+    let mut drive = drive_of(rt.alloc(), &mut *dev)?;
+    all_right(&rt, wrong_turn(&mut drive, &mut *dev, &BROKEN));
+    Ok(())
+}

@@ -1,0 +1,11 @@
+//! Tests of a step's public calls: the book, the commands that follow it, and its lines of text.
+#![tactic(auto)]
+
+#[cfg(test)]
+mod book;
+#[cfg(test)]
+mod carrying;
+#[cfg(test)]
+mod rows;
+#[cfg(test)]
+mod traces;

@@ -1,0 +1,252 @@
+//! The lines of output of a step, and the line and the exit of a fault.
+
+use crate::rows::all_right;
+use pm_base::{Command, Exit, LineId, NoMemory, NodeId, Unit};
+use pm_core::{Answer, Done, Outbox, Shelf};
+use pm_ipi::Response;
+use pm_object::{ObjectCause, ObjectFault};
+use pm_objtext::{TextCause, TextFault};
+use pm_trace::{Fault, TextLine, entries, entry, exit, write_fault};
+use std::alloc::Global;
+use std::test::Fail;
+
+/// An outbox of a step with at most one command.
+fn outbox(alloc: Global, done: Option<Done>, answer: Answer) -> Result<Outbox, NoMemory> {
+    let mut commands = Shelf::with_room(alloc, 1)?;
+    if let Some(done) = done {
+        commands.push(done);
+    }
+    Ok(Outbox {
+        moved: Shelf::with_room(alloc, 0)?,
+        done: commands,
+        answer,
+    })
+}
+
+/// The lines of a step with this number.
+fn text_of(alloc: Global, n: u32, out: &Outbox) -> Result<Vec<u8>, Fail> {
+    let mut text = Vec::new(alloc);
+    let mut line = TextLine::new();
+    for k in 0..entries(out) {
+        entry(n, out, k, &mut line);
+        text.extend_from_slice(line.as_slice())?;
+    }
+    Ok(text)
+}
+
+/// A step's number, its answer, and its lines where nothing is commanded. The last line is the longest.
+static ANSWERS: [(u32, Answer, &str); 6] = [
+    (1, Answer::Silent, ""),
+    (6, Answer::Drop { master: NodeId(8) }, "6 drop 8\n"),
+    (
+        3,
+        Answer::Reply {
+            master: NodeId(1),
+            response: Response {
+                status: 0,
+                words: [2, 1, 3],
+            },
+        },
+        "3 reply 1 0 2 1 3\n",
+    ),
+    (
+        10,
+        Answer::Ack {
+            master: NodeId(1),
+            node: NodeId(33),
+            status: 19,
+            point: 9,
+            shown: true,
+        },
+        "10 call 1 31 33 19 9 0\n",
+    ),
+    (
+        10,
+        Answer::Ack {
+            master: NodeId(1),
+            node: NodeId(33),
+            status: 19,
+            point: 9,
+            shown: false,
+        },
+        "",
+    ),
+    (
+        4_294_967_295,
+        Answer::Ack {
+            master: NodeId(4_294_967_295),
+            node: NodeId(4_294_967_295),
+            status: 4_294_967_295,
+            point: 4_294_967_295,
+            shown: true,
+        },
+        "4294967295 call 4294967295 31 4294967295 4294967295 4294967295 0\n",
+    ),
+];
+
+/// Whether the lines of a step are this text.
+fn writes(
+    alloc: Global,
+    n: u32,
+    done: Option<Done>,
+    answer: Answer,
+    text: &str,
+) -> Result<bool, Fail> {
+    let out = outbox(alloc, done, answer)?;
+    Ok(text_of(alloc, n, &out)?.as_slice() == text.as_bytes())
+}
+
+fn wrong_answer(alloc: Global) -> Result<Option<usize>, Fail> {
+    for (place, (n, answer, text)) in ANSWERS.iter().enumerate() {
+        if !writes(alloc, *n, None, *answer, text)? {
+            return Ok(Some(place));
+        }
+    }
+    Ok(None)
+}
+
+#[test]
+fn each_answer_is_its_line(rt: HostRuntime) -> Result<(), Fail> {
+    all_right(&rt, wrong_answer(rt.alloc())?);
+    Ok(())
+}
+
+const DROP: Answer = Answer::Drop { master: NodeId(8) };
+
+/// A step's number, its command with the unit, the value before it, the value and whether it was taken,
+/// its answer, and its lines.
+static COMMANDS: [(u32, Unit, u32, u32, bool, Answer, &str); 7] = [
+    (
+        0,
+        Unit::Node(NodeId(10)),
+        0,
+        1,
+        true,
+        DROP,
+        "0 set 10 0 1\n0 drop 8\n",
+    ),
+    (
+        5,
+        Unit::Node(NodeId(10)),
+        1,
+        0,
+        true,
+        DROP,
+        "5 set 10 1 0\n5 drop 8\n",
+    ),
+    (
+        16_777_216,
+        Unit::Node(NodeId(10)),
+        2,
+        1,
+        true,
+        DROP,
+        "16777216 set 10 2 1\n16777216 drop 8\n",
+    ),
+    (
+        5,
+        Unit::Node(NodeId(10)),
+        0,
+        1,
+        false,
+        DROP,
+        "5 fail 10 0 1\n5 drop 8\n",
+    ),
+    (
+        2,
+        Unit::Line(LineId(33)),
+        0,
+        1,
+        true,
+        DROP,
+        "2 line 33 0 1\n2 drop 8\n",
+    ),
+    (
+        2,
+        Unit::Line(LineId(33)),
+        1,
+        0,
+        false,
+        DROP,
+        "2 linefail 33 1 0\n2 drop 8\n",
+    ),
+    (
+        5,
+        Unit::Node(NodeId(10)),
+        1,
+        0,
+        true,
+        Answer::Silent,
+        "5 set 10 1 0\n",
+    ),
+];
+
+fn wrong_command(alloc: Global) -> Result<Option<usize>, Fail> {
+    for (place, (n, unit, from, value, ok, answer, text)) in COMMANDS.iter().enumerate() {
+        let command = Command {
+            unit: *unit,
+            value: *value,
+        };
+        let done = Done {
+            command,
+            from: *from,
+            ok: *ok,
+        };
+        if !writes(alloc, *n, Some(done), *answer, text)? {
+            return Ok(Some(place));
+        }
+    }
+    Ok(None)
+}
+
+#[test]
+fn each_command_is_its_line_before_the_answer(rt: HostRuntime) -> Result<(), Fail> {
+    all_right(&rt, wrong_command(rt.alloc())?);
+    Ok(())
+}
+
+/// A fault, its line and the exit.
+static FAULTS: [(Fault, &str, Exit); 8] = [
+    (Fault::Usage, "fault usage\n", Exit::Usage),
+    (
+        Fault::Object(ObjectFault {
+            cause: ObjectCause::Trailing,
+            offset: 23,
+        }),
+        "fault object 12 23\n",
+        Exit::BadObject,
+    ),
+    (
+        Fault::Text(TextFault {
+            line: 1,
+            cause: TextCause::Place,
+        }),
+        "fault text 1 2\n",
+        Exit::BadText,
+    ),
+    (Fault::Line(9), "fault line 9\n", Exit::BadLine),
+    (
+        Fault::Line(16_777_216),
+        "fault line 16777216\n",
+        Exit::BadLine,
+    ),
+    (Fault::Read, "fault read\n", Exit::ReadFault),
+    (Fault::Memory, "fault memory\n", Exit::Memory),
+    (Fault::Size, "fault size\n", Exit::TooLarge),
+];
+
+fn wrong_fault() -> Option<usize> {
+    let mut line = TextLine::new();
+    for (place, (fault, text, wanted)) in FAULTS.iter().enumerate() {
+        write_fault(*fault, &mut line);
+        if line.as_slice() != text.as_bytes() || exit(*fault) != *wanted {
+            return Some(place);
+        }
+    }
+    None
+}
+
+#[test]
+fn each_fault_is_its_line_and_its_exit(rt: HostRuntime) {
+    all_right(&rt, wrong_fault());
+}

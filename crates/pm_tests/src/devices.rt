@@ -1,0 +1,131 @@
+//! The devices in memory, driven as any device.
+
+use crate::chip::chip;
+use crate::rows::all_right;
+use pm_base::{Command, LineId, NodeId, Unit};
+use pm_device::{Device, ListedDevice, ModelDevice};
+use std::test::Fail;
+
+fn node(number: u32) -> Unit {
+    Unit::Node(NodeId(number))
+}
+
+fn line(number: u32) -> Unit {
+    Unit::Line(LineId(number))
+}
+
+/// What is done to a device: a command on a node or a reset line with its value and whether it is
+/// taken, or a node that is broken or mended.
+#[derive(Clone, Copy, Debug)]
+enum Act {
+    Node(u32, u32, bool),
+    Line(u32, u32, bool),
+    Rig(u32, bool),
+}
+
+/// Does an act to any device, and answers whether it goes as is said.
+fn goes<D: Device>(device: &mut D, act: Act) -> bool {
+    let (unit, value, taken) = match act {
+        Act::Node(number, value, taken) => (node(number), value, taken),
+        Act::Line(number, value, taken) => (line(number), value, taken),
+        Act::Rig(number, broken) => {
+            device.rig(NodeId(number), broken);
+            return true;
+        }
+    };
+    device.command(Command { unit, value }).is_ok() == taken
+}
+
+/// Drives any device.
+fn wrong_act<D: Device>(device: &mut D, acts: &[Act]) -> Option<usize> {
+    for (place, act) in acts.iter().enumerate() {
+        if !goes(device, *act) {
+            return Some(place);
+        }
+    }
+    None
+}
+
+/// A device that fails on broken nodes and on units that the chip doesn't have.
+static MODEL: [Act; 16] = [
+    Act::Node(62, 1, true),
+    Act::Node(28, 1, true),
+    Act::Line(28, 1, true),
+    Act::Node(70, 1, false),
+    Act::Line(62, 1, false),
+    Act::Node(28, 0, true),
+    Act::Rig(62, true),
+    Act::Rig(28, true),
+    Act::Rig(70, true),
+    Act::Node(62, 7, false),
+    Act::Line(28, 5, true),
+    Act::Node(10, 1, true),
+    Act::Rig(62, false),
+    Act::Node(62, 3, true),
+    Act::Node(28, 9, false),
+    Act::Node(70, 1, false),
+];
+
+/// Units, and the values at which they then stand.
+static MODEL_VALUES: [(Unit, u32); 7] = [
+    (Unit::Node(NodeId(62)), 3),
+    (Unit::Node(NodeId(28)), 0),
+    (Unit::Node(NodeId(10)), 1),
+    (Unit::Node(NodeId(70)), 0),
+    (Unit::Node(NodeId(1)), 0),
+    (Unit::Line(LineId(28)), 5),
+    (Unit::Line(LineId(62)), 0),
+];
+
+fn wrong_value(device: &ModelDevice) -> Option<usize> {
+    for (place, (unit, value)) in MODEL_VALUES.iter().enumerate() {
+        if device.value(*unit) != *value {
+            return Some(place);
+        }
+    }
+    None
+}
+
+#[test]
+fn a_model_fails_on_broken_nodes_and_unknown_units(rt: HostRuntime) -> Result<(), Fail> {
+    let mut device = ModelDevice::new(rt.alloc(), &chip(rt.alloc())?)?;
+    assert_eq!(rt; device.value(node(62)), 0);
+    all_right(&rt, wrong_act(&mut device, &MODEL));
+    all_right(&rt, wrong_value(&device));
+    Ok(())
+}
+
+/// A device that fails the commands 2 and 5, and on a line that the chip doesn't have.
+static LISTED: [Act; 7] = [
+    Act::Node(62, 1, true),
+    Act::Node(62, 2, false),
+    Act::Node(62, 3, true),
+    Act::Rig(62, true),
+    Act::Line(70, 1, false),
+    Act::Line(11, 1, false),
+    Act::Line(11, 2, true),
+];
+
+static LISTED_VALUES: [(Unit, u32); 3] = [
+    (Unit::Node(NodeId(62)), 3),
+    (Unit::Line(LineId(11)), 2),
+    (Unit::Line(LineId(70)), 0),
+];
+
+fn wrong_listed(device: &ListedDevice) -> Option<usize> {
+    for (place, (unit, value)) in LISTED_VALUES.iter().enumerate() {
+        if device.value(*unit) != *value {
+            return Some(place);
+        }
+    }
+    None
+}
+
+#[test]
+fn a_listed_device_fails_at_its_numbers(rt: HostRuntime) -> Result<(), Fail> {
+    let mut device = ListedDevice::new(rt.alloc(), &chip(rt.alloc())?, &[2, 5, 5, 0])?;
+    all_right(&rt, wrong_act(&mut device, &LISTED));
+    all_right(&rt, wrong_listed(&device));
+    all_right(&rt, wrong_act(&mut device, &[Act::Node(62, 4, true)]));
+    Ok(())
+}

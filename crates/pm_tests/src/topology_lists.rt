@@ -1,0 +1,205 @@
+//! Small topologies, built of lists.
+
+use pm_base::{Caps, LineId, List, NoMemory, NodeId};
+use pm_topology::{LineDef, MasterDef, PowerDef, ProcDef, SlaveDef, SlaveState, Topology};
+use std::alloc::Global;
+
+pub(crate) type Power = (u32, Option<usize>);
+
+pub(crate) type Proc = (u32, usize);
+
+pub(crate) type Slave = (u32, usize, States);
+
+pub(crate) type Line = (u32, u32);
+
+pub(crate) type Master = (u32, Procs);
+
+/// A small topology: powers by number and parent, processors by number and parent, slaves by number,
+/// parent and states, lines by number and target, masters by number and processors.
+pub(crate) type Lists = (
+    &'static [Power],
+    &'static [Proc],
+    &'static [Slave],
+    &'static [Line],
+    &'static [Master],
+);
+
+const OFF: SlaveState = SlaveState {
+    caps: Caps(0),
+    latency: 100,
+    powered: false,
+    figure: 0,
+};
+
+const KEPT: SlaveState = SlaveState {
+    caps: Caps(2),
+    latency: 50,
+    powered: true,
+    figure: 1,
+};
+
+const ON: SlaveState = SlaveState {
+    caps: Caps(3),
+    latency: 0,
+    powered: true,
+    figure: 9,
+};
+
+const LATE: SlaveState = SlaveState {
+    caps: Caps(3),
+    latency: 1,
+    powered: true,
+    figure: 9,
+};
+
+/// The states of a slave: all that are needed, the fullest not last, a fullest that is left late, five,
+/// and none.
+#[derive(Clone, Copy)]
+pub(crate) enum States {
+    Full,
+    NotFull,
+    Slow,
+    Five,
+    Nothing,
+}
+
+fn states_of(states: States) -> &'static [SlaveState] {
+    match states {
+        States::Full => &[OFF, KEPT, ON],
+        States::NotFull => &[ON, KEPT],
+        States::Slow => &[OFF, LATE],
+        States::Five => &[OFF, OFF, KEPT, KEPT, ON],
+        States::Nothing => &[],
+    }
+}
+
+/// The processors of a master: both, the second one, a slave among them, and none.
+#[derive(Clone, Copy)]
+pub(crate) enum Procs {
+    Both,
+    One,
+    Stranger,
+    Nobody,
+}
+
+fn procs_of(procs: Procs) -> &'static [NodeId] {
+    match procs {
+        Procs::Both => &[NodeId(2), NodeId(3)],
+        Procs::One => &[NodeId(3)],
+        Procs::Stranger => &[NodeId(2), NodeId(11)],
+        Procs::Nobody => &[],
+    }
+}
+
+// The lists of a topology that passes.
+
+pub(crate) const POWERS: &[Power] = &[(9, None), (10, Some(0))];
+
+pub(crate) const PROCS: &[Proc] = &[(2, 1), (3, 1)];
+
+pub(crate) const SLAVES: &[Slave] = &[(11, 1, States::Full), (12, 0, States::Full)];
+
+pub(crate) const LINES: &[Line] = &[(2, 2), (11, 11)];
+
+pub(crate) const MASTERS: &[Master] = &[(1, Procs::Both), (6, Procs::One)];
+
+pub(crate) fn power((number, parent): Power) -> PowerDef {
+    PowerDef {
+        node: NodeId(number),
+        parent,
+        held: false,
+        figure: 1,
+        latency: 1,
+    }
+}
+
+pub(crate) fn proc((number, parent): Proc) -> ProcDef {
+    ProcDef {
+        node: NodeId(number),
+        parent,
+        figure: 1,
+        latency: 1,
+    }
+}
+
+pub(crate) fn line((number, target): Line) -> LineDef {
+    LineDef {
+        line: LineId(number),
+        target: Some(NodeId(target)),
+    }
+}
+
+/// A list of these items.
+fn list_of<T: Copy + Drop>(alloc: Global, items: &[T]) -> Result<List<T>, NoMemory> {
+    let mut list = List::new(alloc);
+    for item in items {
+        list.push(*item)?;
+    }
+    Ok(list)
+}
+
+pub(crate) fn slave(alloc: Global, (number, parent, kind): Slave) -> Result<SlaveDef, NoMemory> {
+    Ok(SlaveDef {
+        node: NodeId(number),
+        parent,
+        states: list_of(alloc, states_of(kind))?,
+    })
+}
+
+pub(crate) fn master(alloc: Global, (number, kind): Master) -> Result<MasterDef, NoMemory> {
+    Ok(MasterDef {
+        node: NodeId(number),
+        procs: list_of(alloc, procs_of(kind))?,
+    })
+}
+
+fn power_list(alloc: Global, entries: &[Power]) -> Result<List<PowerDef>, NoMemory> {
+    let mut list = List::new(alloc);
+    for entry in entries {
+        list.push(power(*entry))?;
+    }
+    Ok(list)
+}
+
+fn proc_list(alloc: Global, entries: &[Proc]) -> Result<List<ProcDef>, NoMemory> {
+    let mut list = List::new(alloc);
+    for entry in entries {
+        list.push(proc(*entry))?;
+    }
+    Ok(list)
+}
+
+fn slave_list(alloc: Global, entries: &[Slave]) -> Result<List<SlaveDef>, NoMemory> {
+    let mut list = List::new(alloc);
+    for entry in entries {
+        list.push(slave(alloc, *entry)?)?;
+    }
+    Ok(list)
+}
+
+fn line_list(alloc: Global, entries: &[Line]) -> Result<List<LineDef>, NoMemory> {
+    let mut list = List::new(alloc);
+    for entry in entries {
+        list.push(line(*entry))?;
+    }
+    Ok(list)
+}
+
+fn master_list(alloc: Global, entries: &[Master]) -> Result<List<MasterDef>, NoMemory> {
+    let mut list = List::new(alloc);
+    for entry in entries {
+        list.push(master(alloc, *entry)?)?;
+    }
+    Ok(list)
+}
+
+pub(crate) fn built(alloc: Global, lists: &Lists) -> Result<Topology, NoMemory> {
+    let (powers, procs, slaves, lines, masters) = *lists;
+    Ok(Topology {
+        slaves: slave_list(alloc, slaves)?,
+        procs: proc_list(alloc, procs)?,
+        powers: power_list(alloc, powers)?,
+        lines: line_list(alloc, lines)?,
+        masters: master_list(alloc, masters)?,
+    })
+}
