@@ -1,9 +1,9 @@
 -- What the end of a prefix tells of the file that it was read of.
-use Rattle.std.proofs.Common.{◌≡◌, ℕ, ◌+◌, ◌<◌, ◌≤◌, ◌⊎◌, ◌==◌, min, Bool, true, false, nat_le, if◌then◌else◌, List, length, take, refl, sym, ◌∙◌, ap, subst, arith, Option, Some, None, inl, inr}
+use Rattle.std.proofs.Common.{◌≡◌, ℕ, ◌+◌, ◌≤◌, ◌⊎◌, ◌==◌, min, Bool, true, false, nat_le, if◌then◌else◌, List, length, take, refl, sym, ◌∙◌, ap, subst, arith, Option, Some, None, inl, inr}
 use Rattle.std.specs.Prelude.{IsSomeAnd}
 use Rattle.std.proofs.lemmas.Bool.{leb-true}
-use Rattle.std.proofs.lemmas.Bool.Decides.{nat_tests, Decides-eqb}
-use Rattle.pm_base.specs.Inputs.{File, FailsWithin, MayFail, Moment}
+use Rattle.std.proofs.lemmas.Bool.Decides.{Decides-eqb}
+use Rattle.pm_base.specs.Inputs.{File, FailsWithin}
 use Rattle.pm_base.specs.Prefix.{IsUnread, Prefix, prefix_before, prefix_of, prefix_within, unbegun}
 use Rattle.pm_base.specs.declared.prefix.StopReason.TheVariants.{End, Limit, Failure, Unbegun}
 
@@ -67,10 +67,3 @@ prefix_fails limit (Some file) room p is fails = go (room == 0) refl is
     go : (full : Bool) → (room == 0) ≡ full → p ≡ (if full then unbegun else prefix_before limit file.fails_at file.bytes) → ((Some file ≡ None) ⊎ (room ≡ 0)) ⊎ FailsWithin limit file
     go true same is = inl (inr ((Decides-eqb room 0).0 same))
     go false same is = inr (before_fails limit file.fails_at file.bytes p is fails)
-
--- ---- how many can still be begun
-
--- only whether another can be begun matters
-pub prefix_rooms : (limit : ℕ) (shown : Option File) (a b : ℕ) → 0 < a → 0 < b → prefix_of limit shown a ≡ prefix_of limit shown b
-prefix_rooms limit None a b some other = refl
-prefix_rooms limit (Some file) a b some other = grind (arith, nat_tests)

@@ -6,7 +6,7 @@ use Rattle.std.proofs.Math.Seq.{take-append_seam}
 use Rattle.std.proofs.lemmas.Bool.Decides.{nat_tests}
 use Rattle.pm_base.specs.Inputs.{File, Input, Moment, rest, Advances, Began, CannotBegin}
 use Rattle.pm_base.specs.Faults.{Rose}
-use Rattle.pm_base.specs.Prefix.{Prefix, prefix_before, prefix_of, HasSize, StandsAt, ReadsRest, ReadsPrefix}
+use Rattle.pm_base.specs.Prefix.{Prefix, prefix_before, prefix_of, HasSize, StandsAt, ReadsAlone, ReadsOne, ReadsRest, ReadsPrefix}
 use Rattle.pm_base.specs.declared.prefix.StopReason.{StopReason}
 use Rattle.pm_base.specs.declared.prefix.StopReason.TheVariants.{End, Limit, Failure, Unbegun}
 
@@ -87,4 +87,15 @@ prefix_read shown name id limit first begun last prefix later starts can reads =
   files = λ seen other. reads.took.files seen other ∙ (starts seen).files other;
   room = λ seen. let one : first.room ≤ begun.room + 1 = (starts seen).room in let two : begun.room ≤ last.room = reads.took.room seen in omega arith;
   is = λ seen. prefix_shown shown name id limit first begun last prefix seen (starts seen) (can seen) reads;
-}
+  alone = λ seen. alone prefix.stop (one seen) (reads.stands seen);
+} where
+  one : shown → ReadsOne (length prefix.bytes) first last
+  one seen =
+      let read : Advances (begun.input id) (last.input id) prefix.bytes = reads.took.read seen in
+      (id, λ other differs. reads.took.others seen other differs ∙ (starts seen).others other differs, omega (arith, read.place, (starts seen).front.place))
+
+  alone : (stop : StopReason) → ReadsOne (length prefix.bytes) first last → StandsAt stop (last.input id) → ReadsAlone stop (length prefix.bytes) first last
+  alone End read stands = read
+  alone Limit read stands = read
+  alone Failure read stands = read
+  alone Unbegun read stands = absurd stands

@@ -1,3 +1,4 @@
+pub mod BoundedList
 pub mod Faults
 pub mod Inputs
 pub mod Lines
@@ -7,3 +8,4 @@ pub mod Numbers
 pub mod Prefix
 pub mod Sink
 pub mod Words
+pub mod Writing

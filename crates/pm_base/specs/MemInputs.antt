@@ -12,7 +12,7 @@ pub record NamedFile : Type 0 where
 
 -- what inputs in memory hold: the reads that fail, each by the place of a file and that of a byte, the files, the
 -- begun inputs in the order of their numbers, and how many calls have failed
-pub record Shelf : Type 0 where
+pub record StoredInputs : Type 0 where
   pub failing : List (ℕ × ℕ)
   pub files : List NamedFile
   pub begun : List Reading
@@ -65,10 +65,10 @@ input_of files None = nothing
 input_of files (Some reading) = input_in (slice_get files reading.file) reading.place
 
 -- what inputs in memory show
-abbrev pub moment_of : Shelf → Moment
-moment_of shelf = record {
-  file = λ name. file_of name shelf.files;
-  room = most_begun - length shelf.begun;
-  input = λ id. input_of shelf.files (slice_get shelf.begun id);
-  faults = shelf.faults;
+abbrev pub moment_of : StoredInputs → Moment
+moment_of stored = record {
+  file = λ name. file_of name stored.files;
+  room = most_begun - length stored.begun;
+  input = λ id. input_of stored.files (slice_get stored.begun id);
+  faults = stored.faults;
 }

@@ -2,7 +2,7 @@
 -- a limit.
 use Rattle.std.specs.Prelude.{◌≡◌, ℕ, ◌+◌, ◌-◌, ◌≤◌, ◌==◌, nat_le, min, ⊤, if◌then◌else◌, List, [], length, take, Option, Some, None}
 use Rattle.pm_base.specs.Faults.{Rose}
-use Rattle.pm_base.specs.Inputs.{File, Input, Moment, SameFiles, Took, IsStuck, rest}
+use Rattle.pm_base.specs.Inputs.{File, Input, Moment, SameBut, SameFiles, Took, IsStuck, rest}
 use Rattle.pm_base.specs.declared.prefix.StopReason.{StopReason}
 use Rattle.pm_base.specs.declared.prefix.StopReason.TheVariants.{End, Limit, Failure, Unbegun}
 
@@ -71,6 +71,17 @@ pub record ReadsRest (shown : Type 0) (id limit : ℕ) (before after : Moment) (
   pub fault : IsUnread prefix.stop → Rose before.faults after.faults
   pub stands : shown → StandsAt prefix.stop (after.input id)
 
+-- so many bytes were read of one begun input, and every other stays
+abbrev pub ReadsOne : ℕ → Moment → Moment → Type 0
+ReadsOne count before after = (id : ℕ) × SameBut id before.input after.input × ((after.input id).place ≡ count)
+
+-- what a reading that ended so did to the begun inputs
+abbrev pub ReadsAlone : StopReason → ℕ → Moment → Moment → Type 0
+ReadsAlone End count before after = ReadsOne count before after
+ReadsAlone Limit count before after = ReadsOne count before after
+ReadsAlone Failure count before after = ReadsOne count before after
+ReadsAlone Unbegun count before after = (id : ℕ) → after.input id ≡ before.input id
+
 -- a named input was read up to one byte past a limit
 pub record ReadsPrefix (shown : Type 0) (name : List ℕ) (limit : ℕ) (before after : Moment) (prefix : Prefix) : Type 0 where
   pub later : before.faults ≤ after.faults
@@ -79,3 +90,4 @@ pub record ReadsPrefix (shown : Type 0) (name : List ℕ) (limit : ℕ) (before 
   pub files : shown → SameFiles before after
   pub room : shown → before.room ≤ after.room + 1
   pub is : shown → prefix ≡ prefix_of limit (before.file name) before.room
+  pub alone : shown → ReadsAlone prefix.stop (length prefix.bytes) before after

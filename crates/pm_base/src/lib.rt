@@ -2,6 +2,7 @@
 //! events, the answers of the program, lists, and the inputs and the sink of a run.
 #![tactic(auto)]
 
+pub mod bounded_list;
 pub mod caps;
 pub mod errors;
 pub mod events;
@@ -17,7 +18,9 @@ pub mod sink;
 pub mod steps;
 mod stored_file;
 pub mod words;
+pub mod writing;
 
+pub use bounded_list::BoundedList;
 pub use caps::Caps;
 pub use errors::{Exit, Failed, NoMemory};
 pub use events::{Event, Message};
@@ -29,6 +32,7 @@ pub use mem_sink::MemSink;
 pub use names::{Command, LineId, Mode, NodeId, Unit};
 pub use numbers::number;
 pub use prefix::{Prefix, StopReason, gather};
-pub use sink::{Sink, write_all};
+pub use sink::Sink;
 pub use steps::Steps;
 pub use words::{word, word_text};
+pub use writing::write_all;

@@ -36,9 +36,9 @@ pub struct MemInputs {
 
 impl Model for MemInputs {
     ghost use Rattle.std.specs.Prelude.{◌≤◌, vec_capacity};
-    ghost use Rattle.pm_base.specs.MemInputs.{Shelf, most_begun};
+    ghost use Rattle.pm_base.specs.MemInputs.{StoredInputs, most_begun};
 
-    ghost Value = { Shelf };
+    ghost Value = { StoredInputs };
 
     ghost view = { λ inputs. record {
       failing = inputs.failing.items;

@@ -2,7 +2,7 @@
 
 ghost use Rattle.std.specs.Prelude.{◌≡◌, ◌<◌, ◌≤◌, ◌↔◌, ◌++◌, ⊤, [], length, take, IsErr, IfOk, IfSome, MatchResult};
 ghost use Rattle.pm_base.specs.Faults.{HasCause, raised};
-ghost use Rattle.pm_base.specs.Sink.{Wrote, CountsStalls};
+ghost use Rattle.pm_base.specs.Sink.{Appended, CountsStalls};
 ghost use Rattle.pm_base.specs.MemSink.{moment_of, count_taken};
 
 use crate::errors::{Failed, NoMemory};
@@ -67,10 +67,11 @@ impl Sink for MemSink {
     fn write(&mut self, piece: &[u8]) -> Result<usize, Failed>
         ensures bound { IfOk result (λ count. count ≤ length piece.now) }
         ensures cause { HasCause self.old.faults self.new.faults result }
+        ensures calm { IfOk result (λ _. self.new.faults ≡ self.old.faults) }
         ensures stalls { CountsStalls piece.now (moment_of self.old) (moment_of self.new) result }
-        ensures wrote { MatchResult result
-            (λ count. Wrote ⊤ (take count piece.now) (moment_of self.old) (moment_of self.new))
-            (λ _. Wrote ⊤ [] (moment_of self.old) (moment_of self.new)) }
+        ensures appended { MatchResult result
+            (λ count. Appended ⊤ (take count piece.now) (moment_of self.old) (moment_of self.new))
+            (λ _. Appended ⊤ [] (moment_of self.old) (moment_of self.new)) }
 
         // Exactly how much it takes, and exactly when a sink with room for so many bytes fails.
         ensures count { IfOk result (λ count.

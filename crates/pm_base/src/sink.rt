@@ -1,8 +1,8 @@
 //! What takes the bytes that a run writes.
 
-ghost use Rattle.std.specs.Prelude.{ℕ, ◌≤◌, ◌∷◌, [], length, take, IfOk, OnOk, OnErr, MatchResult};
+ghost use Rattle.std.specs.Prelude.{◌≡◌, ◌≤◌, [], length, take, IfOk, MatchResult};
 ghost use Rattle.pm_base.specs.Faults.{HasCause};
-ghost use Rattle.pm_base.specs.Sink.{SinkMoment, Wrote, CountsStalls, BreaksIn};
+ghost use Rattle.pm_base.specs.Sink.{SinkMoment, Appended, CountsStalls};
 
 use crate::errors::Failed;
 
@@ -21,31 +21,13 @@ pub trait Sink {
     /// Appends first bytes of `piece`, and answers how many. Taking 0 of a piece that isn't empty
     /// is a fault of the sink by rule.
     ///
-    /// `Failed` comes only where the count of faults rose, and appends nothing.
+    /// `Failed` comes exactly where the count of faults rose, and appends nothing.
     fn write(&mut self, piece: &[u8]) -> Result<usize, Failed>
         ensures bound { IfOk result (λ count. count ≤ length piece.now) }
         ensures cause { HasCause (state self.old).faults (state self.new).faults result }
+        ensures calm { IfOk result (λ _. (state self.new).faults ≡ (state self.old).faults) }
         ensures stalls { CountsStalls piece.now (state self.old) (state self.new) result }
-        ensures wrote { MatchResult result
-            (λ count. Wrote observable (take count piece.now) (state self.old) (state self.new))
-            (λ _. Wrote observable [] (state self.old) (state self.new)) };
-}
-
-/// Writes all of `bytes`, in as many pieces as the sink wants.
-///
-/// `Failed` comes only where the sink failed or took 0 of a piece that isn't empty. The sink then
-/// has some first bytes of them, never all.
-pub fn write_all<K: Sink>(sink: &mut K, bytes: &[u8]) -> Result<(), Failed>
-    ensures written { OnOk result (Wrote K.observable bytes.now (K.state sink.old) (K.state sink.new)) }
-    ensures short { OnErr result
-        (BreaksIn K.observable 0 (bytes.now ∷ []) (K.state sink.old) (K.state sink.new)) }
-{
-    let mut written = 0;
-    while written < bytes.len() {
-        match sink.write(&bytes[written..])? {
-            0 => return Err(Failed),
-            count => written += count,
-        }
-    }
-    Ok(())
+        ensures appended { MatchResult result
+            (λ count. Appended observable (take count piece.now) (state self.old) (state self.new))
+            (λ _. Appended observable [] (state self.old) (state self.new)) };
 }

@@ -1,5 +1,5 @@
 use Rattle.std.proofs.Common.{sym}
-use Rattle.pm_base.proofs.ShelfLemmas.{found_or_not}
+use Rattle.pm_base.proofs.MemInputsLemmas.{found_or_not}
 use Rattle.pm_base.proofs.mem_inputs.place_of.Goals as goal
 
 pub returns : goal.returns

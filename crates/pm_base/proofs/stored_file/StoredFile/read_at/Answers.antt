@@ -1,7 +1,7 @@
 use Rattle.std.proofs.Common.{◌≢◌, ◌≤◌, Some, arith}
 use Rattle.std.proofs.lemmas.Grind.{common_steps}
 use Rattle.pm_base.specs.MemInputs.{reach_of}
-use Rattle.pm_base.proofs.ShelfLemmas.{Advances-read}
+use Rattle.pm_base.proofs.MemInputsLemmas.{Advances-read}
 use Rattle.pm_base.proofs.stored_file.StoredFile.read_at.Goals as goal
 
 pub returns-clause-read : goal.returns-clause-read
