@@ -1,14 +1,11 @@
 -- The two devices move as a device does.
-use Rattle.std.proofs.Common.{◌≡◌, ℕ, ◌+◌, ◌-◌, ◌^◌, ◌≤◌, min, Bool, true, false, not, refl, arith, ap, ◌∙◌, Result, Ok, Err, is_ok}
-use Rattle.std.specs.Prelude.{⊤}
+use Rattle.std.proofs.Common.{◌≡◌, ℕ, Bool, true, not, refl, arith, ap, ◌∙◌, Result, Ok, Err, is_ok}
 use Rattle.pm_base.specs.Faults.{HasCause}
 use Rattle.pm_base.specs.declared.names.Unit.{Unit}
 use Rattle.pm_base.specs.declared.names.NodeId.{NodeId}
 use Rattle.pm_base.specs.declared.names.Command.{Command}
-use Rattle.pm_topology.specs.declared.topology.Topology.{Topology}
-use Rattle.pm_device.specs.Act.{Act, Order, Rig, Counts, broken_by, value_by}
-use Rattle.pm_device.specs.Device.{DeviceMoment, fails, rises}
-use Rattle.pm_device.specs.Fresh.{IsFresh, IsWhole}
+use Rattle.pm_device.specs.Act.{Order, Rig, Counts, broken_by, value_by}
+use Rattle.pm_device.specs.Device.{fails, rises}
 use Rattle.pm_device.specs.Cells.{broken_of}
 use Rattle.pm_device.specs.Model.{Bench, BenchDoes, moment_of, bench_after, bench_rigged, does_fail}
 use Rattle.pm_device.specs.Listed.{Listed, ListedDoes, listed_moment, listed_after, next_fails}
@@ -17,10 +14,6 @@ use Rattle.pm_device.specs.Listed.{Listed, ListedDoes, listed_moment, listed_aft
 counts : {T E : Type 0} (command : Command) (result : Result T E) (old new : ℕ) → HasCause old new result → Counts (Order command (is_ok result)) old new
 counts command (Ok x) old new cause = let later = cause.later in (later, omega arith)
 counts command (Err e) old new cause = let failed = cause.failed in (cause.later, omega arith)
-
--- a new device refuses nothing
-pub fresh_whole : (t : Topology) (now : DeviceMoment) → IsFresh t now → IsWhole t now
-fresh_whole t now fresh = record { units = λ unit has. fresh.units unit ∙ has; broken = fresh.broken }
 
 -- an order to a device that fails on broken nodes
 pub model_ordered : {T E : Type 0} (command : Command) (b new : Bench) (result : Result T E)

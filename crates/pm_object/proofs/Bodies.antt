@@ -3,7 +3,7 @@ use Rattle.std.proofs.Common.{◌≡◌, ◌≢◌, ℕ, List, ◌∷◌, [], �
 use Rattle.pm_object.specs.declared.object.Section.{Section}
 use Rattle.pm_object.specs.declared.object.Section.TheVariants.{Masters, Slaves, Prealloc, Power, Reset, Shutdown, Config, Gpo}
 use Rattle.pm_object.specs.declared.object.Object.{Object}
-use Rattle.pm_object.specs.Grammar.{body_words, inner_words}
+use Rattle.pm_object.specs.Grammar.{identifier, body_words, inner_words, section_words}
 use Rattle.pm_object.specs.Bodies.{Body, body_of, with_body, no_body, with_section, unset}
 
 -- ---- the object with something in a section
@@ -50,16 +50,14 @@ body-section s b o = body-order s _ (with_body s b o) ∙ body-with s b o
 pub others-section : (s t : Section) (b : Body s) (o : Object) → t ≢ s → body_of t (with_section s b o) ≡ body_of t o
 others-section s t b o differ = body-order t _ (with_body s b o) ∙ body-others s t b o differ
 
--- the name of a section may come before what stands in it
-pub with_named : (s : Section) (b : Body s) (o : Object) → with_body s b (record o { order = o.order ++ s ∷ [] }) ≡ with_section s b o
-with_named Masters b o = refl
-with_named s b o = refl
-
 -- ---- its words
 
 pub words-inner : (s : Section) (o : Object) → inner_words s o ≡ body_words s (body_of s o)
 words-inner Masters o = refl
 words-inner s o = refl
+
+pub words-section : (s : Section) (o : Object) → section_words o s ≡ identifier s ∷ body_words s (body_of s o)
+words-section s o = ap (λ (words : List ℕ). identifier s ∷ words) (words-inner s o)
 
 -- ---- the whole object
 

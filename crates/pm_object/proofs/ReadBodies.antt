@@ -1,12 +1,13 @@
 -- The section that is read after the others is the section that is written.
 use Rattle.std.proofs.Common.{◌≡◌, ℕ, ◌<◌, List, [], ◌∷◌, ◌++◌, length, Ok, refl, sym, ap, subst, ◌∙◌}
 use Rattle.std.specs.Bool.{⊤}
+use Rattle.pm_object.specs.declared.object.Pair.{Pair}
 use Rattle.pm_object.specs.declared.object.Section.{Section}
 use Rattle.pm_object.specs.declared.object.Section.TheVariants.{Masters, Slaves, Prealloc, Power, Reset, Shutdown, Config, Gpo}
 use Rattle.pm_object.specs.declared.object.Object.{Object}
 use Rattle.pm_object.specs.Bodies.{Body, with_body, with_section}
-use Rattle.pm_object.specs.Grammar.{identifier, body_words, slave_words, group_words, pair_words, HasOwnNodes, IsBody}
-use Rattle.pm_object.specs.Reading.{Cursor, ◌>>=◌, word, slave, group, pair, section_name, body, section_body, section}
+use Rattle.pm_object.specs.Grammar.{identifier, counted, body_words, slave_words, group_words, pair_words, HaveOwnKeys, HasOwnNodes, IsBody}
+use Rattle.pm_object.specs.Reading.{Cursor, ◌>>=◌, word, counted_records, slave, group, pair, section_name, body, section_body, section}
 use Rattle.pm_object.proofs.Steps.{bind_ok, ok_is, Again, before, word_takes, word_again}
 use Rattle.pm_object.proofs.ReadMasters.{masters_take, masters_again}
 use Rattle.pm_object.proofs.ReadLists.{counted_take, counted_again}
@@ -20,14 +21,20 @@ abbrev pub HasSome : (s : Section) → Body s → Type 0
 HasSome Masters b = 0 < length b
 HasSome s b = ⊤
 
+pairs_take : (c : Cursor) (b : List Pair) (d : Cursor) → counted_records pair c ≡ Ok (b, d) → (c.left ≡ counted pair_words b ++ d.left) × HaveOwnKeys (λ p. p.key) b × ⊤
+pairs_take c b d e = let taken = counted_take pair pair_words Any (Differ (λ p. p.key)) pair_reader c b d e in (taken.0, taken.2, tt)
+
+pairs_again : (c : Cursor) (b : List Pair) (rest : List ℕ) → c.left ≡ counted pair_words b ++ rest → HaveOwnKeys (λ p. p.key) b → Again (counted_records pair c) b rest
+pairs_again c b rest text together = counted_again pair pair_words Any (Differ (λ p. p.key)) pair_reader c b rest text (λ k v within. tt) together
+
 body_takes : (s : Section) (c : Cursor) (b : Body s) (d : Cursor) → body s c ≡ Ok (b, d) → (c.left ≡ body_words s b ++ d.left) × IsBody s b × HasSome s b
 unfolding body
 body_takes Masters c b d e = let taken = masters_take c b d e in (taken.0, taken.1, taken.2)
 body_takes Slaves c b d e = let taken = counted_take slave slave_words Any (Differ (λ s. s.node)) slave_reader c b d e in (taken.0, taken.2, tt)
 body_takes Prealloc c b d e = let taken = counted_take group group_words HasOwnNodes AnyTwo group_reader c b d e in (taken.0, taken.1, tt)
-body_takes Power c b d e = let taken = counted_take pair pair_words Any (Differ (λ p. p.key)) pair_reader c b d e in (taken.0, taken.2, tt)
-body_takes Reset c b d e = let taken = counted_take pair pair_words Any (Differ (λ p. p.key)) pair_reader c b d e in (taken.0, taken.2, tt)
-body_takes Shutdown c b d e = let taken = counted_take pair pair_words Any (Differ (λ p. p.key)) pair_reader c b d e in (taken.0, taken.2, tt)
+body_takes Power c b d e = pairs_take c b d e
+body_takes Reset c b d e = pairs_take c b d e
+body_takes Shutdown c b d e = pairs_take c b d e
 body_takes Config c b d e =
     let base = bind_ok (word c) (λ base. word base.1 >>= λ overlay. Ok ((base.0, overlay.0), overlay.1)) (b, d) e in
     let overlay = bind_ok (word base.0.1) (λ overlay. Ok ((base.0.0, overlay.0), overlay.1)) (b, d) base.2 in
@@ -40,9 +47,9 @@ unfolding body
 body_again Masters c b rest text together some = masters_again c b rest text together some
 body_again Slaves c b rest text together some = counted_again slave slave_words Any (Differ (λ s. s.node)) slave_reader c b rest text (λ k v within. tt) together
 body_again Prealloc c b rest text together some = counted_again group group_words HasOwnNodes AnyTwo group_reader c b rest text together (λ i j v below within. tt)
-body_again Power c b rest text together some = counted_again pair pair_words Any (Differ (λ p. p.key)) pair_reader c b rest text (λ k v within. tt) together
-body_again Reset c b rest text together some = counted_again pair pair_words Any (Differ (λ p. p.key)) pair_reader c b rest text (λ k v within. tt) together
-body_again Shutdown c b rest text together some = counted_again pair pair_words Any (Differ (λ p. p.key)) pair_reader c b rest text (λ k v within. tt) together
+body_again Power c b rest text together some = pairs_again c b rest text together
+body_again Reset c b rest text together some = pairs_again c b rest text together
+body_again Shutdown c b rest text together some = pairs_again c b rest text together
 body_again Config c b rest text together some =
     let base = word_again c b.0 _ text in
     let overlay = word_again base.after b.1 rest base.left in

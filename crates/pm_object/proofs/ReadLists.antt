@@ -1,11 +1,11 @@
 -- Records that are read one by one in view of the earlier ones, against the rules that hold of each and of each two.
-use Rattle.std.proofs.Common.{◌≡◌, ℕ, zero, suc, List, [], ◌∷◌, ◌++◌, length, get_or, Ok, refl, sym, ap, subst, ◌∙◌, append_assoc, arith}
+use Rattle.std.proofs.Common.{◌≡◌, ℕ, zero, suc, List, [], ◌∷◌, ◌++◌, length, Ok, refl, sym, ap, subst, ◌∙◌, append_assoc}
 use Rattle.std.specs.List.{All, AllPairs, flat_map}
-use Rattle.std.proofs.lemmas.List.{append-nil, length-append, get_or_append_left}
+use Rattle.std.proofs.lemmas.List.{append-nil}
 use Rattle.std.proofs.lemmas.List.Concat.{flat_map-cons}
 use Rattle.std.proofs.lemmas.List.Elements.{All-nil, All-push}
 use Rattle.std.proofs.lemmas.List.Quantifiers.{all_pairs_push}
-use Rattle.std.proofs.Math.Seq.{get_or-append_seam}
+use Rattle.pm_base.proofs.Elements.{earlier_ones, next_one, no_pairs}
 use Rattle.pm_object.specs.Grammar.{counted}
 use Rattle.pm_object.specs.Reading.{Cursor, Step, word, records, counted_records}
 use Rattle.pm_object.proofs.Steps.{bind_ok, ok_is, Again, word_takes, word_again}
@@ -23,17 +23,6 @@ pub record Taken {A : Type 0} (spell : A → List ℕ) (Own : A → Type 0) (Apa
   pub words : c.left ≡ flat_map spell new ++ d.left
   pub own : All Own all
   pub apart : AllPairs Apart all
-
--- what holds of each two holds of the earlier ones against the next
-pub next_pair : {A : Type 0} (R : A → A → Type 0) (earlier : List A) (x : A) (xs : List A) → AllPairs R (earlier ++ x ∷ xs) → All (λ e. R e x) earlier
-next_pair R earlier x xs pairs k d within =
-    let here : R (get_or (earlier ++ x ∷ xs) k d) (get_or (earlier ++ x ∷ xs) (length earlier) d) = pairs k (length earlier) d within (omega (arith, length-append earlier (x ∷ xs))) in
-    rw (get_or_append_left earlier (x ∷ xs) d k within, get_or-append_seam earlier x xs d) at here
-
-pub next_one : {A : Type 0} (P : A → Type 0) (earlier : List A) (x : A) (xs : List A) → All P (earlier ++ x ∷ xs) → P x
-next_one P earlier x xs all =
-    let here : P (get_or (earlier ++ x ∷ xs) (length earlier) x) = all (length earlier) x (omega (arith, length-append earlier (x ∷ xs))) in
-    rw (get_or-append_seam earlier x xs x) at here
 
 module _ {A : Type 0} (one : List A → Cursor → Step A) (spell : A → List ℕ) (Own : A → Type 0) (Apart : A → A → Type 0) (reader : IsReader one spell Own Apart) where
   pub records_take : (n : ℕ) (earlier : List A) (c : Cursor) (all : List A) (d : Cursor) → All Own earlier → AllPairs Apart earlier → records one n earlier c ≡ Ok (all, d) → Taken spell Own Apart n earlier c all d
@@ -65,7 +54,7 @@ module _ {A : Type 0} (one : List A → Cursor → Step A) (spell : A → List �
       record { after = c; is = ap (λ (all : List A). Ok (all, c)) (sym (append-nil earlier)); left = text }
   records_again (x ∷ xs) earlier c rest own apart text =
       let split : c.left ≡ spell x ++ (flat_map spell xs ++ rest) = text ∙ ap (λ (t : List ℕ). t ++ rest) (flat_map-cons spell x xs) ∙ append_assoc (spell x) (flat_map spell xs) rest in
-      let first = reader.again earlier c x (flat_map spell xs ++ rest) split (next_one Own earlier x xs own) (next_pair Apart earlier x xs apart) in
+      let first = reader.again earlier c x (flat_map spell xs ++ rest) split (next_one Own earlier x xs own) (earlier_ones Apart earlier x xs apart) in
       let whole : (earlier ++ x ∷ []) ++ xs ≡ earlier ++ x ∷ xs = append_assoc earlier (x ∷ []) xs in
       let after = records_again xs (earlier ++ x ∷ []) first.after rest (subst (λ (l : List A). All Own l) (sym whole) own) (subst (λ (l : List A). AllPairs Apart l) (sym whole) apart) first.left in
       let read : records one (length (x ∷ xs)) earlier c ≡ Ok ((earlier ++ x ∷ []) ++ xs, after.after) = rw first.is after.is in
@@ -76,7 +65,7 @@ module _ {A : Type 0} (one : List A → Cursor → Step A) (spell : A → List �
   counted_take c xs d e =
       let n = bind_ok (word c) (λ n. records one n.0 [] n.1) (xs, d) e in
       let count = word_takes c n.0.0 n.0.1 n.1 in
-      let taken = records_take n.0.0 [] n.0.1 xs d (All-nil Own) (λ i j v below within. absurd (omega arith)) n.2 in
+      let taken = records_take n.0.0 [] n.0.1 xs d (All-nil Own) (no_pairs Apart) n.2 in
       let long : length xs ≡ n.0.0 = ap length taken.is ∙ taken.count in
       let body : n.0.1.left ≡ flat_map spell xs ++ d.left = taken.words ∙ ap (λ (l : List A). flat_map spell l ++ d.left) (sym taken.is) in
       (count ∙ ap (λ (l : List ℕ). n.0.0 ∷ l) body ∙ ap (λ (k : ℕ). k ∷ flat_map spell xs ++ d.left) (sym long), taken.own, taken.apart)

@@ -5,11 +5,12 @@ use Rattle.std.proofs.lemmas.Bool.{eqb-false, eqb-true, ne_eqb, eq-eqb, not-fals
 use Rattle.std.proofs.lemmas.List.Elements.{All-nil, All-weaker}
 use Rattle.std.proofs.lemmas.List.Folds.{list_any_none}
 use Rattle.pm_base.proofs.Booleans.{neither}
+use Rattle.pm_base.proofs.Elements.{each_fails, no_pairs}
 use Rattle.pm_object.specs.declared.object.MasterRec.{MasterRec}
 use Rattle.pm_object.specs.declared.object.ObjectCause.TheVariants.{NoMasters, BadMaster, MaskRepeated, RepeatedNode}
 use Rattle.pm_object.specs.Grammar.{is_master_node, splits_lockstep, master_words, counted, IsMaster, AreApart, AreMasters}
 use Rattle.pm_object.specs.Reading.{Cursor, fault, word, master_node, master_mask, master, masters, records}
-use Rattle.pm_object.proofs.Steps.{bind_ok, passed, ok_is, Again, before, word_takes, word_again, tested_takes, any_false}
+use Rattle.pm_object.proofs.Steps.{bind_ok, passed, ok_is, Again, before, word_takes, word_again, tested_takes}
 use Rattle.pm_object.proofs.ReadLists.{IsReader, records_take, records_again}
 
 -- ---- the node
@@ -34,8 +35,8 @@ node_takes earlier c w d e =
       word_takes c w d (a.1 ∙ h.1),
       record {
         known = not-false (is_master_node w) parts.0;
-        modes = any_false (λ (m : MasterRec). splits_lockstep m.node w) earlier parts.1;
-        own = All-weaker (λ (e : MasterRec). eqb e.node w ≡ false) (λ e. e.node ≢ w) (λ e differs. eqb-false e.node w differs) earlier (any_false (λ (m : MasterRec). eqb m.node w) earlier free);
+        modes = each_fails (λ (m : MasterRec). splits_lockstep m.node w) earlier parts.1;
+        own = All-weaker (λ (e : MasterRec). eqb e.node w ≡ false) (λ e. e.node ≢ w) (λ e differs. eqb-false e.node w differs) earlier (each_fails (λ (m : MasterRec). eqb m.node w) earlier free);
       },
     )
 
@@ -61,7 +62,7 @@ mask_takes earlier c w d e =
       t.0,
       record {
         one_bit = eqb-true _ _ (not-false (eqb (count_ones w) 1) parts.0);
-        own = All-weaker (λ (e : MasterRec). not (eqb (bit_and e.mask w) 0) ≡ false) (λ e. bit_and e.mask w ≡ 0) (λ e no. eqb-true (bit_and e.mask w) 0 (not-false (eqb (bit_and e.mask w) 0) no)) earlier (any_false (λ (m : MasterRec). not (eqb (bit_and m.mask w) 0)) earlier parts.1);
+        own = All-weaker (λ (e : MasterRec). not (eqb (bit_and e.mask w) 0) ≡ false) (λ e. bit_and e.mask w ≡ 0) (λ e no. eqb-true (bit_and e.mask w) 0 (not-false (eqb (bit_and e.mask w) 0) no)) earlier (each_fails (λ (m : MasterRec). not (eqb (bit_and m.mask w) 0)) earlier parts.1);
       },
     )
 
@@ -114,7 +115,7 @@ masters_take c xs d e =
     let n = bind_ok (word c) (λ n. cond (eqb n.0 0) (fault NoMasters c.place) (records master n.0 [] n.1)) (xs, d) e in
     let g = passed (eqb n.0.0 0) NoMasters c.place (records master n.0.0 [] n.0.1) (xs, d) n.2 in
     let count = word_takes c n.0.0 n.0.1 n.1 in
-    let taken = records_take master master_words IsMaster AreApart reader n.0.0 [] n.0.1 xs d (All-nil IsMaster) (λ i j v below within. absurd (omega arith)) g.1 in
+    let taken = records_take master master_words IsMaster AreApart reader n.0.0 [] n.0.1 xs d (All-nil IsMaster) (no_pairs AreApart) g.1 in
     let long : length xs ≡ n.0.0 = ap length taken.is ∙ taken.count in
     let body : n.0.1.left ≡ flat_map master_words xs ++ d.left = taken.words ∙ ap (λ (l : List MasterRec). flat_map master_words l ++ d.left) (sym taken.is) in (
       count ∙ ap (λ (l : List ℕ). n.0.0 ∷ l) body ∙ ap (λ (k : ℕ). k ∷ flat_map master_words xs ++ d.left) (sym long),

@@ -4,12 +4,13 @@ use Rattle.std.specs.List.{All}
 use Rattle.std.proofs.lemmas.Bool.{eqb-false, eqb-true, ne_eqb, not-false}
 use Rattle.std.proofs.lemmas.List.Elements.{All-weaker}
 use Rattle.std.proofs.lemmas.List.Folds.{list_any_none}
+use Rattle.pm_base.proofs.Elements.{each_fails}
 use Rattle.pm_object.specs.declared.object.Section.{Section}
 use Rattle.pm_object.specs.declared.object.Section.TheVariants.{Masters, Slaves, Prealloc, Power, Reset, Shutdown, Config, Gpo}
 use Rattle.pm_object.specs.declared.object.ObjectCause.TheVariants.{RepeatedSection, NoMasters}
 use Rattle.pm_object.specs.Grammar.{identifier}
 use Rattle.pm_object.specs.Reading.{Cursor, ◌>>=◌, fault, word, section_of, is_among, section_after, section_name}
-use Rattle.pm_object.proofs.Steps.{bind_ok, passed, ok_is, Again, word_takes, word_again, any_false}
+use Rattle.pm_object.proofs.Steps.{bind_ok, passed, ok_is, Again, word_takes, word_again}
 use Rattle.pm_object.proofs.SectionNames.{some_is, section_again, same_section_from_identifier}
 
 -- a section that may come after these
@@ -49,7 +50,7 @@ in_place (t ∷ order) s first = ap (λ (b : Bool). b && not (eqb (identifier s)
 new_is : (order : List Section) (s : Section) → is_among s order ≡ false → All (λ t. t ≢ s) order
 new_is order s e =
     All-weaker (λ (t : Section). eqb (identifier t) (identifier s) ≡ false) (λ t. t ≢ s) (λ t differs same. eqb-false _ _ differs (ap identifier same)) order
-    (any_false (λ (t : Section). eqb (identifier t) (identifier s)) order e)
+    (each_fails (λ (t : Section). eqb (identifier t) (identifier s)) order e)
 
 is_new : (order : List Section) (s : Section) → All (λ t. t ≢ s) order → is_among s order ≡ false
 is_new order s new =

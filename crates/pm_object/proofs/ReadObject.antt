@@ -1,10 +1,11 @@
 -- The two laws: the bytes that are read spell the object, and the bytes that spell an object are read as it.
 use Rattle.std.proofs.Common.{◌≡◌, ◌≢◌, ℕ, ◌+◌, ◌*◌, ◌%◌, ◌^◌, ◌<◌, ◌≤◌, Bool, true, false, cond, not, eqb, ltb, List, [], ◌∷◌, ◌++◌, length, slice_get, Some, None, ◌↔◌, ◌⊎◌, inl, inr, Result, Ok, Err, refl, sym, ap, subst, ◌∙◌, arith}
 use Rattle.std.specs.Prelude.{IfOk}
-use Rattle.std.specs.List.{All, AllPairs, Contains, flat_map}
+use Rattle.std.specs.List.{All, Contains, flat_map}
 use Rattle.std.proofs.lemmas.Bool.{eqb-true, eqb-false, ne_eqb, eq-eqb, ltb-false, le-ltb, not-false}
 use Rattle.std.proofs.lemmas.List.{append-nil}
 use Rattle.std.proofs.lemmas.List.Elements.{All-nil}
+use Rattle.pm_base.proofs.Elements.{no_pairs}
 use Rattle.pm_object.specs.declared.header.Header.{Header}
 use Rattle.pm_object.specs.declared.object.Section.{Section}
 use Rattle.pm_object.specs.declared.object.Section.TheVariants.{Masters, Slaves, Prealloc, Power, Reset, Shutdown, Config, Gpo}
@@ -19,25 +20,22 @@ use Rattle.pm_object.proofs.Bytes.{IsBytes, bytes_fit, words_again, length_littl
 use Rattle.pm_object.proofs.Steps.{bind_ok, passed, ok_is}
 use Rattle.pm_object.proofs.ReadHeader.{header_takes, header_again}
 use Rattle.pm_object.proofs.Bodies.{body-unset}
-use Rattle.pm_object.proofs.ReadSections.{IsPart, UpTo, IsReadable, sections_take, sections_again}
+use Rattle.pm_object.proofs.ReadSections.{IsPart, UpTo, sections_take, sections_again}
 
 -- ---- an object without sections
 
-none_apart : {A : Type 0} (R : A → A → Type 0) → AllPairs R []
-none_apart R i j d below within = absurd (omega arith)
-
-none_together : (s : Section) → IsBody s (no_body s)
-none_together Masters = record { each = All-nil IsMaster; apart = none_apart AreApart }
-none_together Slaves = none_apart (λ a b. a.node ≢ b.node)
+pub none_together : (s : Section) → IsBody s (no_body s)
+none_together Masters = record { each = All-nil IsMaster; apart = no_pairs AreApart }
+none_together Slaves = no_pairs (λ a b. a.node ≢ b.node)
 none_together Prealloc = All-nil HasOwnNodes
-none_together Power = none_apart (λ a b. a.key ≢ b.key)
-none_together Reset = none_apart (λ a b. a.key ≢ b.key)
-none_together Shutdown = none_apart (λ a b. a.key ≢ b.key)
+none_together Power = no_pairs (λ a b. a.key ≢ b.key)
+none_together Reset = no_pairs (λ a b. a.key ≢ b.key)
+none_together Shutdown = no_pairs (λ a b. a.key ≢ b.key)
 none_together Config = tt
 none_together Gpo = tt
 
 unset_part : (extra : List ℕ) → IsPart (unset extra)
-unset_part extra = record { once = none_apart (λ s t. s ≢ t); unset = λ s hasnt. body-unset s extra; sections = λ s. subst (IsBody s) (sym (body-unset s extra)) (none_together s); begun = inl refl }
+unset_part extra = record { once = no_pairs (λ s t. s ≢ t); unset = λ s hasnt. body-unset s extra; sections = λ s. subst (IsBody s) (sym (body-unset s extra)) (none_together s); begun = inl refl }
 
 -- ---- the words
 
@@ -81,7 +79,7 @@ first_not : (order : List Section) → length order ≡ 0 → slice_get order 0 
 first_not [] none e = absurd cc
 first_not (s ∷ order) none e = absurd (omega arith)
 
-pub object_again : (p : Object) → IsReadable p → (c : Cursor) → c.left ≡ words_of p → object c ≡ Ok p
+pub object_again : (p : Object) → IsObject p → (c : Cursor) → c.left ≡ words_of p → object c ≡ Ok p
 unfolding object
 object_again p good c text =
     let h : Header = record { sections = length p.order; extra = p.extra } in
@@ -124,7 +122,7 @@ reads_what_is_written bytes o reads =
     let aligned : eqb (length bytes % 4) 0 ≡ true = eq-eqb (length bytes % 4) 0 (omega (arith, long)) in
     let text : words bytes ≡ words_of o = ap words reads.spelling ∙ words_again (words_of o) good.words in
     let read : object (record { place = 0; left = words bytes }) ≡ Ok o =
-    object_again o (record { first = good.first; once = good.once; unset = good.unset; sections = good.sections; some_master = good.some_master }) (record { place = 0; left = words bytes }) text in
+    object_again o good (record { place = 0; left = words bytes }) text in
     rw (short, aligned) read
 
 -- ---- what decode answers

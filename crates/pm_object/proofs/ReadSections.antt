@@ -10,14 +10,14 @@ use Rattle.pm_object.specs.declared.object.Section.{Section}
 use Rattle.pm_object.specs.declared.object.Section.TheVariants.{Masters}
 use Rattle.pm_object.specs.declared.object.Object.{Object}
 use Rattle.pm_object.specs.Bodies.{body_of, no_body, with_section}
-use Rattle.pm_object.specs.Grammar.{section_words, body_words, identifier, IsBody}
+use Rattle.pm_object.specs.Grammar.{section_words, body_words, identifier, IsBody, IsObject}
 use Rattle.pm_object.specs.Reading.{Cursor, section, sections}
 use Rattle.pm_object.proofs.Steps.{bind_ok, ok_is, Again}
-use Rattle.pm_object.proofs.ReadLists.{next_pair}
 use Rattle.pm_object.proofs.ReadNames.{MayFollow}
 use Rattle.pm_object.proofs.ReadBodies.{HasSome, IsNext, section_takes, section_again}
 use Rattle.pm_object.proofs.Bodies.{words-inner, order-section, extra-section, body-section, others-section, same_object}
-use Rattle.pm_object.proofs.SectionNames.{same_or_not, contains_or_not, not_among, some_is}
+use Rattle.pm_base.proofs.Elements.{contains_or_not, earlier_ones, not_among}
+use Rattle.pm_object.proofs.SectionNames.{same_or_not, some_is}
 
 -- ---- an object whose sections are read one by one
 
@@ -126,17 +126,9 @@ pub record UpTo (done : List Section) (o p : Object) : Type 0 where
   pub kept : (s : Section) → Contains done s → body_of s o ≡ body_of s p
   pub unset : (s : Section) → (Contains done s → ⊥) → body_of s o ≡ no_body s
 
--- what p is to be read from sections
-pub record IsReadable (p : Object) : Type 0 where
-  pub first : slice_get p.order 0 ≡ Some Masters
-  pub once : AllPairs (λ s t. s ≢ t) p.order
-  pub unset : (s : Section) → (Contains p.order s → ⊥) → body_of s p ≡ no_body s
-  pub sections : (s : Section) → IsBody s (body_of s p)
-  pub some_master : 0 < length p.masters
-
 whole : (done : List Section) (o p : Object) → p.order ≡ done → ((s : Section) → (Contains p.order s → ⊥) → body_of s p ≡ no_body s) → UpTo done o p → o ≡ p
 whole done o p all unset so_far =
-    same_object o p so_far.extra (so_far.order ∙ sym all) (λ s. elim (contains_or_not done s) [
+    same_object o p so_far.extra (so_far.order ∙ sym all) (λ s. elim (contains_or_not same_or_not done s) [
       | inl has ↦ so_far.kept s has
       | inr hasnt ↦ so_far.unset s hasnt ∙ sym (unset s (λ (has : Contains p.order s). hasnt (subst (λ (l : List Section). Contains l s) all has)))
     ])
@@ -166,14 +158,14 @@ has_some : (s : Section) (p : Object) → 0 < length p.masters → HasSome s (bo
 has_some Masters p some = some
 has_some s p some = tt
 
-pub sections_again : (p : Object) → IsReadable p → (left done : List Section) (o : Object) → p.order ≡ done ++ left → UpTo done o p → (c : Cursor) (rest : List ℕ) → c.left ≡ flat_map (section_words p) left ++ rest → Again (sections (length left) o c) p rest
+pub sections_again : (p : Object) → IsObject p → (left done : List Section) (o : Object) → p.order ≡ done ++ left → UpTo done o p → (c : Cursor) (rest : List ℕ) → c.left ≡ flat_map (section_words p) left ++ rest → Again (sections (length left) o c) p rest
 unfolding sections
 sections_again p good [] done o all so_far c rest text =
     record { after = c; is = ap (λ (q : Object). Ok (q, c)) (whole done o p (all ∙ append-nil done) good.unset so_far); left = text }
 sections_again p good (s ∷ left) done o all so_far c rest text =
     let split : c.left ≡ section_words p s ++ (flat_map (section_words p) left ++ rest) =
     text ∙ ap (λ (l : List ℕ). l ++ rest) (flat_map-cons (section_words p) s left) ∙ append_assoc (section_words p s) (flat_map (section_words p) left) rest in
-    let new : All (λ t. t ≢ s) done = next_pair (λ (a b : Section). a ≢ b) done s left (subst (λ (l : List Section). AllPairs (λ a b. a ≢ b) l) all good.once) in
+    let new : All (λ t. t ≢ s) done = earlier_ones (λ (a b : Section). a ≢ b) done s left (subst (λ (l : List Section). AllPairs (λ a b. a ≢ b) l) all good.once) in
     let first : done ≡ [] → s ≡ Masters = λ (none : done ≡ []). some_is s Masters (first_of_rest done left s Masters none (ap (λ (l : List Section). slice_get l 0) (sym all) ∙ good.first)) in
     let may : MayFollow o.order s = subst (λ (l : List Section). MayFollow l s) (sym so_far.order) (record { new = new; first = first }) in
     let here = section_again s (body_of s p) o c (flat_map (section_words p) left ++ rest) may (split ∙ ap (λ ws. identifier s ∷ ws ++ (flat_map (section_words p) left ++ rest)) (words-inner s p)) (good.sections s) (has_some s p good.some_master) in

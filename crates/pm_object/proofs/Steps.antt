@@ -2,9 +2,9 @@
 use Rattle.std.proofs.Common.{◌≡◌, ◌≢◌, ℕ, ◌+◌, Bool, true, false, cond, eqb, List, [], ◌∷◌, Result, Ok, Err, refl, ap, subst, ◌∙◌}
 use Rattle.std.specs.List.{All, list_any}
 use Rattle.std.proofs.lemmas.Bool.{eqb-false, ne_eqb}
-use Rattle.std.proofs.lemmas.List.Elements.{All-nil, All-cons, All-weaker}
+use Rattle.std.proofs.lemmas.List.Elements.{All-weaker}
 use Rattle.std.proofs.lemmas.List.Folds.{list_any_none}
-use Rattle.pm_base.proofs.Booleans.{neither}
+use Rattle.pm_base.proofs.Elements.{each_fails}
 use Rattle.pm_object.specs.declared.object.ObjectCause.{ObjectCause}
 use Rattle.pm_object.specs.declared.object.ObjectCause.TheVariants.{RepeatedNode}
 use Rattle.pm_object.specs.declared.object.ObjectFault.{ObjectFault}
@@ -63,21 +63,13 @@ tested_takes bad cause c w d e =
 pub tested_again : (bad : ℕ → Bool) (cause : ObjectCause) (c : Cursor) (w : ℕ) (rest : List ℕ) → c.left ≡ w ∷ rest → bad w ≡ false → Again (word c >>= λ v. cond (bad v.0) (fault cause c.place) (Ok v)) w rest
 tested_again bad cause c w rest h passes = record { after = record { place = c.place + 1; left = rest }; is = rw (h, passes) refl; left = refl }
 
--- ---- tests of all elements
-
-pub any_false : {A : Type 0} (test : A → Bool) (xs : List A) → list_any test xs ≡ false → All (λ x. test x ≡ false) xs
-any_false test [] e = All-nil (λ x. test x ≡ false)
-any_false test (x ∷ xs) e =
-    let parts = neither (test x) (list_any test xs) e in
-    All-cons (λ x. test x ≡ false) x xs parts.0 (any_false test xs parts.1)
-
 -- ---- the key of a record
 
 pub own_key_takes : {A : Type 0} (key : A → ℕ) (earlier : List A) (c : Cursor) (w : ℕ) (d : Cursor) → own_key key earlier c ≡ Ok (w, d) → (c.left ≡ w ∷ d.left) × All (λ r. key r ≢ w) earlier
 unfolding own_key
 own_key_takes key earlier c w d e =
     let t = tested_takes (λ v. list_any (λ r. eqb (key r) v) earlier) RepeatedNode c w d e in
-    (t.0, All-weaker (λ r. eqb (key r) w ≡ false) (λ r. key r ≢ w) (λ r differs. eqb-false (key r) w differs) earlier (any_false (λ r. eqb (key r) w) earlier t.1))
+    (t.0, All-weaker (λ r. eqb (key r) w ≡ false) (λ r. key r ≢ w) (λ r differs. eqb-false (key r) w differs) earlier (each_fails (λ r. eqb (key r) w) earlier t.1))
 
 pub own_key_again : {A : Type 0} (key : A → ℕ) (earlier : List A) (c : Cursor) (w : ℕ) (rest : List ℕ) → c.left ≡ w ∷ rest → All (λ r. key r ≢ w) earlier → Again (own_key key earlier c) w rest
 unfolding own_key

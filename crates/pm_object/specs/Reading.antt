@@ -16,6 +16,7 @@ use Rattle.pm_object.specs.declared.object.ObjectFault.{ObjectFault}
 use Rattle.pm_object.specs.declared.object.DecodeError.{DecodeError}
 use Rattle.pm_object.specs.declared.object.DecodeError.TheVariants.{Bad, Memory}
 use Rattle.pm_object.specs.declared.header.Header.{Header}
+use Rattle.pm_object.specs.Answers.{GivesAs}
 use Rattle.pm_object.specs.Bodies.{Body, with_body, unset}
 use Rattle.pm_object.specs.Grammar.{identifier, is_same, is_master_node, splits_lockstep, most_words, Reads}
 
@@ -253,22 +254,19 @@ IsFatal bytes f = (other : List ℕ) (o : Object) → take (4 * (f.offset + 1)) 
 
 -- ---- what functions return
 
--- what a function failed with is what reading fails with, unless memory ran out
-abbrev pub Fails : {A : Type 0} → DecodeError → Result A ObjectFault → Type 0
-Fails (Memory e) read = ⊤
-Fails (Bad f) read = read ≡ Err f
+-- the fault that an error tells
+abbrev pub fault_in : DecodeError → Option ObjectFault
+fault_in (Bad f) = Some f
+fault_in (Memory e) = None
 
 -- what a function returned is what reading gives, unless memory ran out
 abbrev pub Gives : {A : Type 0} → Result A DecodeError → Result A ObjectFault → Type 0
-Gives (Ok x) read = read ≡ Ok x
-Gives (Err e) read = Fails e read
+Gives result read = GivesAs fault_in (λ x. x) result read
 
 -- the same for a function that left the words at a place
 abbrev pub GivesAt : {A : Type 0} → Cursor → Result A DecodeError → Step A → Type 0
-GivesAt after (Ok x) read = read ≡ Ok (x, after)
-GivesAt after (Err e) read = Fails e read
+GivesAt after result read = GivesAs fault_in (λ x. (x, after)) result read
 
 -- the same for a function that left an object as it is at a place
 abbrev pub GivesInto : {A : Type 0} → A → Cursor → Result ⊤ DecodeError → Step A → Type 0
-GivesInto value after (Ok x) read = read ≡ Ok (value, after)
-GivesInto value after (Err e) read = Fails e read
+GivesInto value after result read = GivesAs fault_in (λ _. (value, after)) result read

@@ -2,9 +2,8 @@
 use Rattle.std.proofs.Common.{◌≡◌, ◌≢◌, ℕ, suc, ◌+◌, ◌^◌, ◌<◌, ◌≤◌, Bool, true, false, not, ◌==◌, eqb, ◌&&◌, cond, ◌⊎◌, inl, inr, List, [], ◌∷◌, ◌++◌, length, get_or, refl, ap, sym, ◌∙◌, subst, arith, length-append, bit_and, count_ones}
 use Rattle.std.specs.Prelude.{⊤}
 use Rattle.std.specs.List.{flat_map, list_any, All, AllPairs, AllByRecursion}
-use Rattle.std.proofs.lemmas.Bool.{false≢true, not-false}
+use Rattle.std.proofs.lemmas.Bool.{false≢true, not-false, eqb-true}
 use Rattle.std.proofs.lemmas.Bool.Decides.{nat_tests}
-use Rattle.std.proofs.lemmas.List.Folds.{list_any_at}
 use Rattle.std.proofs.lemmas.List.Concat.{flat_map-append}
 use Rattle.std.proofs.lemmas.List.Elements.{recursion_from_All, All-from_recursion, All-push}
 use Rattle.std.proofs.lemmas.List.Quantifiers.{all_pairs_push}
@@ -16,9 +15,8 @@ use Rattle.pm_object.specs.declared.object.Section.{Section}
 use Rattle.pm_object.specs.declared.object.Section.TheVariants as sections
 use Rattle.pm_object.specs.Bodies.{Body, body_of, with_body, no_body}
 use Rattle.pm_object.specs.Grammar.{identifier, master_words, slave_words, preset_words, pair_words, group_words, body_words, section_words, splits_lockstep, is_master_node, IsMaster, AreApart, AreMasters, HaveOwnKeys, HasOwnNodes, IsBody}
-use Rattle.pm_object.proofs.Bodies.{body-with, body-others, order-with, extra-with, words-inner}
-use Rattle.pm_object.proofs.SectionNames.{same_or_not}
 use Rattle.pm_base.proofs.Booleans.{neither, differs}
+use Rattle.pm_base.proofs.Elements.{AllByRecursion-append, each_fails}
 use Rattle.pm_objtext.specs.declared.stage.Stage.{Stage}
 use Rattle.pm_objtext.specs.declared.stage.Stage.TheVariants as stages
 use Rattle.pm_objtext.specs.Groups.{last_recs, with_preset}
@@ -26,9 +24,9 @@ use Rattle.pm_object.specs.Grammar.{is_same}
 use Rattle.pm_object.specs.Reading.{is_bad_node, is_bad_mask}
 use Rattle.pm_objtext.specs.Stage.{is_in, awaits_record, takes_section}
 use Rattle.pm_objtext.proofs.ItemTexts.{AreSmall}
-use Rattle.pm_objtext.proofs.LineTexts.{AllByRecursion-append}
 use Rattle.pm_objtext.proofs.TextLaw.{AreSmall-split}
-use Rattle.pm_objtext.proofs.Whole.{same_section, other_section, apart_later}
+use Rattle.pm_objtext.proofs.SectionLaws.{SectionLaws, same_section, other_section, same_or_not}
+use Rattle.pm_objtext.proofs.Whole.{apart_later}
 
 -- ---- a section of an object so far
 
@@ -90,22 +88,11 @@ pub record IsFormed (stage : Stage) (size : ℕ) (o : Object) : Type 0 where
   pub words : size + missing stage ≡ 3 + length o.extra + size_of o.order o
   pub most : size ≤ 4096
 
--- ---- tests
-
--- no element passes
-pub none_at : {X : Type 0} (p : X → Bool) (xs : List X) (k : ℕ) (d : X) → list_any p xs ≡ false → k < length xs → p (get_or xs k d) ≡ false
-none_at p xs k d none within = at (p (get_or xs k d)) refl
-  where
-    at : (b : Bool) → p (get_or xs k d) ≡ b → b ≡ false
-    at true is = absurd (false≢true (sym none ∙ list_any_at p xs k d within is))
-    at false is = refl
-
-same_number : (a b : ℕ) → eqb a b ≡ true → a ≡ b
-same_number a b is = grind (arith, nat_tests)
+-- ---- one more record
 
 -- one more record with a key of its own
 pub keys_push : {X : Type 0} (key : X → ℕ) (xs : List X) (x : X) → HaveOwnKeys key xs → list_any (λ e. key e == key x) xs ≡ false → HaveOwnKeys key (xs ++ x ∷ [])
-keys_push key xs x own none = all_pairs_push (λ a b. key a ≢ key b) xs x own (λ k d within. differs (key (get_or xs k d)) (key x) (none_at (λ e. key e == key x) xs k d none within))
+keys_push key xs x own none = all_pairs_push (λ a b. key a ≢ key b) xs x own (λ k d within. differs (key (get_or xs k d)) (key x) (each_fails (λ e. key e == key x) xs none k d within))
 
 pub small_push : {X : Type 0} (words : X → List ℕ) (xs : List X) (x : X) → AreSmall (flat_map words xs) → AreSmall (words x) → AreSmall (flat_map words (xs ++ x ∷ []))
 small_push words xs x small one = subst AreSmall (sym (flat_map-append words xs (x ∷ []))) (AllByRecursion-append (λ n. n < 2 ^ 32) (flat_map words xs) (words x ++ []) small (AllByRecursion-append (λ n. n < 2 ^ 32) (words x) [] one tt))
@@ -115,10 +102,10 @@ length_push words xs x = omega (arith, ap length (flat_map-append words xs (x �
 
 -- ---- the open section
 
-pub opened_there : (s : Section) (stage : Stage) (order : List Section) → is_in s stage ≡ true → IsOpened stage order → is_there s order ≡ true
-opened_there s stages.Start order is opened = absurd (false≢true is)
-opened_there s (stages.Header full) order is opened = absurd (false≢true is)
-opened_there s (stages.In t filled) order is opened = subst (λ u. is_there u order ≡ true) (same_section t s is) opened
+pub opened_there : (laws : SectionLaws) (s : Section) (stage : Stage) (order : List Section) → is_in s stage ≡ true → IsOpened stage order → is_there s order ≡ true
+opened_there laws s stages.Start order is opened = absurd (false≢true is)
+opened_there laws s (stages.Header full) order is opened = absurd (false≢true is)
+opened_there laws s (stages.In t filled) order is opened = subst (λ u. is_there u order ≡ true) (same_section laws t s is) opened
 
 pub none_missing : (stage : Stage) → takes_section stage ≡ true → missing stage ≡ 0
 none_missing stages.Start takes = absurd (false≢true takes)
@@ -148,12 +135,12 @@ size_kept [] o p same = refl
 size_kept (t ∷ order) o p same =
     omega (arith, length-append (section_words p t) (flat_map (section_words p) order), length-append (section_words o t) (flat_map (section_words o) order), same t, size_kept order o p same)
 
-module _ (s : Section) (b : Body s) (o : Object) where
+module _ (laws : SectionLaws) (s : Section) (b : Body s) (o : Object) where
   other_kept : (t : Section) → t ≢ s → length (section_words (with_body s b o) t) ≡ length (section_words o t)
-  other_kept t differ = ap (λ ws. length (identifier t ∷ ws)) (words-inner t (with_body s b o) ∙ ap (body_words t) (body-others s t b o differ) ∙ sym (words-inner t o))
+  other_kept t differ = ap length (laws.words t (with_body s b o) ∙ ap (λ c. identifier t ∷ body_words t c) (laws.others s t b o differ) ∙ sym (laws.words t o))
 
   this_put : length (section_words (with_body s b o) s) + length (body_words s (body_of s o)) ≡ length (section_words o s) + length (body_words s b)
-  this_put = omega (arith, ap length (words-inner s o), ap length (words-inner s (with_body s b o)), ap (λ c. length (body_words s c)) (body-with s b o))
+  this_put = omega (arith, ap length (laws.words s o), ap length (laws.words s (with_body s b o)), ap (λ c. length (body_words s c)) (laws.put s b o))
 
   others_kept : (order : List Section) → AllByRecursion (λ t. s ≢ t) order → size_of order (with_body s b o) ≡ size_of order o
   others_kept [] apart = refl
@@ -164,7 +151,7 @@ module _ (s : Section) (b : Body s) (o : Object) where
   -- a section that is there has other words
   size_put : (order : List Section) → AllPairs (λ a c. a ≢ c) order → is_there s order ≡ true → size_of order (with_body s b o) + length (body_words s (body_of s o)) ≡ size_of order o + length (body_words s b)
   size_put [] once there = absurd (false≢true there)
-  size_put (t ∷ order) once there = at (same_or_not t s) (λ later. size_put order pairs_rest later)
+  size_put (t ∷ order) once there = at (same_or_not laws t s) (λ later. size_put order pairs_rest later)
     where
       long_p : size_of (t ∷ order) (with_body s b o) ≡ length (section_words (with_body s b o) t) + size_of order (with_body s b o)
       long_p = length-append (section_words (with_body s b o) t) (flat_map (section_words (with_body s b o)) order)
@@ -182,33 +169,33 @@ module _ (s : Section) (b : Body s) (o : Object) where
           let apart : AllByRecursion (λ u. s ≢ u) order = subst (λ u. AllByRecursion (λ v. u ≢ v) order) here (apart_later [] t order once) in
           omega (arith, long_p, long_o, first, others_kept order apart)
       at (inr other) others =
-          let later : is_there s order ≡ true = rw (other_section t s other) at there in
+          let later : is_there s order ≡ true = rw (other_section laws t s other) at there in
           omega (arith, long_p, long_o, other_kept t other, others later)
 
 -- ---- a section that is changed
 
-module _ (o : Object) (there : Section → Bool) (fine : (t : Section) → IsFine t (body_of t o) (there t)) where
+module _ (laws : SectionLaws) (o : Object) (there : Section → Bool) (fine : (t : Section) → IsFine t (body_of t o) (there t)) where
   fine_put : (s : Section) (b : Body s) → there s ≡ true → IsBody s b → AreSmall (body_numbers s b) → (t : Section) → IsFine t (body_of t (with_body s b o)) (there t)
-  fine_put s b is together small t = at (same_or_not t s)
+  fine_put s b is together small t = at (same_or_not laws t s)
     where
       at : (t ≡ s) ⊎ (t ≢ s) → IsFine t (body_of t (with_body s b o)) (there t)
       at (inl here) =
           subst (λ u. IsFine u (body_of u (with_body s b o)) (there u)) (sym here)
-          (subst (λ c. IsFine s c (there s)) (sym (body-with s b o)) (λ none. absurd (false≢true (sym none ∙ is)), together, small))
-      at (inr other) = subst (λ c. IsFine t c (there t)) (sym (body-others s t b o other)) (fine t)
+          (subst (λ c. IsFine s c (there s)) (sym (laws.put s b o)) (λ none. absurd (false≢true (sym none ∙ is)), together, small))
+      at (inr other) = subst (λ c. IsFine t c (there t)) (sym (laws.others s t b o other)) (fine t)
 
 -- a section that is there has something else in it
-pub formed_put : (stage after : Stage) (size now : ℕ) (o : Object) (s : Section) (b : Body s) → IsFormed stage size o → is_there s o.order ≡ true → IsOpened after o.order → IsBody s b → AreSmall (body_numbers s b)
+pub formed_put : (laws : SectionLaws) (stage after : Stage) (size now : ℕ) (o : Object) (s : Section) (b : Body s) → IsFormed stage size o → is_there s o.order ≡ true → IsOpened after o.order → IsBody s b → AreSmall (body_numbers s b)
     → now + missing after + length (body_words s (body_of s o)) ≡ size + missing stage + length (body_words s b) → now ≤ 4096 → IsFormed after now (with_body s b o)
-formed_put stage after size now o s b f there opened together small words most =
-    let order = order-with s b o in
-    let extra = extra-with s b o in
-    let all : now + missing after ≡ 3 + length o.extra + size_of o.order (with_body s b o) = let before = f.words in omega (arith, size_put s b o o.order f.once there) in
+formed_put laws stage after size now o s b f there opened together small words most =
+    let order = laws.order s b o in
+    let extra = laws.extra s b o in
+    let all : now + missing after ≡ 3 + length o.extra + size_of o.order (with_body s b o) = let before = f.words in omega (arith, size_put laws s b o o.order f.once there) in
     record {
       led = subst IsLedByMasters (sym order) f.led;
       once = subst (AllPairs (λ s t. s ≢ t)) (sym order) f.once;
       opened = subst (IsOpened after) (sym order) opened;
-      fine = λ t. subst (λ l. IsFine t (body_of t (with_body s b o)) (is_there t l)) (sym order) (fine_put o (λ t. is_there t o.order) f.fine s b there together small t);
+      fine = λ t. subst (λ l. IsFine t (body_of t (with_body s b o)) (is_there t l)) (sym order) (fine_put laws o (λ t. is_there t o.order) f.fine s b there together small t);
       extra = subst AreSmall (sym extra) f.extra;
       words = subst (λ l. now + missing after ≡ 3 + length (with_body s b o).extra + size_of l (with_body s b o)) (sym order) (subst (λ x. now + missing after ≡ 3 + length x + size_of o.order (with_body s b o)) (sym extra) all);
       most = most;
@@ -225,9 +212,9 @@ masters_push masters m are new node mask =
     record {
       each = All-push IsMaster masters m are.each is;
       apart = all_pairs_push AreApart masters m are.apart (λ k d within. record {
-        nodes = differs _ _ (none_at (λ e. e.node == m.node) masters k d new within);
-        modes = none_at (λ e. splits_lockstep e.node m.node) masters k d nodes.1 within;
-        bits = same_number _ _ (not-false _ (none_at (λ e. not (bit_and e.mask m.mask == 0)) masters k d masks.1 within));
+        nodes = differs _ _ (each_fails (λ e. e.node == m.node) masters new k d within);
+        modes = each_fails (λ e. splits_lockstep e.node m.node) masters nodes.1 k d within;
+        bits = eqb-true _ _ (not-false _ (each_fails (λ e. not (bit_and e.mask m.mask == 0)) masters masks.1 k d within));
       });
     }
 

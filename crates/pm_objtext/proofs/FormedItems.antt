@@ -1,12 +1,13 @@
 -- Each item that is taken leaves a well-formed object so far.
 use Rattle.std.proofs.Common.{◌≡◌, ◌≢◌, ℕ, ◌+◌, ◌^◌, ◌<◌, ◌≤◌, Bool, true, false, not, ◌==◌, eqb, cond, List, [], ◌∷◌, ◌++◌, length, refl, ap, sym, ◌∙◌, subst, arith, length-append, zero-add}
-use Rattle.std.specs.List.{list_any, AllPairs}
+use Rattle.std.specs.List.{list_any}
 use Rattle.std.proofs.lemmas.Bool.{false≢true, not-false}
 use Rattle.std.proofs.lemmas.List.Folds.{list_any-append}
 use Rattle.std.proofs.lemmas.List.Elements.{All-push}
 use Rattle.std.proofs.lemmas.List.Quantifiers.{all_pairs_push}
 use Rattle.std.proofs.Math.Bool.{or-true}
 use Rattle.pm_base.proofs.Booleans.{neither, both}
+use Rattle.pm_base.proofs.Elements.{AllByRecursion-append, each_fails, no_pairs}
 use Rattle.pm_object.specs.declared.object.SlaveRec.{SlaveRec}
 use Rattle.pm_object.specs.declared.object.Pair.{Pair}
 use Rattle.pm_object.specs.declared.object.PreGroup.{PreGroup}
@@ -16,7 +17,6 @@ use Rattle.pm_object.specs.declared.object.Section.TheVariants as sections
 use Rattle.pm_object.specs.Bodies.{Body, body_of, no_body, with_body}
 use Rattle.pm_object.specs.Grammar.{is_same, master_words, slave_words, pair_words, group_words, body_words, section_words, HasOwnNodes, IsBody}
 use Rattle.pm_object.specs.Reading.{is_bad_node, is_bad_mask}
-use Rattle.pm_object.proofs.Bodies.{body-order, words-inner}
 use Rattle.pm_objtext.specs.declared.item.Item.{Item}
 use Rattle.pm_objtext.specs.declared.item.Item.TheVariants.{Empty, Header, Opens, Master, Slave, Group, Prefer, Power, Reset, Shutdown, Config, Gpo}
 use Rattle.pm_objtext.specs.declared.stage.Stage.{Stage}
@@ -26,10 +26,9 @@ use Rattle.pm_objtext.specs.Stage.{is_single, is_in, awaits_record, takes_header
 use Rattle.pm_objtext.specs.SoFar.{SoFar, say, header_size, words_in}
 use Rattle.pm_objtext.specs.Causes.{stands, repeats, breaks_masters}
 use Rattle.pm_objtext.proofs.ItemTexts.{AreSmall, item_numbers}
-use Rattle.pm_objtext.proofs.LineTexts.{AllByRecursion-append}
-use Rattle.pm_objtext.proofs.Whole.{same_section, is_same_itself}
+use Rattle.pm_objtext.proofs.SectionLaws.{SectionLaws, same_section, differ}
 use Rattle.pm_objtext.proofs.Walks.{IsClear}
-use Rattle.pm_objtext.proofs.Formed.{is_there, group_numbers, body_numbers, IsFine, IsLedByMasters, missing, unfilled, IsFormed, none_at, keys_push, small_push, length_push, opened_there, none_missing, config_missing, gpo_missing, size_kept, masters_push, preset_own, preset_small, preset_count, formed_put}
+use Rattle.pm_objtext.proofs.Formed.{is_there, group_numbers, body_numbers, IsFine, IsLedByMasters, missing, unfilled, IsFormed, keys_push, small_push, length_push, opened_there, none_missing, config_missing, gpo_missing, size_kept, masters_push, preset_own, preset_small, preset_count, formed_put}
 
 -- ---- the header
 
@@ -49,24 +48,21 @@ same_extra o extra t = refl
 
 -- ---- a section that begins
 
-led_push : (order : List Section) (s : Section) (b : Bool) → cond (eqb (length order) 0) (not (is_same s sections.Masters)) b ≡ false → IsLedByMasters order → IsLedByMasters (order ++ s ∷ [])
-led_push [] s b lacks led = same_section s sections.Masters (not-false (is_same s sections.Masters) lacks)
-led_push (t ∷ order) s b lacks led = led
+led_push : (laws : SectionLaws) (order : List Section) (s : Section) (b : Bool) → cond (eqb (length order) 0) (not (is_same s sections.Masters)) b ≡ false → IsLedByMasters order → IsLedByMasters (order ++ s ∷ [])
+led_push laws [] s b lacks led = same_section laws s sections.Masters (not-false (is_same s sections.Masters) lacks)
+led_push laws (t ∷ order) s b lacks led = led
 
-pub differ : (a b : Section) → is_same a b ≡ false → a ≢ b
-differ a b apart same = false≢true (sym apart ∙ ap (λ u. is_same u b) same ∙ is_same_itself b)
-
-there_push : (s : Section) (order : List Section) → is_there s (order ++ s ∷ []) ≡ true
-there_push s order = list_any-append (λ t. is_same t s) order (s ∷ []) ∙ rw (is_same_itself s) (or-true (is_there s order))
+there_push : (laws : SectionLaws) (s : Section) (order : List Section) → is_there s (order ++ s ∷ []) ≡ true
+there_push laws s order = list_any-append (λ t. is_same t s) order (s ∷ []) ∙ rw ((laws.same s s).1 refl) (or-true (is_there s order))
 
 not_there_before : (s : Section) (order : List Section) (t : Section) → is_there t (order ++ s ∷ []) ≡ false → is_there t order ≡ false
 not_there_before s order t none =
     let both = neither (is_there t order) (list_any (λ u. is_same u t) (s ∷ [])) (sym (list_any-append (λ u. is_same u t) order (s ∷ [])) ∙ none) in
     both.0
 
-fine_order : (o : Object) (order : List Section) (there now : Section → Bool) → ((t : Section) → now t ≡ false → there t ≡ false) → ((t : Section) → IsFine t (body_of t o) (there t)) → (t : Section) → IsFine t (body_of t (record o { order = order })) (now t)
-fine_order o order there now less fine t =
-    subst (λ c. IsFine t c (now t)) (sym (body-order t order o)) (λ none. (fine t).0 (less t none), (fine t).1, (fine t).2)
+fine_order : (laws : SectionLaws) (o : Object) (order : List Section) (there now : Section → Bool) → ((t : Section) → now t ≡ false → there t ≡ false) → ((t : Section) → IsFine t (body_of t o) (there t)) → (t : Section) → IsFine t (body_of t (record o { order = order })) (now t)
+fine_order laws o order there now less fine t =
+    subst (λ c. IsFine t c (now t)) (sym (laws.reordered t order o)) (λ none. (fine t).0 (less t none), (fine t).1, (fine t).2)
 
 same_order : (o : Object) (order : List Section) (t : Section) → length (section_words (record o { order = order }) t) ≡ length (section_words o t)
 same_order o order sections.Gpo = refl
@@ -77,29 +73,26 @@ no_words sections.Masters = refl
 no_words s = refl
 
 -- a section that is empty so far
-size_empty : (s : Section) (o : Object) → body_of s o ≡ no_body s → length (section_words o s) ≡ cond (is_single s) 1 2 + unfilled s
-size_empty s o none = omega (arith, ap length (words-inner s o), ap (λ b. length (body_words s b)) none, no_words s)
+size_empty : (laws : SectionLaws) (s : Section) (o : Object) → body_of s o ≡ no_body s → length (section_words o s) ≡ cond (is_single s) 1 2 + unfilled s
+size_empty laws s o none = omega (arith, ap length (laws.words s o), ap (λ b. length (body_words s b)) none, no_words s)
 
 some_groups : (groups : List PreGroup) → not (eqb (length groups) 0) ≡ true → 0 < length groups
 some_groups [] some = absurd (false≢true some)
 some_groups (group ∷ groups) some = omega arith
 
-pub no_pairs : {X : Type 0} (R : X → X → Type 0) → AllPairs R []
-no_pairs R i j d before within = absurd (omega arith)
-
 -- ---- an item that is taken
 
-module _ (d : SoFar) (f : IsFormed d.stage d.size d.object) where
+module _ (laws : SectionLaws) (d : SoFar) (f : IsFormed d.stage d.size d.object) where
   -- one more record in the open section, of so many words
   record_taken : (s : Section) (b : Body s) (more : ℕ) → is_in s d.stage ≡ true → IsBody s b → AreSmall (body_numbers s b) → length (body_words s b) ≡ length (body_words s (body_of s d.object)) + more → d.size + more ≤ 4096 → IsFormed d.stage (d.size + more) (with_body s b d.object)
   record_taken s b more is together small long fits =
-      formed_put d.stage d.stage d.size (d.size + more) d.object s b f (opened_there s d.stage d.object.order is f.opened) f.opened together small (omega (arith, long)) fits
+      formed_put laws d.stage d.stage d.size (d.size + more) d.object s b f (opened_there laws s d.stage d.object.order is f.opened) f.opened together small (omega (arith, long)) fits
 
   -- the record of a section of one
   only_taken : (s : Section) (b : Body s) (words : ℕ) → is_in s d.stage ≡ true → missing d.stage ≡ words → IsBody s b → AreSmall (body_numbers s b) → length (body_words s b) ≡ length (body_words s (body_of s d.object)) → d.size + words ≤ 4096 → IsFormed (stages.In s true) (d.size + words) (with_body s b d.object)
   only_taken s b words is awaited together small long fits =
-      let opened = opened_there s d.stage d.object.order is f.opened in
-      formed_put d.stage (stages.In s true) d.size (d.size + words) d.object s b f opened opened together small (omega (arith, long, awaited)) fits
+      let opened = opened_there laws s d.stage d.object.order is f.opened in
+      formed_put laws d.stage (stages.In s true) d.size (d.size + words) d.object s b f opened opened together small (omega (arith, long, awaited)) fits
 
   pub formed_item : (item : Item) → AreSmall (item_numbers item) → stands item d ≡ true → repeats item d ≡ false → breaks_masters item d ≡ false → d.size + words_in item d.stage ≤ 4096 → IsFormed (say item d).stage (say item d).size (say item d).object
   formed_item Empty small place new masters fits =
@@ -120,12 +113,12 @@ module _ (d : SoFar) (f : IsFormed d.stage d.size d.object) where
       let words = f.words in
       let q : Object = record d.object { order = d.object.order ++ s ∷ [] } in
       record {
-        led = led_push d.object.order s _ masters f.led;
-        once = all_pairs_push (λ a b. a ≢ b) d.object.order s f.once (λ k e within. differ _ s (none_at (λ t. is_same t s) d.object.order k e new within));
-        opened = there_push s d.object.order;
-        fine = fine_order d.object (d.object.order ++ s ∷ []) (λ t. is_there t d.object.order) (λ t. is_there t (d.object.order ++ s ∷ [])) (not_there_before s d.object.order) f.fine;
+        led = led_push laws d.object.order s _ masters f.led;
+        once = all_pairs_push (λ a b. a ≢ b) d.object.order s f.once (λ k e within. differ laws _ s (each_fails (λ t. is_same t s) d.object.order new k e within));
+        opened = there_push laws s d.object.order;
+        fine = fine_order laws d.object (d.object.order ++ s ∷ []) (λ t. is_there t d.object.order) (λ t. is_there t (d.object.order ++ s ∷ [])) (not_there_before s d.object.order) f.fine;
         extra = f.extra;
-        words = omega (arith, none_missing d.stage place, length_push (section_words q) d.object.order s, size_kept d.object.order d.object q (same_order d.object (d.object.order ++ s ∷ [])), same_order d.object (d.object.order ++ s ∷ []) s, size_empty s d.object ((f.fine s).0 new));
+        words = omega (arith, none_missing d.stage place, length_push (section_words q) d.object.order s, size_kept d.object.order d.object q (same_order d.object (d.object.order ++ s ∷ [])), same_order d.object (d.object.order ++ s ∷ []) s, size_empty laws s d.object ((f.fine s).0 new));
         most = fits;
       }
   formed_item (Master m) small place new masters fits =
@@ -159,5 +152,5 @@ module _ (d : SoFar) (f : IsFormed d.stage d.size d.object) where
       let in_it = both (is_in sections.Gpo d.stage) (awaits_record d.stage) place in
       only_taken sections.Gpo word 1 in_it.0 (gpo_missing d.stage place) tt small refl fits
 
-pub formed_clear : (item : Item) (d : SoFar) → IsFormed d.stage d.size d.object → AreSmall (item_numbers item) → IsClear item d → IsFormed (say item d).stage (say item d).size (say item d).object
-formed_clear item d f small is = formed_item d f item small is.place is.new is.masters is.fits
+pub formed_clear : (laws : SectionLaws) (item : Item) (d : SoFar) → IsFormed d.stage d.size d.object → AreSmall (item_numbers item) → IsClear item d → IsFormed (say item d).stage (say item d).size (say item d).object
+formed_clear laws item d f small is = formed_item laws d f item small is.place is.new is.masters is.fits

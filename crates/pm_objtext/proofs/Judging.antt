@@ -1,11 +1,12 @@
 -- Lines that are judged one after another.
 use Rattle.std.proofs.Common.{◌≡◌, ℕ, ◌+◌, List, [], ◌∷◌, Option, Some, None, Result, Ok, Err, refl, ap, sym, ◌∙◌, subst}
 use Rattle.pm_object.specs.declared.object.Object.{Object}
+use Rattle.pm_object.specs.Answers.{FailsAs}
 use Rattle.pm_objtext.specs.declared.fault.TextCause.{TextCause}
 use Rattle.pm_objtext.specs.declared.fault.TextFault.{TextFault}
 use Rattle.pm_objtext.specs.declared.fault.BuildError.{BuildError}
 use Rattle.pm_objtext.specs.declared.fault.BuildError.TheVariants.{Bad, Memory}
-use Rattle.pm_objtext.specs.Answers.{Fails, Gives}
+use Rattle.pm_objtext.specs.Answers.{Gives, fault_in}
 use Rattle.pm_objtext.specs.Reading.{item_of}
 use Rattle.pm_objtext.specs.SoFar.{SoFar}
 use Rattle.pm_objtext.specs.Causes.{end_cause}
@@ -26,7 +27,7 @@ last_line None n d = refl
 last_line (Some cause) n d = refl
 
 -- a line that is refused is the first bad one
-pub line_fails : (e : BuildError) (n : ℕ) (d : SoFar) (text : List ℕ) (lines : List (List ℕ)) (total : Result Object TextFault) → judged n d (text ∷ lines) ≡ total → Fails e (reading n text d) → Fails e total
+pub line_fails : (e : BuildError) (n : ℕ) (d : SoFar) (text : List ℕ) (lines : List (List ℕ)) (total : Result Object TextFault) → judged n d (text ∷ lines) ≡ total → FailsAs fault_in e (reading n text d) → FailsAs fault_in e total
 unfolding reading
 line_fails (Memory e) n d text lines total all fails = tt
 line_fails (Bad f) n d text lines total all fails = sym all ∙ bad_line (line_cause (item_of text) d) n (after_line (item_of text) d) _ _ f fails

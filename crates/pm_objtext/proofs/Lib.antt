@@ -11,6 +11,7 @@ pub mod LineTexts
 pub mod LinesLemmas
 pub mod ReadSmall
 pub mod ReadingLemmas
+pub mod SectionLaws
 pub mod Sections
 pub mod TableLaw
 pub mod TextLaw

@@ -11,6 +11,7 @@ use Rattle.std.proofs.Math.Seq.{drop-append_seam, take-append_seam}
 use Rattle.pm_base.specs.Lines.{without_return, is_plain}
 use Rattle.pm_base.specs.Words.{is_blank, words_from, words, word_texts, text_between}
 use Rattle.pm_base.specs.Numbers.{number_of}
+use Rattle.pm_base.proofs.Elements.{AllByRecursion-append}
 use Rattle.pm_objtext.specs.Reading.{is_readable, number, numbers_in, numbers}
 
 -- ---- bytes
@@ -87,10 +88,6 @@ texts_at line front (word ∷ more) is =
 IsLineByte-plain : (word : List ℕ) → AllByRecursion IsPlain word → AllByRecursion IsLineByte word
 IsLineByte-plain [] plain = tt
 IsLineByte-plain (byte ∷ word) plain = let low = plain.0.low in (record { low = omega arith; high = plain.0.high }, IsLineByte-plain word plain.1)
-
-pub AllByRecursion-append : {X : Type 0} (P : X → Type 0) (xs ys : List X) → AllByRecursion P xs → AllByRecursion P ys → AllByRecursion P (xs ++ ys)
-AllByRecursion-append P [] ys p q = q
-AllByRecursion-append P (x ∷ xs) ys p q = (p.0, AllByRecursion-append P xs ys p.1 q)
 
 IsLineByte-spaced : (more : List (List ℕ)) → AllByRecursion IsWord more → AllByRecursion IsLineByte (flat_map spaced more)
 IsLineByte-spaced [] are = tt

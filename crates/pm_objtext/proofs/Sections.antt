@@ -5,6 +5,7 @@ use Rattle.std.specs.List.{flat_map, list_any, All}
 use Rattle.std.proofs.lemmas.Bool.Decides.{nat_tests}
 use Rattle.std.proofs.lemmas.List.{append-nil}
 use Rattle.std.proofs.lemmas.List.Folds.{list_any_none}
+use Rattle.pm_base.proofs.Elements.{next_one}
 use Rattle.pm_object.specs.declared.object.MasterRec.{MasterRec}
 use Rattle.pm_object.specs.declared.object.SlaveRec.{SlaveRec}
 use Rattle.pm_object.specs.declared.object.PreRec.{PreRec}
@@ -25,7 +26,7 @@ use Rattle.pm_objtext.specs.Items.{group_items, record_items}
 use Rattle.pm_objtext.specs.SoFar.{SoFar, say}
 use Rattle.pm_objtext.specs.Causes.{cause_of}
 use Rattle.pm_objtext.proofs.GroupsLemmas.{last_recs-push, with_preset-push}
-use Rattle.pm_objtext.proofs.Walks.{draft_of, Goes, Goes-none, Goes-first, Goes-append, clear, records_go, next_one, keys_apart}
+use Rattle.pm_objtext.proofs.Walks.{draft_of, Goes, Goes-none, Goes-first, Goes-append, clear, records_go, keys_apart}
 
 -- nothing more is asked of a record
 abbrev Any_one : {X : Type 0} → X → Type 0

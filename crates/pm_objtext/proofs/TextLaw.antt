@@ -17,7 +17,7 @@ use Rattle.pm_objtext.specs.Items.{header_lines, group_items, record_items, sect
 use Rattle.pm_objtext.specs.Printing.{line_of, ended_line, lines_text, header_items, items_of, text_of}
 use Rattle.pm_objtext.specs.Meaning.{item_before, items_in, Means}
 use Rattle.pm_objtext.proofs.LinesLemmas.{lines_of-line}
-use Rattle.pm_objtext.proofs.LineTexts.{AllByRecursion-append}
+use Rattle.pm_base.proofs.Elements.{AllByRecursion-append}
 use Rattle.pm_objtext.proofs.ItemTexts.{AreSmall, Fits, length-numbers_line, length-section_line, item_of-line_of, line_without_feed}
 
 -- ---- the lines of a text are those of its items

@@ -5,9 +5,8 @@ use Rattle.std.specs.Option.{option_map}
 use Rattle.std.proofs.lemmas.Bool.Decides.{nat_tests}
 use Rattle.std.proofs.lemmas.List.{append-nil}
 use Rattle.std.proofs.lemmas.List.Folds.{list_any_none}
-use Rattle.std.proofs.Math.ListN.{get_or-append}
-use Rattle.std.proofs.Math.Seq.{get_or-append_seam}
 use Rattle.pm_base.proofs.Booleans.{unequal}
+use Rattle.pm_base.proofs.Elements.{earlier_ones, next_one}
 use Rattle.pm_object.specs.declared.object.Object.{Object}
 use Rattle.pm_objtext.specs.declared.fault.TextCause.TheVariants as causes
 use Rattle.pm_objtext.specs.declared.item.Item.{Item}
@@ -111,16 +110,6 @@ lines_go (line ∷ lines) items from to is goes fits over n =
     line_goes line lines later.0 to fits (λ d left m. lines_go lines later.0 d to later.1 left fits over m) item.0 items from item.1 later.2 goes n
 
 -- ---- records of one kind
-
--- each earlier one stands so to the next one
-pub earlier_ones : {X : Type 0} (R : X → X → Type 0) (front : List X) (x : X) (rest : List X) → AllPairs R (front ++ x ∷ rest) → All (λ e. R e x) front
-earlier_ones R front x rest pairs k d within =
-    let both : R (get_or (front ++ x ∷ rest) k d) (get_or (front ++ x ∷ rest) (length front) d) = pairs k (length front) d within (omega (arith, length-append front (x ∷ rest))) in
-    subst (λ y. R y x) (get_or-append front (x ∷ rest) d k within) (subst (λ y. R (get_or (front ++ x ∷ rest) k d) y) (get_or-append_seam front x rest d) both)
-
-pub next_one : {X : Type 0} (P : X → Type 0) (front : List X) (x : X) (rest : List X) → All P (front ++ x ∷ rest) → P x
-next_one P front x rest all =
-    subst P (get_or-append_seam front x rest x) (all (length front) x (omega (arith, length-append front (x ∷ rest))))
 
 -- no earlier one has the key
 pub keys_apart : {X : Type 0} (key : X → ℕ) (front : List X) (x : X) → All (λ e. key e ≢ key x) front → list_any (λ e. key e == key x) front ≡ false

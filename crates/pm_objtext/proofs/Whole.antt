@@ -6,14 +6,12 @@ use Rattle.std.proofs.lemmas.List.{take-append-drop, get_or-append-add}
 use Rattle.std.proofs.Math.Seq.{get_or-append_seam}
 use Rattle.std.proofs.lemmas.List.Folds.{list_any_none}
 use Rattle.std.proofs.lemmas.List.Elements.{recursion_from_All}
+use Rattle.pm_base.proofs.Elements.{earlier_ones}
 use Rattle.pm_object.specs.declared.object.Object.{Object}
 use Rattle.pm_object.specs.declared.object.Section.{Section}
 use Rattle.pm_object.specs.declared.object.Section.TheVariants as sections
-use Rattle.pm_object.specs.Bodies.{body_of, no_body, with_body, with_section, unset}
-use Rattle.pm_object.specs.Grammar.{identifier, is_same, section_words, IsBody}
-use Rattle.pm_object.proofs.Bodies.{body-order, order-section, others-section, with_named}
-use Rattle.pm_object.proofs.SectionNames.{same_section_from_identifier}
-use Rattle.pm_base.proofs.Booleans.{equal, unequal}
+use Rattle.pm_object.specs.Bodies.{body_of, no_body, with_body, unset}
+use Rattle.pm_object.specs.Grammar.{is_same, section_words, IsBody}
 use Rattle.pm_objtext.specs.declared.item.Item.TheVariants.{Header, Opens}
 use Rattle.pm_objtext.specs.declared.stage.Stage.{Stage}
 use Rattle.pm_objtext.specs.declared.stage.Stage.TheVariants as stages
@@ -21,25 +19,15 @@ use Rattle.pm_objtext.specs.Stage.{is_single, takes_header, takes_section}
 use Rattle.pm_objtext.specs.SoFar.{header_size}
 use Rattle.pm_objtext.specs.Causes.{lacks_masters}
 use Rattle.pm_objtext.specs.Items.{header_lines, record_items, section_items}
-use Rattle.pm_objtext.proofs.Walks.{draft_of, Goes, Goes-none, Goes-first, Goes-append, clear, earlier_ones}
+use Rattle.pm_objtext.proofs.Walks.{draft_of, Goes, Goes-none, Goes-first, Goes-append, clear}
+use Rattle.pm_objtext.proofs.SectionLaws.{SectionLaws, other_section}
 use Rattle.pm_objtext.proofs.Sections.{opening, body_go}
-
--- ---- sections that differ
-
-pub same_section : (a b : Section) → is_same a b ≡ true → a ≡ b
-same_section a b same = same_section_from_identifier a b (grind (arith, nat_tests))
-
-pub other_section : (a b : Section) → a ≢ b → is_same a b ≡ false
-other_section a b apart = unequal (identifier a) (identifier b) (λ same. apart (same_section_from_identifier a b same))
-
-pub is_same_itself : (a : Section) → is_same a a ≡ true
-is_same_itself a = equal (identifier a) (identifier a) refl
 
 -- ---- what a section changes
 
--- the object after a section, as it stands in another
+-- the object with one more section, as it stands in another
 abbrev pub taken : Section → Object → Object → Object
-taken s o p = with_section s (body_of s o) p
+taken s o p = with_body s (body_of s o) (record p { order = p.order ++ s ∷ [] })
 
 pub takes_section-filled : (s : Section) → takes_section (stages.In s (is_single s)) ≡ true
 takes_section-filled sections.Masters = refl
@@ -63,38 +51,46 @@ opening_small : (s : Section) (o : Object) → opening s ≤ length (section_wor
 opening_small sections.Masters o = omega arith
 opening_small s o = omega arith
 
-pub section_go : (s : Section) (o p : Object) (stage : Stage) (size : ℕ) → takes_section stage ≡ true → list_any (λ t. is_same t s) p.order ≡ false → lacks_masters s p ≡ false → body_of s p ≡ no_body s → IsBody s (body_of s o) → size + length (section_words o s) ≤ 4096 → Goes (section_items o s) (draft_of stage size p) (draft_of (stages.In s (is_single s)) (size + length (section_words o s)) (taken s o p))
-section_go s o p stage size takes new first unset is fits =
+pub section_go : (laws : SectionLaws) (s : Section) (o p : Object) (stage : Stage) (size : ℕ) → takes_section stage ≡ true → list_any (λ t. is_same t s) p.order ≡ false → lacks_masters s p ≡ false → body_of s p ≡ no_body s → IsBody s (body_of s o) → size + length (section_words o s) ≤ 4096 → Goes (section_items o s) (draft_of stage size p) (draft_of (stages.In s (is_single s)) (size + length (section_words o s)) (taken s o p))
+section_go laws s o p stage size takes new first unset is fits =
     let small : size + opening s ≤ 4096 = omega (arith, opening_small s o) in
     let named : Object = record p { order = p.order ++ s ∷ [] } in
-    let same : with_body s (body_of s o) named ≡ taken s o p = with_named s (body_of s o) p in
     Goes-first (Opens s) (record_items s o) (draft_of stage size p) (draft_of (stages.In s false) (size + opening s) named) (draft_of (stages.In s (is_single s)) (size + length (section_words o s)) (taken s o p))
     (clear (Opens s) (draft_of stage size p) takes new first small, refl)
-    (subst (λ q. Goes (record_items s o) (draft_of (stages.In s false) (size + opening s) named) (draft_of (stages.In s (is_single s)) (size + length (section_words o s)) q)) same
-    (body_go s o named size (body-order s (p.order ++ s ∷ []) p ∙ unset) is fits))
+    (body_go s o named size (laws.reordered s (p.order ++ s ∷ []) p ∙ unset) is fits)
 
 -- the sections that are left are new and empty so far
 pub record Ready (left : List Section) (p : Object) : Type 0 where
   pub once : AllPairs (λ s t. s ≢ t) (p.order ++ left)
   pub unset : AllByRecursion (λ s. body_of s p ≡ no_body s) left
 
-new_section : (s : Section) (left : List Section) (p : Object) → AllPairs (λ s t. s ≢ t) (p.order ++ s ∷ left) → list_any (λ t. is_same t s) p.order ≡ false
-new_section s left p once = list_any_none (λ t. is_same t s) p.order (λ k d within. other_section (get_or p.order k d) s (earlier_ones (λ a b. a ≢ b) p.order s left once k d within))
+new_section : (laws : SectionLaws) (s : Section) (left : List Section) (p : Object) → AllPairs (λ s t. s ≢ t) (p.order ++ s ∷ left) → list_any (λ t. is_same t s) p.order ≡ false
+new_section laws s left p once = list_any_none (λ t. is_same t s) p.order (λ k d within. other_section laws (get_or p.order k d) s (earlier_ones (λ a b. a ≢ b) p.order s left once k d within))
+
+-- what stands in a section that is taken, and in the others
+pub taken_here : (laws : SectionLaws) (s : Section) (o p : Object) → body_of s (taken s o p) ≡ body_of s o
+taken_here laws s o p = laws.put s (body_of s o) (record p { order = p.order ++ s ∷ [] })
+
+pub taken_others : (laws : SectionLaws) (s t : Section) (o p : Object) → t ≢ s → body_of t (taken s o p) ≡ body_of t p
+taken_others laws s t o p differ = laws.others s t (body_of s o) (record p { order = p.order ++ s ∷ [] }) differ ∙ laws.reordered t (p.order ++ s ∷ []) p
+
+pub taken_order : (laws : SectionLaws) (s : Section) (o p : Object) → (taken s o p).order ≡ p.order ++ s ∷ []
+taken_order laws s o p = laws.order s (body_of s o) (record p { order = p.order ++ s ∷ [] })
 
 -- what is apart from a section stays empty where it is taken
-pub unset_later : (left : List Section) (s : Section) (o p : Object) → AllByRecursion (λ t. s ≢ t) left → AllByRecursion (λ t. body_of t p ≡ no_body t) left → AllByRecursion (λ t. body_of t (taken s o p) ≡ no_body t) left
-unset_later [] s o p apart unset = tt
-unset_later (t ∷ left) s o p apart unset = (others-section s t (body_of s o) p (λ same. apart.0 (sym same)) ∙ unset.0, unset_later left s o p apart.1 unset.1)
+pub unset_later : (laws : SectionLaws) (left : List Section) (s : Section) (o p : Object) → AllByRecursion (λ t. s ≢ t) left → AllByRecursion (λ t. body_of t p ≡ no_body t) left → AllByRecursion (λ t. body_of t (taken s o p) ≡ no_body t) left
+unset_later laws [] s o p apart unset = tt
+unset_later laws (t ∷ left) s o p apart unset = (taken_others laws s t o p (λ same. apart.0 (sym same)) ∙ unset.0, unset_later laws left s o p apart.1 unset.1)
 
 pub apart_later : (front : List Section) (s : Section) (left : List Section) → AllPairs (λ s t. s ≢ t) (front ++ s ∷ left) → AllByRecursion (λ t. s ≢ t) left
 apart_later front s left once = recursion_from_All (λ t. s ≢ t) left (λ k d within.
     let both : get_or (front ++ s ∷ left) (length front) d ≢ get_or (front ++ s ∷ left) (length front + suc k) d = once (length front) (length front + suc k) d (omega arith) (omega (arith, length-append front (s ∷ left))) in
     subst (λ t. s ≢ t) (get_or-append-add front (s ∷ left) (suc k) d) (subst (λ a. a ≢ get_or (front ++ s ∷ left) (length front + suc k) d) (get_or-append_seam front s left d) both))
 
-Ready-taken : (s : Section) (left : List Section) (o p : Object) → Ready (s ∷ left) p → Ready left (taken s o p)
-Ready-taken s left o p ready = record {
-  once = subst (AllPairs (λ s t. s ≢ t)) (sym (ap (λ xs. xs ++ left) (order-section s (body_of s o) p) ∙ append_assoc p.order (s ∷ []) left)) ready.once;
-  unset = unset_later left s o p (apart_later p.order s left ready.once) ready.unset.1;
+Ready-taken : (laws : SectionLaws) (s : Section) (left : List Section) (o p : Object) → Ready (s ∷ left) p → Ready left (taken s o p)
+Ready-taken laws s left o p ready = record {
+  once = subst (AllPairs (λ s t. s ≢ t)) (sym (ap (λ xs. xs ++ left) (taken_order laws s o p) ∙ append_assoc p.order (s ∷ []) left)) ready.once;
+  unset = unset_later laws left s o p (apart_later p.order s left ready.once) ready.unset.1;
 }
 
 some_masters : (s : Section) (o p : Object) → 0 < length o.masters → 0 < length p.masters → 0 < length (taken s o p).masters
@@ -107,15 +103,15 @@ has_masters s p some masters =
     let open_masters : eqb (length p.masters) 0 ≡ false = grind (arith, nat_tests) in
     rw (open_order, open_masters) refl
 
-order_grows : (s : Section) (o p : Object) → 0 < length (taken s o p).order
-order_grows s o p = omega (arith, ap length (order-section s (body_of s o) p), length-append p.order (s ∷ []))
+order_grows : (laws : SectionLaws) (s : Section) (o p : Object) → 0 < length (taken s o p).order
+order_grows laws s o p = omega (arith, ap length (taken_order laws s o p), length-append p.order (s ∷ []))
 
-pub sections_go : (left : List Section) (o p : Object) (stage : Stage) (size : ℕ) → takes_section stage ≡ true → Ready left p → 0 < length p.order → 0 < length p.masters → 0 < length o.masters → ((s : Section) → IsBody s (body_of s o)) → size + length (flat_map (section_words o) left) ≤ 4096 → Goes (flat_map (section_items o) left) (draft_of stage size p) (draft_of (stage_after left stage) (size + length (flat_map (section_words o) left)) (all_taken left o p))
-sections_go [] o p stage size takes ready some masters own is fits = rw (add-zero size) (Goes-none (draft_of stage size p))
-sections_go (s ∷ left) o p stage size takes ready some masters own is fits =
+pub sections_go : (laws : SectionLaws) (left : List Section) (o p : Object) (stage : Stage) (size : ℕ) → takes_section stage ≡ true → Ready left p → 0 < length p.order → 0 < length p.masters → 0 < length o.masters → ((s : Section) → IsBody s (body_of s o)) → size + length (flat_map (section_words o) left) ≤ 4096 → Goes (flat_map (section_items o) left) (draft_of stage size p) (draft_of (stage_after left stage) (size + length (flat_map (section_words o) left)) (all_taken left o p))
+sections_go laws [] o p stage size takes ready some masters own is fits = rw (add-zero size) (Goes-none (draft_of stage size p))
+sections_go laws (s ∷ left) o p stage size takes ready some masters own is fits =
     let long : size + length (section_words o s ++ flat_map (section_words o) left) ≡ size + length (section_words o s) + length (flat_map (section_words o) left) = omega (arith, length-append (section_words o s) (flat_map (section_words o) left)) in
-    let first = section_go s o p stage size takes (new_section s left p ready.once) (has_masters s p some masters) ready.unset.0 (is s) (omega arith) in
-    let later = sections_go left o (taken s o p) (stages.In s (is_single s)) (size + length (section_words o s)) (takes_section-filled s) (Ready-taken s left o p ready) (order_grows s o p) (some_masters s o p own masters) own is (omega arith) in
+    let first = section_go laws s o p stage size takes (new_section laws s left p ready.once) (has_masters s p some masters) ready.unset.0 (is s) (omega arith) in
+    let later = sections_go laws left o (taken s o p) (stages.In s (is_single s)) (size + length (section_words o s)) (takes_section-filled s) (Ready-taken laws s left o p ready) (order_grows laws s o p) (some_masters s o p own masters) own is (omega arith) in
     subst (λ k. Goes (flat_map (section_items o) (s ∷ left)) (draft_of stage size p) (draft_of (stage_after (s ∷ left) stage) k (all_taken (s ∷ left) o p))) (sym long)
     (Goes-append (section_items o s) (flat_map (section_items o) left) (draft_of stage size p) (draft_of (stages.In s (is_single s)) (size + length (section_words o s)) (taken s o p)) (draft_of (stage_after left (stages.In s (is_single s))) (size + length (section_words o s) + length (flat_map (section_words o) left)) (all_taken left o (taken s o p))) first later)
 

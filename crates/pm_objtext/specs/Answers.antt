@@ -1,20 +1,19 @@
 -- What functions that read a text return.
-use Rattle.std.specs.Prelude.{◌≡◌, Result, Ok, Err, ⊤}
+use Rattle.std.specs.Prelude.{Option, Some, None, Result}
+use Rattle.pm_object.specs.Answers.{GivesAs}
 use Rattle.pm_objtext.specs.declared.fault.TextFault.{TextFault}
 use Rattle.pm_objtext.specs.declared.fault.BuildError.{BuildError}
 use Rattle.pm_objtext.specs.declared.fault.BuildError.TheVariants.{Bad, Memory}
 
--- what a function failed with is what reading fails with, unless memory ran out
-abbrev pub Fails : {A : Type 0} → BuildError → Result A TextFault → Type 0
-Fails (Memory e) read = ⊤
-Fails (Bad f) read = read ≡ Err f
+-- the fault that an error tells
+abbrev pub fault_in : BuildError → Option TextFault
+fault_in (Bad f) = Some f
+fault_in (Memory e) = None
 
 -- what a function returned is what reading gives, unless memory ran out
 abbrev pub Gives : {A : Type 0} → Result A BuildError → Result A TextFault → Type 0
-Gives (Ok x) read = read ≡ Ok x
-Gives (Err e) read = Fails e read
+Gives result read = GivesAs fault_in (λ x. x) result read
 
 -- the same for a function that changed a value in place to what reading gives
 abbrev pub GivesInto : {A B : Type 0} → A → Result B BuildError → Result A TextFault → Type 0
-GivesInto value (Ok x) read = read ≡ Ok value
-GivesInto value (Err e) read = Fails e read
+GivesInto value result read = GivesAs fault_in (λ _. value) result read

@@ -13,6 +13,7 @@ ghost use Rattle.pm_base.specs.Lines.{lines_of};
 
 use crate::draft::Draft;
 use crate::fault::{BuildError, TextCause, TextFault};
+use crate::laws::one_meaning;
 use pm_base::{Ending, split_line};
 use pm_object::Object;
 use std::alloc::Global;
@@ -66,5 +67,6 @@ pub fn build(alloc: Global, text: &[u8]) -> Result<Object, BuildError>
     // The answer is the object that the text means, or its first bad line.
     ensures exact { Gives result (building text.now) }
 {
+    one_meaning();
     build_text(alloc, text)
 }

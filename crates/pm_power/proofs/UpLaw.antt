@@ -1,21 +1,15 @@
 -- A power node is up exactly where it is held or something directly below needs it.
-use Rattle.std.proofs.Common.{◌≡◌, ℕ, ◌+◌, ◌-◌, ◌<◌, ◌⊎◌, ◌==◌, ◌&&◌, ◌||◌, Bool, true, false, Option, Some, None, List, [], ◌∷◌, length, drop, slice_get, get_or, unwrap_or, refl, zero, suc, arith, ap, sym, ◌∙◌, subst, inl, inr, IfSome}
+use Rattle.std.proofs.Common.{◌≡◌, ◌↔◌, IsTrue, ℕ, ◌+◌, ◌-◌, ◌<◌, ◌⊎◌, ◌==◌, ◌&&◌, ◌||◌, Bool, true, false, Option, Some, None, List, [], ◌∷◌, length, drop, slice_get, get_or, unwrap_or, refl, zero, suc, arith, ap, sym, ◌∙◌, inl, inr}
 use Rattle.std.proofs.lemmas.Bool.{eqb-true}
 use Rattle.std.proofs.lemmas.Option.{slice_get_read}
 use Rattle.pm_topology.specs.declared.topology.PowerDef.{PowerDef}
 use Rattle.pm_topology.specs.declared.topology.Topology.{Topology}
 use Rattle.pm_topology.specs.WellFormed.{IsWellFormed}
-use Rattle.pm_topology.proofs.Entries.{either, first_passes, later_passes, present_at, present_from, equal}
+use Rattle.pm_base.proofs.Booleans.{either, first_passes, later_passes, both, pair_of, equal}
+use Rattle.pm_base.proofs.Options.{holds_of}
+use Rattle.pm_base.proofs.Tests.{present_at, present_from}
 use Rattle.pm_power.specs.declared.child.Child.{Child}
 use Rattle.pm_power.specs.Forest.{Needs, is_parent, child_needs, power_needs, ups_from, ups, is_up, IsHeld, ChildNeeds, PowerNeeds, AreAfterParents, AreUps}
-
-both : (a b : Bool) → (a && b) ≡ true → (a ≡ true) × (b ≡ true)
-both true b e = (refl, e)
-both false b e = cc
-
-pair_of : (a b : Bool) → a ≡ true → b ≡ true → (a && b) ≡ true
-pair_of true b e f = f
-pair_of false b e f = cc
 
 parent_is : (w : ℕ) (parent : Option ℕ) → is_parent w parent ≡ true → parent ≡ Some w
 parent_is w None e = cc
@@ -162,9 +156,7 @@ up_exactly n w up after within e = at (slice_get n.powers w) refl
 -- in a well-formed topology each power node stands after its parent
 pub after_parents : (t : Topology) → IsWellFormed t → AreAfterParents t.powers
 after_parents t well v w p here is =
-    let P : ℕ → Type 0 = λ u. u < v in
-    let Q : Option ℕ → Type 0 = λ o. IfSome o P in
-    subst Q is (well.power_parents v p here)
+    holds_of (λ u. u < v) p.parent w is (well.power_parents v p here)
 
 -- what is kept of a power node is whether it is up
 pub kept_is : (n : Needs) (children : List Child) (powers : List PowerDef) (kept : List Bool) (w : ℕ) (up : Bool)
@@ -178,3 +170,8 @@ kept_is n children powers kept w up view are within is =
     let here = slice_get_read kept (length n.powers) w up (sym places) within is in
     let right = are.right ∙ ap ups view in
     ap (λ o. unwrap_or o false) (sym here ∙ ap (λ kept. slice_get kept w) right)
+
+-- a power node that is there is up exactly where there is a reason
+pub up_where_needed : (n : Needs) (w : ℕ) → AreAfterParents n.powers → w < length n.powers
+    → IsTrue (is_up n w) ↔ (IsHeld n w ⊎ (ChildNeeds n w ⊎ PowerNeeds n w))
+up_where_needed n w after within = up_exactly n w (is_up n w) after within refl

@@ -1,7 +1,9 @@
 -- Which power nodes are up: those that are held, and those that something directly below needs.
-use Rattle.std.specs.Prelude.{◌≡◌, ℕ, ◌+◌, ◌<◌, ◌==◌, Bool, true, false, ◌&&◌, ◌||◌, Option, Some, None, List, [], ◌∷◌, length, slice_get, unwrap_or}
+use Rattle.std.specs.Prelude.{◌≡◌, ◌↔◌, ◌⊎◌, ℕ, ◌+◌, ◌<◌, ◌==◌, Bool, true, false, IsTrue, ◌&&◌, ◌||◌, Option, Some, None, List, [], ◌∷◌, length, slice_get, unwrap_or}
 use Rattle.std.specs.List.{list_any, zip}
 use Rattle.pm_topology.specs.declared.topology.PowerDef.{PowerDef}
+use Rattle.pm_topology.specs.declared.topology.Topology.{Topology}
+use Rattle.pm_topology.specs.WellFormed.{IsWellFormed}
 use Rattle.pm_power.specs.declared.child.Child.{Child}
 
 -- the power nodes of a chip, each after its parent, and its processors and slaves with their needs
@@ -56,3 +58,10 @@ AreAfterParents powers = (v w : ℕ) (p : PowerDef) → slice_get powers v ≡ S
 pub record AreUps (children : List Child) (powers : List PowerDef) (kept : List Bool) : Type 0 where
   pub places : length kept ≡ length powers
   pub right : kept ≡ ups_from children 0 powers
+
+-- what holds of the power nodes of every chip: each stands after its parent, and so each is up exactly where it is held
+-- or something directly below needs it
+pub record UpLaws : Type 0 where
+  pub after : (t : Topology) → IsWellFormed t → AreAfterParents t.powers
+  pub exactly : (n : Needs) (w : ℕ) → AreAfterParents n.powers → w < length n.powers
+      → IsTrue (is_up n w) ↔ (IsHeld n w ⊎ (ChildNeeds n w ⊎ PowerNeeds n w))

@@ -80,20 +80,25 @@ fn with_need(child: Child, node: NodeId, on: bool) -> Child
     }
 }
 
-/// Sets the needs of all children, in their order. Those past the last need don't need their power node.
-pub(crate) fn set_needs(children: &mut [Child], needs: &[bool])
-    ensures { children.new ≡ with_needs needs.now children.old }
+/// Sets the needs of all children, in their order: first these, and then those. Children past the last
+/// need don't need their power node.
+pub(crate) fn set_needs(children: &mut [Child], first: &[bool], later: &[bool])
+    ensures { children.new ≡ with_needs (first.now ++ later.now) children.old }
 {
     for k in 0..children.len() {
         let child = children[k];
-        children[k] = child_with(child, need_at(needs, k));
+        children[k] = child_with(child, need_at(first, later, k));
     }
 }
 
-fn need_at(needs: &[bool], place: usize) -> bool
-    ensures { result ≡ unwrap_or (slice_get needs.now place) false }
+fn need_at(first: &[bool], later: &[bool], place: usize) -> bool
+    ensures { result ≡ unwrap_or (slice_get (first.now ++ later.now) place) false }
 {
-    needs.get(place).copied().unwrap_or(false)
+    if place < first.len() {
+        first[place]
+    } else {
+        later.get(place - first.len()).copied().unwrap_or(false)
+    }
 }
 
 fn child_with(of: Child, needs: bool) -> Child

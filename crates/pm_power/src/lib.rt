@@ -2,7 +2,9 @@
 #![tactic(auto)]
 
 pub mod child;
+pub mod laws;
 pub mod power;
-pub mod settle;
+pub mod recompute;
 
+pub use laws::up_where_needed;
 pub use power::Power;

@@ -1,14 +1,14 @@
 //! The power nodes of a chip, and which of them are up.
 
 ghost use Rattle.std.specs.Option.{option_map_or};
-ghost use Rattle.std.specs.Prelude.{replicate, length, ◌≡◌, ◌<◌, ◌⊎◌, ◌↔◌, IfOk, IsTrue, Some, false, not};
+ghost use Rattle.std.specs.Prelude.{replicate, length, ◌≡◌, ◌<◌, ◌⊎◌, ◌↔◌, ◌++◌, IfOk, IsTrue, Some, false, not};
 ghost use Rattle.pm_topology.specs.Places.{power_place};
 ghost use Rattle.pm_topology.specs.WellFormed.{IsWellFormed};
 ghost use Rattle.pm_power.specs.Forest.{AreUps, ChildNeeds, IsHeld, PowerNeeds, is_up, ups};
 ghost use Rattle.pm_power.specs.Needs.{child_need, does_need, needs_of, power_need, set_need, with_needs};
 
 use crate::child::{self, Child};
-use crate::settle::settle;
+use crate::recompute::recompute_ups;
 use pm_base::{List, NoMemory, NodeId, Steps};
 use pm_topology::{PowerDef, Topology};
 use std::alloc::Global;
@@ -60,16 +60,16 @@ impl Power {
         ensures { self.new ≡ set_need child on self.old }
     {
         child::set_need(&mut self.children, child, on);
-        settle(self.powers.as_slice(), &self.children, &mut self.ups);
+        recompute_ups(self.powers.as_slice(), &self.children, &mut self.ups);
     }
 
-    /// Sets the needs of all slaves and then of all processors, each in their order in the table. Those
-    /// past the last need don't need their power node.
-    pub fn recompute(&mut self, needs: &[bool])
-        ensures { self.new ≡ record self.old { children = with_needs needs.now self.old.children } }
+    /// Sets the needs of all slaves and of all processors, each in their order in the table. Those past
+    /// the last need don't need their power node.
+    pub fn recompute(&mut self, slaves: &[bool], procs: &[bool])
+        ensures { self.new ≡ record self.old { children = with_needs (slaves.now ++ procs.now) self.old.children } }
     {
-        child::set_needs(&mut self.children, needs);
-        settle(
+        child::set_needs(&mut self.children, slaves, procs);
+        recompute_ups(
             self.powers.as_slice(),
             self.children.as_slice(),
             &mut self.ups,
@@ -137,7 +137,7 @@ fn settled(alloc: Global, powers: &[PowerDef], children: &[Child]) -> Result<Vec
     ensures { IfOk result (λ ups. AreUps children.now powers.now ups.items) }
 {
     let mut ups = downs(alloc, powers.len())?;
-    settle(powers, children, &mut ups);
+    recompute_ups(powers, children, &mut ups);
     Ok(ups)
 }
 

@@ -1,31 +1,20 @@
 -- A full last state meets all requirements on the capabilities of its slave.
-use Rattle.std.proofs.Common.{◌≡◌, ℕ, ◌-◌, ◌≤◌, ◌==◌, ◌&&◌, Bool, true, false, nat_lt, cond, Option, Some, None, IsSome, IfSome, IsSomeAnd, List, [], ◌∷◌, length, slice_get, get_or, position, fold, refl, suc, arith, ap, sym, ◌∙◌, subst, bit_and, bit_or}
-use Rattle.std.specs.List.{position_or_len}
-use Rattle.std.proofs.lemmas.Bool.{ltb-false}
+use Rattle.std.proofs.Common.{◌≡◌, ℕ, ◌-◌, true, Option, Some, None, IsSome, IfSome, IsSomeAnd, List, [], ◌∷◌, length, slice_get, position, fold, refl, suc, arith, sym, ◌∙◌, subst, bit_and, bit_or}
 use Rattle.std.proofs.lemmas.Bool.Decides.{nat_tests}
-use Rattle.std.proofs.lemmas.List.Quantifiers.{position-Some}
-use Rattle.std.proofs.lemmas.List.Sums.{fails_before_first}
-use Rattle.std.proofs.lemmas.Option.{slice_get-get_or, slice_get_within, get_or_from_slice_get}
 use Rattle.pm_topology.specs.declared.topology.SlaveState.{SlaveState}
 use Rattle.pm_topology.specs.WellFormed.{EachEntry, HasFullLast}
 use Rattle.pm_slaves.specs.Choice.{within, meets, capabilities, IsFirstToMeet, LastHas}
-use Rattle.pm_slaves.proofs.Bits.{has_none, has_both, has_through}
+use Rattle.pm_base.proofs.Bits.{has_none, has_both, has_through}
+use Rattle.pm_base.proofs.Booleans.{equal, pair_of}
+use Rattle.pm_base.proofs.Searches.{position-first, position-none}
 
 -- what a search answers is the first to meet
-first_at : (states : List SlaveState) (caps : ℕ) (limit : Option ℕ) (k : ℕ)
+pub first_at : (states : List SlaveState) (caps : ℕ) (limit : Option ℕ) (k : ℕ)
     → position (meets caps limit) states ≡ Some k
     → IsFirstToMeet states caps limit k
-first_at [] caps limit k e = cc
-first_at (s ∷ more) caps limit k e =
-    let at = position-Some (meets caps limit) (s ∷ more) k s e in
-    record {
-      state = get_or (s ∷ more) k s;
-      here = slice_get-get_or (s ∷ more) k s at.0;
-      enough = at.1;
-      least = λ j earlier before there.
-          let same = get_or_from_slice_get (s ∷ more) j earlier s there in
-          ap (meets caps limit) (sym same) ∙ at.2 j before;
-    }
+first_at states caps limit k e =
+    let first = position-first (meets caps limit) states k e in
+    record { state = first.element; here = first.here; enough = first.passes; least = first.least }
 
 pub first_found : (states : List SlaveState) (caps : ℕ) (limit : Option ℕ) (found : Option ℕ)
     → found ≡ position (meets caps limit) states
@@ -33,35 +22,14 @@ pub first_found : (states : List SlaveState) (caps : ℕ) (limit : Option ℕ) (
 first_found states caps limit None e = tt
 first_found states caps limit (Some k) e = first_at states caps limit k (sym e)
 
-past : (first len : ℕ) (b : Bool) → nat_lt first len ≡ b → cond b (Some first) None ≡ None → len ≤ first
-past first len false is e = ltb-false first len is
-past first len true is e = cc
-
--- where the search finds nothing no state meets
-none_meets : (states : List SlaveState) (caps : ℕ) (limit : Option ℕ)
-    → position (meets caps limit) states ≡ None
-    → (k : ℕ) (s : SlaveState) → slice_get states k ≡ Some s → meets caps limit s ≡ false
-none_meets states caps limit e k s here =
-    let all = past (position_or_len (meets caps limit) states) (length states) _ refl e in
-    let inside = slice_get_within states k s here in
-    let fails = fails_before_first (meets caps limit) states k s (omega arith) in
-    ap (meets caps limit) (sym (get_or_from_slice_get states k s s here)) ∙ fails
-
 -- latency 0 keeps every limit
 at_once : (latency : ℕ) (limit : Option ℕ) → latency ≡ 0 → within latency limit ≡ true
 at_once latency None e = refl
 at_once latency (Some limit) e = grind (arith, nat_tests)
 
-equal : (a b : ℕ) → a ≡ b → (a == b) ≡ true
-equal a b e = grind (arith, nat_tests)
-
-both : (a b : Bool) → a ≡ true → b ≡ true → (a && b) ≡ true
-both true b e f = f
-both false b e f = cc
-
 last_meets : (caps : ℕ) (limit : Option ℕ) (last : SlaveState)
     → bit_and last.caps.0 caps ≡ caps → last.latency ≡ 0 → meets caps limit last ≡ true
-last_meets caps limit last has ready = both _ _ (equal (bit_and last.caps.0 caps) caps has) (at_once last.latency limit ready)
+last_meets caps limit last has ready = pair_of _ _ (equal (bit_and last.caps.0 caps) caps has) (at_once last.latency limit ready)
 
 -- so the search finds a state where the last has what is required
 never_none : (states : List SlaveState) (caps : ℕ) (limit : Option ℕ) (last : Option SlaveState)
@@ -70,7 +38,7 @@ never_none : (states : List SlaveState) (caps : ℕ) (limit : Option ℕ) (last 
     → position (meets caps limit) states ≡ None → ⊥
 never_none states caps limit None is has e = absurd has
 never_none states caps limit (Some last) is has e =
-    let fails = none_meets states caps limit e (length states - 1) last is in
+    let fails = position-none (meets caps limit) states e (length states - 1) last is in
     let holds = last_meets caps limit last has.0 has.1 in
     cc
 
@@ -103,3 +71,8 @@ pub always_one : (states : List SlaveState) (caps : ℕ) (limit : Option ℕ) (f
     → HasFullLast states → bit_and (capabilities states) caps ≡ caps → IsSome found
 always_one states caps limit found e full known =
     some_of found (λ none. some_meets states caps limit (last_has states caps full known) (none ∙ e))
+
+-- the two facts of a search in any list of states
+pub always_found : (states : List SlaveState) (caps : ℕ) (limit : Option ℕ)
+    → HasFullLast states → bit_and (capabilities states) caps ≡ caps → IsSome (position (meets caps limit) states)
+always_found states caps limit = always_one states caps limit (position (meets caps limit) states) refl

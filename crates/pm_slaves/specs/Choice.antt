@@ -1,6 +1,7 @@
 -- The state of a slave: the first in its list that meets the requirements in force.
-use Rattle.std.specs.Prelude.{◌≡◌, ℕ, ◌-◌, ◌<◌, ◌==◌, Bool, true, false, ◌&&◌, nat_le, Option, Some, None, IsSomeAnd, List, length, fold, position, slice_get, unwrap_or, bit_and, bit_or}
+use Rattle.std.specs.Prelude.{◌≡◌, ℕ, ◌-◌, ◌<◌, ◌==◌, Bool, true, false, ◌&&◌, nat_le, Option, Some, None, IsSome, IsSomeAnd, List, length, fold, position, slice_get, unwrap_or, bit_and, bit_or}
 use Rattle.pm_topology.specs.declared.topology.SlaveState.{SlaveState}
+use Rattle.pm_topology.specs.WellFormed.{HasFullLast}
 
 -- a latency keeps a limit, where there is one
 abbrev pub within : ℕ → Option ℕ → Bool
@@ -29,3 +30,11 @@ LastHas states caps = IsSomeAnd (slice_get states (length states - 1)) (λ last.
 -- the capabilities of a slave: each that one of its states has
 abbrev pub capabilities : List SlaveState → ℕ
 capabilities states = fold (λ all s. bit_or all s.caps.0) 0 states
+
+-- what holds of every list of states: what a search answers is the first to meet, and where the last state is full
+-- there is one for all that the slave is capable of
+pub record ChoiceLaws : Type 0 where
+  pub first : (states : List SlaveState) (caps : ℕ) (limit : Option ℕ) (k : ℕ)
+      → position (meets caps limit) states ≡ Some k → IsFirstToMeet states caps limit k
+  pub full : (states : List SlaveState) (caps : ℕ) (limit : Option ℕ)
+      → HasFullLast states → bit_and (capabilities states) caps ≡ caps → IsSome (position (meets caps limit) states)

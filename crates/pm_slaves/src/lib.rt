@@ -3,5 +3,7 @@
 #![tactic(auto)]
 
 pub mod choice;
+pub mod laws;
 
 pub use choice::{capabilities, first_that_meets, least_state};
+pub use laws::first_state_meets;

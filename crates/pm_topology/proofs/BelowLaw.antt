@@ -13,15 +13,9 @@ use Rattle.pm_topology.specs.declared.places.Kind.{Kind}
 use Rattle.pm_topology.specs.declared.places.Kind.TheVariants.{Proc, Slave, Power, Unknown}
 use Rattle.pm_topology.specs.Places.{upwards, power_parent, parent_at, parent_of, kind_of, is_below, IsAtOrAbove, IsBelow, here, higher}
 use Rattle.pm_topology.specs.WellFormed.{EachEntry, IsWellFormed}
-use Rattle.pm_topology.proofs.Entries.{either, first_passes, later_passes, equal}
+use Rattle.pm_base.proofs.Booleans.{either, first_passes, later_passes, equal}
+use Rattle.pm_base.proofs.Options.{holds_of}
 use Rattle.pm_topology.proofs.Upwards.{stops}
-
--- each parent stands earlier
-AreEarlier : List PowerDef → Type 0
-AreEarlier powers = EachEntry powers (λ k p. IfSome p.parent (λ w. w < k))
-
-holds_of : (P : ℕ → Type 0) (o : Option ℕ) (u : ℕ) → o ≡ Some u → IfSome o P → P u
-holds_of P o u e h = let Q : Option ℕ → Type 0 = λ o. IfSome o P in subst Q e h
 
 parent_entry : (powers : List PowerDef) (v u : ℕ) (got : Option PowerDef)
     → slice_get powers v ≡ got

@@ -1,10 +1,12 @@
 -- What an entry without a cause keeps, and the other way round.
-use Rattle.std.proofs.Common.{◌≡◌, ℕ, ◌-◌, ◌<◌, ◌≤◌, Bool, true, false, not, ◌&&◌, ◌||◌, ◌==◌, nat_le, nat_lt, Option, Some, None, List, [], ◌∷◌, length, take, slice_get, refl, zero, suc, subst, arith, ap, sym, ◌∙◌, ◌⊎◌, inl, inr, IfSome, bit_and}
+use Rattle.std.proofs.Common.{◌≡◌, ℕ, ◌-◌, ◌<◌, ◌≤◌, Bool, true, false, not, ◌||◌, ◌==◌, nat_le, nat_lt, Option, Some, None, List, [], ◌∷◌, length, take, slice_get, refl, zero, suc, subst, arith, ap, sym, ◌∙◌, ◌⊎◌, inl, inr, IfSome, bit_and}
 use Rattle.std.specs.List.{list_any, list_all}
 use Rattle.std.specs.Option.{option_map_or}
 use Rattle.std.proofs.lemmas.Bool.{eqb-true}
 use Rattle.std.proofs.lemmas.Bool.Decides.{nat_tests}
 use Rattle.pm_base.specs.declared.names.NodeId.{NodeId}
+use Rattle.pm_base.proofs.Booleans.{neither, none_of, either, first_passes, later_passes, both, pair_of, equal}
+use Rattle.pm_base.proofs.Tests.{absent_at, absent_from}
 use Rattle.pm_topology.specs.declared.topology.SlaveState.{SlaveState}
 use Rattle.pm_topology.specs.declared.topology.SlaveDef.{SlaveDef}
 use Rattle.pm_topology.specs.declared.topology.ProcDef.{ProcDef}
@@ -15,7 +17,7 @@ use Rattle.pm_topology.specs.declared.topology.Topology.{Topology}
 use Rattle.pm_topology.specs.declared.faults.TopoCause.TheVariants.{Repeated, ParentLate, NoStates, LastNotFull, TooMany, BadTarget, BadMember}
 use Rattle.pm_topology.specs.FirstFault.{has_power, has_proc, has_slave, is_late, power_cause, proc_cause, slave_cause, covers, is_full, last_is_full, is_bad_target, line_cause, master_cause}
 use Rattle.pm_topology.specs.WellFormed.{EachEntry, HasFullLast, IsProc, IsSlave}
-use Rattle.pm_topology.proofs.Entries.{neither, none_of, either, pass, passed, absent_at, absent_from, number_at, number_from, first_passes, later_passes}
+use Rattle.pm_topology.proofs.Entries.{pass, passed, number_at, number_from}
 
 below : (a b : ℕ) → nat_le b a ≡ false → a < b
 below a b e = grind (arith, nat_tests)
@@ -42,14 +44,6 @@ denied false e = cc
 affirmed : (b : Bool) → b ≡ true → not b ≡ false
 affirmed true e = refl
 affirmed false e = cc
-
-both : (a b : Bool) → (a && b) ≡ true → (a ≡ true) × (b ≡ true)
-both true b e = (refl, e)
-both false b e = cc
-
-pair_of : (a b : Bool) → a ≡ true → b ≡ true → (a && b) ≡ true
-pair_of true b e f = f
-pair_of false b e f = cc
 
 pub all_at : {X : Type 0} (p : X → Bool) (xs : List X) → list_all p xs ≡ true → EachEntry xs (λ _ x. p x ≡ true)
 all_at p [] e k x here = cc
@@ -121,9 +115,6 @@ full_at states (Some last) is some few e =
       at_once = eqb-true last.latency 0 two.0;
       full = λ k s here. eqb-true (bit_and last.caps.0 s.caps.0) s.caps.0 (all_at (covers last) states two.1 k s here);
     }
-
-equal : (a b : ℕ) → a ≡ b → (a == b) ≡ true
-equal a b e = grind (arith, nat_tests)
 
 full_from : (states : List SlaveState) (last : Option SlaveState)
     → slice_get states (length states - 1) ≡ last

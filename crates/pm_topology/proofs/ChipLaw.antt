@@ -5,7 +5,7 @@ use Rattle.std.proofs.lemmas.Bool.Decides.{nat_tests}
 use Rattle.pm_topology.specs.declared.topology.SlaveState.{SlaveState}
 use Rattle.pm_topology.specs.declared.topology.SlaveDef.{SlaveDef}
 use Rattle.pm_topology.specs.Chip.{chip, slaves}
-use Rattle.pm_topology.specs.WellFormed.{IsSound}
+use Rattle.pm_topology.specs.WellFormed.{IsSupported}
 use Rattle.pm_topology.proofs.Causes.{all_at}
 use Rattle.pm_topology.proofs.WellFormedLaw.{well_formed_from}
 
@@ -13,7 +13,7 @@ known : (n : ℕ) → nat_lt n 8 ≡ true → n < 8
 known n e = grind (arith, nat_tests)
 
 -- the rules are tried on the written table, entry by entry
-pub chip_sound : IsSound chip
+pub chip_sound : IsSupported chip
 unfolding chip slaves
 chip_sound = record {
   well_formed = well_formed_from chip refl;

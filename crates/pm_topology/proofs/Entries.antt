@@ -1,32 +1,13 @@
 -- Tests over the entries of a list, entry by entry.
-use Rattle.std.proofs.Common.{◌≡◌, ℕ, ◌+◌, ◌<◌, ◌≤◌, Bool, true, false, ◌||◌, ◌==◌, Option, Some, None, List, [], ◌∷◌, length, take, slice_get, refl, zero, suc, arith, ap, sym, ◌∙◌, cond, ◌⊎◌, inl, inr, ◌≢◌}
+use Rattle.std.proofs.Common.{◌≡◌, ℕ, ◌+◌, ◌<◌, ◌≤◌, Bool, true, false, ◌==◌, Option, Some, None, List, [], ◌∷◌, length, take, slice_get, refl, zero, suc, arith, sym, cond, inl, inr}
 use Rattle.std.specs.List.{list_any}
 use Rattle.std.proofs.lemmas.Bool.{eqb-true}
 use Rattle.std.proofs.lemmas.Option.{slice_get_cases}
-use Rattle.std.proofs.lemmas.Bool.Decides.{nat_tests}
+use Rattle.pm_base.proofs.Booleans.{neither, none_of, differs, unequal, equal}
+use Rattle.pm_base.proofs.Tests.{absent_at, absent_from, present_at, present_from}
 use Rattle.pm_topology.specs.declared.faults.TopoCause.{TopoCause}
 use Rattle.pm_topology.specs.FirstFault.{first_at, fault_at, or_later}
 use Rattle.pm_topology.specs.WellFormed.{EachEntry, HasNumber, AreDistinct, AreApart}
-
-pub neither : (a b : Bool) → (a || b) ≡ false → (a ≡ false) × (b ≡ false)
-neither false b e = (refl, e)
-neither true b e = cc
-
-pub none_of : (a b : Bool) → a ≡ false → b ≡ false → (a || b) ≡ false
-none_of a b e f = grind (arith, nat_tests)
-
-pub either : (a b : Bool) → (a || b) ≡ true → (a ≡ true) ⊎ (b ≡ true)
-either true b e = inl refl
-either false b e = inr e
-
-pub differs : (a b : ℕ) → (a == b) ≡ false → a ≢ b
-differs a b e = grind (arith, nat_tests)
-
-pub unequal : (a b : ℕ) → a ≢ b → (a == b) ≡ false
-unequal a b e = grind (arith, nat_tests)
-
-pub equal : (a b : ℕ) → a ≡ b → (a == b) ≡ true
-equal a b e = grind (arith, nat_tests)
 
 -- a rule that isn't broken leaves it to the next ones
 pub pass : (broken : Bool) (cause : TopoCause) (rest : Option TopoCause)
@@ -40,19 +21,6 @@ pub passed : (broken : Bool) (cause : TopoCause) (rest : Option TopoCause)
     → cond broken (Some cause) rest ≡ None
 passed false cause rest e f = f
 passed true cause rest e f = cc
-
-pub absent_at : {X : Type 0} (p : X → Bool) (xs : List X)
-    → list_any p xs ≡ false
-    → EachEntry xs (λ _ x. p x ≡ false)
-absent_at p [] e k x here = cc
-absent_at p (y ∷ ys) e zero x here = let parts = neither (p y) _ e in cc
-absent_at p (y ∷ ys) e (suc k) x here = absent_at p ys ((neither (p y) _ e).1) k x here
-
-pub absent_from : {X : Type 0} (p : X → Bool) (xs : List X)
-    → EachEntry xs (λ _ x. p x ≡ false)
-    → list_any p xs ≡ false
-absent_from p [] each = refl
-absent_from p (y ∷ ys) each = none_of (p y) _ (each zero y refl) (absent_from p ys (λ k x here. each (suc k) x here))
 
 pub absent_before : {X : Type 0} (p : X → Bool) (xs : List X) (n : ℕ)
     → list_any p (take n xs) ≡ false
@@ -70,31 +38,6 @@ absent_before-from p xs zero each = refl
 absent_before-from p [] (suc n) each = refl
 absent_before-from p (y ∷ ys) (suc n) each =
     none_of (p y) _ (each zero y (omega arith) refl) (absent_before-from p ys n (λ k x within here. each (suc k) x (omega arith) here))
-
-pub present_at : {X : Type 0} (p : X → Bool) (xs : List X)
-    → list_any p xs ≡ true
-    → (k : ℕ) × (x : X) × (slice_get xs k ≡ Some x) × (p x ≡ true)
-present_at p [] e = cc
-present_at p (y ∷ ys) e =
-    elim (either (p y) _ e) [
-      | inl here ↦ (zero, y, refl, here)
-      | inr later ↦ let found = present_at p ys later in (suc found.0, found.1, found.2, found.3)
-    ]
-
-pub first_passes : (a b : Bool) → a ≡ true → (a || b) ≡ true
-first_passes true b e = refl
-first_passes false b e = cc
-
-pub later_passes : (a b : Bool) → b ≡ true → (a || b) ≡ true
-later_passes true b e = refl
-later_passes false b e = e
-
-pub present_from : {X : Type 0} (p : X → Bool) (xs : List X) (k : ℕ) (x : X)
-    → slice_get xs k ≡ Some x → p x ≡ true
-    → list_any p xs ≡ true
-present_from p [] k x here holds = cc
-present_from p (y ∷ ys) zero x here holds = first_passes (p y) _ (let e : y ≡ x = cc in ap p e ∙ holds)
-present_from p (y ∷ ys) (suc k) x here holds = later_passes (p y) _ (present_from p ys k x here holds)
 
 -- neither of two is there
 pub neither_there : {X : Type 0} (a b : Option X) → or_later a b ≡ None → (a ≡ None) × (b ≡ None)

@@ -1,10 +1,6 @@
 -- The kind of a node is that of the one entry that has its number.
-use Rattle.std.proofs.Common.{◌≡◌, ℕ, ◌≤◌, ◌==◌, Bool, true, false, Option, Some, None, List, [], ◌∷◌, length, slice_get, get_or, refl, arith, ap, sym, ◌∙◌, position, cond, nat_lt, subst}
-use Rattle.std.specs.List.{position_or_len}
-use Rattle.std.proofs.lemmas.Bool.{eqb-true, ltb-false}
-use Rattle.std.proofs.lemmas.List.Sums.{fails_before_first}
-use Rattle.std.proofs.lemmas.List.Quantifiers.{position-Some}
-use Rattle.std.proofs.lemmas.Option.{slice_get-get_or, slice_get_within, get_or_from_slice_get}
+use Rattle.std.proofs.Common.{◌≡◌, ℕ, ◌==◌, Option, Some, None, List, slice_get, refl, ap, sym, ◌∙◌, position, subst}
+use Rattle.std.proofs.lemmas.Bool.{eqb-true}
 use Rattle.pm_base.specs.declared.names.NodeId.{NodeId}
 use Rattle.pm_topology.specs.declared.topology.ProcDef.{ProcDef}
 use Rattle.pm_topology.specs.declared.topology.SlaveDef.{SlaveDef}
@@ -14,33 +10,23 @@ use Rattle.pm_topology.specs.declared.places.Kind.{Kind}
 use Rattle.pm_topology.specs.declared.places.Kind.TheVariants.{Proc, Slave, Power, Unknown}
 use Rattle.pm_topology.specs.Places.{kind_of, kind_at, proc_place, slave_place, power_place, IsKind}
 use Rattle.pm_topology.specs.WellFormed.{IsWellFormed, HasNumber}
-use Rattle.pm_topology.proofs.Entries.{differs}
+use Rattle.pm_base.proofs.Booleans.{differs}
+use Rattle.pm_base.proofs.Searches.{position-first, position-none}
 
 -- the entry at the place that a search by number answers has the number
 found_at : {X : Type 0} (number : X → ℕ) (xs : List X) (n k : ℕ)
     → position (λ e. number e == n) xs ≡ Some k
     → (x : X) × (slice_get xs k ≡ Some x) × (number x ≡ n)
-found_at number [] n k e = cc
-found_at {X} number (y ∷ ys) n k e =
-    let at = position-Some (λ (e : X). number e == n) (y ∷ ys) k y e in
-    (get_or (y ∷ ys) k y, slice_get-get_or (y ∷ ys) k y at.0, eqb-true (number (get_or (y ∷ ys) k y)) n at.1)
-
-past : (first len : ℕ) (b : Bool) → nat_lt first len ≡ b → cond b (Some first) None ≡ None → len ≤ first
-past first len false is e = ltb-false first len is
-past first len true is e = cc
+found_at {X} number xs n k e =
+    let first = position-first (λ (e : X). number e == n) xs k e in
+    (first.element, first.here, eqb-true (number first.element) n first.passes)
 
 -- where the search finds nothing no entry has the number
 absent : {X : Type 0} (number : X → ℕ) (xs : List X) (n : ℕ)
     → position (λ e. number e == n) xs ≡ None
     → HasNumber number xs n → ⊥
 absent {X} number xs n e has =
-    let p : X → Bool = λ e. number e == n in
-    let all = past (position_or_len p xs) (length xs) _ refl e in
-    let within = slice_get_within xs has.0 has.1 has.2 in
-    let fails = fails_before_first p xs has.0 has.1 (omega arith) in
-    let same = get_or_from_slice_get xs has.0 has.1 has.1 has.2 in
-    let fails_here = ap p (sym same) ∙ fails in
-    differs (number has.1) n fails_here has.3
+    differs (number has.1) n (position-none (λ (e : X). number e == n) xs e has.0 has.1 has.2) has.3
 
 kind_at_is : (t : Topology) (n : NodeId) (proc slave power : Option ℕ)
     → proc_place t.procs n.0 ≡ proc
@@ -78,8 +64,8 @@ alike t n well Unknown (Slave k) x y = absurd (x.1 (k, y.0, y.1, y.2))
 alike t n well Unknown (Power k) x y = absurd (x.2 (k, y.0, y.1, y.2))
 alike t n well Unknown Unknown x y = refl
 
-pub kind_alone : (t : Topology) (n : NodeId) → IsWellFormed t → (kind : Kind) → IsKind t n kind → kind ≡ kind_of t n
-kind_alone t n well kind is = alike t n well kind (kind_of t n) is (kind_of_is t n)
+pub kind_alone : (t : Topology) (n : NodeId) (kind : Kind) → IsWellFormed t → IsKind t n kind → kind ≡ kind_of t n
+kind_alone t n kind well is = alike t n well kind (kind_of t n) is (kind_of_is t n)
 
 -- the same of an answer that is the kind
 pub kind_is : (t : Topology) (n : NodeId) (kind : Kind) → kind ≡ kind_of t n → IsKind t n kind
@@ -87,4 +73,4 @@ kind_is t n kind e = let P : Kind → Type 0 = λ k. IsKind t n k in subst P (sy
 
 pub kind_only : (t : Topology) (n : NodeId) (kind : Kind) → kind ≡ kind_of t n
     → IsWellFormed t → (other : Kind) → IsKind t n other → other ≡ kind
-kind_only t n kind e well other is = kind_alone t n well other is ∙ sym e
+kind_only t n kind e well other is = kind_alone t n other well is ∙ sym e

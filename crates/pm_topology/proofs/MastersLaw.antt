@@ -1,14 +1,15 @@
 -- The masters of the table of the chip obey the rules on masters.
-use Rattle.std.proofs.Common.{◌≡◌, ◌≢◌, ℕ, Bool, true, false, not, ◌||◌, ◌==◌, IsTrue, List, [], ◌∷◌, Some, slice_get, take, refl, zero, suc, ap, sym, ◌∙◌, subst}
+use Rattle.std.proofs.Common.{◌≡◌, ◌≢◌, ℕ, Bool, true, false, not, ◌||◌, ◌==◌, IsTrue, List, [], ◌∷◌, Some, slice_get, take, refl, zero, suc, subst}
 use Rattle.std.specs.List.{list_any, list_all}
 use Rattle.pm_base.specs.declared.names.NodeId.{NodeId}
 use Rattle.pm_topology.specs.declared.topology.MasterDef.{MasterDef}
 use Rattle.pm_topology.specs.Chip.{chip, slaves, masters, master, node}
-use Rattle.pm_topology.specs.WellFormed.{EachEntry, AreDistinct, HasNumber}
+use Rattle.pm_topology.specs.WellFormed.{EachEntry, AreDistinct}
 use Rattle.pm_topology.specs.Masters.{master_numbers, is_master_number, may_have, share, may_share, ObeysMasterRules}
 use Rattle.pm_topology.proofs.Causes.{all_at}
 use Rattle.pm_topology.proofs.ChipLaw.{chip_sound}
-use Rattle.pm_topology.proofs.Entries.{distinct_from, unequal, number_at}
+use Rattle.pm_base.proofs.Booleans.{unequal}
+use Rattle.pm_topology.proofs.Entries.{distinct_from, number_at}
 
 abbrev four : List NodeId
 four = node 2 ∷ node 3 ∷ node 4 ∷ node 5 ∷ []

@@ -3,7 +3,7 @@ use Rattle.std.proofs.Common.{◌≡◌, ℕ, ◌+◌, ◌-◌, ◌<◌, ◌==�
 use Rattle.std.specs.List.{list_any}
 use Rattle.pm_topology.specs.declared.topology.PowerDef.{PowerDef}
 use Rattle.pm_topology.specs.Places.{upwards, power_parent}
-use Rattle.pm_topology.proofs.Entries.{unequal}
+use Rattle.pm_base.proofs.Booleans.{unequal}
 
 passes : (a b : Bool) → a ≡ false → (a || b) ≡ b
 passes false b e = refl

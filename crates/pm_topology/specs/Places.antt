@@ -9,7 +9,7 @@ use Rattle.pm_topology.specs.declared.topology.PowerDef.{PowerDef}
 use Rattle.pm_topology.specs.declared.topology.Topology.{Topology}
 use Rattle.pm_topology.specs.declared.places.Kind.{Kind}
 use Rattle.pm_topology.specs.declared.places.Kind.TheVariants.{Proc, Slave, Power, Unknown}
-use Rattle.pm_topology.specs.WellFormed.{HasNumber}
+use Rattle.pm_topology.specs.WellFormed.{HasNumber, IsWellFormed}
 
 -- the place of the entry that has a number
 abbrev pub proc_place : List ProcDef → ℕ → Option ℕ
@@ -40,6 +40,12 @@ IsKind t n Unknown =
     (HasNumber (λ p. p.node.0) t.procs n.0 → ⊥)
     × (HasNumber (λ s. s.node.0) t.slaves n.0 → ⊥)
     × (HasNumber (λ p. p.node.0) t.powers n.0 → ⊥)
+
+-- what holds of the kinds of the nodes of every chip: that of a node is one of its number, and in a well-formed
+-- topology no other is
+pub record KindLaws : Type 0 where
+  pub is : (t : Topology) (n : NodeId) → IsKind t n (kind_of t n)
+  pub alone : (t : Topology) (n : NodeId) (kind : Kind) → IsWellFormed t → IsKind t n kind → kind ≡ kind_of t n
 
 -- the place of the power node directly above a node
 abbrev pub power_parent : List PowerDef → ℕ → Option ℕ

@@ -1,7 +1,8 @@
 -- A table of units: one value for each unit, in the order of units. Contracts see the list of its units with their values.
-use Rattle.std.specs.Prelude.{◌≡◌, ◌++◌, ℕ, zero, suc, if◌then◌else◌, Option, Some, None, List, [], ◌∷◌, map, position}
+use Rattle.std.specs.Prelude.{◌≡◌, ◌++◌, ℕ, ◌+◌, ◌==◌, ◌&&◌, true, zero, suc, if◌then◌else◌, Option, Some, None, is_some, List, [], ◌∷◌, map, position, slice_get, take, drop}
+use Rattle.std.specs.Option.{option_map}
 use Rattle.pm_base.specs.declared.names.Unit.{Unit}
-use Rattle.pm_topology.specs.Units.{same_unit}
+use Rattle.pm_topology.specs.Units.{same_unit, has_in, rises}
 
 abbrev pub units_in : {T : Type 0} → List (Unit × T) → List Unit
 units_in entries = map (λ e. e.0) entries
@@ -50,3 +51,40 @@ remade f e = (e.0, f e.0 e.1)
 
 abbrev pub mapped : {T U : Type 0} → (Unit → T → U) → List (Unit × T) → List (Unit × U)
 mapped f entries = map (remade f) entries
+
+-- ---- the laws
+
+-- what every table of units holds: a value for exactly its units, also once all have the same value, one was set, or
+-- each was made anew from the one before
+pub record TableLaws (T : Type 0) : Type 0 where
+  pub there : (entries : List (Unit × T)) (unit : Unit) → is_some (value_of entries unit) ≡ has_in (units_in entries) unit
+  pub all : (value : T) (units : List Unit) (unit : Unit)
+      → value_of (all_at value units) unit ≡ (if has_in units unit then Some value else None)
+  pub set : (unit : Unit) (value : T) (entries : List (Unit × T)) (other : Unit)
+      → value_of (with_value unit value entries) other
+      ≡ (if same_unit unit other && is_some (value_of entries unit) then Some value else value_of entries other)
+  pub made : (f : Unit → T → T) (entries : List (Unit × T)) (unit : Unit)
+      → value_of (mapped f entries) unit ≡ option_map (f unit) (value_of entries unit)
+  pub all_units : (value : T) (units : List Unit) → units_in (all_at value units) ≡ units
+  pub set_units : (unit : Unit) (value : T) (entries : List (Unit × T))
+      → units_in (with_value unit value entries) ≡ units_in entries
+  pub made_units : (f : Unit → T → T) (entries : List (Unit × T)) → units_in (mapped f entries) ≡ units_in entries
+
+-- the same by places: in a table whose units rise, to set the value at the place of a unit is to set that of the unit
+pub record TablePlaceLaws (T : Type 0) : Type 0 where
+  pub set : (place : ℕ) (value : T) (entries : List (Unit × T)) (other : ℕ)
+      → slice_get (with_value_at place value entries) other
+      ≡ (if place == other then option_map (λ e. (e.0, value)) (slice_get entries other) else slice_get entries other)
+  pub set_units : (place : ℕ) (value : T) (entries : List (Unit × T))
+      → units_in (with_value_at place value entries) ≡ units_in entries
+  pub by_unit : (unit : Unit) (value : T) (entries : List (Unit × T)) (place : ℕ)
+      → rises (units_in entries) ≡ true
+      → place_of entries unit ≡ Some place
+      → with_value_at place value entries ≡ with_value unit value entries
+  -- where each value is made anew, place by place: the entry that is next, and the table once it had its turn
+  pub next : (f : Unit → T → T) (entries : List (Unit × T)) (place : ℕ)
+      → slice_get (mapped f (take place entries) ++ drop place entries) place ≡ slice_get entries place
+  pub made : (f : Unit → T → T) (entries : List (Unit × T)) (place : ℕ) (e : Unit × T)
+      → slice_get entries place ≡ Some e
+      → with_value_at place (f e.0 e.1) (mapped f (take place entries) ++ drop place entries)
+      ≡ mapped f (take (place + 1) entries) ++ drop (place + 1) entries

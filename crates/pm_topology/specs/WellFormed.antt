@@ -65,6 +65,6 @@ abbrev pub HasKnownCaps : Topology → Type 0
 HasKnownCaps t = EachEntry t.slaves (λ _ s. EachEntry s.states (λ _ e. e.caps.0 < 8))
 
 -- a topology that the core takes: it passes its check, and its capabilities are known ones
-pub record IsSound (t : Topology) : Type 0 where
+pub record IsSupported (t : Topology) : Type 0 where
   pub well_formed : IsWellFormed t
   pub known : HasKnownCaps t

@@ -4,7 +4,7 @@
 ghost use Rattle.std.specs.Prelude.{◌≡◌, ◌++◌, IfOk, map};
 ghost use Rattle.std.specs.List.{flat_map};
 ghost use Rattle.pm_topology.specs.Masters.{ObeysMasterRules};
-ghost use Rattle.pm_topology.specs.WellFormed.{IsSound};
+ghost use Rattle.pm_topology.specs.WellFormed.{IsSupported};
 ghost use Rattle.pm_topology.specs.Chip.{chip, line_of, lines_of, master, masters, powers, proc, procs, power, slaves, slaves_in};
 
 use crate::classes::{Class, states};
@@ -72,7 +72,7 @@ static GROUPS: [Group; 32] = [
 #[tactic(auto, using(crate::proofs::ChipLaw::chip_sound, crate::proofs::MastersLaw::chip_masters), unfolding(crate::specs::Chip::chip))]
 pub fn zynqmp(alloc: Global) -> Result<Topology, NoMemory>
     ensures table { IfOk result (λ topology. topology ≡ chip) }
-    ensures sound { IfOk result IsSound }
+    ensures sound { IfOk result IsSupported }
     ensures masters { IfOk result ObeysMasterRules }
 {
     let slaves = slaves(alloc)?;

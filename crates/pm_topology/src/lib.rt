@@ -14,6 +14,7 @@ pub mod units;
 
 pub use chip::zynqmp;
 pub use faults::{TopoCause, TopoFault};
+pub use laws::{kinds_are_exact, unit_map_places, unit_maps, units_stand_in_order};
 pub use places::Kind;
 pub use topology::{LineDef, MasterDef, PowerDef, ProcDef, SlaveDef, SlaveState, Topology};
 pub use unit_map::UnitMap;

@@ -6,5 +6,5 @@ use Rattle.pm_power.proofs.child.set_needs.Given as goal
 abbrev pub invariant-loop-k : goal.invariant-loop-k
 invariant-loop-k l = record {
   places : length l.children ≡ length l.initial.children;
-  whole : take l.k l.children ++ with_needs (drop l.k l.needs) (drop l.k l.children) ≡ with_needs l.needs l.initial.children;
+  whole : take l.k l.children ++ with_needs (drop l.k (l.first ++ l.later)) (drop l.k l.children) ≡ with_needs (l.first ++ l.later) l.initial.children;
 }

@@ -8,7 +8,7 @@ use crate::child::Child;
 use pm_topology::PowerDef;
 
 /// Writes for each power node whether it is up.
-pub(crate) fn settle(powers: &[PowerDef], children: &[Child], ups: &mut [bool])
+pub(crate) fn recompute_ups(powers: &[PowerDef], children: &[Child], ups: &mut [bool])
     requires { length ups.old ≡ length powers.now }
     ensures { ups.new ≡ ups_from children.now 0 powers.now }
 {

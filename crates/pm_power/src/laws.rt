@@ -1,0 +1,8 @@
+//! Laws of the power nodes.
+
+ghost use Rattle.pm_power.specs.Forest.{UpLaws};
+
+/// A power node is up exactly where it is held or something directly below needs it.
+pub fn up_where_needed()
+    ensures { UpLaws }
+{}
