@@ -1,6 +1,12 @@
-//! What the configuration object permits to each master (UG1137, configuration object).
+//! What the configuration object permits to each master (UG1137, configuration object), and which
+//! processors belong to it.
 #![tactic(auto)]
 
+pub mod owner;
 pub mod permits;
 
-pub use permits::{is_shareable, mask_has, slave_record};
+pub use owner::owner_of;
+pub use permits::{
+    is_shareable, mask_has, may_configure, may_force, may_reset, may_shut, may_suspend, may_use,
+    may_wake, slave_record,
+};
