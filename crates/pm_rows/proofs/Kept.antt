@@ -1,103 +1,97 @@
--- A change of a row that fits keeps the rows sound.
-use Rattle.std.proofs.Common.{◌≡◌, ℕ, ◌+◌, ◌≤◌, Bool, true, false, not, ◌&&◌, ◌==◌, cond, IsTrue, List, [], ◌∷◌, ◌++◌, Option, Some, None, refl, sym, ◌∙◌, ap, subst, arith, inl, inr, ◌⊎◌}
-use Rattle.std.specs.Prelude.{count_by, find, option_map}
-use Rattle.std.specs.List.{list_all}
-use Rattle.std.proofs.lemmas.Bool.{and_parts, and_from, eqb-true}
-use Rattle.std.proofs.lemmas.List.Folds.{list_all-append}
+-- Dropped holds and rows that are cleared keep sound rows sound.
+use Rattle.std.proofs.Common.{◌≡◌, ℕ, ◌≤◌, Bool, true, false, ◌&&◌, ◌==◌, if◌then◌else◌, List, map, length, refl, arith}
+use Rattle.std.specs.Prelude.{count_by}
+use Rattle.std.proofs.lemmas.Bool.{and_parts, and_from}
+use Rattle.pm_base.specs.declared.names.Mode.{Mode}
+use Rattle.pm_base.specs.declared.names.Mode.TheVariants.{Off, Active, Asleep, Suspending}
 use Rattle.pm_rows.specs.declared.row.RowSeed.{RowSeed}
 use Rattle.pm_rows.specs.declared.row.Entry.{Entry}
 use Rattle.pm_rows.specs.declared.row.Row.{Row}
-use Rattle.pm_rows.specs.declared.row.Change.{Change}
-use Rattle.pm_rows.specs.Rows.{is_at, is_rival, rival_of, entry_at, row_changed, applied}
-use Rattle.pm_rows.specs.Sound.{is_sole_user, is_able, AreOnce, AreSound, IsFit}
-use Rattle.pm_rows.proofs.Changed.{Replaced, replaced, pairs_stay, rows_at}
-use Rattle.pm_base.proofs.Counts.{count_by-append, count_by-cons, count_by_either, count_by_none}
+use Rattle.pm_rows.specs.Modes.{mode_in}
+use Rattle.pm_rows.specs.Rows.{Rows, has_all, cleared, settled_at, settled, dropped_at, slave_dropped}
+use Rattle.pm_rows.specs.Sound.{is_plain_in, is_idle_in, is_sole_user, AreSound}
+use Rattle.pm_rows.proofs.Bits.{has_all_nothing}
+use Rattle.pm_rows.proofs.Lists.{count_kept, each_trivial}
+use Rattle.pm_rows.proofs.Mapped.{RightIn, right_in, right_from, is_right, right_alike, mapped_sound}
 
--- no pair has two rows
-once : (m s : ℕ) (permitted : List RowSeed) (rows : List Entry) → AreOnce permitted → AreSound permitted rows → count_by (is_at m s) rows ≤ 1
-once m s permitted rows distinct sound = rw (rows_at m s rows, sound.pairs) (distinct m s)
+-- where no further row becomes used, slaves that can't be shared stay with at most one user
+fewer_used : (permitted : List RowSeed) (rows : Rows) (f : Entry → Entry) → AreSound permitted rows
+    → ((s : ℕ) (x : Entry) → is_sole_user s (f x) ≡ true → is_sole_user s x ≡ true) → (s : ℕ)
+    → count_by (is_sole_user s) (map f rows.entries) ≤ 1
+fewer_used permitted rows f sound fewer s =
+    let most = count_kept (is_sole_user s) (is_sole_user s) f (fewer s) rows.entries in
+    omega (arith, most, sound.alone s)
 
--- a used row on a slave that can't be shared is the master's own, or a rival's
-user_at : (here own used alone : Bool) → IsTrue (here && (used && alone)) → (IsTrue (own && here)) ⊎ (IsTrue (((not own && here) && used) && alone))
-user_at here true used alone is = inl (and_parts here (used && alone) is).0
-user_at here false used alone is =
-    let first = and_parts here (used && alone) is in
-    let second = and_parts used alone first.1 in
-    inr (and_from _ _ (and_from _ _ first.0 second.0) second.1)
+-- ---- holds
 
-none_mapped : (o : Option Entry) → option_map (λ (entry : Entry). entry.seed.master) o ≡ None → o ≡ None
-none_mapped None is = refl
-none_mapped (Some entry) is = cc
+hold_seed : (x : Entry) (b : Bool) → (if b then record x { row = record x.row { hold = false } } else x).seed ≡ x.seed
+hold_seed x true = refl
+hold_seed x false = refl
 
-no_rival : (m s : ℕ) (rows : List Entry) → rival_of m s rows ≡ None → count_by (is_rival m s) rows ≡ 0
-no_rival m s rows free = count_by_none (is_rival m s) rows (none_mapped (find (is_rival m s) rows) free)
+hold_right : (modes : List Mode) (x : Entry) (b : Bool) → is_right modes x ≡ true
+    → is_right modes (if b then record x { row = record x.row { hold = false } } else x) ≡ true
+hold_right modes x true is = right_alike modes x false x.row.armed x.row.latency is
+hold_right modes x false is = is
 
--- where nobody at the place and no rival stands in these rows, nobody uses the slave alone
-no_user : (m s : ℕ) (rows : List Entry) → count_by (is_at m s) rows ≡ 0 → count_by (is_rival m s) rows ≡ 0 → count_by (is_sole_user s) rows ≡ 0
-no_user m s rows own rival =
-    let either : count_by (is_sole_user s) rows ≤ count_by (is_at m s) rows + count_by (is_rival m s) rows =
-    count_by_either (is_sole_user s) (is_at m s) (is_rival m s) (λ x is. user_at (x.seed.slave == s) (x.seed.master == m) x.row.used (not x.seed.shareable) is) rows
-    in
-    omega arith
+hold_sole : (s : ℕ) (x : Entry) (b : Bool)
+    → is_sole_user s (if b then record x { row = record x.row { hold = false } } else x) ≡ is_sole_user s x
+hold_sole s x true = refl
+hold_sole s x false = refl
 
--- how many pass the test in the rows with this one in their midst
-count_mid : (p : Entry → Bool) (front : List Entry) (x : Entry) (back : List Entry) → count_by p (front ++ x ∷ back) ≡ count_by p front + (cond (p x) 1 0 + count_by p back)
-count_mid p front x back = count_by-append p front (x ∷ back) ∙ ap (λ n. count_by p front + n) (count_by-cons p x back)
+pub settle_keeps : (permitted : List RowSeed) (rows : Rows) (m : ℕ) → AreSound permitted rows
+    → AreSound permitted (settled m rows)
+settle_keeps permitted rows m sound =
+    mapped_sound permitted rows (λ (x : Entry). Unit {0}) (settled_at m) rows.known sound
+    (λ x. hold_seed x (x.seed.master == m))
+    (each_trivial rows.entries)
+    (λ x here right. hold_right rows.known x (x.seed.master == m) right)
+    (fewer_used permitted rows (settled_at m) sound (λ s x is. rw (← hold_sole s x (x.seed.master == m)) is))
 
-alone_at : (b : Bool) (c : Bool) (front back : ℕ) → front + (cond b 1 0 + back) ≤ 1 → (IsTrue c → (front ≡ 0) × (back ≡ 0)) → front + (cond c 1 0 + back) ≤ 1
-alone_at true false front back was free = omega arith
-alone_at false false front back was free = was
-alone_at b true front back was free = omega (arith, (free refl).0, (free refl).1)
+-- ---- rows that are cleared
 
--- the slave at place t has at most one user where the changed row is its user only if no rival is
-alone_changed : (m s t : ℕ) (by : Change) (rows : List Entry) (entry : Entry) → Replaced m s by rows entry → count_by (is_sole_user t) rows ≤ 1 → (IsTrue (is_sole_user t (record entry { row = applied by entry.row })) → (t ≡ s) × (rival_of m s rows ≡ None)) → count_by (is_sole_user t) (row_changed m s by rows) ≤ 1
-alone_changed m s t by rows entry parts was free =
-    rw (parts.is, count_mid (is_sole_user t) parts.front (record entry { row = applied by entry.row }) parts.back)
-    (alone_at (is_sole_user t entry) (is_sole_user t (record entry { row = applied by entry.row })) (count_by (is_sole_user t) parts.front) (count_by (is_sole_user t) parts.back)
-    (rw (← count_mid (is_sole_user t) parts.front entry parts.back, ← parts.was) was)
-    (λ is.
-    let none : count_by (is_rival m s) rows ≡ 0 = no_rival m s rows (free is).1 in
-    let spread : count_by (is_rival m s) rows ≡ count_by (is_rival m s) parts.front + (cond (is_rival m s entry) 1 0 + count_by (is_rival m s) parts.back) =
-    ap (count_by (is_rival m s)) parts.was ∙ count_mid (is_rival m s) parts.front entry parts.back
-    in
-    let first : count_by (is_sole_user s) parts.front ≡ 0 = no_user m s parts.front parts.before (omega arith) in
-    let second : count_by (is_sole_user s) parts.back ≡ 0 = no_user m s parts.back parts.after (omega arith) in
-    (rw (free is).0 first, rw (free is).0 second)))
+plain_cleared : (mode : Mode) (row : Row) → is_plain_in mode (cleared row) ≡ true
+plain_cleared Off row = refl
+plain_cleared Active row = refl
+plain_cleared Asleep row = refl
+plain_cleared Suspending row = refl
 
--- each row wants only what its slave has where the changed row does
-able_changed : (m s : ℕ) (by : Change) (rows : List Entry) (entry : Entry) → Replaced m s by rows entry → IsTrue (list_all is_able rows) → IsTrue (is_able (record entry { row = applied by entry.row })) → IsTrue (list_all is_able (row_changed m s by rows))
-able_changed m s by rows entry parts was able =
-    let spread : IsTrue (list_all is_able parts.front && list_all is_able (entry ∷ parts.back)) =
-    rw (← list_all-append is_able parts.front (entry ∷ parts.back), ← parts.was) was
-    in
-    let both = and_parts (list_all is_able parts.front) (list_all is_able (entry ∷ parts.back)) spread in
-    let rest = and_parts (is_able entry) (list_all is_able parts.back) both.1 in
-    rw (parts.is, list_all-append is_able parts.front (record entry { row = applied by entry.row } ∷ parts.back))
-    (and_from _ _ both.0 (and_from _ _ able rest.1))
+idle_cleared : (mode : Mode) (row : Row) → is_idle_in mode (cleared row) ≡ true
+idle_cleared Off row = refl
+idle_cleared Active row = refl
+idle_cleared Asleep row = refl
+idle_cleared Suspending row = refl
 
--- the slave of a row is that of its place
-user_place : (m s t : ℕ) (by : Change) (entry : Entry) → IsTrue (is_at m s entry) → IsTrue (is_sole_user t (record entry { row = applied by entry.row })) → t ≡ s
-user_place m s t by entry at is =
-    let place = and_parts (entry.seed.master == m) (entry.seed.slave == s) at in
-    let row : Row = applied by entry.row in
-    let user = and_parts (entry.seed.slave == t) (row.used && not entry.seed.shareable) is in
-    sym (eqb-true _ _ user.0) ∙ eqb-true _ _ place.1
+clear_seed : (x : Entry) (b : Bool) → (if b then record x { row = cleared x.row } else x).seed ≡ x.seed
+clear_seed x true = refl
+clear_seed x false = refl
 
-keeps_at : (permitted : List RowSeed) (rows : List Entry) (m s : ℕ) (by : Change) (entry : Entry) → AreSound permitted rows → Replaced m s by rows entry → IsFit m s by entry rows → AreSound permitted (row_changed m s by rows)
-keeps_at permitted rows m s by entry sound parts fit =
-    let P : ℕ → Type 0 = λ t. IsTrue (is_sole_user t (record entry { row = applied by entry.row })) in
-    record {
-      pairs = pairs_stay m s by rows ∙ sound.pairs;
-      alone = λ t. alone_changed m s t by rows entry parts (sound.alone t)
-          (λ is. let at : t ≡ s = user_place m s t by entry parts.at is in (at, fit.free (subst P at is)));
-      able = able_changed m s by rows entry parts sound.able fit.able;
-    }
+clear_right : (modes : List Mode) (x : Entry) (b : Bool) → is_right modes x ≡ true
+    → is_right modes (if b then record x { row = cleared x.row } else x) ≡ true
+clear_right modes x true is =
+    let parts : RightIn (length modes) (mode_in x.seed.master modes) x = right_in modes x is in
+    let first = and_parts (has_all x.seed.all x.row.now) (has_all x.seed.all x.row.next && has_all x.seed.all x.row.preset) parts.able in
+    let second = and_parts (has_all x.seed.all x.row.next) (has_all x.seed.all x.row.preset) first.1 in
+    right_from modes (record x { row = cleared x.row }) (mode_in x.seed.master modes) refl
+    (record {
+      within = parts.within;
+      able = and_from _ _ (has_all_nothing x.seed.all) (and_from _ _ (has_all_nothing x.seed.all) second.1);
+      plain = plain_cleared (mode_in x.seed.master modes) x.row;
+      idle = idle_cleared (mode_in x.seed.master modes) x.row;
+    })
+clear_right modes x false is = is
 
--- a change that fits, of a row that is there, keeps the rows sound
-pub change_keeps : (permitted : List RowSeed) (rows : List Entry) (m s : ℕ) (by : Change) (entry : Entry) → AreOnce permitted → AreSound permitted rows → entry_at m s rows ≡ Some entry → IsFit m s by entry rows → AreSound permitted (row_changed entry.seed.master entry.seed.slave by rows)
-change_keeps permitted rows m s by entry distinct sound found fit =
-    let parts : Replaced m s by rows entry = replaced m s by rows entry (once m s permitted rows distinct sound) found in
-    let place = and_parts (entry.seed.master == m) (entry.seed.slave == s) parts.at in
-    let master : entry.seed.master ≡ m = eqb-true _ _ place.0 in
-    let slave : entry.seed.slave ≡ s = eqb-true _ _ place.1 in
-    rw (master, slave) (keeps_at permitted rows m s by entry sound parts fit)
+clear_sole : (s : ℕ) (x : Entry) (b : Bool) → is_sole_user s (if b then record x { row = cleared x.row } else x) ≡ true
+    → is_sole_user s x ≡ true
+clear_sole s x true is =
+    let none : false ≡ true = (and_parts (x.seed.slave == s) false is).1 in
+    cc
+clear_sole s x false is = is
+
+pub drop_keeps : (permitted : List RowSeed) (rows : Rows) (s : ℕ) → AreSound permitted rows
+    → AreSound permitted (slave_dropped s rows)
+drop_keeps permitted rows s sound =
+    mapped_sound permitted rows (λ (x : Entry). Unit {0}) (dropped_at s) rows.known sound
+    (λ x. clear_seed x (x.seed.slave == s))
+    (each_trivial rows.entries)
+    (λ x here right. clear_right rows.known x (x.seed.slave == s) right)
+    (fewer_used permitted rows (dropped_at s) sound (λ t x is. clear_sole t x (x.seed.slave == s) is))

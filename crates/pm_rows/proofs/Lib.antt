@@ -1,5 +1,10 @@
 pub mod Bits
 pub mod Changed
 pub mod Kept
+pub mod Known
+pub mod Lists
+pub mod Loaded
+pub mod Mapped
+pub mod Shifted
 pub mod There
 pub mod Wants

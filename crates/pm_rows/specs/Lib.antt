@@ -1,3 +1,5 @@
+pub mod Modes
 pub mod Rows
+pub mod Shift
 pub mod Sound
 pub mod Wanted

@@ -1,10 +1,15 @@
 -- What holds of the rows of every book.
-use Rattle.std.specs.Prelude.{◌≡◌, ℕ, ◌≤◌, Bool, not, ◌&&◌, ◌==◌, List, map, count_by, None, IsTrue}
+use Rattle.std.specs.Prelude.{◌≡◌, ◌≢◌, ℕ, ◌<◌, ◌≤◌, nat_lt, Bool, true, not, ◌&&◌, ◌||◌, ◌==◌, ⊤, List, map, count_by, None, is_some, IfSome, length, IsTrue}
 use Rattle.std.specs.List.{list_all}
+use Rattle.pm_base.specs.declared.names.Mode.{Mode}
+use Rattle.pm_base.specs.declared.names.Mode.TheVariants.{Off, Active, Asleep, Suspending}
 use Rattle.pm_rows.specs.declared.row.RowSeed.{RowSeed}
+use Rattle.pm_rows.specs.declared.row.Row.{Row}
 use Rattle.pm_rows.specs.declared.row.Entry.{Entry}
 use Rattle.pm_rows.specs.declared.row.Change.{Change}
-use Rattle.pm_rows.specs.Rows.{has_all, applied, rival_of}
+use Rattle.pm_rows.specs.declared.row.Change.TheVariants.{Request, Release, Set, Limit, Arm}
+use Rattle.pm_rows.specs.Modes.{mode_in}
+use Rattle.pm_rows.specs.Rows.{Rows, has_all, rival_of, mode_of}
 
 -- the pair to which a row belongs
 abbrev pub pair_in : Entry → RowSeed
@@ -18,24 +23,71 @@ is_pair m s seed = (seed.master == m) && (seed.slave == s)
 abbrev pub is_sole_user : ℕ → Entry → Bool
 is_sole_user s entry = (entry.seed.slave == s) && (entry.row.used && not entry.seed.shareable)
 
--- a row wants only what its slave has
+-- a row wants and would want only what its slave has
 abbrev pub is_able : Entry → Bool
-is_able entry = has_all entry.seed.all entry.row.now
+is_able entry =
+    has_all entry.seed.all entry.row.now && (has_all entry.seed.all entry.row.next && has_all entry.seed.all entry.row.preset)
+
+-- nothing is scheduled in a row
+abbrev pub is_plain : Row → Bool
+is_plain row = not row.used || (row.next.0 == row.now.0)
+
+-- while its master is active nothing is scheduled in a row
+abbrev pub is_plain_in : Mode → Row → Bool
+is_plain_in Active row = is_plain row
+is_plain_in Off row = true
+is_plain_in Asleep row = true
+is_plain_in Suspending row = true
+
+-- while its master is off a row isn't used
+abbrev pub is_idle_in : Mode → Row → Bool
+is_idle_in Off row = not row.used
+is_idle_in Active row = true
+is_idle_in Asleep row = true
+is_idle_in Suspending row = true
+
+-- the master of a row is one of so many
+abbrev pub is_within : ℕ → Entry → Bool
+is_within masters entry = nat_lt entry.seed.master masters
+
+-- a test of a row in the mode of its master
+abbrev pub in_mode : (Mode → Row → Bool) → List Mode → Entry → Bool
+in_mode test modes entry = test (mode_in entry.seed.master modes) entry.row
 
 -- no pair stands twice
 abbrev pub AreOnce : List RowSeed → Type 0
 AreOnce pairs = (m s : ℕ) → count_by (is_pair m s) pairs ≤ 1
 
-pub record AreSound (permitted : List RowSeed) (rows : List Entry) : Type 0 where
+-- the rows of a book whose object permits these pairs
+pub record AreSound (permitted : List RowSeed) (rows : Rows) : Type 0 where
   -- the permitted pairs have a row, each one, and no other pair has
-  pub pairs : map pair_in rows ≡ permitted
+  pub pairs : map pair_in rows.entries ≡ permitted
+  -- the rows know a mode of each master that has a row
+  pub within : IsTrue (list_all (is_within (length rows.known)) rows.entries)
   -- a slave that can't be shared has at most one used row
-  pub alone : (s : ℕ) → count_by (is_sole_user s) rows ≤ 1
+  pub alone : (s : ℕ) → count_by (is_sole_user s) rows.entries ≤ 1
   -- each row wants only what its slave has
-  pub able : IsTrue (list_all is_able rows)
+  pub able : IsTrue (list_all is_able rows.entries)
+  -- while a master is active nothing is scheduled in its rows
+  pub plain : IsTrue (list_all (in_mode is_plain_in rows.known) rows.entries)
+  -- a master that is off uses nothing
+  pub idle : IsTrue (list_all (in_mode is_idle_in rows.known) rows.entries)
 
--- a change that leaves the rows sound: the row wants only what its slave has, and where it then uses a slave that can't be
--- shared, no other master uses that
-pub record IsFit (m s : ℕ) (by : Change) (entry : Entry) (rows : List Entry) : Type 0 where
-  pub able : IsTrue (is_able (record entry { row = applied by entry.row }))
-  pub free : IsTrue (is_sole_user s (record entry { row = applied by entry.row })) → rival_of m s rows ≡ None
+-- a pair may be loaded: its master is one of so many, what its row has at load the slave has, and only the master at place
+-- boot uses a slave from the load on
+pub record IsLoadable (masters boot : ℕ) (seed : RowSeed) : Type 0 where
+  pub place : seed.master < masters
+  pub preset : IsTrue (has_all seed.all seed.preset)
+  pub start : IfSome seed.start (λ caps. IsTrue (has_all seed.all caps))
+  pub first : IsTrue (is_some seed.start) → seed.master ≡ boot
+
+-- a change that leaves the rows sound, of the row of a pair: a slave is requested by a master that isn't off, with
+-- capabilities that it has, where no other master uses it alone; a requirement is set with capabilities that the slave has, in
+-- the mode that the rows know of the master
+abbrev pub IsFit : ℕ → ℕ → Change → Entry → Rows → Type 0
+IsFit m s (Request caps) entry rows =
+    IsTrue (has_all entry.seed.all caps) × (rival_of m s rows ≡ None) × (mode_of m rows ≢ Off)
+IsFit m s Release entry rows = ⊤
+IsFit m s (Set mode caps) entry rows = IsTrue (has_all entry.seed.all caps) × (mode_of m rows ≡ mode)
+IsFit m s (Limit latency) entry rows = ⊤
+IsFit m s (Arm target) entry rows = ⊤

@@ -1,24 +1,73 @@
 //! Laws of the rows.
 
-ghost use Rattle.std.specs.Prelude.{◌≡◌, ℕ, List, IsTrue, Some, is_some, map, nat_lt, count_by};
+ghost use Rattle.std.specs.Prelude.{◌≡◌, ◌≢◌, ◌<◌, ◌⊎◌, ◌==◌, if◌then◌else◌, ℕ, Bool, List, IsTrue, None, Some, is_some, map, nat_lt, count_by, length};
 ghost use Rattle.std.specs.List.{All};
 ghost use Rattle.pm_base.specs.declared.caps.Caps.{Caps};
+ghost use Rattle.pm_base.specs.declared.names.Mode.{Mode};
+ghost use Rattle.pm_base.specs.declared.names.Mode.TheVariants.{Off, Active};
 ghost use Rattle.pm_rows.specs.declared.row.RowSeed.{RowSeed};
+ghost use Rattle.pm_rows.specs.declared.row.Row.{Row};
 ghost use Rattle.pm_rows.specs.declared.row.Entry.{Entry};
 ghost use Rattle.pm_rows.specs.declared.row.Change.{Change};
-ghost use Rattle.pm_rows.specs.Rows.{has_all, unused, entry_at, row_changed};
-ghost use Rattle.pm_rows.specs.Sound.{AreOnce, AreSound, IsFit, is_pair};
+ghost use Rattle.pm_rows.specs.Rows as spec;
+ghost use Rattle.pm_rows.specs.Rows.{has_all, mode_of, entry_at, loaded_rows, restarted, row_changed, settled, slave_dropped};
+ghost use Rattle.pm_rows.specs.Shift.{shifted_row, shift_at, shifted};
+ghost use Rattle.pm_rows.specs.Sound.{AreOnce, AreSound, IsFit, IsLoadable, is_pair, pair_in};
 ghost use Rattle.pm_rows.specs.Wanted.{wanted_of};
 
-/// Unused rows are sound, and a change of a row that fits keeps them so. In sound rows a pair has a row
-/// exactly where it is permitted, and what is wanted of a slave is within its capabilities.
+/// Rows at load are sound, and each operation keeps them so: a change of a row that fits, a change of a
+/// master's mode, dropped holds, and rows on a slave that are cleared; and after a restart they are as at
+/// load. In sound rows a pair has a row exactly where it is permitted, and what is wanted of a slave is
+/// within its capabilities.
 pub fn rows_stay_sound()
-    ensures load { (permitted : List RowSeed) → AreSound permitted (map unused permitted) }
-    ensures change { (permitted : List RowSeed) (rows : List Entry) (m s : ℕ) (by : Change) (entry : Entry)
+    ensures load { (masters boot : ℕ) (permitted : List RowSeed)
+        → AreOnce permitted → All (IsLoadable masters boot) permitted
+        → AreSound permitted (loaded_rows masters boot permitted) }
+    ensures change { (permitted : List RowSeed) (rows : spec.Rows) (m s : ℕ) (by : Change) (entry : Entry)
         → AreOnce permitted → AreSound permitted rows → entry_at m s rows ≡ Some entry → IsFit m s by entry rows
         → AreSound permitted (row_changed entry.seed.master entry.seed.slave by rows) }
-    ensures there { (permitted : List RowSeed) (rows : List Entry) (m s : ℕ) → AreSound permitted rows
+    ensures shift { (permitted : List RowSeed) (rows : spec.Rows) (m : ℕ) (to : Mode)
+        → AreOnce permitted → AreSound permitted rows → AreSound permitted (shifted m to rows) }
+    ensures settle { (permitted : List RowSeed) (rows : spec.Rows) (m : ℕ)
+        → AreSound permitted rows → AreSound permitted (settled m rows) }
+    ensures drop_slave { (permitted : List RowSeed) (rows : spec.Rows) (s : ℕ)
+        → AreSound permitted rows → AreSound permitted (slave_dropped s rows) }
+    ensures restart { (permitted : List RowSeed) (rows : spec.Rows)
+        → AreOnce permitted → All (IsLoadable (length rows.known) rows.boot) permitted
+        → AreSound permitted rows → AreSound permitted (restarted rows) }
+    ensures there { (permitted : List RowSeed) (rows : spec.Rows) (m s : ℕ) → AreSound permitted rows
         → is_some (entry_at m s rows) ≡ nat_lt 0 (count_by (is_pair m s) permitted) }
-    ensures wanted { (permitted : List RowSeed) (rows : List Entry) (s : ℕ) (all : Caps) → AreSound permitted rows
+    ensures wanted { (permitted : List RowSeed) (rows : spec.Rows) (s : ℕ) (all : Caps) → AreSound permitted rows
         → All (λ pair. pair.slave ≡ s → pair.all ≡ all) permitted → IsTrue (has_all all (wanted_of s rows).caps) }
+{}
+
+/// The modes that the rows know: at load all masters are off but one, a change of a mode is known from
+/// then on and no other mode moves, and after a restart the rows are those at load.
+pub fn rows_know_modes()
+    ensures load { (masters boot m : ℕ) (seeds : List RowSeed) → boot < masters
+        → mode_of m (loaded_rows masters boot seeds) ≡ (if m == boot then Active else Off) }
+    ensures shift { (rows : spec.Rows) (m k : ℕ) (to : Mode) → m < length rows.known
+        → mode_of k (shifted m to rows) ≡ (if k == m then to else mode_of k rows) }
+    ensures count { (masters boot : ℕ) (seeds : List RowSeed)
+        → length (loaded_rows masters boot seeds).known ≡ masters }
+    ensures same_count { (rows : spec.Rows) (m : ℕ) (to : Mode)
+        → length (shifted m to rows).known ≡ length rows.known }
+    ensures restart { (rows : spec.Rows)
+        → restarted rows ≡ loaded_rows (length rows.known) rows.boot (map pair_in rows.entries) }
+{}
+
+/// What a shift leaves: the rows of all other masters are as they were, each row keeps its pair, and what
+/// it is armed with stays or is dropped. What a row is armed with and whether it is held afterwards depends
+/// on what it was before and on the two modes alone.
+pub fn shifts_leave_others()
+    ensures others { (rows : List Entry) (m : ℕ) (from to : Mode) (entry : Entry)
+        → entry.seed.master ≢ m → shift_at rows m from to entry ≡ entry }
+    ensures pair { (rows : List Entry) (m : ℕ) (from to : Mode) (entry : Entry)
+        → (shift_at rows m from to entry).seed ≡ entry.seed }
+    ensures kept { (from to : Mode) (taken : Bool) (row : Row)
+        → (shifted_row from to taken row).armed ≡ row.armed ⊎ (shifted_row from to taken row).armed ≡ None }
+    ensures armed { (from to : Mode) (taken other : Bool) (a b : Row) → a.armed ≡ b.armed
+        → (shifted_row from to taken a).armed ≡ (shifted_row from to other b).armed }
+    ensures hold { (from to : Mode) (taken other : Bool) (a b : Row) → a.hold ≡ b.hold
+        → (shifted_row from to taken a).hold ≡ (shifted_row from to other b).hold }
 {}

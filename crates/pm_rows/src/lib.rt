@@ -1,13 +1,15 @@
-//! The rows of the book of requirements: what each master requires of each slave that it may use, how
-//! one change changes them, and what is wanted of a slave in all.
+//! The rows of the book of requirements: what each master requires of each slave that it may use, how a
+//! change of one row and a change of a master's mode change them, and what is wanted of a slave in all.
 #![tactic(auto)]
 
 mod laws;
+mod modes;
 pub mod row;
 pub mod rows;
+mod shift;
 pub mod wanted;
 
-pub use laws::rows_stay_sound;
+pub use laws::{rows_know_modes, rows_stay_sound, shifts_leave_others};
 pub use row::{Change, Entry, Row, RowSeed};
 pub use rows::Rows;
 pub use wanted::Wanted;

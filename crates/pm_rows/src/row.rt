@@ -1,26 +1,38 @@
 //! One row: what a master requires of a slave.
 
-ghost use Rattle.std.specs.Prelude.{◌≡◌};
-ghost use Rattle.pm_rows.specs.Rows.{applied, unused, is_at, is_of_other, is_rival, change_at};
+ghost use Rattle.std.specs.Prelude.{◌≡◌, false};
+ghost use Rattle.pm_rows.specs.Rows as spec;
+ghost use Rattle.pm_rows.specs.Rows.{applied, set_in, is_at, is_of_other, is_rival, is_user, change_at, settled_at, dropped_at, reloaded};
 
-use pm_base::Caps;
+use pm_base::{Caps, Mode, NodeId};
 
 /// A permitted pair: the place of the master in the object, the place of the slave in the table,
-/// whether several masters may use the slave at a time, and the slave's capabilities.
+/// whether several masters may use the slave at a time, and the slave's capabilities; and what its row
+/// has at load: the capabilities with which the master starts from off, those with which the slave is
+/// in use from the load on, if it is, and whether it is held.
 #[derive(Clone, Copy, Debug, PartialEq, Eq)]
 pub struct RowSeed {
     pub master: usize,
     pub slave: usize,
     pub shareable: bool,
     pub all: Caps,
+    pub preset: Caps,
+    pub start: Option<Caps>,
+    pub hold: bool,
 }
 
-/// What a master requires of a slave: whether it uses it, the capabilities that it wants now, and
-/// the greatest latency that it allows.
+/// What a master requires of a slave: whether it uses it, the capabilities that it wants now and those
+/// that are scheduled for the next change of its mode, those with which it starts from off, whether the
+/// slave is held for it until it finishes its initialization, the processor that the slave's interrupt
+/// wakes, if it is armed, and the greatest latency that it allows.
 #[derive(Clone, Copy, Debug, PartialEq, Eq)]
 pub struct Row {
     pub used: bool,
     pub now: Caps,
+    pub next: Caps,
+    pub preset: Caps,
+    pub hold: bool,
+    pub armed: Option<NodeId>,
     pub latency: Option<u32>,
 }
 
@@ -36,11 +48,57 @@ pub struct Entry {
 pub enum Change {
     /// The row is used from now on, with these capabilities.
     Request(Caps),
-    /// The row isn't used any more, and requires nothing.
+    /// The row isn't used any more, and requires nothing. Its arming and its hold stay.
     Release,
+    /// The row requires these capabilities: at once where its master is active, and from its sleep on
+    /// where it is suspending. In another mode nothing changes.
+    Set(Mode, Caps),
+    /// The row allows this latency at most.
+    Limit(u32),
+    /// The slave's interrupt wakes this processor, or none.
+    Arm(Option<NodeId>),
 }
 
 impl Row {
+    /// The row with nothing but its preset.
+    pub(crate) fn cleared(self) -> Row
+        ensures { result ≡ spec.cleared self }
+    {
+        Row {
+            used: false,
+            now: Caps(0),
+            next: Caps(0),
+            preset: self.preset,
+            hold: false,
+            armed: None,
+            latency: None,
+        }
+    }
+
+    /// The row without its hold.
+    fn settled(self) -> Row
+        ensures { result ≡ record self { hold = false } }
+    {
+        Row {
+            hold: false,
+            ..self
+        }
+    }
+
+    fn set_in(self, mode: Mode, caps: Caps) -> Row
+        ensures { result ≡ set_in mode caps self }
+    {
+        match mode {
+            Mode::Active => Row {
+                now: caps,
+                next: caps,
+                ..self
+            },
+            Mode::Suspending => Row { next: caps, ..self },
+            Mode::Asleep | Mode::Off => self,
+        }
+    }
+
     /// The row after a change.
     pub(crate) fn changed(self, by: Change) -> Row
         ensures { result ≡ applied by self }
@@ -49,30 +107,55 @@ impl Row {
             Change::Request(caps) => Row {
                 used: true,
                 now: caps,
+                next: caps,
                 latency: None,
+                ..self
             },
             Change::Release => Row {
                 used: false,
                 now: Caps(0),
+                next: Caps(0),
                 latency: None,
+                ..self
+            },
+            Change::Set(mode, caps) => self.set_in(mode, caps),
+            Change::Limit(latency) => Row {
+                latency: Some(latency),
+                ..self
+            },
+            Change::Arm(target) => Row {
+                armed: target,
+                ..self
             },
         }
     }
 }
 
 impl Entry {
-    /// The row of a pair as long as the master doesn't use the slave.
-    pub fn unused(seed: RowSeed) -> Entry
-        ensures { result ≡ unused seed }
+    /// The row of a pair at load.
+    pub fn loaded(seed: RowSeed) -> Entry
+        ensures { result ≡ spec.loaded_entry seed }
     {
+        let caps = seed.start.unwrap_or(Caps(0));
         Entry {
             seed,
             row: Row {
-                used: false,
-                now: Caps(0),
+                used: seed.start.is_some(),
+                now: caps,
+                next: caps,
+                preset: seed.preset,
+                hold: seed.hold,
+                armed: None,
                 latency: None,
             },
         }
+    }
+
+    /// The row as it was at load.
+    pub(crate) fn reloaded(self) -> Entry
+        ensures { result ≡ reloaded self }
+    {
+        Entry::loaded(self.seed)
     }
 
     /// Whether this is the row of the master and of the slave at these places.
@@ -96,6 +179,34 @@ impl Entry {
         }
     }
 
+    /// The row after a master dropped its holds.
+    pub(crate) fn settled_at(self, master: usize) -> Entry
+        ensures { result ≡ settled_at master self }
+    {
+        if self.seed.master == master {
+            Entry {
+                seed: self.seed,
+                row: self.row.settled(),
+            }
+        } else {
+            self
+        }
+    }
+
+    /// The row after all rows on a slave were cleared.
+    pub(crate) fn dropped_at(self, slave: usize) -> Entry
+        ensures { result ≡ dropped_at slave self }
+    {
+        if self.seed.slave == slave {
+            Entry {
+                seed: self.seed,
+                row: self.row.cleared(),
+            }
+        } else {
+            self
+        }
+    }
+
     /// Whether this is a row of another master on the slave.
     pub(crate) fn is_of_other(&self, master: usize, slave: usize) -> bool
         ensures { result ≡ is_of_other master slave self.now }
@@ -108,5 +219,12 @@ impl Entry {
         ensures { result ≡ is_rival master slave self.now }
     {
         self.is_of_other(master, slave) && self.row.used && !self.seed.shareable
+    }
+
+    /// Whether a master uses the slave by this row.
+    pub(crate) fn is_user(&self, slave: usize) -> bool
+        ensures { result ≡ is_user slave self.now }
+    {
+        self.seed.slave == slave && self.row.used
     }
 }

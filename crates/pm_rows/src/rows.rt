@@ -1,55 +1,104 @@
 //! The rows of the book: one for each pair of a master and a slave that the object permits.
 
-ghost use Rattle.std.specs.Prelude.{◌≡◌, ◌++◌, ◌∷◌, [], find, fold, OnOk, OnErr};
+ghost use Rattle.std.specs.Prelude.{◌≡◌, ◌-◌, ◌^◌, min, map, IfOk};
+ghost use Rattle.pm_rows.specs.declared.row.Change.TheVariants.{Request, Release, Set, Limit, Arm};
 ghost use Rattle.pm_rows.specs.Rows as spec;
-ghost use Rattle.pm_rows.specs.Rows.{is_at, is_of_other, is_rival, entry_at, rival_of, change_at, row_changed, usage_of};
-ghost use Rattle.pm_rows.specs.Wanted.{with_row, nothing_wanted, wanted_of};
+ghost use Rattle.pm_rows.specs.Rows.{mode_of, loaded_entry, loaded_rows, reloaded, restarted, change_at, row_changed, settled_at, settled, dropped_at, slave_dropped, entry_at, row_at, rival_of, users_of, usage_of};
+ghost use Rattle.pm_rows.specs.Shift.{shifted};
+ghost use Rattle.pm_rows.specs.Wanted.{wanted_of};
 
-use crate::row::{Change, Entry};
-use crate::wanted::{Wanted, with_row};
-use pm_base::{Caps, NoMemory};
+use crate::modes::{loaded_modes, mode_in, reload_modes, set_mode};
+use crate::row::{Change, Entry, Row, RowSeed};
+use crate::shift::shift_rows;
+use crate::wanted::{Wanted, wanted_on};
+use pm_base::{Caps, Mode, NoMemory, NodeId, Steps};
 use std::alloc::Global;
 use std::marker::Model;
+use std::sync::ledger::Ledger;
 
 fn change_row(entries: &mut [Entry], master: usize, slave: usize, by: Change)
-    ensures { entries.new ≡ row_changed master slave by entries.old }
+    ensures { entries.new ≡ map (change_at master slave by) entries.old }
 {
     for entry in entries.iter_mut() {
         *entry = entry.changed_at(master, slave, by);
     }
 }
 
-/// The rows, each with its pair. Contracts see them as the list of these.
+fn settle_rows(entries: &mut [Entry], master: usize)
+    ensures { entries.new ≡ map (settled_at master) entries.old }
+{
+    for entry in entries.iter_mut() {
+        *entry = entry.settled_at(master);
+    }
+}
+
+fn drop_rows(entries: &mut [Entry], slave: usize)
+    ensures { entries.new ≡ map (dropped_at slave) entries.old }
+{
+    for entry in entries.iter_mut() {
+        *entry = entry.dropped_at(slave);
+    }
+}
+
+fn reload_rows(entries: &mut [Entry])
+    ensures { entries.new ≡ map reloaded entries.old }
+{
+    for entry in entries.iter_mut() {
+        *entry = entry.reloaded();
+    }
+}
+
+fn loaded_entries(alloc: Global, seeds: &[RowSeed]) -> Result<Vec<Entry>, NoMemory>
+    ensures { IfOk result (λ entries. entries.items ≡ map loaded_entry seeds.now) }
+{
+    let mut entries = Vec::new(alloc);
+    for seed in seeds {
+        entries.push(Entry::loaded(*seed)).map_err(|_| NoMemory)?;
+    }
+    Ok(entries)
+}
+
+/// The rows, each with its pair, and the mode that they know of each master. Contracts see them as the
+/// record of these.
 #[derive(Debug, Drop)]
 pub struct Rows {
     entries: Vec<Entry>,
+    known: Vec<Mode>,
+    boot: usize,
 }
 
 impl Model for Rows {
-    ghost use Rattle.std.specs.Prelude.{List};
-    ghost use Rattle.pm_rows.specs.declared.row.Entry.{Entry};
+    ghost use Rattle.pm_rows.specs.Rows.{Rows};
 
-    ghost Value = { List Entry };
+    ghost Value = { Rows };
 
-    ghost view = { λ rows. rows.entries.items };
+    ghost view = { λ rows. record { entries = rows.entries.items; known = rows.known.items; boot = rows.boot } };
 }
 
 impl Rows {
-    /// No rows. They take memory from `alloc` as they are put in.
-    pub fn new(alloc: Global) -> Rows
-        ensures { result ≡ [] }
+    /// A row for each permitted pair, as it is at load. The master at place `boot` is active, and the
+    /// others of these `masters` are off. No later call takes memory.
+    pub fn load(
+        alloc: Global,
+        masters: usize,
+        _slaves: usize,
+        boot: usize,
+        seeds: &[RowSeed],
+    ) -> Result<Rows, NoMemory>
+        ensures { IfOk result (λ rows. rows ≡ loaded_rows masters boot seeds.now) }
     {
-        Rows {
-            entries: Vec::new(alloc),
-        }
+        Ok(Rows {
+            entries: loaded_entries(alloc, seeds)?,
+            known: loaded_modes(alloc, masters, boot)?,
+            boot,
+        })
     }
 
-    /// Puts a row at the end. Where there is no memory for it nothing changes.
-    pub fn push(&mut self, entry: Entry) -> Result<(), NoMemory>
-        ensures ok { OnOk result (self.new ≡ self.old ++ entry ∷ []) }
-        ensures err { OnErr result (self.new ≡ self.old) }
+    /// The mode that the rows know of a master, and off for a master that isn't there.
+    pub fn mode(&self, master: usize) -> Mode
+        ensures { result ≡ mode_of master self.now }
     {
-        self.entries.push(entry).map_err(|_| NoMemory)
+        mode_in(&self.known, master)
     }
 
     /// The row of a pair with its pair, which is there where the pair is permitted.
@@ -62,8 +111,15 @@ impl Rows {
             .find(|entry| entry.is_at(master, slave))
     }
 
+    /// The row of a pair, which is there where the pair is permitted.
+    pub fn row(&self, master: usize, slave: usize) -> Option<Row>
+        ensures { result ≡ row_at master slave self.now }
+    {
+        self.entry_at(master, slave).map(|entry| entry.row)
+    }
+
     /// The place of another master that uses this slave, where the slave can't be shared.
-    pub fn rival_of(&self, master: usize, slave: usize) -> Option<usize>
+    pub fn rival(&self, master: usize, slave: usize) -> Option<usize>
         ensures { result ≡ rival_of master slave self.now }
     {
         self.entries
@@ -72,24 +128,112 @@ impl Rows {
             .map(|entry| entry.seed.master)
     }
 
-    /// The requirements in force on a slave.
-    pub fn wanted(&self, slave: usize) -> Wanted
-        ensures { result ≡ wanted_of slave self.now }
-    {
-        let nothing = Wanted {
-            caps: Caps(0),
-            limit: None,
-        };
-        self.entries
-            .iter()
-            .fold(nothing, |wanted, entry| with_row(slave, wanted, entry))
-    }
-
     /// Changes the row of a pair, where it is there, and no other.
     pub fn change(&mut self, master: usize, slave: usize, by: Change)
         ensures { self.new ≡ row_changed master slave by self.old }
     {
         change_row(&mut self.entries, master, slave, by);
+    }
+
+    /// The slave is used by the master from now on, with these capabilities and no limit on its latency
+    /// (UG1200, PM_REQUEST_NODE).
+    pub fn request<L: Ledger>(
+        &mut self,
+        master: usize,
+        slave: usize,
+        caps: Caps,
+        _steps: &mut Steps<L>,
+    )
+        ensures { self.new ≡ row_changed master slave (Request caps) self.old }
+    {
+        self.change(master, slave, Change::Request(caps));
+    }
+
+    /// The slave isn't used by the master any more. Its arming and its hold stay (UG1200,
+    /// PM_RELEASE_NODE).
+    pub fn release<L: Ledger>(&mut self, master: usize, slave: usize, _steps: &mut Steps<L>)
+        ensures { self.new ≡ row_changed master slave Release self.old }
+    {
+        self.change(master, slave, Change::Release);
+    }
+
+    /// The master requires these capabilities of the slave: at once while it is active, and from its
+    /// sleep on while it is suspending (UG1200, PM_SET_REQUIREMENT).
+    pub fn set<L: Ledger>(&mut self, master: usize, slave: usize, caps: Caps, _steps: &mut Steps<L>)
+        ensures { self.new ≡ row_changed master slave (Set (mode_of master self.old) caps) self.old }
+    {
+        let mode = self.mode(master);
+        self.change(master, slave, Change::Set(mode, caps));
+    }
+
+    /// The master allows this latency of the slave at most (UG1200, PM_SET_MAX_LATENCY).
+    pub fn limit<L: Ledger>(
+        &mut self,
+        master: usize,
+        slave: usize,
+        latency: u32,
+        _steps: &mut Steps<L>,
+    )
+        ensures { self.new ≡ row_changed master slave (Limit latency) self.old }
+    {
+        self.change(master, slave, Change::Limit(latency));
+    }
+
+    /// The slave's interrupt wakes this processor of the master, or none (UG1200, PM_SET_WAKEUP_SOURCE).
+    pub fn arm(&mut self, master: usize, slave: usize, target: Option<NodeId>)
+        ensures { self.new ≡ row_changed master slave (Arm target) self.old }
+    {
+        self.change(master, slave, Change::Arm(target));
+    }
+
+    /// Drops each hold of a master (UG1200, PM_INIT_FINALIZE).
+    pub fn settle(&mut self, master: usize)
+        ensures { self.new ≡ settled master self.old }
+    {
+        settle_rows(&mut self.entries, master);
+    }
+
+    /// The master's mode is `to` from now on, and its rows change as that change of its mode asks.
+    pub fn shift(&mut self, master: usize, to: Mode)
+        ensures { self.new ≡ shifted master to self.old }
+    {
+        let from = mode_in(&self.known, master);
+        shift_rows(&mut self.entries, master, from, to);
+        set_mode(&mut self.known, master, to);
+    }
+
+    /// Clears all rows on a slave but for their presets.
+    pub fn drop_slave(&mut self, slave: usize)
+        ensures { self.new ≡ slave_dropped slave self.old }
+    {
+        drop_rows(&mut self.entries, slave);
+    }
+
+    /// Each row, and the mode of each master, is as it was at load.
+    pub fn restart(&mut self)
+        ensures { self.new ≡ restarted self.old }
+    {
+        reload_rows(&mut self.entries);
+        reload_modes(&mut self.known, self.boot);
+    }
+
+    /// The requirements in force on a slave.
+    pub fn wanted(&self, slave: usize) -> Wanted
+        ensures { result ≡ wanted_of slave self.now }
+    {
+        wanted_on(&self.entries, &self.known, slave)
+    }
+
+    /// How many masters use a slave. The count stands still at the end of its type.
+    pub fn users(&self, slave: usize) -> u32
+        ensures { result ≡ min (users_of slave self.now) (2 ^ 32 - 1) }
+    {
+        let count = self
+            .entries
+            .iter()
+            .filter(|entry| entry.is_user(slave))
+            .count();
+        u32::try_from(count).unwrap_or(u32::MAX)
     }
 
     fn is_used_by(&self, master: usize, slave: usize) -> bool

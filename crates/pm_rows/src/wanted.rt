@@ -1,10 +1,11 @@
 //! The requirements in force on a slave.
 
-ghost use Rattle.std.specs.Prelude.{◌≡◌};
-ghost use Rattle.pm_rows.specs.Wanted.{least, with_row};
+ghost use Rattle.std.specs.Prelude.{◌≡◌, fold};
+ghost use Rattle.pm_rows.specs.Wanted.{least, both, by_use, by_arming, by_hold, limit_by, required_by, with_row, nothing_wanted};
 
+use crate::modes::mode_in;
 use crate::row::Entry;
-use pm_base::Caps;
+use pm_base::{Caps, Mode};
 
 /// What the requirements in force on a slave come to: the capabilities that it must have, and the
 /// greatest latency that is allowed, if there is a limit.
@@ -24,16 +25,83 @@ fn least(a: Option<u32>, b: Option<u32>) -> Option<u32>
     }
 }
 
-/// What is wanted of a slave, and what this row wants of it besides, if it is used.
-pub(crate) fn with_row(slave: usize, wanted: Wanted, entry: &Entry) -> Wanted
-    ensures { result ≡ with_row slave wanted entry.now }
+fn both(a: Caps, b: Caps) -> Caps
+    ensures { result ≡ both a b }
 {
-    if entry.seed.slave == slave && entry.row.used {
+    Caps(a.0 | b.0)
+}
+
+impl Entry {
+    fn by_use(&self) -> Caps
+        ensures { result ≡ by_use self.now }
+    {
+        if self.row.used { self.row.now } else { Caps(0) }
+    }
+
+    fn by_arming(&self, mode: Mode) -> Caps
+        ensures { result ≡ by_arming mode self.now }
+    {
+        match (self.row.armed, mode) {
+            (Some(_), Mode::Asleep) => Caps(Caps::WAKEUP.0 & self.seed.all.0),
+            _ => Caps(0),
+        }
+    }
+
+    fn by_hold(&self) -> Caps
+        ensures { result ≡ by_hold self.now }
+    {
+        if self.row.hold {
+            self.seed.all
+        } else {
+            Caps(0)
+        }
+    }
+
+    /// What the row requires of its slave in a mode of its master.
+    fn required_by(&self, mode: Mode) -> Caps
+        ensures { result ≡ required_by mode self.now }
+    {
+        both(self.by_use(), both(self.by_arming(mode), self.by_hold()))
+    }
+
+    fn limit_by(&self) -> Option<u32>
+        ensures { result ≡ limit_by self.now }
+    {
+        if self.row.used {
+            self.row.latency
+        } else {
+            None
+        }
+    }
+}
+
+/// What is wanted of a slave, and what this row wants of it besides.
+fn with_row(slave: usize, modes: &[Mode], wanted: Wanted, entry: &Entry) -> Wanted
+    ensures { result ≡ with_row slave modes.now wanted entry.now }
+{
+    if entry.seed.slave == slave {
         Wanted {
-            caps: Caps(wanted.caps.0 | entry.row.now.0),
-            limit: least(wanted.limit, entry.row.latency),
+            caps: both(
+                wanted.caps,
+                entry.required_by(mode_in(modes, entry.seed.master)),
+            ),
+            limit: least(wanted.limit, entry.limit_by()),
         }
     } else {
         wanted
     }
+}
+
+/// What the rows on a slave require in all, in these modes of the masters.
+pub(crate) fn wanted_on(entries: &[Entry], modes: &[Mode], slave: usize) -> Wanted
+    ensures { result ≡ fold (with_row slave modes.now) nothing_wanted entries.now }
+{
+    let nothing = Wanted {
+        caps: Caps(0),
+        limit: None,
+    };
+    entries.iter().fold(
+        nothing,
+        |wanted, entry| with_row(slave, modes, wanted, entry),
+    )
 }
