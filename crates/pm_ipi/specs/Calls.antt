@@ -1,22 +1,78 @@
 -- The calls by their words (UG1200, API calls), and how each is acknowledged.
-use Rattle.std.specs.Prelude.{ℕ, ◌==◌, if◌then◌else◌, slice_index, Option, Some, None}
+use Rattle.std.specs.Prelude.{ℕ, ◌+◌, ◌*◌, ◌^◌, ◌==◌, if◌then◌else◌, slice_index, Option, Some, None}
+use Rattle.pm_base.specs.declared.caps.Caps.{Caps}
 use Rattle.pm_base.specs.declared.names.NodeId.{NodeId}
 use Rattle.pm_base.specs.declared.events.Message.{Message}
 use Rattle.pm_ipi.specs.declared.calls.Call.{Call}
-use Rattle.pm_ipi.specs.declared.calls.Call.TheVariants.{GetNodeStatus, RequestNode, ReleaseNode, Unknown}
+use Rattle.pm_ipi.specs.declared.calls.Call.TheVariants.{GetApiVersion, GetNodeStatus, SelfSuspend, AbortSuspend, RequestNode, ReleaseNode, SetRequirement, SetMaxLatency, InitFinalize, Unknown}
 use Rattle.pm_ipi.specs.declared.calls.AckKind.{AckKind}
 use Rattle.pm_ipi.specs.declared.calls.AckKind.TheVariants.{No, Blocking, NonBlocking}
 
-abbrev pub node_word : Message → NodeId
-node_word message = record { 0 = slice_index message.args 0 }
+-- the argument at a place of a message, counted from 0
+abbrev pub argument : Message → ℕ → ℕ
+argument message k = slice_index message.args k
 
--- 3 is GET_NODE_STATUS, 13 REQUEST_NODE with node, capabilities, quality of service and acknowledge
--- kind, 14 RELEASE_NODE
+-- an argument that is the number of a node
+abbrev pub node_word : Message → ℕ → NodeId
+node_word message k = record { 0 = argument message k }
+
+-- an argument that is a set of capabilities
+abbrev pub caps_word : Message → ℕ → Caps
+caps_word message k = record { 0 = argument message k }
+
+-- the address of which these are the low and the high word
+abbrev pub address_of : ℕ → ℕ → ℕ
+address_of low high = high * 2 ^ 32 + low
+
+-- GET_API_VERSION: no argument
+abbrev pub get_api_version : Message → Call
+get_api_version message = GetApiVersion
+
+-- GET_NODE_STATUS: the node
+abbrev pub get_node_status : Message → Call
+get_node_status message = GetNodeStatus (node_word message 0)
+
+-- SELF_SUSPEND: the processor, the latency and the state, which nothing depends on, and the low and the high word of the
+-- address at which it resumes
+abbrev pub self_suspend : Message → Call
+self_suspend message = SelfSuspend (node_word message 0) (address_of (argument message 3) (argument message 4))
+
+-- ABORT_SUSPEND: the reason, and then the processor
+abbrev pub abort_suspend : Message → Call
+abort_suspend message = AbortSuspend (node_word message 1) (argument message 0)
+
+-- REQUEST_NODE: the slave, the capabilities, the quality of service, which nothing depends on, and the acknowledge kind
+abbrev pub request_node : Message → Call
+request_node message = RequestNode (node_word message 0) (caps_word message 1) (argument message 3)
+
+-- RELEASE_NODE: the slave
+abbrev pub release_node : Message → Call
+release_node message = ReleaseNode (node_word message 0)
+
+-- SET_REQUIREMENT: the arguments of REQUEST_NODE
+abbrev pub set_requirement : Message → Call
+set_requirement message = SetRequirement (node_word message 0) (caps_word message 1) (argument message 3)
+
+-- SET_MAX_LATENCY: the slave and the latency
+abbrev pub set_max_latency : Message → Call
+set_max_latency message = SetMaxLatency (node_word message 0) (argument message 1)
+
+-- INIT_FINALIZE: no argument
+abbrev pub init_finalize : Message → Call
+init_finalize message = InitFinalize
+
+-- the call of a message, by its number
 abbrev pub call_of : Message → Call
 call_of message =
-    if message.api == 3 then GetNodeStatus (node_word message)
-    else if message.api == 13 then RequestNode (node_word message) (record { 0 = slice_index message.args 1 }) (slice_index message.args 3)
-    else if message.api == 14 then ReleaseNode (node_word message)
+    if message.api == 1 then get_api_version message
+    else if message.api == 3 then get_node_status message
+    else if message.api == 7 then self_suspend message
+    else if message.api == 9 then abort_suspend message
+    else if message.api == 13 then request_node message
+    else if message.api == 14 then release_node message
+    else if message.api == 15 then set_requirement message
+    else if message.api == 16 then set_max_latency message
+    else if message.api == 21 then init_finalize message
     else Unknown
 
 -- 1 wants nothing, 2 a reply, 3 the acknowledge callback
@@ -34,9 +90,11 @@ kind_or_reply (Some kind) = kind
 
 abbrev pub ack_of : Call → AckKind
 ack_of (RequestNode node caps ack) = kind_or_reply (ack_kind ack)
+ack_of (SetRequirement node caps ack) = kind_or_reply (ack_kind ack)
 ack_of _ = Blocking
 
 -- the node that the acknowledgement of a call names, for the calls that have an acknowledge kind
 abbrev pub node_of : Call → NodeId
 node_of (RequestNode node caps ack) = node
+node_of (SetRequirement node caps ack) = node
 node_of _ = record { 0 = 0 }

@@ -1,6 +1,9 @@
 -- The status words (UG1200, error codes of the power management API).
 use Rattle.std.specs.Prelude.{ℕ}
 
+abbrev pub failure : ℕ
+failure = 1
+
 abbrev pub invalid_parameter : ℕ
 invalid_parameter = 15
 

@@ -1,7 +1,7 @@
 //! The calls by their words (UG1200, API calls).
 
 ghost use Rattle.std.specs.Prelude.{◌≡◌};
-ghost use Rattle.pm_ipi.specs.Calls.{call_of, ack_kind, ack_of, node_of};
+ghost use Rattle.pm_ipi.specs.Calls.{call_of, address_of, ack_kind, ack_of, node_of};
 
 use pm_base::{Caps, Message, NodeId};
 
@@ -17,9 +17,20 @@ pub enum AckKind {
 /// A call (UG1200, API calls). Arguments that nothing depends on are left out.
 #[derive(Clone, Copy, Debug, PartialEq, Eq)]
 pub enum Call {
+    GetApiVersion,
     GetNodeStatus { node: NodeId },
+    /// The processor suspends, and resumes at the address.
+    SelfSuspend { node: NodeId, address: u64 },
+    /// The processor goes on in place of suspending.
+    AbortSuspend { node: NodeId, reason: u32 },
     RequestNode { node: NodeId, caps: Caps, ack: u32 },
     ReleaseNode { node: NodeId },
+    SetRequirement { node: NodeId, caps: Caps, ack: u32 },
+    /// The slave may take this long at most until it is in use again.
+    SetMaxLatency { node: NodeId, latency: u32 },
+    /// The master has requested all that it needs.
+    InitFinalize,
+    /// Any other number of a call.
     Unknown,
 }
 
@@ -27,17 +38,38 @@ pub enum Call {
 pub fn decode_call(message: &Message) -> Call
     ensures { result ≡ call_of message.now }
 {
-    let node = NodeId(message.args[0]);
+    let args = message.args;
+    let node = NodeId(args[0]);
+    let caps = Caps(args[1]);
+    let ack = args[3];
     match message.api {
+        1 => Call::GetApiVersion,
         3 => Call::GetNodeStatus { node },
-        13 => Call::RequestNode {
+        7 => Call::SelfSuspend {
             node,
-            caps: Caps(message.args[1]),
-            ack: message.args[3],
+            address: address(args[3], args[4]),
         },
+        9 => Call::AbortSuspend {
+            node: NodeId(args[1]),
+            reason: args[0],
+        },
+        13 => Call::RequestNode { node, caps, ack },
         14 => Call::ReleaseNode { node },
+        15 => Call::SetRequirement { node, caps, ack },
+        16 => Call::SetMaxLatency {
+            node,
+            latency: args[1],
+        },
+        21 => Call::InitFinalize,
         _ => Call::Unknown,
     }
+}
+
+/// The address of which these are the low and the high word.
+fn address(low: u32, high: u32) -> u64
+    ensures { result ≡ address_of low high }
+{
+    u64::from(high) * 0x1_0000_0000 + u64::from(low)
 }
 
 /// The acknowledge kind of an argument, where it is one.
@@ -58,7 +90,9 @@ impl Call {
         ensures { result ≡ ack_of self.now }
     {
         match self {
-            Call::RequestNode { ack, .. } => ack_kind(*ack).unwrap_or(AckKind::Blocking),
+            Call::RequestNode { ack, .. } | Call::SetRequirement { ack, .. } => {
+                ack_kind(*ack).unwrap_or(AckKind::Blocking)
+            }
             _ => AckKind::Blocking,
         }
     }
@@ -69,7 +103,7 @@ impl Call {
         ensures { result ≡ node_of self.now }
     {
         match self {
-            Call::RequestNode { node, .. } => *node,
+            Call::RequestNode { node, .. } | Call::SetRequirement { node, .. } => *node,
             _ => NodeId(0),
         }
     }

@@ -3,6 +3,8 @@
 
 /// The call was done.
 pub const SUCCESS: u32 = 0;
+/// The mode of the processor or of the master doesn't fit the call.
+pub const FAILURE: u32 = 1;
 /// An argument is outside its list.
 pub const INVALID_PARAMETER: u32 = 15;
 /// No such call, or a capability that the slave lacks.

@@ -1,2 +1,3 @@
+pub mod BootLemmas
 pub mod MeaningLemmas
 pub mod ScriptLemmas

@@ -2,7 +2,7 @@
 
 ghost use Rattle.std.specs.Prelude.{◌≡◌, ◌↔◌, ◌<◌, ◌≤◌, drop, length, slice_get, IsTrue};
 ghost use Rattle.pm_base.specs.Words.{words, word_texts};
-ghost use Rattle.pm_script.specs.Meaning.{meaning, ipi_meaning, given_number};
+ghost use Rattle.pm_script.specs.Meaning.{meaning, ipi_meaning, boot_meaning, wfi_meaning, given_number, given_address};
 
 use pm_base::{
     Event, Message, NodeId, TOO_LONG, is_plain, number, without_return, word, word_text,
@@ -14,7 +14,7 @@ use pm_base::{
 pub enum LineFault {
     /// The first word names no kind of line.
     Unknown = 1,
-    /// A word is no number, or doesn't fit 32 bits.
+    /// A word is no number, or doesn't fit 32 bits, or 64 bits where it is an address.
     Number = 2,
     /// There are too few or too many words.
     Count = 3,
@@ -24,8 +24,9 @@ pub enum LineFault {
     NotAscii = 5,
 }
 
-/// What a line without its line feed means. A line with no word is `Event::Pass`, and the line
-/// `ipi M API` with 0 to 5 arguments is a message of master M.
+/// What a line without its line feed means. A line with no word is `Event::Pass`; the line
+/// `ipi M API` with 0 to 5 arguments is a message of master M; in `boot P ADDRESS` a boot loader starts
+/// processor P at an address of 64 bits; and in `wfi P` processor P waits for an interrupt.
 pub fn parse_line(line: &[u8]) -> Result<Event, LineFault>
     ensures { result ≡ meaning line.now }
 {
@@ -38,6 +39,8 @@ pub fn parse_line(line: &[u8]) -> Result<Event, LineFault>
     match word_text(line, 0) {
         None => Ok(Event::Pass),
         Some(b"ipi") => parse_ipi(line),
+        Some(b"boot") => parse_boot(line),
+        Some(b"wfi") => parse_wfi(line),
         Some(_) => Err(LineFault::Unknown),
     }
 }
@@ -64,6 +67,29 @@ fn parse_ipi(line: &[u8]) -> Result<Event, LineFault>
     })
 }
 
+/// The start of a processor of a line `boot P ADDRESS`.
+fn parse_boot(line: &[u8]) -> Result<Event, LineFault>
+    ensures { result ≡ boot_meaning (drop 1 (word_texts line.now)) }
+{
+    if !has_words(line, 3, 3) {
+        return Err(LineFault::Count);
+    }
+    let proc = NodeId(number_at(line, 1)?);
+    let address = address_at(line, 2)?;
+    Ok(Event::Boot { proc, address })
+}
+
+/// The wait of a processor of a line `wfi P`.
+fn parse_wfi(line: &[u8]) -> Result<Event, LineFault>
+    ensures { result ≡ wfi_meaning (drop 1 (word_texts line.now)) }
+{
+    if !has_words(line, 2, 2) {
+        return Err(LineFault::Count);
+    }
+    let proc = NodeId(number_at(line, 1)?);
+    Ok(Event::Wfi { proc })
+}
+
 /// Whether the line has `least` to `most` words.
 fn has_words(line: &[u8], least: usize, most: usize) -> bool
     requires { 0 < least }
@@ -82,5 +108,15 @@ fn number_at(line: &[u8], k: usize) -> Result<u32, LineFault>
             Some(value) => Ok(value as u32),
             None => Err(LineFault::Number),
         },
+    }
+}
+
+/// The number of 64 bits of the word at place `k`. It is 0 where there is no such word.
+fn address_at(line: &[u8], k: usize) -> Result<u64, LineFault>
+    ensures { result ≡ given_address (slice_get (word_texts line.now) k) }
+{
+    match word_text(line, k) {
+        None => Ok(0),
+        Some(text) => number(text, u64::MAX).ok_or(LineFault::Number),
     }
 }

@@ -1,0 +1,2 @@
+pub mod MastersLaw
+pub mod ModeLemmas

@@ -1,0 +1,176 @@
+//! The processors of a chip, and the masters that have them.
+
+ghost use Rattle.std.specs.Prelude.{◌≡◌, IfOk, length, map, slice_set};
+ghost use Rattle.std.specs.List.{list_any};
+ghost use Rattle.pm_procs.specs.Modes.{has_mode, same_mode as is_same};
+ghost use Rattle.pm_procs.specs.Procs.{all_off, gone, master_mode, members_at, mode_at, off, proc_at, with_address, with_mode};
+
+use crate::modes::same_mode;
+use pm_base::{List, Mode, NoMemory};
+use pm_topology::Topology;
+use std::alloc::Global;
+use std::marker::Model;
+
+/// A processor: its mode, and the address at which it resumes. A processor that is off has address 0
+/// until it is given one.
+#[derive(Clone, Copy, Debug, PartialEq, Eq)]
+pub struct Proc {
+    pub mode: Mode,
+    pub address: u64,
+}
+
+impl Proc {
+    /// A processor that is off.
+    pub fn off() -> Proc
+        ensures { result ≡ off }
+    {
+        Proc {
+            mode: Mode::Off,
+            address: 0,
+        }
+    }
+
+    /// The processor after it went to a mode. One that goes off forgets its resume address.
+    pub fn gone(self, to: Mode) -> Proc
+        ensures { result ≡ gone to self }
+    {
+        match to {
+            Mode::Off => Proc::off(),
+            _ => Proc {
+                mode: to,
+                address: self.address,
+            },
+        }
+    }
+}
+
+/// The processors of a chip by their places in its table, and for each master the places of the
+/// processors that it has, its first one first.
+///
+/// A processor that isn't there is off, and a master that isn't there has no processors.
+#[derive(Debug, Drop)]
+pub struct Procs {
+    procs: Vec<Proc>,
+    members: List<List<usize>>,
+}
+
+impl Model for Procs {
+    ghost use Rattle.pm_procs.specs.Procs.{Procs};
+
+    ghost Value = { Procs };
+
+    ghost view = { λ procs. record { procs = procs.procs.items; members = procs.members } };
+}
+
+impl Procs {
+    /// The processors of a chip at load: all are off. `members` has for each master the places of its
+    /// processors.
+    ///
+    /// # Errors
+    ///
+    /// `NoMemory` where there is not enough memory.
+    pub fn load(alloc: Global, t: &Topology, members: List<List<usize>>) -> Result<Procs, NoMemory>
+        ensures procs { IfOk result (λ loaded. loaded.procs ≡ all_off (length t.now.procs)) }
+        ensures members { IfOk result (λ loaded. loaded.members ≡ members) }
+    {
+        let procs = all_off(alloc, t.procs.len())?;
+        Ok(Procs { procs, members })
+    }
+
+    /// The processor at a place.
+    pub fn proc(&self, p: usize) -> Proc
+        ensures { result ≡ proc_at p self.now.procs }
+    {
+        self.procs.get(p).copied().unwrap_or(Proc::off())
+    }
+
+    /// The mode of the processor at a place.
+    pub fn mode(&self, p: usize) -> Mode
+        ensures { result ≡ mode_at p self.now.procs }
+    {
+        self.proc(p).mode
+    }
+
+    /// The address at which the processor at a place resumes.
+    pub fn resume(&self, p: usize) -> u64
+        ensures { result ≡ (proc_at p self.now.procs).address }
+    {
+        self.proc(p).address
+    }
+
+    /// The processor at a place goes to a mode. Going off sets its resume address to 0. Nothing changes
+    /// where it isn't there.
+    pub fn put(&mut self, p: usize, to: Mode)
+        ensures { self.new ≡ record self.old { procs = with_mode p to self.old.procs } }
+    {
+        let proc = self.proc(p).gone(to);
+        self.set(p, proc);
+    }
+
+    /// The processor at a place resumes at an address from now on. Nothing changes where it isn't
+    /// there.
+    pub fn put_resume(&mut self, p: usize, address: u64)
+        ensures { self.new ≡ record self.old { procs = with_address p address self.old.procs } }
+    {
+        let mode = self.mode(p);
+        self.set(p, Proc { mode, address });
+    }
+
+    /// The processor at a place is this one from now on. Nothing changes where it isn't there.
+    pub fn set(&mut self, p: usize, proc: Proc)
+        ensures { self.new ≡ record self.old { procs = slice_set self.old.procs p proc } }
+    {
+        if p < self.procs.len() {
+            self.procs[p] = proc;
+        }
+    }
+
+    /// The places of a master's processors, its first one first.
+    pub fn members(&self, m: usize) -> &[usize]
+        ensures { result.now ≡ members_at m self.now.members }
+    {
+        if m < self.members.len() {
+            self.members.get(m).as_slice()
+        } else {
+            &[]
+        }
+    }
+
+    /// The mode of a master, by those of its processors (UG1137, subsystem states): active if one of
+    /// them is, else suspending if one is, else asleep if one is, else off.
+    pub fn master_mode(&self, m: usize) -> Mode
+        ensures { result ≡ master_mode m self.now }
+    {
+        if self.one_has_mode(m, Mode::Active) {
+            Mode::Active
+        } else if self.one_has_mode(m, Mode::Suspending) {
+            Mode::Suspending
+        } else if self.one_has_mode(m, Mode::Asleep) {
+            Mode::Asleep
+        } else {
+            Mode::Off
+        }
+    }
+
+    /// Whether one of a master's processors has this mode.
+    fn one_has_mode(&self, m: usize, mode: Mode) -> bool
+        ensures { result ≡ has_mode mode (map (λ p. mode_at p self.now.procs) (members_at m self.now.members)) }
+    {
+        self.one_of(self.members(m), mode)
+    }
+
+    /// Whether one of these processors has this mode.
+    fn one_of(&self, places: &[usize], mode: Mode) -> bool
+        ensures { result ≡ list_any (λ p. is_same mode (mode_at p self.now.procs)) places.now }
+    {
+        places.iter().any(|p| same_mode(mode, self.mode(*p)))
+    }
+}
+
+/// This many processors that are off.
+fn all_off(alloc: Global, count: usize) -> Result<Vec<Proc>, NoMemory>
+    ensures { IfOk result (λ procs. procs.items ≡ all_off count) }
+{
+    let procs = vec![in alloc; Proc::off(); count].map_err(|_| NoMemory)?;
+    Ok(procs)
+}
