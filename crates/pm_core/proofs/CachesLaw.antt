@@ -3,11 +3,10 @@ use Rattle.std.proofs.Common.{◌≡◌, ℕ, ◌+◌, ◌==◌, ◌||◌, Bool,
 use Rattle.std.specs.Prelude.{option_map}
 use Rattle.std.specs.List.{list_any}
 use Rattle.std.proofs.Math.Seq.{take-append_seam}
-use Rattle.pm_base.specs.declared.events.Event.{Event}
 use Rattle.pm_base.proofs.Booleans.{neither, equal}
 use Rattle.pm_base.proofs.Tests.{present_from}
 use Rattle.pm_base.specs.declared.names.NodeId.{NodeId}
-use Rattle.pm_base.specs.declared.names.Unit.{Unit as Place}
+use Rattle.pm_base.specs.declared.names.Unit.{Unit}
 use Rattle.pm_base.specs.declared.names.Unit.TheVariants.{Node, Line}
 use Rattle.pm_topology.specs.declared.topology.PowerDef.{PowerDef}
 use Rattle.pm_topology.specs.declared.topology.ProcDef.{ProcDef}
@@ -15,20 +14,20 @@ use Rattle.pm_topology.specs.declared.topology.SlaveDef.{SlaveDef}
 use Rattle.pm_topology.specs.declared.topology.Topology.{Topology}
 use Rattle.pm_topology.specs.declared.places.Kind.{Kind}
 use Rattle.pm_topology.specs.declared.places.Kind.TheVariants.{Proc, Slave, Power, Unknown}
-use Rattle.pm_topology.specs.Places.{kind_of, IsKind}
-use Rattle.pm_topology.specs.Units.{same_unit, has_in, has_unit}
+use Rattle.pm_topology.specs.Places.{KindLaws, kind_of, IsKind}
+use Rattle.pm_topology.specs.Units.{UnitLaws, same_unit, has_in, has_unit}
 use Rattle.pm_topology.specs.UnitMap.{units_in, value_of, all_at}
-use Rattle.pm_topology.proofs.KindLaw.{kind_of_is}
-use Rattle.pm_topology.proofs.UnitsLaw.{same_is, units_of-has}
 use Rattle.pm_power.specs.declared.child.Child.{Child}
 use Rattle.pm_power.specs.Forest.{Needs, ups}
 use Rattle.pm_power.specs.Needs.{child, children_of, with_needs}
 use Rattle.pm_core.specs.declared.caches.Caches.{Caches}
 use Rattle.pm_core.specs.Caches.{AreKept, HasPlaces, idle, kind_of_unit, kind_value, moved_by, revalued, valued, value_kept}
 use Rattle.pm_core.specs.State.{Fixed, CoreHalf, State}
-use Rattle.pm_core.specs.Step.{effect}
+use Rattle.pm_procs.specs.declared.procs.Proc.{Proc as Processor}
+use Rattle.pm_procs.specs.Modes.{is_awake}
+use Rattle.pm_procs.specs.Procs.{mode_at}
 use Rattle.pm_core.specs.Units.{units, moved}
-use Rattle.pm_core.specs.Values.{placed, chosen, need_of, slave_child, proc_child, forest, state_at, value_at, value}
+use Rattle.pm_core.specs.Values.{placed, chosen, need_of, run_of, slave_child, proc_child, forest, state_at, value_at, value}
 use Rattle.pm_core.proofs.MovesLemmas.{revalued_all, valued_same, moved_all}
 use Rattle.pm_core.proofs.PlacedLemmas.{slice_get-placed, length-placed}
 
@@ -39,27 +38,27 @@ chosen_or_0 core s None = refl
 chosen_or_0 core s (Some slave) = refl
 
 -- the value of a unit by its kind, from what is kept of slaves and power nodes
-pub kind_value_is : (fixed : Fixed) (core : CoreHalf) (states : List ℕ) (up : List Bool) → states ≡ placed (chosen core) 0 fixed.topology.slaves → up ≡ ups (forest fixed core) → (kind : Kind) → kind_value states up kind ≡ value_at kind fixed core
-kind_value_is fixed core states up states_are ups_are (Slave s) =
+pub kind_value_is : (fixed : Fixed) (core : CoreHalf) (states : List ℕ) (procs : List Processor) (up : List Bool) → states ≡ placed (chosen core) 0 fixed.topology.slaves → procs ≡ core.procs → up ≡ ups (forest fixed core) → (kind : Kind) → kind_value states procs up kind ≡ value_at kind fixed core
+kind_value_is fixed core states procs up states_are procs_are ups_are (Slave s) =
     ap (λ xs. unwrap_or (slice_get xs s) 0) states_are
     ∙ (ap (λ o. unwrap_or o 0) (slice_get-placed (chosen core) 0 fixed.topology.slaves s s (omega arith))
     ∙ chosen_or_0 core s (slice_get fixed.topology.slaves s))
-kind_value_is fixed core states up states_are ups_are (Power w) = ap (λ xs. cond (unwrap_or (slice_get xs w) false) 1 0) ups_are
-kind_value_is fixed core states up states_are ups_are (Proc p) = refl
-kind_value_is fixed core states up states_are ups_are Unknown = refl
+kind_value_is fixed core states procs up states_are procs_are ups_are (Power w) = ap (λ xs. cond (unwrap_or (slice_get xs w) false) 1 0) ups_are
+kind_value_is fixed core states procs up states_are procs_are ups_are (Proc p) = ap (λ ps. cond (is_awake (mode_at p ps)) 1 0) procs_are
+kind_value_is fixed core states procs up states_are procs_are ups_are Unknown = refl
 
-pub unit_value_is : (book : State) (u : Place) → value_at (kind_of_unit book.fixed.topology u) book.fixed book.now.core ≡ value u book
+pub unit_value_is : (book : State) (u : Unit) → value_at (kind_of_unit book.fixed.topology u) book.fixed book.now.core ≡ value u book
 unit_value_is book (Node node) = refl
 unit_value_is book (Line line) = refl
 
-entry_at : (b : Bool) (u unit : Place) (value_by : Place → ℕ) (later : List (Place × ℕ)) (rest : Bool) → same_unit u unit ≡ b → unwrap_or (value_of later unit) 0 ≡ (if rest then value_by unit else 0) → unwrap_or (if b then Some (value_by u) else value_of later unit) 0 ≡ (if (b || rest) then value_by unit else 0)
-entry_at true u unit value_by later rest is kept = ap value_by (same_is u unit is)
-entry_at false u unit value_by later rest is kept = kept
+entry_at : UnitLaws → (b : Bool) (u unit : Unit) (value_by : Unit → ℕ) (later : List (Unit × ℕ)) (rest : Bool) → same_unit u unit ≡ b → unwrap_or (value_of later unit) 0 ≡ (if rest then value_by unit else 0) → unwrap_or (if b then Some (value_by u) else value_of later unit) 0 ≡ (if (b || rest) then value_by unit else 0)
+entry_at laws true u unit value_by later rest is kept = ap value_by (laws.same u unit is)
+entry_at laws false u unit value_by later rest is kept = kept
 
-entries_hold : (value_by : Place → ℕ) (us : List Place) (unit : Place) → value_kept unit (map (λ u. (u, value_by u)) us) ≡ (if has_in us unit then value_by unit else 0)
-entries_hold value_by [] unit = refl
-entries_hold value_by (u ∷ us) unit =
-    entry_at (same_unit u unit) u unit value_by (map (λ u. (u, value_by u)) us) (has_in us unit) refl (entries_hold value_by us unit)
+entries_hold : UnitLaws → (value_by : Unit → ℕ) (us : List Unit) (unit : Unit) → value_kept unit (map (λ u. (u, value_by u)) us) ≡ (if has_in us unit then value_by unit else 0)
+entries_hold laws value_by [] unit = refl
+entries_hold laws value_by (u ∷ us) unit =
+    entry_at laws (same_unit u unit) u unit value_by (map (λ u. (u, value_by u)) us) (has_in us unit) refl (entries_hold laws value_by us unit)
 
 -- a unit that isn't there has the value 0
 none_at : (book : State) (node : NodeId) (kind : Kind) → IsKind book.fixed.topology node kind → has_unit book.fixed.topology (Node node) ≡ false → value_at kind book.fixed book.now.core ≡ 0
@@ -78,24 +77,31 @@ none_at book node (Power w) is none =
     present_from (λ (p : PowerDef). p.node.0 == node.0) t.powers w is.0 is.1 (equal is.0.node.0 node.0 is.2)
     in
     cc
-none_at book node (Proc p) is none = refl
+none_at book node (Proc p) is none =
+    let t : Topology = book.fixed.topology in
+    let rest = neither (list_any (λ (p : PowerDef). p.node.0 == node.0) t.powers) _ none in
+    let procs = neither (list_any (λ (p : ProcDef). p.node.0 == node.0) t.procs) (list_any (λ (s : SlaveDef). s.node.0 == node.0) t.slaves) rest.1 in
+    let there : list_any (λ (p : ProcDef). p.node.0 == node.0) t.procs ≡ true =
+    present_from (λ (p : ProcDef). p.node.0 == node.0) t.procs p is.0 is.1 (equal is.0.node.0 node.0 is.2)
+    in
+    cc
 none_at book node Unknown is none = refl
 
 or_none : (b : Bool) (n : ℕ) → (b ≡ false → n ≡ 0) → (if b then n else 0) ≡ n
 or_none true n none = refl
 or_none false n none = sym (none refl)
 
-none_there : (book : State) (u : Place) → has_unit book.fixed.topology u ≡ false → value u book ≡ 0
-none_there book (Node node) none = none_at book node (kind_of book.fixed.topology node) (kind_of_is book.fixed.topology node) none
-none_there book (Line line) none = refl
+none_there : KindLaws → (book : State) (u : Unit) → has_unit book.fixed.topology u ≡ false → value u book ≡ 0
+none_there laws book (Node node) none = none_at book node (kind_of book.fixed.topology node) (laws.is book.fixed.topology node) none
+none_there laws book (Line line) none = refl
 
 -- the value of a unit is what is kept of it
-pub kept_value : (book : State) (caches : Caches) (unit : Place) → AreKept book caches → value_kept unit caches.values ≡ value unit book
-kept_value book caches unit kept =
+pub kept_value : UnitLaws → KindLaws → (book : State) (caches : Caches) (unit : Unit) → AreKept book caches → value_kept unit caches.values ≡ value unit book
+kept_value units_hold kinds_hold book caches unit kept =
     ap (value_kept unit) kept.values
-    ∙ (entries_hold (λ u. value u book) (units book) unit
-    ∙ (ap (λ b. if b then value unit book else 0) (units_of-has book.fixed.topology unit)
-    ∙ or_none (has_unit book.fixed.topology unit) (value unit book) (none_there book unit)))
+    ∙ (entries_hold units_hold (λ u. value u book) (units book) unit
+    ∙ (ap (λ b. if b then value unit book else 0) (units_hold.found book.fixed.topology unit)
+    ∙ or_none (has_unit book.fixed.topology unit) (value unit book) (none_there kinds_hold book unit)))
 
 -- ---- the power nodes
 
@@ -104,23 +110,26 @@ idle_needs needs [] = refl
 idle_needs [] (c ∷ cs) = ap (λ xs. child c.node c.parent false ∷ xs) (idle_needs [] cs)
 idle_needs (need ∷ needs) (c ∷ cs) = ap (λ xs. child c.node c.parent need ∷ xs) (idle_needs needs cs)
 
-slaves_need : (core : CoreHalf) (k : ℕ) (slaves : List SlaveDef) (rest : List Child) → with_needs (placed (need_of core) k slaves) (map (λ s. child s.node s.parent false) slaves ++ rest) ≡ placed (slave_child core) k slaves ++ with_needs [] rest
-slaves_need core k [] rest = refl
-slaves_need core k (x ∷ xs) rest = ap (λ cs. slave_child core k x ∷ cs) (slaves_need core (k + 1) xs rest)
+slaves_need : (core : CoreHalf) (k : ℕ) (slaves : List SlaveDef) (more : List Bool) (rest : List Child) → with_needs (placed (need_of core) k slaves ++ more) (map (λ s. child s.node s.parent false) slaves ++ rest) ≡ placed (slave_child core) k slaves ++ with_needs more rest
+slaves_need core k [] more rest = refl
+slaves_need core k (x ∷ xs) more rest = ap (λ cs. slave_child core k x ∷ cs) (slaves_need core (k + 1) xs more rest)
 
-procs_need : (procs : List ProcDef) → with_needs [] (map proc_child procs) ≡ map proc_child procs
-procs_need [] = refl
-procs_need (x ∷ xs) = ap (λ cs. proc_child x ∷ cs) (procs_need xs)
+procs_need : (core : CoreHalf) (k : ℕ) (procs : List ProcDef) → with_needs (placed (run_of core) k procs) (map (λ p. child p.node p.parent false) procs) ≡ placed (proc_child core) k procs
+procs_need core k [] = refl
+procs_need core k (x ∷ xs) = ap (λ cs. proc_child core k x ∷ cs) (procs_need core (k + 1) xs)
 
--- the power nodes, once the needs of all slaves are set by the book
-pub forest_is : (fixed : Fixed) (core : CoreHalf) (old : Needs) (needs : List Bool) → needs ≡ placed (need_of core) 0 fixed.topology.slaves → old.powers ≡ fixed.topology.powers → map idle old.children ≡ children_of fixed.topology (λ _. false) → record old { children = with_needs needs old.children } ≡ forest fixed core
-forest_is fixed core old needs are powers children =
-    let all : with_needs needs old.children ≡ placed (slave_child core) 0 fixed.topology.slaves ++ map proc_child fixed.topology.procs =
-    idle_needs needs old.children
-    ∙ (ap (with_needs needs) children
-    ∙ (ap (λ ns. with_needs ns (children_of fixed.topology (λ _. false))) are
-    ∙ (slaves_need core 0 fixed.topology.slaves (map proc_child fixed.topology.procs)
-    ∙ ap (λ cs. placed (slave_child core) 0 fixed.topology.slaves ++ cs) (procs_need fixed.topology.procs))))
+-- the power nodes, once the needs of all slaves and processors are set by the book
+pub forest_is : (fixed : Fixed) (core : CoreHalf) (old : Needs) (needs running : List Bool) → needs ≡ placed (need_of core) 0 fixed.topology.slaves → running ≡ placed (run_of core) 0 fixed.topology.procs → old.powers ≡ fixed.topology.powers → map idle old.children ≡ children_of fixed.topology (λ _. false) → record old { children = with_needs (needs ++ running) old.children } ≡ forest fixed core
+forest_is fixed core old needs running are run powers children =
+    let t : Topology = fixed.topology in
+    let idle_procs : List Child = map (λ p. child p.node p.parent false) t.procs in
+    let all : with_needs (needs ++ running) old.children ≡ placed (slave_child core) 0 t.slaves ++ placed (proc_child core) 0 t.procs =
+    idle_needs (needs ++ running) old.children
+    ∙ (ap (with_needs (needs ++ running)) children
+    ∙ (ap (λ ns. with_needs (ns ++ running) (children_of t (λ _. false))) are
+    ∙ (ap (λ rs. with_needs (placed (need_of core) 0 t.slaves ++ rs) (children_of t (λ _. false))) run
+    ∙ (slaves_need core 0 t.slaves (placed (run_of core) 0 t.procs) idle_procs
+    ∙ ap (λ cs. placed (slave_child core) 0 t.slaves ++ cs) (procs_need core 0 t.procs)))))
     in
     cc
 
@@ -128,35 +137,40 @@ slaves_idle : (core : CoreHalf) (k : ℕ) (slaves : List SlaveDef) (rest : List 
 slaves_idle core k [] rest = refl
 slaves_idle core k (x ∷ xs) rest = ap (λ cs. child x.node x.parent false ∷ cs) (slaves_idle core (k + 1) xs rest)
 
+procs_idle : (core : CoreHalf) (k : ℕ) (procs : List ProcDef) → map idle (placed (proc_child core) k procs) ≡ map (λ p. child p.node p.parent false) procs
+procs_idle core k [] = refl
+procs_idle core k (x ∷ xs) = ap (λ cs. child x.node x.parent false ∷ cs) (procs_idle core (k + 1) xs)
+
 idle_slaves : (slaves : List SlaveDef) (rest : List Child) → map idle (map (λ s. child s.node s.parent false) slaves ++ rest) ≡ map (λ s. child s.node s.parent false) slaves ++ map idle rest
 idle_slaves [] rest = refl
 idle_slaves (x ∷ xs) rest = ap (λ cs. child x.node x.parent false ∷ cs) (idle_slaves xs rest)
 
-procs_idle : (procs : List ProcDef) → map idle (map proc_child procs) ≡ map proc_child procs
-procs_idle [] = refl
-procs_idle (x ∷ xs) = ap (λ cs. proc_child x ∷ cs) (procs_idle xs)
+idle_procs : (procs : List ProcDef) → map idle (map (λ p. child p.node p.parent false) procs) ≡ map (λ p. child p.node p.parent false) procs
+idle_procs [] = refl
+idle_procs (x ∷ xs) = ap (λ cs. child x.node x.parent false ∷ cs) (idle_procs xs)
 
 -- before any need is set
 pub idle_is : (t : Topology) → map idle (children_of t (λ _. false)) ≡ children_of t (λ _. false)
 idle_is t =
-    idle_slaves t.slaves (map proc_child t.procs) ∙ ap (λ cs. map (λ s. child s.node s.parent false) t.slaves ++ cs) (procs_idle t.procs)
+    idle_slaves t.slaves (map (λ p. child p.node p.parent false) t.procs)
+    ∙ ap (λ cs. map (λ s. child s.node s.parent false) t.slaves ++ cs) (idle_procs t.procs)
 
 forest_idle : (fixed : Fixed) (core : CoreHalf) → map idle (forest fixed core).children ≡ children_of fixed.topology (λ _. false)
 forest_idle fixed core =
-    slaves_idle core 0 fixed.topology.slaves (map proc_child fixed.topology.procs)
-    ∙ ap (λ cs. map (λ s. child s.node s.parent false) fixed.topology.slaves ++ cs) (procs_idle fixed.topology.procs)
+    slaves_idle core 0 fixed.topology.slaves (placed (proc_child core) 0 fixed.topology.procs)
+    ∙ ap (λ cs. map (λ s. child s.node s.parent false) fixed.topology.slaves ++ cs) (procs_idle core 0 fixed.topology.procs)
 
 -- ---- the tables
 
-units_of_valued : (value_by : Place → ℕ) (us : List Place) → units_in (map (λ u. (u, value_by u)) us) ≡ us
+units_of_valued : (value_by : Unit → ℕ) (us : List Unit) → units_in (map (λ u. (u, value_by u)) us) ≡ us
 units_of_valued value_by [] = refl
 units_of_valued value_by (u ∷ us) = ap (λ xs. u ∷ xs) (units_of_valued value_by us)
 
-pub length-units_in : (es : List (Place × ℕ)) → length (units_in es) ≡ length es
+pub length-units_in : (es : List (Unit × ℕ)) → length (units_in es) ≡ length es
 length-units_in [] = refl
 length-units_in (e ∷ es) = let later : length (units_in es) ≡ length es = length-units_in es in omega arith
 
-pub zeros_units : (us : List Place) → units_in {T = ℕ} (all_at 0 us) ≡ us
+pub zeros_units : (us : List Unit) → units_in {T = ℕ} (all_at 0 us) ≡ us
 zeros_units us = units_of_valued (λ _. 0) us
 
 -- what is kept of a book has the places of its chip
@@ -167,20 +181,22 @@ kept_places book caches t same kept =
       kinds = kept.kinds;
       states = ap length kept.states ∙ length-placed (chosen book.now.core) 0 book.fixed.topology.slaves;
       needs = ap length kept.needs ∙ length-placed (need_of book.now.core) 0 book.fixed.topology.slaves;
+      runs = ap length kept.runs ∙ length-placed (run_of book.now.core) 0 book.fixed.topology.procs;
       powers = ap (λ (n : Needs). n.powers) kept.power;
       children = ap (λ (n : Needs). map idle n.children) kept.power ∙ forest_idle book.fixed book.now.core;
       units = ap units_in kept.values ∙ units_of_valued (λ u. value u book) (units book);
     })
 
 -- each unit with its value, once the values are written by the kinds
-pub valued_is : (book : State) (states : List ℕ) (up : List Bool) (kinds : List Kind) (es : List (Place × ℕ)) → states ≡ placed (chosen book.now.core) 0 book.fixed.topology.slaves → up ≡ ups (forest book.fixed book.now.core) → units_in es ≡ units book → kinds ≡ map (kind_of_unit book.fixed.topology) (units book) → revalued (kind_value states up) kinds es ≡ valued book
-valued_is book states up kinds es states_are ups_are units_are kinds_are =
-    let kind_in : Place → Kind = kind_of_unit book.fixed.topology in
+pub valued_is : (book : State) (states : List ℕ) (procs : List Processor) (up : List Bool) (kinds : List Kind) (es : List (Unit × ℕ)) → states ≡ placed (chosen book.now.core) 0 book.fixed.topology.slaves → procs ≡ book.now.core.procs → up ≡ ups (forest book.fixed book.now.core) → units_in es ≡ units book → kinds ≡ map (kind_of_unit book.fixed.topology) (units book) → revalued (kind_value states procs up) kinds es ≡ valued book
+valued_is book states procs up kinds es states_are procs_are ups_are units_are kinds_are =
+    let kind_in : Unit → Kind = kind_of_unit book.fixed.topology in
+    let new : Kind → ℕ = kind_value states procs up in
     let kinds_in : kinds ≡ map kind_in (units_in es) = kinds_are ∙ ap (map kind_in) (sym units_are) in
-    ap (λ ks. revalued (kind_value states up) ks es) kinds_in
-    ∙ (revalued_all (kind_value states up) kind_in es
-    ∙ (valued_same (λ u. kind_value states up (kind_in u)) (λ u. value u book)
-    (λ u. kind_value_is book.fixed book.now.core states up states_are ups_are (kind_in u) ∙ unit_value_is book u) (units_in es)
+    ap (λ ks. revalued new ks es) kinds_in
+    ∙ (revalued_all new kind_in es
+    ∙ (valued_same (λ u. new (kind_in u)) (λ u. value u book)
+    (λ u. kind_value_is book.fixed book.now.core states procs up states_are procs_are ups_are (kind_in u) ∙ unit_value_is book u) (units_in es)
     ∙ ap (map (λ u. (u, value u book))) units_are))
 
 -- a slice of all of a list that was written is what was written
@@ -191,14 +207,9 @@ written_back new old n places =
 -- ---- what moves
 
 -- the units that move from these values before to those of the book
-pub moves_are : (book : State) (before : Place → ℕ) (kinds : List Kind) (values : List (Place × ℕ)) → kinds ≡ map (kind_of_unit book.fixed.topology) (units book) → values ≡ map (λ u. (u, before u)) (units book) → moved_by (λ kind. value_at kind book.fixed book.now.core) kinds values ≡ moved before book
+pub moves_are : (book : State) (before : Unit → ℕ) (kinds : List Kind) (values : List (Unit × ℕ)) → kinds ≡ map (kind_of_unit book.fixed.topology) (units book) → values ≡ map (λ u. (u, before u)) (units book) → moved_by (λ kind. value_at kind book.fixed book.now.core) kinds values ≡ moved before book
 moves_are book before kinds values kinds_are values_are =
     let new : Kind → ℕ = λ kind. value_at kind book.fixed book.now.core in
     ap (λ ks. moved_by new ks values) kinds_are
     ∙ (ap (moved_by new (map (kind_of_unit book.fixed.topology) (units book))) values_are
     ∙ moved_all new (kind_of_unit book.fixed.topology) before (λ u. value u book) (unit_value_is book) (units book))
-
-pub step_moves : (event : Event) (old new : State) (kinds : List Kind) (values : List (Place × ℕ)) → new ≡ effect event old → kinds ≡ map (kind_of_unit old.fixed.topology) (units old) → values ≡ valued old → moved_by (λ kind. value_at kind new.fixed new.now.core) kinds values ≡ moved (λ u. value u old) (effect event old)
-step_moves event old new kinds values is kinds_are values_are =
-    ap (λ (b : State). moved_by (λ kind. value_at kind b.fixed b.now.core) kinds values) is
-    ∙ moves_are (effect event old) (λ u. value u old) kinds values kinds_are values_are

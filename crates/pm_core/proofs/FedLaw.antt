@@ -1,11 +1,12 @@
 -- In the values of a book each node that needs power stands under a power node that is up.
-use Rattle.std.proofs.Common.{◌≡◌, ℕ, ◌≤◌, ◌==◌, ◌⊎◌, Bool, true, false, cond, map, slice_get, Option, Some, None, refl, arith, ap, sym, ◌∙◌, subst, inl, inr}
+use Rattle.std.proofs.Common.{◌≡◌, ℕ, ◌+◌, ◌≤◌, ◌==◌, ◌⊎◌, Bool, true, false, cond, slice_get, Option, Some, None, refl, arith, ap, sym, ◌∙◌, subst, length, inl, inr}
 use Rattle.std.specs.Option.{option_map_or}
 use Rattle.std.specs.Prelude.{option_map, option_and_then}
-use Rattle.pm_base.proofs.ListLemmas.{slice_get-append_left}
+use Rattle.pm_base.proofs.Booleans.{at_most_one}
+use Rattle.pm_base.proofs.ListLemmas.{slice_get-append_left, slice_get-append_right}
 use Rattle.pm_topology.specs.declared.topology.PowerDef.{PowerDef}
+use Rattle.pm_topology.specs.declared.topology.ProcDef.{ProcDef}
 use Rattle.pm_topology.specs.declared.topology.SlaveDef.{SlaveDef}
-use Rattle.pm_topology.specs.declared.topology.Topology.{Topology}
 use Rattle.pm_topology.specs.declared.places.Kind.{Kind}
 use Rattle.pm_topology.specs.declared.places.Kind.TheVariants.{Proc, Slave, Power, Unknown}
 use Rattle.pm_topology.specs.Places.{kind_of, parent_at}
@@ -14,7 +15,8 @@ use Rattle.pm_topology.specs.WellFormed.{IsWellFormed}
 use Rattle.pm_power.specs.Forest.{is_up, IsHeld, ChildNeeds, PowerNeeds}
 use Rattle.pm_core.specs.Fed.{IsFed}
 use Rattle.pm_core.specs.State.{State}
-use Rattle.pm_core.specs.Values.{placed, state_at, slave_child, proc_child, forest, value_at, value}
+use Rattle.pm_core.specs.Values.{placed, runs, state_at, slave_child, proc_child, forest, value_at, value}
+use Rattle.pm_core.proofs.Below.{ValueLaws}
 use Rattle.pm_core.proofs.MetLaw.{power_value, power_meets}
 use Rattle.pm_core.proofs.PlacedLemmas.{slice_get-placed}
 
@@ -32,8 +34,29 @@ slave_feeds book s w (Some slave) here parent need =
     in (
       s,
       slave_child core s slave,
-      slice_get-append_left (placed (slave_child core) 0 book.fixed.topology.slaves) (map proc_child book.fixed.topology.procs) s (slave_child core s slave) made,
+      slice_get-append_left (placed (slave_child core) 0 book.fixed.topology.slaves) (placed (proc_child core) 0 book.fixed.topology.procs) s (slave_child core s slave) made,
       (let e : Some slave.parent ≡ Some w = parent in cc),
+      need,
+    )
+
+-- a processor that runs is one, too
+proc_feeds : (book : State) (p w : ℕ) (got : Option ProcDef)
+    → slice_get book.fixed.topology.procs p ≡ got
+    → option_map (λ (p : ProcDef). p.parent) got ≡ Some w
+    → runs book.now.core p ≡ true
+    → ChildNeeds (forest book.fixed book.now.core) w
+proc_feeds book p w None here parent need = cc
+proc_feeds book p w (Some proc) here parent need =
+    let core = book.now.core in
+    let slaves = placed (slave_child core) 0 book.fixed.topology.slaves in
+    let procs = placed (proc_child core) 0 book.fixed.topology.procs in
+    let made : slice_get procs p ≡ Some (proc_child core p proc) =
+    slice_get-placed (proc_child core) 0 book.fixed.topology.procs p p (omega arith) ∙ ap (option_map (proc_child core p)) here
+    in (
+      length slaves + p,
+      proc_child core p proc,
+      slice_get-append_right slaves procs p ∙ made,
+      (let e : Some proc.parent ≡ Some w = parent in cc),
       need,
     )
 
@@ -59,25 +82,15 @@ pub feeds : (book : State) (kind : Kind) (w : ℕ)
 feeds book (Slave s) w well parent need = inr (inl (slave_feeds book s w (slice_get book.fixed.topology.slaves s) refl parent need))
 feeds book (Power v) w well parent need =
     inr (inr (power_feeds book v w (slice_get book.fixed.topology.powers v) refl parent (one_where (is_up (forest book.fixed book.now.core) v) need)))
-feeds book (Proc p) w well parent need = cc
+feeds book (Proc p) w well parent need =
+    inr (inl (proc_feeds book p w (slice_get book.fixed.topology.procs p) refl parent (one_where (runs book.now.core p) need)))
 feeds book Unknown w well parent need = cc
 
-is_bit : (b : Bool) → cond b 1 0 ≤ 1
-is_bit true = omega arith
-is_bit false = omega arith
-
-pub values_fed : (book : State) → IsWellFormed book.fixed.topology → IsFed book.fixed.topology (λ u. value u book)
-values_fed book well =
+pub values_fed : ValueLaws → (book : State) → IsWellFormed book.fixed.topology → IsFed book.fixed.topology (λ u. value u book)
+values_fed laws book well =
     record {
-      fed = λ node w power parent here need. (power_meets w book power well here).1 (feeds book (kind_of book.fixed.topology node) w well parent need);
+      fed = λ node w power parent here need. (power_meets laws w book power well here).1 (feeds book (kind_of book.fixed.topology node) w well parent need);
       up_or_down = λ w power here.
           let P : ℕ → Type 0 = λ n. n ≤ 1 in
-          subst P (sym (power_value w book power well here)) (is_bit (is_up (forest book.fixed book.now.core) w));
+          subst P (sym (power_value laws w book power well here)) (at_most_one (is_up (forest book.fixed book.now.core) w));
     }
-
--- the same over the parts of the chip that a book has
-pub parts_fed : (book : State) (t : Topology) → IsWellFormed t → t ≡ book.fixed.topology → IsFed t (λ u. value u book)
-parts_fed book t well same =
-    let P : Topology → Type 0 = λ t. IsWellFormed t in
-    let Q : Topology → Type 0 = λ t. IsFed t (λ u. value u book) in
-    subst Q (sym same) (values_fed book (subst P same well))

@@ -7,7 +7,7 @@ use Rattle.pm_core.specs.Outcome.{Deed, Check, judged, must, must_be_free}
 abbrev pub passes : Check → Bool
 passes check = is_none check
 
-pub judged_either : (checks : List Check) (outcome : Deed) → (IsTrue (list_all passes checks) × ((judged checks outcome).changes ≡ outcome.changes)) ⊎ ((judged checks outcome).changes ≡ [])
+pub judged_either : (checks : List Check) (outcome : Deed) → (IsTrue (list_all passes checks) × ((judged checks outcome).stages ≡ outcome.stages)) ⊎ ((judged checks outcome).stages ≡ [])
 judged_either [] outcome = inl (refl, refl)
 judged_either (None ∷ checks) outcome = judged_either checks outcome
 judged_either (Some response ∷ checks) outcome = inr refl

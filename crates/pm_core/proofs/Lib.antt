@@ -1,8 +1,12 @@
+pub mod Below
 pub mod CachesLaw
 pub mod Each
 pub mod FedLaw
+pub mod FollowLemmas
 pub mod Full
 pub mod Judged
+pub mod LoadLaw
+pub mod MembersLaw
 pub mod MetLaw
 pub mod MovesLemmas
 pub mod NeededLaw
@@ -10,6 +14,10 @@ pub mod PairsLaw
 pub mod Permitted
 pub mod PlacedLemmas
 pub mod Refused
+pub mod RowLaws
 pub mod RunLaw
 pub mod SoundSteps
+pub mod StageLaw
+pub mod StartsLaw
+pub mod StepLaw
 pub mod Wants

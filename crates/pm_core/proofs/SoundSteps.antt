@@ -1,126 +1,229 @@
--- The book at load is sound, and each step keeps it so.
-use Rattle.std.proofs.Common.{◌≡◌, ℕ, Bool, true, false, not, ◌&&◌, ◌==◌, IsTrue, List, [], ◌∷◌, is_some, Option, Some, None, refl, sym, subst, inl, inr}
-use Rattle.std.specs.Prelude.{option_map}
+-- Each step keeps the book sound.
+use Rattle.std.proofs.Common.{◌≡◌, ◌≢◌, ℕ, ◌<◌, Bool, true, false, not, ◌&&◌, ◌==◌, if◌then◌else◌, IsTrue, List, length, is_some, Option, Some, None, refl, sym, subst, inl, inr}
+use Rattle.std.specs.Prelude.{option_and_then, option_map}
 use Rattle.std.specs.List.{list_all}
+use Rattle.std.proofs.lemmas.List.Quantifiers.{position-Some}
 use Rattle.pm_base.specs.declared.caps.Caps.{Caps}
 use Rattle.pm_base.specs.declared.events.Event.{Event}
-use Rattle.pm_base.specs.declared.events.Event.TheVariants.{Ipi}
-use Rattle.pm_object.specs.declared.object.Object.{Object}
+use Rattle.pm_base.specs.declared.events.Event.TheVariants.{Ipi, Boot, Wfi}
+use Rattle.pm_base.specs.declared.events.Message.{Message}
+use Rattle.pm_base.specs.declared.names.Mode.{Mode}
+use Rattle.pm_base.specs.declared.names.Mode.TheVariants.{Off, Active, Asleep, Suspending}
 use Rattle.pm_ipi.specs.declared.calls.Call.{Call}
-use Rattle.pm_ipi.specs.declared.calls.Call.TheVariants.{RequestNode, ReleaseNode}
-use Rattle.pm_rows.specs.declared.row.Entry.{Entry}
-use Rattle.pm_rows.specs.declared.row.Change.{Change}
-use Rattle.pm_rows.specs.declared.row.Change.TheVariants.{Request, Release}
-use Rattle.pm_core.specs.declared.views.RowView.{RowView}
-use Rattle.pm_rows.specs.Rows.{has_all, rival_of, entry_at}
-use Rattle.pm_rows.specs.Sound.{IsFit}
-use Rattle.pm_rows.proofs.Bits.{has_all_nothing}
-use Rattle.pm_rows.proofs.Kept.{change_keeps}
-use Rattle.pm_rows.proofs.There as rows
-use Rattle.pm_topology.specs.declared.topology.Topology.{Topology}
-use Rattle.pm_core.specs.Pairs.{pairs_of}
-use Rattle.pm_core.specs.Load.{load_of}
-use Rattle.pm_core.specs.Prims.{Prim, At_row, changed}
-use Rattle.pm_core.specs.Outcome.{Deed, Check, judged, outcome_of, done, must, must_be_free}
-use Rattle.pm_ipi.specs.Status.{invalid_parameter, no_feature, double_request}
+use Rattle.pm_ipi.specs.declared.calls.Call.TheVariants.{SelfSuspend, AbortSuspend, RequestNode, ReleaseNode, SetRequirement, SetMaxLatency, InitFinalize, Unknown as Other}
 use Rattle.pm_ipi.specs.Calls.{call_of, ack_kind}
-use Rattle.pm_core.specs.Values.{slave_place, master_place}
-use Rattle.pm_core.specs.Views.{row_view_at, rival_node, master_node}
-use Rattle.pm_core.specs.calls.RequestNode.{request_node, request_checks}
-use Rattle.pm_core.specs.calls.ReleaseNode.{release_node, release_checks}
-use Rattle.pm_core.specs.RowCalls.{row_changes}
-use Rattle.pm_core.specs.Step.{called, tried_by, changes_of, effect}
-use Rattle.pm_core.specs.State.{State, in_force}
+use Rattle.pm_ipi.specs.Status.{invalid_parameter, invalid_node, no_access, no_feature, double_request}
+use Rattle.pm_object.specs.declared.object.MasterRec.{MasterRec}
+use Rattle.pm_procs.specs.declared.procs.Proc.{Proc as Processor}
+use Rattle.pm_procs.specs.Modes.{is_awake}
+use Rattle.pm_procs.specs.Procs.{proc_at}
+use Rattle.pm_rows.specs.declared.row.Change.{Change}
+use Rattle.pm_rows.specs.declared.row.Change.TheVariants.{Request, Release, Set, Limit}
+use Rattle.pm_rows.specs.declared.row.Entry.{Entry}
+use Rattle.pm_rows.specs.Rows.{has_all, mode_of, rival_of, entry_at}
+use Rattle.pm_rows.specs.Sound.{IsFit}
+use Rattle.pm_topology.specs.declared.places.Kind.{Kind}
+use Rattle.pm_topology.specs.declared.places.Kind.TheVariants.{Proc, Slave, Power, Unknown}
+use Rattle.pm_topology.specs.Places.{kind_of}
+use Rattle.pm_core.specs.declared.views.ProcView.{ProcView}
+use Rattle.pm_core.specs.declared.views.RowView.{RowView}
+use Rattle.pm_core.specs.Events.{boot_at, boot_by, booted, wait_at, wait_by, waits}
+use Rattle.pm_core.specs.Members.{mode_of_master, owner_at}
+use Rattle.pm_core.specs.Outcome.{Deed, Check, Tried, judged, outcome_of, done, must, must_be_free}
+use Rattle.pm_core.specs.Prims.{Prim, At_row, Settle, Put_proc}
+use Rattle.pm_core.specs.ProcCalls.{address_in, put_at}
+use Rattle.pm_core.specs.RowCalls.{changes_of, row_changes, can_have, is_in_use}
 use Rattle.pm_core.specs.Sound.{IsSound, IsBook}
+use Rattle.pm_core.specs.Stages.{after_stage, after_stages}
+use Rattle.pm_core.specs.State.{State, in_force}
+use Rattle.pm_core.specs.Step.{called, tried_by, heard_at, stages_of, effect}
+use Rattle.pm_core.specs.Values.{master_place, slave_place}
+use Rattle.pm_core.specs.Views.{row_view_at, proc_view, rival_node, master_node}
+use Rattle.pm_core.specs.calls.AbortSuspend.{abort_suspend}
+use Rattle.pm_core.specs.calls.InitFinalize.{init_finalize}
+use Rattle.pm_core.specs.calls.ReleaseNode.{release_node}
+use Rattle.pm_core.specs.calls.RequestNode.{request_checks, request_node}
+use Rattle.pm_core.specs.calls.SelfSuspend.{self_suspend}
+use Rattle.pm_core.specs.calls.SetMaxLatency.{set_max_latency}
+use Rattle.pm_core.specs.calls.SetRequirement.{set_requirement, set_requirement_checks}
 use Rattle.pm_core.proofs.Judged.{judged_either, passes, must_passes, free_passes}
-use Rattle.pm_core.proofs.PairsLaw.{pairs_once}
+use Rattle.pm_core.proofs.RowLaws.{RowLaws}
+use Rattle.pm_core.proofs.StageLaw.{row, settle, put, stage_keeps, empty_keeps}
 
--- the book at load
-pub load_sound : (object : Object) (topology : Topology) → IsSound (load_of object topology)
-load_sound object topology = rows.load_sound (pairs_of object topology.slaves)
+-- ---- calls
 
--- no change keeps the book sound
-stays_sound : (book : State) (prims : List Prim) → IsSound book → prims ≡ [] → IsSound (changed prims book)
-stays_sound book prims sound none = rw none sound
-
--- a call that is done or refused keeps the book sound where its change does
-judged_keeps : (checks : List Check) (deed : Deed) (book : State) → IsSound book → (IsTrue (list_all passes checks) → IsSound (changed deed.changes book)) → IsSound (changed (judged checks deed).changes book)
+-- a call keeps the book sound where its stages do, once its checks pass
+judged_keeps : (checks : List Check) (deed : Deed) (book : State) → IsSound book → (IsTrue (list_all passes checks) → IsSound (after_stages deed.stages book)) → IsSound (after_stages (judged checks deed).stages book)
 judged_keeps checks deed book sound keeps =
+    let P : List (List Prim) → Type 0 = λ stages. IsSound (after_stages stages book) in
     elim (judged_either checks deed) [
-      | inl both ↦ rw both.1 (keeps both.0)
-      | inr none ↦ stays_sound book (judged checks deed).changes sound none
+      | inl both ↦ subst P (sym both.1) (keeps both.0)
+      | inr none ↦ subst P (sym none) sound
     ]
+
+tried_keeps : (call : Tried) (book : State) → IsSound book → (IsTrue (list_all passes call.checks) → IsSound (after_stages call.deed.stages book)) → IsSound (after_stages (outcome_of call).stages book)
+tried_keeps call book sound keeps = judged_keeps call.checks call.deed book sound keeps
+
+-- the caller is heard: it is a configured master, and it is awake
+record IsHeard (book : State) (m : ℕ) : Type 0 where
+  pub there : m < length (in_force book).masters
+  pub awake : IsTrue (is_awake (mode_of_master book.fixed book.now.core m))
+
+-- a change of the caller's row keeps the book sound where it fits the row that is there
+row_keeps : RowLaws → (m s : ℕ) (by : Change) (book : State) (entry : Option Entry) → IsSound book → entry_at m s book.now.core.rows ≡ entry → ((e : Entry) → entry ≡ Some e → IsFit m s by e book.now.core.rows) → IsSound (after_stage (changes_of by entry) book)
+row_keeps laws m s by book None sound found fits = empty_keeps laws book sound
+row_keeps laws m s by book (Some entry) sound found fits =
+    stage_keeps laws book (At_row entry.seed.master entry.seed.slave by) sound (row m s by entry found (fits entry refl))
+
+abbrev view_of : ℕ → ℕ → State → RowView
+view_of m s book = record { slave = Some s; entry = entry_at m s book.now.core.rows; rival = rival_node m s book }
+
+abbrev no_view : RowView
+no_view = record { slave = None; entry = None; rival = None }
+
+-- a call on a row keeps the book sound where its change fits the row of each slave once its checks pass
+row_call_keeps : RowLaws → (m : ℕ) (by : Change) (call : RowView → Tried) (book : State) (slave : Option ℕ) → IsSound book → ((view : RowView) → (call view).deed ≡ done (row_changes by view)) → ((s : ℕ) → IsTrue (list_all passes (call (view_of m s book)).checks) → (e : Entry) → entry_at m s book.now.core.rows ≡ Some e → IsFit m s by e book.now.core.rows) → IsSound (after_stages (outcome_of (call (row_view_at m slave book))).stages book)
+row_call_keeps laws m by call book None sound deed fits =
+    tried_keeps (call no_view) book sound (λ passing.
+    let P : Deed → Type 0 = λ d. IsSound (after_stages d.stages book) in
+    subst P (sym (deed no_view)) (empty_keeps laws book sound))
+row_call_keeps laws m by call book (Some s) sound deed fits =
+    tried_keeps (call (view_of m s book)) book sound (λ passing.
+    let P : Deed → Type 0 = λ d. IsSound (after_stages d.stages book) in
+    subst P (sym (deed (view_of m s book))) (row_keeps laws m s by book (entry_at m s book.now.core.rows) sound refl (fits s passing)))
 
 rival_known : (book : State) (rival : Option ℕ) → option_map (master_node (in_force book).masters) rival ≡ None → rival ≡ None
 rival_known book None is = refl
 rival_known book (Some rival) is = cc
 
 -- of the checks of a request: the slave has the capabilities, and no rival uses it
-request_parts : (a b c d : Bool) → IsTrue (a && (b && (c && (d && true)))) → (IsTrue b) × (IsTrue d)
-request_parts true true true true is = (refl, refl)
-request_parts true true true false is = cc
-request_parts true true false d is = cc
-request_parts true false c d is = cc
-request_parts false b c d is = cc
+request_parts : (a b c d e f : Bool) → IsTrue (a && (b && (c && (d && (e && (f && true)))))) → (IsTrue d) × (IsTrue f)
+request_parts true true true true true true is = (refl, refl)
+request_parts true true true true true false is = cc
+request_parts true true true true false f is = cc
+request_parts true true true false e f is = cc
+request_parts true true false d e f is = cc
+request_parts true false c d e f is = cc
+request_parts false b c d e f is = cc
 
--- a change of a row that is there keeps the book sound where it fits
-row_change_keeps : (m s : ℕ) (by : Change) (book : State) (entry : Entry) → IsSound book → entry_at m s book.now.core.rows ≡ Some entry → IsFit m s by entry book.now.core.rows → IsSound (changed (At_row entry.seed.master entry.seed.slave by ∷ []) book)
-row_change_keeps m s by book entry sound found fit =
-    change_keeps (pairs_of (in_force book) book.fixed.topology.slaves) book.now.core.rows m s by entry
-    (λ m s. pairs_once m s (in_force book) book.fixed.topology.slaves) sound found fit
+-- of the checks of a requirement: the slave has the capabilities
+requirement_part : (a b c d e : Bool) → IsTrue (a && (b && (c && (d && (e && true))))) → IsTrue d
+requirement_part true true true true e is = refl
+requirement_part true true true false e is = cc
+requirement_part true true false d e is = cc
+requirement_part true false c d e is = cc
+requirement_part false b c d e is = cc
 
-request_with : (m s : ℕ) (caps : Caps) (ack : ℕ) (book : State) (entry : Option Entry) → IsSound book → entry_at m s book.now.core.rows ≡ entry → IsSound (changed (outcome_of (request_node caps ack (record { slave = Some s; entry = entry; rival = rival_node m s book }))).changes book)
-request_with m s caps ack book None sound found =
-    let view : RowView = record { slave = Some s; entry = None; rival = rival_node m s book } in
-    judged_keeps (request_checks caps ack view) (done []) book sound (λ _. sound)
-request_with m s caps ack book (Some entry) sound found =
-    let view : RowView = record { slave = Some s; entry = Some entry; rival = rival_node m s book } in
-    judged_keeps (request_checks caps ack view) (done (row_changes (Request caps) view)) book sound
-    (λ passing.
-    let parts = request_parts (passes (must (is_some (ack_kind ack)) invalid_parameter)) (passes (must (has_all entry.seed.all caps) no_feature)) (passes (must (not entry.row.used) double_request)) (passes (must_be_free view.rival)) passing in
-    row_change_keeps m s (Request caps) book entry sound found (record {
-      able = must_passes (has_all entry.seed.all caps) no_feature parts.0;
-      free = λ is. rival_known book (rival_of m s book.now.core.rows) (free_passes view.rival parts.1);
-    }))
+able : (caps : Caps) (view : RowView) (e : Entry) → view.entry ≡ Some e → IsTrue (passes (must (can_have caps view) no_feature)) → IsTrue (has_all e.seed.all caps)
+able caps view e is passing =
+    let can : IsTrue (can_have caps view) = must_passes (can_have caps view) no_feature passing in
+    let P : Option Entry → Type 0 = λ o. IsTrue (can_have caps (record view { entry = o })) in
+    subst P is can
 
-request_at : (m : ℕ) (caps : Caps) (ack : ℕ) (book : State) (slave : Option ℕ) → IsSound book → IsSound (changed (outcome_of (request_node caps ack (row_view_at m slave book))).changes book)
-request_at m caps ack book None sound =
-    let view : RowView = record { slave = None; entry = None; rival = None } in
-    judged_keeps (request_checks caps ack view) (done []) book sound (λ _. sound)
-request_at m caps ack book (Some s) sound = request_with m s caps ack book (entry_at m s book.now.core.rows) sound refl
+awake_is_not_off : (mode known : Mode) → known ≡ mode → IsTrue (is_awake mode) → known ≢ Off
+awake_is_not_off Off known is awake = cc
+awake_is_not_off Active known is awake = λ off. cc
+awake_is_not_off Asleep known is awake = cc
+awake_is_not_off Suspending known is awake = λ off. cc
 
-never_used : (here : Bool) → IsTrue (here && false) → ⊥
-never_used true is = cc
-never_used false is = cc
+request_fits : (m : ℕ) (caps : Caps) (ack : ℕ) (book : State) → IsSound book → IsHeard book m → (s : ℕ) → IsTrue (list_all passes (request_checks caps ack (view_of m s book))) → (e : Entry) → entry_at m s book.now.core.rows ≡ Some e → IsFit m s (Request caps) e book.now.core.rows
+request_fits m caps ack book sound heard s passing e is =
+    let view : RowView = view_of m s book in
+    let parts = request_parts (passes (must (is_some (ack_kind ack)) invalid_parameter)) (passes (must (is_some view.slave) invalid_node)) (passes (must (is_some view.entry) no_access)) (passes (must (can_have caps view) no_feature)) (passes (must (not (is_in_use view)) double_request)) (passes (must_be_free view.rival)) passing in (
+      able caps view e is parts.0,
+      rival_known book (rival_of m s book.now.core.rows) (free_passes view.rival parts.1),
+      awake_is_not_off (mode_of_master book.fixed book.now.core m) (mode_of m book.now.core.rows) (sound.knows.right m heard.there) heard.awake,
+    )
 
-release_with : (m s : ℕ) (book : State) (entry : Option Entry) → IsSound book → entry_at m s book.now.core.rows ≡ entry → IsSound (changed (outcome_of (release_node (record { slave = Some s; entry = entry; rival = rival_node m s book }))).changes book)
-release_with m s book None sound found = sound
-release_with m s book (Some entry) sound found =
-    let view : RowView = record { slave = Some s; entry = Some entry; rival = rival_node m s book } in
-    judged_keeps (release_checks view) (done (row_changes Release view)) book sound
-    (λ _. row_change_keeps m s Release book entry sound found
-    (record { able = has_all_nothing entry.seed.all; free = λ is. absurd (never_used (entry.seed.slave == s) is) }))
+set_fits : (m : ℕ) (caps : Caps) (ack : ℕ) (book : State) → IsSound book → IsHeard book m → (s : ℕ) → IsTrue (list_all passes (set_requirement_checks caps ack (view_of m s book))) → (e : Entry) → entry_at m s book.now.core.rows ≡ Some e → IsFit m s (Set (mode_of_master book.fixed book.now.core m) caps) e book.now.core.rows
+set_fits m caps ack book sound heard s passing e is =
+    let view : RowView = view_of m s book in
+    let part = requirement_part (passes (must (is_some (ack_kind ack)) invalid_parameter)) (passes (must (is_some view.slave) invalid_node)) (passes (must (is_some view.entry) no_access)) (passes (must (can_have caps view) no_feature)) (passes (must (is_in_use view) no_access)) passing in
+    (able caps view e is part, sound.knows.right m heard.there)
 
-release_at : (m : ℕ) (book : State) (slave : Option ℕ) → IsSound book → IsSound (changed (outcome_of (release_node (row_view_at m slave book))).changes book)
-release_at m book None sound = sound
-release_at m book (Some s) sound = release_with m s book (entry_at m s book.now.core.rows) sound refl
+-- a call on a processor keeps the book sound
+put_keeps : RowLaws → (m : ℕ) (place : Option ℕ) (mode : Mode) (address : ℕ) (book : State) → IsSound book → IsSound (after_stage (put_at m place mode address) book)
+put_keeps laws m None mode address book sound = empty_keeps laws book sound
+put_keeps laws m (Some p) mode address book sound = stage_keeps laws book (Put_proc m p mode address) sound (put m p mode address)
 
-called_keeps : (m : ℕ) (call : Call) (book : State) → IsSound book → IsSound (changed (called m call book).changes book)
-called_keeps m (RequestNode node caps ack) book sound = request_at m caps ack book (slave_place node book) sound
-called_keeps m (ReleaseNode node) book sound = release_at m book (slave_place node book) sound
-called_keeps m call book sound = judged_keeps (tried_by m call book).checks (tried_by m call book).deed book sound (λ _. sound)
+called_keeps : RowLaws → (m : ℕ) (call : Call) (book : State) → IsSound book → IsHeard book m → IsSound (after_stages (called m call book).stages book)
+called_keeps laws m (SelfSuspend node address) book sound heard =
+    let view : ProcView = proc_view m node book in
+    tried_keeps (self_suspend m address view) book sound (λ passing. put_keeps laws m view.place Suspending address book sound)
+called_keeps laws m (AbortSuspend node reason) book sound heard =
+    let view : ProcView = proc_view m node book in
+    tried_keeps (abort_suspend m reason view) book sound (λ passing. put_keeps laws m view.place Active (address_in view) book sound)
+called_keeps laws m (RequestNode node caps ack) book sound heard =
+    row_call_keeps laws m (Request caps) (request_node caps ack) book (slave_place node book) sound (λ view. refl) (request_fits m caps ack book sound heard)
+called_keeps laws m (ReleaseNode node) book sound heard =
+    row_call_keeps laws m Release release_node book (slave_place node book) sound (λ view. refl) (λ s passing e is. tt)
+called_keeps laws m (SetRequirement node caps ack) book sound heard =
+    let mode : Mode = mode_of_master book.fixed book.now.core m in
+    row_call_keeps laws m (Set mode caps) (set_requirement mode caps ack) book (slave_place node book) sound (λ view. refl) (set_fits m caps ack book sound heard)
+called_keeps laws m (SetMaxLatency node latency) book sound heard =
+    row_call_keeps laws m (Limit latency) (set_max_latency latency) book (slave_place node book) sound (λ view. refl) (λ s passing e is. tt)
+called_keeps laws m InitFinalize book sound heard =
+    tried_keeps (init_finalize m) book sound (λ passing. stage_keeps laws book (Settle m) sound (settle m))
+called_keeps laws m Other book sound heard = sound
+called_keeps laws m call book sound heard = tried_keeps (tried_by m call book) book sound (λ passing. sound)
 
-heard_keeps : (call : Call) (place : Option ℕ) (book : State) → IsSound book → IsSound (changed (changes_of (option_map (λ (m : ℕ). called m call book) place)) book)
-heard_keeps call None book sound = sound
-heard_keeps call (Some m) book sound = called_keeps m call book sound
+-- ---- events
+
+heard_keeps : RowLaws → (message : Message) (book : State) (m : ℕ) (awake : Bool) → IsSound book → m < length (in_force book).masters → awake ≡ is_awake (mode_of_master book.fixed book.now.core m) → IsSound (after_stages (stages_of (if awake then Some (called m (call_of message) book) else None)) book)
+heard_keeps laws message book m true sound there is = called_keeps laws m (call_of message) book sound (record { there = there; awake = sym is })
+heard_keeps laws message book m false sound there is = sound
+
+message_keeps : RowLaws → (message : Message) (book : State) (place : Option ℕ) → IsSound book → ((m : ℕ) → place ≡ Some m → m < length (in_force book).masters) → IsSound (after_stages (stages_of (option_and_then (heard_at message book) place)) book)
+message_keeps laws message book None sound there = sound
+message_keeps laws message book (Some m) sound there =
+    heard_keeps laws message book m (is_awake (mode_of_master book.fixed book.now.core m)) sound (there m refl) refl
+
+booted_keeps : RowLaws → (m p address : ℕ) (mode : Mode) (book : State) → IsSound book → IsSound (after_stages (booted m p address mode) book)
+booted_keeps laws m p address Off book sound = stage_keeps laws book (Put_proc m p Active address) sound (put m p Active address)
+booted_keeps laws m p address Active book sound = sound
+booted_keeps laws m p address Asleep book sound = sound
+booted_keeps laws m p address Suspending book sound = sound
+
+waits_keeps : RowLaws → (m p address : ℕ) (mode : Mode) (book : State) → IsSound book → IsSound (after_stages (waits m p address mode) book)
+waits_keeps laws m p address Off book sound = sound
+waits_keeps laws m p address Active book sound = sound
+waits_keeps laws m p address Asleep book sound = sound
+waits_keeps laws m p address Suspending book sound = stage_keeps laws book (Put_proc m p Asleep address) sound (put m p Asleep address)
+
+boot_by_keeps : RowLaws → (owner : Option ℕ) (p address : ℕ) (proc : Processor) (book : State) → IsSound book → IsSound (after_stages (boot_by owner p address proc) book)
+boot_by_keeps laws None p address proc book sound = sound
+boot_by_keeps laws (Some m) p address proc book sound = booted_keeps laws m p address proc.mode book sound
+
+wait_by_keeps : RowLaws → (owner : Option ℕ) (p : ℕ) (proc : Processor) (book : State) → IsSound book → IsSound (after_stages (wait_by owner p proc) book)
+wait_by_keeps laws None p proc book sound = sound
+wait_by_keeps laws (Some m) p proc book sound = waits_keeps laws m p proc.address proc.mode book sound
+
+boot_keeps : RowLaws → (kind : Kind) (address : ℕ) (book : State) → IsSound book → IsSound (after_stages (boot_at kind address book) book)
+boot_keeps laws (Proc p) address book sound =
+    boot_by_keeps laws (owner_at book.fixed.object book.fixed.topology p) p address (proc_at p book.now.core.procs) book sound
+boot_keeps laws (Slave s) address book sound = sound
+boot_keeps laws (Power w) address book sound = sound
+boot_keeps laws Unknown address book sound = sound
+
+wait_keeps : RowLaws → (kind : Kind) (book : State) → IsSound book → IsSound (after_stages (wait_at kind book) book)
+wait_keeps laws (Proc p) book sound =
+    wait_by_keeps laws (owner_at book.fixed.object book.fixed.topology p) p (proc_at p book.now.core.procs) book sound
+wait_keeps laws (Slave s) book sound = sound
+wait_keeps laws (Power w) book sound = sound
+wait_keeps laws Unknown book sound = sound
 
 -- each step keeps the book sound
-pub effect_sound : (event : Event) (book : State) → IsSound book → IsSound (effect event book)
-effect_sound (Ipi master message) book sound = heard_keeps (call_of message) (master_place master book) book sound
-effect_sound _ book sound = sound
+pub effect_sound : RowLaws → (event : Event) (book : State) → IsSound book → IsSound (effect event book)
+effect_sound laws (Ipi master message) book sound =
+    message_keeps laws message book (master_place master book) sound
+    (λ m is. (position-Some (λ (x : MasterRec). x.node == master.0) (in_force book).masters m (record { node = 0; mask = 0; timeout = 0; suspend = 0; wake = 0 }) is).0)
+effect_sound laws (Boot proc address) book sound = boot_keeps laws (kind_of book.fixed.topology proc) address book sound
+effect_sound laws (Wfi proc) book sound = wait_keeps laws (kind_of book.fixed.topology proc) book sound
+effect_sound laws _ book sound = sound
 
 -- what holds in every book is kept by each step
-pub kept_by : (event : Event) (old new : State) → new ≡ effect event old → IsBook old → IsBook new
-kept_by event old new is of =
+pub kept_by : ((event : Event) (book : State) → IsSound book → IsSound (effect event book))
+    → (event : Event) (old new : State) → new ≡ effect event old → IsBook old → IsBook new
+kept_by keeps event old new is of =
     let P : State → Type 0 = λ b. IsBook b in
-    subst P (sym is) (record { formed = of.formed; masters = of.masters; sound = effect_sound event old of.sound })
+    subst P (sym is) (record { formed = of.formed; masters = of.masters; sound = keeps event old of.sound })

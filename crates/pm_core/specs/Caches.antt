@@ -1,6 +1,6 @@
 -- What a book keeps of its values, so that they needn't be found again. Each of it is a function of the book.
-use Rattle.std.specs.Prelude.{◌≡◌, ℕ, ◌==◌, Bool, false, cond, if◌then◌else◌, List, [], ◌∷◌, ◌++◌, map, length, slice_get, unwrap_or, Option, Some, None}
-use Rattle.pm_base.specs.declared.names.Unit.{Unit as Place}
+use Rattle.std.specs.Prelude.{◌≡◌, ℕ, ◌==◌, ◌&&◌, Bool, false, cond, if◌then◌else◌, List, [], ◌∷◌, ◌++◌, map, length, slice_get, unwrap_or, Option, Some, None}
+use Rattle.pm_base.specs.declared.names.Unit.{Unit}
 use Rattle.pm_base.specs.declared.names.Unit.TheVariants.{Node, Line}
 use Rattle.pm_topology.specs.declared.topology.Topology.{Topology}
 use Rattle.pm_topology.specs.declared.places.Kind.{Kind}
@@ -10,46 +10,71 @@ use Rattle.pm_topology.specs.Units.{units_of}
 use Rattle.pm_topology.specs.UnitMap.{units_in, value_of}
 use Rattle.pm_power.specs.declared.child.Child.{Child}
 use Rattle.pm_power.specs.Needs.{child, children_of}
+use Rattle.pm_base.specs.declared.names.Mode.TheVariants.{Active}
+use Rattle.pm_procs.specs.declared.procs.Proc.{Proc as Processor}
+use Rattle.pm_procs.specs.Modes.{is_awake, same_mode}
+use Rattle.pm_procs.specs.Procs.{mode_at, proc_at}
 use Rattle.pm_core.specs.declared.caches.Caches.{Caches}
+use Rattle.pm_core.specs.declared.outbox.Start.{Start}
 use Rattle.pm_core.specs.State.{State}
 use Rattle.pm_core.specs.Units.{units}
-use Rattle.pm_core.specs.Values.{placed, chosen, need_of, forest, value}
+use Rattle.pm_core.specs.Values.{placed, chosen, need_of, run_of, forest, value}
 
 -- the kind of a unit; a reset line has none
-abbrev pub kind_of_unit : Topology → Place → Kind
+abbrev pub kind_of_unit : Topology → Unit → Kind
 kind_of_unit t (Node node) = kind_of t node
 kind_of_unit t (Line line) = Unknown
 
--- the value of a unit of this kind, by the states of the slaves and by which power nodes are up
-abbrev pub kind_value : List ℕ → List Bool → Kind → ℕ
-kind_value states ups (Slave s) = unwrap_or (slice_get states s) 0
-kind_value states ups (Power w) = cond (unwrap_or (slice_get ups w) false) 1 0
-kind_value states ups (Proc p) = 0
-kind_value states ups Unknown = 0
+-- the value of a unit of this kind, by the states of the slaves, the processors, and which power nodes are up
+abbrev pub kind_value : List ℕ → List Processor → List Bool → Kind → ℕ
+kind_value states procs ups (Slave s) = unwrap_or (slice_get states s) 0
+kind_value states procs ups (Power w) = cond (unwrap_or (slice_get ups w) false) 1 0
+kind_value states procs ups (Proc p) = cond (is_awake (mode_at p procs)) 1 0
+kind_value states procs ups Unknown = 0
 
 -- a table of units with new values, by the kinds of its units
-abbrev pub revalued : (Kind → ℕ) → List Kind → List (Place × ℕ) → List (Place × ℕ)
+abbrev pub revalued : (Kind → ℕ) → List Kind → List (Unit × ℕ) → List (Unit × ℕ)
 revalued new [] entries = entries
 revalued new (kind ∷ kinds) [] = []
 revalued new (kind ∷ kinds) (e ∷ entries) = (e.0, new kind) ∷ revalued new kinds entries
 
 -- the unit of an entry, if its value isn't the new one
-abbrev pub moved_at : ℕ → Option (Place × ℕ) → List Place
+abbrev pub moved_at : ℕ → Option (Unit × ℕ) → List Unit
 moved_at value None = []
 moved_at value (Some e) = if e.1 == value then [] else e.0 ∷ []
 
 -- the units of a table whose value isn't the new one
-abbrev pub moved_by : (Kind → ℕ) → List Kind → List (Place × ℕ) → List Place
+abbrev pub moved_by : (Kind → ℕ) → List Kind → List (Unit × ℕ) → List Unit
 moved_by new [] entries = []
 moved_by new (kind ∷ kinds) [] = []
 moved_by new (kind ∷ kinds) (e ∷ entries) = moved_at (new kind) (Some e) ++ moved_by new kinds entries
 
+-- the start of this unit, whose value was 0 before, where the processor is active now
+abbrev pub start_if : Bool → Unit → Processor → List Start
+start_if down (Node node) proc =
+    if down && same_mode proc.mode Active then record { proc = node; address = proc.address } ∷ [] else []
+start_if down (Line line) proc = []
+
+-- the start of the unit of an entry, if it is a processor that starts
+abbrev pub started_at : List Processor → Kind → Option (Unit × ℕ) → List Start
+started_at procs kind None = []
+started_at procs (Proc p) (Some e) = start_if (e.1 == 0) e.0 (proc_at p procs)
+started_at procs (Slave s) (Some e) = []
+started_at procs (Power w) (Some e) = []
+started_at procs Unknown (Some e) = []
+
+-- the starts of the units of a table, by the values before
+abbrev pub starts_by : List Processor → List Kind → List (Unit × ℕ) → List Start
+starts_by procs [] entries = []
+starts_by procs (kind ∷ kinds) [] = []
+starts_by procs (kind ∷ kinds) (e ∷ entries) = started_at procs kind (Some e) ++ starts_by procs kinds entries
+
 -- each unit with its value
-abbrev pub valued : State → List (Place × ℕ)
+abbrev pub valued : State → List (Unit × ℕ)
 valued book = map (λ u. (u, value u book)) (units book)
 
 -- the value of a unit in a table, and 0 where it isn't there
-abbrev pub value_kept : Place → List (Place × ℕ) → ℕ
+abbrev pub value_kept : Unit → List (Unit × ℕ) → ℕ
 value_kept unit entries = unwrap_or (value_of entries unit) 0
 
 -- a processor or slave, as it is before its need is set
@@ -61,6 +86,7 @@ pub record HasPlaces (t : Topology) (caches : Caches) : Type 0 where
   pub kinds : caches.kinds.items ≡ map (kind_of_unit t) (units_of t)
   pub states : length caches.states.items ≡ length t.slaves
   pub needs : length caches.needs.items ≡ length t.slaves
+  pub runs : length caches.runs.items ≡ length t.procs
   pub powers : caches.power.powers ≡ t.powers
   pub children : map idle caches.power.children ≡ children_of t (λ _. false)
   pub units : units_in caches.values ≡ units_of t
@@ -70,5 +96,6 @@ pub record AreKept (book : State) (caches : Caches) : Type 0 where
   pub kinds : caches.kinds.items ≡ map (kind_of_unit book.fixed.topology) (units book)
   pub states : caches.states.items ≡ placed (chosen book.now.core) 0 book.fixed.topology.slaves
   pub needs : caches.needs.items ≡ placed (need_of book.now.core) 0 book.fixed.topology.slaves
+  pub runs : caches.runs.items ≡ placed (run_of book.now.core) 0 book.fixed.topology.procs
   pub power : caches.power ≡ forest book.fixed book.now.core
   pub values : caches.values ≡ valued book

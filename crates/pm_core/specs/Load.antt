@@ -1,13 +1,31 @@
--- The book at load: a row for each permitted pair, and none is used.
-use Rattle.std.specs.Prelude.{map}
+-- The book at load: a row for each permitted pair, with what the object preallocates for it. The first processor of the
+-- first master is active, and all others are off.
+use Rattle.std.specs.Prelude.{ℕ, List, length, Option, Some, None}
 use Rattle.pm_object.specs.declared.object.Object.{Object}
 use Rattle.pm_topology.specs.declared.topology.Topology.{Topology}
+use Rattle.pm_base.specs.declared.names.Mode.TheVariants.{Active}
+use Rattle.pm_procs.specs.declared.procs.Proc.{Proc}
+use Rattle.pm_procs.specs.Procs.{all_off}
+use Rattle.pm_rows.specs.Rows.{loaded_rows}
+use Rattle.pm_core.specs.Boot.{boot_master, boot_proc}
 use Rattle.pm_core.specs.Pairs.{pairs_of}
-use Rattle.pm_rows.specs.Rows.{unused}
+use Rattle.pm_core.specs.Prims.{proc_put}
 use Rattle.pm_core.specs.State.{State}
 
+-- these processors, where the one at this place, if there is one, is active with resume address 0
+abbrev pub procs_with : Option ℕ → List Proc → List Proc
+procs_with None procs = procs
+procs_with (Some p) procs = proc_put p Active 0 procs
+
+-- the book at load
 abbrev pub load_of : Object → Topology → State
 load_of object topology = record {
   fixed = record { object = object; topology = topology };
-  now = record { core = record { rows = map unused (pairs_of object topology.slaves) }; talk = record {} };
+  now = record {
+    core = record {
+      rows = loaded_rows (length object.masters) (boot_master object topology) (pairs_of object topology);
+      procs = procs_with (boot_proc object topology) (all_off (length topology.procs));
+    };
+    talk = record {};
+  };
 }

@@ -6,26 +6,27 @@ use Rattle.pm_ipi.specs.declared.responses.Response.{Response}
 use Rattle.pm_ipi.specs.Responses.{success, refusal, used_by}
 use Rattle.pm_core.specs.Prims.{Prim}
 
+-- the response, and the stages of the step: each is a list of changes
 pub record Outcome : Type 0 where
   pub response : Response
-  pub changes : List Prim
+  pub stages : List (List Prim)
 
 -- a refused call changes nothing
 abbrev pub refused : Response → Outcome
-refused response = record { response = response; changes = [] }
+refused response = record { response = response; stages = [] }
 
--- what a call does once its checks pass: the words that it tells, and its changes
+-- what a call does once its checks pass: the words that it tells, and its stages
 pub record Deed : Type 0 where
   pub words : List ℕ
-  pub changes : List Prim
+  pub stages : List (List Prim)
 
 -- a call that only tells words
 abbrev pub told : List ℕ → Deed
-told words = record { words = words; changes = [] }
+told words = record { words = words; stages = [] }
 
--- a call that only changes the book
+-- a call that only changes the book, in one stage
 abbrev pub done : List Prim → Deed
-done changes = record { words = 0 ∷ 0 ∷ 0 ∷ []; changes = changes }
+done changes = record { words = 0 ∷ 0 ∷ 0 ∷ []; stages = changes ∷ [] }
 
 -- a check of a call: nothing where it passes, and else the response to the call
 abbrev pub Check : Type 0
@@ -42,7 +43,7 @@ must_be_free (Some rival) = Some (used_by rival)
 
 -- the first check that fails decides, and where all pass the call is done
 abbrev pub judged : List Check → Deed → Outcome
-judged [] deed = record { response = success deed.words; changes = deed.changes }
+judged [] deed = record { response = success deed.words; stages = deed.stages }
 judged (None ∷ checks) deed = judged checks deed
 judged (Some response ∷ checks) deed = refused response
 

@@ -1,7 +1,9 @@
 -- What holds in every book.
-use Rattle.std.specs.Prelude.{◌≡◌, ℕ, true, slice_get, Some, ◌↔◌, ◌⊎◌, ⊤}
-use Rattle.pm_base.specs.declared.names.Unit.{Unit as Place}
+use Rattle.std.specs.Prelude.{◌≡◌, ◌<◌, ℕ, true, length, slice_get, Some, None, ◌↔◌, ◌⊎◌, ⊤}
+use Rattle.pm_base.specs.declared.names.Mode.TheVariants.{Off, Active, Suspending}
+use Rattle.pm_base.specs.declared.names.Unit.{Unit}
 use Rattle.pm_base.specs.declared.names.Unit.TheVariants.{Node, Line}
+use Rattle.pm_topology.specs.declared.topology.ProcDef.{ProcDef}
 use Rattle.pm_topology.specs.declared.topology.SlaveDef.{SlaveDef}
 use Rattle.pm_topology.specs.declared.topology.PowerDef.{PowerDef}
 use Rattle.pm_topology.specs.declared.places.Kind.TheVariants.{Slave}
@@ -10,15 +12,34 @@ use Rattle.pm_topology.specs.Places.{kind_of}
 use Rattle.pm_topology.specs.WellFormed.{IsWellFormed}
 use Rattle.pm_core.specs.Choice.{StandsMet}
 use Rattle.pm_core.specs.Fed.{IsNeeded}
+use Rattle.pm_procs.specs.Procs.{mode_at}
+use Rattle.pm_rows.specs.Rows.{mode_of}
 use Rattle.pm_rows.specs.Sound.{AreSound}
 use Rattle.pm_rows.specs.Wanted.{wanted_of}
+use Rattle.pm_core.specs.Members.{owner_at, mode_of_master}
 use Rattle.pm_core.specs.Pairs.{pairs_of}
 use Rattle.pm_core.specs.State.{State, in_force}
 
--- the rows are those of the permitted pairs, a slave that can't be shared has one user at most, and each row wants only
--- what its slave has
-abbrev pub IsSound : State → Type 0
-IsSound book = AreSound (pairs_of (in_force book) book.fixed.topology.slaves) book.now.core.rows
+-- the rows are those of the permitted pairs, a slave that can't be shared has one user at most, each row wants only what its
+-- slave has, while a master is active nothing is scheduled in its rows, and one that is off uses nothing
+abbrev pub HasSoundRows : State → Type 0
+HasSoundRows book = AreSound (pairs_of (in_force book) book.fixed.topology) book.now.core.rows
+
+-- the rows know the mode of each master, as its processors give it
+pub record KnowsModes (book : State) : Type 0 where
+  pub each : length book.now.core.rows.known ≡ length (in_force book).masters
+  pub right : (m : ℕ) → m < length (in_force book).masters → mode_of m book.now.core.rows ≡ mode_of_master book.fixed book.now.core m
+
+-- each processor has a mode, and one that no configured master has is off
+pub record HasProcs (book : State) : Type 0 where
+  pub each : length book.now.core.procs ≡ length book.fixed.topology.procs
+  pub nobodys : (p : ℕ) → owner_at book.fixed.object book.fixed.topology p ≡ None → mode_at p book.now.core.procs ≡ Off
+
+-- the book is sound in its rows, in the modes that they know, and in its processors
+pub record IsSound (book : State) : Type 0 where
+  pub rows : HasSoundRows book
+  pub knows : KnowsModes book
+  pub procs : HasProcs book
 
 -- what holds in every book: the topology has passed its check and obeys the rules on masters, and the book is sound
 pub record IsBook (book : State) : Type 0 where
@@ -31,16 +52,21 @@ abbrev pub MeetsWanted : ℕ → ℕ → State → Type 0
 MeetsWanted s k book = (slave : SlaveDef) → slice_get book.fixed.topology.slaves s ≡ Some slave → StandsMet (wanted_of s book.now.core.rows) slave.states k
 
 -- where the unit is a slave, k is its first state that meets what is wanted of it
-abbrev pub StandsAsWanted : Place → ℕ → State → Type 0
+abbrev pub StandsAsWanted : Unit → ℕ → State → Type 0
 StandsAsWanted (Node node) k book = (s : ℕ) → kind_of book.fixed.topology node ≡ Slave s → MeetsWanted s k book
 StandsAsWanted (Line line) k book = ⊤
 
--- in these values each slave stands in the first of its states that meets all that is wanted of it, and each power node
--- is up exactly where it is held or some unit directly below it needs power in its value
-pub record MeetsRequirements (book : State) (values : Place → ℕ) : Type 0 where
+-- in these values each slave stands in the first of its states that meets all that is wanted of it, each processor is at 1
+-- exactly where it is active or suspending, and each power node is up exactly where it is held or some unit directly below
+-- it needs power in its value
+pub record MeetsRequirements (book : State) (values : Unit → ℕ) : Type 0 where
   pub slaves : (s : ℕ) (slave : SlaveDef)
       → slice_get book.fixed.topology.slaves s ≡ Some slave
       → StandsMet (wanted_of s book.now.core.rows) slave.states (values (Node slave.node))
+  pub processors : (p : ℕ) (proc : ProcDef)
+      → slice_get book.fixed.topology.procs p ≡ Some proc
+      → (values (Node proc.node) ≡ 1)
+      ↔ ((mode_at p book.now.core.procs ≡ Active) ⊎ (mode_at p book.now.core.procs ≡ Suspending))
   pub domains : (w : ℕ) (power : PowerDef)
       → slice_get book.fixed.topology.powers w ≡ Some power
       → (values (Node power.node) ≡ 1) ↔ ((power.held ≡ true) ⊎ IsNeeded book.fixed.topology values w)

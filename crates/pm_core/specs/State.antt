@@ -3,16 +3,18 @@
 use Rattle.std.specs.Prelude.{List}
 use Rattle.pm_object.specs.declared.object.Object.{Object}
 use Rattle.pm_topology.specs.declared.topology.Topology.{Topology}
-use Rattle.pm_rows.specs.declared.row.Entry.{Entry}
+use Rattle.pm_procs.specs.declared.procs.Proc.{Proc}
+use Rattle.pm_rows.specs.Rows.{Rows}
 
 -- the configuration object, and the parts of the chip
 pub record Fixed : Type 0 where
   pub object : Object
   pub topology : Topology
 
--- what the values of the units follow from: the rows of the permitted pairs
+-- what the values of the units follow from: the rows of the permitted pairs, and each processor's mode and resume address
 pub record CoreHalf : Type 0 where
-  pub rows : List Entry
+  pub rows : Rows
+  pub procs : List Proc
 
 -- what the masters are told, from which no value follows: nothing yet
 pub record TalkHalf : Type 0 where

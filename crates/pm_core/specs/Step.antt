@@ -1,84 +1,97 @@
 -- The step: what an event does to the book, and what it puts out.
-use Rattle.std.specs.Prelude.{ℕ, Bool, true, false, not, ◌==◌, List, [], ◌∷◌, Option, Some, None, option_map}
+use Rattle.std.specs.Prelude.{ℕ, Bool, true, false, not, ◌==◌, List, [], ◌∷◌, Option, Some, None, option_and_then, if◌then◌else◌}
 use Rattle.pm_base.specs.declared.names.NodeId.{NodeId}
-use Rattle.pm_base.specs.declared.names.Unit.TheVariants.{Node}
 use Rattle.pm_base.specs.declared.events.Message.{Message}
 use Rattle.pm_base.specs.declared.events.Event.{Event}
-use Rattle.pm_base.specs.declared.events.Event.TheVariants.{Ipi}
+use Rattle.pm_base.specs.declared.events.Event.TheVariants.{Ipi, Boot, Wfi}
 use Rattle.pm_ipi.specs.declared.calls.Call.{Call}
-use Rattle.pm_ipi.specs.declared.calls.Call.TheVariants.{GetNodeStatus, RequestNode, ReleaseNode, Unknown}
+use Rattle.pm_ipi.specs.declared.calls.Call.TheVariants.{GetApiVersion, GetNodeStatus, SelfSuspend, AbortSuspend, RequestNode, ReleaseNode, SetRequirement, SetMaxLatency, InitFinalize, Unknown}
 use Rattle.pm_ipi.specs.declared.calls.AckKind.{AckKind}
 use Rattle.pm_ipi.specs.declared.calls.AckKind.TheVariants.{No, Blocking, NonBlocking}
 use Rattle.pm_ipi.specs.declared.responses.Response.{Response}
+use Rattle.pm_ipi.specs.Status.{no_feature}
+use Rattle.pm_ipi.specs.Calls.{call_of, ack_of, node_of}
+use Rattle.pm_ipi.specs.Responses.{refusal}
+use Rattle.pm_procs.specs.Modes.{is_awake}
 use Rattle.pm_core.specs.declared.replies.Answer.{Answer}
 use Rattle.pm_core.specs.declared.replies.Answer.TheVariants.{Silent, Drop, Reply, Ack}
 use Rattle.pm_core.specs.declared.step.Heard.{Heard}
 use Rattle.pm_core.specs.declared.step.Heard.TheVariants.{Nothing, Dropped, Served}
+use Rattle.pm_core.specs.Events.{boot, wait}
+use Rattle.pm_core.specs.Members.{mode_of_master}
 use Rattle.pm_core.specs.Outbox.{Outputs}
-use Rattle.pm_core.specs.Units.{moved}
-use Rattle.pm_ipi.specs.Status.{no_feature}
-use Rattle.pm_ipi.specs.Calls.{call_of, ack_of, node_of}
-use Rattle.pm_core.specs.Views.{row_view, status_view}
-use Rattle.pm_core.specs.calls.GetNodeStatus.{get_node_status}
-use Rattle.pm_core.specs.calls.RequestNode.{request_node}
-use Rattle.pm_core.specs.calls.ReleaseNode.{release_node}
-use Rattle.pm_ipi.specs.Responses.{refusal}
 use Rattle.pm_core.specs.Outcome.{Outcome, Tried, tried, done, outcome_of}
-use Rattle.pm_core.specs.Prims.{Prim, changed}
-use Rattle.pm_core.specs.Values.{master_place, value}
+use Rattle.pm_core.specs.Prims.{Prim}
+use Rattle.pm_core.specs.Stages.{after_stages, path_from}
+use Rattle.pm_core.specs.Starts.{starts, was_down}
 use Rattle.pm_core.specs.State.{State}
+use Rattle.pm_core.specs.Units.{moved}
+use Rattle.pm_core.specs.Values.{master_place, value, point}
+use Rattle.pm_core.specs.Views.{row_view, status_view, proc_view, master_mode}
+use Rattle.pm_core.specs.calls.AbortSuspend.{abort_suspend}
+use Rattle.pm_core.specs.calls.GetApiVersion.{get_api_version}
+use Rattle.pm_core.specs.calls.GetNodeStatus.{get_node_status}
+use Rattle.pm_core.specs.calls.InitFinalize.{init_finalize}
+use Rattle.pm_core.specs.calls.ReleaseNode.{release_node}
+use Rattle.pm_core.specs.calls.RequestNode.{request_node}
+use Rattle.pm_core.specs.calls.SelfSuspend.{self_suspend}
+use Rattle.pm_core.specs.calls.SetMaxLatency.{set_max_latency}
+use Rattle.pm_core.specs.calls.SetRequirement.{set_requirement}
 
 -- a call of the configured master at place m, over what it reads of the book: its checks, and what it does
 abbrev pub tried_by : ℕ → Call → State → Tried
+tried_by m GetApiVersion book = get_api_version
 tried_by m (GetNodeStatus node) book = get_node_status (status_view m node book)
+tried_by m (SelfSuspend node address) book = self_suspend m address (proc_view m node book)
+tried_by m (AbortSuspend node reason) book = abort_suspend m reason (proc_view m node book)
 tried_by m (RequestNode node caps ack) book = request_node caps ack (row_view m node book)
 tried_by m (ReleaseNode node) book = release_node (row_view m node book)
+tried_by m (SetRequirement node caps ack) book =
+    set_requirement (mode_of_master book.fixed book.now.core m) caps ack (row_view m node book)
+tried_by m (SetMaxLatency node latency) book = set_max_latency latency (row_view m node book)
+tried_by m InitFinalize book = init_finalize m
 tried_by m Unknown book = tried (Some (refusal no_feature) ∷ []) (done [])
 
 -- what it comes to
 abbrev pub called : ℕ → Call → State → Outcome
 called m call book = outcome_of (tried_by m call book)
 
--- what a message comes to: nothing where its sender is no configured master
+-- only a master that is active or suspending is heard
+abbrev pub heard_at : Message → State → ℕ → Option Outcome
+heard_at message book m =
+    if is_awake (mode_of_master book.fixed book.now.core m) then Some (called m (call_of message) book) else None
+
+-- what a message comes to: nothing where its sender is no configured master, and where that is asleep or off
 abbrev pub verdict : NodeId → Message → State → Option Outcome
-verdict master message book = option_map (λ (m : ℕ). called m (call_of message) book) (master_place master book)
+verdict master message book = option_and_then (heard_at message book) (master_place master book)
 
-abbrev pub changes_of : Option Outcome → List Prim
-changes_of None = []
-changes_of (Some outcome) = outcome.changes
+-- the stages of what a message comes to
+abbrev pub stages_of : Option Outcome → List (List Prim)
+stages_of None = []
+stages_of (Some outcome) = outcome.stages
 
--- only messages change the book
-abbrev pub changes : Event → State → List Prim
-changes (Ipi master message) book = changes_of (verdict master message book)
-changes _ book = []
-
--- the stages of a step: each event has one
+-- the stages of a step: none for a message that is dropped or refused, or that only tells words, and for any other event
 abbrev pub stages : Event → State → List (List Prim)
-stages event book = changes event book ∷ []
-
--- the books after each of these stages
-abbrev pub path_from : List (List Prim) → State → List State
-path_from [] book = []
-path_from (stage ∷ later) book = changed stage book ∷ path_from later (changed stage book)
+stages (Ipi master message) book = stages_of (verdict master message book)
+stages (Boot proc address) book = boot proc address book
+stages (Wfi proc) book = wait proc book
+stages _ book = []
 
 -- the books along a step
 abbrev pub path : Event → State → List State
 path event book = path_from (stages event book) book
 
--- the last of these books, and the first one where there is none
-abbrev pub last_of : State → List State → State
-last_of book [] = book
-last_of book (next ∷ books) = last_of next books
-
 -- the book after an event
 abbrev pub effect : Event → State → State
-effect event book = last_of book (path event book)
+effect event book = after_stages (stages event book) book
 
--- how a response reaches the caller, by the acknowledge kind of the call, in the book after it
+-- how a response reaches the caller, by the acknowledge kind of the call, in the book after it: the callback is written where
+-- the caller is active or suspending then
 abbrev pub acknowledged : AckKind → NodeId → NodeId → Response → State → Answer
 acknowledged No master node response after = Silent
 acknowledged Blocking master node response after = Reply master response
-acknowledged NonBlocking master node response after = Ack master node response.status (value (Node node) after) true
+acknowledged NonBlocking master node response after =
+    Ack master node response.status (point node after) (is_awake (master_mode master after))
 
 -- what an event came to
 abbrev pub heard_by : NodeId → Call → Option Outcome → Heard
@@ -99,13 +112,17 @@ answer_by (Served master call response) after = acknowledged (ack_of call) maste
 abbrev pub answer_to : Event → State → Answer
 answer_to event book = answer_by (heard_of event book) (effect event book)
 
--- what a step puts out: the units whose value it changes, and the answer
+-- what a step puts out: the units whose value it changes, the processors that it starts, and the answer
 abbrev pub outputs : Event → State → Outputs
-outputs event book = record { moved = moved (λ u. value u book) (effect event book); answer = answer_to event book }
+outputs event book = record {
+  moved = moved (λ u. value u book) (effect event book);
+  starts = starts (was_down (book ∷ path event book)) (effect event book);
+  answer = answer_to event book;
+}
 
--- what the load puts out: before it all values are 0
+-- what the load puts out: before it all values are 0, and all processors are off
 abbrev pub outputs_at_load : State → Outputs
-outputs_at_load book = record { moved = moved (λ u. 0) book; answer = Silent }
+outputs_at_load book = record { moved = moved (λ u. 0) book; starts = starts (λ p. true) book; answer = Silent }
 
 abbrev pub is_refusal : Option Outcome → Bool
 is_refusal None = true

@@ -1,7 +1,7 @@
--- The values of the units, by the rows as they are now.
-use Rattle.std.specs.Prelude.{ℕ, ◌+◌, ◌==◌, Bool, false, cond, List, [], ◌∷◌, ◌++◌, map, position, slice_get, Option, Some, None}
+-- The values of the units, by the rows and the processors as they are now.
+use Rattle.std.specs.Prelude.{ℕ, ◌+◌, ◌==◌, Bool, cond, List, [], ◌∷◌, ◌++◌, position, slice_get, Option, Some, None}
 use Rattle.pm_base.specs.declared.names.NodeId.{NodeId}
-use Rattle.pm_base.specs.declared.names.Unit.{Unit as Place}
+use Rattle.pm_base.specs.declared.names.Unit.{Unit}
 use Rattle.pm_base.specs.declared.names.Unit.TheVariants.{Node, Line}
 use Rattle.pm_object.specs.declared.object.MasterRec.{MasterRec}
 use Rattle.pm_topology.specs.declared.topology.ProcDef.{ProcDef}
@@ -14,6 +14,8 @@ use Rattle.pm_topology.specs.Units.{needs_in}
 use Rattle.pm_power.specs.declared.child.Child.{Child}
 use Rattle.pm_power.specs.Forest.{Needs, is_up}
 use Rattle.pm_power.specs.Needs.{child}
+use Rattle.pm_procs.specs.Modes.{is_awake, mode_number}
+use Rattle.pm_procs.specs.Procs.{mode_at}
 use Rattle.pm_rows.specs.Wanted.{wanted_of}
 use Rattle.pm_core.specs.Choice.{state_for}
 use Rattle.pm_core.specs.State.{Fixed, CoreHalf, State, in_force}
@@ -43,34 +45,51 @@ state_at s (Some slave) core = chosen core s slave
 abbrev pub need_of : CoreHalf → ℕ → SlaveDef → Bool
 need_of core s slave = needs_in (chosen core s slave) slave
 
--- a slave and a processor with their needs: a slave needs its power node where its chosen state is one that does, and no
--- processor runs
+-- whether the processor at place p runs, and so needs its power node: while it is active or suspending
+abbrev pub runs : CoreHalf → ℕ → Bool
+runs core p = is_awake (mode_at p core.procs)
+
+-- the same beside its entry in the table
+abbrev pub run_of : CoreHalf → ℕ → ProcDef → Bool
+run_of core p proc = runs core p
+
+-- a slave and a processor with their needs
 abbrev pub slave_child : CoreHalf → ℕ → SlaveDef → Child
 slave_child core s slave = child slave.node slave.parent (need_of core s slave)
 
-abbrev pub proc_child : ProcDef → Child
-proc_child p = child p.node p.parent false
+abbrev pub proc_child : CoreHalf → ℕ → ProcDef → Child
+proc_child core p proc = child proc.node proc.parent (run_of core p proc)
 
 -- the power nodes, with the needs of what is below them
 abbrev pub forest : Fixed → CoreHalf → Needs
 forest fixed core = record {
   powers = fixed.topology.powers;
-  children = placed (slave_child core) 0 fixed.topology.slaves ++ map proc_child fixed.topology.procs;
+  children = placed (slave_child core) 0 fixed.topology.slaves ++ placed (proc_child core) 0 fixed.topology.procs;
 }
 
--- the value of a node: the chosen state of a slave, 1 for a power node that is up, and 0 for a processor,
--- which is off
+-- the value of a node: the chosen state of a slave, 1 for a processor that runs and for a power node that is up, and else 0
 abbrev pub value_at : Kind → Fixed → CoreHalf → ℕ
 value_at (Slave s) fixed core = state_at s (slice_get fixed.topology.slaves s) core
 value_at (Power w) fixed core = cond (is_up (forest fixed core) w) 1 0
-value_at (Proc p) fixed core = 0
+value_at (Proc p) fixed core = cond (runs core p) 1 0
 value_at Unknown fixed core = 0
 
--- the value of a unit by what is fixed and the core half, and 0 for a unit that isn't there; all reset lines are
--- released
-abbrev pub value_in : Fixed → CoreHalf → Place → ℕ
+-- the value of a unit by what is fixed and the core half, and 0 for a reset line and for a unit that isn't
+-- there
+abbrev pub value_in : Fixed → CoreHalf → Unit → ℕ
 value_in fixed core (Node node) = value_at (kind_of fixed.topology node) fixed core
 value_in fixed core (Line line) = 0
 
-abbrev pub value : Place → State → ℕ
+abbrev pub value : Unit → State → ℕ
 value unit book = value_in book.fixed book.now.core unit
+
+-- the operating point of a node, as it is told: of a processor the number of its mode, and of any other its value
+abbrev pub point_at : Kind → Fixed → CoreHalf → ℕ
+point_at (Proc p) fixed core = mode_number (mode_at p core.procs)
+point_at (Slave s) fixed core = value_at (Slave s) fixed core
+point_at (Power w) fixed core = value_at (Power w) fixed core
+point_at Unknown fixed core = value_at Unknown fixed core
+
+-- the operating point of a node in a book
+abbrev pub point : NodeId → State → ℕ
+point node book = point_at (kind_of book.fixed.topology node) book.fixed book.now.core

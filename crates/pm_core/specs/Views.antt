@@ -1,16 +1,21 @@
 -- What the calls read of the book.
-use Rattle.std.specs.Prelude.{ℕ, List, slice_get, Option, Some, None, option_map}
+use Rattle.std.specs.Prelude.{ℕ, List, slice_get, if◌then◌else◌, Option, Some, None, option_map}
 use Rattle.std.specs.Option.{option_map_or}
 use Rattle.pm_base.specs.declared.names.NodeId.{NodeId}
-use Rattle.pm_base.specs.declared.names.Unit.TheVariants.{Node}
+use Rattle.pm_base.specs.declared.names.Mode.{Mode}
+use Rattle.pm_base.specs.declared.names.Mode.TheVariants.{Off}
 use Rattle.pm_object.specs.declared.object.MasterRec.{MasterRec}
 use Rattle.pm_core.specs.declared.views.RowView.{RowView}
 use Rattle.pm_core.specs.declared.views.StatusView.{StatusView}
+use Rattle.pm_core.specs.declared.views.ProcView.{ProcView}
 use Rattle.pm_rows.specs.Rows.{entry_at, rival_of, now_of, usage_of}
 use Rattle.pm_topology.specs.declared.places.Kind.{Kind}
 use Rattle.pm_topology.specs.declared.places.Kind.TheVariants.{Proc, Slave, Power, Unknown}
 use Rattle.pm_topology.specs.Places.{kind_of}
-use Rattle.pm_core.specs.Values.{slave_place, master_place, value}
+use Rattle.pm_procs.specs.declared.procs.Proc.{Proc as Processor}
+use Rattle.pm_procs.specs.Procs.{mode_at, proc_at}
+use Rattle.pm_core.specs.Members.{owns, mode_of_master}
+use Rattle.pm_core.specs.Values.{slave_place, master_place, point_at}
 use Rattle.pm_rows.specs.declared.row.Entry.{Entry}
 use Rattle.pm_rows.specs.declared.row.Row.{Row}
 use Rattle.pm_core.specs.State.{State, in_force}
@@ -36,7 +41,24 @@ row_view_at m (Some s) book = record {
 abbrev pub row_view : ℕ → NodeId → State → RowView
 row_view m node book = row_view_at m (slave_place node book) book
 
--- a node that isn't a slave is told with its value alone
+-- the processor at place p, where it is that of the master at place m
+abbrev pub own_proc : ℕ → ℕ → State → Option Processor
+own_proc m p book =
+    if owns book.fixed.object book.fixed.topology m p then Some (proc_at p book.now.core.procs) else None
+
+-- the same for a node of this kind
+abbrev pub proc_view_at : ℕ → Kind → State → ProcView
+proc_view_at m (Proc p) book = record { place = Some p; own = own_proc m p book }
+proc_view_at m (Slave s) book = record { place = None; own = None }
+proc_view_at m (Power w) book = record { place = None; own = None }
+proc_view_at m Unknown book = record { place = None; own = None }
+
+-- what the master at place m sees of a processor: its place, where the node is one, and its mode and resume address where it
+-- is the master's own
+abbrev pub proc_view : ℕ → NodeId → State → ProcView
+proc_view m node book = proc_view_at m (kind_of book.fixed.topology node) book
+
+-- a node that isn't a slave is told with this operating point alone
 abbrev pub plain : ℕ → StatusView
 plain value = record { state = Some value; requested = record { 0 = 0 }; usage = 0 }
 
@@ -50,10 +72,11 @@ status_view_at m (Slave s) value book = record {
   usage = usage_of m s book.now.core.rows;
 }
 
--- what the master at place m is told of a node: its value, and of a slave the capabilities that the master wants of it
--- now, and who uses it
+-- what the master at place m is told of a node: its operating point, and of a slave the capabilities that the master wants
+-- of it now, and who uses it
 abbrev pub status_view : ℕ → NodeId → State → StatusView
-status_view m node book = status_view_at m (kind_of book.fixed.topology node) (value (Node node) book) book
+status_view m node book =
+    status_view_at m (kind_of book.fixed.topology node) (point_at (kind_of book.fixed.topology node) book.fixed book.now.core) book
 
 abbrev pub row_at : Option ℕ → Option ℕ → State → Option Row
 row_at (Some m) (Some s) book = option_map (λ (entry : Entry). entry.row) (entry_at m s book.now.core.rows)
@@ -63,3 +86,23 @@ row_at None s book = None
 -- the row of a configured master on a slave, where the object permits the pair
 abbrev pub row : NodeId → NodeId → State → Option Row
 row master slave book = row_at (master_place master book) (slave_place slave book) book
+
+-- the mode of a node of this kind
+abbrev pub mode_by : Kind → State → Mode
+mode_by (Proc p) book = mode_at p book.now.core.procs
+mode_by (Slave s) book = Off
+mode_by (Power w) book = Off
+mode_by Unknown book = Off
+
+-- the mode of a processor, and Off for any other node
+abbrev pub mode : NodeId → State → Mode
+mode proc book = mode_by (kind_of book.fixed.topology proc) book
+
+-- the mode of the master at a place, where there is one
+abbrev pub master_mode_at : Option ℕ → State → Mode
+master_mode_at (Some m) book = mode_of_master book.fixed book.now.core m
+master_mode_at None book = Off
+
+-- the mode of a configured master, and Off for any other node
+abbrev pub master_mode : NodeId → State → Mode
+master_mode master book = master_mode_at (master_place master book) book

@@ -1,3 +1,9 @@
+pub mod AbortSuspend
+pub mod GetApiVersion
 pub mod GetNodeStatus
+pub mod InitFinalize
 pub mod ReleaseNode
 pub mod RequestNode
+pub mod SelfSuspend
+pub mod SetMaxLatency
+pub mod SetRequirement

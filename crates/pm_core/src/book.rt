@@ -11,21 +11,23 @@ ghost use Rattle.pm_core.specs.Step.{effect, outputs, outputs_at_load, is_refuse
 ghost use Rattle.pm_core.specs.State.{in_force};
 ghost use Rattle.pm_core.specs.Sound.{IsSound, StandsAsWanted, MeetsRequirements};
 ghost use Rattle.pm_core.specs.Units.{units};
-ghost use Rattle.pm_core.specs.Values.{value};
-ghost use Rattle.pm_core.specs.Views.{row};
+ghost use Rattle.pm_core.specs.Values.{point, value};
+ghost use Rattle.pm_core.specs.Views.{master_mode, mode, row};
 
 use crate::caches::Caches;
 use crate::inner::Inner;
+use crate::laws::{books_stay_sound, values_meet};
 use crate::outbox::Outbox;
-use pm_base::{Event, NoMemory, NodeId, Unit};
+use pm_base::{Event, Mode, NoMemory, NodeId, Unit};
 use pm_object::Object;
 use pm_rows::Row;
-use pm_topology::Topology;
+use pm_topology::{Topology, units_stand_in_order};
 use std::alloc::Global;
 use std::marker::Model;
 
-/// The book of requirements. It keeps the object, the parts of the chip, and a row for each
-/// permitted pair of a master and a slave, which contracts see, and what is found of the values.
+/// The book of requirements. It keeps the object, the parts of the chip, a row for each permitted pair
+/// of a master and a slave, and the mode and resume address of each processor, which contracts see, and
+/// what is found of the values.
 #[derive(Drop)]
 pub struct Book {
     inner: Inner,
@@ -45,9 +47,10 @@ impl Model for Book {
 }
 
 impl Book {
-    /// The book of an object at load: a row for each permitted pair, and none is used. The topology
-    /// passes its check and obeys the rules on masters, and the outbox was loaded for it and for the
-    /// number of masters of the object. The outbox then holds the units that aren't 0 at load.
+    /// The book of an object at load: a row for each permitted pair, with what the object preallocates
+    /// for it, and the first processor of the first master is active. The topology passes its check and
+    /// obeys the rules on masters, and the outbox was loaded for it and for the number of masters of the
+    /// object. The outbox then holds the units that aren't 0 at load, and the start of that processor.
     ///
     /// # Errors
     ///
@@ -70,23 +73,30 @@ impl Book {
         ensures room { KeepsRoom out.old out.new }
         ensures ready { IfOk result (λ book. HasRoomFor book out.new) }
 
-        // Exactly the permitted pairs have a row, and a slave that can't be shared has one user.
+        // Exactly the permitted pairs have a row, a slave that can't be shared has one user at most, the rows
+        // know the modes of the masters, nothing is scheduled while a master is active, one that is off uses
+        // nothing, and a processor that no configured master has is off.
         ensures sound { IfOk result IsSound }
 
-        // Each slave stands in the first of its states that meets all that is required of it, and each
-        // power node is up exactly where it is held or something directly below needs power in its value.
+        // Each slave stands in the first of its states that meets all that is required of it, each processor
+        // is at 1 exactly where it is active or suspending, and each power node is up exactly where it is
+        // held or something directly below needs power in its value.
         ensures met { IfOk result (λ book. MeetsRequirements book (λ u. value u book)) }
     {
+        units_stand_in_order();
+        values_meet();
         out.clear();
         let inner = Inner::load(alloc, object, topology)?;
         let mut caches = Caches::load(alloc, &inner)?;
-        caches.update(&inner, &mut out.moved);
+        caches.update(&inner, &mut out.moved, &mut out.starts);
         Ok(Book { inner, caches })
     }
 
-    /// One event. A message of a configured master is a call, which is checked, changes the book
-    /// where all checks pass, and is answered as its acknowledge kind says. No other event changes
-    /// the book. The outbox, which was loaded for the book's topology and masters, then holds what
+    /// One event. A message of a configured master that is active or suspending is a call, which is
+    /// checked, changes the book where all checks pass, and is answered as its acknowledge kind says. A
+    /// boot loader starts a processor that is off and that a configured master has, and a suspending one
+    /// that waits for an interrupt sleeps. No
+    /// other event changes the book. The outbox, which was loaded for the book's topology and masters, then holds what
     /// this step puts out. No memory is taken.
     #[tactic(auto, using(crate::proofs::Refused::refused_stays))]
     pub fn step(&mut self, event: &Event, out: &mut Outbox)
@@ -102,16 +112,23 @@ impl Book {
         // A message that is dropped, or whose status isn't 0, changes nothing.
         ensures refused { IsTrue (is_refused event.now self.old) → self.new ≡ self.old }
 
-        // Exactly the permitted pairs have a row, and a slave that can't be shared has one user.
+        // Exactly the permitted pairs have a row, a slave that can't be shared has one user at most, the rows
+        // know the modes of the masters, nothing is scheduled while a master is active, one that is off uses
+        // nothing, and a processor that no configured master has is off.
         ensures sound { IsSound self.new }
 
-        // Each slave stands in the first of its states that meets all that is required of it, and each
-        // power node is up exactly where it is held or something directly below needs power in its value.
+        // Each slave stands in the first of its states that meets all that is required of it, each processor
+        // is at 1 exactly where it is active or suspending, and each power node is up exactly where it is
+        // held or something directly below needs power in its value.
         ensures met { MeetsRequirements self.new (λ u. value u self.new) }
     {
+        units_stand_in_order();
+        books_stay_sound();
+        values_meet();
         out.clear();
         let heard = self.inner.take(&self.caches, event);
-        self.caches.update(&self.inner, &mut out.moved);
+        self.caches
+            .update(&self.inner, &mut out.moved, &mut out.starts);
         out.answer = self.inner.answer(&self.caches, heard);
     }
 
@@ -132,6 +149,7 @@ impl Book {
         ensures met { MeetsRequirements self.now (λ u. value u self.now) }
         ensures fed { IsFed result.now (λ u. value u self.now) }
     {
+        values_meet();
         self.inner.topology()
     }
 
@@ -153,14 +171,37 @@ impl Book {
         }
     }
 
-    /// The value of a unit: the state of a slave, 1 for a power node that is up, and 0 for a
-    /// processor, which is off, a reset line, and a unit that isn't there. The state of a slave is its
-    /// first one that has what is wanted of it.
+    /// The value of a unit: the state of a slave, 1 for a processor that is active or suspending and for a
+    /// power node that is up, and else 0, as for a reset line and a unit that isn't there. The state of a
+    /// slave is its first one that has what is wanted of it.
     pub fn value(&self, unit: Unit) -> u32
         ensures value { result ≡ value unit self.now }
         ensures meets { StandsAsWanted unit result self.now }
     {
+        values_meet();
         self.inner.value(&self.caches, unit)
+    }
+
+    /// The operating point of a node (UG1200): of a processor the number of its mode, and of any other
+    /// node its value.
+    pub fn point(&self, node: NodeId) -> u32
+        ensures { result ≡ point node self.now }
+    {
+        self.inner.point(&self.caches, node)
+    }
+
+    /// The mode of a processor, and Off for any other node.
+    pub fn mode(&self, proc: NodeId) -> Mode
+        ensures { result ≡ mode proc self.now }
+    {
+        self.inner.mode(proc)
+    }
+
+    /// The mode of a configured master, and Off for any other node.
+    pub fn master_mode(&self, master: NodeId) -> Mode
+        ensures { result ≡ master_mode master self.now }
+    {
+        self.inner.master_mode(master)
     }
 
     /// The row of a master on a slave. There is none exactly where the object doesn't permit the
@@ -171,6 +212,7 @@ impl Book {
         ensures permitted { is_some result
             ≡ may_use (in_force self.now) self.now.fixed.topology master slave }
     {
+        books_stay_sound();
         self.inner.row(master, slave)
     }
 }

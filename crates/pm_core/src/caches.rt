@@ -1,26 +1,28 @@
 //! What the book keeps of its values.
 
-ghost use Rattle.std.specs.Prelude.{◌≡◌, ◌+◌, ◌≤◌, ◌++◌, IfOk, length, map, option_map, slice_get};
+ghost use Rattle.std.specs.Prelude.{◌≡◌, ◌+◌, ◌≤◌, ◌++◌, [], IfOk, length, map, option_map, slice_get};
 ghost use Rattle.pm_topology.specs.Units.{units_of};
 ghost use Rattle.pm_topology.specs.UnitMap.{all_at};
-ghost use Rattle.pm_core.specs.Caches.{AreKept, HasPlaces, kind_of_unit, moved_by, value_kept};
+ghost use Rattle.pm_core.specs.Caches.{AreKept, HasPlaces, kind_of_unit, moved_by, starts_by, value_kept};
 ghost use Rattle.pm_core.specs.Values.{value_at};
 
 use crate::inner::Inner;
-use crate::moves::note_moves;
-use crate::shelf::Shelf;
-use pm_base::{NoMemory, Unit};
+use crate::moves::{note_moves, note_starts};
+use crate::outbox::Start;
+use pm_base::{BoundedList, NoMemory, Unit};
 use pm_power::Power;
-use pm_topology::{Kind, Topology, UnitMap, units_of};
+use pm_topology::{Kind, Topology, UnitMap, kinds_are_exact, units_of, units_stand_in_order};
 use std::alloc::Global;
 
 /// What is kept of the values of a book: the kind of each unit by its place, the chosen state of each
-/// slave and whether it needs its power node in it, the power nodes, and the value of each unit.
+/// slave and whether it needs its power node in it, whether each processor runs, the power nodes, and
+/// the value of each unit.
 #[derive(Drop)]
 pub(crate) struct Caches {
     kinds: Vec<Kind>,
     states: Vec<u32>,
     needs: Vec<bool>,
+    runs: Vec<bool>,
     power: Power,
     values: UnitMap<u32>,
 }
@@ -37,6 +39,7 @@ impl Caches {
             kinds: kinds_of(alloc, t, units_of(alloc, t)?.as_slice())?,
             states: zeros(alloc, slaves)?,
             needs: no_needs(alloc, slaves)?,
+            runs: no_needs(alloc, t.procs.len())?,
             power: Power::load(alloc, t)?,
             values: UnitMap::load(alloc, t, 0)?,
         })
@@ -64,21 +67,37 @@ impl Caches {
     }
 
     /// Brings all that is kept up to date, and puts the units whose value isn't the one before into
-    /// `moved`, in their order.
-    pub(crate) fn update(&mut self, inner: &Inner, moved: &mut Shelf<Unit>)
+    /// `moved`, and the processors that are active now and whose value was 0 before into `starts`, in the
+    /// order of the units.
+    pub(crate) fn update(
+        &mut self,
+        inner: &Inner,
+        moved: &mut BoundedList<Unit>,
+        starts: &mut BoundedList<Start>,
+    )
         requires places { HasPlaces inner.now.fixed.topology self.old }
         requires room { length moved.old.items + length self.old.values ≤ moved.old.room }
+        requires starts { starts.old.items ≡ [] }
+        requires procs { length inner.now.fixed.topology.procs ≤ starts.old.room }
         ensures kept { AreKept inner.now self.new }
         ensures moved { moved.new ≡ record moved.old {
           items = moved.old.items
               ++ moved_by (λ kind. value_at kind inner.now.fixed inner.now.now.core) self.old.kinds.items self.old.values;
         } }
+        ensures starts { starts.new ≡ record starts.old {
+          items = starts_by inner.now.now.core.procs self.old.kinds.items self.old.values;
+        } }
     {
+        units_stand_in_order();
+        kinds_are_exact();
         inner.choose(&mut self.states, &mut self.needs);
-        self.power.recompute(&self.needs);
+        inner.note_runs(&mut self.runs);
+        self.power.recompute(&self.needs, &self.runs);
+        note_starts(&self.kinds, &inner.procs, &self.values, starts);
         note_moves(
             &self.kinds,
             &self.states,
+            &inner.procs,
             self.power.ups(),
             &mut self.values,
             moved,

@@ -1,7 +1,14 @@
 //! The calls, one file each.
 
+mod abort_suspend;
+mod get_api_version;
 mod get_node_status;
+mod init_finalize;
 mod release_node;
 mod request_node;
+mod self_suspend;
+mod set_max_latency;
+mod set_requirement;
 
+pub(crate) use get_api_version::get_api_version;
 pub(crate) use get_node_status::get_node_status;

@@ -1,45 +1,48 @@
 //! The book without what is kept of its values.
 
-ghost use Rattle.std.specs.Prelude.{◌≡◌, ◌∷◌, [], length, slice_get, Some, IfOk};
+ghost use Rattle.std.specs.Prelude.{◌≡◌, length, slice_get};
 ghost use Rattle.std.specs.Option.{option_copied};
 ghost use Rattle.pm_topology.specs.WellFormed.{IsWellFormed};
 ghost use Rattle.pm_topology.specs.Places.{kind_of};
 ghost use Rattle.pm_core.specs.Caches.{AreKept};
-ghost use Rattle.pm_core.specs.Load.{load_of};
-ghost use Rattle.pm_core.specs.Prims.{changed, At_row};
-ghost use Rattle.pm_core.specs.Sound.{IsSound};
 ghost use Rattle.pm_core.specs.State.{in_force};
-ghost use Rattle.pm_core.specs.Values.{value, slave_place, master_place, state_at, placed, chosen, need_of};
+ghost use Rattle.pm_core.specs.Values.{value, slave_place, master_place, state_at, placed, chosen, need_of, run_of};
 ghost use Rattle.pm_core.specs.Views.{row};
 
 use crate::caches::Caches;
 use crate::choice::chosen_state;
-use crate::pairs::push_rows;
-use pm_base::{NoMemory, NodeId, Unit};
+use pm_base::{NodeId, Unit};
 use pm_object::Object;
-use pm_rows::{Change, Row, Rows};
-use pm_topology::{Kind, SlaveDef, Topology, needs_in};
-use std::alloc::Global;
+use pm_procs::{Procs, is_awake};
+use pm_rows::{Row, Rows};
+use pm_topology::{Kind, SlaveDef, Topology, kinds_are_exact, needs_in, units_stand_in_order};
 use std::marker::Model;
 
-/// The object, the parts of the chip, and a row for each permitted pair of a master and a slave. A
-/// change of it owes nothing to what is kept of the book's values.
-#[derive(Debug, Drop)]
+/// The object, the parts of the chip, a row for each permitted pair of a master and a slave, and the
+/// processors. A change of it owes nothing to what is kept of the book's values.
+#[derive(Drop)]
 pub(crate) struct Inner {
     pub(crate) object: Object,
     pub(crate) topology: Topology,
     pub(crate) rows: Rows,
+    pub(crate) procs: Procs,
 }
 
 impl Model for Inner {
     ghost use Rattle.pm_topology.specs.WellFormed.{IsWellFormed};
+    ghost use Rattle.std.specs.Prelude.{◌≡◌};
+    ghost use Rattle.pm_core.specs.Members.{members_of};
     ghost use Rattle.pm_core.specs.State.{State};
 
     ghost Value = { State };
 
-    ghost view = { λ inner. record { fixed = record { object = inner.object; topology = inner.topology }; now = record { core = record { rows = inner.rows }; talk = record {} } } };
+    ghost view = { λ inner. record {
+      fixed = record { object = inner.object; topology = inner.topology };
+      now = record { core = record { rows = inner.rows; procs = inner.procs.procs }; talk = record {} };
+    } };
 
-    ghost invariant = { λ inner. IsWellFormed inner.topology };
+    ghost invariant = { λ inner. IsWellFormed inner.topology
+        × (inner.procs.members ≡ members_of inner.object inner.topology) };
 }
 
 fn slave_at(slaves: &[SlaveDef], place: usize) -> Option<&SlaveDef>
@@ -49,21 +52,6 @@ fn slave_at(slaves: &[SlaveDef], place: usize) -> Option<&SlaveDef>
 }
 
 impl Inner {
-    /// A row for each permitted pair, and none is used.
-    pub(crate) fn load(alloc: Global, object: Object, topology: Topology) -> Result<Inner, NoMemory>
-        requires { IsWellFormed topology }
-        ensures book { IfOk result (λ inner. inner ≡ load_of object topology) }
-        ensures sound { IfOk result IsSound }
-    {
-        let mut rows = Rows::new(alloc);
-        push_rows(&mut rows, &object, topology.slaves.as_slice())?;
-        Ok(Inner {
-            object,
-            topology,
-            rows,
-        })
-    }
-
     /// The configuration object in force.
     pub(crate) fn in_force(&self) -> &Object
         ensures { result.now ≡ in_force self.now }
@@ -114,11 +102,12 @@ impl Inner {
     }
 
     /// The value of a unit, as it is kept.
-    #[tactic(auto, using(crate::proofs::CachesLaw::kept_value))]
     pub(crate) fn value(&self, caches: &Caches, unit: Unit) -> u32
         requires { AreKept self.now caches.now }
         ensures { result ≡ value unit self.now }
     {
+        units_stand_in_order();
+        kinds_are_exact();
         caches.value(unit)
     }
 
@@ -146,9 +135,13 @@ impl Inner {
         }
     }
 
-    pub(crate) fn change_row(&mut self, master: usize, slave: usize, by: Change)
-        ensures { self.new ≡ changed (At_row master slave by ∷ []) self.old }
+    /// Writes whether each processor runs, and so needs its power node.
+    pub(crate) fn note_runs(&self, runs: &mut [bool])
+        requires { length runs.old ≡ length self.now.fixed.topology.procs }
+        ensures { runs.new ≡ placed (run_of self.now.now.core) 0 self.now.fixed.topology.procs }
     {
-        self.rows.change(master, slave, by);
+        for p in 0..self.topology.procs.len() {
+            runs[p] = is_awake(self.procs.mode(p));
+        }
     }
 }

@@ -1,23 +1,26 @@
 //! The book of requirements of the power management core: which master uses which slave with which
-//! capabilities, and how one event changes that and what is answered (UG1200, power management API).
+//! capabilities, in which mode each processor is, and how one event changes that and what is answered
+//! (UG1200, power management API).
 #![tactic(auto)]
 
 mod book;
 mod caches;
 mod calls;
 mod choice;
+mod events;
 mod inner;
 mod laws;
+mod load;
+mod members;
 mod moves;
 mod outbox;
 mod pairs;
 mod replies;
-mod shelf;
+mod stages;
 mod step;
 mod views;
 
 pub use book::Book;
-pub use laws::{books_of_a_run, values_are_fed};
-pub use outbox::{Done, Outbox};
+pub use laws::{books_of_a_run, books_stay_sound, members_are_owned, values_are_fed, values_meet};
+pub use outbox::{Done, Outbox, Start};
 pub use replies::Answer;
-pub use shelf::Shelf;

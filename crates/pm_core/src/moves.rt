@@ -1,11 +1,12 @@
-//! Which units a step moves.
+//! Which units a step moves, and which processors it starts.
 
-ghost use Rattle.std.specs.Prelude.{◌≡◌, ◌+◌, ◌<◌, ◌≤◌, ◌++◌, false, length, slice_get, unwrap_or};
+ghost use Rattle.std.specs.Prelude.{◌≡◌, ◌+◌, ◌<◌, ◌≤◌, ◌++◌, false, length, option_to_list, slice_get, unwrap_or};
 ghost use Rattle.pm_topology.specs.UnitMap.{with_value_at};
-ghost use Rattle.pm_core.specs.Caches.{kind_value, moved_at, moved_by, revalued};
+ghost use Rattle.pm_core.specs.Caches.{kind_value, moved_at, moved_by, revalued, started_at, starts_by};
 
-use crate::shelf::Shelf;
-use pm_base::Unit;
+use crate::outbox::Start;
+use pm_base::{BoundedList, Mode, Unit};
+use pm_procs::{Procs, is_awake};
 use pm_topology::{Kind, UnitMap};
 
 /// Writes the value of each unit by its kind, and puts those units into `moved` whose value isn't the
@@ -13,25 +14,26 @@ use pm_topology::{Kind, UnitMap};
 pub(crate) fn note_moves(
     kinds: &[Kind],
     states: &[u32],
+    procs: &Procs,
     ups: &[bool],
     values: &mut UnitMap<u32>,
-    moved: &mut Shelf<Unit>,
+    moved: &mut BoundedList<Unit>,
 )
     requires places { length kinds.now ≡ length values.old }
     requires room { length moved.old.items + length values.old ≤ moved.old.room }
-    ensures values { values.new ≡ revalued (kind_value states.now ups.now) kinds.now values.old }
+    ensures values { values.new ≡ revalued (kind_value states.now procs.now.procs ups.now) kinds.now values.old }
     ensures moved { moved.new ≡ record moved.old {
       items = moved.old.items
-          ++ moved_by (kind_value states.now ups.now) kinds.now values.old;
+          ++ moved_by (kind_value states.now procs.now.procs ups.now) kinds.now values.old;
     } }
 {
     for (k, kind) in kinds.iter().enumerate() {
-        note_move(k, kind_value(*kind, states, ups), values, moved);
+        note_move(k, kind_value(*kind, states, procs, ups), values, moved);
     }
 }
 
 /// Writes the value of the unit at a place, and puts the unit into `moved` if that isn't the one before.
-fn note_move(k: usize, value: u32, values: &mut UnitMap<u32>, moved: &mut Shelf<Unit>)
+fn note_move(k: usize, value: u32, values: &mut UnitMap<u32>, moved: &mut BoundedList<Unit>)
     requires { length moved.old.items < moved.old.room }
     ensures values { values.new ≡ with_value_at k value values.old }
     ensures moved { moved.new ≡ record moved.old { items = moved.old.items ++ moved_at value (slice_get values.old k) } }
@@ -44,14 +46,16 @@ fn note_move(k: usize, value: u32, values: &mut UnitMap<u32>, moved: &mut Shelf<
     values.set_at(k, value);
 }
 
-/// The value of a unit of this kind: the state of a slave, 1 for a power node that is up, and else 0.
-fn kind_value(kind: Kind, states: &[u32], ups: &[bool]) -> u32
-    ensures { result ≡ kind_value states.now ups.now kind }
+/// The value of a unit of this kind: the state of a slave, 1 for a processor that runs and for a power
+/// node that is up, and else 0.
+fn kind_value(kind: Kind, states: &[u32], procs: &Procs, ups: &[bool]) -> u32
+    ensures { result ≡ kind_value states.now procs.now.procs ups.now kind }
 {
     match kind {
         Kind::Slave(place) => state_at(states, place),
         Kind::Power(place) => { if is_up(ups, place) { 1 } else { 0 } }
-        Kind::Proc(_) | Kind::Unknown => 0,
+        Kind::Proc(place) => { if is_awake(procs.mode(place)) { 1 } else { 0 } }
+        Kind::Unknown => 0,
     }
 }
 
@@ -65,4 +69,40 @@ fn is_up(ups: &[bool], place: usize) -> bool
     ensures { result ≡ unwrap_or (slice_get ups.now place) false }
 {
     ups.get(place).copied().unwrap_or(false)
+}
+
+/// Puts the processors that are active now, and whose value was 0 before, into `starts`.
+pub(crate) fn note_starts(
+    kinds: &[Kind],
+    procs: &Procs,
+    values: &UnitMap<u32>,
+    starts: &mut BoundedList<Start>,
+)
+    requires places { length kinds.now ≡ length values.now }
+    requires room { length starts.old.items + length (starts_by procs.now.procs kinds.now values.now) ≤ starts.old.room }
+    ensures { starts.new ≡ record starts.old {
+      items = starts.old.items ++ starts_by procs.now.procs kinds.now values.now;
+    } }
+{
+    for (k, kind) in kinds.iter().enumerate() {
+        if let Some(start) = start_at(*kind, procs, values.entry(k)) {
+            starts.push(start);
+        }
+    }
+}
+
+/// The start of the unit of an entry, if it is a processor that starts.
+fn start_at(kind: Kind, procs: &Procs, entry: Option<(Unit, u32)>) -> Option<Start>
+    ensures { option_to_list result ≡ started_at procs.now.procs kind entry }
+{
+    match (kind, entry) {
+        (Kind::Proc(place), Some((Unit::Node(node), 0))) => match procs.mode(place) {
+            Mode::Active => Some(Start {
+                proc: node,
+                address: procs.resume(place),
+            }),
+            Mode::Off | Mode::Asleep | Mode::Suspending => None,
+        },
+        _ => None,
+    }
 }

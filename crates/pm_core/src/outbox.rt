@@ -5,8 +5,7 @@ ghost use Rattle.pm_core.specs.Outbox.{HasRoom, IsEmpty, KeepsRoom, unit_count};
 ghost use Rattle.pm_topology.specs.WellFormed.{IsWellFormed};
 
 use crate::replies::Answer;
-use crate::shelf::Shelf;
-use pm_base::{Command, NoMemory, Unit};
+use pm_base::{BoundedList, Command, NoMemory, NodeId, Unit};
 use pm_topology::Topology;
 use std::alloc::Global;
 
@@ -18,12 +17,21 @@ pub struct Done {
     pub ok: bool,
 }
 
-/// What a step puts out: the units whose value it changed, in the order of the units, and the answer.
-/// The commands that are done for it are put in by whoever drives the device.
+/// A processor that was off or asleep and is active now, and the address at which it begins.
+#[derive(Clone, Copy, Debug, PartialEq, Eq)]
+pub struct Start {
+    pub proc: NodeId,
+    pub address: u64,
+}
+
+/// What a step puts out: the units whose value it changed, in the order of the units, the processors
+/// that it started, by number, and the answer. The commands that are done for it are put in by whoever
+/// drives the device.
 #[derive(Drop)]
 pub struct Outbox {
-    pub moved: Shelf<Unit>,
-    pub done: Shelf<Done>,
+    pub moved: BoundedList<Unit>,
+    pub done: BoundedList<Done>,
+    pub starts: BoundedList<Start>,
     pub answer: Answer,
 }
 
@@ -41,8 +49,9 @@ impl Outbox {
     {
         let units = count(t);
         Ok(Outbox {
-            moved: Shelf::with_room(alloc, units)?,
-            done: Shelf::with_room(alloc, units + t.powers.len())?,
+            moved: BoundedList::with_room(alloc, units)?,
+            done: BoundedList::with_room(alloc, units + t.powers.len())?,
+            starts: BoundedList::with_room(alloc, t.procs.len())?,
             answer: Answer::Silent,
         })
     }
@@ -54,6 +63,7 @@ impl Outbox {
     {
         self.moved.clear();
         self.done.clear();
+        self.starts.clear();
         self.answer = Answer::Silent;
     }
 }

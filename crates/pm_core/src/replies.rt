@@ -8,7 +8,7 @@ use pm_ipi::Response;
 pub enum Answer {
     /// Nothing: the event is no message, or its call wants no acknowledgement.
     Silent,
-    /// Nothing: the sender is no configured master, so that its message was dropped.
+    /// Nothing: the sender is no configured master, or is asleep or off, so that its message was dropped.
     Drop {
         master: NodeId,
     },

@@ -1,22 +1,23 @@
-//! What one event does to the rows, and how it is answered.
+//! What one event does to the book, and how it is answered.
 
 ghost use Rattle.std.specs.Prelude.{◌≡◌};
 ghost use Rattle.pm_base.specs.declared.events.Event.TheVariants.{Ipi};
 ghost use Rattle.pm_ipi.specs.Calls.{ack_of, node_of};
 ghost use Rattle.pm_core.specs.Caches.{AreKept};
-ghost use Rattle.pm_core.specs.Prims.{changed};
+ghost use Rattle.pm_core.specs.Stages.{after_stages};
 ghost use Rattle.pm_core.specs.Step.{called, effect, heard_of, answer_by, acknowledged};
 
 use crate::caches::Caches;
-use crate::calls::get_node_status;
+use crate::calls::{get_api_version, get_node_status};
 use crate::inner::Inner;
 use crate::replies::Answer;
-use pm_base::{Event, Message, NodeId, Unit};
+use pm_base::{Event, Message, NodeId};
 use pm_ipi::status::NO_FEATURE;
 use pm_ipi::{AckKind, Call, Response, decode_call};
+use pm_procs::is_awake;
 
-/// What an event came to: nothing to be answered, a message of no configured master, or a call that
-/// was served.
+/// What an event came to: nothing to be answered, a message that was dropped, or a call that was
+/// served.
 #[derive(Clone, Copy, Debug, PartialEq, Eq)]
 pub(crate) enum Heard {
     Nothing,
@@ -31,16 +32,19 @@ pub(crate) enum Heard {
 }
 
 impl Inner {
-    /// One event: the rows by its effect, and what it came to.
+    /// One event: the book by its effect, and what it came to.
     pub(crate) fn take(&mut self, caches: &Caches, event: &Event) -> Heard
         requires { AreKept self.old caches.now }
         ensures book { self.new ≡ effect event.now self.old }
         ensures heard { result ≡ heard_of event.now self.old }
     {
         match event {
-            Event::Ipi { master, message } => self.hear(caches, *master, message),
-            _ => Heard::Nothing,
+            Event::Ipi { master, message } => return self.hear(caches, *master, message),
+            Event::Boot { proc, address } => self.boot(*proc, *address),
+            Event::Wfi { proc } => self.wait(*proc),
+            _ => {}
         }
+        Heard::Nothing
     }
 
     fn hear(&mut self, caches: &Caches, master: NodeId, message: &Message) -> Heard
@@ -51,6 +55,9 @@ impl Inner {
         let Some(place) = self.master_place(master) else {
             return Heard::Dropped { master };
         };
+        if !is_awake(self.mode_of_master(place)) {
+            return Heard::Dropped { master };
+        }
         let call = decode_call(message);
         let response = self.serve(caches, place, call);
         Heard::Served {
@@ -63,11 +70,20 @@ impl Inner {
     fn serve(&mut self, caches: &Caches, master: usize, call: Call) -> Response
         requires { AreKept self.old caches.now }
         ensures response { result ≡ (called master call self.old).response }
-        ensures book { self.new ≡ changed (called master call self.old).changes self.old }
+        ensures book { self.new ≡ after_stages (called master call self.old).stages self.old }
     {
         match call {
+            Call::GetApiVersion => get_api_version(),
             Call::GetNodeStatus { node } => {
                 get_node_status(&self.status_view(caches, master, node))
+            }
+            Call::SelfSuspend { node, address } => {
+                let view = self.proc_view(master, node);
+                self.self_suspend(master, &view, address)
+            }
+            Call::AbortSuspend { node, reason } => {
+                let view = self.proc_view(master, node);
+                self.abort_suspend(master, &view, reason)
             }
             Call::RequestNode { node, caps, ack } => {
                 let view = self.row_view(master, node);
@@ -77,6 +93,16 @@ impl Inner {
                 let view = self.row_view(master, node);
                 self.release_node(&view)
             }
+            Call::SetRequirement { node, caps, ack } => {
+                let view = self.row_view(master, node);
+                let mode = self.mode_of_master(master);
+                self.set_requirement(&view, mode, caps, ack)
+            }
+            Call::SetMaxLatency { node, latency } => {
+                let view = self.row_view(master, node);
+                self.set_max_latency(&view, latency)
+            }
+            Call::InitFinalize => self.init_finalize(master),
             Call::Unknown => Response::refusal(NO_FEATURE),
         }
     }
@@ -114,8 +140,8 @@ impl Inner {
                 master,
                 node: call.node(),
                 status: response.status,
-                point: self.value(caches, Unit::Node(call.node())),
-                shown: true,
+                point: self.point(caches, call.node()),
+                shown: is_awake(self.master_mode(master)),
             },
         }
     }

@@ -3,12 +3,14 @@
 ghost use Rattle.std.specs.Prelude.{◌≡◌};
 ghost use Rattle.pm_rows.specs.Rows.{now_of};
 ghost use Rattle.pm_core.specs.Caches.{AreKept};
+ghost use Rattle.pm_core.specs.Values.{point};
 ghost use Rattle.pm_core.specs.Views;
 
 use crate::caches::Caches;
 use crate::inner::Inner;
-use pm_base::{Caps, NodeId, Unit};
+use pm_base::{Caps, Mode, NodeId, Unit};
 use pm_object::MasterRec;
+use pm_procs::{Proc, mode_number};
 use pm_rows::Entry;
 use pm_topology::Kind;
 
@@ -21,7 +23,7 @@ pub struct RowView {
     pub rival: Option<NodeId>,
 }
 
-/// What a master is told of a node: its state, and for a slave the capabilities that the master
+/// What a master is told of a node: its operating point, and for a slave the capabilities that the master
 /// wants of it now and who uses it (0 nobody, 1 only the master, 2 only others, 3 both). There is no
 /// state where no node has the number.
 #[derive(Clone, Copy, Debug, PartialEq, Eq)]
@@ -29,6 +31,14 @@ pub struct StatusView {
     pub state: Option<u32>,
     pub requested: Caps,
     pub usage: u32,
+}
+
+/// What a master sees of a processor: its place, where the node is one, and its mode and resume address
+/// where it is the master's own.
+#[derive(Clone, Copy, Debug, PartialEq, Eq)]
+pub struct ProcView {
+    pub place: Option<usize>,
+    pub own: Option<Proc>,
 }
 
 fn now_of(entry: Option<Entry>) -> Caps
@@ -71,14 +81,43 @@ impl Inner {
     fn rival_node(&self, master: usize, slave: usize) -> Option<NodeId>
         ensures { result ≡ Views.rival_node master slave self.now }
     {
-        match self.rows.rival_of(master, slave) {
+        match self.rows.rival(master, slave) {
             Some(rival) => Some(master_node(self.object.masters.as_slice(), rival)),
             None => None,
         }
     }
 }
 
-/// What is told of a node that isn't a slave: its value alone.
+impl Inner {
+    ghost use Rattle.pm_core.specs.Views.{own_proc, proc_view};
+
+    pub(crate) fn proc_view(&self, master: usize, node: NodeId) -> ProcView
+        ensures { result ≡ proc_view master node self.now }
+    {
+        match self.kind(node) {
+            Kind::Proc(p) => ProcView {
+                place: Some(p),
+                own: self.own_proc(master, p),
+            },
+            Kind::Slave(_) | Kind::Power(_) | Kind::Unknown => ProcView {
+                place: None,
+                own: None,
+            },
+        }
+    }
+
+    fn own_proc(&self, master: usize, p: usize) -> Option<Proc>
+        ensures { result ≡ own_proc master p self.now }
+    {
+        if self.owns(master, p) {
+            Some(self.procs.proc(p))
+        } else {
+            None
+        }
+    }
+}
+
+/// What is told of a node that isn't a slave: its operating point alone.
 fn plain(value: u32) -> StatusView
     ensures { result ≡ Views.plain value }
 {
@@ -92,11 +131,24 @@ fn plain(value: u32) -> StatusView
 impl Inner {
     ghost use Rattle.pm_core.specs.Views.{status_view};
 
+    /// The operating point of a node: of a processor the number of its mode, and of any other its value.
+    pub(crate) fn point(&self, caches: &Caches, node: NodeId) -> u32
+        requires { AreKept self.now caches.now }
+        ensures { result ≡ point node self.now }
+    {
+        match self.kind(node) {
+            Kind::Proc(p) => mode_number(self.procs.mode(p)),
+            Kind::Slave(_) | Kind::Power(_) | Kind::Unknown => {
+                self.value(caches, Unit::Node(node))
+            }
+        }
+    }
+
     pub(crate) fn status_view(&self, caches: &Caches, master: usize, node: NodeId) -> StatusView
         requires { AreKept self.now caches.now }
         ensures { result ≡ status_view master node self.now }
     {
-        let value = self.value(caches, Unit::Node(node));
+        let value = self.point(caches, node);
         match self.kind(node) {
             Kind::Unknown => StatusView {
                 state: None,
@@ -109,6 +161,30 @@ impl Inner {
                 requested: now_of(self.rows.entry_at(master, slave)),
                 usage: self.rows.usage(master, slave),
             },
+        }
+    }
+}
+
+impl Inner {
+    ghost use Rattle.pm_core.specs.Views.{mode, master_mode};
+
+    /// The mode of a processor, and Off for any other node.
+    pub(crate) fn mode(&self, node: NodeId) -> Mode
+        ensures { result ≡ mode node self.now }
+    {
+        match self.kind(node) {
+            Kind::Proc(p) => self.procs.mode(p),
+            Kind::Slave(_) | Kind::Power(_) | Kind::Unknown => Mode::Off,
+        }
+    }
+
+    /// The mode of a configured master, and Off for any other node.
+    pub(crate) fn master_mode(&self, master: NodeId) -> Mode
+        ensures { result ≡ master_mode master self.now }
+    {
+        match self.master_place(master) {
+            Some(m) => self.mode_of_master(m),
+            None => Mode::Off,
         }
     }
 }

@@ -3,7 +3,7 @@
 ghost use Rattle.std.specs.Prelude.{◌≡◌};
 ghost use Rattle.pm_core.specs.Outcome.{outcome_of};
 ghost use Rattle.pm_core.specs.calls.ReleaseNode.{release_node};
-ghost use Rattle.pm_core.specs.Prims.{changed};
+ghost use Rattle.pm_core.specs.Stages.{after_stages};
 
 use crate::inner::Inner;
 use crate::views::RowView;
@@ -15,7 +15,7 @@ impl Inner {
     /// The caller doesn't use the slave any more.
     pub(crate) fn release_node(&mut self, view: &RowView) -> Response
         ensures response { result ≡ (outcome_of (release_node view.now)).response }
-        ensures book { self.new ≡ changed (outcome_of (release_node view.now)).changes self.old }
+        ensures book { self.new ≡ after_stages (outcome_of (release_node view.now)).stages self.old }
     {
         if view.slave.is_none() {
             return Response::refusal(INVALID_NODE);
@@ -26,7 +26,7 @@ impl Inner {
         if !entry.row.used {
             return Response::refusal(NO_ACCESS);
         }
-        self.change_row(entry.seed.master, entry.seed.slave, Change::Release);
+        self.row_stage(entry.seed.master, entry.seed.slave, Change::Release);
         Response::success([0; 3])
     }
 }

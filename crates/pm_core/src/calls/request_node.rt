@@ -3,7 +3,7 @@
 ghost use Rattle.std.specs.Prelude.{◌≡◌};
 ghost use Rattle.pm_core.specs.Outcome.{outcome_of};
 ghost use Rattle.pm_core.specs.calls.RequestNode.{request_node};
-ghost use Rattle.pm_core.specs.Prims.{changed};
+ghost use Rattle.pm_core.specs.Stages.{after_stages};
 
 use crate::inner::Inner;
 use crate::views::RowView;
@@ -17,7 +17,7 @@ impl Inner {
     /// The caller uses the slave from now on, with these capabilities.
     pub(crate) fn request_node(&mut self, view: &RowView, caps: Caps, ack: u32) -> Response
         ensures response { result ≡ (outcome_of (request_node caps ack view.now)).response }
-        ensures book { self.new ≡ changed (outcome_of (request_node caps ack view.now)).changes self.old }
+        ensures book { self.new ≡ after_stages (outcome_of (request_node caps ack view.now)).stages self.old }
     {
         if ack_kind(ack).is_none() {
             return Response::refusal(INVALID_PARAMETER);
@@ -37,7 +37,7 @@ impl Inner {
         if let Some(rival) = view.rival {
             return Response::used_by(rival);
         }
-        self.change_row(entry.seed.master, entry.seed.slave, Change::Request(caps));
+        self.row_stage(entry.seed.master, entry.seed.slave, Change::Request(caps));
         Response::success([0; 3])
     }
 }

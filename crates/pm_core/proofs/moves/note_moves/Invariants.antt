@@ -9,6 +9,6 @@ invariant-loop-k l = record {
   places : length l.values ≡ length l.kinds;
   room : l.moved.room ≡ l.fn.moved.room;
   count : length l.moved.items + length (drop l.k l.kinds) ≤ l.moved.room;
-  written : take l.k l.values ++ revalued (kind_value l.states l.ups) (drop l.k l.kinds) (drop l.k l.values) ≡ revalued (kind_value l.states l.ups) l.kinds l.fn.values;
-  moved : l.moved.items ++ moved_by (kind_value l.states l.ups) (drop l.k l.kinds) (drop l.k l.values) ≡ l.fn.moved.items ++ moved_by (kind_value l.states l.ups) l.kinds l.fn.values;
+  written : take l.k l.values ++ revalued (kind_value l.states l.procs.procs l.ups) (drop l.k l.kinds) (drop l.k l.values) ≡ revalued (kind_value l.states l.procs.procs l.ups) l.kinds l.fn.values;
+  moved : l.moved.items ++ moved_by (kind_value l.states l.procs.procs l.ups) (drop l.k l.kinds) (drop l.k l.values) ≡ l.fn.moved.items ++ moved_by (kind_value l.states l.procs.procs l.ups) l.kinds l.fn.values;
 }

@@ -1,15 +1,15 @@
 use Rattle.std.proofs.Common.{◌≡◌, ◌≤◌, ◌++◌, length, sym, ◌∙◌, ap, subst, arith}
 use Rattle.std.proofs.lemmas.List.{length-map}
-use Rattle.pm_base.specs.declared.names.Unit.{Unit as Place}
+use Rattle.pm_base.specs.declared.names.Unit.{Unit}
 use Rattle.pm_topology.specs.Units.{units_of, entry_count}
 use Rattle.pm_topology.specs.WellFormed.{IsWellFormed}
-use Rattle.pm_topology.proofs.UnitsLaw.{units_of-few}
 use Rattle.pm_core.specs.Caches.{moved_by}
-use Rattle.pm_core.specs.Shelf.{ShelfOf}
+use Rattle.pm_base.specs.BoundedList.{Bounded}
 use Rattle.pm_core.specs.State.{State}
 use Rattle.pm_core.specs.Values.{value_at}
+use Rattle.pm_core.specs.declared.outbox.Start.{Start}
 use Rattle.pm_core.proofs.CachesLaw.{moves_are}
-use Rattle.pm_core.proofs.NeededLaw.{book_meets}
+use Rattle.pm_core.proofs.StepLaw.{load_starts}
 use Rattle.pm_core.proofs.book.Book.load.Goals as goal
 
 pub update-requires-clause-room : goal.update-requires-clause-room
@@ -20,23 +20,25 @@ update-requires-clause-room c =
     let topology : length (units_of c.in_ok-inner.inner.fixed.topology) ≡ length (units_of c.args.topology) =
     ap (λ (b : State). length (units_of b.fixed.topology)) c.in_ok-inner.ensures.book
     in
-    let few : length (units_of c.args.topology) ≤ entry_count c.args.topology = units_of-few c.args.topology in
+    let few : length (units_of c.args.topology) ≤ entry_count c.args.topology = c.units_stand_in_order.ensures.few c.args.topology in
     let none = ap length c.clear.ensures.empty.moved in
     omega (arith, zeros, topology, few, none, c.requires.room.moved, c.clear.ensures.room.moved)
 
 pub returns-clause-met : goal.returns-clause-met
 returns-clause-met c =
     let P : State → Type 0 = λ b. IsWellFormed b.fixed.topology in
-    book_meets c.in_ok-inner.inner (subst P (sym c.in_ok-inner.ensures.book) c.requires.formed) c.in_ok-inner.ensures.sound
+    c.values_meet.ensures.met c.in_ok-inner.inner (subst P (sym c.in_ok-inner.ensures.book) c.requires.formed) c.in_ok-inner.ensures.sound
 
 pub returns-clause-out : goal.returns-clause-out
 returns-clause-out c =
     let book = c.in_ok-inner.inner in
     let caches = c.in_ok-caches.caches in
     record {
-      moved = ap (λ (s : ShelfOf Place). s.items) c.update.ensures.moved ∙ (
+      moved = ap (λ (s : Bounded Unit). s.items) c.update.ensures.moved ∙ (
           ap (λ xs. xs ++ moved_by (λ kind. value_at kind book.fixed book.now.core) caches.kinds.items caches.values) c.clear.ensures.empty.moved
           ∙ moves_are book (λ _. 0) caches.kinds.items caches.values c.in_ok-caches.ensures.places.kinds c.in_ok-caches.ensures.zeros);
+      starts = ap (λ (s : Bounded Start). s.items) c.update.ensures.starts
+          ∙ load_starts book caches.kinds.items caches.values c.in_ok-caches.ensures.places.kinds c.in_ok-caches.ensures.zeros;
       answer = c.clear.ensures.empty.answer;
       done = c.clear.ensures.empty.done;
     }

@@ -1,69 +1,84 @@
-use Rattle.std.proofs.Common.{◌≡◌, ℕ, ◌++◌, length, List, sym, ◌∙◌, ap}
-use Rattle.pm_base.specs.declared.names.Unit.{Unit as Place}
+use Rattle.std.proofs.Common.{◌≡◌, ℕ, ◌≤◌, ◌++◌, length, take, drop, List, sym, ◌∙◌, ap, arith}
+use Rattle.pm_base.specs.declared.names.Unit.{Unit}
 use Rattle.pm_topology.specs.declared.places.Kind.{Kind}
 use Rattle.pm_power.specs.Forest.{ups}
-use Rattle.pm_core.specs.Caches.{kind_value, moved_by}
-use Rattle.pm_core.specs.Shelf.{ShelfOf}
-use Rattle.pm_core.specs.Values.{chosen, need_of, forest, value_at}
+use Rattle.pm_core.specs.Caches.{kind_value, moved_by, starts_by}
+use Rattle.pm_base.specs.BoundedList.{Bounded}
+use Rattle.pm_core.specs.State.{State}
+use Rattle.pm_core.specs.Values.{placed, chosen, need_of, run_of, forest, value_at}
 use Rattle.pm_core.proofs.CachesLaw.{written_back, forest_is, valued_is, kind_value_is}
 use Rattle.pm_core.proofs.MovesLemmas.{moved_by-same}
 use Rattle.pm_core.proofs.PlacedLemmas.{length-placed}
+use Rattle.pm_core.proofs.StartsLaw.{starts_few}
 use Rattle.pm_core.proofs.caches.Caches.update.Goals as goal
+
+pub note_starts-requires-clause-room : goal.note_starts-requires-clause-room
+note_starts-requires-clause-room c =
+    let t = c.args.inner.now.fixed.topology in
+    let procs = c.inner.inside.procs.procs in
+    let none = ap length c.requires.starts in
+    let few : length (starts_by procs c.deref-3.result.now c.args.self.now.values) ≤ length t.procs =
+    starts_few c.units_stand_in_order.ensures c.kinds_are_exact.ensures t procs c.deref-3.result.now c.args.self.now.values
+    (c.deref-3.ensures.value ∙ c.requires.places.kinds)
+    in
+    omega (arith, none, few, c.requires.procs)
+
+-- the states are written, and the needs, and which processors run
+states_are : (c : goal.After-note_moves) → take c.args.self.now.states.len (c.choose.new.states ++ drop (length c.choose.new.states) c.args.self.now.states.items) ≡ placed (chosen c.args.inner.now.now.core) 0 c.args.inner.now.fixed.topology.slaves
+states_are c =
+    let places : length c.choose.new.states ≡ c.args.self.now.states.len =
+    ap length c.choose.ensures.states ∙ (length-placed (chosen c.args.inner.now.now.core) 0 c.args.inner.now.fixed.topology.slaves
+    ∙ (sym c.requires.places.states ∙ (ap length (sym c.deref_mut.ensures.value) ∙ c.deref_mut.ensures.len)))
+    in
+    written_back c.choose.new.states c.args.self.now.states.items c.args.self.now.states.len places ∙ c.choose.ensures.states
+
+needs_are : (c : goal.After-note_moves) → take c.args.self.now.needs.len (c.choose.new.needs ++ drop (length c.choose.new.needs) c.args.self.now.needs.items) ≡ placed (need_of c.args.inner.now.now.core) 0 c.args.inner.now.fixed.topology.slaves
+needs_are c =
+    let places : length c.choose.new.needs ≡ c.args.self.now.needs.len =
+    ap length c.choose.ensures.needs ∙ (length-placed (need_of c.args.inner.now.now.core) 0 c.args.inner.now.fixed.topology.slaves
+    ∙ (sym c.requires.places.needs ∙ (ap length (sym c.deref_mut-2.ensures.value) ∙ c.deref_mut-2.ensures.len)))
+    in
+    written_back c.choose.new.needs c.args.self.now.needs.items c.args.self.now.needs.len places ∙ c.choose.ensures.needs
+
+runs_are : (c : goal.After-note_moves) → take c.args.self.now.runs.len (c.note_runs.new.runs ++ drop (length c.note_runs.new.runs) c.args.self.now.runs.items) ≡ placed (run_of c.args.inner.now.now.core) 0 c.args.inner.now.fixed.topology.procs
+runs_are c =
+    let places : length c.note_runs.new.runs ≡ c.args.self.now.runs.len =
+    ap length c.note_runs.ensures ∙ (length-placed (run_of c.args.inner.now.now.core) 0 c.args.inner.now.fixed.topology.procs
+    ∙ (sym c.requires.places.runs ∙ (ap length (sym c.deref_mut-3.ensures.value) ∙ c.deref_mut-3.ensures.len)))
+    in
+    written_back c.note_runs.new.runs c.args.self.now.runs.items c.args.self.now.runs.len places ∙ c.note_runs.ensures
+
+-- and so the power nodes are those of the book
+power_is : (c : goal.After-note_moves) → c.recompute.new.self ≡ forest c.args.inner.now.fixed c.args.inner.now.now.core
+power_is c =
+    c.recompute.ensures
+    ∙ forest_is c.args.inner.now.fixed c.args.inner.now.now.core c.args.self.now.power c.deref.result.now c.deref-2.result.now
+    (c.deref.ensures.value ∙ needs_are c) (c.deref-2.ensures.value ∙ runs_are c) c.requires.places.powers c.requires.places.children
 
 pub returns-clause-kept : goal.returns-clause-kept
 returns-clause-kept c =
-    let book = c.args.inner.now in
-    let slaves = book.fixed.topology.slaves in
-    let old = c.args.self.now in
-    let states_places : length c.choose.new.states ≡ old.states.len =
-    ap length c.choose.ensures.states ∙ (length-placed (chosen book.now.core) 0 slaves
-    ∙ (sym c.requires.places.states ∙ (ap length (sym c.deref_mut.ensures.value) ∙ c.deref_mut.ensures.len)))
-    in
-    let needs_places : length c.choose.new.needs ≡ old.needs.len =
-    ap length c.choose.ensures.needs ∙ (length-placed (need_of book.now.core) 0 slaves
-    ∙ (sym c.requires.places.needs ∙ (ap length (sym c.deref_mut-2.ensures.value) ∙ c.deref_mut-2.ensures.len)))
-    in
-    let states = written_back c.choose.new.states old.states.items old.states.len states_places ∙ c.choose.ensures.states in
-    let needs = written_back c.choose.new.needs old.needs.items old.needs.len needs_places ∙ c.choose.ensures.needs in
-    let power : c.recompute.new.self ≡ forest book.fixed book.now.core =
-    c.recompute.ensures
-    ∙ forest_is book.fixed book.now.core old.power c.deref.result.now (c.deref.ensures.value ∙ needs) c.requires.places.powers c.requires.places.children
-    in
     record {
       kinds = c.requires.places.kinds;
-      states = states;
-      needs = needs;
-      power = power;
+      states = states_are c;
+      needs = needs_are c;
+      runs = runs_are c;
+      power = power_is c;
       values = c.note_moves.ensures.values
-          ∙ valued_is book c.deref-3.result.now c.ups.result.now c.deref-2.result.now old.values
-          (c.deref-3.ensures.value ∙ states) (c.ups.ensures ∙ ap ups power) c.requires.places.units
-          (c.deref-2.ensures.value ∙ c.requires.places.kinds);
+          ∙ valued_is c.args.inner.now c.deref-5.result.now c.inner.inside.procs.procs c.ups.result.now c.deref-4.result.now c.args.self.now.values
+          (c.deref-5.ensures.value ∙ states_are c) (ap (λ (b : State). b.now.core.procs) c.inner.view_is) (c.ups.ensures ∙ ap ups (power_is c))
+          c.requires.places.units (c.deref-4.ensures.value ∙ c.requires.places.kinds);
     }
 
 pub returns-clause-moved : goal.returns-clause-moved
 returns-clause-moved c =
     let book = c.args.inner.now in
-    let slaves = book.fixed.topology.slaves in
     let old = c.args.self.now in
-    let states_places : length c.choose.new.states ≡ old.states.len =
-    ap length c.choose.ensures.states ∙ (length-placed (chosen book.now.core) 0 slaves
-    ∙ (sym c.requires.places.states ∙ (ap length (sym c.deref_mut.ensures.value) ∙ c.deref_mut.ensures.len)))
-    in
-    let needs_places : length c.choose.new.needs ≡ old.needs.len =
-    ap length c.choose.ensures.needs ∙ (length-placed (need_of book.now.core) 0 slaves
-    ∙ (sym c.requires.places.needs ∙ (ap length (sym c.deref_mut-2.ensures.value) ∙ c.deref_mut-2.ensures.len)))
-    in
-    let states = written_back c.choose.new.states old.states.items old.states.len states_places ∙ c.choose.ensures.states in
-    let needs = written_back c.choose.new.needs old.needs.items old.needs.len needs_places ∙ c.choose.ensures.needs in
-    let power : c.recompute.new.self ≡ forest book.fixed book.now.core =
-    c.recompute.ensures
-    ∙ forest_is book.fixed book.now.core old.power c.deref.result.now (c.deref.ensures.value ∙ needs) c.requires.places.powers c.requires.places.children
-    in
     let before = c.args.moved.now in
-    let with : List Place → ShelfOf Place = λ items. record before { items = before.items ++ items } in
-    let new : Kind → ℕ = kind_value c.deref-3.result.now c.ups.result.now in
+    let with : List Unit → Bounded Unit = λ items. record before { items = before.items ++ items } in
+    let new : Kind → ℕ = kind_value c.deref-5.result.now c.inner.inside.procs.procs c.ups.result.now in
     c.note_moves.ensures.moved
-    ∙ (ap (λ ks. with (moved_by new ks old.values)) c.deref-2.ensures.value
+    ∙ (ap (λ ks. with (moved_by new ks old.values)) c.deref-4.ensures.value
     ∙ ap with (moved_by-same new (λ kind. value_at kind book.fixed book.now.core)
-    (kind_value_is book.fixed book.now.core c.deref-3.result.now c.ups.result.now (c.deref-3.ensures.value ∙ states) (c.ups.ensures ∙ ap ups power))
+    (kind_value_is book.fixed book.now.core c.deref-5.result.now c.inner.inside.procs.procs c.ups.result.now
+    (c.deref-5.ensures.value ∙ states_are c) (ap (λ (b : State). b.now.core.procs) c.inner.view_is) (c.ups.ensures ∙ ap ups (power_is c)))
     old.kinds.items old.values))

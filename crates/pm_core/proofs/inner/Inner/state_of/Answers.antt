@@ -10,7 +10,7 @@ stands slaves read place slave same is = ap (λ xs. slice_get xs place) (sym sam
 pub chosen_state-requires : goal.chosen_state-requires
 chosen_state-requires c =
     let found = stands c.self.inside.topology.slaves c.as_slice.result.now c.args.place c.in-Some.slave.now c.as_slice.ensures c.in-Some.ensures in
-    c.self.invariant.states c.args.place c.in-Some.slave.now found
+    c.self.invariant.0.states c.args.place c.in-Some.slave.now found
 
 pub returns-in-Some : goal.returns-in-Some
 returns-in-Some c =

@@ -1,0 +1,23 @@
+-- What the rows of a book keep, as the crate of the rows promises it.
+use Rattle.std.proofs.Common.{◌≡◌, ℕ, List, is_some, nat_lt, Some}
+use Rattle.std.specs.Prelude.{count_by}
+use Rattle.std.specs.List.{All}
+use Rattle.pm_base.specs.declared.names.Mode.{Mode}
+use Rattle.pm_rows.specs.declared.row.RowSeed.{RowSeed}
+use Rattle.pm_rows.specs.declared.row.Entry.{Entry}
+use Rattle.pm_rows.specs.declared.row.Change.{Change}
+use Rattle.pm_rows.specs.Rows.{Rows, entry_at, loaded_rows, row_changed, settled}
+use Rattle.pm_rows.specs.Shift.{shifted}
+use Rattle.pm_rows.specs.Sound.{AreOnce, AreSound, IsFit, IsLoadable, is_pair}
+
+pub record RowLaws : Type 0 where
+  pub load : (masters boot : ℕ) (permitted : List RowSeed) → AreOnce permitted → All (IsLoadable masters boot) permitted
+      → AreSound permitted (loaded_rows masters boot permitted)
+  pub change : (permitted : List RowSeed) (rows : Rows) (m s : ℕ) (by : Change) (entry : Entry)
+      → AreOnce permitted → AreSound permitted rows → entry_at m s rows ≡ Some entry → IsFit m s by entry rows
+      → AreSound permitted (row_changed entry.seed.master entry.seed.slave by rows)
+  pub shift : (permitted : List RowSeed) (rows : Rows) (m : ℕ) (to : Mode)
+      → AreOnce permitted → AreSound permitted rows → AreSound permitted (shifted m to rows)
+  pub settle : (permitted : List RowSeed) (rows : Rows) (m : ℕ) → AreSound permitted rows → AreSound permitted (settled m rows)
+  pub there : (permitted : List RowSeed) (rows : Rows) (m s : ℕ) → AreSound permitted rows
+      → is_some (entry_at m s rows) ≡ nat_lt 0 (count_by (is_pair m s) permitted)

@@ -1,0 +1,58 @@
+-- What events other than messages do to the processors.
+use Rattle.std.specs.Prelude.{ℕ, List, [], ◌∷◌, Option, Some, None}
+use Rattle.pm_base.specs.declared.names.NodeId.{NodeId}
+use Rattle.pm_base.specs.declared.names.Mode.{Mode}
+use Rattle.pm_base.specs.declared.names.Mode.TheVariants.{Off, Active, Asleep, Suspending}
+use Rattle.pm_topology.specs.declared.places.Kind.{Kind}
+use Rattle.pm_topology.specs.declared.places.Kind.TheVariants.{Proc, Slave, Power, Unknown}
+use Rattle.pm_topology.specs.Places.{kind_of}
+use Rattle.pm_procs.specs.declared.procs.Proc.{Proc as Processor}
+use Rattle.pm_procs.specs.Procs.{proc_at}
+use Rattle.pm_core.specs.Members.{owner_at}
+use Rattle.pm_core.specs.Prims.{Prim, Put_proc}
+use Rattle.pm_core.specs.State.{State}
+
+-- a boot loader starts a processor that is off, at this address
+abbrev pub booted : ℕ → ℕ → ℕ → Mode → List (List Prim)
+booted m p address Off = (Put_proc m p Active address ∷ []) ∷ []
+booted m p address Active = []
+booted m p address Asleep = []
+booted m p address Suspending = []
+
+-- a processor that is suspending waits for an interrupt, and sleeps from then on
+abbrev pub waits : ℕ → ℕ → ℕ → Mode → List (List Prim)
+waits m p address Suspending = (Put_proc m p Asleep address ∷ []) ∷ []
+waits m p address Off = []
+waits m p address Active = []
+waits m p address Asleep = []
+
+-- only a processor that a configured master has is started, and only such a one sleeps
+abbrev pub boot_by : Option ℕ → ℕ → ℕ → Processor → List (List Prim)
+boot_by None p address proc = []
+boot_by (Some m) p address proc = booted m p address proc.mode
+
+abbrev pub wait_by : Option ℕ → ℕ → Processor → List (List Prim)
+wait_by None p proc = []
+wait_by (Some m) p proc = waits m p proc.address proc.mode
+
+-- the same by the kind of the node: only a processor boots and waits
+abbrev pub boot_at : Kind → ℕ → State → List (List Prim)
+boot_at (Proc p) address book =
+    boot_by (owner_at book.fixed.object book.fixed.topology p) p address (proc_at p book.now.core.procs)
+boot_at (Slave s) address book = []
+boot_at (Power w) address book = []
+boot_at Unknown address book = []
+
+abbrev pub wait_at : Kind → State → List (List Prim)
+wait_at (Proc p) book = wait_by (owner_at book.fixed.object book.fixed.topology p) p (proc_at p book.now.core.procs)
+wait_at (Slave s) book = []
+wait_at (Power w) book = []
+wait_at Unknown book = []
+
+-- the stages of a boot and of a wait: none where the node is no processor, where no configured master has it, and where its
+-- mode is another
+abbrev pub boot : NodeId → ℕ → State → List (List Prim)
+boot node address book = boot_at (kind_of book.fixed.topology node) address book
+
+abbrev pub wait : NodeId → State → List (List Prim)
+wait node book = wait_at (kind_of book.fixed.topology node) book

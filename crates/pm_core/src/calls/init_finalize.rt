@@ -1,0 +1,20 @@
+//! PM_INIT_FINALIZE (UG1200).
+
+ghost use Rattle.std.specs.Prelude.{◌≡◌};
+ghost use Rattle.pm_core.specs.Outcome.{outcome_of};
+ghost use Rattle.pm_core.specs.Stages.{after_stages};
+ghost use Rattle.pm_core.specs.calls.InitFinalize.{init_finalize};
+
+use crate::inner::Inner;
+use pm_ipi::Response;
+
+impl Inner {
+    /// The caller's holds are dropped.
+    pub(crate) fn init_finalize(&mut self, master: usize) -> Response
+        ensures response { result ≡ (outcome_of (init_finalize master)).response }
+        ensures book { self.new ≡ after_stages (outcome_of (init_finalize master)).stages self.old }
+    {
+        self.settle_stage(master);
+        Response::success([0; 3])
+    }
+}
