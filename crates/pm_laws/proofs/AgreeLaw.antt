@@ -1,0 +1,147 @@
+-- Agreement beyond a border: of a sound book with itself, turned round, and through a third book.
+use Rattle.std.proofs.Common.{◌≡◌, ℕ, ◌+◌, Bool, true, false, true≢false, List, map, slice_get, unwrap_or, Option, Some, None, refl, sym, ◌∙◌, subst, arith}
+use Rattle.std.specs.List.{AllByRecursion as Each}
+use Rattle.std.proofs.lemmas.List.Elements.{recursion_from_All}
+use Rattle.pm_base.specs.declared.names.Mode.TheVariants.{Off}
+use Rattle.pm_procs.specs.declared.procs.Proc.{Proc}
+use Rattle.pm_procs.specs.Procs.{mode_at, off}
+use Rattle.pm_rows.specs.declared.row.RowSeed.{RowSeed}
+use Rattle.pm_rows.specs.declared.row.Entry.{Entry}
+use Rattle.pm_rows.specs.Sound.{pair_in}
+use Rattle.pm_object.specs.declared.object.Object.{Object}
+use Rattle.pm_topology.specs.declared.topology.Topology.{Topology}
+use Rattle.pm_core.specs.Load.{load_of}
+use Rattle.pm_core.specs.Members.{owner_at}
+use Rattle.pm_core.specs.Pairs.{pairs_of}
+use Rattle.pm_core.specs.Sound.{IsSound}
+use Rattle.pm_core.specs.State.{Fixed, Now, State}
+use Rattle.pm_laws.specs.Agree.{SameRow, IsWithin, SameRows, SameKnown, SameProc, Same, Agree}
+use Rattle.pm_laws.specs.Border.{Border, IsBeyond, IsPairClosed, IsClosed}
+use Rattle.pm_laws.proofs.Places.{Both-sym, Both-trans, Both-self, BothFrom-sym, BothFrom-trans, BothFrom-self, Each-of_map}
+
+-- what is so of a test can't be otherwise
+pub clash : {X : Type 0} (b : Bool) → b ≡ true → b ≡ false → X
+clash b is not = absurd (true≢false (sym is ∙ not))
+
+-- ---- turned round
+
+row_sym : (border : Border) (x y : Entry) → SameRow border x y → SameRow border y x
+row_sym border x y same =
+    let P : RowSeed → Type 0 = λ seed. border.slave seed.slave ≡ true → IsBeyond border seed.master in
+    let Q : RowSeed → Type 0 = λ seed. IsBeyond border seed.master in
+    let S : RowSeed → Type 0 = λ seed. border.slave seed.slave ≡ true in
+    record {
+      seed = sym same.seed;
+      closed = subst P same.seed same.closed;
+      armed = λ is. sym (same.armed (subst Q (sym same.seed) is));
+      hold = λ is. sym (same.hold (subst Q (sym same.seed) is));
+      row = λ is. sym (same.row (subst S (sym same.seed) is));
+    }
+
+rows_sym : (border : Border) (some : Bool) (a b : List Entry) → SameRows border some a b → SameRows border some b a
+rows_sym border true a b same = Both-sym (SameRow border) (row_sym border) a b same
+rows_sym border false a b same = (same.1, same.0)
+
+proc_sym : (fixed : Fixed) (border : Border) (p : ℕ) (x y : Proc) → SameProc fixed border p x y → SameProc fixed border p y x
+proc_sym fixed border p x y same = record {
+  beyond = λ m owner is. sym (same.beyond m owner is);
+  nobodys = λ none. ((same.nobodys none).1, (same.nobodys none).0);
+}
+
+pub same_sym : (fixed : Fixed) (border : Border) (a b : Now) → Same fixed border a b → Same fixed border b a
+same_sym fixed border a b same = record {
+  rows = rows_sym border border.some a.core.rows.entries b.core.rows.entries same.rows;
+  known = BothFrom-sym (SameKnown border) (λ k x y is beyond. sym (is beyond)) 0 a.core.rows.known b.core.rows.known same.known;
+  procs = BothFrom-sym (SameProc fixed border) (proc_sym fixed border) 0 a.core.procs b.core.procs same.procs;
+}
+
+-- ---- through a third
+
+row_trans : (border : Border) (x y z : Entry) → SameRow border x y → SameRow border y z → SameRow border x z
+row_trans border x y z first second =
+    let Q : RowSeed → Type 0 = λ seed. IsBeyond border seed.master in
+    let S : RowSeed → Type 0 = λ seed. border.slave seed.slave ≡ true in
+    record {
+      seed = first.seed ∙ second.seed;
+      closed = first.closed;
+      armed = λ is. first.armed is ∙ second.armed (subst Q first.seed is);
+      hold = λ is. first.hold is ∙ second.hold (subst Q first.seed is);
+      row = λ is. first.row is ∙ second.row (subst S first.seed is);
+    }
+
+rows_trans : (border : Border) (some : Bool) (a b c : List Entry) → SameRows border some a b → SameRows border some b c → SameRows border some a c
+rows_trans border true a b c first second = Both-trans (SameRow border) (row_trans border) a b c first second
+rows_trans border false a b c first second = (first.0, second.1)
+
+proc_trans : (fixed : Fixed) (border : Border) (p : ℕ) (x y z : Proc) → SameProc fixed border p x y → SameProc fixed border p y z → SameProc fixed border p x z
+proc_trans fixed border p x y z first second = record {
+  beyond = λ m owner is. first.beyond m owner is ∙ second.beyond m owner is;
+  nobodys = λ none. ((first.nobodys none).0, (second.nobodys none).1);
+}
+
+pub same_trans : (fixed : Fixed) (border : Border) (a b c : Now) → Same fixed border a b → Same fixed border b c → Same fixed border a c
+same_trans fixed border a b c first second = record {
+  rows = rows_trans border border.some a.core.rows.entries b.core.rows.entries c.core.rows.entries first.rows second.rows;
+  known = BothFrom-trans (SameKnown border) (λ k x y z one two beyond. one beyond ∙ two beyond) 0 a.core.rows.known b.core.rows.known c.core.rows.known first.known second.known;
+  procs = BothFrom-trans (SameProc fixed border) (proc_trans fixed border) 0 a.core.procs b.core.procs c.core.procs first.procs second.procs;
+}
+
+-- ---- with itself
+
+row_self : (border : Border) (x : Entry) → IsPairClosed border (pair_in x) → SameRow border x x
+row_self border x closed = record { seed = refl; closed = closed; armed = λ is. refl; hold = λ is. refl; row = λ is. refl }
+
+slave_within : (border : Border) (x : Entry) (slave : Bool) → ((m : ℕ) → IsBeyond border m → border.some ≡ true) → border.some ≡ false → border.slave x.seed.slave ≡ slave → IsPairClosed border (pair_in x) → slave ≡ false
+slave_within border x false some none is closed = refl
+slave_within border x true some none is closed = clash border.some (some x.seed.master (closed is)) none
+
+rows_self : (border : Border) (some : Bool) → border.some ≡ some → ((m : ℕ) → IsBeyond border m → border.some ≡ true) → (xs : List Entry) → Each (IsPairClosed border) (map pair_in xs) → SameRows border some xs xs
+rows_self border true is some xs each = Both-self (SameRow border) (IsPairClosed border) pair_in (row_self border) xs each
+rows_self border false is some xs each =
+    let within : Each (IsWithin border) xs =
+    Each-of_map (IsWithin border) (IsPairClosed border) pair_in (λ x closed. slave_within border x (border.slave x.seed.slave) some is refl closed) xs each
+    in
+    (within, within)
+
+proc_self : (fixed : Fixed) (border : Border) (procs : List Proc) → ((p : ℕ) → owner_at fixed.object fixed.topology p ≡ None → mode_at p procs ≡ Off) → (p : ℕ) (x : Proc) → slice_get procs p ≡ Some x → SameProc fixed border (0 + p) x x
+proc_self fixed border procs nobodys p x is =
+    let same : p ≡ 0 + p = omega arith in
+    let P : ℕ → Type 0 = λ k. SameProc fixed border k x x in
+    let Q : Option Proc → Type 0 = λ o. (unwrap_or o off).mode ≡ Off in
+    subst P same (record { beyond = λ m owner beyond. refl; nobodys = λ none. (subst Q is (nobodys p none), subst Q is (nobodys p none)) })
+
+-- a sound book agrees with itself beyond a closed border
+pub agree_self : (border : Border) (book : State) → IsClosed book.fixed.object book.fixed.topology border → IsSound book → Agree border book book
+agree_self border book closed sound =
+    let pairs = pairs_of book.fixed.object book.fixed.topology in
+    let P : List RowSeed → Type 0 = λ seeds. Each (IsPairClosed border) seeds in
+    let each : Each (IsPairClosed border) (map pair_in book.now.core.rows.entries) =
+    subst P (sym sound.rows.pairs) (recursion_from_All (IsPairClosed border) pairs closed.users)
+    in
+    record {
+      fixed = refl;
+      now = record {
+        rows = rows_self border border.some refl closed.some book.now.core.rows.entries each;
+        known = BothFrom-self (SameKnown border) 0 book.now.core.rows.known (λ p x is beyond. refl);
+        procs = BothFrom-self (SameProc book.fixed border) 0 book.now.core.procs (proc_self book.fixed border book.now.core.procs sound.procs.nobodys);
+      };
+    }
+
+-- and so does the book at load
+pub load_self : ((object : Object) (t : Topology) → IsSound (load_of object t)) → (border : Border) (object : Object) (t : Topology) → IsClosed object t border → Agree border (load_of object t) (load_of object t)
+load_self sound border object t closed = agree_self border (load_of object t) closed (sound object t)
+
+-- ---- books
+
+pub agree_sym : (border : Border) (a b : State) → Agree border a b → Agree border b a
+agree_sym border a b agree =
+    let P : Fixed → Type 0 = λ fixed. Same fixed border b.now a.now in
+    record { fixed = sym agree.fixed; now = subst P agree.fixed (same_sym a.fixed border a.now b.now agree.now) }
+
+pub agree_trans : (border : Border) (a b c : State) → Agree border a b → Agree border b c → Agree border a c
+agree_trans border a b c first second =
+    let P : Fixed → Type 0 = λ fixed. Same fixed border b.now c.now in
+    record {
+      fixed = first.fixed ∙ second.fixed;
+      now = same_trans a.fixed border a.now b.now c.now first.now (subst P (sym first.fixed) second.now);
+    }

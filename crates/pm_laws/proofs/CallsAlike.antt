@@ -1,0 +1,147 @@
+-- A call of a master beyond does the same in two books that agree, unless it changes a row on a slave within reach.
+use Rattle.std.proofs.Common.{◌≡◌, ℕ, Bool, true, false, not, ◌&&◌, ◌==◌, if◌then◌else◌, List, [], ◌∷◌, Option, Some, None, refl, sym, ◌∙◌, ap, subst}
+use Rattle.std.specs.Prelude.{find, option_map}
+use Rattle.std.proofs.lemmas.Bool.{eqb-true}
+use Rattle.pm_base.specs.declared.names.NodeId.{NodeId}
+use Rattle.pm_base.proofs.Booleans.{both}
+use Rattle.pm_ipi.specs.declared.calls.Call.{Call}
+use Rattle.pm_ipi.specs.declared.calls.Call.TheVariants.{GetNodeStatus, SelfSuspend, AbortSuspend, RequestNode, ReleaseNode, SetRequirement, SetMaxLatency}
+use Rattle.pm_procs.specs.declared.procs.Proc.{Proc as Processor}
+use Rattle.pm_procs.specs.Procs.{proc_at}
+use Rattle.pm_rows.specs.declared.row.Entry.{Entry}
+use Rattle.pm_rows.specs.declared.row.Row.{Row}
+use Rattle.pm_rows.specs.declared.row.RowSeed.{RowSeed}
+use Rattle.pm_rows.specs.Rows.{entry_at, is_at, is_rival}
+use Rattle.pm_topology.specs.declared.places.Kind.{Kind}
+use Rattle.pm_topology.specs.declared.places.Kind.TheVariants.{Proc, Slave, Power, Unknown}
+use Rattle.pm_topology.specs.Places.{kind_of}
+use Rattle.pm_core.specs.Members.{mode_of_master, owns}
+use Rattle.pm_core.specs.Outcome.{Check, judged, outcome_of, told}
+use Rattle.pm_core.specs.Prims.{Prim}
+use Rattle.pm_core.specs.State.{Fixed, Now, State}
+use Rattle.pm_core.specs.Step.{called, tried_by}
+use Rattle.pm_core.specs.Values.{slave_place}
+use Rattle.pm_core.specs.Views.{master_node, proc_view, proc_view_at, row_view, row_view_at}
+use Rattle.pm_core.specs.calls.AbortSuspend.{abort_suspend}
+use Rattle.pm_core.specs.calls.ReleaseNode.{release_node}
+use Rattle.pm_core.specs.calls.RequestNode.{request_node}
+use Rattle.pm_core.specs.calls.SelfSuspend.{self_suspend}
+use Rattle.pm_core.specs.calls.SetMaxLatency.{set_max_latency}
+use Rattle.pm_core.specs.calls.SetRequirement.{set_requirement}
+use Rattle.pm_laws.specs.Agree.{SameRow, SameRows, Same, Agree}
+use Rattle.pm_laws.specs.Border.{Border, IsBeyond, IsClosed}
+use Rattle.pm_laws.specs.Both.{Both}
+use Rattle.pm_laws.specs.Hidden.{is_slave_within, changes_within}
+use Rattle.pm_laws.specs.Seen.{AreAlike, IsSeenAlike}
+use Rattle.pm_laws.proofs.AgreeLaw.{clash}
+use Rattle.pm_laws.proofs.FollowLaw.{mode_alike, proc_alike}
+use Rattle.pm_laws.proofs.RowFacts.{BelowLaws}
+use Rattle.pm_laws.proofs.Places.{Both-find, Both-refl}
+use Rattle.pm_laws.proofs.RowFacts.{no_rival, rival_alike}
+
+abbrev pub book_of : Fixed → Now → State
+book_of fixed now = record { fixed = fixed; now = now }
+
+-- equal stages are alike
+pub alike_of : (border : Border) (first second : List (List Prim)) → first ≡ second → AreAlike border first second
+alike_of border first second is = Both-refl (IsSeenAlike border) (λ stage. refl) first second is
+
+-- ---- the view of a row on a slave beyond
+
+pub rows_both : (border : Border) (a b : List Entry) → border.some ≡ true → SameRows border border.some a b → Both (SameRow border) a b
+rows_both border a b some same =
+    let P : Bool → Type 0 = λ s. SameRows border s a b in
+    subst P some same
+
+-- of a slave beyond the row and its pair are equal
+pub entry_alike : (border : Border) (s : ℕ) (x y : Entry) → border.slave s ≡ true → SameRow border x y → x.seed.slave ≡ s → x ≡ y
+entry_alike border s x y beyond same there =
+    ap (λ (seed : RowSeed). record { seed = seed; row = x.row }) same.seed
+    ∙ ap (λ (row : Row). record { seed = y.seed; row = row }) (same.row (ap border.slave there ∙ beyond))
+
+entries_alike : (border : Border) (m s : ℕ) (a b : List Entry) → border.slave s ≡ true → Both (SameRow border) a b → find (is_at m s) a ≡ find (is_at m s) b
+entries_alike border m s a b beyond same =
+    Both-find (SameRow border) (is_at m s) (λ x y each. ap (λ (seed : RowSeed). (seed.master == m) && (seed.slave == s)) each.seed)
+    (λ x y each is. entry_alike border s x y beyond each (eqb-true x.seed.slave s (both (x.seed.master == m) (x.seed.slave == s) is).1)) a b same
+
+rival_there : (m s : ℕ) (x : Entry) (there : Bool) → (x.seed.slave == s) ≡ there → is_rival m s x ≡ true → there ≡ true
+rival_there m s x true at is = refl
+rival_there m s x false at is = clash (is_rival m s x) is (no_rival m s x at)
+
+rivals_alike : (border : Border) (m s : ℕ) (a b : List Entry) → border.slave s ≡ true → Both (SameRow border) a b → find (is_rival m s) a ≡ find (is_rival m s) b
+rivals_alike border m s a b beyond same =
+    Both-find (SameRow border) (is_rival m s) (λ x y each. rival_alike border m s (x.seed.slave == s) x y beyond refl each)
+    (λ x y each is. entry_alike border s x y beyond each (eqb-true x.seed.slave s (rival_there m s x (x.seed.slave == s) refl is))) a b same
+
+pub kept : (b : Bool) → not b ≡ false → b ≡ true
+kept true is = refl
+kept false is = cc
+
+-- the node of a rival, where there is one
+abbrev rival_by : Fixed → Option Entry → Option NodeId
+rival_by fixed rival = option_map (master_node fixed.object.masters) (option_map (λ (entry : Entry). entry.seed.master) rival)
+
+pub row_view_alike : (fixed : Fixed) (border : Border) (m : ℕ) (slave : Option ℕ) (a b : Now) → border.some ≡ true → is_slave_within border slave ≡ false → Same fixed border a b → row_view_at m slave (book_of fixed a) ≡ row_view_at m slave (book_of fixed b)
+row_view_alike fixed border m None a b some beyond same = refl
+row_view_alike fixed border m (Some s) a b some within same =
+    let beyond : border.slave s ≡ true = kept (border.slave s) within in
+    let rows : Both (SameRow border) a.core.rows.entries b.core.rows.entries = rows_both border a.core.rows.entries b.core.rows.entries some same.rows in
+    ap (λ entry. record { slave = Some s; entry = entry; rival = rival_by fixed (find (is_rival m s) a.core.rows.entries) }) (entries_alike border m s a.core.rows.entries b.core.rows.entries beyond rows)
+    ∙ ap (λ rival. record { slave = Some s; entry = entry_at m s b.core.rows; rival = rival_by fixed rival }) (rivals_alike border m s a.core.rows.entries b.core.rows.entries beyond rows)
+
+-- ---- the view of a master's own processor
+
+own_alike : (fixed : Fixed) (border : Border) (m p : ℕ) (a b : Now) (own : Bool) → owns fixed.object fixed.topology m p ≡ own → IsBeyond border m → Same fixed border a b → (if own then Some (proc_at p a.core.procs) else None) ≡ (if own then Some (proc_at p b.core.procs) else None)
+own_alike fixed border m p a b true is beyond same = ap (λ proc. Some proc) (proc_alike fixed border m p a b beyond is same)
+own_alike fixed border m p a b false is beyond same = refl
+
+proc_view_alike : (fixed : Fixed) (border : Border) (m : ℕ) (kind : Kind) (a b : Now) → IsBeyond border m → Same fixed border a b → proc_view_at m kind (book_of fixed a) ≡ proc_view_at m kind (book_of fixed b)
+proc_view_alike fixed border m (Proc p) a b beyond same =
+    ap (λ (own : Option Processor). record { place = Some p; own = own }) (own_alike fixed border m p a b (owns fixed.object fixed.topology m p) refl beyond same)
+proc_view_alike fixed border m (Slave s) a b beyond same = refl
+proc_view_alike fixed border m (Power w) a b beyond same = refl
+proc_view_alike fixed border m Unknown a b beyond same = refl
+
+-- ---- calls
+
+-- a call that only tells words changes nothing
+told_stages : (checks : List Check) (words : List ℕ) → (judged checks (told words)).stages ≡ []
+told_stages [] words = refl
+told_stages (None ∷ checks) words = told_stages checks words
+told_stages (Some response ∷ checks) words = refl
+
+called_alike : BelowLaws → (fixed : Fixed) (border : Border) (m : ℕ) (call : Call) (a b : Now) → IsBeyond border m → border.some ≡ true → changes_within border call (book_of fixed a) ≡ false → Same fixed border a b → (called m call (book_of fixed a)).stages ≡ (called m call (book_of fixed b)).stages
+called_alike laws fixed border m (GetNodeStatus node) a b beyond some plain same =
+    let first = tried_by m (GetNodeStatus node) (book_of fixed a) in
+    let second = tried_by m (GetNodeStatus node) (book_of fixed b) in
+    told_stages first.checks first.deed.words ∙ sym (told_stages second.checks second.deed.words)
+called_alike laws fixed border m (SelfSuspend node address) a b beyond some plain same =
+    ap (λ view. (outcome_of (self_suspend m address view)).stages) (proc_view_alike fixed border m (kind_of fixed.topology node) a b beyond same)
+called_alike laws fixed border m (AbortSuspend node reason) a b beyond some plain same =
+    ap (λ view. (outcome_of (abort_suspend m reason view)).stages) (proc_view_alike fixed border m (kind_of fixed.topology node) a b beyond same)
+called_alike laws fixed border m (RequestNode node caps ack) a b beyond some plain same =
+    ap (λ view. (outcome_of (request_node caps ack view)).stages) (row_view_alike fixed border m (slave_place node (book_of fixed a)) a b some plain same)
+called_alike laws fixed border m (ReleaseNode node) a b beyond some plain same =
+    ap (λ view. (outcome_of (release_node view)).stages) (row_view_alike fixed border m (slave_place node (book_of fixed a)) a b some plain same)
+called_alike laws fixed border m (SetRequirement node caps ack) a b beyond some plain same =
+    ap (λ mode. (outcome_of (set_requirement mode caps ack (row_view m node (book_of fixed a)))).stages) (mode_alike laws fixed border m a b beyond same)
+    ∙ ap (λ view. (outcome_of (set_requirement (mode_of_master fixed b.core m) caps ack view)).stages) (row_view_alike fixed border m (slave_place node (book_of fixed a)) a b some plain same)
+called_alike laws fixed border m (SetMaxLatency node latency) a b beyond some plain same =
+    ap (λ view. (outcome_of (set_max_latency latency view)).stages) (row_view_alike fixed border m (slave_place node (book_of fixed a)) a b some plain same)
+called_alike laws fixed border m _ a b beyond some plain same = refl
+
+pub call_alike : BelowLaws → (fixed : Fixed) (border : Border) (m : ℕ) (call : Call) (a b : Now) → IsBeyond border m → border.some ≡ true → changes_within border call (book_of fixed a) ≡ false → Same fixed border a b → AreAlike border (called m call (book_of fixed a)).stages (called m call (book_of fixed b)).stages
+call_alike laws fixed border m call a b beyond some plain same =
+    alike_of border (called m call (book_of fixed a)).stages (called m call (book_of fixed b)).stages (called_alike laws fixed border m call a b beyond some plain same)
+
+-- ---- books
+
+pub row_views_agree : (border : Border) (m : ℕ) (node : NodeId) (a b : State) → IsClosed a.fixed.object a.fixed.topology border → IsBeyond border m → is_slave_within border (slave_place node a) ≡ false → Agree border a b → row_view m node a ≡ row_view m node b
+row_views_agree border m node a b closed beyond there agree =
+    let P : Fixed → Type 0 = λ fixed. row_view m node a ≡ row_view m node (book_of fixed b.now) in
+    subst P agree.fixed (row_view_alike a.fixed border m (slave_place node a) a.now b.now (closed.some m beyond) there agree.now)
+
+pub proc_views_agree : (border : Border) (m : ℕ) (node : NodeId) (a b : State) → IsBeyond border m → Agree border a b → proc_view m node a ≡ proc_view m node b
+proc_views_agree border m node a b beyond agree =
+    let P : Fixed → Type 0 = λ fixed. proc_view m node a ≡ proc_view m node (book_of fixed b.now) in
+    subst P agree.fixed (proc_view_alike a.fixed border m (kind_of a.fixed.topology node) a.now b.now beyond agree.now)

@@ -1,0 +1,141 @@
+-- Which calls are hidden: those of a master within reach, and those that change a row on a slave within reach.
+use Rattle.std.proofs.Common.{◌≡◌, ℕ, Bool, true, false, not, ◌&&◌, ◌||◌, ◌==◌, if◌then◌else◌, List, [], ◌∷◌, Option, Some, None, refl, sym, ◌∙◌, ap, subst}
+use Rattle.std.proofs.lemmas.Bool.{eqb-true}
+use Rattle.pm_base.specs.declared.names.Mode.{Mode}
+use Rattle.pm_base.specs.declared.names.Mode.TheVariants.{Active, Suspending}
+use Rattle.pm_base.proofs.Booleans.{both}
+use Rattle.pm_base.proofs.Counts.{split}
+use Rattle.pm_ipi.specs.declared.calls.Call.{Call}
+use Rattle.pm_ipi.specs.declared.calls.Call.TheVariants.{SelfSuspend, AbortSuspend, RequestNode, ReleaseNode, SetRequirement, SetMaxLatency, InitFinalize, Unknown}
+use Rattle.pm_rows.specs.declared.row.Change.{Change}
+use Rattle.pm_rows.specs.declared.row.Change.TheVariants.{Request, Release, Set, Limit}
+use Rattle.pm_rows.specs.declared.row.Entry.{Entry}
+use Rattle.pm_rows.specs.Rows.{entry_at, is_at}
+use Rattle.pm_core.specs.declared.views.RowView.{RowView}
+use Rattle.pm_core.specs.Members.{mode_of_master}
+use Rattle.pm_core.specs.Outcome.{Deed, Check, Tried, judged, outcome_of, done}
+use Rattle.pm_core.specs.Prims.{Prim, At_row, Settle, Put_proc}
+use Rattle.pm_core.specs.ProcCalls.{address_in, put_at}
+use Rattle.pm_core.specs.RowCalls.{changes_of, row_changes}
+use Rattle.pm_core.specs.State.{State}
+use Rattle.pm_core.specs.Step.{called, tried_by}
+use Rattle.pm_core.specs.Values.{slave_place}
+use Rattle.pm_core.specs.Views.{proc_view, row_view_at}
+use Rattle.pm_core.specs.calls.AbortSuspend.{abort_suspend}
+use Rattle.pm_core.specs.calls.InitFinalize.{init_finalize}
+use Rattle.pm_core.specs.calls.ReleaseNode.{release_node}
+use Rattle.pm_core.specs.calls.RequestNode.{request_node}
+use Rattle.pm_core.specs.calls.SelfSuspend.{self_suspend}
+use Rattle.pm_core.specs.calls.SetMaxLatency.{set_max_latency}
+use Rattle.pm_core.specs.calls.SetRequirement.{set_requirement}
+use Rattle.pm_laws.specs.Border.{Border}
+use Rattle.pm_laws.specs.Hidden.{is_slave_within, changes_within}
+use Rattle.pm_laws.specs.Seen.{is_arming, seen, IsUnseen, AreHidden}
+
+-- ---- one change
+
+pub one_hidden : (border : Border) (prim : Prim) → seen border prim ≡ false → IsUnseen border (prim ∷ [])
+one_hidden border prim is = let prims : List Prim = prim ∷ [] in ap (λ b. if b then prims else []) is
+
+-- a call hides where its changes do
+judged_hidden : (border : Border) (checks : List Check) (deed : Deed) → AreHidden border deed.stages → AreHidden border (judged checks deed).stages
+judged_hidden border [] deed hidden = hidden
+judged_hidden border (None ∷ checks) deed hidden = judged_hidden border checks deed hidden
+judged_hidden border (Some response ∷ checks) deed hidden = tt
+
+tried_hidden : (border : Border) (call : Tried) → AreHidden border call.deed.stages → AreHidden border (outcome_of call).stages
+tried_hidden border call hidden = judged_hidden border call.checks call.deed hidden
+
+-- ---- rows
+
+-- a change of the row of this master on this slave isn't seen
+abbrev Hides : Border → ℕ → ℕ → Change → Type 0
+Hides border m s by = (border.master m && (border.slave s || is_arming by)) ≡ false
+
+row_hidden : (border : Border) (m s : ℕ) (by : Change) (book : State) (entry : Option Entry) → entry_at m s book.now.core.rows ≡ entry → Hides border m s by → IsUnseen border (changes_of by entry)
+row_hidden border m s by book None found hides = refl
+row_hidden border m s by book (Some entry) found hides =
+    let is : is_at m s entry ≡ true = (split (is_at m s) book.now.core.rows.entries entry found).passes in
+    let parts = both (entry.seed.master == m) (entry.seed.slave == s) is in
+    let P : ℕ → Type 0 = λ k. (border.master k && (border.slave s || is_arming by)) ≡ false in
+    let Q : ℕ → Type 0 = λ k. (border.master entry.seed.master && (border.slave k || is_arming by)) ≡ false in
+    one_hidden border (At_row entry.seed.master entry.seed.slave by)
+    (subst Q (sym (eqb-true entry.seed.slave s parts.1)) (subst P (sym (eqb-true entry.seed.master m parts.0)) hides))
+
+row_call_hidden : (border : Border) (m : ℕ) (by : Change) (call : RowView → Tried) (book : State) (slave : Option ℕ) → ((view : RowView) → (call view).deed ≡ done (row_changes by view)) → ((s : ℕ) → slave ≡ Some s → Hides border m s by) → AreHidden border (outcome_of (call (row_view_at m slave book))).stages
+row_call_hidden border m by call book None deed hides =
+    let view : RowView = row_view_at m None book in
+    let P : Deed → Type 0 = λ d. AreHidden border d.stages in
+    tried_hidden border (call view) (subst P (sym (deed view)) (refl, tt))
+row_call_hidden border m by call book (Some s) deed hides =
+    let view : RowView = row_view_at m (Some s) book in
+    let P : Deed → Type 0 = λ d. AreHidden border d.stages in
+    tried_hidden border (call view) (subst P (sym (deed view)) (row_hidden border m s by book (entry_at m s book.now.core.rows) refl (hides s refl), tt))
+
+-- ---- processors
+
+put_hidden : (border : Border) (m : ℕ) (place : Option ℕ) (mode : Mode) (address : ℕ) → border.master m ≡ false → IsUnseen border (put_at m place mode address)
+put_hidden border m None mode address within = refl
+put_hidden border m (Some p) mode address within = one_hidden border (Put_proc m p mode address) within
+
+-- ---- the two reasons
+
+master_hides : (border : Border) (m s : ℕ) (by : Change) → border.master m ≡ false → Hides border m s by
+master_hides border m s by within = ap (λ b. b && (border.slave s || is_arming by)) within
+
+none_seen : (a : Bool) → (a && (false || false)) ≡ false
+none_seen true = refl
+none_seen false = refl
+
+slave_hides : (border : Border) (m s : ℕ) (by : Change) → is_arming by ≡ false → border.slave s ≡ false → Hides border m s by
+slave_hides border m s by plain within =
+    ap (λ b. border.master m && (b || is_arming by)) within
+    ∙ (ap (λ b. border.master m && (false || b)) plain ∙ none_seen (border.master m))
+
+-- a call of a master within
+pub caller_hidden : (border : Border) (m : ℕ) (call : Call) (book : State) → border.master m ≡ false → AreHidden border (called m call book).stages
+caller_hidden border m (SelfSuspend node address) book within =
+    let view = proc_view m node book in
+    tried_hidden border (self_suspend m address view) (put_hidden border m view.place Suspending address within, tt)
+caller_hidden border m (AbortSuspend node reason) book within =
+    let view = proc_view m node book in
+    tried_hidden border (abort_suspend m reason view) (put_hidden border m view.place Active (address_in view) within, tt)
+caller_hidden border m (RequestNode node caps ack) book within =
+    row_call_hidden border m (Request caps) (request_node caps ack) book (slave_place node book) (λ view. refl) (λ s is. master_hides border m s (Request caps) within)
+caller_hidden border m (ReleaseNode node) book within =
+    row_call_hidden border m Release release_node book (slave_place node book) (λ view. refl) (λ s is. master_hides border m s Release within)
+caller_hidden border m (SetRequirement node caps ack) book within =
+    let mode : Mode = mode_of_master book.fixed book.now.core m in
+    row_call_hidden border m (Set mode caps) (set_requirement mode caps ack) book (slave_place node book) (λ view. refl) (λ s is. master_hides border m s (Set mode caps) within)
+caller_hidden border m (SetMaxLatency node latency) book within =
+    row_call_hidden border m (Limit latency) (set_max_latency latency) book (slave_place node book) (λ view. refl) (λ s is. master_hides border m s (Limit latency) within)
+caller_hidden border m InitFinalize book within =
+    tried_hidden border (init_finalize m) (one_hidden border (Settle m) within, tt)
+caller_hidden border m Unknown book within = tt
+caller_hidden border m call book within = tried_hidden border (tried_by m call book) tt
+
+pub turned : (b : Bool) → not b ≡ true → b ≡ false
+turned true is = cc
+turned false is = refl
+
+within_is : (border : Border) (slave : Option ℕ) → is_slave_within border slave ≡ true → (s : ℕ) → slave ≡ Some s → border.slave s ≡ false
+within_is border None is s at = cc
+within_is border (Some k) is s at =
+    let same : k ≡ s = cc in ap border.slave (sym same) ∙ turned (border.slave k) is
+
+-- a call that changes a row on a slave within
+pub slave_hidden : (border : Border) (m : ℕ) (call : Call) (book : State) → changes_within border call book ≡ true → AreHidden border (called m call book).stages
+slave_hidden border m (RequestNode node caps ack) book is =
+    row_call_hidden border m (Request caps) (request_node caps ack) book (slave_place node book) (λ view. refl)
+    (λ s at. slave_hides border m s (Request caps) refl (within_is border (slave_place node book) is s at))
+slave_hidden border m (ReleaseNode node) book is =
+    row_call_hidden border m Release release_node book (slave_place node book) (λ view. refl)
+    (λ s at. slave_hides border m s Release refl (within_is border (slave_place node book) is s at))
+slave_hidden border m (SetRequirement node caps ack) book is =
+    let mode : Mode = mode_of_master book.fixed book.now.core m in
+    row_call_hidden border m (Set mode caps) (set_requirement mode caps ack) book (slave_place node book) (λ view. refl)
+    (λ s at. slave_hides border m s (Set mode caps) refl (within_is border (slave_place node book) is s at))
+slave_hidden border m (SetMaxLatency node latency) book is =
+    row_call_hidden border m (Limit latency) (set_max_latency latency) book (slave_place node book) (λ view. refl)
+    (λ s at. slave_hides border m s (Limit latency) refl (within_is border (slave_place node book) is s at))
+slave_hidden border m _ book is = cc

@@ -1,0 +1,11 @@
+pub mod AgreeLaw
+pub mod CallsAlike
+pub mod CallsHidden
+pub mod ChangesLaw
+pub mod FollowLaw
+pub mod PathLaw
+pub mod Places
+pub mod PrimFacts
+pub mod RowFacts
+pub mod StepLaw
+pub mod WantedLaw

@@ -1,0 +1,12 @@
+use Rattle.pm_laws.proofs.ChangesLaw.{changes_agree, one_unseen, seen_agree, unseen_agree}
+use Rattle.pm_laws.proofs.RowFacts.{BelowLaws}
+use Rattle.pm_laws.proofs.laws.changes_agree.Goals as goal
+
+pub returns : goal.returns
+returns c =
+    let laws : BelowLaws = record {
+      armed = c.shifts_leave_others.ensures.armed;
+      owned = c.members_are_owned.ensures;
+      hold = c.shifts_leave_others.ensures.hold;
+    } in
+    record { seen = seen_agree laws; unseen = one_unseen; alike = changes_agree laws; hidden = unseen_agree laws }

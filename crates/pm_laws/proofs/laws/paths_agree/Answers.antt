@@ -1,0 +1,12 @@
+use Rattle.pm_laws.proofs.PathLaw.{path_alike, path_hidden, stages_alike, stages_hidden}
+use Rattle.pm_laws.proofs.RowFacts.{BelowLaws}
+use Rattle.pm_laws.proofs.laws.paths_agree.Goals as goal
+
+pub returns : goal.returns
+returns c =
+    let laws : BelowLaws = record {
+      armed = c.shifts_leave_others.ensures.armed;
+      owned = c.members_are_owned.ensures;
+      hold = c.shifts_leave_others.ensures.hold;
+    } in
+    record { hidden = path_hidden laws; last_hidden = stages_hidden laws; alike = path_alike laws; last_alike = stages_alike laws }

@@ -1,0 +1,12 @@
+use Rattle.pm_laws.proofs.RowFacts.{BelowLaws}
+use Rattle.pm_laws.proofs.StepLaw.{event_hidden, message_within, step_hidden, steps_agree}
+use Rattle.pm_laws.proofs.laws.steps_agree.Goals as goal
+
+pub returns : goal.returns
+returns c =
+    let laws : BelowLaws = record {
+      armed = c.shifts_leave_others.ensures.armed;
+      owned = c.members_are_owned.ensures;
+      hold = c.shifts_leave_others.ensures.hold;
+    } in
+    record { both = steps_agree laws; hidden = step_hidden laws; messages = message_within; stages = event_hidden }

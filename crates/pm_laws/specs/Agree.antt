@@ -1,0 +1,50 @@
+-- When two books agree beyond a border.
+use Rattle.std.specs.Prelude.{◌≡◌, ℕ, Bool, true, false, List, None, Some}
+use Rattle.std.specs.List.{AllByRecursion as Each}
+use Rattle.pm_base.specs.declared.names.Mode.{Mode}
+use Rattle.pm_base.specs.declared.names.Mode.TheVariants.{Off}
+use Rattle.pm_procs.specs.declared.procs.Proc.{Proc}
+use Rattle.pm_rows.specs.declared.row.Entry.{Entry}
+use Rattle.pm_core.specs.Members.{owner_at}
+use Rattle.pm_core.specs.State.{Fixed, Now, State}
+use Rattle.pm_laws.specs.Border.{Border, IsBeyond}
+use Rattle.pm_laws.specs.Both.{Both, BothFrom}
+
+-- two rows are those of one pair, whose master is beyond where its slave is; of a master beyond they are armed and held
+-- alike, and on a slave beyond they are equal
+pub record SameRow (border : Border) (a b : Entry) : Type 0 where
+  pub seed : a.seed ≡ b.seed
+  pub closed : border.slave a.seed.slave ≡ true → IsBeyond border a.seed.master
+  pub armed : IsBeyond border a.seed.master → a.row.armed ≡ b.row.armed
+  pub hold : IsBeyond border a.seed.master → a.row.hold ≡ b.row.hold
+  pub row : border.slave a.seed.slave ≡ true → a.row ≡ b.row
+
+-- a row is on a slave within reach
+abbrev pub IsWithin : Border → Entry → Type 0
+IsWithin border entry = border.slave entry.seed.slave ≡ false
+
+-- the rows of two books: where some master is beyond they are alike one by one, and else none is on a slave beyond
+abbrev pub SameRows : Border → Bool → List Entry → List Entry → Type 0
+SameRows border true a b = Both (SameRow border) a b
+SameRows border false a b = Each (IsWithin border) a × Each (IsWithin border) b
+
+-- the rows know the same mode of a master beyond
+abbrev pub SameKnown : Border → ℕ → Mode → Mode → Type 0
+SameKnown border m a b = IsBeyond border m → a ≡ b
+
+-- a processor of a master beyond has the same mode and resume address in both, and one that nobody has is off in both
+pub record SameProc (fixed : Fixed) (border : Border) (p : ℕ) (a b : Proc) : Type 0 where
+  pub beyond : (m : ℕ) → owner_at fixed.object fixed.topology p ≡ Some m → IsBeyond border m → a ≡ b
+  pub nobodys : owner_at fixed.object fixed.topology p ≡ None → (a.mode ≡ Off) × (b.mode ≡ Off)
+
+-- what changes of two books with the same object and chip agrees beyond the border
+pub record Same (fixed : Fixed) (border : Border) (a b : Now) : Type 0 where
+  pub rows : SameRows border border.some a.core.rows.entries b.core.rows.entries
+  pub known : BothFrom (SameKnown border) 0 a.core.rows.known b.core.rows.known
+  pub procs : BothFrom (SameProc fixed border) 0 a.core.procs b.core.procs
+
+-- two books agree beyond the border: they have the same object and the same chip, and what a master beyond is told or can
+-- notice is equal in both
+pub record Agree (border : Border) (a b : State) : Type 0 where
+  pub fixed : a.fixed ≡ b.fixed
+  pub now : Same a.fixed border a.now b.now

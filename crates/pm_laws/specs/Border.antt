@@ -1,0 +1,66 @@
+-- What lies beyond the reach of a master. The laws of two worlds hold of every border that is closed.
+use Rattle.std.specs.Prelude.{◌≡◌, ℕ, Bool, true, ◌&&◌, ◌==◌, slice_get, position, Option, Some, None}
+use Rattle.std.specs.List.{All}
+use Rattle.pm_base.specs.declared.names.NodeId.{NodeId}
+use Rattle.pm_object.specs.declared.object.MasterRec.{MasterRec}
+use Rattle.pm_object.specs.declared.object.Object.{Object}
+use Rattle.pm_rows.specs.declared.row.RowSeed.{RowSeed}
+use Rattle.pm_topology.specs.declared.places.Kind.{Kind}
+use Rattle.pm_topology.specs.declared.places.Kind.TheVariants.{Proc, Slave, Power, Unknown}
+use Rattle.pm_topology.specs.Places.{kind_of}
+use Rattle.pm_topology.specs.declared.topology.PowerDef.{PowerDef}
+use Rattle.pm_topology.specs.declared.topology.ProcDef.{ProcDef}
+use Rattle.pm_topology.specs.declared.topology.SlaveDef.{SlaveDef}
+use Rattle.pm_topology.specs.declared.topology.Topology.{Topology}
+use Rattle.pm_core.specs.Members.{owner_at}
+use Rattle.pm_core.specs.Pairs.{pairs_of}
+
+-- which masters, slaves and power nodes are beyond, by their places; which reset lines and nodes are, by their numbers; and
+-- whether any master is beyond
+pub record Border : Type 0 where
+  pub master : ℕ → Bool
+  pub slave : ℕ → Bool
+  pub power : ℕ → Bool
+  pub line : ℕ → Bool
+  pub node : ℕ → Bool
+  pub some : Bool
+
+-- a master is beyond
+abbrev pub IsBeyond : Border → ℕ → Type 0
+IsBeyond border m = border.master m ≡ true
+
+-- the master of a permitted pair is beyond where its slave is
+abbrev pub IsPairClosed : Border → RowSeed → Type 0
+IsPairClosed border pair = border.slave pair.slave ≡ true → IsBeyond border pair.master
+
+-- the master at this place is beyond, or there is none
+abbrev pub none_within : Border → Option ℕ → Bool
+none_within border None = true
+none_within border (Some m) = border.master m
+
+-- the unit of this kind and place is beyond, or there is none: a processor is where its owner is
+abbrev pub unit_beyond : Object → Topology → Border → Kind → Bool
+unit_beyond object t border (Proc p) = none_within border (owner_at object t p)
+unit_beyond object t border (Slave s) = border.slave s
+unit_beyond object t border (Power w) = border.power w
+unit_beyond object t border Unknown = true
+
+-- the unit of a number is beyond, and the configured master of that number too
+abbrev pub node_beyond : Object → Topology → Border → NodeId → Bool
+node_beyond object t border node =
+    unit_beyond object t border (kind_of t node)
+    && none_within border (position (λ (master : MasterRec). master.node == node.0) object.masters)
+
+-- the border is closed: who may use a slave beyond is beyond; what stands directly below a power node beyond is beyond, or is
+-- a processor that no configured master has; a node is beyond where its unit and the master of its number are; and where a
+-- master is beyond, some is
+pub record IsClosed (object : Object) (t : Topology) (border : Border) : Type 0 where
+  pub users : All (IsPairClosed border) (pairs_of object t)
+  pub slaves : (s : ℕ) (slave : SlaveDef) → slice_get t.slaves s ≡ Some slave
+      → border.power slave.parent ≡ true → border.slave s ≡ true
+  pub procs : (p m : ℕ) (proc : ProcDef) → slice_get t.procs p ≡ Some proc → border.power proc.parent ≡ true
+      → owner_at object t p ≡ Some m → IsBeyond border m
+  pub powers : (w v : ℕ) (power : PowerDef) → slice_get t.powers w ≡ Some power → power.parent ≡ Some v
+      → border.power v ≡ true → border.power w ≡ true
+  pub nodes : (node : NodeId) → border.node node.0 ≡ node_beyond object t border node
+  pub some : (m : ℕ) → IsBeyond border m → border.some ≡ true

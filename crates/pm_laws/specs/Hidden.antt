@@ -1,0 +1,48 @@
+-- Which events are hidden from what is beyond a border. The border, the object and the event decide it, and no row and no mode.
+use Rattle.std.specs.Prelude.{ℕ, Bool, true, false, not, ◌||◌, Option, Some, None}
+use Rattle.pm_base.specs.declared.events.Event.{Event}
+use Rattle.pm_base.specs.declared.events.Event.TheVariants.{Ipi, Boot, Wfi}
+use Rattle.pm_ipi.specs.declared.calls.Call.{Call}
+use Rattle.pm_ipi.specs.declared.calls.Call.TheVariants.{RequestNode, ReleaseNode, SetRequirement, SetMaxLatency}
+use Rattle.pm_ipi.specs.Calls.{call_of}
+use Rattle.pm_topology.specs.declared.places.Kind.{Kind}
+use Rattle.pm_topology.specs.declared.places.Kind.TheVariants.{Proc, Slave, Power, Unknown}
+use Rattle.pm_topology.specs.Places.{kind_of}
+use Rattle.pm_core.specs.Members.{owner_at}
+use Rattle.pm_core.specs.State.{State, in_force}
+use Rattle.pm_core.specs.Values.{master_place, slave_place}
+use Rattle.pm_laws.specs.Border.{Border}
+
+-- the master at this place is within reach, or there is none
+abbrev pub is_within : Border → Option ℕ → Bool
+is_within border None = true
+is_within border (Some m) = not (border.master m)
+
+-- the slave at this place is within reach
+abbrev pub is_slave_within : Border → Option ℕ → Bool
+is_slave_within border None = false
+is_slave_within border (Some s) = not (border.slave s)
+
+-- the call changes a row on a slave within reach
+abbrev pub changes_within : Border → Call → State → Bool
+changes_within border (RequestNode node caps ack) book = is_slave_within border (slave_place node book)
+changes_within border (ReleaseNode node) book = is_slave_within border (slave_place node book)
+changes_within border (SetRequirement node caps ack) book = is_slave_within border (slave_place node book)
+changes_within border (SetMaxLatency node latency) book = is_slave_within border (slave_place node book)
+changes_within border _ book = false
+
+-- the place of the configured master that has the processor of this kind
+abbrev pub owner_by : Kind → State → Option ℕ
+owner_by (Proc p) book = owner_at (in_force book) book.fixed.topology p
+owner_by (Slave s) book = None
+owner_by (Power w) book = None
+owner_by Unknown book = None
+
+-- an event is hidden where its caller is within reach or isn't configured, where it changes a row on a slave within reach, and
+-- where the owner of its processor is within reach, or nobody is
+abbrev pub is_hidden : Border → Event → State → Bool
+is_hidden border (Ipi master message) book =
+    is_within border (master_place master book) || changes_within border (call_of message) book
+is_hidden border (Boot proc address) book = is_within border (owner_by (kind_of book.fixed.topology proc) book)
+is_hidden border (Wfi proc) book = is_within border (owner_by (kind_of book.fixed.topology proc) book)
+is_hidden border _ book = true

@@ -1,0 +1,5 @@
+pub mod Agree
+pub mod Border
+pub mod Both
+pub mod Hidden
+pub mod Seen

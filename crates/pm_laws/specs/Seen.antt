@@ -1,0 +1,42 @@
+-- Which changes of a book are seen from beyond a border.
+use Rattle.std.specs.Prelude.{◌≡◌, Bool, true, false, ◌&&◌, ◌||◌, List, [], filter}
+use Rattle.std.specs.List.{AllByRecursion as Each}
+use Rattle.pm_rows.specs.declared.row.Change.{Change}
+use Rattle.pm_rows.specs.declared.row.Change.TheVariants.{Request, Release, Set, Limit, Arm}
+use Rattle.pm_core.specs.Prims.{Prim, At_row, Settle, Put_proc, Shift}
+use Rattle.pm_laws.specs.Border.{Border}
+use Rattle.pm_laws.specs.Both.{Both}
+
+-- the change arms a row or disarms it
+abbrev pub is_arming : Change → Bool
+is_arming (Request caps) = false
+is_arming Release = false
+is_arming (Set mode caps) = false
+is_arming (Limit latency) = false
+is_arming (Arm target) = true
+
+-- a change is seen where it belongs to a master beyond; that of a row only where its slave is beyond too, or where it arms
+abbrev pub seen : Border → Prim → Bool
+seen border (At_row m s by) = border.master m && (border.slave s || is_arming by)
+seen border (Settle m) = border.master m
+seen border (Put_proc m p mode address) = border.master m
+seen border (Shift m mode) = border.master m
+
+-- of these changes, those that are seen
+abbrev pub seen_part : Border → List Prim → List Prim
+seen_part border prims = filter (seen border) prims
+
+-- no change of these is seen
+abbrev pub IsUnseen : Border → List Prim → Type 0
+IsUnseen border prims = seen_part border prims ≡ []
+
+-- nothing in these stages is seen
+abbrev pub AreHidden : Border → List (List Prim) → Type 0
+AreHidden border stages = Each (IsUnseen border) stages
+
+-- of two stages the same part is seen, and of two lists of stages it is so stage by stage
+abbrev pub IsSeenAlike : Border → List Prim → List Prim → Type 0
+IsSeenAlike border first second = seen_part border first ≡ seen_part border second
+
+abbrev pub AreAlike : Border → List (List Prim) → List (List Prim) → Type 0
+AreAlike border first second = Both (IsSeenAlike border) first second

@@ -1,0 +1,126 @@
+//! Laws of two books that agree beyond a border.
+
+ghost use Rattle.std.specs.List.{AllByRecursion as Each};
+ghost use Rattle.std.specs.Prelude.{◌≡◌, ℕ, List, [], ◌∷◌, true, false};
+ghost use Rattle.pm_core.specs.Prims.{Prim, changed};
+ghost use Rattle.pm_base.specs.declared.events.Event.{Event};
+ghost use Rattle.pm_base.specs.declared.events.Event.TheVariants.{Ipi};
+ghost use Rattle.pm_base.specs.declared.events.Message.{Message};
+ghost use Rattle.pm_base.specs.declared.names.NodeId.{NodeId};
+ghost use Rattle.pm_object.specs.declared.object.Object.{Object};
+ghost use Rattle.pm_topology.specs.declared.topology.Topology.{Topology};
+ghost use Rattle.pm_rows.specs.Wanted.{wanted_of};
+ghost use Rattle.pm_core.specs.Load.{load_of};
+ghost use Rattle.pm_core.specs.Members.{mode_of_master};
+ghost use Rattle.pm_core.specs.Sound.{IsSound, KnowsModes};
+ghost use Rattle.pm_core.specs.Stages.{after_stage, after_stages, follow, path_from};
+ghost use Rattle.pm_core.specs.State.{State};
+ghost use Rattle.pm_core.specs.Step.{effect, stages};
+ghost use Rattle.pm_core.specs.Values.{master_place, slave_place};
+ghost use Rattle.pm_core.specs.Views.{proc_view, row_view};
+ghost use Rattle.pm_laws.specs.Agree.{Agree};
+ghost use Rattle.pm_laws.specs.Border.{Border, IsBeyond, IsClosed};
+ghost use Rattle.pm_laws.specs.Both.{Both};
+ghost use Rattle.pm_laws.specs.Hidden.{is_hidden, is_slave_within, is_within};
+ghost use Rattle.pm_laws.specs.Seen.{seen, seen_part, IsUnseen, AreAlike, AreHidden};
+
+use pm_core::{books_stay_sound, members_are_owned};
+use pm_rows::shifts_leave_others;
+
+/// A sound book agrees with itself beyond each closed border, as the book at load does; two books that agree do so either way, and
+/// so do two that agree with a third one.
+pub fn books_agree()
+    ensures itself { (border : Border) (book : State) → IsClosed book.fixed.object book.fixed.topology border
+        → IsSound book → Agree border book book }
+    ensures load { (border : Border) (object : Object) (t : Topology) → IsClosed object t border
+        → Agree border (load_of object t) (load_of object t) }
+    ensures turned { (border : Border) (a b : State) → Agree border a b → Agree border b a }
+    ensures through { (border : Border) (a b c : State) → Agree border a b → Agree border b c → Agree border a c }
+{
+    books_stay_sound();
+}
+
+/// The two facts of each change: seen and made in both books it leaves them in agreement, and unseen and
+/// made in one alone it does so too. So do two lists of changes, one in each book, with the same seen part;
+/// and a list of which nothing is seen, in one book alone.
+pub fn changes_agree()
+    ensures seen { (border : Border) (prim : Prim) (a b : State) → seen border prim ≡ true
+        → Agree border a b → Agree border (changed (prim ∷ []) a) (changed (prim ∷ []) b) }
+    ensures unseen { (border : Border) (prim : Prim) (a b : State) → seen border prim ≡ false
+        → Agree border a b → Agree border (changed (prim ∷ []) a) b }
+    ensures alike { (border : Border) (first second : List Prim) (a b : State)
+        → seen_part border first ≡ seen_part border second
+        → Agree border a b → Agree border (changed first a) (changed second b) }
+    ensures hidden { (border : Border) (prims : List Prim) (a b : State) → IsUnseen border prims
+        → Agree border a b → Agree border (changed prims a) b }
+{
+    shifts_leave_others();
+    members_are_owned();
+}
+
+/// A master beyond has the same mode in two books that agree, since it comes from its own processors. So
+/// the same part is seen of the shifts by which the rows follow, and none of them is where the rows know
+/// the modes already; and two stages with the same seen part leave the books in agreement.
+pub fn rows_follow_alike()
+    ensures mode { (border : Border) (m : ℕ) (a b : State) → IsBeyond border m → Agree border a b
+        → mode_of_master a.fixed a.now.core m ≡ mode_of_master b.fixed b.now.core m }
+    ensures follow { (border : Border) (a b : State) → Agree border a b
+        → seen_part border (follow a) ≡ seen_part border (follow b) }
+    ensures rest { (book : State) → KnowsModes book → follow book ≡ [] }
+    ensures stage { (border : Border) (first second : List Prim) (a b : State)
+        → seen_part border first ≡ seen_part border second
+        → Agree border a b → Agree border (after_stage first a) (after_stage second b) }
+{
+    shifts_leave_others();
+    members_are_owned();
+}
+
+/// The books along a step. Where nothing in its stages is seen each of them agrees with a book that stays,
+/// if the one before did. Where the same part of two lists of stages is seen, one by one, the books along
+/// them agree one by one, and so do the last ones.
+pub fn paths_agree()
+    ensures hidden { (border : Border) (stages : List (List Prim)) (still now : State) → KnowsModes still
+        → AreHidden border stages → Agree border still now → Each (Agree border still) (path_from stages now) }
+    ensures last_hidden { (border : Border) (stages : List (List Prim)) (still now : State) → KnowsModes still
+        → AreHidden border stages → Agree border still now → Agree border still (after_stages stages now) }
+    ensures alike { (border : Border) (first second : List (List Prim)) (a b : State)
+        → AreAlike border first second → Agree border a b → Both (Agree border) (path_from first a) (path_from second b) }
+    ensures last_alike { (border : Border) (first second : List (List Prim)) (a b : State)
+        → AreAlike border first second → Agree border a b
+        → Agree border (after_stages first a) (after_stages second b) }
+{
+    shifts_leave_others();
+    members_are_owned();
+}
+
+/// What a master beyond sees in two books that agree is equal: its row on a slave beyond, with the other
+/// master that uses the slave, and its own processors. So is what is wanted of a slave beyond, where any
+/// master is beyond.
+pub fn views_agree()
+    ensures row { (border : Border) (m : ℕ) (node : NodeId) (a b : State)
+        → IsClosed a.fixed.object a.fixed.topology border → IsBeyond border m
+        → is_slave_within border (slave_place node a) ≡ false
+        → Agree border a b → row_view m node a ≡ row_view m node b }
+    ensures proc { (border : Border) (m : ℕ) (node : NodeId) (a b : State) → IsBeyond border m
+        → Agree border a b → proc_view m node a ≡ proc_view m node b }
+    ensures wanted { (border : Border) (s : ℕ) (a b : State) → border.some ≡ true → border.slave s ≡ true
+        → Agree border a b → wanted_of s a.now.core.rows ≡ wanted_of s b.now.core.rows }
+{}
+
+/// An event keeps two sound books in agreement beyond each closed border, whether it does the same in both
+/// or is hidden. A hidden event isn't seen: its book agrees with one in which nothing happens. The messages of a
+/// master within reach are hidden, and so are those of a master that isn't configured.
+pub fn steps_agree()
+    ensures both { (border : Border) (event : Event) (a b : State)
+        → IsClosed a.fixed.object a.fixed.topology border → IsSound a → IsSound b
+        → Agree border a b → Agree border (effect event a) (effect event b) }
+    ensures hidden { (border : Border) (event : Event) (a b : State) → IsSound b
+        → is_hidden border event a ≡ true → Agree border a b → Agree border (effect event a) b }
+    ensures messages { (border : Border) (master : NodeId) (message : Message) (book : State)
+        → is_within border (master_place master book) ≡ true → is_hidden border (Ipi master message) book ≡ true }
+    ensures stages { (border : Border) (event : Event) (book : State)
+        → is_hidden border event book ≡ true → AreHidden border (stages event book) }
+{
+    shifts_leave_others();
+    members_are_owned();
+}
