@@ -1,0 +1,84 @@
+-- What a master brings into a reach: the slaves, power nodes and reset lines that it can change.
+use Rattle.std.specs.Prelude.{ℕ, Bool, false, ◌&&◌, ◌||◌, ◌==◌, if◌then◌else◌, find, is_some, Option, Some, None, [], ◌∷◌}
+use Rattle.std.specs.List.{list_any}
+use Rattle.std.specs.Option.{option_map_or}
+use Rattle.pm_base.specs.declared.names.NodeId.{NodeId}
+use Rattle.pm_base.specs.declared.names.Unit.{Unit}
+use Rattle.pm_base.specs.declared.names.Unit.TheVariants.{Node, Line}
+use Rattle.pm_object.specs.declared.object.Object.{Object}
+use Rattle.pm_topology.specs.declared.topology.SlaveDef.{SlaveDef}
+use Rattle.pm_topology.specs.declared.topology.ProcDef.{ProcDef}
+use Rattle.pm_topology.specs.declared.topology.LineDef.{LineDef}
+use Rattle.pm_topology.specs.declared.topology.Topology.{Topology}
+use Rattle.pm_topology.specs.declared.places.Kind.{Kind}
+use Rattle.pm_topology.specs.declared.places.Kind.TheVariants as kinds
+use Rattle.pm_topology.specs.Places.{is_below, kind_of}
+use Rattle.pm_perms.specs.Permits.{may_use, may_reset}
+use Rattle.pm_reach.specs.declared.members.MemberKind.{MemberKind}
+use Rattle.pm_reach.specs.declared.members.MemberKind.TheVariants as members
+use Rattle.pm_reach.specs.declared.members.Why.{Why}
+use Rattle.pm_reach.specs.declared.members.Why.TheVariants.{Myself, Suspend, Wake, Force, Reset, Shutdown, Config, Uses, Above}
+use Rattle.pm_reach.specs.Leads.{node_at, owns, forces_above}
+
+-- the target of a line is this slave
+abbrev pub is_line_of : NodeId → LineDef → Bool
+is_line_of slave l = option_map_or (λ (n : NodeId). n.0 == slave.0) l.target false
+
+-- a master may reset a line whose target is this slave
+abbrev pub resets_slave : Object → Topology → NodeId → NodeId → Bool
+resets_slave object t master slave =
+    list_any (λ (l : LineDef). is_line_of slave l && may_reset object t master l.line) t.lines
+
+-- the master at a place brings in a slave for a reason: it may use it, force a power node above it, or reset it
+abbrev pub brings_slave_for : Object → Topology → ℕ → NodeId → Why → Bool
+brings_slave_for object t a slave Uses = may_use object t (node_at object a) slave
+brings_slave_for object t a slave Force = forces_above object t (node_at object a) slave
+brings_slave_for object t a slave Reset = resets_slave object t (node_at object a) slave
+brings_slave_for object t a slave Myself = false
+brings_slave_for object t a slave Suspend = false
+brings_slave_for object t a slave Wake = false
+brings_slave_for object t a slave Shutdown = false
+brings_slave_for object t a slave Config = false
+brings_slave_for object t a slave Above = false
+
+-- the first reason for which it does, in this order
+abbrev pub brings_slave : Object → Topology → ℕ → NodeId → Option Why
+brings_slave object t a slave = find (brings_slave_for object t a slave) (Uses ∷ Force ∷ Reset ∷ [])
+
+-- the power node at w is above a processor of the master at place a
+abbrev pub is_above_proc : Object → Topology → ℕ → ℕ → Bool
+is_above_proc object t a w = list_any (λ (p : ProcDef). owns object t a p.node && is_below t w p.node) t.procs
+
+-- the power node at w is above a slave that the master at place a brings in
+abbrev pub is_above_slave : Object → Topology → ℕ → ℕ → Bool
+is_above_slave object t a w =
+    list_any (λ (s : SlaveDef). is_some (brings_slave object t a s.node) && is_below t w s.node) t.slaves
+
+-- the master at place a brings in the power node at w
+abbrev pub brings_power : Object → Topology → ℕ → ℕ → Bool
+brings_power object t a w = is_above_proc object t a w || is_above_slave object t a w
+
+-- ---- units
+
+abbrev pub brings_as_slave : Object → Topology → ℕ → NodeId → Kind → Option Why
+brings_as_slave object t a node (kinds.Slave k) = brings_slave object t a node
+brings_as_slave object t a node (kinds.Proc k) = None
+brings_as_slave object t a node (kinds.Power k) = None
+brings_as_slave object t a node kinds.Unknown = None
+
+abbrev pub brings_as_power : Object → Topology → ℕ → Kind → Option Why
+brings_as_power object t a (kinds.Power w) = if brings_power object t a w then Some Above else None
+brings_as_power object t a (kinds.Proc k) = None
+brings_as_power object t a (kinds.Slave k) = None
+brings_as_power object t a kinds.Unknown = None
+
+-- why the master at place a brings in a unit as a member of this kind: none where it doesn't, or the unit is of another
+-- kind
+abbrev pub brings : Object → Topology → MemberKind → Unit → ℕ → Option Why
+brings object t members.Slave (Node node) a = brings_as_slave object t a node (kind_of t node)
+brings object t members.Power (Node node) a = brings_as_power object t a (kind_of t node)
+brings object t members.Line (Line line) a = if may_reset object t (node_at object a) line then Some Reset else None
+brings object t members.Slave (Line line) a = None
+brings object t members.Power (Line line) a = None
+brings object t members.Line (Node node) a = None
+brings object t members.Master unit a = None

@@ -1,0 +1,6 @@
+pub mod Border
+pub mod Brings
+pub mod Leads
+pub mod Membership
+pub mod Paths
+pub mod Search

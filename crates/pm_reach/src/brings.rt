@@ -1,0 +1,118 @@
+//! What a master brings into a reach.
+
+ghost use Rattle.std.specs.Prelude.{◌≡◌, ◌<◌, length};
+ghost use Rattle.pm_base.specs.declared.names.Unit.TheVariants.{Node};
+ghost use Rattle.pm_topology.specs.declared.places.Kind.TheVariants.{Power};
+ghost use Rattle.pm_reach.specs.Brings as spec;
+
+use crate::leads::{forces_above, node_at, owns};
+use crate::members::{MemberKind, Why};
+use pm_base::{NodeId, Unit};
+use pm_object::Object;
+use pm_perms::{may_reset, may_use};
+use pm_topology::{Kind, LineDef, Topology};
+
+/// The three reasons for which a master brings in a slave, in their order.
+const REASONS: [Why; 3] = [Why::Uses, Why::Force, Why::Reset];
+
+/// Whether the target of a line is this slave.
+fn is_line_of(slave: NodeId, line: &LineDef) -> bool
+    ensures { result ≡ spec.is_line_of slave line.now }
+{
+    match line.target {
+        Some(target) => target.0 == slave.0,
+        None => false,
+    }
+}
+
+fn resets_slave(object: &Object, t: &Topology, master: NodeId, slave: NodeId) -> bool
+    ensures { result ≡ spec.resets_slave object.now t.now master slave }
+{
+    t.lines.as_slice().iter().any(|line| is_line_of(slave, line)
+        && may_reset(object, t, master, line.line))
+}
+
+/// Whether the master at place `a` brings in a slave for a reason.
+fn brings_slave_for(object: &Object, t: &Topology, a: usize, slave: NodeId, why: Why) -> bool
+    ensures { result ≡ spec.brings_slave_for object.now t.now a slave why }
+{
+    let master = node_at(object, a);
+    match why {
+        Why::Uses => may_use(object, t, master, slave),
+        Why::Force => forces_above(object, t, master, slave),
+        Why::Reset => resets_slave(object, t, master, slave),
+        _ => false,
+    }
+}
+
+/// The first reason for which the master at place `a` brings in a slave: `None` where it doesn't.
+fn brings_slave(object: &Object, t: &Topology, a: usize, slave: NodeId) -> Option<Why>
+    ensures { result ≡ spec.brings_slave object.now t.now a slave }
+{
+    REASONS
+        .iter()
+        .copied()
+        .find(|why| brings_slave_for(object, t, a, slave, *why))
+}
+
+/// Whether the power node at place `w` is above a processor of the master at place `a`.
+fn is_above_proc(object: &Object, t: &Topology, a: usize, w: usize) -> bool
+    requires { w < length t.now.powers }
+    ensures { result ≡ spec.is_above_proc object.now t.now a w }
+{
+    t.procs.as_slice().iter().any(|proc| owns(object, t, a, proc.node) && t.below(w, proc.node))
+}
+
+/// Whether the power node at place `w` is above a slave that the master at place `a` brings in.
+fn is_above_slave(object: &Object, t: &Topology, a: usize, w: usize) -> bool
+    requires { w < length t.now.powers }
+    ensures { result ≡ spec.is_above_slave object.now t.now a w }
+{
+    t.slaves.as_slice().iter().any(|slave| brings_slave(object, t, a, slave.node).is_some()
+        && t.below(w, slave.node))
+}
+
+fn brings_node(
+    object: &Object,
+    t: &Topology,
+    kind: MemberKind,
+    node: NodeId,
+    a: usize,
+) -> Option<Why>
+    ensures { result ≡ spec.brings object.now t.now kind (Node node) a }
+{
+    match (kind, t.kind(node)) {
+        (MemberKind::Slave, Kind::Slave(_)) => brings_slave(object, t, a, node),
+        (MemberKind::Power, Kind::Power(w)) => brings_power(object, t, a, w),
+        _ => None,
+    }
+}
+
+fn brings_power(object: &Object, t: &Topology, a: usize, w: usize) -> Option<Why>
+    requires { w < length t.now.powers }
+    ensures { result ≡ spec.brings_as_power object.now t.now a (Power w) }
+{
+    if is_above_proc(object, t, a, w) || is_above_slave(object, t, a, w) {
+        Some(Why::Above)
+    } else {
+        None
+    }
+}
+
+/// Why the master at place `a` brings in a unit as a member of a kind: `None` where it doesn't, or where
+/// the unit is of another kind.
+pub fn brings(object: &Object, t: &Topology, kind: MemberKind, unit: Unit, a: usize) -> Option<Why>
+    ensures { result ≡ spec.brings object.now t.now kind unit a }
+{
+    match (kind, unit) {
+        (_, Unit::Node(node)) => brings_node(object, t, kind, node, a),
+        (MemberKind::Line, Unit::Line(line)) => {
+            if may_reset(object, t, node_at(object, a), line) {
+                Some(Why::Reset)
+            } else {
+                None
+            }
+        }
+        _ => None,
+    }
+}

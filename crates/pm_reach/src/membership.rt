@@ -1,0 +1,209 @@
+//! The reach of a master.
+
+ghost use Rattle.std.specs.Prelude.{◌≡◌, ◌++◌, ◌==◌, position, IfOk, OnOk, IsTrue};
+ghost use Rattle.std.specs.List.{list_any};
+ghost use Rattle.pm_reach.specs.Membership as spec;
+
+use crate::brings::brings;
+use crate::leads::node_at;
+use crate::members::{Member, MemberKind, Reach, Why};
+use crate::routes::{Route, least_routes};
+use pm_base::{List, NoMemory, NodeId, Unit};
+use pm_object::Object;
+use pm_topology::{Topology, units_of};
+use std::alloc::Global;
+
+/// What the master `m` of the object can reach. Its members are the masters to which a path leads from it,
+/// each with the least path, and the slaves, power nodes and reset lines that these bring in, each with the
+/// path of the first of them that does. That `m` is a master of the object is tested by `has_key`.
+///
+/// # Errors
+///
+/// `NoMemory` where there is not enough memory.
+pub fn reach(alloc: Global, object: &Object, t: &Topology, m: NodeId) -> Result<Reach, NoMemory>
+    requires { IsTrue (list_any (λ r. r.node == m.0) object.now.masters) }
+    ensures { IfOk result (λ found. spec.IsReach object.now t.now m found.members) }
+{
+    match place_of(object, m) {
+        Some(from) => {
+            let routes = least_routes(alloc, object, t, from)?;
+            let members = members_of(alloc, object, t, routes.as_slice())?;
+            Ok(Reach { members })
+        }
+        None => Ok(Reach {
+            members: List::new(alloc),
+        }),
+    }
+}
+
+/// What these paths bring into a reach.
+fn members_of(
+    alloc: Global,
+    object: &Object,
+    t: &Topology,
+    routes: &[Route],
+) -> Result<List<Member>, NoMemory>
+    ensures { IfOk result (λ members. members ≡ spec.members_of object.now t.now routes.now) }
+{
+    let units = units_of(alloc, t)?;
+    let mut members = List::new(alloc);
+    push_masters(alloc, object, routes, &mut members)?;
+    let units = units.as_slice();
+    push_units(
+        alloc,
+        object,
+        t,
+        MemberKind::Slave,
+        units,
+        routes,
+        &mut members,
+    )?;
+    push_units(
+        alloc,
+        object,
+        t,
+        MemberKind::Power,
+        units,
+        routes,
+        &mut members,
+    )?;
+    push_units(
+        alloc,
+        object,
+        t,
+        MemberKind::Line,
+        units,
+        routes,
+        &mut members,
+    )?;
+    Ok(members)
+}
+
+/// The place of a master in the object.
+fn place_of(object: &Object, m: NodeId) -> Option<usize>
+    ensures { result ≡ position (λ r. r.node == m.0) object.now.masters }
+{
+    object
+        .masters
+        .as_slice()
+        .iter()
+        .position(|master| master.node == m.0)
+}
+
+/// The numbers of the masters of a path.
+fn nodes_of(alloc: Global, object: &Object, path: &[usize]) -> Result<List<NodeId>, NoMemory>
+    ensures { IfOk result (λ nodes. nodes ≡ spec.nodes_of object.now path.now) }
+{
+    let mut nodes = List::new(alloc);
+    for place in path {
+        nodes.push(node_at(object, *place))?;
+    }
+    Ok(nodes)
+}
+
+fn member_by(
+    alloc: Global,
+    object: &Object,
+    kind: MemberKind,
+    number: u32,
+    why: Why,
+    route: &Route,
+) -> Result<Member, NoMemory>
+    ensures { IfOk result (λ member. member ≡ spec.member_by object.now kind number why route.now) }
+{
+    Ok(Member {
+        kind,
+        number,
+        why,
+        path: nodes_of(alloc, object, route.path.as_slice())?,
+    })
+}
+
+/// The member for the master at a place, where a path leads to it.
+fn master_member(
+    alloc: Global,
+    object: &Object,
+    routes: &[Route],
+    place: usize,
+) -> Result<Option<Member>, NoMemory>
+    ensures { IfOk result (λ member. member ≡ spec.master_member object.now routes.now place) }
+{
+    for route in routes {
+        if route.end == place {
+            let number = node_at(object, place).0;
+            return Ok(Some(member_by(
+                alloc,
+                object,
+                MemberKind::Master,
+                number,
+                route.why,
+                route,
+            )?));
+        }
+    }
+    Ok(None)
+}
+
+fn push_masters(
+    alloc: Global,
+    object: &Object,
+    routes: &[Route],
+    members: &mut List<Member>,
+) -> Result<(), NoMemory>
+    ensures { OnOk result (members.new ≡ members.old ++ spec.master_members object.now routes.now) }
+{
+    for place in 0..object.masters.len() {
+        if let Some(member) = master_member(alloc, object, routes, place)? {
+            members.push(member)?;
+        }
+    }
+    Ok(())
+}
+
+fn number_of(unit: Unit) -> u32
+    ensures { result ≡ spec.number_of unit }
+{
+    match unit {
+        Unit::Node(node) => node.0,
+        Unit::Line(line) => line.0,
+    }
+}
+
+/// The member for a unit, where a master of the reach brings it in.
+fn unit_member(
+    alloc: Global,
+    object: &Object,
+    t: &Topology,
+    kind: MemberKind,
+    unit: Unit,
+    routes: &[Route],
+) -> Result<Option<Member>, NoMemory>
+    ensures { IfOk result (λ member. member ≡ spec.unit_member object.now t.now kind unit routes.now) }
+{
+    for route in routes {
+        if let Some(why) = brings(object, t, kind, unit, route.end) {
+            return Ok(Some(member_by(alloc, object, kind, number_of(unit), why, route)?));
+        }
+    }
+    Ok(None)
+}
+
+/// Puts in the members of a kind.
+fn push_units(
+    alloc: Global,
+    object: &Object,
+    t: &Topology,
+    kind: MemberKind,
+    units: &[Unit],
+    routes: &[Route],
+    members: &mut List<Member>,
+) -> Result<(), NoMemory>
+    ensures { OnOk result (members.new ≡ members.old ++ spec.unit_members object.now t.now kind routes.now units.now) }
+{
+    for unit in units {
+        if let Some(member) = unit_member(alloc, object, t, kind, *unit, routes)? {
+            members.push(member)?;
+        }
+    }
+    Ok(())
+}
