@@ -1,13 +1,12 @@
 -- A step that was carried out: it is the part of its device under its answers, and what holds of each part holds of it.
-use Rattle.std.proofs.Common.{◌≡◌, ℕ, List, [], ◌++◌, sym, ap, subst, ◌∙◌}
-use Rattle.pm_base.specs.declared.names.Unit.{Unit as Place}
-use Rattle.pm_topology.specs.WellFormed.{IsWellFormed}
+use Rattle.std.proofs.Common.{Bool, ◌≡◌, ℕ, List, [], ◌++◌, sym, ap, subst, ◌∙◌}
+use Rattle.pm_base.specs.declared.names.Unit.{Unit}
 use Rattle.pm_device.specs.Act.{Act, AreHarmless, Chain, values_after}
 use Rattle.pm_device.specs.Chains.{values_after-same}
 use Rattle.pm_device.specs.Device.{DeviceMoment}
 use Rattle.pm_core.specs.declared.outbox.Done.{Done}
 use Rattle.pm_core.specs.declared.outbox.Outbox.{Outbox}
-use Rattle.pm_core.specs.Fed.{IsFed}
+use Rattle.pm_core.specs.Outbox.{Outputs}
 use Rattle.pm_core.specs.State.{State}
 use Rattle.pm_core.specs.Values.{value}
 use Rattle.pm_apply.specs.Carried.{AreMarked, KeepsRest, Takes}
@@ -15,7 +14,6 @@ use Rattle.pm_apply.specs.Order.{IsOrdered, LagsAreExplained}
 use Rattle.pm_apply.specs.Part.{Part, answers_in, orders_in, orders_of, outputs_in, part_in, part_of}
 use Rattle.pm_apply.specs.Plan.{Carried, answers_of, plan, turns_of}
 use Rattle.pm_apply.specs.Record.{IsRecordOf, Kept, StandsAs, kept_value, marked}
-use Rattle.pm_apply.proofs.StepLaw.{part_explained, part_follows, part_known, part_marks, part_ordered, part_record}
 
 -- what holds of the commands of a step and of the record that they leave
 pub record IsSafe (kept : Kept) (book : State) (part : Part) : Type 0 where
@@ -24,7 +22,7 @@ pub record IsSafe (kept : Kept) (book : State) (part : Part) : Type 0 where
   pub known : AreHarmless book.fixed.topology (orders_of part.commands)
   pub record_of : IsRecordOf book.fixed.topology part.kept
   pub marks : AreMarked book.fixed.topology (λ u. value u book) part.kept
-  pub follows : (unit : Place) → kept_value part.kept unit ≡ values_after (orders_of part.commands) (kept_value kept) unit
+  pub follows : (unit : Unit) → kept_value part.kept unit ≡ values_after (orders_of part.commands) (kept_value kept) unit
 
 -- exactly the step's part, given command by command
 pub record IsCarried {D : Type 0} (Does : Act → D → D → Type 0) (kept now : Kept) (book : State) (before after : Outbox) (old new : D) : Type 0 where
@@ -39,21 +37,19 @@ module _ {D : Type 0} (Does : Act → D → D → Type 0) (kept left now : Kept)
       → after.answer ≡ before.answer
       → part_in now after ≡ part_of kept (answers_in after) book (outputs_in before)
   part_is planned marks answer =
-      let values : Place → ℕ = λ u. value u book in
+      let values : Unit → ℕ = λ u. value u book in
       ap (λ (kept : Kept). part_in kept after) marks
       ∙ ap (λ answer. record { commands = after.done.items; kept = marked values left; answer = answer }) answer
       ∙ sym (ap (λ (c : Carried). record { commands = c.done; kept = marked values c.kept; answer = before.answer }) planned)
 
-  -- the turns of a step were taken, and then the record was marked
-  pub carried : IsWellFormed book.fixed.topology
-      → IsFed book.fixed.topology (λ u. value u book)
-      → IsRecordOf book.fixed.topology kept
+  -- the turns of a step were taken, and then the record was marked; each part of the step is safe
+  pub carried : ((answers : List Bool) (outputs : Outputs) → IsSafe kept book (part_of kept answers book outputs))
       → before.done.items ≡ []
       → Takes Does book.fixed.topology (λ u. value u book) (turns_of book.fixed.topology) kept left before.done.items after.done.items old new
       → KeepsRest before after
       → now ≡ marked (λ u. value u book) left
       → IsCarried Does kept now book before after old new
-  carried well fed record_of fresh takes rest marks =
+  carried safe fresh takes rest marks =
       let all : takes.done ≡ after.done.items = sym (takes.put ∙ ap (λ done. done ++ takes.done) fresh) in
       let Planned : List Done → Type 0 = λ done. plan book.fixed.topology (λ u. value u book) (turns_of book.fixed.topology) kept (answers_of done) ≡ record { done = done; kept = left } in
       let Given : List Done → Type 0 = λ done. Chain Does (orders_of done) old new in
@@ -61,20 +57,13 @@ module _ {D : Type 0} (Does : Act → D → D → Type 0) (kept left now : Kept)
       record {
         part = part;
         given = subst Given all takes.given;
-        safe = subst (IsSafe kept book) (sym part) (record {
-          ordered = part_ordered kept (answers_in after) book (outputs_in before) well record_of;
-          explained = part_explained kept (answers_in after) book (outputs_in before) well record_of fed;
-          known = part_known kept (answers_in after) book (outputs_in before) well;
-          record_of = part_record kept (answers_in after) book (outputs_in before) well record_of;
-          marks = part_marks kept (answers_in after) book (outputs_in before) well record_of;
-          follows = part_follows kept (answers_in after) book (outputs_in before) well record_of;
-        });
+        safe = subst (IsSafe kept book) (sym part) (safe (answers_in after) (outputs_in before));
       }
 
 -- a device whose values were those of a record, and are those after some acts, stands as the record that has these
 pub stands_then : (acts : List Act) (kept after : Kept) (old new : DeviceMoment)
-    → ((unit : Place) → kept_value after unit ≡ values_after acts (kept_value kept) unit)
-    → ((unit : Place) → new.value unit ≡ values_after acts old.value unit)
+    → ((unit : Unit) → kept_value after unit ≡ values_after acts (kept_value kept) unit)
+    → ((unit : Unit) → new.value unit ≡ values_after acts old.value unit)
     → StandsAs kept old → StandsAs after new
 stands_then acts kept after old new follows shown stands unit =
     shown unit ∙ values_after-same acts old.value (kept_value kept) stands unit ∙ sym (follows unit)

@@ -5,7 +5,7 @@ use Rattle.std.specs.List.{range_with_len}
 use Rattle.std.proofs.lemmas.Bool.{cases_Bool, cases_lt, both_ways}
 use Rattle.std.proofs.lemmas.List.{reverse-append}
 use Rattle.std.proofs.lemmas.Option.{slice_get_within}
-use Rattle.pm_base.specs.declared.names.Unit.{Unit as Place}
+use Rattle.pm_base.specs.declared.names.Unit.{Unit}
 use Rattle.pm_base.specs.declared.names.Unit.TheVariants.{Node, Line}
 use Rattle.pm_topology.specs.declared.topology.Topology.{Topology}
 use Rattle.pm_topology.specs.declared.topology.PowerDef.{PowerDef}
@@ -14,16 +14,17 @@ use Rattle.pm_topology.specs.WellFormed.{IsWellFormed}
 use Rattle.pm_core.specs.declared.outbox.Done.{Done}
 use Rattle.pm_core.specs.Fed.{IsFed}
 use Rattle.pm_topology.specs.Units.{units_of}
-use Rattle.pm_apply.specs.declared.turns.Turn.TheVariants.{Raise, Settle, Lower}
+use Rattle.pm_apply.proofs.Below.{ChipLaws}
+use Rattle.pm_apply.specs.declared.turns.Turn.TheVariants.{PowerOn, Apply, PowerOff}
 use Rattle.pm_apply.specs.Record.{Kept, kept_value, IsRecordOf}
 use Rattle.pm_apply.specs.Plan.{plan, turns_of, power_places, is_power}
 use Rattle.pm_apply.specs.Order.{IsOnPath, IsExplained, LagsAreExplained}
 use Rattle.pm_apply.proofs.PlanLeads.{Leads, leads_append}
 use Rattle.pm_apply.proofs.OrdersUnits.{is_listed, listed-is, IsPowerAt, power_kind, power_place_of}
 use Rattle.pm_apply.proofs.OrdersFailed.{FailsAtOrAbove}
-use Rattle.pm_apply.proofs.OrdersRaise.{Raised, raise_from}
-use Rattle.pm_apply.proofs.OrdersSettle.{IsStarved, Lags, Settled, settle_all}
-use Rattle.pm_apply.proofs.OrdersLower.{FailsAtOrBelow, Lowered, downs, lower_all}
+use Rattle.pm_apply.proofs.OrdersPowerOn.{Raised, raise_from}
+use Rattle.pm_apply.proofs.OrdersApply.{IsStarved, Lags, Settled, settle_all}
+use Rattle.pm_apply.proofs.OrdersPowerOff.{FailsAtOrBelow, Lowered, downs, lower_all}
 
 -- ---- the places, from the last one down
 
@@ -38,13 +39,13 @@ reversed (suc n) =
     ∙ reverse-append (range_with_len 0 n) (n ∷ [])
     ∙ ap (λ places. n ∷ places) (reversed n)
 
-module _ (t : Topology) (values : Place → ℕ) (well : IsWellFormed t) (fed : IsFed t values) where
+module _ (laws : ChipLaws) (t : Topology) (values : Unit → ℕ) (well : IsWellFormed t) (fed : IsFed t values) where
   -- ---- from phase to phase
 
   abbrev n : ℕ
   n = length t.powers
 
-  from_raised : (kept : Kept) (front : List Done) → Raised t values well fed n kept front → Settled t values (units_of t) kept front
+  from_raised : (kept : Kept) (front : List Done) → Raised laws t values well fed n kept front → Settled t values (units_of t) kept front
   from_raised kept front r = record {
     record_of = r.record_of;
     among = λ x has. has;
@@ -52,7 +53,7 @@ module _ (t : Topology) (values : Place → ℕ) (well : IsWellFormed t) (fed : 
     settled = λ x has other lags off. absurd (both_ways (is_listed t x) off has);
   }
 
-  from_settled : (kept : Kept) (front : List Done) → Settled t values [] kept front → Lowered t values well fed n kept front
+  from_settled : (kept : Kept) (front : List Done) → Settled t values [] kept front → Lowered laws t values well fed n kept front
   from_settled kept front s = record {
     record_of = s.record_of;
     raised = s.raised;
@@ -63,22 +64,22 @@ module _ (t : Topology) (values : Place → ℕ) (well : IsWellFormed t) (fed : 
   abbrev Begins : Kept → List Done → Type 0
   Begins kept front = IsRecordOf t kept
 
-  raises_lead : Leads t values Begins (map Raise (power_places t)) (Settled t values (units_of t))
+  raises_lead : Leads t values Begins (map PowerOn (power_places t)) (Settled t values (units_of t))
   raises_lead kept front answers record_of =
-      from_raised _ _ (raise_from t values well fed n 0 n (omega arith) kept front answers (record { record_of = record_of; explained = λ v p below. absurd (omega arith) }))
+      from_raised _ _ (raise_from laws t values well fed n 0 n (omega arith) kept front answers (record { record_of = record_of; explained = λ v p below. absurd (omega arith) }))
 
-  settles_lead : Leads t values (Settled t values (units_of t)) (map Settle (units_of t)) (Lowered t values well fed n)
-  settles_lead kept front answers s = from_settled _ _ (settle_all t values well fed (units_of t) kept front answers s)
+  settles_lead : Leads t values (Settled t values (units_of t)) (map Apply (units_of t)) (Lowered laws t values well fed n)
+  settles_lead kept front answers s = from_settled _ _ (settle_all laws t values well fed (units_of t) kept front answers s)
 
-  lowers_lead : Leads t values (Lowered t values well fed n) (map Lower (reverse (power_places t))) (Lowered t values well fed 0)
+  lowers_lead : Leads t values (Lowered laws t values well fed n) (map PowerOff (reverse (power_places t))) (Lowered laws t values well fed 0)
   lowers_lead =
-      subst (λ places. Leads t values (Lowered t values well fed n) (map Lower places) (Lowered t values well fed 0)) (sym (reversed n)) (lower_all t values well fed n)
+      subst (λ places. Leads t values (Lowered laws t values well fed n) (map PowerOff places) (Lowered laws t values well fed 0)) (sym (reversed n)) (lower_all laws t values well fed n)
 
-  step_leads : Leads t values Begins (turns_of t) (Lowered t values well fed 0)
+  step_leads : Leads t values Begins (turns_of t) (Lowered laws t values well fed 0)
   step_leads =
-      leads_append t values Begins (Settled t values (units_of t)) (Lowered t values well fed 0) (map Raise (power_places t)) (map Settle (units_of t) ++ map Lower (reverse (power_places t)))
+      leads_append t values Begins (Settled t values (units_of t)) (Lowered laws t values well fed 0) (map PowerOn (power_places t)) (map Apply (units_of t) ++ map PowerOff (reverse (power_places t)))
       raises_lead
-      (leads_append t values (Settled t values (units_of t)) (Lowered t values well fed n) (Lowered t values well fed 0) (map Settle (units_of t)) (map Lower (reverse (power_places t)))
+      (leads_append t values (Settled t values (units_of t)) (Lowered laws t values well fed n) (Lowered laws t values well fed 0) (map Apply (units_of t)) (map PowerOff (reverse (power_places t)))
       settles_lead lowers_lead)
 
   -- ---- the paths
@@ -90,7 +91,7 @@ module _ (t : Topology) (values : Place → ℕ) (well : IsWellFormed t) (fed : 
       let same : p ≡ q = cc in
       inl (ap (λ (p : PowerDef). p.node) same)
   path_up u _ p q here is (higher w v step up) =
-      inr (inl (record { w = u; power = q; is = is; named = refl; below = (v, ap (parent_at t) (power_kind t well w p here) ∙ step, up) }))
+      inr (inl (record { w = u; power = q; is = is; named = refl; below = (v, ap (parent_at t) (power_kind laws t well w p here) ∙ step, up) }))
 
   above_on_path : (done : List Done) (w : ℕ) (p : PowerDef) → slice_get t.powers w ≡ Some p → FailsAtOrAbove t done w → IsExplained t done (Node p.node)
   above_on_path done w p here f = record { other = Node f.power.node; path = path_up f.u w p f.power here f.is f.above; failed = f.failed }
@@ -105,7 +106,7 @@ module _ (t : Topology) (values : Place → ℕ) (well : IsWellFormed t) (fed : 
     failed = f.failed;
   }
 
-  starved_on_path : (done : List Done) (unit : Place) → IsStarved t values done unit → IsExplained t done unit
+  starved_on_path : (done : List Done) (unit : Unit) → IsStarved t values done unit → IsExplained t done unit
   starved_on_path done unit starved =
       let f = starved.failed in
       subst (IsExplained t done) (sym starved.is) (record {
@@ -114,14 +115,14 @@ module _ (t : Topology) (values : Place → ℕ) (well : IsWellFormed t) (fed : 
         failed = f.failed;
       })
 
-  own_path : (unit : Place) → IsOnPath t unit unit
+  own_path : (unit : Unit) → IsOnPath t unit unit
   own_path (Node node) = inl refl
   own_path (Line line) = refl
 
   -- ---- each unit
 
-  module _ (kept : Kept) (done : List Done) (l : Lowered t values well fed 0 kept done) where
-    power_explained : (unit : Place) (w : ℕ) (p : PowerDef) → IsPowerAt t unit w p → kept_value kept unit ≢ values unit → IsExplained t done unit
+  module _ (kept : Kept) (done : List Done) (l : Lowered laws t values well fed 0 kept done) where
+    power_explained : (unit : Unit) (w : ℕ) (p : PowerDef) → IsPowerAt t unit w p → kept_value kept unit ≢ values unit → IsExplained t done unit
     power_explained unit w p at lags =
         let differs : kept_value kept (Node p.node) ≢ values (Node p.node) = λ same. lags (ap (kept_value kept) at.is ∙ same ∙ ap values (sym at.is)) in
         let record_small = l.record_of.up_or_down w p at.here in
@@ -132,15 +133,15 @@ module _ (t : Topology) (values : Place → ℕ) (well : IsWellFormed t) (fed : 
           | inr down ↦ below_on_path done w p at.here (l.lowered w p (omega arith) at.here (omega arith) (omega arith))
         ])
 
-    other_explained : (unit : Place) → Lags t values done unit → IsExplained t done unit
+    other_explained : (unit : Unit) → Lags t values done unit → IsExplained t done unit
     other_explained unit (inl failed) = record { other = unit; path = own_path unit; failed = failed }
     other_explained unit (inr starved) = starved_on_path done unit starved
 
     each_explained : LagsAreExplained t values kept done
     each_explained unit has lags =
         elim (cases_Bool (is_power t unit)) [
-          | inl power ↦ let at = power_place_of t unit power in power_explained unit at.0 at.1 at.2 lags
-          | inr other ↦ other_explained unit (l.settled unit (listed-is t unit ∙ has) other lags)
+          | inl power ↦ let at = power_place_of laws t unit power in power_explained unit at.0 at.1 at.2 lags
+          | inr other ↦ other_explained unit (l.settled unit (listed-is laws t unit ∙ has) other lags)
         ]
 
   -- for any record and any answers

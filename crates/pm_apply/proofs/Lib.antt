@@ -1,3 +1,4 @@
+pub mod Below
 pub mod CarryLemmas
 pub mod CountLemmas
 pub mod ExplainedLaw
@@ -5,9 +6,9 @@ pub mod MarksLemmas
 pub mod OrderLaw
 pub mod OrdersDue
 pub mod OrdersFailed
-pub mod OrdersLower
-pub mod OrdersRaise
-pub mod OrdersSettle
+pub mod OrdersPowerOff
+pub mod OrdersPowerOn
+pub mod OrdersApply
 pub mod OrdersUnits
 pub mod PlanLeads
 pub mod PlanLemmas

@@ -1,71 +1,65 @@
 -- The record at first, and the marks of a record.
-use Rattle.std.proofs.Common.{◌≡◌, ℕ, ◌+◌, ◌<◌, ◌==◌, Bool, true, false, not, cond, Option, Some, None, ◌++◌, length, take, drop, refl, ap, sym, ◌∙◌, subst, arith, inl, inr}
+use Rattle.std.proofs.Common.{◌≡◌, ℕ, ◌+◌, ◌<◌, ◌==◌, Bool, true, false, not, cond, Option, Some, None, ◌++◌, length, take, drop, refl, ap, ◌∙◌, subst, arith, inl, inr}
 use Rattle.std.specs.Prelude.{IfSome, is_some, slice_get, unwrap_or}
 use Rattle.std.specs.Option.{option_map}
 use Rattle.std.proofs.lemmas.Option.{slice_get_cases}
-use Rattle.pm_base.specs.declared.names.Unit.{Unit as Place}
+use Rattle.pm_base.specs.declared.names.Unit.{Unit}
 use Rattle.pm_base.specs.declared.names.Unit.TheVariants.{Node}
 use Rattle.pm_topology.specs.declared.topology.Topology.{Topology}
 use Rattle.pm_topology.specs.Units.{has_in, units_of}
-use Rattle.pm_topology.specs.UnitMap.{mapped, units_in, value_of, with_value_at}
-use Rattle.pm_topology.proofs.UnitMapLaw.{next_entry, next_made, units_in-all, value_of-all, value_of-mapped, value_of-there}
-use Rattle.pm_device.specs.Device.{DeviceMoment}
-use Rattle.pm_device.specs.Fresh.{IsFresh}
+use Rattle.pm_topology.specs.UnitMap.{TablePlaceLaws, mapped, units_in, value_of, with_value_at}
+use Rattle.pm_apply.proofs.Below.{ChipLaws}
 use Rattle.pm_apply.specs.declared.kept.KeptValue.{KeptValue}
-use Rattle.pm_apply.specs.Record.{Kept, IsRecordOf, IsAtZero, StandsAs, at_zero, idle, kept_of, kept_value, lags_in, mark, marked}
+use Rattle.pm_apply.specs.Record.{Kept, IsRecordOf, IsAtZero, at_zero, idle, kept_of, kept_value, lags_in, mark, marked}
 
 -- ---- at first
 
-all_idle : (t : Topology) (unit : Place) → kept_of (at_zero t) unit ≡ idle
-all_idle t unit =
-    ap (λ (found : Option KeptValue). unwrap_or found idle) (value_of-all idle (units_of t) unit) ∙ at (has_in (units_of t) unit)
+all_idle : ChipLaws → (t : Topology) (unit : Unit) → kept_of (at_zero t) unit ≡ idle
+all_idle laws t unit =
+    ap (λ (found : Option KeptValue). unwrap_or found idle) (laws.table.all idle (units_of t) unit) ∙ at (has_in (units_of t) unit)
   where
     at : (has : Bool) → unwrap_or (cond has (Some idle) None) idle ≡ idle
     at true = refl
     at false = refl
 
-pub first_values : (t : Topology) (unit : Place) → kept_value (at_zero t) unit ≡ 0
-first_values t unit = ap (λ (kept : KeptValue). kept.value) (all_idle t unit)
+pub first_values : ChipLaws → (t : Topology) (unit : Unit) → kept_value (at_zero t) unit ≡ 0
+first_values laws t unit = ap (λ (kept : KeptValue). kept.value) (all_idle laws t unit)
 
-pub first_is_at_zero : (t : Topology) → IsAtZero (at_zero t)
-first_is_at_zero t = record { values = first_values t; marks = λ unit. ap (λ (kept : KeptValue). kept.lags) (all_idle t unit) }
+pub first_is_at_zero : ChipLaws → (t : Topology) → IsAtZero (at_zero t)
+first_is_at_zero laws t = record { values = first_values laws t; marks = λ unit. ap (λ (kept : KeptValue). kept.lags) (all_idle laws t unit) }
 
-pub first_is_record : (t : Topology) → IsRecordOf t (at_zero t)
-first_is_record t = record {
-  units = units_in-all idle (units_of t);
-  up_or_down = λ w power here. let zero = first_values t (Node power.node) in omega arith;
+pub first_is_record : ChipLaws → (t : Topology) → IsRecordOf t (at_zero t)
+first_is_record laws t = record {
+  units = laws.table.all_units idle (units_of t);
+  up_or_down = λ w power here. let zero = first_values laws t (Node power.node) in omega arith;
 }
-
--- a new device stands as the record of one that took nothing
-pub fresh_stands : (t : Topology) (kept : Kept) (moment : DeviceMoment) → IsAtZero kept → IsFresh t moment → StandsAs kept moment
-fresh_stands t kept moment nothing fresh unit = fresh.values unit ∙ sym (nothing.values unit)
 
 -- ---- the marks
 
 -- a unit lags exactly where its value isn't this one
-pub lags_in-marked : (values : Place → ℕ) (kept : Kept) (unit : Place) → has_in (units_in kept) unit ≡ true → lags_in (marked values kept) unit ≡ not (kept_value kept unit == values unit)
-lags_in-marked values kept unit has =
-    ap (λ (found : Option KeptValue). (unwrap_or found idle).lags) (value_of-mapped (mark values) kept unit)
-    ∙ at (value_of kept unit) (value_of-there kept unit ∙ has)
+pub lags_in-marked : ChipLaws → (values : Unit → ℕ) (kept : Kept) (unit : Unit) → has_in (units_in kept) unit ≡ true → lags_in (marked values kept) unit ≡ not (kept_value kept unit == values unit)
+lags_in-marked laws values kept unit has =
+    ap (λ (found : Option KeptValue). (unwrap_or found idle).lags) (laws.table.made (mark values) kept unit)
+    ∙ at (value_of kept unit) (laws.table.there kept unit ∙ has)
   where
     at : (found : Option KeptValue) → is_some found ≡ true → (unwrap_or (option_map (mark values unit) found) idle).lags ≡ not ((unwrap_or found idle).value == values unit)
     at None is = cc
     at (Some kept) is = refl
 
 -- they are made place by place
-pub mark_step : (values : Place → ℕ) (old now new : Kept) (place : ℕ)
+pub mark_step : TablePlaceLaws KeptValue → (values : Unit → ℕ) (old now new : Kept) (place : ℕ)
     → place < length old
     → now ≡ mapped (mark values) (take place old) ++ drop place old
     → IfSome (slice_get now place) (λ e. new ≡ with_value_at place (mark values e.0 e.1) now)
     → new ≡ mapped (mark values) (take (place + 1) old) ++ drop (place + 1) old
-mark_step values old now new place within so_far makes =
+mark_step places values old now new place within so_far makes =
     elim ((slice_get_cases old place).1) [
       | inl here ↦
-          let at = ap (λ (kept : Kept). slice_get kept place) so_far ∙ next_entry (mark values) old place ∙ here.2 in
-          let P : Option (Place × KeptValue) → Type 0 = λ found. IfSome found (λ e. new ≡ with_value_at place (mark values e.0 e.1) now) in
+          let at = ap (λ (kept : Kept). slice_get kept place) so_far ∙ places.next (mark values) old place ∙ here.2 in
+          let P : Option (Unit × KeptValue) → Type 0 = λ found. IfSome found (λ e. new ≡ with_value_at place (mark values e.0 e.1) now) in
           let made : new ≡ with_value_at place (mark values here.0.0 here.0.1) now = subst P at makes in
           made
           ∙ ap (with_value_at place (mark values here.0.0 here.0.1)) so_far
-          ∙ next_made (mark values) old place here.0 here.2
+          ∙ places.made (mark values) old place here.0 here.2
       | inr past ↦ absurd (omega (arith, past.0))
     ]

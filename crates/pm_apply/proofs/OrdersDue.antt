@@ -3,14 +3,14 @@ use Rattle.std.proofs.Common.{◌≡◌, ◌≢◌, ℕ, ◌==◌, Bool, true, f
 use Rattle.std.specs.Prelude.{slice_get}
 use Rattle.std.proofs.lemmas.Bool.{and_parts, eqb-true, eq-eqb, ne_eqb, not-true, not_from_false, not-false}
 use Rattle.pm_topology.specs.Units.{needs_power, parent_of_unit}
-use Rattle.pm_base.specs.declared.names.Unit.{Unit as Place}
+use Rattle.pm_base.specs.declared.names.Unit.{Unit}
 use Rattle.pm_base.specs.declared.names.Unit.TheVariants.{Node}
 use Rattle.pm_base.specs.declared.names.Command.{Command}
 use Rattle.pm_topology.specs.declared.topology.Topology.{Topology}
 use Rattle.pm_topology.specs.declared.topology.PowerDef.{PowerDef}
-use Rattle.pm_apply.specs.declared.turns.Turn.TheVariants.{Raise, Settle, Lower}
+use Rattle.pm_apply.specs.declared.turns.Turn.TheVariants.{PowerOn, Apply, PowerOff}
 use Rattle.pm_apply.specs.Record.{Kept, kept_value}
-use Rattle.pm_apply.specs.Plan.{due, raise, lower, where_due, command, is_fed, is_used, is_power}
+use Rattle.pm_apply.specs.Plan.{due, power_on, power_off, where_due, command, is_fed, is_used, is_power}
 
 -- ---- tests
 
@@ -38,7 +38,7 @@ not_met : (a b : Bool) → (not a || b) ≡ false → (a ≡ true) × (b ≡ fal
 not_met true b is = (refl, is)
 not_met false b is = cc
 
-module _ (t : Topology) (values : Place → ℕ) (kept : Kept) where
+module _ (t : Topology) (values : Unit → ℕ) (kept : Kept) where
   -- ---- a power node goes up
 
   pub record Raises (w : ℕ) (c : Command) : Type 0 where
@@ -49,7 +49,7 @@ module _ (t : Topology) (values : Place → ℕ) (kept : Kept) where
     pub fed : is_fed t kept power.parent ≡ true
     pub is : c ≡ command (Node power.node) 1
 
-  raises_at : (w : ℕ) (c : Command) (got : Option PowerDef) → slice_get t.powers w ≡ got → raise t values kept got ≡ Some c → Raises w c
+  raises_at : (w : ℕ) (c : Command) (got : Option PowerDef) → slice_get t.powers w ≡ got → power_on t values kept got ≡ Some c → Raises w c
   raises_at w c None here is = cc
   raises_at w c (Some p) here is =
       let passed = due_where _ (command (Node p.node) 1) c is in
@@ -64,27 +64,27 @@ module _ (t : Topology) (values : Place → ℕ) (kept : Kept) where
         is = passed.1;
       }
 
-  pub raises : (w : ℕ) (c : Command) → due t values kept (Raise w) ≡ Some c → Raises w c
+  pub raises : (w : ℕ) (c : Command) → due t values kept (PowerOn w) ≡ Some c → Raises w c
   raises w c is = raises_at w c (slice_get t.powers w) refl is
 
   -- where it should go up and doesn't, its parent is down in the record
-  pub starves : (w : ℕ) (p : PowerDef) → slice_get t.powers w ≡ Some p → due t values kept (Raise w) ≡ None
+  pub starves : (w : ℕ) (p : PowerDef) → slice_get t.powers w ≡ Some p → due t values kept (PowerOn w) ≡ None
       → values (Node p.node) ≡ 1 → kept_value kept (Node p.node) ≡ 0 → is_fed t kept p.parent ≡ false
   starves w p here none value kept_is =
-      let stays : raise t values kept (Some p) ≡ None = ap (raise t values kept) (sym here) ∙ none in
+      let stays : power_on t values kept (Some p) ≡ None = ap (power_on t values kept) (sym here) ∙ none in
       third_fails (values (Node p.node) == 1) (kept_value kept (Node p.node) == 0) (is_fed t kept p.parent)
       (due_nowhere _ (command (Node p.node) 1) stays)
       (eq-eqb (values (Node p.node)) 1 value) (eq-eqb (kept_value kept (Node p.node)) 0 kept_is)
 
   -- ---- another unit takes its value
 
-  pub record Settles (unit : Place) (c : Command) : Type 0 where
+  pub record Settles (unit : Unit) (c : Command) : Type 0 where
     pub other : is_power t unit ≡ false
     pub differs : (kept_value kept unit == values unit) ≡ false
     pub fed : needs_power t unit (values unit) ≡ true → is_fed t kept (parent_of_unit t unit) ≡ true
     pub is : c ≡ command unit (values unit)
 
-  pub settles : (unit : Place) (c : Command) → due t values kept (Settle unit) ≡ Some c → Settles unit c
+  pub settles : (unit : Unit) (c : Command) → due t values kept (Apply unit) ≡ Some c → Settles unit c
   settles unit c is =
       let passed = due_where _ (command unit (values unit)) c is in
       let other = and_parts (not (is_power t unit)) _ passed.0 in
@@ -97,7 +97,7 @@ module _ (t : Topology) (values : Place → ℕ) (kept : Kept) where
       }
 
   -- where it should and doesn't, it needs power for that, and its parent is down in the record
-  pub waits : (unit : Place) → due t values kept (Settle unit) ≡ None → is_power t unit ≡ false → kept_value kept unit ≢ values unit
+  pub waits : (unit : Unit) → due t values kept (Apply unit) ≡ None → is_power t unit ≡ false → kept_value kept unit ≢ values unit
       → (needs_power t unit (values unit) ≡ true) × (is_fed t kept (parent_of_unit t unit) ≡ false)
   waits unit none other differs =
       not_met (needs_power t unit (values unit)) (is_fed t kept (parent_of_unit t unit))
@@ -115,7 +115,7 @@ module _ (t : Topology) (values : Place → ℕ) (kept : Kept) where
     pub unused : is_used t kept w ≡ false
     pub is : c ≡ command (Node power.node) 0
 
-  lowers_at : (w : ℕ) (c : Command) (got : Option PowerDef) → slice_get t.powers w ≡ got → lower t values kept w got ≡ Some c → Lowers w c
+  lowers_at : (w : ℕ) (c : Command) (got : Option PowerDef) → slice_get t.powers w ≡ got → power_off t values kept w got ≡ Some c → Lowers w c
   lowers_at w c None here is = cc
   lowers_at w c (Some p) here is =
       let passed = due_where _ (command (Node p.node) 0) c is in
@@ -129,14 +129,14 @@ module _ (t : Topology) (values : Place → ℕ) (kept : Kept) where
         is = passed.1;
       }
 
-  pub lowers : (w : ℕ) (c : Command) → due t values kept (Lower w) ≡ Some c → Lowers w c
+  pub lowers : (w : ℕ) (c : Command) → due t values kept (PowerOff w) ≡ Some c → Lowers w c
   lowers w c is = lowers_at w c (slice_get t.powers w) refl is
 
   -- where it should go down and doesn't, a unit directly below needs power by the record
-  pub stays_used : (w : ℕ) (p : PowerDef) → slice_get t.powers w ≡ Some p → due t values kept (Lower w) ≡ None
+  pub stays_used : (w : ℕ) (p : PowerDef) → slice_get t.powers w ≡ Some p → due t values kept (PowerOff w) ≡ None
       → values (Node p.node) ≡ 0 → kept_value kept (Node p.node) ≡ 1 → is_used t kept w ≡ true
   stays_used w p here none value kept_is =
-      let stays : lower t values kept w (Some p) ≡ None = ap (lower t values kept w) (sym here) ∙ none in
+      let stays : power_off t values kept w (Some p) ≡ None = ap (power_off t values kept w) (sym here) ∙ none in
       not-false (is_used t kept w)
       (third_fails (values (Node p.node) == 0) (kept_value kept (Node p.node) == 1) (not (is_used t kept w))
       (due_nowhere _ (command (Node p.node) 0) stays)

@@ -5,7 +5,7 @@ use Rattle.std.specs.Option.{option_map_or}
 use Rattle.std.proofs.lemmas.Bool.{not-false, eqb-true}
 use Rattle.pm_topology.specs.Units.{needs_power}
 use Rattle.pm_base.specs.declared.names.NodeId.{NodeId}
-use Rattle.pm_base.specs.declared.names.Unit.{Unit as Place}
+use Rattle.pm_base.specs.declared.names.Unit.{Unit}
 use Rattle.pm_base.specs.declared.names.Unit.TheVariants.{Node}
 use Rattle.pm_topology.specs.declared.topology.Topology.{Topology}
 use Rattle.pm_topology.specs.declared.topology.PowerDef.{PowerDef}
@@ -13,6 +13,7 @@ use Rattle.pm_topology.specs.Places.{parent_of, power_parent, IsAtOrAbove, highe
 use Rattle.pm_topology.specs.WellFormed.{IsWellFormed}
 use Rattle.pm_core.specs.declared.outbox.Done.{Done}
 use Rattle.pm_core.specs.Fed.{IsFed}
+use Rattle.pm_apply.proofs.Below.{ChipLaws}
 use Rattle.pm_apply.specs.Record.{Kept, kept_value}
 use Rattle.pm_apply.specs.Plan.{is_fed, power_value}
 use Rattle.pm_apply.specs.Order.{FailedOn}
@@ -21,7 +22,7 @@ use Rattle.pm_apply.proofs.OrdersUnits.{power_above}
 -- ---- failed commands
 
 -- what failed has failed when more was done
-pub failed_before : (front more : List Done) (unit : Place) → FailedOn front unit → FailedOn (front ++ more) unit
+pub failed_before : (front more : List Done) (unit : Unit) → FailedOn front unit → FailedOn (front ++ more) unit
 failed_before front more unit f = record {
   front = f.front;
   back = f.back ++ more;
@@ -31,7 +32,7 @@ failed_before front more unit f = record {
   failed = f.failed;
 }
 
-pub failed_last : (front : List Done) (d : Done) (unit : Place) → d.command.unit ≡ unit → d.ok ≡ false → FailedOn (front ++ d ∷ []) unit
+pub failed_last : (front : List Done) (d : Done) (unit : Unit) → d.command.unit ≡ unit → d.ok ≡ false → FailedOn (front ++ d ∷ []) unit
 failed_last front d unit on failed = record { front = front; back = []; d = d; is = refl; on = on; failed = failed }
 
 -- a command failed on the power node at a place or on one above it
@@ -51,7 +52,7 @@ fails_higher t done v u parent f = record { u = f.u; power = f.power; is = f.is;
 
 -- ---- units that wait
 
-module _ (t : Topology) (values : Place → ℕ) where
+module _ (t : Topology) (values : Unit → ℕ) where
   -- the power node above a node is down in the record and up by these values
   pub record Waits (kept : Kept) (node : NodeId) : Type 0 where
     pub u : ℕ
@@ -66,11 +67,11 @@ module _ (t : Topology) (values : Place → ℕ) where
   parent_down kept (Some u) unfed = (u, refl, eqb-true (power_value t kept u) 0 (not-false (power_value t kept u == 0) unfed))
 
   -- so it is where a node that needs power for its value has none by the record
-  pub waits_for : IsWellFormed t → IsFed t values → (kept : Kept) (node : NodeId)
+  pub waits_for : ChipLaws → IsWellFormed t → IsFed t values → (kept : Kept) (node : NodeId)
       → needs_power t (Node node) (values (Node node)) ≡ true → is_fed t kept (parent_of t node) ≡ false → Waits kept node
-  waits_for well fed kept node needs unfed =
+  waits_for laws well fed kept node needs unfed =
       let down = parent_down kept (parent_of t node) unfed in
-      let found = power_above t well node down.0 down.1 in
+      let found = power_above laws t well node down.0 down.1 in
       let same : power_value t kept down.0 ≡ kept_value kept (Node found.0.node) = ap (λ got. option_map_or (λ (p : PowerDef). kept_value kept (Node p.node)) got 0) found.1 in
       record {
         u = down.0;

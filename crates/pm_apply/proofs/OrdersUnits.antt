@@ -1,12 +1,14 @@
 -- The units of a chip: each node that has a place in its lists is one, and a power node is known by its number.
-use Rattle.std.proofs.Common.{◌≡◌, ℕ, ◌<◌, ◌==◌, Bool, true, false, Option, Some, List, [], ◌∷◌, length, refl, ap, sym, ◌∙◌, subst, arith, IfSome, inl, inr}
+use Rattle.std.proofs.Common.{◌≡◌, ℕ, ◌<◌, ◌==◌, Bool, true, false, Some, List, [], ◌∷◌, length, refl, ap, sym, ◌∙◌, arith, inl, inr}
 use Rattle.std.specs.Prelude.{slice_get, option_and_then}
 use Rattle.std.specs.List.{list_any}
 use Rattle.std.specs.Option.{option_map}
 use Rattle.std.proofs.lemmas.Bool.{eq-eqb, or_left, or_right, or_cases, or_parts}
 use Rattle.std.proofs.lemmas.Option.{slice_get_within, slice_get_cases}
+use Rattle.pm_base.proofs.Options.{holds_of}
+use Rattle.pm_base.proofs.Tests.{present_from}
 use Rattle.pm_base.specs.declared.names.NodeId.{NodeId}
-use Rattle.pm_base.specs.declared.names.Unit.{Unit as Place}
+use Rattle.pm_base.specs.declared.names.Unit.{Unit}
 use Rattle.pm_base.specs.declared.names.Unit.TheVariants.{Node, Line}
 use Rattle.pm_topology.specs.declared.topology.Topology.{Topology}
 use Rattle.pm_topology.specs.declared.topology.PowerDef.{PowerDef}
@@ -16,26 +18,31 @@ use Rattle.pm_topology.specs.declared.places.Kind.{Kind}
 use Rattle.pm_topology.specs.declared.places.Kind.TheVariants.{Proc, Slave, Power, Unknown}
 use Rattle.pm_topology.specs.Places.{kind_of, parent_of, parent_at, IsKind}
 use Rattle.pm_topology.specs.WellFormed.{IsWellFormed}
-use Rattle.pm_topology.proofs.KindLaw.{kind_of_is, kind_alone}
-use Rattle.pm_topology.proofs.Entries.{present_from}
 use Rattle.pm_topology.specs.Units.{has_unit, kind_needs_power, needs_power, same_unit}
 use Rattle.pm_topology.specs.FirstFault.{has_power, has_proc}
 use Rattle.pm_topology.specs.Units.{units_of}
-use Rattle.pm_topology.proofs.UnitsLaw.{units_of-has}
+use Rattle.pm_apply.proofs.Below.{ChipLaws}
 use Rattle.pm_apply.specs.Plan.{is_power, is_power_kind}
-use Rattle.pm_apply.proofs.RecordLemmas.{same_unit-true, same_unit-refl, same_node}
 
 -- ---- the units
 
 -- the unit is in the list of the chip's units
-abbrev pub is_listed : Topology → Place → Bool
+abbrev pub is_listed : Topology → Unit → Bool
 is_listed t unit = list_any (λ u. same_unit u unit) (units_of t)
 
 -- exactly the units of the chip are
-pub listed-is : (t : Topology) (unit : Place) → is_listed t unit ≡ has_unit t unit
-listed-is t unit = units_of-has t unit
+pub listed-is : ChipLaws → (t : Topology) (unit : Unit) → is_listed t unit ≡ has_unit t unit
+listed-is laws t unit = laws.units.found t unit
 
-module _ (t : Topology) where
+-- where a power node stands, and that the unit is that one
+pub record IsPowerAt (t : Topology) (unit : Unit) (w : ℕ) (p : PowerDef) : Type 0 where
+  pub here : slice_get t.powers w ≡ Some p
+  pub is : unit ≡ Node p.node
+
+same_node : (a b : NodeId) → a.0 ≡ b.0 → a ≡ b
+same_node a b e = let node : ℕ → NodeId = λ n. record { 0 = n } in ap node e
+
+module _ (laws : ChipLaws) (t : Topology) where
   -- a node that has a kind is a unit
   is_known : (node : NodeId) (kind : Kind) → IsKind t node kind → (kind ≡ Unknown → ⊥) → has_unit t (Node node) ≡ true
   is_known node (Slave k) is known =
@@ -49,7 +56,7 @@ module _ (t : Topology) where
   -- a node with a power node above it is a unit
   pub listed_below : (node : NodeId) (w : ℕ) → parent_of t node ≡ Some w → is_listed t (Node node) ≡ true
   listed_below node w above =
-      listed-is t (Node node) ∙ is_known node (kind_of t node) (kind_of_is t node) (λ unknown. let none = ap (parent_at t) unknown in cc)
+      listed-is laws t (Node node) ∙ is_known node (kind_of t node) (laws.kinds.is t node) (λ unknown. let none = ap (parent_at t) unknown in cc)
 
   entry_at : {X : Type 0} (xs : List X) (k : ℕ) → k < length xs → (x : X) × (slice_get xs k ≡ Some x)
   entry_at xs k within =
@@ -57,9 +64,6 @@ module _ (t : Topology) where
         | inl there ↦ (there.0, there.2)
         | inr past ↦ absurd (omega (arith, past.0))
       ]
-
-  holds_of : (P : ℕ → Type 0) (o : Option ℕ) (u : ℕ) → o ≡ Some u → IfSome o P → P u
-  holds_of P o u e h = let Q : Option ℕ → Type 0 = λ o. IfSome o P in subst Q e h
 
   -- the parent of a power node stands earlier
   pub stands_earlier : IsWellFormed t → (w : ℕ) (p : PowerDef) (u : ℕ) → slice_get t.powers w ≡ Some p → p.parent ≡ Some u → u < w
@@ -87,12 +91,12 @@ module _ (t : Topology) where
   -- the power node above a node is there
   pub power_above : IsWellFormed t → (node : NodeId) (w : ℕ) → parent_of t node ≡ Some w → (p : PowerDef) × (slice_get t.powers w ≡ Some p)
   power_above well node w above =
-      entry_at t.powers w (parent_within well node (kind_of t node) w (kind_of_is t node) above)
+      entry_at t.powers w (parent_within well node (kind_of t node) w (laws.kinds.is t node) above)
 
   -- ---- power nodes
 
   pub power_kind : IsWellFormed t → (w : ℕ) (p : PowerDef) → slice_get t.powers w ≡ Some p → kind_of t p.node ≡ Power w
-  power_kind well w p here = sym (kind_alone t p.node well (Power w) (p, here, refl))
+  power_kind well w p here = sym (laws.kinds.alone t p.node (Power w) well (p, here, refl))
 
   pub parent_of_power : IsWellFormed t → (w : ℕ) (p : PowerDef) → slice_get t.powers w ≡ Some p → parent_of t p.node ≡ p.parent
   parent_of_power well w p here =
@@ -106,38 +110,33 @@ module _ (t : Topology) where
 
   pub power_is_listed : IsWellFormed t → (w : ℕ) (p : PowerDef) → slice_get t.powers w ≡ Some p → is_listed t (Node p.node) ≡ true
   power_is_listed well w p here =
-      listed-is t (Node p.node) ∙ is_known p.node (Power w) (p, here, refl) (λ unknown. cc)
+      listed-is laws t (Node p.node) ∙ is_known p.node (Power w) (p, here, refl) (λ unknown. cc)
 
-  -- where a power node stands, and that the unit is that one
-  pub record IsPowerAt (unit : Place) (w : ℕ) (p : PowerDef) : Type 0 where
-    pub here : slice_get t.powers w ≡ Some p
-    pub is : unit ≡ Node p.node
-
-  power_at : (node : NodeId) (kind : Kind) → IsKind t node kind → is_power_kind kind ≡ true → (w : ℕ) × (p : PowerDef) × IsPowerAt (Node node) w p
+  power_at : (node : NodeId) (kind : Kind) → IsKind t node kind → is_power_kind kind ≡ true → (w : ℕ) × (p : PowerDef) × IsPowerAt t (Node node) w p
   power_at node (Power w) is power = (w, is.0, record { here = is.1; is = ap Node (sym (same_node is.0.node node is.2)) })
   power_at node (Proc k) is power = cc
   power_at node (Slave k) is power = cc
   power_at node Unknown is power = cc
 
-  pub power_place_of : (unit : Place) → is_power t unit ≡ true → (w : ℕ) × (p : PowerDef) × IsPowerAt unit w p
-  power_place_of (Node node) power = power_at node (kind_of t node) (kind_of_is t node) power
+  pub power_place_of : (unit : Unit) → is_power t unit ≡ true → (w : ℕ) × (p : PowerDef) × IsPowerAt t unit w p
+  power_place_of (Node node) power = power_at node (kind_of t node) (laws.kinds.is t node) power
   power_place_of (Line line) power = cc
 
 -- a unit of a list that has none that passes doesn't pass
-pub passes_none : (p : Place → Bool) (units : List Place) (unit : Place) → list_any p units ≡ false → list_any (λ u. same_unit u unit) units ≡ true → p unit ≡ false
-passes_none p [] unit none has = cc
-passes_none p (u ∷ units) unit none has =
+pub passes_none : ChipLaws → (p : Unit → Bool) (units : List Unit) (unit : Unit) → list_any p units ≡ false → list_any (λ u. same_unit u unit) units ≡ true → p unit ≡ false
+passes_none laws p [] unit none has = cc
+passes_none laws p (u ∷ units) unit none has =
     let parts = or_parts (p u) (list_any p units) none in
     elim (or_cases (same_unit u unit) (list_any (λ u. same_unit u unit) units) has) [
-      | inl same ↦ ap p (sym (same_unit-true u unit same)) ∙ parts.0
-      | inr later ↦ passes_none p units unit parts.1 later
+      | inl same ↦ ap p (sym (laws.units.same u unit same)) ∙ parts.0
+      | inr later ↦ passes_none laws p units unit parts.1 later
     ]
 
 -- and of a list that has one that passes, that one is among them
-pub passes_one : (p : Place → Bool) (units : List Place) → list_any p units ≡ true → (unit : Place) × (p unit ≡ true) × (list_any (λ u. same_unit u unit) units ≡ true)
-passes_one p [] some = cc
-passes_one p (u ∷ units) some =
+pub passes_one : ChipLaws → (p : Unit → Bool) (units : List Unit) → list_any p units ≡ true → (unit : Unit) × (p unit ≡ true) × (list_any (λ u. same_unit u unit) units ≡ true)
+passes_one laws p [] some = cc
+passes_one laws p (u ∷ units) some =
     elim (or_cases (p u) (list_any p units) some) [
-      | inl passes ↦ (u, passes, or_left _ _ (same_unit-refl u))
-      | inr later ↦ let found = passes_one p units later in (found.0, found.1, or_right (same_unit u found.0) _ found.2)
+      | inl passes ↦ (u, passes, or_left _ _ (laws.units.itself u))
+      | inr later ↦ let found = passes_one laws p units later in (found.0, found.1, or_right (same_unit u found.0) _ found.2)
     ]

@@ -1,6 +1,6 @@
 -- What holds of the record and of the commands so far, carried turn by turn along a plan, under any answers.
 use Rattle.std.proofs.Common.{◌≡◌, ℕ, Bool, Option, Some, None, List, [], ◌∷◌, ◌++◌, refl, ap, sym, subst, append_assoc, append-nil}
-use Rattle.pm_base.specs.declared.names.Unit.{Unit as Place}
+use Rattle.pm_base.specs.declared.names.Unit.{Unit}
 use Rattle.pm_base.specs.declared.names.Command.{Command}
 use Rattle.pm_topology.specs.declared.topology.Topology.{Topology}
 use Rattle.pm_core.specs.declared.outbox.Done.{Done}
@@ -21,7 +21,7 @@ turn_parts (Some c) kept answers first whole others next =
     let found = next (after_answer c (next_answer answers) kept) (later_answers answers) in
     (found.0, ap (before (done_as c kept (next_answer answers))) found.1)
 
-module _ (t : Topology) (values : Place → ℕ) where
+module _ (t : Topology) (values : Unit → ℕ) where
   -- the plan of some turns and others is that of the first and, with the answers that are left, that of the others
   pub plan-parts : (turns others : List Turn) (kept : Kept) (answers : List Bool)
       → (later : List Bool) × (plan t values (turns ++ others) kept answers ≡ behind (plan t values turns kept answers).done (plan t values others (plan t values turns kept answers).kept later))

@@ -1,8 +1,9 @@
 -- Plans one after another: the plan of two runs of turns is the two plans in sequence.
 use Rattle.std.proofs.Common.{◌≡◌, ℕ, Bool, true, Option, Some, None, List, [], ◌∷◌, ◌++◌, refl, ap, subst, ◌∙◌}
+use Rattle.std.specs.Prelude.{⊤}
 use Rattle.std.specs.List.{list_all}
 use Rattle.std.proofs.lemmas.Bool.{and_parts}
-use Rattle.pm_base.specs.declared.names.Unit.{Unit as Place}
+use Rattle.pm_base.specs.declared.names.Unit.{Unit}
 use Rattle.pm_base.specs.declared.names.Command.{Command}
 use Rattle.pm_topology.specs.declared.topology.Topology.{Topology}
 use Rattle.pm_core.specs.declared.outbox.Done.{Done}
@@ -52,7 +53,7 @@ turn_behind (Some c) kept after (d ∷ done) rest first whole others next is =
     let parts = begins_with d done after (done_as c kept d.ok) _ is in
     ap (before (done_as c kept d.ok)) (next _ done parts.rest) ∙ ap (λ x. before x (behind done others)) parts.command
 
-module _ (t : Topology) (values : Place → ℕ) where
+module _ (t : Topology) (values : Unit → ℕ) where
   -- some turns whose plan used up exactly these answers, and others after them: these begin with the record that the first
   -- left, and with the answers that are left
   pub plan-behind : (turns others : List Turn) (kept after : Kept) (done : List Done) (rest : List Bool)
@@ -106,11 +107,11 @@ module _ (t : Topology) (values : Place → ℕ) where
 
 -- this holds of each command, with the record as it stands before it
 abbrev pub Along : (Kept → Done → Type 0) → Kept → List Done → Type 0
-Along P kept [] = Unit {0}
+Along P kept [] = ⊤
 Along P kept (d ∷ done) = P kept d × Along P (after_answer d.command d.ok kept) done
 
 -- it holds along a plan where it holds of the command of each turn
-module _ (t : Topology) (values : Place → ℕ) (P : Kept → Done → Type 0) (q : Turn → Bool)
+module _ (t : Topology) (values : Unit → ℕ) (P : Kept → Done → Type 0) (q : Turn → Bool)
     (each : (turn : Turn) (kept : Kept) (c : Command) (ok : Bool) → q turn ≡ true → due t values kept turn ≡ Some c → P kept (done_as c kept ok)) where
   turn_along : (turn : Turn) (command : Option Command) (kept : Kept) (answers : List Bool) (later : Kept → List Bool → Carried)
       → q turn ≡ true

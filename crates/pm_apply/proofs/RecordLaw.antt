@@ -3,43 +3,42 @@ use Rattle.std.proofs.Common.{◌≡◌, ℕ, ◌≤◌, Bool, true, false, Some
 use Rattle.std.specs.List.{list_any, list_all}
 use Rattle.std.proofs.lemmas.Bool.{and_from, both_ways, or_left, or_right}
 use Rattle.std.proofs.lemmas.List.Folds.{list_all-append}
-use Rattle.pm_base.specs.declared.names.Unit.{Unit as Place}
+use Rattle.pm_base.specs.declared.names.Unit.{Unit}
 use Rattle.pm_base.specs.declared.names.Unit.TheVariants.{Node}
 use Rattle.pm_base.specs.declared.names.Command.{Command}
 use Rattle.pm_topology.specs.declared.topology.Topology.{Topology}
 use Rattle.pm_topology.specs.WellFormed.{IsWellFormed}
 use Rattle.pm_device.specs.Act.{values_after}
-use Rattle.pm_device.specs.Chains.{values_after-same}
 use Rattle.pm_topology.specs.UnitMap.{units_in}
 use Rattle.pm_topology.specs.Units.{has_in, same_unit}
-use Rattle.pm_device.specs.Device.{DeviceMoment}
 use Rattle.pm_core.specs.declared.outbox.Done.{Done}
 use Rattle.pm_topology.specs.Units.{units_of}
+use Rattle.pm_apply.proofs.Below.{ChipLaws}
 use Rattle.pm_apply.specs.declared.turns.Turn.{Turn}
-use Rattle.pm_apply.specs.declared.turns.Turn.TheVariants.{Raise, Settle, Lower}
-use Rattle.pm_apply.specs.Record.{Kept, kept_value, marked, IsRecordOf, StandsAs}
+use Rattle.pm_apply.specs.declared.turns.Turn.TheVariants.{PowerOn, Apply, PowerOff}
+use Rattle.pm_apply.specs.Record.{Kept, kept_value, marked, IsRecordOf}
 use Rattle.pm_apply.specs.Plan.{plan, due, turns_of, power_places, after_answer, is_power}
 use Rattle.pm_apply.specs.Part.{orders_of}
 use Rattle.pm_apply.proofs.PlanLemmas.{Along, along_plan, plan-recorded}
 use Rattle.pm_apply.proofs.PlanLeads.{Leads, leads_none, leads_turn}
-use Rattle.pm_apply.proofs.RecordLemmas.{units_in-after_answer, units_in-marked, has_cell_of, kept_by, kept_stays, kept_value-marked, are_on, values_after-recorded, same_unit-refl}
+use Rattle.pm_apply.proofs.RecordLemmas.{units_in-after_answer, units_in-marked, has_cell_of, kept_by, kept_stays, kept_value-marked, are_on, values_after-recorded}
 use Rattle.pm_apply.proofs.OrdersUnits.{is_listed, power_is_power, power_is_listed}
 use Rattle.pm_apply.proofs.OrdersDue.{raises, settles, lowers}
 
 -- ---- the record of a chip
 
 -- a record of a chip has a cell for each unit of it
-pub has_cell_in : (t : Topology) (kept : Kept) (x : Place) → IsRecordOf t kept → is_listed t x ≡ true → has_in (units_in kept) x ≡ true
+pub has_cell_in : (t : Topology) (kept : Kept) (x : Unit) → IsRecordOf t kept → is_listed t x ≡ true → has_in (units_in kept) x ≡ true
 has_cell_in t kept x record_of has = has_cell_of (units_of t) kept x record_of.units has
 
-module _ (t : Topology) (values : Place → ℕ) (well : IsWellFormed t) where
+module _ (laws : ChipLaws) (t : Topology) (values : Unit → ℕ) (well : IsWellFormed t) where
   -- a command with one of the values 0 and 1 on a power node leaves each of them up or down
   switch_keeps : (kept : Kept) (c : Command) (ok : Bool) → IsRecordOf t kept → is_listed t c.unit ≡ true → c.value ≤ 1 → IsRecordOf t (after_answer c ok kept)
   switch_keeps kept c ok record_of has small = record {
-    units = units_in-after_answer c ok kept ∙ record_of.units;
+    units = units_in-after_answer laws c ok kept ∙ record_of.units;
     up_or_down = λ w p here.
         let before = record_of.up_or_down w p here in
-        elim (kept_by c ok kept (Node p.node) (has_cell_in t kept c.unit record_of has)) [
+        elim (kept_by laws c ok kept (Node p.node) (has_cell_in t kept c.unit record_of has)) [
           | inl same ↦ omega arith
           | inr now ↦ omega (arith, now.2)
         ];
@@ -48,28 +47,28 @@ module _ (t : Topology) (values : Place → ℕ) (well : IsWellFormed t) where
   -- a command on a unit that is no power node leaves them as they are
   settle_keeps : (kept : Kept) (c : Command) (ok : Bool) → IsRecordOf t kept → is_power t c.unit ≡ false → IsRecordOf t (after_answer c ok kept)
   settle_keeps kept c ok record_of other = record {
-    units = units_in-after_answer c ok kept ∙ record_of.units;
+    units = units_in-after_answer laws c ok kept ∙ record_of.units;
     up_or_down = λ w p here.
         let before = record_of.up_or_down w p here in
-        let same = kept_stays c ok kept (Node p.node) (λ is. both_ways (is_power t c.unit) other (ap (is_power t) is ∙ power_is_power t well w p here)) in
+        let same = kept_stays laws c ok kept (Node p.node) (λ is. both_ways (is_power t c.unit) other (ap (is_power t) is ∙ power_is_power laws t well w p here)) in
         omega arith;
   }
 
   -- the record after the command of a turn is one of the chip
   pub turn_keeps : (turn : Turn) (kept : Kept) (c : Command) (ok : Bool) → IsRecordOf t kept → due t values kept turn ≡ Some c → IsRecordOf t (after_answer c ok kept)
-  turn_keeps (Raise w) kept c ok record_of is =
+  turn_keeps (PowerOn w) kept c ok record_of is =
       let r = raises t values kept w c is in
       let unit : c.unit ≡ Node r.power.node = ap (λ (c : Command). c.unit) r.is in
       let value : c.value ≡ 1 = ap (λ (c : Command). c.value) r.is in
-      switch_keeps kept c ok record_of (ap (is_listed t) unit ∙ power_is_listed t well w r.power r.here) (omega arith)
-  turn_keeps (Settle unit) kept c ok record_of is =
+      switch_keeps kept c ok record_of (ap (is_listed t) unit ∙ power_is_listed laws t well w r.power r.here) (omega arith)
+  turn_keeps (Apply unit) kept c ok record_of is =
       let s = settles t values kept unit c is in
       settle_keeps kept c ok record_of (ap (λ (c : Command). is_power t c.unit) s.is ∙ s.other)
-  turn_keeps (Lower w) kept c ok record_of is =
+  turn_keeps (PowerOff w) kept c ok record_of is =
       let l = lowers t values kept w c is in
       let unit : c.unit ≡ Node l.power.node = ap (λ (c : Command). c.unit) l.is in
       let value : c.value ≡ 0 = ap (λ (c : Command). c.value) l.is in
-      switch_keeps kept c ok record_of (ap (is_listed t) unit ∙ power_is_listed t well w l.power l.here) (omega arith)
+      switch_keeps kept c ok record_of (ap (is_listed t) unit ∙ power_is_listed laws t well w l.power l.here) (omega arith)
 
   turns_keep : (turns : List Turn) → Leads t values (λ kept front. IsRecordOf t kept) turns (λ kept front. IsRecordOf t kept)
   turns_keep [] = leads_none t values (λ kept front. IsRecordOf t kept) (λ kept front. IsRecordOf t kept) (λ kept front record_of. record_of)
@@ -82,51 +81,51 @@ module _ (t : Topology) (values : Place → ℕ) (well : IsWellFormed t) where
   record_after turns kept answers record_of = turns_keep turns kept [] answers record_of
 
 -- marks change neither the units nor their values
-pub marked_record : (t : Topology) (values : Place → ℕ) (kept : Kept) → IsRecordOf t kept → IsRecordOf t (marked values kept)
-marked_record t values kept record_of = record {
-  units = units_in-marked values kept ∙ record_of.units;
-  up_or_down = λ w p here. let same = kept_value-marked values kept (Node p.node) in let up = record_of.up_or_down w p here in omega arith;
+pub marked_record : ChipLaws → (t : Topology) (values : Unit → ℕ) (kept : Kept) → IsRecordOf t kept → IsRecordOf t (marked values kept)
+marked_record laws t values kept record_of = record {
+  units = units_in-marked laws values kept ∙ record_of.units;
+  up_or_down = λ w p here. let same = kept_value-marked laws values kept (Node p.node) in let up = record_of.up_or_down w p here in omega arith;
 }
 
 -- ---- the device
 
 -- a turn on a unit of the chip
 abbrev pub is_turn_of : Topology → Turn → Bool
-is_turn_of t (Raise w) = true
-is_turn_of t (Settle unit) = is_listed t unit
-is_turn_of t (Lower w) = true
+is_turn_of t (PowerOn w) = true
+is_turn_of t (Apply unit) = is_listed t unit
+is_turn_of t (PowerOff w) = true
 
-module _ (t : Topology) where
-  all_raise : (places : List ℕ) → list_all (is_turn_of t) (map Raise places) ≡ true
+module _ (laws : ChipLaws) (t : Topology) where
+  all_raise : (places : List ℕ) → list_all (is_turn_of t) (map PowerOn places) ≡ true
   all_raise [] = refl
   all_raise (w ∷ places) = all_raise places
 
-  all_lower : (places : List ℕ) → list_all (is_turn_of t) (map Lower places) ≡ true
+  all_lower : (places : List ℕ) → list_all (is_turn_of t) (map PowerOff places) ≡ true
   all_lower [] = refl
   all_lower (w ∷ places) = all_lower places
 
-  all_settle : (units : List Place) → ((x : Place) → list_any (λ u. same_unit u x) units ≡ true → is_listed t x ≡ true) → list_all (is_turn_of t) (map Settle units) ≡ true
+  all_settle : (units : List Unit) → ((x : Unit) → list_any (λ u. same_unit u x) units ≡ true → is_listed t x ≡ true) → list_all (is_turn_of t) (map Apply units) ≡ true
   all_settle [] among = refl
   all_settle (u ∷ units) among =
-      and_from (is_listed t u) _ (among u (or_left _ _ (same_unit-refl u))) (all_settle units (λ x is. among x (or_right (same_unit u x) _ is)))
+      and_from (is_listed t u) _ (among u (or_left _ _ (laws.units.itself u))) (all_settle units (λ x is. among x (or_right (same_unit u x) _ is)))
 
   pub turns_are_of : list_all (is_turn_of t) (turns_of t) ≡ true
   turns_are_of =
-      list_all-append (is_turn_of t) (map Raise (power_places t)) (map Settle (units_of t) ++ map Lower (reverse (power_places t)))
+      list_all-append (is_turn_of t) (map PowerOn (power_places t)) (map Apply (units_of t) ++ map PowerOff (reverse (power_places t)))
       ∙ and_from _ _ (all_raise (power_places t))
-      (list_all-append (is_turn_of t) (map Settle (units_of t)) (map Lower (reverse (power_places t)))
+      (list_all-append (is_turn_of t) (map Apply (units_of t)) (map PowerOff (reverse (power_places t)))
       ∙ and_from _ _ (all_settle (units_of t) (λ x is. is)) (all_lower (reverse (power_places t))))
 
-module _ (t : Topology) (values : Place → ℕ) (well : IsWellFormed t) where
+module _ (laws : ChipLaws) (t : Topology) (values : Unit → ℕ) (well : IsWellFormed t) where
   -- the command of a turn is on a unit of the chip
   pub on_unit : (turn : Turn) (kept : Kept) (c : Command) → is_turn_of t turn ≡ true → due t values kept turn ≡ Some c → is_listed t c.unit ≡ true
-  on_unit (Raise w) kept c of is =
+  on_unit (PowerOn w) kept c of is =
       let r = raises t values kept w c is in
-      ap (λ (c : Command). is_listed t c.unit) r.is ∙ power_is_listed t well w r.power r.here
-  on_unit (Settle unit) kept c of is = ap (λ (c : Command). is_listed t c.unit) (settles t values kept unit c is).is ∙ of
-  on_unit (Lower w) kept c of is =
+      ap (λ (c : Command). is_listed t c.unit) r.is ∙ power_is_listed laws t well w r.power r.here
+  on_unit (Apply unit) kept c of is = ap (λ (c : Command). is_listed t c.unit) (settles t values kept unit c is).is ∙ of
+  on_unit (PowerOff w) kept c of is =
       let l = lowers t values kept w c is in
-      ap (λ (c : Command). is_listed t c.unit) l.is ∙ power_is_listed t well w l.power l.here
+      ap (λ (c : Command). is_listed t c.unit) l.is ∙ power_is_listed laws t well w l.power l.here
 
   abbrev IsOn : Kept → Done → Type 0
   IsOn kept d = is_listed t d.command.unit ≡ true
@@ -145,22 +144,7 @@ module _ (t : Topology) (values : Place → ℕ) (well : IsWellFormed t) where
   -- the values after the commands of some turns are those of the record after them
   pub follows : (turns : List Turn) (kept : Kept) (answers : List Bool)
       → list_all (is_turn_of t) turns ≡ true → IsRecordOf t kept
-      → (x : Place) → values_after (orders_of (plan t values turns kept answers).done) (kept_value kept) x ≡ kept_value (plan t values turns kept answers).kept x
+      → (x : Unit) → values_after (orders_of (plan t values turns kept answers).done) (kept_value kept) x ≡ kept_value (plan t values turns kept answers).kept x
   follows turns kept answers of record_of x =
-      values_after-recorded (units_of t) (plan t values turns kept answers).done kept record_of.units (plan_is_on turns kept answers of) x
+      values_after-recorded laws (units_of t) (plan t values turns kept answers).done kept record_of.units (plan_is_on turns kept answers of) x
       ∙ ap (λ kept. kept_value kept x) (sym (plan-recorded t values turns kept answers))
-
-  -- a device that stood as the record, and was given the commands of some turns, stands as the record after them
-  pub stands_after : (turns : List Turn) (kept : Kept) (answers : List Bool)
-      → list_all (is_turn_of t) turns ≡ true → IsRecordOf t kept
-      → (old new : DeviceMoment) → StandsAs kept old
-      → ((unit : Place) → new.value unit ≡ values_after (orders_of (plan t values turns kept answers).done) old.value unit)
-      → StandsAs (plan t values turns kept answers).kept new
-  stands_after turns kept answers of record_of old new stands given unit =
-      given unit
-      ∙ values_after-same (orders_of (plan t values turns kept answers).done) old.value (kept_value kept) stands unit
-      ∙ follows turns kept answers of record_of unit
-
--- and so as the record with its marks
-pub marked_stands : (values : Place → ℕ) (kept : Kept) (moment : DeviceMoment) → StandsAs kept moment → StandsAs (marked values kept) moment
-marked_stands values kept moment stands unit = stands unit ∙ sym (kept_value-marked values kept unit)

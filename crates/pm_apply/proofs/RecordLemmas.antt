@@ -3,41 +3,19 @@ use Rattle.std.proofs.Common.{◌≡◌, ℕ, Bool, true, false, ◌&&◌, cond,
 use Rattle.std.specs.Prelude.{is_some, unwrap_or}
 use Rattle.std.specs.List.{list_any, list_all}
 use Rattle.std.specs.Option.{option_map}
-use Rattle.std.proofs.lemmas.Bool.{eqb-true}
-use Rattle.pm_base.specs.declared.names.NodeId.{NodeId}
-use Rattle.pm_base.specs.declared.names.LineId.{LineId}
-use Rattle.pm_base.specs.declared.names.Unit.{Unit as Place}
-use Rattle.pm_base.specs.declared.names.Unit.TheVariants.{Node, Line}
+use Rattle.pm_base.specs.declared.names.Unit.{Unit}
 use Rattle.pm_base.specs.declared.names.Command.{Command}
-use Rattle.pm_base.proofs.Booleans.{both, equal}
+use Rattle.pm_base.proofs.Booleans.{both}
 use Rattle.pm_topology.specs.UnitMap.{units_in, value_of}
 use Rattle.pm_topology.specs.Units.{has_in, same_unit}
-use Rattle.pm_topology.proofs.UnitMapLaw.{units_in-mapped, units_in-with, value_of-mapped, value_of-there, value_of-written}
 use Rattle.pm_device.specs.Act.{value_by, values_after}
 use Rattle.pm_device.specs.Chains.{values_after-same}
 use Rattle.pm_core.specs.declared.outbox.Done.{Done}
+use Rattle.pm_apply.proofs.Below.{ChipLaws}
 use Rattle.pm_apply.specs.declared.kept.KeptValue.{KeptValue}
 use Rattle.pm_apply.specs.Record.{Kept, idle, keep, kept_value, lags_in, mark, marked}
 use Rattle.pm_apply.specs.Plan.{after_answer}
 use Rattle.pm_apply.specs.Part.{order_of, orders_of}
-
--- ---- units
-
-pub same_node : (a b : NodeId) → a.0 ≡ b.0 → a ≡ b
-same_node a b e = let node : ℕ → NodeId = λ n. record { 0 = n } in ap node e
-
-same_line : (a b : LineId) → a.0 ≡ b.0 → a ≡ b
-same_line a b e = let line : ℕ → LineId = λ n. record { 0 = n } in ap line e
-
-pub same_unit-true : (a b : Place) → same_unit a b ≡ true → a ≡ b
-same_unit-true (Node a) (Node b) e = ap Node (same_node a b (eqb-true a.0 b.0 e))
-same_unit-true (Line a) (Line b) e = ap Line (same_line a b (eqb-true a.0 b.0 e))
-same_unit-true (Node a) (Line b) e = cc
-same_unit-true (Line a) (Node b) e = cc
-
-pub same_unit-refl : (a : Place) → same_unit a a ≡ true
-same_unit-refl (Node a) = equal a.0 a.0 refl
-same_unit-refl (Line a) = equal a.0 a.0 refl
 
 -- ---- the device took a value for a unit
 
@@ -49,42 +27,42 @@ taken_at false has now before is = refl
 taken_at true false now before is = cc
 
 -- its value is that one where it is this unit, and else as before
-pub kept_value-keep : (u : Place) (v : ℕ) (kept : Kept) (x : Place)
+pub kept_value-keep : ChipLaws → (u : Unit) (v : ℕ) (kept : Kept) (x : Unit)
     → has_in (units_in kept) u ≡ true
     → kept_value (keep u v kept) x ≡ cond (same_unit u x) v (kept_value kept x)
-kept_value-keep u v kept x has =
+kept_value-keep laws u v kept x has =
     let now : KeptValue = record { value = v; lags = lags_in kept u } in
-    ap (λ (found : Option KeptValue). (unwrap_or found idle).value) (value_of-written u now kept x)
-    ∙ taken_at (same_unit u x) (is_some (value_of kept u)) now (value_of kept x) (value_of-there kept u ∙ has)
+    ap (λ (found : Option KeptValue). (unwrap_or found idle).value) (laws.table.set u now kept x)
+    ∙ taken_at (same_unit u x) (is_some (value_of kept u)) now (value_of kept x) (laws.table.there kept u ∙ has)
 
-kept_same : (u : Place) (v : ℕ) (kept : Kept) → has_in (units_in kept) u ≡ true → kept_value (keep u v kept) u ≡ v
-kept_same u v kept has =
-    kept_value-keep u v kept u has ∙ ap (λ same. cond same v (kept_value kept u)) (same_unit-refl u)
+kept_same : ChipLaws → (u : Unit) (v : ℕ) (kept : Kept) → has_in (units_in kept) u ≡ true → kept_value (keep u v kept) u ≡ v
+kept_same laws u v kept has =
+    kept_value-keep laws u v kept u has ∙ ap (λ same. cond same v (kept_value kept u)) (laws.units.itself u)
 
-kept_other : (u : Place) (v : ℕ) (kept : Kept) (x : Place) → same_unit u x ≡ false → kept_value (keep u v kept) x ≡ kept_value kept x
-kept_other u v kept x other =
+kept_other : ChipLaws → (u : Unit) (v : ℕ) (kept : Kept) (x : Unit) → same_unit u x ≡ false → kept_value (keep u v kept) x ≡ kept_value kept x
+kept_other laws u v kept x other =
     let now : KeptValue = record { value = v; lags = lags_in kept u } in
-    ap (λ (found : Option KeptValue). (unwrap_or found idle).value) (value_of-written u now kept x)
+    ap (λ (found : Option KeptValue). (unwrap_or found idle).value) (laws.table.set u now kept x)
     ∙ ap (λ same. (unwrap_or (cond (same && is_some (value_of kept u)) (Some now) (value_of kept x)) idle).value) other
 
 -- ---- the units of the record stay
 
-pub units_in-after_answer : (c : Command) (ok : Bool) (kept : Kept) → units_in (after_answer c ok kept) ≡ units_in kept
-units_in-after_answer c true kept = units_in-with c.unit (record { value = c.value; lags = lags_in kept c.unit }) kept
-units_in-after_answer c false kept = refl
+pub units_in-after_answer : ChipLaws → (c : Command) (ok : Bool) (kept : Kept) → units_in (after_answer c ok kept) ≡ units_in kept
+units_in-after_answer laws c true kept = laws.table.set_units c.unit (record { value = c.value; lags = lags_in kept c.unit }) kept
+units_in-after_answer laws c false kept = refl
 
-pub has_cell_of : (units : List Place) (kept : Kept) (x : Place)
+pub has_cell_of : (units : List Unit) (kept : Kept) (x : Unit)
     → units_in kept ≡ units → has_in units x ≡ true → has_in (units_in kept) x ≡ true
 has_cell_of units kept x is has = ap (λ units. has_in units x) is ∙ has
 
 -- ---- the device follows
 
 -- the value of a unit after a command with its answer: the value by the record after it
-pub kept_after : (c : Command) (ok : Bool) (kept : Kept) (x : Place)
+pub kept_after : ChipLaws → (c : Command) (ok : Bool) (kept : Kept) (x : Unit)
     → has_in (units_in kept) c.unit ≡ true
     → cond (ok && same_unit c.unit x) c.value (kept_value kept x) ≡ kept_value (after_answer c ok kept) x
-kept_after c true kept x has = sym (kept_value-keep c.unit c.value kept x has)
-kept_after c false kept x has = refl
+kept_after laws c true kept x has = sym (kept_value-keep laws c.unit c.value kept x has)
+kept_after laws c false kept x has = refl
 
 -- the record once these commands were done
 abbrev pub recorded : Kept → List Done → Kept
@@ -92,61 +70,61 @@ recorded kept [] = kept
 recorded kept (d ∷ done) = recorded (after_answer d.command d.ok kept) done
 
 -- each of these commands is on one of these units
-abbrev pub are_on : List Place → List Done → Bool
+abbrev pub are_on : List Unit → List Done → Bool
 are_on units done = list_all (λ (d : Done). list_any (λ u. same_unit u d.command.unit) units) done
 
 -- the values after some commands are those of the record after them
-pub values_after-recorded : (units : List Place) (done : List Done) (kept : Kept)
+pub values_after-recorded : ChipLaws → (units : List Unit) (done : List Done) (kept : Kept)
     → units_in kept ≡ units
     → are_on units done ≡ true
-    → (x : Place) → values_after (orders_of done) (kept_value kept) x ≡ kept_value (recorded kept done) x
-values_after-recorded units [] kept is on x = refl
-values_after-recorded units (d ∷ done) kept is on x =
+    → (x : Unit) → values_after (orders_of done) (kept_value kept) x ≡ kept_value (recorded kept done) x
+values_after-recorded laws units [] kept is on x = refl
+values_after-recorded laws units (d ∷ done) kept is on x =
     let parts = both (list_any (λ u. same_unit u d.command.unit) units) (are_on units done) on in
     let has = has_cell_of units kept d.command.unit is parts.0 in
-    values_after-same (orders_of done) (value_by (order_of d) (kept_value kept)) (kept_value (after_answer d.command d.ok kept)) (λ x. kept_after d.command d.ok kept x has) x
-    ∙ values_after-recorded units done (after_answer d.command d.ok kept) (units_in-after_answer d.command d.ok kept ∙ is) parts.1 x
+    values_after-same (orders_of done) (value_by (order_of d) (kept_value kept)) (kept_value (after_answer d.command d.ok kept)) (λ x. kept_after laws d.command d.ok kept x has) x
+    ∙ values_after-recorded laws units done (after_answer d.command d.ok kept) (units_in-after_answer laws d.command d.ok kept ∙ is) parts.1 x
 
 -- ---- marks
 
-pub kept_value-marked : (values : Place → ℕ) (kept : Kept) (x : Place) → kept_value (marked values kept) x ≡ kept_value kept x
-kept_value-marked values kept x =
-    ap (λ (found : Option KeptValue). (unwrap_or found idle).value) (value_of-mapped (mark values) kept x) ∙ at (value_of kept x)
+pub kept_value-marked : ChipLaws → (values : Unit → ℕ) (kept : Kept) (x : Unit) → kept_value (marked values kept) x ≡ kept_value kept x
+kept_value-marked laws values kept x =
+    ap (λ (found : Option KeptValue). (unwrap_or found idle).value) (laws.table.made (mark values) kept x) ∙ at (value_of kept x)
   where
     at : (found : Option KeptValue) → (unwrap_or (option_map (mark values x) found) idle).value ≡ (unwrap_or found idle).value
     at None = refl
     at (Some kept) = refl
 
-pub units_in-marked : (values : Place → ℕ) (kept : Kept) → units_in (marked values kept) ≡ units_in kept
-units_in-marked values kept = units_in-mapped (mark values) kept
+pub units_in-marked : ChipLaws → (values : Unit → ℕ) (kept : Kept) → units_in (marked values kept) ≡ units_in kept
+units_in-marked laws values kept = laws.table.made_units (mark values) kept
 
 -- ---- one command
 
-kept_either : (c : Command) (ok : Bool) (kept : Kept) (x : Place) (same : Bool)
+kept_either : ChipLaws → (c : Command) (ok : Bool) (kept : Kept) (x : Unit) (same : Bool)
     → has_in (units_in kept) c.unit ≡ true
     → same_unit c.unit x ≡ same
     → (kept_value (after_answer c ok kept) x ≡ kept_value kept x) ⊎ ((c.unit ≡ x) × (ok ≡ true) × (kept_value (after_answer c ok kept) x ≡ c.value))
-kept_either c false kept x same has is = inl refl
-kept_either c true kept x false has is = inl (kept_other c.unit c.value kept x is)
-kept_either c true kept x true has is = inr (same_unit-true c.unit x is, refl, kept_value-keep c.unit c.value kept x has ∙ ap (λ b. cond b c.value (kept_value kept x)) is)
+kept_either laws c false kept x same has is = inl refl
+kept_either laws c true kept x false has is = inl (kept_other laws c.unit c.value kept x is)
+kept_either laws c true kept x true has is = inr (laws.units.same c.unit x is, refl, kept_value-keep laws c.unit c.value kept x has ∙ ap (λ b. cond b c.value (kept_value kept x)) is)
 
 -- a command changes the record of no unit, or that of its own where it was carried out
-pub kept_by : (c : Command) (ok : Bool) (kept : Kept) (x : Place)
+pub kept_by : ChipLaws → (c : Command) (ok : Bool) (kept : Kept) (x : Unit)
     → has_in (units_in kept) c.unit ≡ true
     → (kept_value (after_answer c ok kept) x ≡ kept_value kept x) ⊎ ((c.unit ≡ x) × (ok ≡ true) × (kept_value (after_answer c ok kept) x ≡ c.value))
-kept_by c ok kept x has = kept_either c ok kept x (same_unit c.unit x) has refl
+kept_by laws c ok kept x has = kept_either laws c ok kept x (same_unit c.unit x) has refl
 
-kept_apart : (c : Command) (ok : Bool) (kept : Kept) (x : Place) (same : Bool)
+kept_apart : ChipLaws → (c : Command) (ok : Bool) (kept : Kept) (x : Unit) (same : Bool)
     → (c.unit ≡ x → ⊥) → same_unit c.unit x ≡ same → kept_value (after_answer c ok kept) x ≡ kept_value kept x
-kept_apart c false kept x same apart is = refl
-kept_apart c true kept x true apart is = absurd (apart (same_unit-true c.unit x is))
-kept_apart c true kept x false apart is = kept_other c.unit c.value kept x is
+kept_apart laws c false kept x same apart is = refl
+kept_apart laws c true kept x true apart is = absurd (apart (laws.units.same c.unit x is))
+kept_apart laws c true kept x false apart is = kept_other laws c.unit c.value kept x is
 
 -- the record of another unit stays
-pub kept_stays : (c : Command) (ok : Bool) (kept : Kept) (x : Place) → (c.unit ≡ x → ⊥) → kept_value (after_answer c ok kept) x ≡ kept_value kept x
-kept_stays c ok kept x apart = kept_apart c ok kept x (same_unit c.unit x) apart refl
+pub kept_stays : ChipLaws → (c : Command) (ok : Bool) (kept : Kept) (x : Unit) → (c.unit ≡ x → ⊥) → kept_value (after_answer c ok kept) x ≡ kept_value kept x
+kept_stays laws c ok kept x apart = kept_apart laws c ok kept x (same_unit c.unit x) apart refl
 
 -- a command after which its unit isn't at its value has failed
-pub was_refused : (c : Command) (ok : Bool) (kept : Kept) → has_in (units_in kept) c.unit ≡ true → (kept_value (after_answer c ok kept) c.unit ≡ c.value → ⊥) → ok ≡ false
-was_refused c true kept has off = absurd (off (kept_same c.unit c.value kept has))
-was_refused c false kept has off = refl
+pub was_refused : ChipLaws → (c : Command) (ok : Bool) (kept : Kept) → has_in (units_in kept) c.unit ≡ true → (kept_value (after_answer c ok kept) c.unit ≡ c.value → ⊥) → ok ≡ false
+was_refused laws c true kept has off = absurd (off (kept_same laws c.unit c.value kept has))
+was_refused laws c false kept has off = refl

@@ -5,7 +5,7 @@ use Rattle.std.proofs.lemmas.List.Folds.{list_all-append}
 use Rattle.std.proofs.lemmas.Bool.{and_from, cases_Bool, eqb-true, eqb-false}
 use Rattle.pm_base.proofs.Booleans.{both}
 use Rattle.pm_base.specs.declared.names.Command.{Command}
-use Rattle.pm_base.specs.declared.names.Unit.{Unit as Place}
+use Rattle.pm_base.specs.declared.names.Unit.{Unit}
 use Rattle.pm_topology.specs.declared.topology.Topology.{Topology}
 use Rattle.pm_topology.specs.WellFormed.{IsWellFormed}
 use Rattle.pm_device.specs.Act.{AreHarmless, refusals, values_after}
@@ -16,6 +16,7 @@ use Rattle.pm_core.specs.State.{State}
 use Rattle.pm_topology.specs.Units.{units_of}
 use Rattle.pm_core.specs.Values.{value}
 use Rattle.pm_core.specs.Fed.{IsFed}
+use Rattle.pm_apply.proofs.Below.{ChipLaws}
 use Rattle.pm_apply.specs.declared.turns.Turn.{Turn}
 use Rattle.pm_apply.specs.Carried.{AreMarked}
 use Rattle.pm_apply.specs.Order.{FailedOn, IsOrdered, LagsAreExplained}
@@ -31,52 +32,52 @@ use Rattle.pm_apply.proofs.RecordLaw.{follows, has_cell_in, marked_record, plan_
 use Rattle.pm_apply.proofs.RecordLemmas.{are_on, kept_value-marked}
 
 -- commands on units of the chip's list are harmless
-on_harmless : (t : Topology) (done : List Done) → are_on (units_of t) done ≡ true → AreHarmless t (orders_of done)
-on_harmless t [] on = tt
-on_harmless t (d ∷ done) on =
+on_harmless : ChipLaws → (t : Topology) (done : List Done) → are_on (units_of t) done ≡ true → AreHarmless t (orders_of done)
+on_harmless laws t [] on = tt
+on_harmless laws t (d ∷ done) on =
     let parts = both (is_listed t d.command.unit) (are_on (units_of t) done) on in
-    (sym (listed-is t d.command.unit) ∙ parts.0, on_harmless t done parts.1)
+    (sym (listed-is laws t d.command.unit) ∙ parts.0, on_harmless laws t done parts.1)
 
 abbrev chip_of : State → Topology
 chip_of book = book.fixed.topology
 
-abbrev values_of : State → Place → ℕ
+abbrev values_of : State → Unit → ℕ
 values_of book u = value u book
 
 -- ---- whatever the device answers
 
-module _ (kept : Kept) (answers : List Bool) (book : State) (outputs : Outputs) (well : IsWellFormed book.fixed.topology) where
+module _ (laws : ChipLaws) (kept : Kept) (answers : List Bool) (book : State) (outputs : Outputs) (well : IsWellFormed book.fixed.topology) where
   pub part_known : AreHarmless (chip_of book) (orders_of (part_of kept answers book outputs).commands)
-  part_known = on_harmless (chip_of book) _ (plan_is_on (chip_of book) (values_of book) well (turns_of (chip_of book)) kept answers (turns_are_of (chip_of book)))
+  part_known = on_harmless laws (chip_of book) _ (plan_is_on laws (chip_of book) (values_of book) well (turns_of (chip_of book)) kept answers (turns_are_of laws (chip_of book)))
 
   module _ (record_of : IsRecordOf (chip_of book) kept) where
     pub part_ordered : IsOrdered (chip_of book) (kept_value kept) (orders_of (part_of kept answers book outputs).commands)
-    part_ordered = ordered (chip_of book) (values_of book) well (turns_of (chip_of book)) kept answers (turns_are_of (chip_of book)) record_of
+    part_ordered = ordered laws (chip_of book) (values_of book) well (turns_of (chip_of book)) kept answers (turns_are_of laws (chip_of book)) record_of
 
     pub part_explained : IsFed (chip_of book) (values_of book) → LagsAreExplained (chip_of book) (values_of book) (part_of kept answers book outputs).kept (part_of kept answers book outputs).commands
     part_explained fed unit has lags =
-        explained (chip_of book) (values_of book) well fed kept answers record_of unit has
-        (λ same. lags (kept_value-marked (values_of book) (plan (chip_of book) (values_of book) (turns_of (chip_of book)) kept answers).kept unit ∙ same))
+        explained laws (chip_of book) (values_of book) well fed kept answers record_of unit has
+        (λ same. lags (kept_value-marked laws (values_of book) (plan (chip_of book) (values_of book) (turns_of (chip_of book)) kept answers).kept unit ∙ same))
 
     pub part_record : IsRecordOf (chip_of book) (part_of kept answers book outputs).kept
-    part_record = marked_record (chip_of book) (values_of book) _ (record_after (chip_of book) (values_of book) well (turns_of (chip_of book)) kept answers record_of)
+    part_record = marked_record laws (chip_of book) (values_of book) _ (record_after laws (chip_of book) (values_of book) well (turns_of (chip_of book)) kept answers record_of)
 
-    pub part_follows : (unit : Place) → kept_value (part_of kept answers book outputs).kept unit ≡ values_after (orders_of (part_of kept answers book outputs).commands) (kept_value kept) unit
+    pub part_follows : (unit : Unit) → kept_value (part_of kept answers book outputs).kept unit ≡ values_after (orders_of (part_of kept answers book outputs).commands) (kept_value kept) unit
     part_follows unit =
-        kept_value-marked (values_of book) (plan (chip_of book) (values_of book) (turns_of (chip_of book)) kept answers).kept unit
-        ∙ sym (follows (chip_of book) (values_of book) well (turns_of (chip_of book)) kept answers (turns_are_of (chip_of book)) record_of unit)
+        kept_value-marked laws (values_of book) (plan (chip_of book) (values_of book) (turns_of (chip_of book)) kept answers).kept unit
+        ∙ sym (follows laws (chip_of book) (values_of book) well (turns_of (chip_of book)) kept answers (turns_are_of laws (chip_of book)) record_of unit)
 
     pub part_marks : AreMarked (chip_of book) (values_of book) (part_of kept answers book outputs).kept
     part_marks unit has =
         let left = (plan (chip_of book) (values_of book) (turns_of (chip_of book)) kept answers).kept in
-        lags_in-marked (values_of book) left unit
-        (has_cell_in (chip_of book) left unit (record_after (chip_of book) (values_of book) well (turns_of (chip_of book)) kept answers record_of) (listed-is (chip_of book) unit ∙ has))
-        ∙ ap (λ n. not (n == (values_of book) unit)) (sym (kept_value-marked (values_of book) left unit))
+        lags_in-marked laws (values_of book) left unit
+        (has_cell_in (chip_of book) left unit (record_after laws (chip_of book) (values_of book) well (turns_of (chip_of book)) kept answers record_of) (listed-is laws (chip_of book) unit ∙ has))
+        ∙ ap (λ n. not (n == (values_of book) unit)) (sym (kept_value-marked laws (values_of book) left unit))
 
 -- ---- where nothing fails
 
 -- a plan whose commands all succeed is the plan under no answers
-module _ (t : Topology) (values : Place → ℕ) where
+module _ (t : Topology) (values : Unit → ℕ) where
   turn_taken : (c : Command) (kept : Kept) (ok : Bool) (answers : List Bool) (later : Kept → List Bool → Carried)
       → ((kept : Kept) → AllSucceed (later kept answers).done → later kept answers ≡ later kept [])
       → AllSucceed (before (done_as c kept ok) (later (after_answer c ok kept) answers)).done
@@ -118,7 +119,7 @@ module _ (t : Topology) (values : Place → ℕ) where
   plan_succeeds (turn ∷ turns) kept answers agreed =
       take_succeeds (due t values kept turn) kept answers (plan t values turns) (plan_succeeds turns) agreed
 
-none_failed : (done : List Done) → AllSucceed done → (unit : Place) → FailedOn done unit → ⊥
+none_failed : (done : List Done) → AllSucceed done → (unit : Unit) → FailedOn done unit → ⊥
 none_failed done all unit failed =
     let p : Done → Bool = λ d. d.ok in
     let whole : list_all p (failed.front ++ failed.d ∷ failed.back) ≡ true = ap (list_all p) (sym failed.is) ∙ all in
@@ -141,7 +142,7 @@ unrefused_succeed (d ∷ commands) none =
 module _ (kept : Kept) (answers : List Bool) (book : State) (outputs : Outputs) where
   pub part_taken : AllSucceed (part_of kept answers book outputs).commands → part_of kept answers book outputs ≡ part_of kept [] book outputs
   part_taken all =
-      let values : Place → ℕ = λ u. value u book in
+      let values : Unit → ℕ = λ u. value u book in
       ap (λ (c : Carried). record { commands = c.done; kept = marked values c.kept; answer = outputs.answer })
       (plan_taken book.fixed.topology values (turns_of book.fixed.topology) kept answers all)
 
@@ -156,18 +157,18 @@ module _ (kept : Kept) (answers : List Bool) (book : State) (outputs : Outputs) 
 
   pub part_used : part_of kept (answers_of (part_of kept answers book outputs).commands) book outputs ≡ part_of kept answers book outputs
   part_used =
-      let values : Place → ℕ = λ u. value u book in
+      let values : Unit → ℕ = λ u. value u book in
       ap (λ (c : Carried). record { commands = c.done; kept = marked values c.kept; answer = outputs.answer })
       (plan-used book.fixed.topology values (turns_of book.fixed.topology) kept answers)
 
-  pub part_reaches : IsWellFormed book.fixed.topology → IsFed book.fixed.topology (λ u. value u book) → IsRecordOf book.fixed.topology kept
+  pub part_reaches : ChipLaws → IsWellFormed book.fixed.topology → IsFed book.fixed.topology (λ u. value u book) → IsRecordOf book.fixed.topology kept
       → refusals (orders_of (part_of kept answers book outputs).commands) ≡ 0
-      → (unit : Place) → has_unit book.fixed.topology unit ≡ true → kept_value (part_of kept answers book outputs).kept unit ≡ value unit book
-  part_reaches well fed record_of none unit has =
+      → (unit : Unit) → has_unit book.fixed.topology unit ≡ true → kept_value (part_of kept answers book outputs).kept unit ≡ value unit book
+  part_reaches laws well fed record_of none unit has =
       let left = kept_value (part_of kept answers book outputs).kept unit in
       elim (cases_Bool (left == value unit book)) [
         | inl same ↦ eqb-true left (value unit book) same
         | inr other ↦
-            let why = part_explained kept answers book outputs well record_of fed unit has (eqb-false left (value unit book) other) in
+            let why = part_explained laws kept answers book outputs well record_of fed unit has (eqb-false left (value unit book) other) in
             absurd (none_failed _ (unrefused_succeed _ none) why.other why.failed)
       ]

@@ -4,7 +4,7 @@ use Rattle.std.specs.Prelude.{IfSome}
 use Rattle.std.proofs.lemmas.List.{map-append, take_more, take_all}
 use Rattle.std.proofs.lemmas.List.Sums.{sum_by_more_le}
 use Rattle.std.proofs.lemmas.Option.{slice_get_within, get_or_from_slice_get}
-use Rattle.pm_base.specs.declared.names.Unit.{Unit as Place}
+use Rattle.pm_base.specs.declared.names.Unit.{Unit}
 use Rattle.pm_base.specs.declared.names.Command.{Command}
 use Rattle.pm_topology.specs.declared.topology.Topology.{Topology}
 use Rattle.pm_device.specs.Act.{Act, Chain, Order}
@@ -21,13 +21,11 @@ use Rattle.pm_apply.proofs.PlanLemmas.{plan-append}
 
 -- ---- the rest of an outbox
 
-pub KeepsRest-refl : (out : Outbox) → KeepsRest out out
-KeepsRest-refl out = record { room = refl; moved = refl; answer = refl }
-
 pub KeepsRest-trans : (before middle after : Outbox) → KeepsRest before middle → KeepsRest middle after → KeepsRest before after
 KeepsRest-trans before middle after one two = record {
   room = two.room ∙ one.room;
   moved = two.moved ∙ one.moved;
+  starts = two.starts ∙ one.starts;
   answer = two.answer ∙ one.answer;
 }
 
@@ -37,7 +35,7 @@ append-nil : {X : Type 0} (xs : List X) → xs ≡ xs ++ []
 append-nil [] = refl
 append-nil (x ∷ xs) = ap (λ ys. x ∷ ys) (append-nil xs)
 
-module _ {D : Type 0} (Does : Act → D → D → Type 0) (t : Topology) (values : Place → ℕ) where
+module _ {D : Type 0} (Does : Act → D → D → Type 0) (t : Topology) (values : Unit → ℕ) where
   pub Takes-refl : (kept : Kept) (done : List Done) (now : D) → Takes Does t values [] kept kept done done now now
   Takes-refl kept done now = record {
     done = [];

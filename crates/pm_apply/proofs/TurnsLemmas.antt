@@ -6,26 +6,25 @@ use Rattle.std.specs.Option.{option_map}
 use Rattle.std.proofs.lemmas.List.{length-append, length-map, length-reverse, get_or-reverse}
 use Rattle.std.proofs.lemmas.List.FromFn.{length-range_with_len, get_or-range_with_len}
 use Rattle.std.proofs.lemmas.Option.{slice_get-map, slice_get-get_or}
-use Rattle.pm_base.specs.declared.names.Unit.{Unit as Place}
+use Rattle.pm_base.specs.declared.names.Unit.{Unit}
 use Rattle.pm_base.proofs.ListLemmas.{slice_get-append_left, slice_get-append_right}
 use Rattle.pm_topology.specs.declared.topology.Topology.{Topology}
 use Rattle.pm_topology.specs.WellFormed.{IsWellFormed}
-use Rattle.pm_topology.specs.Units.{entry_count, units_of}
-use Rattle.pm_topology.proofs.UnitsLaw.{units_of-few}
+use Rattle.pm_topology.specs.Units.{UnitLaws, entry_count, units_of}
 use Rattle.pm_apply.specs.declared.turns.Turn.{Turn}
-use Rattle.pm_apply.specs.declared.turns.Turn.TheVariants.{Raise, Settle, Lower}
+use Rattle.pm_apply.specs.declared.turns.Turn.TheVariants.{PowerOn, Apply, PowerOff}
 use Rattle.pm_apply.specs.Plan.{power_places, turns_of}
 
 -- ---- the three parts
 
 abbrev pub raises : Topology → List Turn
-raises t = map Raise (power_places t)
+raises t = map PowerOn (power_places t)
 
 abbrev pub settles : Topology → List Turn
-settles t = map Settle (units_of t)
+settles t = map Apply (units_of t)
 
 abbrev pub lowers : Topology → List Turn
-lowers t = map Lower (reverse (power_places t))
+lowers t = map PowerOff (reverse (power_places t))
 
 -- ---- one by one
 
@@ -48,23 +47,23 @@ place_from_end n i w is =
     in
     slice_get-get_or (reverse (range_with_len 0 n)) i w (omega arith) ∙ ap Some found
 
-raise_at : (t : Topology) (w : ℕ) → w < length t.powers → slice_get (raises t) w ≡ Some (Raise w)
-raise_at t w within = slice_get-map Raise (power_places t) w ∙ ap (option_map Raise) (place_at (length t.powers) w within)
+raise_at : (t : Topology) (w : ℕ) → w < length t.powers → slice_get (raises t) w ≡ Some (PowerOn w)
+raise_at t w within = slice_get-map PowerOn (power_places t) w ∙ ap (option_map PowerOn) (place_at (length t.powers) w within)
 
-settle_at : (t : Topology) (k : ℕ) (unit : Place) → slice_get (units_of t) k ≡ Some unit → slice_get (settles t) k ≡ Some (Settle unit)
-settle_at t k unit here = slice_get-map Settle (units_of t) k ∙ ap (option_map Settle) here
+settle_at : (t : Topology) (k : ℕ) (unit : Unit) → slice_get (units_of t) k ≡ Some unit → slice_get (settles t) k ≡ Some (Apply unit)
+settle_at t k unit here = slice_get-map Apply (units_of t) k ∙ ap (option_map Apply) here
 
-lower_at : (t : Topology) (i w : ℕ) → i + (w + 1) ≡ length t.powers → slice_get (lowers t) i ≡ Some (Lower w)
-lower_at t i w is = slice_get-map Lower (reverse (power_places t)) i ∙ ap (option_map Lower) (place_from_end (length t.powers) i w is)
+lower_at : (t : Topology) (i w : ℕ) → i + (w + 1) ≡ length t.powers → slice_get (lowers t) i ≡ Some (PowerOff w)
+lower_at t i w is = slice_get-map PowerOff (reverse (power_places t)) i ∙ ap (option_map PowerOff) (place_from_end (length t.powers) i w is)
 
 length-raises : (t : Topology) → length (raises t) ≡ length t.powers
-length-raises t = length-map (power_places t) Raise ∙ length-range_with_len 0 (length t.powers)
+length-raises t = length-map (power_places t) PowerOn ∙ length-range_with_len 0 (length t.powers)
 
 length-settles : (t : Topology) → length (settles t) ≡ length (units_of t)
-length-settles t = length-map (units_of t) Settle
+length-settles t = length-map (units_of t) Apply
 
 length-lowers : (t : Topology) → length (lowers t) ≡ length t.powers
-length-lowers t = length-map (reverse (power_places t)) Lower ∙ length-reverse (power_places t) ∙ length-range_with_len 0 (length t.powers)
+length-lowers t = length-map (reverse (power_places t)) PowerOff ∙ length-reverse (power_places t) ∙ length-range_with_len 0 (length t.powers)
 
 pub length-turns_of : (t : Topology) → length (turns_of t) ≡ length t.powers + (length (units_of t) + length t.powers)
 length-turns_of t =
@@ -73,22 +72,22 @@ length-turns_of t =
     omega (arith, all, later, length-raises t, length-settles t, length-lowers t)
 
 -- the turns of a well-formed chip are few
-pub few_turns : (t : Topology) → IsWellFormed t → length (turns_of t) ≤ 1000
-few_turns t well =
-    let few : length (units_of t) ≤ entry_count t = units_of-few t in
+pub few_turns : UnitLaws → (t : Topology) → IsWellFormed t → length (turns_of t) ≤ 1000
+few_turns units t well =
+    let few : length (units_of t) ≤ entry_count t = units.few t in
     omega (arith, few, length-turns_of t, well.few_powers, well.few_procs, well.few_slaves, well.few_lines)
 
-pub turn_up : (t : Topology) (k : ℕ) → k < length t.powers → slice_get (turns_of t) k ≡ Some (Raise k)
-turn_up t k within = slice_get-append_left (raises t) (settles t ++ lowers t) k (Raise k) (raise_at t k within)
+pub turn_up : (t : Topology) (k : ℕ) → k < length t.powers → slice_get (turns_of t) k ≡ Some (PowerOn k)
+turn_up t k within = slice_get-append_left (raises t) (settles t ++ lowers t) k (PowerOn k) (raise_at t k within)
 
-pub turn_between : (t : Topology) (k i : ℕ) (unit : Place) → k ≡ length t.powers + i → slice_get (units_of t) i ≡ Some unit → slice_get (turns_of t) k ≡ Some (Settle unit)
+pub turn_between : (t : Topology) (k i : ℕ) (unit : Unit) → k ≡ length t.powers + i → slice_get (units_of t) i ≡ Some unit → slice_get (turns_of t) k ≡ Some (Apply unit)
 turn_between t k i unit at here =
     let place : k ≡ length (raises t) + i = omega (arith, length-raises t) in
     ap (slice_get (turns_of t)) place
     ∙ slice_get-append_right (raises t) (settles t ++ lowers t) i
-    ∙ slice_get-append_left (settles t) (lowers t) i (Settle unit) (settle_at t i unit here)
+    ∙ slice_get-append_left (settles t) (lowers t) i (Apply unit) (settle_at t i unit here)
 
-pub turn_down : (t : Topology) (k i w : ℕ) → k ≡ length t.powers + (length (units_of t) + i) → i + (w + 1) ≡ length t.powers → slice_get (turns_of t) k ≡ Some (Lower w)
+pub turn_down : (t : Topology) (k i w : ℕ) → k ≡ length t.powers + (length (units_of t) + i) → i + (w + 1) ≡ length t.powers → slice_get (turns_of t) k ≡ Some (PowerOff w)
 turn_down t k i w at is =
     let place : k ≡ length (raises t) + (length (settles t) + i) = omega (arith, length-raises t, length-settles t) in
     ap (slice_get (turns_of t)) place

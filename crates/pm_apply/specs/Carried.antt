@@ -1,6 +1,6 @@
 -- What some turns of a step did: to the list of commands, the record and the device.
 use Rattle.std.specs.Prelude.{◌≡◌, ℕ, ◌==◌, true, not, List, ◌++◌}
-use Rattle.pm_base.specs.declared.names.Unit.{Unit as Place}
+use Rattle.pm_base.specs.declared.names.Unit.{Unit}
 use Rattle.pm_topology.specs.declared.topology.Topology.{Topology}
 use Rattle.pm_device.specs.Act.{Act, Chain}
 use Rattle.pm_topology.specs.Units.{has_unit}
@@ -13,7 +13,7 @@ use Rattle.pm_apply.specs.Record.{Kept, lags_in, kept_value}
 
 -- these turns were taken: exactly the commands of their plan were given to the device, in their order and nothing else,
 -- under the answers that it gave, and put behind those before
-pub record Takes {D : Type 0} (Does : Act → D → D → Type 0) (t : Topology) (values : Place → ℕ) (turns : List Turn)
+pub record Takes {D : Type 0} (Does : Act → D → D → Type 0) (t : Topology) (values : Unit → ℕ) (turns : List Turn)
     (kept_before kept_after : Kept) (done_before done_after : List Done) (before after : D) : Type 0 where
   pub done : List Done
   pub put : done_after ≡ done_before ++ done
@@ -24,8 +24,9 @@ pub record Takes {D : Type 0} (Does : Act → D → D → Type 0) (t : Topology)
 pub record KeepsRest (before after : Outbox) : Type 0 where
   pub room : after.done.room ≡ before.done.room
   pub moved : after.moved ≡ before.moved
+  pub starts : after.starts ≡ before.starts
   pub answer : after.answer ≡ before.answer
 
 -- the marks of a record: each unit of the chip lags exactly where its value isn't this one
-abbrev pub AreMarked : Topology → (Place → ℕ) → Kept → Type 0
-AreMarked t values kept = (unit : Place) → has_unit t unit ≡ true → lags_in kept unit ≡ not (kept_value kept unit == values unit)
+abbrev pub AreMarked : Topology → (Unit → ℕ) → Kept → Type 0
+AreMarked t values kept = (unit : Unit) → has_unit t unit ≡ true → lags_in kept unit ≡ not (kept_value kept unit == values unit)

@@ -3,7 +3,7 @@
 use Rattle.std.specs.Prelude.{◌≡◌, ◌≢◌, ℕ, ◌⊎◌, false, true, List, [], ◌∷◌, ◌++◌, slice_get, Some, ⊤}
 use Rattle.pm_base.specs.declared.names.Command.{Command}
 use Rattle.pm_base.specs.declared.names.NodeId.{NodeId}
-use Rattle.pm_base.specs.declared.names.Unit.{Unit as Place}
+use Rattle.pm_base.specs.declared.names.Unit.{Unit}
 use Rattle.pm_base.specs.declared.names.Unit.TheVariants.{Node, Line}
 use Rattle.pm_topology.specs.declared.topology.Topology.{Topology}
 use Rattle.pm_topology.specs.declared.topology.PowerDef.{PowerDef}
@@ -14,7 +14,7 @@ use Rattle.pm_core.specs.declared.outbox.Done.{Done}
 use Rattle.pm_apply.specs.Record.{Kept, kept_value}
 
 -- a command that is in its place where the units stand at these values
-pub record IsOrderly (t : Topology) (values : Place → ℕ) (command : Command) : Type 0 where
+pub record IsOrderly (t : Topology) (values : Unit → ℕ) (command : Command) : Type 0 where
   -- no node is set to a value that needs power while its parent is down
   pub fed : (node : NodeId) (w : ℕ) (power : PowerDef)
       → command.unit ≡ Node node
@@ -32,13 +32,13 @@ pub record IsOrderly (t : Topology) (values : Place → ℕ) (command : Command)
 
 -- each order of these acts, whether it is refused or not, is in its place where the units stand at what the acts before
 -- it left, by their answers
-abbrev pub IsOrdered : Topology → (Place → ℕ) → List Act → Type 0
+abbrev pub IsOrdered : Topology → (Unit → ℕ) → List Act → Type 0
 IsOrdered t values [] = ⊤
 IsOrdered t values (Order command ok ∷ acts) = IsOrderly t values command × IsOrdered t (value_by (Order command ok) values) acts
 IsOrdered t values (Rig node broken ∷ acts) = IsOrdered t values acts
 
 -- one of these commands failed, on this unit
-pub record FailedOn (done : List Done) (unit : Place) : Type 0 where
+pub record FailedOn (done : List Done) (unit : Unit) : Type 0 where
   pub front : List Done
   pub back : List Done
   pub d : Done
@@ -55,19 +55,19 @@ pub record HasAbove (t : Topology) (node above : NodeId) : Type 0 where
   pub below : IsBelow t w node
 
 -- a unit on the way: the node itself, one above it or one below it
-abbrev pub IsOnPath : Topology → Place → Place → Type 0
+abbrev pub IsOnPath : Topology → Unit → Unit → Type 0
 IsOnPath t (Node node) (Node other) = (node ≡ other) ⊎ (HasAbove t node other ⊎ HasAbove t other node)
 IsOnPath t (Line line) (Line other) = line ≡ other
 IsOnPath t (Node node) (Line line) = ⊥
 IsOnPath t (Line line) (Node node) = ⊥
 
 -- a command failed on the unit, on a power node above it or on a unit below it
-pub record IsExplained (t : Topology) (done : List Done) (unit : Place) : Type 0 where
-  pub other : Place
+pub record IsExplained (t : Topology) (done : List Done) (unit : Unit) : Type 0 where
+  pub other : Unit
   pub path : IsOnPath t unit other
   pub failed : FailedOn done other
 
 -- each unit whose kept value isn't the book's lags for such a failure in this step
-abbrev pub LagsAreExplained : Topology → (Place → ℕ) → Kept → List Done → Type 0
+abbrev pub LagsAreExplained : Topology → (Unit → ℕ) → Kept → List Done → Type 0
 LagsAreExplained t values kept done =
-    (unit : Place) → has_unit t unit ≡ true → kept_value kept unit ≢ values unit → IsExplained t done unit
+    (unit : Unit) → has_unit t unit ≡ true → kept_value kept unit ≢ values unit → IsExplained t done unit

@@ -2,7 +2,7 @@
 use Rattle.std.specs.Prelude.{ℕ, ◌==◌, Bool, true, false, not, ◌&&◌, ◌||◌, if◌then◌else◌, Option, Some, None, List, [], ◌∷◌, ◌++◌, length, map, reverse, slice_get}
 use Rattle.std.specs.List.{list_any, range_with_len}
 use Rattle.std.specs.Option.{option_map_or}
-use Rattle.pm_base.specs.declared.names.Unit.{Unit as Place}
+use Rattle.pm_base.specs.declared.names.Unit.{Unit}
 use Rattle.pm_base.specs.declared.names.Unit.TheVariants.{Node, Line}
 use Rattle.pm_base.specs.declared.names.Command.{Command}
 use Rattle.pm_topology.specs.declared.topology.Topology.{Topology}
@@ -14,7 +14,7 @@ use Rattle.pm_topology.specs.Units.{needs_power, parent_of_unit}
 use Rattle.pm_core.specs.declared.outbox.Done.{Done}
 use Rattle.pm_topology.specs.Units.{units_of}
 use Rattle.pm_apply.specs.declared.turns.Turn.{Turn}
-use Rattle.pm_apply.specs.declared.turns.Turn.TheVariants.{Raise, Settle, Lower}
+use Rattle.pm_apply.specs.declared.turns.Turn.TheVariants.{PowerOn, Apply, PowerOff}
 use Rattle.pm_apply.specs.Record.{Kept, keep, kept_value}
 
 -- ---- the order
@@ -26,7 +26,7 @@ power_places t = range_with_len 0 (length t.powers)
 -- the turns of a step: power nodes go up, parents first; then the other units take their values; then power nodes go
 -- down, parents last
 abbrev pub turns_of : Topology → List Turn
-turns_of t = map Raise (power_places t) ++ (map Settle (units_of t) ++ map Lower (reverse (power_places t)))
+turns_of t = map PowerOn (power_places t) ++ (map Apply (units_of t) ++ map PowerOff (reverse (power_places t)))
 
 -- ---- one turn
 
@@ -51,11 +51,11 @@ abbrev pub is_power_kind : Kind → Bool
 is_power_kind (Power w) = true
 is_power_kind _ = false
 
-abbrev pub is_power : Topology → Place → Bool
+abbrev pub is_power : Topology → Unit → Bool
 is_power t (Node node) = is_power_kind (kind_of t node)
 is_power t (Line line) = false
 
-abbrev pub command : Place → ℕ → Command
+abbrev pub command : Unit → ℕ → Command
 command unit value = record { unit = unit; value = value }
 
 abbrev pub where_due : Bool → Command → Option Command
@@ -63,26 +63,26 @@ where_due true c = Some c
 where_due false c = None
 
 -- a power node that is up in the book and down in the record goes up, unless its parent is down in the record
-abbrev pub raise : Topology → (Place → ℕ) → Kept → Option PowerDef → Option Command
-raise t values kept None = None
-raise t values kept (Some p) = where_due ((values (Node p.node) == 1) && ((kept_value kept (Node p.node) == 0) && is_fed t kept p.parent)) (command (Node p.node) 1)
+abbrev pub power_on : Topology → (Unit → ℕ) → Kept → Option PowerDef → Option Command
+power_on t values kept None = None
+power_on t values kept (Some p) = where_due ((values (Node p.node) == 1) && ((kept_value kept (Node p.node) == 0) && is_fed t kept p.parent)) (command (Node p.node) 1)
 
 -- a unit that is no power node takes the book's value where the record differs, unless that value needs power and the
 -- parent is down in the record
-abbrev pub settle : Topology → (Place → ℕ) → Kept → Place → Option Command
-settle t values kept unit = where_due (not (is_power t unit) && (not (kept_value kept unit == values unit) && (not (needs_power t unit (values unit)) || is_fed t kept (parent_of_unit t unit)))) (command unit (values unit))
+abbrev pub apply : Topology → (Unit → ℕ) → Kept → Unit → Option Command
+apply t values kept unit = where_due (not (is_power t unit) && (not (kept_value kept unit == values unit) && (not (needs_power t unit (values unit)) || is_fed t kept (parent_of_unit t unit)))) (command unit (values unit))
 
 -- a power node that is down in the book and up in the record goes down, unless by the record a unit directly below
 -- needs power
-abbrev pub lower : Topology → (Place → ℕ) → Kept → ℕ → Option PowerDef → Option Command
-lower t values kept w None = None
-lower t values kept w (Some p) = where_due ((values (Node p.node) == 0) && ((kept_value kept (Node p.node) == 1) && not (is_used t kept w))) (command (Node p.node) 0)
+abbrev pub power_off : Topology → (Unit → ℕ) → Kept → ℕ → Option PowerDef → Option Command
+power_off t values kept w None = None
+power_off t values kept w (Some p) = where_due ((values (Node p.node) == 0) && ((kept_value kept (Node p.node) == 1) && not (is_used t kept w))) (command (Node p.node) 0)
 
 -- the command of a turn, if there is one: from the book's values and the record
-abbrev pub due : Topology → (Place → ℕ) → Kept → Turn → Option Command
-due t values kept (Raise w) = raise t values kept (slice_get t.powers w)
-due t values kept (Settle unit) = settle t values kept unit
-due t values kept (Lower w) = lower t values kept w (slice_get t.powers w)
+abbrev pub due : Topology → (Unit → ℕ) → Kept → Turn → Option Command
+due t values kept (PowerOn w) = power_on t values kept (slice_get t.powers w)
+due t values kept (Apply unit) = apply t values kept unit
+due t values kept (PowerOff w) = power_off t values kept w (slice_get t.powers w)
 
 -- ---- the plan
 
@@ -116,7 +116,7 @@ take_turn None kept answers later = later kept answers
 take_turn (Some c) kept answers later = before (done_as c kept (next_answer answers)) (later (after_answer c (next_answer answers) kept) (later_answers answers))
 
 -- the commands of these turns under these answers of the device, in order
-abbrev pub plan : Topology → (Place → ℕ) → List Turn → Kept → List Bool → Carried
+abbrev pub plan : Topology → (Unit → ℕ) → List Turn → Kept → List Bool → Carried
 plan t values [] kept answers = record { done = []; kept = kept }
 plan t values (turn ∷ turns) kept answers = take_turn (due t values kept turn) kept answers (plan t values turns)
 

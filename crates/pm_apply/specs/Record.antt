@@ -1,6 +1,6 @@
 -- The record: the kept value of each unit, which is the one that the device last took for it.
 use Rattle.std.specs.Prelude.{◌≡◌, ℕ, ◌≤◌, ◌==◌, Bool, false, not, List, unwrap_or, slice_get, Some}
-use Rattle.pm_base.specs.declared.names.Unit.{Unit as Place}
+use Rattle.pm_base.specs.declared.names.Unit.{Unit}
 use Rattle.pm_base.specs.declared.names.Unit.TheVariants.{Node}
 use Rattle.pm_topology.specs.declared.topology.Topology.{Topology}
 use Rattle.pm_topology.specs.declared.topology.PowerDef.{PowerDef}
@@ -11,33 +11,33 @@ use Rattle.pm_apply.specs.declared.kept.KeptValue.{KeptValue}
 
 -- the kept values of all units
 abbrev pub Kept : Type 0
-Kept = List (Place × KeptValue)
+Kept = List (Unit × KeptValue)
 
 -- a unit that stands at 0 and doesn't lag
 abbrev pub idle : KeptValue
 idle = record { value = 0; lags = false }
 
 -- what is kept of a unit, and of one that isn't there as of an idle one
-abbrev pub kept_of : Kept → Place → KeptValue
+abbrev pub kept_of : Kept → Unit → KeptValue
 kept_of kept unit = unwrap_or (value_of kept unit) idle
 
 -- the kept value of a unit, and 0 for a unit that isn't there
-abbrev pub kept_value : Kept → Place → ℕ
+abbrev pub kept_value : Kept → Unit → ℕ
 kept_value kept unit = (kept_of kept unit).value
 
 -- whether a unit lags, and not so for a unit that isn't there
-abbrev pub lags_in : Kept → Place → Bool
+abbrev pub lags_in : Kept → Unit → Bool
 lags_in kept unit = (kept_of kept unit).lags
 
 -- the record once the device took a value for a unit; nothing changes for one that isn't there
-abbrev pub keep : Place → ℕ → Kept → Kept
+abbrev pub keep : Unit → ℕ → Kept → Kept
 keep unit value kept = with_value unit (record { value = value; lags = lags_in kept unit }) kept
 
 -- the record with a mark at exactly the units whose value isn't this one
-abbrev pub mark : (Place → ℕ) → Place → KeptValue → KeptValue
+abbrev pub mark : (Unit → ℕ) → Unit → KeptValue → KeptValue
 mark values unit kept = record kept { lags = not (kept.value == values unit) }
 
-abbrev pub marked : (Place → ℕ) → Kept → Kept
+abbrev pub marked : (Unit → ℕ) → Kept → Kept
 marked values kept = mapped (mark values) kept
 
 -- at first each unit of the chip stands at 0, and none lags
@@ -46,8 +46,8 @@ at_zero t = all_at idle (units_of t)
 
 -- a record in which all stands at 0, also a unit that isn't there, and nothing lags
 pub record IsAtZero (kept : Kept) : Type 0 where
-  pub values : (unit : Place) → kept_value kept unit ≡ 0
-  pub marks : (unit : Place) → lags_in kept unit ≡ false
+  pub values : (unit : Unit) → kept_value kept unit ≡ 0
+  pub marks : (unit : Unit) → lags_in kept unit ≡ false
 
 -- a record of the units of this chip, in which each power node is up or down
 pub record IsRecordOf (t : Topology) (kept : Kept) : Type 0 where
@@ -56,4 +56,4 @@ pub record IsRecordOf (t : Topology) (kept : Kept) : Type 0 where
 
 -- the device stands as the record says
 abbrev pub StandsAs : Kept → DeviceMoment → Type 0
-StandsAs kept moment = (unit : Place) → moment.value unit ≡ kept_value kept unit
+StandsAs kept moment = (unit : Unit) → moment.value unit ≡ kept_value kept unit

@@ -13,9 +13,11 @@ ghost use Rattle.pm_apply.specs.Plan.{due, turns_of};
 ghost use Rattle.pm_apply.specs.Record.{IsRecordOf, StandsAs, kept_value};
 
 use crate::kept::Kept;
+use crate::laws::each_part_is_safe;
 use crate::turns::{Turn, due, turn_at, turn_count};
 use pm_core::{Book, Done, Outbox};
 use pm_device::{Device, chain_shows};
+use pm_topology::units_stand_in_order;
 
 /// Issues the commands that make the device follow the book, in order, and puts each into `out.done`
 /// with the value before it and its answer. Power nodes go up first, parents before children; then
@@ -51,8 +53,10 @@ pub fn carry<D: Device>(dev: &mut D, kept: &mut Kept, book: &Book, out: &mut Out
     ensures room { KeepsRoom out.old out.new }
     ensures ready { HasRoomFor book.now out.new }
     ensures moved { out.new.moved ≡ out.old.moved }
+    ensures starts { out.new.starts ≡ out.old.starts }
     ensures answer { out.new.answer ≡ out.old.answer }
 {
+    each_part_is_safe();
     take_turns(dev, kept, book, out);
     kept.mark(book);
     chain_shows::<D>();
@@ -83,6 +87,7 @@ fn take_turns<D: Device>(dev: &mut D, kept: &mut Kept, book: &Book, out: &mut Ou
     ensures takes { Takes D.Does book.now.fixed.topology (λ u. value u book.now) (turns_of book.now.fixed.topology) kept.old kept.new out.old.done.items out.new.done.items dev.old dev.new }
     ensures rest { KeepsRest out.old out.new }
 {
+    units_stand_in_order();
     for k in 0..turn_count(book) {
         take_turn(dev, kept, book, out, turn_at(k, book));
     }

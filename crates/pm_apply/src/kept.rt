@@ -6,9 +6,10 @@ ghost use Rattle.pm_core.specs.Values.{value};
 ghost use Rattle.pm_apply.specs.Plan.{after_answer};
 ghost use Rattle.pm_apply.specs.Record.{IsAtZero, IsRecordOf, at_zero, idle, keep, kept_of, kept_value, lags_in, mark, marked};
 
+use crate::laws::at_zero_is_a_record;
 use pm_base::{Command, NoMemory, Unit};
 use pm_core::Book;
-use pm_topology::{Topology, UnitMap};
+use pm_topology::{Topology, UnitMap, unit_map_places};
 use std::alloc::Global;
 use std::marker::Model;
 
@@ -46,6 +47,7 @@ impl Kept {
         ensures record { IfOk result (IsRecordOf t.now) }
         ensures idle { IfOk result IsAtZero }
     {
+        at_zero_is_a_record();
         let values = UnitMap::load(alloc, t, idle())?;
         Ok(Kept { values })
     }
@@ -116,6 +118,7 @@ fn keep(values: &mut UnitMap<KeptValue>, command: Command)
 fn mark_all(values: &mut UnitMap<KeptValue>, book: &Book)
     ensures { values.new ≡ marked (λ u. value u book.now) values.old }
 {
+    unit_map_places::<KeptValue>();
     for place in 0..values.len() {
         mark_at(values, place, book);
     }

@@ -14,9 +14,11 @@ ghost use Rattle.pm_apply.specs.Carried.{AreMarked};
 ghost use Rattle.pm_apply.specs.Order.{IsOrdered, LagsAreExplained};
 ghost use Rattle.pm_apply.specs.Part.{AllSucceed, AllYes, Kept, orders_of, part_of};
 ghost use Rattle.pm_apply.specs.Plan.{answers_of};
-ghost use Rattle.pm_apply.specs.Record.{IsRecordOf, at_zero, kept_value};
+ghost use Rattle.pm_apply.specs.Record.{IsAtZero, IsRecordOf, at_zero, kept_value};
 
+use crate::kept::KeptValue;
 use pm_core::values_are_fed;
+use pm_topology::{kinds_are_exact, unit_maps, units_stand_in_order};
 
 /// Whatever a device answers, the commands of a step are in an order in which nothing is used without
 /// power and no domain goes down under its users, each is on a unit of the chip, each unit that lags
@@ -43,6 +45,9 @@ pub fn each_part_is_safe()
     ensures used { (kept : Kept) (answers : List Bool) (book : State) (outputs : Outputs)
         → part_of kept (answers_of (part_of kept answers book outputs).commands) book outputs ≡ part_of kept answers book outputs }
 {
+    units_stand_in_order();
+    kinds_are_exact();
+    unit_maps::<KeptValue>();
     values_are_fed();
 }
 
@@ -63,6 +68,9 @@ pub fn a_part_without_refusal()
         → (unit : Unit) → has_unit book.fixed.topology unit ≡ true
         → kept_value (part_of kept answers book outputs).kept unit ≡ value unit book }
 {
+    units_stand_in_order();
+    kinds_are_exact();
+    unit_maps::<KeptValue>();
     values_are_fed();
 }
 
@@ -74,8 +82,13 @@ pub fn orders_join()
         → ((unit : Unit) → values unit ≡ others unit) → IsOrdered t values acts → IsOrdered t others acts }
 {}
 
-/// The record at first is one of the chip, and each of its values is 0.
+/// The record at first is one of the chip, each of its values is 0, and no unit lags.
 pub fn at_zero_is_a_record()
     ensures record { (t : Topology) → IsRecordOf t (at_zero t) }
     ensures values { (t : Topology) (unit : Unit) → kept_value (at_zero t) unit ≡ 0 }
-{}
+    ensures idle { (t : Topology) → IsAtZero (at_zero t) }
+{
+    units_stand_in_order();
+    kinds_are_exact();
+    unit_maps::<KeptValue>();
+}

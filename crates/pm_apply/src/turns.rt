@@ -6,21 +6,21 @@ ghost use Rattle.pm_topology.specs.WellFormed.{IsWellFormed};
 ghost use Rattle.pm_topology.specs.Units.{needs_power, parent_of_unit};
 ghost use Rattle.pm_core.specs.Fed.{IsFed};
 ghost use Rattle.pm_core.specs.Values.{value};
-ghost use Rattle.pm_apply.specs.Plan.{due, is_fed, is_place, is_power, is_power_kind, is_used, lower, power_value, raise, settle, turns_of, where_due};
+ghost use Rattle.pm_apply.specs.Plan.{due, is_fed, is_place, is_power, is_power_kind, is_used, power_off, power_value, power_on, apply, turns_of, where_due};
 ghost use Rattle.pm_apply.specs.Record.{kept_value};
 
 use crate::kept::Kept;
 use pm_base::{Command, Unit};
 use pm_core::Book;
-use pm_topology::{Kind, PowerDef, Topology, needs_power, parent_of_unit};
+use pm_topology::{Kind, PowerDef, Topology, needs_power, parent_of_unit, units_stand_in_order};
 
 /// A turn of a step: the power node at a place goes up, a unit that is no power node takes its value,
 /// or the power node at a place goes down.
 #[derive(Clone, Copy, Debug, PartialEq, Eq)]
 pub enum Turn {
-    Raise(usize),
-    Settle(Unit),
-    Lower(usize),
+    PowerOn(usize),
+    Apply(Unit),
+    PowerOff(usize),
 }
 
 /// The number of turns of a step.
@@ -29,6 +29,7 @@ pub(crate) fn turn_count(book: &Book) -> usize
     ensures formed { IsWellFormed book.now.fixed.topology }
     ensures fed { IsFed book.now.fixed.topology (λ u. value u book.now) }
 {
+    units_stand_in_order();
     let powers = book.topology().powers.len();
     powers + book.units() + powers
 }
@@ -42,11 +43,11 @@ pub(crate) fn turn_at(k: usize, book: &Book) -> Turn
     let powers = book.topology().powers.len();
     let units = book.units();
     if k < powers {
-        Turn::Raise(k)
+        Turn::PowerOn(k)
     } else if k - powers < units {
-        Turn::Settle(book.unit(k - powers))
+        Turn::Apply(book.unit(k - powers))
     } else {
-        Turn::Lower(powers - 1 - (k - powers - units))
+        Turn::PowerOff(powers - 1 - (k - powers - units))
     }
 }
 
@@ -55,9 +56,9 @@ pub(crate) fn due(turn: Turn, book: &Book, kept: &Kept) -> Option<Command>
     ensures { result ≡ due book.now.fixed.topology (λ u. value u book.now) kept.now turn }
 {
     match turn {
-        Turn::Raise(place) => raise(place, book, kept),
-        Turn::Settle(unit) => settle(unit, book, kept),
-        Turn::Lower(place) => lower(place, book, kept),
+        Turn::PowerOn(place) => power_on(place, book, kept),
+        Turn::Apply(unit) => apply(unit, book, kept),
+        Turn::PowerOff(place) => power_off(place, book, kept),
     }
 }
 
@@ -69,8 +70,8 @@ fn where_due(is_due: bool, command: Command) -> Option<Command>
 
 // ---- a power node goes up
 
-fn raise(place: usize, book: &Book, kept: &Kept) -> Option<Command>
-    ensures { result ≡ raise book.now.fixed.topology (λ u. value u book.now) kept.now (slice_get book.now.fixed.topology.powers place) }
+fn power_on(place: usize, book: &Book, kept: &Kept) -> Option<Command>
+    ensures { result ≡ power_on book.now.fixed.topology (λ u. value u book.now) kept.now (slice_get book.now.fixed.topology.powers place) }
 {
     let power = power_at(book.topology(), place)?;
     let command = Command {
@@ -111,8 +112,8 @@ fn power_value(t: &Topology, kept: &Kept, place: usize) -> u32
 
 // ---- a unit that is no power node takes its value
 
-fn settle(unit: Unit, book: &Book, kept: &Kept) -> Option<Command>
-    ensures { result ≡ settle book.now.fixed.topology (λ u. value u book.now) kept.now unit }
+fn apply(unit: Unit, book: &Book, kept: &Kept) -> Option<Command>
+    ensures { result ≡ apply book.now.fixed.topology (λ u. value u book.now) kept.now unit }
 {
     let value = book.value(unit);
     where_due(
@@ -133,8 +134,8 @@ fn takes(unit: Unit, value: u32, t: &Topology, kept: &Kept) -> bool
 
 // ---- a power node goes down
 
-fn lower(place: usize, book: &Book, kept: &Kept) -> Option<Command>
-    ensures { result ≡ lower book.now.fixed.topology (λ u. value u book.now) kept.now place (slice_get book.now.fixed.topology.powers place) }
+fn power_off(place: usize, book: &Book, kept: &Kept) -> Option<Command>
+    ensures { result ≡ power_off book.now.fixed.topology (λ u. value u book.now) kept.now place (slice_get book.now.fixed.topology.powers place) }
 {
     let power = power_at(book.topology(), place)?;
     let command = Command {

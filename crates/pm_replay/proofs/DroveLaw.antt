@@ -5,7 +5,7 @@ use Rattle.std.specs.List.{All}
 use Rattle.std.proofs.lemmas.List.Elements.{All-head, All-tail, All-take}
 use Rattle.pm_base.specs.Faults.{Rose}
 use Rattle.pm_base.specs.declared.events.Event.{Event}
-use Rattle.pm_base.specs.declared.names.Unit.{Unit as Place}
+use Rattle.pm_base.specs.declared.names.Unit.{Unit}
 use Rattle.pm_topology.specs.declared.topology.Topology.{Topology}
 use Rattle.pm_topology.specs.WellFormed.{IsWellFormed}
 use Rattle.pm_device.specs.declared.device.Device as Device
@@ -59,7 +59,7 @@ steps-driven (s ∷ steps) kept answers = ap (λ (ss : List Step). s ∷ ss) (st
 
 module _ {D : Type 0} (d : Device.Ghosts D) (c : Setup) (well : IsWellFormed c.topology) (laws : PartLaws)
     (books : (events : List Event) → StepsOfRun c (run c events))
-    (zero_record : IsRecordOf c.topology (at_zero c.topology)) (zeros : (unit : Place) → kept_value (at_zero c.topology) unit ≡ 0)
+    (zero_record : IsRecordOf c.topology (at_zero c.topology)) (zeros : (unit : Unit) → kept_value (at_zero c.topology) unit ≡ 0)
     (shows : (done : List Act) (old new : D) → Chain d.Does done old new → ShowsAll d.values_observable d.nodes_observable done (d.state old) (d.state new))
     (still : (done : List Act) (old new : D) → Chain d.Does done old new → (Rose (d.state old).faults (d.state new).faults → ⊥) → refusals done ≡ 0)
     (whole : (t : Topology) (done : List Act) (old new : D) → Chain d.Does done old new → d.nodes_observable → IsWhole t (d.state old) → AreHarmless t done → refusals done ≡ 0)
@@ -71,7 +71,7 @@ module _ {D : Type 0} (d : Device.Ghosts D) (c : Setup) (well : IsWellFormed c.t
     -- steps that begin with step 0
     module _ (events : List Event) (answers : List (List Bool)) (rest : List Step) (old new : D)
         (of_run : StepsOfRun c (step_0 c events ∷ rest))
-        (idle : d.values_observable → (unit : Place) → (d.state old).value unit ≡ 0)
+        (idle : d.values_observable → (unit : Unit) → (d.state old).value unit ≡ 0)
         (given : Chain d.Does (acts (drive (at_zero c.topology) answers (step_0 c events ∷ rest))) old new)
       where
         abbrev first : Kept
@@ -92,7 +92,7 @@ module _ {D : Type 0} (d : Device.Ghosts D) (c : Setup) (well : IsWellFormed c.t
         moves : Moves c.topology first (last_kept first xs) (acts xs)
         moves = steps_move c well laws steps first answers of_run zero_record
 
-        stands : d.values_observable → (unit : Place) → (d.state new).value unit ≡ kept_value (last_kept first xs) unit
+        stands : d.values_observable → (unit : Unit) → (d.state new).value unit ≡ kept_value (last_kept first xs) unit
         stands told unit =
             seen.values told unit
             ∙ values_after-same (acts xs) (d.state old).value (kept_value first) (λ u. idle told u ∙ sym (zeros u)) unit
@@ -130,10 +130,10 @@ module _ {D : Type 0} (d : Device.Ghosts D) (c : Setup) (well : IsWellFormed c.t
             let book : State = last_book load xs in
             let is : IsBookOf c book = last_of_run steps first answers load here of_run in
             let t : book.fixed.topology ≡ c.topology = ap (λ (f : Fixed). f.topology) is.fixed in
-            let same : (unit : Place) → has_unit book.fixed.topology unit ≡ true → (d.state new).value unit ≡ value unit book =
+            let same : (unit : Unit) → has_unit book.fixed.topology unit ≡ true → (d.state new).value unit ≡ value unit book =
             λ unit there. stands told unit ∙ reaches none unit (ap (λ (t : Topology). has_unit t unit) (sym t) ∙ there)
             in
-            record { values = same; met = met_by book (λ u. value u book) (d.state new).value (λ u there. sym (same u there)) is.met }
+            record { values = same; met = met_by laws.kinds book (λ u. value u book) (d.state new).value (λ u there. sym (same u there)) is.met }
 
         pub drove_from : Drove d c xs old new
         drove_from = record {
@@ -151,7 +151,7 @@ module _ {D : Type 0} (d : Device.Ghosts D) (c : Setup) (well : IsWellFormed c.t
         }
 
     -- the steps of a run up to a cut
-    pub drove : (events : List Event) (answers : List (List Bool)) (cut : Option ℕ) (old new : D) → (d.values_observable → (unit : Place) → (d.state old).value unit ≡ 0) → Chain d.Does (acts (until cut (driven c answers events))) old new → Drove d c (until cut (driven c answers events)) old new
+    pub drove : (events : List Event) (answers : List (List Bool)) (cut : Option ℕ) (old new : D) → (d.values_observable → (unit : Unit) → (d.state old).value unit ≡ 0) → Chain d.Does (acts (until cut (driven c answers events))) old new → Drove d c (until cut (driven c answers events)) old new
     drove events answers cut old new idle given =
         let first : Kept = at_zero c.topology in
         let rest : List Step = rest_until cut (steps_of events (loaded c events)) in

@@ -2,10 +2,11 @@
 use Rattle.std.proofs.Common.{◌≡◌, ℕ, ◌+◌, Bool, true, List, [], ◌∷◌, ◌++◌, refl, sym, ◌∙◌, ap, subst, arith}
 use Rattle.std.specs.List.{All}
 use Rattle.std.proofs.lemmas.List.Elements.{All-head, All-tail}
-use Rattle.pm_base.specs.declared.names.Unit.{Unit as Place}
+use Rattle.pm_base.specs.declared.names.Unit.{Unit}
 use Rattle.pm_topology.specs.declared.topology.Topology.{Topology}
+use Rattle.pm_topology.specs.Places.{KindLaws}
 use Rattle.pm_topology.specs.WellFormed.{IsWellFormed}
-use Rattle.pm_device.specs.Act.{Act, Order, Rig, AreHarmless, refusals, values_after}
+use Rattle.pm_device.specs.Act.{Act, AreHarmless, refusals, values_after}
 use Rattle.pm_topology.specs.Units.{has_unit}
 use Rattle.pm_device.specs.Chains.{values_after-same}
 use Rattle.pm_core.specs.Outbox.{Outputs}
@@ -24,25 +25,22 @@ pub record PartLaws : Type 0 where
   pub explained : (kept : Kept) (answers : List Bool) (book : State) (outputs : Outputs) → IsWellFormed book.fixed.topology → IsRecordOf book.fixed.topology kept → LagsAreExplained book.fixed.topology (λ u. value u book) (part_of kept answers book outputs).kept (part_of kept answers book outputs).commands
   pub known : (kept : Kept) (answers : List Bool) (book : State) (outputs : Outputs) → IsWellFormed book.fixed.topology → AreHarmless book.fixed.topology (orders_of (part_of kept answers book outputs).commands)
   pub is_record : (kept : Kept) (answers : List Bool) (book : State) (outputs : Outputs) → IsWellFormed book.fixed.topology → IsRecordOf book.fixed.topology kept → IsRecordOf book.fixed.topology (part_of kept answers book outputs).kept
-  pub values : (kept : Kept) (answers : List Bool) (book : State) (outputs : Outputs) → IsWellFormed book.fixed.topology → IsRecordOf book.fixed.topology kept → (unit : Place) → kept_value (part_of kept answers book outputs).kept unit ≡ values_after (orders_of (part_of kept answers book outputs).commands) (kept_value kept) unit
+  pub values : (kept : Kept) (answers : List Bool) (book : State) (outputs : Outputs) → IsWellFormed book.fixed.topology → IsRecordOf book.fixed.topology kept → (unit : Unit) → kept_value (part_of kept answers book outputs).kept unit ≡ values_after (orders_of (part_of kept answers book outputs).commands) (kept_value kept) unit
   pub same : (kept : Kept) (answers : List Bool) (book : State) (outputs : Outputs) → refusals (orders_of (part_of kept answers book outputs).commands) ≡ 0 → part_of kept answers book outputs ≡ part_of kept [] book outputs
-  pub reaches : (kept : Kept) (answers : List Bool) (book : State) (outputs : Outputs) → IsWellFormed book.fixed.topology → IsRecordOf book.fixed.topology kept → refusals (orders_of (part_of kept answers book outputs).commands) ≡ 0 → (unit : Place) → has_unit book.fixed.topology unit ≡ true → kept_value (part_of kept answers book outputs).kept unit ≡ value unit book
-  pub join : (t : Topology) (values : Place → ℕ) (first second : List Act) → IsOrdered t values first → IsOrdered t (values_after first values) second → IsOrdered t values (first ++ second)
-  pub alike : (t : Topology) (values others : Place → ℕ) (acts : List Act) → ((unit : Place) → values unit ≡ others unit) → IsOrdered t values acts → IsOrdered t others acts
+  pub reaches : (kept : Kept) (answers : List Bool) (book : State) (outputs : Outputs) → IsWellFormed book.fixed.topology → IsRecordOf book.fixed.topology kept → refusals (orders_of (part_of kept answers book outputs).commands) ≡ 0 → (unit : Unit) → has_unit book.fixed.topology unit ≡ true → kept_value (part_of kept answers book outputs).kept unit ≡ value unit book
+  pub join : (t : Topology) (values : Unit → ℕ) (first second : List Act) → IsOrdered t values first → IsOrdered t (values_after first values) second → IsOrdered t values (first ++ second)
+  pub alike : (t : Topology) (values others : Unit → ℕ) (acts : List Act) → ((unit : Unit) → values unit ≡ others unit) → IsOrdered t values acts → IsOrdered t others acts
   pub refused : (first second : List Act) → refusals (first ++ second) ≡ refusals first + refusals second
-  pub after : (first second : List Act) (value : Place → ℕ) (unit : Place) → values_after (first ++ second) value unit ≡ values_after second (values_after first value) unit
+  pub harmless : (t : Topology) (first second : List Act) → AreHarmless t first → AreHarmless t second → AreHarmless t (first ++ second)
+  pub kinds : KindLaws
+  pub after : (first second : List Act) (value : Unit → ℕ) (unit : Unit) → values_after (first ++ second) value unit ≡ values_after second (values_after first value) unit
 
 -- from kept values to kept values by these acts, in order
 pub record Moves (t : Topology) (kept last : Kept) (done : List Act) : Type 0 where
   pub is_record : IsRecordOf t last
-  pub values : (unit : Place) → kept_value last unit ≡ values_after done (kept_value kept) unit
+  pub values : (unit : Unit) → kept_value last unit ≡ values_after done (kept_value kept) unit
   pub ordered : IsOrdered t (kept_value kept) done
   pub harmless : AreHarmless t done
-
-harmless-append : (t : Topology) (first second : List Act) → AreHarmless t first → AreHarmless t second → AreHarmless t (first ++ second)
-harmless-append t [] second one two = two
-harmless-append t (Order command ok ∷ first) second one two = (one.0, harmless-append t first second one.1 two)
-harmless-append t (Rig node broken ∷ first) second one two = (one.0, harmless-append t first second one.1 two)
 
 -- each core step's book is one of the run
 abbrev pub OfRun : Setup → List Core → Type 0
@@ -63,7 +61,7 @@ module _ (c : Setup) (well : IsWellFormed c.topology) (laws : PartLaws) where
     is_record = two.is_record;
     values = λ unit. two.values unit ∙ values_after-same second (kept_value mid) (values_after first (kept_value kept)) one.values unit ∙ sym (laws.after first second (kept_value kept) unit);
     ordered = laws.join c.topology (kept_value kept) first second one.ordered (laws.alike c.topology (kept_value mid) (values_after first (kept_value kept)) second one.values two.ordered);
-    harmless = harmless-append c.topology first second one.harmless two.harmless;
+    harmless = laws.harmless c.topology first second one.harmless two.harmless;
   }
 
   -- one core step
@@ -161,7 +159,7 @@ module _ (c : Setup) (well : IsWellFormed c.topology) (laws : PartLaws) where
 
   -- the kept values of the units of the chip are those of a book
   abbrev pub Reaches : Kept → State → Type 0
-  Reaches kept book = (unit : Place) → has_unit c.topology unit ≡ true → kept_value kept unit ≡ value unit book
+  Reaches kept book = (unit : Unit) → has_unit c.topology unit ≡ true → kept_value kept unit ≡ value unit book
 
   pub part_reaches : (kept : Kept) (answers : List Bool) (core : Core) → IsBookOf c core.stand.book → IsRecordOf c.topology kept → refusals (orders_of (part_of kept answers core.stand.book core.outputs).commands) ≡ 0 → Reaches (part_of kept answers core.stand.book core.outputs).kept core.stand.book
   part_reaches kept answers core book is none unit there =

@@ -3,7 +3,9 @@ use Rattle.std.proofs.Common.{ℕ, ◌+◌, List, [], ◌∷◌, ◌++◌, lengt
 use Rattle.std.specs.List.{concat}
 use Rattle.std.proofs.lemmas.List.{append-nil}
 use Rattle.std.proofs.lemmas.List.Folds.{concat-append}
-use Rattle.pm_base.specs.Sink.{Leaves, SinkMoment, Wrote}
+use Rattle.pm_base.specs.declared.sink.Sink as Sink
+use Rattle.pm_base.specs.Sink.{Wrote}
+use Rattle.pm_base.specs.Writing.{Leaves}
 use Rattle.pm_base.proofs.SinkLemmas.{BreaksIn-after, BreaksIn-before, Wrote-is, Wrote-trans}
 
 -- a cut that is counted behind so many pieces
@@ -11,15 +13,17 @@ abbrev pub behind : ℕ → Option ℕ → Option ℕ
 behind m None = None
 behind m (Some k) = Some (m + k)
 
-pub Leaves-append : (shown : Type 0) (done pieces : List (List ℕ)) (cut : Option ℕ) (first mid last : SinkMoment) → Wrote shown (concat done) first mid → Leaves shown pieces cut mid last → Leaves shown (done ++ pieces) (behind (length done) cut) first last
-Leaves-append shown done pieces None first mid last before after =
-    Wrote-is shown (concat done ++ concat pieces) (concat (done ++ pieces)) first last (sym (concat-append done pieces)) (Wrote-trans shown (concat done) (concat pieces) first mid last before after)
-Leaves-append shown done pieces (Some k) first mid last before after = BreaksIn-after shown done pieces k first mid last before after
+module _ {O : Type 0} (o : Sink.Ghosts O) where
+  pub Leaves-append : (done pieces : List (List ℕ)) (cut : Option ℕ) (first mid last : O) → Wrote o.observable (concat done) (o.state first) (o.state mid) → Leaves o pieces cut mid last → Leaves o (done ++ pieces) (behind (length done) cut) first last
+  Leaves-append done pieces None first mid last before after =
+      Wrote-is o.observable (concat done ++ concat pieces) (concat (done ++ pieces)) (o.state first) (o.state last) (sym (concat-append done pieces))
+      (Wrote-trans o.observable (concat done) (concat pieces) (o.state first) (o.state mid) (o.state last) before after)
+  Leaves-append done pieces (Some k) first mid last before after = BreaksIn-after o done pieces k first mid last before after
 
-pub Leaves-cons : (shown : Type 0) (piece : List ℕ) (pieces : List (List ℕ)) (cut : Option ℕ) (first mid last : SinkMoment) → Wrote shown piece first mid → Leaves shown pieces cut mid last → Leaves shown (piece ∷ pieces) (behind 1 cut) first last
-Leaves-cons shown piece pieces cut first mid last before after =
-    Leaves-append shown (piece ∷ []) pieces cut first mid last (Wrote-is shown piece (piece ++ []) first mid (sym (append-nil piece)) before) after
+  pub Leaves-cons : (piece : List ℕ) (pieces : List (List ℕ)) (cut : Option ℕ) (first mid last : O) → Wrote o.observable piece (o.state first) (o.state mid) → Leaves o pieces cut mid last → Leaves o (piece ∷ pieces) (behind 1 cut) first last
+  Leaves-cons piece pieces cut first mid last before after =
+      Leaves-append (piece ∷ []) pieces cut first mid last (Wrote-is o.observable piece (piece ++ []) (o.state first) (o.state mid) (sym (append-nil piece)) before) after
 
--- the same up to a cut, where other pieces would have followed
-pub Leaves-before : (shown : Type 0) (pieces more : List (List ℕ)) (k : ℕ) (first last : SinkMoment) → Leaves shown pieces (Some k) first last → Leaves shown (pieces ++ more) (Some k) first last
-Leaves-before shown pieces more k first last breaks = BreaksIn-before shown pieces more k first last breaks
+  -- the same up to a cut, where other pieces would have followed
+  pub Leaves-before : (pieces more : List (List ℕ)) (k : ℕ) (first last : O) → Leaves o pieces (Some k) first last → Leaves o (pieces ++ more) (Some k) first last
+  Leaves-before pieces more k first last breaks = BreaksIn-before o pieces more k first last breaks

@@ -1,10 +1,7 @@
 -- A named script that was read, and what its run means.
-use Rattle.std.proofs.Common.{◌≡◌, ℕ, ◌+◌, ◌<◌, Bool, true, false, List, [], ◌∷◌, ◌++◌, length, Option, Some, None, Result, Ok, Err, if◌then◌else◌, refl, sym, ◌∙◌, ap, subst, arith, inl, inr}
-use Rattle.std.specs.Prelude.{map, nat_lt}
+use Rattle.std.proofs.Common.{◌≡◌, ℕ, ◌+◌, ◌⊎◌, Bool, List, [], ◌∷◌, ◌++◌, length, Option, Some, None, Result, Ok, Err, refl, sym, ◌∙◌, ap, subst, inl, inr}
+use Rattle.std.specs.Prelude.{map}
 use Rattle.std.specs.List.{concat}
-use Rattle.std.proofs.lemmas.Bool.Decides.{nat_tests}
-use Rattle.std.proofs.lemmas.List.{append-nil}
-use Rattle.std.proofs.lemmas.Option.{slice_get_within}
 use Rattle.pm_base.specs.Faults.{Rose}
 use Rattle.pm_base.specs.declared.errors.Exit.{Exit}
 use Rattle.pm_base.specs.declared.errors.Exit.TheVariants as exit
@@ -13,11 +10,12 @@ use Rattle.pm_base.specs.declared.inputs.Inputs as Inputs
 use Rattle.pm_base.specs.declared.prefix.StopReason.{StopReason}
 use Rattle.pm_base.specs.declared.prefix.StopReason.TheVariants as reason
 use Rattle.pm_base.specs.declared.sink.Sink as Sink
-use Rattle.pm_base.specs.Inputs.{Moment}
+use Rattle.pm_base.specs.Inputs.{MayFail, Moment}
 use Rattle.pm_base.specs.Lines.{lines_of}
 use Rattle.pm_base.specs.Prefix.{IsUnread, Prefix, ReadsPrefix, prefix_of}
-use Rattle.pm_base.specs.Sink.{Leaves, SinkMoment, Wrote}
-use Rattle.pm_base.proofs.PrefixEnds.{prefix_whole}
+use Rattle.pm_base.specs.Sink.{HasFailed, IsUnfailed}
+use Rattle.pm_base.specs.Writing.{Leaves}
+use Rattle.pm_base.proofs.PrefixEnds.{prefix_fails, prefix_whole}
 use Rattle.pm_device.specs.declared.device.Device as Device
 use Rattle.pm_core.specs.Run.{Setup}
 use Rattle.pm_script.specs.declared.meaning.LineFault.{LineFault}
@@ -25,13 +23,14 @@ use Rattle.pm_script.specs.Meaning.{meaning}
 use Rattle.pm_script.specs.Script.{Script, Stop, before, script_from, script_limit, script_lines, script_of, script_where, stop_of}
 use Rattle.pm_script.specs.Script.Stop.{End, Bad, Past, Failed}
 use Rattle.pm_trace.specs.declared.faults.Fault.{Fault}
-use Rattle.pm_trace.specs.declared.faults.Fault.TheVariants.{Line, Memory, Object, Read, Size, Text, Usage}
-use Rattle.pm_trace.specs.Faults.{exit_after, exit_by}
-use Rattle.pm_trace.specs.Report.{Report, Reports, exit_of, fault_lines, pieces, refusal, report_of}
+use Rattle.pm_trace.specs.declared.faults.Fault.TheVariants.{Memory, Read}
+use Rattle.pm_trace.specs.Exits.{EndsBy, EndsWith, ExitSays, ExitsSay, IsStarved, IsWhole}
+use Rattle.pm_trace.specs.Faults.{exit_after, fault_text}
+use Rattle.pm_trace.specs.Report.{Reports, pieces, refusal, report_of}
 use Rattle.pm_replay.specs.Drive.{acts, driven}
 use Rattle.pm_replay.specs.Drove.{Drove}
 use Rattle.pm_replay.specs.Replay.{Touched, closing_after, closing_where, fault_at, replay_report, texts, until}
-use Rattle.pm_replay.specs.Replayed.{IsReadFault, Holds, IsRun, IsScriptOf, Replayed, script_in, script_or_fault}
+use Rattle.pm_replay.specs.Replayed.{IsReadFault, Holds, IsRun, IsScriptOf, Replayed, script_exit, script_in, script_or_fault}
 use Rattle.pm_replay.specs.Safe.{IsSafe}
 use Rattle.pm_replay.specs.Within.{RanScript}
 use Rattle.pm_replay.specs.World.{World}
@@ -114,49 +113,6 @@ script_unread p fails = by p.stop refl
     by reason.Failure at = subst IsUnread (sym at) tt
     by reason.Unbegun at = subst IsUnread (sym at) tt
 
--- ---- the exits of a report
-
-stop_at_done : (n : ℕ) (stop : Stop) → exit_after (fault_at n stop) ≡ exit.Done → stop ≡ End
-stop_at_done n End is = refl
-stop_at_done n (Bad cause) is = cc
-stop_at_done n Past is = cc
-stop_at_done n Failed is = cc
-
--- a report that is Done was written whole and has no fault
-pub record IsWhole (shown : Type 0) (r : Report) (old new : SinkMoment) (cut : Option ℕ) : Type 0 where
-  pub fault : exit_after r.fault ≡ exit.Done
-  pub uncut : cut ≡ None
-  pub wrote : Wrote shown (concat (pieces r)) old new
-
-not_done : exit.WriteFault ≡ exit.Done → ⊥
-not_done e = cc
-
-never_done : (fault : Fault) → exit_by fault ≡ exit.Done → ⊥
-never_done Usage is = cc
-never_done (Object fault) is = cc
-never_done (Text fault) is = cc
-never_done (Line n) is = cc
-never_done Read is = cc
-never_done Memory is = cc
-never_done Size is = cc
-
-done_fault : (fault : Option Fault) → exit_after fault ≡ exit.Done → fault ≡ None
-done_fault None is = refl
-done_fault (Some fault) is = absurd (never_done fault is)
-
-done_whole : (shown : Type 0) (r : Report) (old new : SinkMoment) (cut : Option ℕ) (result : Exit) → Leaves shown (pieces r) cut old new → result ≡ exit_of r cut → result ≡ exit.Done → IsWhole shown r old new cut
-done_whole shown r old new None result left ends is = record { fault = sym ends ∙ is; uncut = refl; wrote = left }
-done_whole shown r old new (Some k) result left ends is = by (nat_lt k (length r.body)) refl (sym ends ∙ is)
-  where
-    clash : (n m : ℕ) → k < m → m ≡ n → nat_lt k n ≡ false → ⊥
-    clash n m within is past = grind (arith, nat_tests)
-
-    by : (b : Bool) → nat_lt k (length r.body) ≡ b → (if b then exit.WriteFault else exit_after r.fault) ≡ exit.Done → IsWhole shown r old new (Some k)
-    by true within is = absurd (not_done is)
-    by false past is =
-        let same : pieces r ≡ r.body = ap (λ (f : Option Fault). r.body ++ fault_lines f) (done_fault r.fault is) ∙ append-nil r.body in
-        absurd (clash (length r.body) (length (pieces r)) (slice_get_within (pieces r) k left.piece left.is) (ap length same) past)
-
 -- ---- what a replay means
 
 some_is_none : {X : Type 0} {x : X} → Some x ≡ None → ⊥
@@ -164,6 +120,12 @@ some_is_none e = cc
 
 err_is_ok : {X Y : Type 0} {x : X} {y : Y} → Err y ≡ Ok x → ⊥
 err_is_ok e = cc
+
+same_in_some : {X : Type 0} {x y : X} → ◌≡◌ {A = Option X} (Some x) (Some y) → x ≡ y
+same_in_some e = cc
+
+memory_is_read : Memory ≡ Read → ⊥
+memory_is_read e = cc
 
 same_in_ok : {X Y : Type 0} {x y : X} → ◌≡◌ {A = Result X Y} (Ok x) (Ok y) → x ≡ y
 same_in_ok e = cc
@@ -197,33 +159,99 @@ read_whole m name s is ends = by_prefix (prefix_of script_limit (m.file name) m.
     by_prefix : (p : Prefix) → p ≡ prefix_of script_limit (m.file name) m.room → Ok s ≡ script_or_fault (script_of p) → ReadWhole m name s
     by_prefix p of is = by p of is p.stop refl
 
+-- ---- the fault at which a script stops
+
+end_by : (n : ℕ) (stop : Stop) → fault_at n stop ≡ None → stop ≡ End
+end_by n End is = refl
+end_by n (Bad cause) is = cc
+end_by n Past is = cc
+end_by n Failed is = cc
+
+failed_by : (n : ℕ) (stop : Stop) → fault_at n stop ≡ Some Read → stop ≡ Failed
+failed_by n End is = cc
+failed_by n (Bad cause) is = cc
+failed_by n Past is = cc
+failed_by n Failed is = refl
+
+never_memory : (n : ℕ) (stop : Stop) → fault_at n stop ≡ Some Memory → ⊥
+never_memory n End is = cc
+never_memory n (Bad cause) is = cc
+never_memory n Past is = cc
+never_memory n Failed is = cc
+
+-- a script that can't be read is one whose input can't be begun or has a failing byte within the limit
+script_cause : (m : Moment) (name : List ℕ) → IsReadFault (script_in m name) → MayFail name script_limit m
+script_cause m name fails =
+    let p : Prefix = prefix_of script_limit (m.file name) m.room in
+    prefix_fails script_limit (m.file name) m.room p refl (script_unread p fails)
+
 module _ {I O D : Type 0} (i : Inputs.Ghosts I) (o : Sink.Ghosts O) (d : Device.Ghosts D) (c : Setup) (name : List ℕ) (w w' : World I O D) (result : Exit) where
-  pub replay_done : Replayed i o d c name w w' result → i.observable → o.observable → result ≡ exit.Done → IsRun i o d c name w w'
-  replay_done did seen written is = by did.job did.answers did.cut did.asked did.left did.ends did.touched
-    where
-      by : (job : Result Script Fault) (answers : List (List Bool)) (cut : Option ℕ) → IsScriptOf i name w.inputs w'.inputs job → Leaves o.observable (pieces (report_of (replay_report c) job answers)) cut (o.state w.sink) (o.state w'.sink) → result ≡ exit_of (report_of (replay_report c) job answers) cut → Touched d c w.device w'.device job answers cut → IsRun i o d c name w w'
-      by (Err fault) answers cut asked left ends touched =
-          let whole = done_whole o.observable (refusal fault) (o.state w.sink) (o.state w'.sink) cut result left ends is in
-          absurd (some_is_none (done_fault (Some fault) whole.fault))
-      by (Ok s) answers cut asked left ends touched =
-          let r : Report = replay_report c s answers in
-          let whole = done_whole o.observable r (o.state w.sink) (o.state w'.sink) cut result left ends is in
-          let stop : s.stop ≡ End = stop_at_done (1 + length s.events) s.stop whole.fault in
-          let steps = driven c answers s.events in
-          let all : pieces r ≡ texts 0 steps ++ closing_after c steps ∷ [] =
-          ap (λ (stop : Stop). (texts 0 steps ++ closing_where stop (closing_after c steps)) ++ fault_lines (fault_at (1 + length s.events) stop)) stop
-          ∙ append-nil (texts 0 steps ++ closing_after c steps ∷ [])
-          in
-          let read : ReadWhole (i.state w.inputs) name s = read_whole (i.state w.inputs) name s (elim (asked.shown seen) [ inl memory ↦ absurd (err_is_ok (sym memory)) | inr script ↦ script ]) stop in
-          record {
-            script_bytes = read.bytes;
-            events = s.events;
-            answers = answers;
-            held = read.held;
-            means = read.means;
-            text = whole.wrote.appended written ∙ ap (λ (ps : List (List ℕ)). (o.state w.sink).bytes ++ concat ps) all;
-            drove = subst (λ (cut : Option ℕ). Drove d c (until cut steps) w.device w'.device) whole.uncut touched;
-          }
+  module _ (say : ExitsSay o) (did : Replayed i o d c name w w' result) where
+    said : ExitSays o (report_of (replay_report c) did.job did.answers) did.cut w.sink w'.sink result
+    said = say (report_of (replay_report c) did.job did.answers) did.cut w.sink w'.sink result did.left did.ends
+
+    pub replay_done : i.observable → o.observable → result ≡ exit.Done → IsRun i o d c name w w'
+    replay_done seen written is = by did.job did.asked did.touched (said.done is)
+      where
+        by : (job : Result Script Fault) → IsScriptOf i name w.inputs w'.inputs job → Touched d c w.device w'.device job did.answers did.cut → IsWhole o (report_of (replay_report c) job did.answers) did.cut w.sink w'.sink → IsRun i o d c name w w'
+        by (Err fault) asked touched whole = absurd (some_is_none whole.faultless)
+        by (Ok s) asked touched whole =
+            let stop : s.stop ≡ End = end_by (1 + length s.events) s.stop whole.faultless in
+            let steps = driven c did.answers s.events in
+            let all : (replay_report c s did.answers).body ≡ texts 0 steps ++ closing_after c steps ∷ [] =
+            ap (λ (stop : Stop). texts 0 steps ++ closing_where stop (closing_after c steps)) stop
+            in
+            let read : ReadWhole (i.state w.inputs) name s = read_whole (i.state w.inputs) name s (elim (asked.shown seen) [ inl memory ↦ absurd (err_is_ok (sym memory)) | inr script ↦ script ]) stop in
+            record {
+              script_bytes = read.bytes;
+              events = s.events;
+              answers = did.answers;
+              held = read.held;
+              means = read.means;
+              text = whole.wrote.appended written ∙ ap (λ (ps : List (List ℕ)). (o.state w.sink).bytes ++ concat ps) all;
+              drove = subst (λ (cut : Option ℕ). Drove d c (until cut steps) w.device w'.device) whole.uncut touched;
+            }
+
+    pub replay_unfailed : result ≡ exit.Done → IsUnfailed (o.state w.sink) (o.state w'.sink)
+    replay_unfailed is = let wrote = (said.done is).wrote in record { faults = wrote.faults; stalls = wrote.stalls }
+
+    pub replay_write_fault : result ≡ exit.WriteFault → HasFailed (o.state w.sink) (o.state w'.sink)
+    replay_write_fault = said.failed
+
+    unread_by : result ≡ exit.ReadFault → IsReadFault did.job
+    unread_by is = by did.job (said.read is)
+      where
+        by : (job : Result Script Fault) → (report_of (replay_report c) job did.answers).fault ≡ Some Read → IsReadFault job
+        by (Ok s) at = failed_by (1 + length s.events) s.stop at
+        by (Err fault) at = same_in_some at
+
+    pub replay_read_fault : result ≡ exit.ReadFault → Rose (i.state w.inputs).faults (i.state w'.inputs).faults
+    replay_read_fault is = did.asked.failed (unread_by is)
+
+    pub replay_read_cause : i.observable → result ≡ exit.ReadFault → MayFail name script_limit (i.state w.inputs)
+    replay_read_cause seen is = elim (did.asked.shown seen) [
+      | inl memory ↦ absurd (memory_is_read (subst IsReadFault memory (unread_by is)))
+      | inr script ↦ script_cause (i.state w.inputs) name (subst IsReadFault script (unread_by is))
+    ]
+
+    pub replay_memory : result ≡ exit.Memory → IsStarved o w.sink w'.sink
+    replay_memory is = by did.job did.left (said.memory is)
+      where
+        by : (job : Result Script Fault) → Leaves o (pieces (report_of (replay_report c) job did.answers)) did.cut w.sink w'.sink → (report_of (replay_report c) job did.answers).fault ≡ Some Memory → IsStarved o w.sink w'.sink
+        by (Ok s) left at = absurd (never_memory (1 + length s.events) s.stop at)
+        by (Err fault) left at = (did.cut, subst (λ (fault : Fault). Leaves o (fault_text fault ∷ []) did.cut w.sink w'.sink) (same_in_some at) left)
+
+    pub replay_decided : i.observable → EndsWith o (script_exit (script_in (i.state w.inputs) name)) w.sink w'.sink result
+    replay_decided seen = by did.job (did.asked.shown seen) said.ends
+      where
+        same : (job : Result Script Fault) → exit_after (report_of (replay_report c) job did.answers).fault ≡ script_exit job
+        same (Ok s) = refl
+        same (Err fault) = refl
+
+        by : (job : Result Script Fault) → (job ≡ Err Memory) ⊎ (job ≡ script_in (i.state w.inputs) name) → EndsBy o (exit_after (report_of (replay_report c) job did.answers).fault) w.sink w'.sink result → EndsWith o (script_exit (script_in (i.state w.inputs) name)) w.sink w'.sink result
+        by job shown (inr broken) = inr (inr broken)
+        by job (inl memory) (inl ends) = inr (inl (ends ∙ same job ∙ ap script_exit memory))
+        by job (inr script) (inl ends) = inl (ends ∙ same job ∙ ap script_exit script)
 
   pub replay_safe : Replayed i o d c name w w' result → IsSafe d c.topology w.device w'.device
   replay_safe did = by did.job did.answers did.cut did.touched
@@ -234,7 +262,7 @@ module _ {I O D : Type 0} (i : Inputs.Ghosts I) (o : Sink.Ghosts O) (d : Device.
 
   -- ---- how a replay came about
 
-  pub replay_refused : (fault : Fault) → IsScriptOf i name w.inputs w'.inputs (Err fault) → Reports o.observable (refusal fault) (o.state w.sink) (o.state w'.sink) result → w.device ≡ w'.device → Replayed i o d c name w w' result
+  pub replay_refused : (fault : Fault) → IsScriptOf i name w.inputs w'.inputs (Err fault) → Reports o (refusal fault) w.sink w'.sink result → w.device ≡ w'.device → Replayed i o d c name w w' result
   replay_refused fault asked reports same = record { job = Err fault; answers = []; cut = reports.cut; asked = asked; left = reports.left; ends = reports.ends; touched = same }
 
   pub starved : IsScriptOf i name w.inputs w'.inputs (Err Memory)

@@ -1,38 +1,47 @@
 -- What comes after the lines of a script, and step 0 before them.
-use Rattle.std.proofs.Common.{◌≡◌, ℕ, ◌+◌, ◌<◌, ◌≤◌, Bool, true, List, [], ◌∷◌, ◌++◌, length, Option, Some, None, Ok, Err, if◌then◌else◌, suc, refl, sym, ◌∙◌, ap, subst, arith, take_all}
-use Rattle.std.specs.Prelude.{nat_lt}
+use Rattle.std.proofs.Common.{◌≡◌, ℕ, ◌+◌, ◌<◌, ◌≤◌, Bool, true, List, [], ◌∷◌, ◌++◌, length, Option, Some, None, Result, Ok, Err, if◌then◌else◌, suc, refl, sym, ◌∙◌, ap, subst, arith, take_all}
+use Rattle.std.specs.Prelude.{IfOk, nat_lt}
 use Rattle.std.specs.List.{concat}
 use Rattle.std.proofs.lemmas.Bool.Decides.{nat_tests}
 use Rattle.std.proofs.lemmas.List.{append_assoc, append-nil, length-append}
 use Rattle.std.proofs.lemmas.Option.{slice_get_within}
 use Rattle.pm_base.specs.declared.errors.Exit.{Exit}
 use Rattle.pm_base.specs.declared.errors.Exit.TheVariants.{WriteFault}
+use Rattle.pm_base.specs.declared.errors.NoMemory.{NoMemory}
 use Rattle.pm_base.specs.declared.events.Event.{Event}
 use Rattle.pm_base.specs.declared.prefix.StopReason.{StopReason}
 use Rattle.pm_base.specs.declared.prefix.StopReason.TheVariants as reason
 use Rattle.pm_base.specs.declared.sink.Sink as Sink
-use Rattle.pm_base.specs.Sink.{BreaksIn, Leaves, SinkMoment, Wrote}
+use Rattle.pm_base.specs.Prefix.{HasSize, Prefix}
+use Rattle.pm_base.specs.Sink.{Wrote}
+use Rattle.pm_base.specs.Writing.{BreaksIn, Leaves}
 use Rattle.pm_base.proofs.SinkLemmas.{Wrote-is}
+use Rattle.pm_object.specs.declared.object.Object.{Object}
+use Rattle.pm_topology.specs.declared.topology.Topology.{Topology}
 use Rattle.pm_device.specs.declared.device.Device as Device
 use Rattle.pm_device.specs.Act.{Act, Chain}
 use Rattle.pm_device.specs.Chains.{Chain-append}
+use Rattle.pm_core.specs.declared.outbox.Start.{Start}
 use Rattle.pm_core.specs.Load.{load_of}
+use Rattle.pm_core.specs.Outbox.{Holds}
 use Rattle.pm_core.specs.Run.{Setup, step_0, steps_of}
 use Rattle.pm_core.specs.State.{State}
 use Rattle.pm_core.specs.Step.{outputs_at_load}
 use Rattle.pm_apply.specs.Part.{Kept, Part, answers_in, orders_in, part_in, part_of}
 use Rattle.pm_apply.specs.Record.{at_zero}
-use Rattle.pm_script.specs.Script.{Script, Stop, stop_of}
+use Rattle.pm_script.specs.declared.meaning.LineFault.{LineFault}
+use Rattle.pm_script.specs.Script.{Script, Stop, script_limit, stop_of}
 use Rattle.pm_trace.specs.Closing.{closing_text}
 use Rattle.pm_trace.specs.declared.faults.Fault.{Fault}
 use Rattle.pm_trace.specs.declared.faults.Fault.TheVariants.{Line}
 use Rattle.pm_trace.specs.Faults.{exit_after}
 use Rattle.pm_trace.specs.Report.{Report, Reports, exit_of, fault_lines, pieces, refusal}
-use Rattle.pm_trace.specs.Step.{step_text as core_text}
+use Rattle.pm_trace.specs.Step.{core_text, step_text}
 use Rattle.pm_replay.specs.declared.lines.LineStop.TheVariants as lines
 use Rattle.pm_replay.specs.Drive.{Driven, acts, acts_of, drive, driven, last_book, last_kept}
 use Rattle.pm_replay.specs.Replay.{closing_where, fault_at, replay_report, texts, until}
 use Rattle.pm_replay.specs.Within.{Controls, IsLoaded, RanLines, RanRest, RanScript, Started, Went, closing_report, driven_from, report_from, setup_of}
+use Rattle.pm_replay.specs.Replayed.{setup}
 use Rattle.pm_replay.proofs.DriveLemmas.{until-cons}
 use Rattle.pm_replay.proofs.LeavesLemmas.{Leaves-append, Leaves-before, behind}
 
@@ -50,13 +59,14 @@ exit-after done r (Some k) =
     same : (m k n all : ℕ) → all ≡ m + n → nat_lt (m + k) all ≡ nat_lt k n
     same m k n all is = grind (arith, nat_tests)
 
-pub left-after : (shown : Type 0) (done : List (List ℕ)) (r : Report) (cut : Option ℕ) (first mid last : SinkMoment) → Wrote shown (concat done) first mid → Leaves shown (pieces r) cut mid last → Leaves shown (pieces (report_after done r)) (behind (length done) cut) first last
-left-after shown done r cut first mid last before after =
-    subst (λ (all : List (List ℕ)). Leaves shown all (behind (length done) cut) first last) (sym (append_assoc done r.body (fault_lines r.fault))) (Leaves-append shown done (pieces r) cut first mid last before after)
+module _ {O : Type 0} (o : Sink.Ghosts O) where
+  pub left-after : (done : List (List ℕ)) (r : Report) (cut : Option ℕ) (first mid last : O) → Wrote o.observable (concat done) (o.state first) (o.state mid) → Leaves o (pieces r) cut mid last → Leaves o (pieces (report_after done r)) (behind (length done) cut) first last
+  left-after done r cut first mid last before after =
+      subst (λ (all : List (List ℕ)). Leaves o all (behind (length done) cut) first last) (sym (append_assoc done r.body (fault_lines r.fault))) (Leaves-append o done (pieces r) cut first mid last before after)
 
--- the sink broke off within the closing table
-pub Reports-cut : (shown : Type 0) (table : List ℕ) (old new : SinkMoment) → BreaksIn shown 0 (table ∷ []) old new → Reports shown (record { body = table ∷ []; fault = None }) old new WriteFault
-Reports-cut shown table old new breaks = record { cut = Some 0; left = breaks; ends = refl }
+  -- the sink broke off within the closing table
+  pub Reports-cut : (table : List ℕ) (old new : O) → BreaksIn o 0 (table ∷ []) old new → Reports o (record { body = table ∷ []; fault = None }) old new WriteFault
+  Reports-cut table old new breaks = record { cut = Some 0; left = breaks; ends = refl }
 
 -- ---- what was driven before a cut that comes later
 
@@ -75,26 +85,52 @@ fault-anywhere m n reason.Limit = refl
 fault-anywhere m n reason.Failure = refl
 fault-anywhere m n reason.Unbegun = refl
 
+-- what is read of a script is short
+pub is_short : (p : Prefix) → HasSize script_limit p.stop (length p.bytes) → length p.bytes < 2147483648
+is_short p size = by p.stop size
+  where
+    by : (r : StopReason) → HasSize script_limit r (length p.bytes) → length p.bytes < 2147483648
+    by reason.End size = omega (arith, size)
+    by reason.Limit size = omega (arith, size)
+    by reason.Failure size = omega (arith, size)
+    by reason.Unbegun size = omega (arith, size)
+
+-- the book of an object at load, a device that took nothing yet, and what the load puts out
+is_loaded : (c : Controls) (object : Object) (topology : Topology) → c.book ≡ load_of object topology → c.kept ≡ at_zero topology → Holds (outputs_at_load c.book) c.outbox → IsLoaded c
+is_loaded c object topology book kept out = record {
+  book = subst (λ (b : State). b ≡ load_of b.fixed.object b.fixed.topology) (sym book) refl;
+  kept = kept ∙ ap (λ (b : State). at_zero b.fixed.topology) (sym book);
+  out = out;
+}
+
+pub loaded_by : (object : Object) (topology : Topology) (result : Result Controls NoMemory) → IfOk result (λ c. c.book ≡ load_of object topology) → IfOk result (λ c. c.kept ≡ at_zero topology) → IfOk result (λ c. Holds (outputs_at_load c.book) c.outbox) → IfOk result IsLoaded
+loaded_by object topology (Ok c) book kept out = is_loaded c object topology book kept out
+loaded_by object topology (Err error) book kept out = tt
+
+pub setup_by : (object : Object) (topology : Topology) (result : Result Controls NoMemory) → IfOk result (λ c. c.book ≡ load_of object topology) → IfOk result (λ c. setup_of c.book ≡ setup object topology)
+setup_by object topology (Ok c) book = ap setup_of book
+setup_by object topology (Err error) book = tt
+
 module _ {O D : Type 0} (o : Sink.Ghosts O) (d : Device.Ghosts D) where
   -- lines were all carried out or one is bad, and after a report was written
-  rest_by : (n : ℕ) (s : Script) (now : Controls) (old mid new : O) (from to : D) (exit : Exit) (answers : List (List Bool)) (cut : Option ℕ) (r : Report) → Went o d (texts n (driven_from now answers s.events)) (driven_from now answers s.events) cut old mid from to → cut ≡ None → Reports o.observable r (o.state mid) (o.state new) exit → report_from n now s answers ≡ report_after (texts n (driven_from now answers s.events)) r → RanRest o d n s now old new from to exit
+  rest_by : (n : ℕ) (s : Script) (now : Controls) (old mid new : O) (from to : D) (exit : Exit) (answers : List (List Bool)) (cut : Option ℕ) (r : Report) → Went o d (texts n (driven_from now answers s.events)) (driven_from now answers s.events) cut old mid from to → cut ≡ None → Reports o r mid new exit → report_from n now s answers ≡ report_after (texts n (driven_from now answers s.events)) r → RanRest o d n s now old new from to exit
   rest_by n s now old mid new from to exit answers cut r went whole reports is =
       let xs : List Driven = driven_from now answers s.events in
       let done : List (List ℕ) = texts n xs in
-      let wrote : Wrote o.observable (concat done) (o.state old) (o.state mid) = subst (λ (c : Option ℕ). Leaves o.observable done c (o.state old) (o.state mid)) whole went.left in
+      let wrote : Wrote o.observable (concat done) (o.state old) (o.state mid) = subst (λ (c : Option ℕ). Leaves o done c old mid) whole went.left in
       let given : Chain d.Does (acts xs) from to = subst (λ (c : Option ℕ). Chain d.Does (acts (until c xs)) from to) whole went.given in
       record {
         answers = answers;
         cut = behind (length done) reports.cut;
         went = record {
-          left = subst (λ (all : Report). Leaves o.observable (pieces all) (behind (length done) reports.cut) (o.state old) (o.state new)) (sym is) (left-after o.observable done r reports.cut (o.state old) (o.state mid) (o.state new) wrote reports.left);
+          left = subst (λ (all : Report). Leaves o (pieces all) (behind (length done) reports.cut) old new) (sym is) (left-after o done r reports.cut old mid new wrote reports.left);
           given = subst (λ (ys : List Driven). Chain d.Does (acts ys) from to) (sym (until-past (length done) reports.cut xs (omega (arith, length-texts n xs)))) given;
         };
         ends = reports.ends ∙ sym (exit-after done r reports.cut) ∙ ap (λ (all : Report). exit_of all (behind (length done) reports.cut)) (sym is);
       }
 
   -- lines were carried out, and what comes after them was written
-  pub RanRest-closed : (n : ℕ) (s : Script) (r : StopReason) (now after : Controls) (old mid new : O) (from to : D) (exit : Exit) → RanLines o d n s (stop_of r) now after old mid from to (Ok tt) → Reports o.observable (closing_report (stop_of r) after.book after.kept) (o.state mid) (o.state new) exit → RanRest o d n s now old new from to exit
+  pub RanRest-closed : (n : ℕ) (s : Script) (r : StopReason) (now after : Controls) (old mid new : O) (from to : D) (exit : Exit) → RanLines o d n s (stop_of r) now after old mid from to (Ok tt) → Reports o (closing_report (stop_of r) after.book after.kept) mid new exit → RanRest o d n s now old new from to exit
   RanRest-closed n s r now after old mid new from to exit ran reports =
       let xs : List Driven = driven_from now ran.answers s.events in
       let number : ℕ = n + length s.events in
@@ -111,15 +147,15 @@ module _ {O D : Type 0} (o : Sink.Ghosts O) (d : Device.Ghosts D) where
       rest_by n s now old mid new from to exit ran.answers ran.cut (closing_report (stop_of r) after.book after.kept) ran.went whole reports is
 
   -- a line has no meaning, and the line of that fault was written
-  pub RanRest-bad : (n m : ℕ) (s : Script) (stop : Stop) (now after : Controls) (old mid new : O) (from to : D) (exit : Exit) → RanLines o d n s stop now after old mid from to (Err (lines.Bad m)) → Reports o.observable (refusal (Line m)) (o.state mid) (o.state new) exit → RanRest o d n s now old new from to exit
-  RanRest-bad n m s stop now after old mid new from to exit ran reports =
+  pub RanRest-bad : (n m : ℕ) (cause : LineFault) (s : Script) (stop : Stop) (now after : Controls) (old mid new : O) (from to : D) (exit : Exit) → RanLines o d n s stop now after old mid from to (Err (lines.Bad m cause)) → Reports o (refusal (Line m cause)) mid new exit → RanRest o d n s now old new from to exit
+  RanRest-bad n m cause s stop now after old mid new from to exit ran reports =
       let xs : List Driven = driven_from now ran.answers s.events in
       let table : List ℕ = closing_text (last_book now.book xs) (last_kept now.kept xs) in
-      let is : report_from n now s ran.answers ≡ report_after (texts n xs) (refusal (Line m)) =
-      ap (λ (stop : Stop). record { body = texts n xs ++ closing_where stop table; fault = fault_at (n + length s.events) stop }) ran.ends.2
-      ∙ ap (λ (number : ℕ). record { body = texts n xs ++ []; fault = Some (Line number) }) (sym ran.ends.3)
+      let is : report_from n now s ran.answers ≡ report_after (texts n xs) (refusal (Line m cause)) =
+      ap (λ (stop : Stop). record { body = texts n xs ++ closing_where stop table; fault = fault_at (n + length s.events) stop }) ran.ends.1
+      ∙ ap (λ (number : ℕ). record { body = texts n xs ++ []; fault = Some (Line number cause) }) (sym ran.ends.2)
       in
-      rest_by n s now old mid new from to exit ran.answers ran.cut (refusal (Line m)) ran.went ran.ends.0 reports is
+      rest_by n s now old mid new from to exit ran.answers ran.cut (refusal (Line m cause)) ran.went ran.ends.0 reports is
 
   -- the sink broke off within the lines
   pub RanRest-broken : (n : ℕ) (s : Script) (stop : Stop) (now after : Controls) (old new : O) (from to : D) → RanLines o d n s stop now after old new from to (Err lines.Sink) → RanRest o d n s now old new from to WriteFault
@@ -128,13 +164,13 @@ module _ {O D : Type 0} (o : Sink.Ghosts O) (d : Device.Ghosts D) where
       let r : Report = report_from n now s ran.answers in
       let k : ℕ = ran.ends.0 in
       let tail : List (List ℕ) = closing_where s.stop (closing_text (last_book now.book xs) (last_kept now.kept xs)) in
-      let breaks : BreaksIn o.observable k (texts n xs) (o.state old) (o.state new) = subst (λ (c : Option ℕ). Leaves o.observable (texts n xs) c (o.state old) (o.state new)) ran.ends.1 ran.went.left in
+      let breaks : BreaksIn o k (texts n xs) old new = subst (λ (c : Option ℕ). Leaves o (texts n xs) c old new) ran.ends.1 ran.went.left in
       let within : k < length (texts n xs) = slice_get_within (texts n xs) k breaks.piece breaks.is in
       record {
         answers = ran.answers;
         cut = Some k;
         went = record {
-          left = Leaves-before o.observable (texts n xs ++ tail) (fault_lines r.fault) k (o.state old) (o.state new) (Leaves-before o.observable (texts n xs) tail k (o.state old) (o.state new) breaks);
+          left = Leaves-before o (texts n xs ++ tail) (fault_lines r.fault) k old new (Leaves-before o (texts n xs) tail k old new breaks);
           given = subst (λ (c : Option ℕ). Chain d.Does (acts (until c xs)) from to) ran.ends.1 ran.went.given;
         };
         ends = ap (λ (b : Bool). if b then WriteFault else exit_after r.fault) (sym (inside k (length (texts n xs)) (length tail) (length (texts n xs ++ tail)) within (length-append (texts n xs) tail)));
@@ -164,24 +200,25 @@ module _ {O D : Type 0} (o : Sink.Ghosts O) (d : Device.Ghosts D) where
       ∙ ap (λ (b : State). first_step c events Q ∷ drive after.kept later (steps_of events (record { book = b }))) (sym loaded.book ∙ sym started.book)
 
   -- the report of a script is that of its lines behind the text of step 0
-  report_first : (now after : Controls) (s : Script) (later : List (List Bool)) (from to : D) → IsLoaded now → Started o d now after from to → replay_report (setup_of now.book) s (answers_in after.outbox ∷ later) ≡ report_after (core_text 0 after.outbox.done.items after.outbox.answer ∷ []) (report_from 1 after s later)
+  report_first : (now after : Controls) (s : Script) (later : List (List Bool)) (from to : D) → IsLoaded now → Started o d now after from to → replay_report (setup_of now.book) s (answers_in after.outbox ∷ later) ≡ report_after (step_text 0 after.outbox.done.items after.outbox.starts.items after.outbox.answer ∷ []) (report_from 1 after s later)
   report_first now after s later from to loaded started =
       let c : Setup = setup_of now.book in
       let load : State = load_of c.object c.topology in
       let Q : Part = part_in after.kept after.outbox in
       let ys : List Driven = driven_from after later s.events in
       ap (λ (xs : List Driven). record { body = texts 0 xs ++ closing_where s.stop (closing_text (last_book load xs) (last_kept (at_zero c.topology) xs)); fault = fault_at (1 + length s.events) s.stop }) (driven_first now after s.events later from to loaded started)
-      ∙ ap (λ (text : List ℕ). record { body = text ∷ (texts 1 ys ++ closing_where s.stop (closing_text (last_book load ys) (last_kept after.kept ys))); fault = fault_at (1 + length s.events) s.stop }) (append-nil (core_text 0 Q.commands Q.answer))
-      ∙ ap (λ (b : State). record { body = core_text 0 Q.commands Q.answer ∷ (texts 1 ys ++ closing_where s.stop (closing_text (last_book b ys) (last_kept after.kept ys))); fault = fault_at (1 + length s.events) s.stop }) (sym loaded.book ∙ sym started.book)
+      ∙ ap (λ (text : List ℕ). record { body = text ∷ (texts 1 ys ++ closing_where s.stop (closing_text (last_book load ys) (last_kept after.kept ys))); fault = fault_at (1 + length s.events) s.stop }) (append-nil (core_text 0 (outputs_at_load load) Q))
+      ∙ ap (λ (b : State). record { body = core_text 0 (outputs_at_load load) Q ∷ (texts 1 ys ++ closing_where s.stop (closing_text (last_book b ys) (last_kept after.kept ys))); fault = fault_at (1 + length s.events) s.stop }) (sym loaded.book ∙ sym started.book)
+      ∙ ap (λ (starts : List Start). record { body = step_text 0 Q.commands starts Q.answer ∷ (texts 1 ys ++ closing_where s.stop (closing_text (last_book after.book ys) (last_kept after.kept ys))); fault = fault_at (1 + length s.events) s.stop }) (ap (λ (b : State). (outputs_at_load b).starts) (sym loaded.book) ∙ sym started.starts)
 
   acts_first : (now after : Controls) (events : List Event) → acts_of (first_step (setup_of now.book) events (part_in after.kept after.outbox)) ≡ orders_in after.outbox
   acts_first now after events = append-nil (orders_in after.outbox)
 
   -- step 0 was written, and after the rest of the script was run
-  pub RanScript-first : (s : Script) (now after : Controls) (old mid new : O) (from via to : D) (exit : Exit) → IsLoaded now → Started o d now after from via → Wrote o.observable (core_text 0 after.outbox.done.items after.outbox.answer) (o.state old) (o.state mid) → RanRest o d 1 s after mid new via to exit → RanScript o d (setup_of now.book) s old new from to exit
+  pub RanScript-first : (s : Script) (now after : Controls) (old mid new : O) (from via to : D) (exit : Exit) → IsLoaded now → Started o d now after from via → Wrote o.observable (step_text 0 after.outbox.done.items after.outbox.starts.items after.outbox.answer) (o.state old) (o.state mid) → RanRest o d 1 s after mid new via to exit → RanScript o d (setup_of now.book) s old new from to exit
   RanScript-first s now after old mid new from via to exit loaded started wrote rest =
       let c : Setup = setup_of now.book in
-      let first : List ℕ = core_text 0 after.outbox.done.items after.outbox.answer in
+      let first : List ℕ = step_text 0 after.outbox.done.items after.outbox.starts.items after.outbox.answer in
       let x : Driven = first_step c s.events (part_in after.kept after.outbox) in
       let ys : List Driven = driven_from after rest.answers s.events in
       let is = report_first now after s rest.answers from via loaded started in
@@ -191,7 +228,7 @@ module _ {O D : Type 0} (o : Sink.Ghosts O) (d : Device.Ghosts D) where
         answers = answers_in after.outbox ∷ rest.answers;
         cut = behind 1 rest.cut;
         went = record {
-          left = subst (λ (r : Report). Leaves o.observable (pieces r) (behind 1 rest.cut) (o.state old) (o.state new)) (sym is) (left-after o.observable (first ∷ []) (report_from 1 after s rest.answers) rest.cut (o.state old) (o.state mid) (o.state new) one rest.went.left);
+          left = subst (λ (r : Report). Leaves o (pieces r) (behind 1 rest.cut) old new) (sym is) (left-after o (first ∷ []) (report_from 1 after s rest.answers) rest.cut old mid new one rest.went.left);
           given =
               let step : Chain d.Does (acts_of x) from via = subst (λ (done : List Act). Chain d.Does done from via) (sym (acts_first now after s.events)) started.given in
               let whole = Chain-append d.Does (acts_of x) (acts (until rest.cut ys)) from via to step rest.went.given in
@@ -202,10 +239,10 @@ module _ {O D : Type 0} (o : Sink.Ghosts O) (d : Device.Ghosts D) where
       }
 
   -- the sink broke off within the text of step 0
-  pub RanScript-cut : (s : Script) (now after : Controls) (old new : O) (from to : D) → IsLoaded now → Started o d now after from to → BreaksIn o.observable 0 (core_text 0 after.outbox.done.items after.outbox.answer ∷ []) (o.state old) (o.state new) → RanScript o d (setup_of now.book) s old new from to WriteFault
+  pub RanScript-cut : (s : Script) (now after : Controls) (old new : O) (from to : D) → IsLoaded now → Started o d now after from to → BreaksIn o 0 (step_text 0 after.outbox.done.items after.outbox.starts.items after.outbox.answer ∷ []) old new → RanScript o d (setup_of now.book) s old new from to WriteFault
   RanScript-cut s now after old new from to loaded started breaks =
       let c : Setup = setup_of now.book in
-      let first : List ℕ = core_text 0 after.outbox.done.items after.outbox.answer in
+      let first : List ℕ = step_text 0 after.outbox.done.items after.outbox.starts.items after.outbox.answer in
       let rest : Report = report_from 1 after s [] in
       let x : Driven = first_step c s.events (part_in after.kept after.outbox) in
       let ys : List Driven = driven_from after [] s.events in
@@ -215,7 +252,7 @@ module _ {O D : Type 0} (o : Sink.Ghosts O) (d : Device.Ghosts D) where
         answers = answers_in after.outbox ∷ [];
         cut = Some 0;
         went = record {
-          left = subst (λ (r : Report). Leaves o.observable (pieces r) (Some 0) (o.state old) (o.state new)) (sym is) (Leaves-before o.observable (first ∷ []) (rest.body ++ fault_lines rest.fault) 0 (o.state old) (o.state new) breaks);
+          left = subst (λ (r : Report). Leaves o (pieces r) (Some 0) old new) (sym is) (Leaves-before o (first ∷ []) (rest.body ++ fault_lines rest.fault) 0 old new breaks);
           given =
               let step : Chain d.Does (acts (x ∷ [])) from to = subst (λ (done : List Act). Chain d.Does done from to) (sym (append-nil (acts_of x) ∙ acts_first now after s.events)) started.given in
               subst (λ (xs : List Driven). Chain d.Does (acts (until (Some 0) xs)) from to) (sym xs_are) step;

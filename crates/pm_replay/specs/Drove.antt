@@ -1,7 +1,7 @@
 -- What a device was given and where it stands, once it was driven through some steps of a run.
 use Rattle.std.specs.Prelude.{◌≡◌, ◌⊎◌, true, List, [], ◌∷◌, map, ⊤}
 use Rattle.pm_base.specs.Faults.{Rose}
-use Rattle.pm_base.specs.declared.names.Unit.{Unit as Place}
+use Rattle.pm_base.specs.declared.names.Unit.{Unit}
 use Rattle.pm_topology.specs.declared.topology.Topology.{Topology}
 use Rattle.pm_topology.specs.Units.{has_unit}
 use Rattle.pm_device.specs.declared.device.Device as Device
@@ -33,7 +33,7 @@ AreExplained t (x ∷ xs) = CoresExplained t x.step.cores x.parts × AreExplaine
 -- the values are the book's, and so what its requirements ask for: each slave stands in the first of its states that meets
 -- all requirements in force, and each power domain is up exactly where it is held or something directly below needs it
 pub record Follows (book : State) (device : DeviceMoment) : Type 0 where
-  pub values : (unit : Place) → has_unit book.fixed.topology unit ≡ true → device.value unit ≡ value unit book
+  pub values : (unit : Unit) → has_unit book.fixed.topology unit ≡ true → device.value unit ≡ value unit book
   pub met : MeetsRequirements book device.value
 
 module _ {D : Type 0} (d : Device.Ghosts D) where

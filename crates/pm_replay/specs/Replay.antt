@@ -9,7 +9,7 @@ use Rattle.pm_script.specs.Script.{Script, Stop}
 use Rattle.pm_script.specs.Script.Stop.{End, Bad, Past, Failed}
 use Rattle.pm_trace.specs.declared.faults.Fault.{Fault}
 use Rattle.pm_trace.specs.declared.faults.Fault.TheVariants.{Line, Size, Read}
-use Rattle.pm_trace.specs.Step.{step_text as core_text}
+use Rattle.pm_trace.specs.Step.{core_text}
 use Rattle.pm_trace.specs.Closing.{closing_text}
 use Rattle.pm_trace.specs.Report.{Report}
 use Rattle.pm_replay.specs.Drive.{Driven, driven, last_book, last_kept}
@@ -21,7 +21,7 @@ use Rattle.pm_replay.specs.Drove.{Drove}
 abbrev pub cores_text : ℕ → List Core → List Part → List ℕ
 cores_text n [] parts = []
 cores_text n (c ∷ cores) [] = []
-cores_text n (c ∷ cores) (part ∷ parts) = core_text n part.commands part.answer ++ cores_text n cores parts
+cores_text n (c ∷ cores) (part ∷ parts) = core_text n c.outputs part ++ cores_text n cores parts
 
 abbrev pub driven_text : ℕ → Driven → List ℕ
 driven_text n x = cores_text n x.step.cores x.parts
@@ -45,7 +45,7 @@ closing_where Failed table = []
 -- why the run of a script stops: at the first bad line, past the limit, or where the script can't be read on
 abbrev pub fault_at : ℕ → Stop → Option Fault
 fault_at n End = None
-fault_at n (Bad cause) = Some (Line n)
+fault_at n (Bad cause) = Some (Line n cause)
 fault_at n Past = Some Size
 fault_at n Failed = Some Read
 

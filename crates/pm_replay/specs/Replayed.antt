@@ -1,5 +1,5 @@
 -- What a replay of a named script did, on every exit, and what each exit means.
-use Rattle.std.specs.Prelude.{◌≡◌, ℕ, ◌⊎◌, Bool, List, [], ◌∷◌, ◌++◌, map, Option, Some, None, Result, Ok, Err, IsSomeAnd, OnErr}
+use Rattle.std.specs.Prelude.{◌≡◌, ℕ, ◌+◌, ◌⊎◌, Bool, List, [], ◌∷◌, ◌++◌, length, map, Option, Some, None, Result, Ok, Err, IsSomeAnd, OnErr}
 use Rattle.std.specs.List.{concat}
 use Rattle.pm_base.specs.declared.errors.Exit.{Exit}
 use Rattle.pm_base.specs.declared.events.Event.{Event}
@@ -18,10 +18,11 @@ use Rattle.pm_script.specs.Script.{Script, script_limit, script_of}
 use Rattle.pm_script.specs.Script.Stop.{Failed}
 use Rattle.pm_trace.specs.declared.faults.Fault.{Fault}
 use Rattle.pm_trace.specs.declared.faults.Fault.TheVariants.{Memory, Read}
+use Rattle.pm_trace.specs.Faults.{exit_after}
 use Rattle.pm_trace.specs.Report.{Did}
 use Rattle.pm_replay.specs.Drive.{driven}
 use Rattle.pm_replay.specs.Drove.{Drove}
-use Rattle.pm_replay.specs.Replay.{Touched, closing_after, replay_report, texts}
+use Rattle.pm_replay.specs.Replay.{Touched, closing_after, fault_at, replay_report, texts}
 use Rattle.pm_replay.specs.World.{World}
 
 abbrev pub setup : Object → Topology → Setup
@@ -39,6 +40,11 @@ script_in m name = script_or_fault (script_of (prefix_of script_limit (m.file na
 abbrev pub IsReadFault : Result Script Fault → Type 0
 IsReadFault (Ok s) = s.stop ≡ Failed
 IsReadFault (Err fault) = fault ≡ Read
+
+-- the exit of a script: that of the fault at which its run stops or for which it is refused, or Done
+abbrev pub script_exit : Result Script Fault → Exit
+script_exit (Ok s) = exit_after (fault_at (1 + length s.events) s.stop)
+script_exit (Err fault) = exit_after (Some fault)
 
 module _ {I : Type 0} (i : Inputs.Ghosts I) where
   -- the script is the one that is read under the name, unless memory is wanted. Where it can't be read the count rose

@@ -5,7 +5,8 @@ use Rattle.pm_base.specs.declared.errors.Exit.{Exit}
 use Rattle.pm_base.specs.declared.errors.Failed.{Failed}
 use Rattle.pm_base.specs.declared.events.Event.{Event}
 use Rattle.pm_base.specs.declared.sink.Sink as Sink
-use Rattle.pm_base.specs.Sink.{BreaksIn, Leaves, SinkMoment, Wrote}
+use Rattle.pm_base.specs.Sink.{Wrote}
+use Rattle.pm_base.specs.Writing.{BreaksIn, Leaves}
 use Rattle.pm_device.specs.declared.device.Device as Device
 use Rattle.pm_device.specs.Act.{Chain}
 use Rattle.pm_core.specs.declared.outbox.Outbox.{Outbox}
@@ -16,12 +17,11 @@ use Rattle.pm_core.specs.State.{State}
 use Rattle.pm_core.specs.Step.{effect, outputs, outputs_at_load}
 use Rattle.pm_apply.specs.Part.{Kept, answers_in, orders_in, part_in, part_of}
 use Rattle.pm_apply.specs.Record.{at_zero}
-use Rattle.pm_script.specs.declared.meaning.LineFault.{LineFault}
 use Rattle.pm_script.specs.Script.{Script, Stop}
 use Rattle.pm_script.specs.Script.Stop.{Bad}
 use Rattle.pm_trace.specs.Closing.{closing_text}
 use Rattle.pm_trace.specs.Report.{Report, exit_of, pieces}
-use Rattle.pm_trace.specs.Step.{step_text as core_text}
+use Rattle.pm_trace.specs.Step.{step_text}
 use Rattle.pm_replay.specs.declared.lines.LineStop.{LineStop}
 use Rattle.pm_replay.specs.declared.lines.LineStop.TheVariants as lines
 use Rattle.pm_replay.specs.Drive.{Driven, acts, drive, driven, last_book, last_kept}
@@ -43,11 +43,6 @@ pub record IsLoaded (c : Controls) : Type 0 where
   pub kept : c.kept ≡ at_zero c.book.fixed.topology
   pub out : Holds (outputs_at_load c.book) c.outbox
 
--- a piece was written, by the result
-abbrev pub Writes : Type 0 → List ℕ → SinkMoment → SinkMoment → Result ⊤ Failed → Type 0
-Writes shown piece old new (Ok nothing) = Wrote shown piece old new
-Writes shown piece old new (Err error) = BreaksIn shown 0 (piece ∷ []) old new
-
 -- the events of lines, driven from where a run stands
 abbrev pub driven_from : Controls → List (List Bool) → List Event → List Driven
 driven_from c answers events = drive c.kept answers (steps_of events (record { book = c.book }))
@@ -68,33 +63,40 @@ report_from n c s answers = record {
 abbrev pub LinesEnd : ℕ → Script → Stop → Controls → List Driven → Option ℕ → Controls → Result ⊤ LineStop → Type 0
 LinesEnd n s stop now xs cut then (Ok nothing) =
     (cut ≡ None) × (s.stop ≡ stop) × (then.book ≡ last_book now.book xs) × (then.kept ≡ last_kept now.kept xs)
-LinesEnd n s stop now xs cut then (Err (lines.Bad m)) =
-    (cut ≡ None) × (cause : LineFault) × (s.stop ≡ Bad cause) × (m ≡ n + length s.events)
+LinesEnd n s stop now xs cut then (Err (lines.Bad m cause)) = (cut ≡ None) × (s.stop ≡ Bad cause) × (m ≡ n + length s.events)
 LinesEnd n s stop now xs cut then (Err lines.Sink) = (k : ℕ) × (cut ≡ Some k)
+
+-- a piece was written, by the result
+module _ {O : Type 0} (o : Sink.Ghosts O) where
+  abbrev pub Writes : List ℕ → O → O → Result ⊤ Failed → Type 0
+  Writes piece old new (Ok nothing) = Wrote o.observable piece (o.state old) (o.state new)
+  Writes piece old new (Err error) = BreaksIn o 0 (piece ∷ []) old new
 
 module _ {O D : Type 0} (o : Sink.Ghosts O) (d : Device.Ghosts D) where
   -- these pieces were written up to a cut, and the device was driven through the steps up to it
   pub record Went (all : List (List ℕ)) (xs : List Driven) (cut : Option ℕ) (old new : O) (from to : D) : Type 0 where
-    pub left : Leaves o.observable all cut (o.state old) (o.state new)
+    pub left : Leaves o all cut old new
     pub given : Chain d.Does (acts (until cut xs)) from to
 
   -- the text of a line was written, by the result of the line
   abbrev pub LineWrites : List ℕ → O → O → Result ⊤ LineStop → Type 0
   LineWrites text old new (Ok nothing) = Wrote o.observable text (o.state old) (o.state new)
-  LineWrites text old new (Err (lines.Bad n)) = ⊥
-  LineWrites text old new (Err lines.Sink) = BreaksIn o.observable 0 (text ∷ []) (o.state old) (o.state new)
+  LineWrites text old new (Err (lines.Bad n cause)) = ⊥
+  LineWrites text old new (Err lines.Sink) = BreaksIn o 0 (text ∷ []) old new
 
   -- an event was carried out, the device was made to follow it, and the text of its step was written
   pub record RanEvent (n : ℕ) (event : Event) (now then : Controls) (old new : O) (from to : D) (result : Result ⊤ LineStop) : Type 0 where
     pub book : then.book ≡ effect event now.book
     pub part : part_in then.kept then.outbox ≡ part_of now.kept (answers_in then.outbox) then.book (outputs event now.book)
+    pub starts : then.outbox.starts.items ≡ (outputs event now.book).starts
     pub given : Chain d.Does (orders_in then.outbox) from to
-    pub writes : LineWrites (core_text n then.outbox.done.items then.outbox.answer) old new result
+    pub writes : LineWrites (step_text n then.outbox.done.items then.outbox.starts.items then.outbox.answer) old new result
 
   -- the device was made to follow the book at load
   pub record Started (now then : Controls) (from to : D) : Type 0 where
     pub book : then.book ≡ now.book
     pub part : part_in then.kept then.outbox ≡ part_of now.kept (answers_in then.outbox) now.book (outputs_at_load now.book)
+    pub starts : then.outbox.starts.items ≡ (outputs_at_load now.book).starts
     pub given : Chain d.Does (orders_in then.outbox) from to
 
   -- the lines of a script were run up to the first one that has no meaning. The first of them has number n

@@ -85,6 +85,7 @@ impl Controller {
         ensures book { self.new.book ≡ self.old.book }
         ensures part { part_in self.new.kept self.new.outbox
             ≡ part_of self.old.kept (answers_in self.new.outbox) self.old.book (outputs_at_load self.old.book) }
+        ensures starts { self.new.outbox.starts.items ≡ (outputs_at_load self.old.book).starts }
         ensures given { Chain D.Does (orders_in self.new.outbox) dev.old dev.new }
     {
         carry(dev, &mut self.kept, &self.book, &mut self.outbox);
@@ -95,6 +96,7 @@ impl Controller {
         ensures book { self.new.book ≡ effect event.now self.old.book }
         ensures part { part_in self.new.kept self.new.outbox
             ≡ part_of self.old.kept (answers_in self.new.outbox) self.new.book (outputs event.now self.old.book) }
+        ensures starts { self.new.outbox.starts.items ≡ (outputs event.now self.old.book).starts }
         ensures given { Chain D.Does (orders_in self.new.outbox) dev.old dev.new }
     {
         self.book.step(event, &mut self.outbox);

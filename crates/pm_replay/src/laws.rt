@@ -2,7 +2,7 @@
 
 ghost use Rattle.std.specs.Prelude.{◌≡◌, ℕ, Bool, List, Option};
 ghost use Rattle.pm_base.specs.declared.events.Event.{Event};
-ghost use Rattle.pm_base.specs.declared.names.Unit.{Unit as Place};
+ghost use Rattle.pm_base.specs.declared.names.Unit.{Unit};
 ghost use Rattle.pm_base.specs.Prefix.{IsUnread, Prefix};
 ghost use Rattle.pm_topology.specs.WellFormed.{IsWellFormed};
 ghost use Rattle.pm_device.specs.Act.{Chain};
@@ -16,6 +16,7 @@ ghost use Rattle.pm_script.specs.Script.{script_of};
 use pm_apply::{a_part_without_refusal, at_zero_is_a_record, each_part_is_safe, orders_join};
 use pm_core::books_of_a_run;
 use pm_device::{Device, acts_append, chain_shows, none_is_refused};
+use pm_topology::kinds_are_exact;
 
 /// A device that stood at 0 everywhere and was given the commands of the first steps of a run, in
 /// their order and with its answers, was driven through these steps: they are ordered whatever it
@@ -23,7 +24,7 @@ use pm_device::{Device, acts_append, chain_shows, none_is_refused};
 pub fn driven_follows<D: Device>()
     ensures { (c : Setup) (events : List Event) (answers : List (List Bool)) (cut : Option ℕ) (old new : D)
         → IsWellFormed c.topology
-        → (D.values_observable → (unit : Place) → (D.state old).value unit ≡ 0)
+        → (D.values_observable → (unit : Unit) → (D.state old).value unit ≡ 0)
         → Chain D.Does (acts (until cut (driven c answers events))) old new
         → Drove D.Device c (until cut (driven c answers events)) old new }
 {
@@ -35,6 +36,7 @@ pub fn driven_follows<D: Device>()
     orders_join();
     at_zero_is_a_record();
     books_of_a_run();
+    kinds_are_exact();
 }
 
 /// A script can't be begun or read on only where what was read of it broke off by a failure.

@@ -8,13 +8,13 @@ use crate::controller::Controller;
 use crate::writing::write_step;
 use pm_base::{Event, Failed, Prefix, Sink};
 use pm_device::Device;
-use pm_script::{ending_of, next_event};
+use pm_script::{LineFault, ending_of, next_event};
 
 /// What stops the lines of a run.
 #[derive(Clone, Copy, Debug, PartialEq, Eq)]
 pub enum LineStop {
-    /// The line of this number, counted from 1, has no meaning.
-    Bad(u32),
+    /// The line of this number, counted from 1, has no meaning: its first fault.
+    Bad(u32, LineFault),
     /// The sink failed.
     Sink,
 }
@@ -35,11 +35,13 @@ pub(crate) fn run_lines<O: Sink, D: Device>(
     let mut number = 0;
     while let Some(turn) = next_event(left, ending) {
         number += 1;
-        let Ok((event, after)) = turn else {
-            return Err(LineStop::Bad(number));
-        };
-        run_event(number, &event, controller, out, dev)?;
-        left = after;
+        match turn {
+            Ok((event, after)) => {
+                run_event(number, &event, controller, out, dev)?;
+                left = after;
+            }
+            Err(cause) => return Err(LineStop::Bad(number, cause)),
+        }
     }
     Ok(())
 }

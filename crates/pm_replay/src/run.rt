@@ -1,14 +1,18 @@
 //! A script is run over a configuration object and a device.
 
-ghost use Rattle.std.specs.Prelude.{◌≡◌, ◌≢◌, ◌<◌, ◌^◌, length};
-ghost use Rattle.pm_base.specs.declared.names.Unit.{Unit as Place};
+ghost use Rattle.std.specs.Prelude.{◌≡◌, ◌≢◌, ◌<◌, ◌^◌, IfOk, length};
+ghost use Rattle.pm_base.specs.declared.names.Unit.{Unit};
+ghost use Rattle.pm_base.specs.Faults.{Rose};
+ghost use Rattle.pm_base.specs.Inputs.{MayFail};
+ghost use Rattle.pm_base.specs.Sink.{HasFailed, IsUnfailed};
 ghost use Rattle.pm_base.specs.declared.prefix.StopReason.TheVariants.{Unbegun};
-ghost use Rattle.pm_script.specs.Script.{script_lines, script_from, stop_of};
+ghost use Rattle.pm_script.specs.Script.{script_limit, script_lines, script_from, stop_of};
 ghost use Rattle.pm_topology.specs.Masters.{ObeysMasterRules};
 ghost use Rattle.pm_topology.specs.WellFormed.{IsWellFormed};
 ghost use Rattle.pm_replay.specs.Within.{IsLoaded, RanRest, RanScript, closing_report, setup_of};
+ghost use Rattle.pm_trace.specs.Exits.{EndsWith, IsStarved};
 ghost use Rattle.pm_trace.specs.Report.{Reports};
-ghost use Rattle.pm_replay.specs.Replayed.{IsRun, Replayed, setup};
+ghost use Rattle.pm_replay.specs.Replayed.{IsRun, Replayed, script_exit, script_in, setup};
 ghost use Rattle.pm_replay.specs.Safe.{IsSafe};
 ghost use Rattle.pm_replay.specs.World.{world};
 
@@ -16,12 +20,12 @@ use crate::controller::Controller;
 use crate::laws::driven_follows;
 use crate::lines::{LineStop, run_lines};
 use crate::writing::{write_closing, write_step};
-use pm_base::{Exit, Failed, Inputs, Prefix, Sink, StopReason, gather};
+use pm_base::{Exit, Failed, Inputs, NoMemory, Prefix, Sink, StopReason, gather};
 use pm_device::Device;
 use pm_object::Object;
 use pm_script::SCRIPT_LIMIT;
 use pm_topology::Topology;
-use pm_trace::{Fault, refuse};
+use pm_trace::{Fault, exits_say, refuse};
 use std::alloc::Global;
 
 /// Runs the named script over an object and a device. Step 0 makes the device follow the book at
@@ -41,21 +45,84 @@ pub fn replay<I: Inputs, O: Sink, D: Device>(
 ) -> Exit
     requires formed { IsWellFormed topology }
     requires masters { ObeysMasterRules topology }
-    requires idle { D.values_observable → (unit : Place) → (D.state dev.old).value unit ≡ 0 }
+    requires idle { D.values_observable → (unit : Unit) → (D.state dev.old).value unit ≡ 0 }
     // On Done the input held a script under the name, the whole text of its run was written, and the
     // device was driven through that run.
     ensures done { I.observable → O.observable → result ≡ Exit.Done
         → IsRun I.Inputs O.Sink D.Device (setup object topology) script.now
         (world inputs.old out.old dev.old) (world inputs.new out.new dev.new) }
+    // What the input holds decides the exit, unless memory is wanted or the sink fails.
+    ensures decided { I.observable
+        → EndsWith O.Sink (script_exit (script_in (I.state inputs.old) script.now)) out.old out.new result }
     // On every exit: nothing was used without power, and no domain went down under its users.
     ensures safe { IsSafe D.Device topology dev.old dev.new }
     // On every exit: what was asked for, what was written of it, and what was done to the device.
     ensures ran { Replayed I.Inputs O.Sink D.Device (setup object topology) script.now
         (world inputs.old out.old dev.old) (world inputs.new out.new dev.new) result }
+    // On Memory nothing was written but the fault line, as far as the sink took it.
+    ensures memory { result ≡ Exit.Memory → IsStarved O.Sink out.old out.new }
+    // ReadFault comes only where the inputs' count of faults rose.
+    ensures read_fault { result ≡ Exit.ReadFault → Rose (I.state inputs.old).faults (I.state inputs.new).faults }
+    // Where the inputs are observable, ReadFault comes only where the name isn't there, has a failing byte
+    // within the limit, or no more inputs can be begun.
+    ensures read_cause { I.observable → result ≡ Exit.ReadFault
+        → MayFail script.now script_limit (I.state inputs.old) }
+    // WriteFault comes only where a write failed, or took 0 of a piece that isn't empty.
+    ensures write_fault { result ≡ Exit.WriteFault → HasFailed (O.state out.old) (O.state out.new) }
+    // Done comes only where no write failed, and none took 0 of a piece that isn't empty.
+    ensures unfailed { result ≡ Exit.Done → IsUnfailed (O.state out.old) (O.state out.new) }
 {
-    let Ok(mut controller) = Controller::load(alloc, object, topology) else {
+    exits_say::<O>();
+    run_named(alloc, object, topology, inputs, script, out, dev)
+}
+
+/// Runs the named script from the load of the object, where it can be read.
+fn run_named<I: Inputs, O: Sink, D: Device>(
+    alloc: Global,
+    object: Object,
+    topology: Topology,
+    inputs: &mut I,
+    script: &str,
+    out: &mut O,
+    dev: &mut D,
+) -> Exit
+    requires formed { IsWellFormed topology }
+    requires masters { ObeysMasterRules topology }
+    requires idle { D.values_observable → (unit : Unit) → (D.state dev.old).value unit ≡ 0 }
+    ensures { Replayed I.Inputs O.Sink D.Device (setup object topology) script.now
+        (world inputs.old out.old dev.old) (world inputs.new out.new dev.new) result }
+{
+    let Ok(mut controller) = load(alloc, object, topology) else {
         return refuse(Fault::Memory, out);
     };
+    run_loaded(alloc, &mut controller, inputs, script, out, dev)
+}
+
+/// All as it stands at load, before the device is given anything.
+fn load(alloc: Global, object: Object, topology: Topology) -> Result<Controller, NoMemory>
+    requires formed { IsWellFormed topology }
+    requires masters { ObeysMasterRules topology }
+    ensures loaded { IfOk result IsLoaded }
+    ensures setup { IfOk result (λ c. setup_of c.book ≡ setup object topology) }
+{
+    Controller::load(alloc, object, topology)
+}
+
+/// Runs the named script from the load, where it can be read.
+fn run_loaded<I: Inputs, O: Sink, D: Device>(
+    alloc: Global,
+    controller: &mut Controller,
+    inputs: &mut I,
+    script: &str,
+    out: &mut O,
+    dev: &mut D,
+) -> Exit
+    requires formed { IsWellFormed (setup_of controller.old.book).topology }
+    requires loaded { IsLoaded controller.old }
+    requires idle { D.values_observable → (unit : Unit) → (D.state dev.old).value unit ≡ 0 }
+    ensures { Replayed I.Inputs O.Sink D.Device (setup_of controller.old.book) script.now
+        (world inputs.old out.old dev.old) (world inputs.new out.new dev.new) result }
+{
     let Ok(script) = gather(alloc, inputs, script, SCRIPT_LIMIT) else {
         return refuse(Fault::Memory, out);
     };
@@ -63,7 +130,7 @@ pub fn replay<I: Inputs, O: Sink, D: Device>(
         return refuse(Fault::Read, out);
     }
     driven_follows::<D>();
-    run(&mut controller, &script, out, dev)
+    run(controller, &script, out, dev)
 }
 
 /// Runs a script that was begun from its load, and writes its text.
@@ -100,7 +167,7 @@ fn run_rest<O: Sink, D: Device>(
 {
     match run_lines(controller, script, out, dev) {
         Ok(()) => finish(controller, script.stop(), out),
-        Err(LineStop::Bad(number)) => refuse(Fault::Line(number), out),
+        Err(LineStop::Bad(number, cause)) => refuse(Fault::Line(number, cause), out),
         Err(LineStop::Sink) => Exit::WriteFault,
     }
 }
@@ -109,8 +176,7 @@ fn run_rest<O: Sink, D: Device>(
 /// script can't be read on.
 fn finish<O: Sink>(controller: &Controller, stop: StopReason, out: &mut O) -> Exit
     requires begins { stop ≢ Unbegun }
-    ensures { Reports O.observable (closing_report (stop_of stop) controller.now.book controller.now.kept)
-        (O.state out.old) (O.state out.new) result }
+    ensures { Reports O.Sink (closing_report (stop_of stop) controller.now.book controller.now.kept) out.old out.new result }
 {
     match stop {
         StopReason::End => match write_closing(controller, out) {

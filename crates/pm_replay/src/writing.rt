@@ -14,8 +14,7 @@ use pm_trace::{TextLine, closing, entries, entry};
 
 /// Writes the lines of a step.
 pub(crate) fn write_step<O: Sink>(number: u32, outbox: &Outbox, out: &mut O) -> Result<(), Failed>
-    ensures { Writes O.observable (step_text number outbox.now.done.items outbox.now.answer)
-        (O.state out.old) (O.state out.new) result }
+    ensures { Writes O.Sink (step_text number outbox.now.done.items outbox.now.starts.items outbox.now.answer) out.old out.new result }
 {
     let mut line = TextLine::new();
     for k in 0..entries(outbox) {
@@ -27,7 +26,7 @@ pub(crate) fn write_step<O: Sink>(number: u32, outbox: &Outbox, out: &mut O) -> 
 
 /// Writes the closing table.
 pub(crate) fn write_closing<O: Sink>(controller: &Controller, out: &mut O) -> Result<(), Failed>
-    ensures { Writes O.observable (closing_text controller.now.book controller.now.kept) (O.state out.old) (O.state out.new) result }
+    ensures { Writes O.Sink (closing_text controller.now.book controller.now.kept) out.old out.new result }
 {
     let mut line = TextLine::new();
     for k in 0..controller.book().units() {

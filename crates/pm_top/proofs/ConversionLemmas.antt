@@ -10,7 +10,8 @@ use Rattle.pm_base.specs.declared.prefix.StopReason.{StopReason}
 use Rattle.pm_base.specs.declared.prefix.StopReason.TheVariants as reason
 use Rattle.pm_base.specs.declared.sink.Sink as Sink
 use Rattle.pm_base.specs.Prefix.{HasSize, Prefix}
-use Rattle.pm_base.specs.Sink.{BreaksIn, Leaves, SinkMoment, Wrote}
+use Rattle.pm_base.specs.Sink.{Wrote}
+use Rattle.pm_base.specs.Writing.{BreaksIn, Leaves}
 use Rattle.pm_base.proofs.PrefixEnds.{prefix_whole}
 use Rattle.pm_object.specs.declared.object.Object.{Object}
 use Rattle.pm_object.specs.declared.object.ObjectFault.{ObjectFault}
@@ -29,7 +30,6 @@ use Rattle.pm_top.specs.Form.{word}
 use Rattle.pm_top.specs.Job.{IsAsked, built_of, judged, object_limit, object_of, object_or_fault, text_limit, text_or_fault}
 use Rattle.pm_top.specs.Ran.{Converted}
 use Rattle.pm_top.specs.Within.{ReadsAs}
-use Rattle.pm_top.proofs.ExitsLemmas.{done_by, refused_exit}
 use Rattle.pm_top.proofs.JobLemmas.{asked_build, asked_print, err_is, ok_is_err, starved}
 
 err_is_ok : {X Y : Type 0} {x : X} {y : Y} → ◌≡◌ {A = Result X Y} (Err y) (Ok x) → ⊥
@@ -73,29 +73,27 @@ text_end p o size means is = by p.stop size is
 abbrev pub one_piece : List ℕ → Report
 one_piece text = record { body = text ∷ []; fault = None }
 
--- the sink broke off within the piece
-pub one_broken : (shown : Type 0) (text : List ℕ) (old new : SinkMoment) → BreaksIn shown 0 (text ∷ []) old new → Reports shown (one_piece text) old new exit.WriteFault
-one_broken shown text old new breaks = record { cut = Some 0; left = breaks; ends = refl }
+module _ {O : Type 0} (o : Sink.Ghosts O) (text : List ℕ) (old new : O) where
+  -- the sink broke off within the piece
+  pub one_broken : BreaksIn o 0 (text ∷ []) old new → Reports o (one_piece text) old new exit.WriteFault
+  one_broken breaks = record { cut = Some 0; left = breaks; ends = refl }
 
-pub wrote_one : (shown : Type 0) (text : List ℕ) (old new : SinkMoment) (result : Exit) → Reports shown (one_piece text) old new result → result ≡ exit.Done → Wrote shown text old new
-wrote_one shown text old new result reports is = by reports.cut reports.left reports.ends
-  where
-    first : (k : ℕ) → k < 1 → nat_lt k 1 ≡ true
-    first k within = lt-ltb k 1 within
+  pub wrote_one : (result : Exit) → Reports o (one_piece text) old new result → result ≡ exit.Done → Wrote o.observable text (o.state old) (o.state new)
+  wrote_one result reports is = by reports.cut reports.left reports.ends
+    where
+      first : (k : ℕ) → k < 1 → nat_lt k 1 ≡ true
+      first k within = lt-ltb k 1 within
 
-    by : (cut : Option ℕ) → Leaves shown (text ∷ []) cut old new → result ≡ exit_of (one_piece text) cut → Wrote shown text old new
-    by None left ends = subst (λ (bytes : List ℕ). Wrote shown bytes old new) (append-nil text) left
-    by (Some k) left ends =
-        let broke : result ≡ exit.WriteFault = ends ∙ ap (λ (b : Bool). if b then exit.WriteFault else exit.Done) (first k (slice_get_within (text ∷ []) k left.piece left.is)) in
-        let clash : exit.Done ≡ exit.WriteFault = sym is ∙ broke in cc
-
-pub refused_done : (shown : Type 0) (fault : Fault) (old new : SinkMoment) (result : Exit) → Reports shown (refusal fault) old new result → result ≡ exit.Done → ⊥
-refused_done shown fault old new result reports is = done_by fault (sym (refused_exit fault reports.cut) ∙ sym reports.ends ∙ is)
+      by : (cut : Option ℕ) → Leaves o (text ∷ []) cut old new → result ≡ exit_of (one_piece text) cut → Wrote o.observable text (o.state old) (o.state new)
+      by None left ends = subst (λ (bytes : List ℕ). Wrote o.observable bytes (o.state old) (o.state new)) (append-nil text) left
+      by (Some k) left ends =
+          let broke : result ≡ exit.WriteFault = ends ∙ ap (λ (b : Bool). if b then exit.WriteFault else exit.Done) (first k (slice_get_within (text ∷ []) k left.piece left.is)) in
+          let clash : exit.Done ≡ exit.WriteFault = sym is ∙ broke in cc
 
 -- ---- the conversions
 
 module _ {I O : Type 0} (i : Inputs.Ghosts I) (o : Sink.Ghosts O) (ws : List (List ℕ)) (old new : I) (sink sink' : O) (result : Exit) where
-  pub refused : (f : Form) (fault : Fault) → IsAsked i f ws old new (Err fault) → Reports o.observable (refusal fault) (o.state sink) (o.state sink') result → Converted i o f ws old new sink sink' result
+  pub refused : (f : Form) (fault : Fault) → IsAsked i f ws old new (Err fault) → Reports o (refusal fault) sink sink' result → Converted i o f ws old new sink sink' result
   refused f fault asked reports = record { job = Err fault; answers = []; cut = reports.cut; asked = asked; left = reports.left; ends = reports.ends; touched = tt }
 
   pub print_refused : (fault : Fault) → ((◌≡◌ {A = Result Object Fault} (Err fault) (Err Memory)) ⊎ ReadsAs object_of Reads object_limit i.observable (word 1 ws) (i.state old) (i.state new) (Err fault)) → IsAsked i Print ws old new (Err fault)
@@ -106,31 +104,31 @@ module _ {I O : Type 0} (i : Inputs.Ghosts I) (o : Sink.Ghosts O) (ws : List (Li
   build_refused fault (inl memory) = subst (λ (fault : Fault). IsAsked i Build ws old new (Err fault)) (sym (err_is memory)) (starved i Build ws old new)
   build_refused fault (inr reads) = asked_build i ws old new (Err fault) reads
 
-  pub print_ran : (object : Object) (text : List ℕ) → ReadsAs object_of Reads object_limit i.observable (word 1 ws) (i.state old) (i.state new) (Ok object) → text ≡ text_of object → Reports o.observable (one_piece text) (o.state sink) (o.state sink') result → Converted i o Print ws old new sink sink' result
+  pub print_ran : (object : Object) (text : List ℕ) → ReadsAs object_of Reads object_limit i.observable (word 1 ws) (i.state old) (i.state new) (Ok object) → text ≡ text_of object → Reports o (one_piece text) sink sink' result → Converted i o Print ws old new sink sink' result
   print_ran object text reads is reports =
-      let same : Reports o.observable (one_piece (text_of object)) (o.state sink) (o.state sink') result = subst (λ (text : List ℕ). Reports o.observable (one_piece text) (o.state sink) (o.state sink') result) is reports in
+      let same : Reports o (one_piece (text_of object)) sink sink' result = subst (λ (text : List ℕ). Reports o (one_piece text) sink sink' result) is reports in
       record { job = Ok object; answers = []; cut = same.cut; asked = asked_print i ws old new (Ok object) reads; left = same.left; ends = same.ends; touched = tt }
 
-  pub print_done : (object : Object) (text : List ℕ) → ReadsAs object_of Reads object_limit i.observable (word 1 ws) (i.state old) (i.state new) (Ok object) → text ≡ text_of object → Reports o.observable (one_piece text) (o.state sink) (o.state sink') result → i.observable → o.observable → result ≡ exit.Done → IsPrinted i o ws old sink sink'
+  pub print_done : (object : Object) (text : List ℕ) → ReadsAs object_of Reads object_limit i.observable (word 1 ws) (i.state old) (i.state new) (Ok object) → text ≡ text_of object → Reports o (one_piece text) sink sink' result → i.observable → o.observable → result ≡ exit.Done → IsPrinted i o ws old sink sink'
   print_done object text reads is reports seen written done = record {
     bytes = reads.prefix.bytes;
     object = object;
     held = prefix_whole object_limit ((i.state old).file (word 1 ws)) (i.state old).room reads.prefix (reads.read.is seen) (object_end reads.prefix object reads.read.size reads.is);
     reads = reads.says;
-    text = (wrote_one o.observable text (o.state sink) (o.state sink') result reports done).appended written ∙ ap (λ (text : List ℕ). (o.state sink).bytes ++ text) is;
+    text = (wrote_one o text sink sink' result reports done).appended written ∙ ap (λ (text : List ℕ). (o.state sink).bytes ++ text) is;
   }
 
-  pub build_ran : (object : Object) (bytes : List ℕ) → ReadsAs built_of Means text_limit i.observable (word 1 ws) (i.state old) (i.state new) (Ok object) → Reads bytes object → Reports o.observable (one_piece bytes) (o.state sink) (o.state sink') result → Converted i o Build ws old new sink sink' result
+  pub build_ran : (object : Object) (bytes : List ℕ) → ReadsAs built_of Means text_limit i.observable (word 1 ws) (i.state old) (i.state new) (Ok object) → Reads bytes object → Reports o (one_piece bytes) sink sink' result → Converted i o Build ws old new sink sink' result
   build_ran object bytes reads again reports =
-      let same : Reports o.observable (one_piece (little_endian (words_of object))) (o.state sink) (o.state sink') result = subst (λ (text : List ℕ). Reports o.observable (one_piece text) (o.state sink) (o.state sink') result) again.spelling reports in
+      let same : Reports o (one_piece (little_endian (words_of object))) sink sink' result = subst (λ (text : List ℕ). Reports o (one_piece text) sink sink' result) again.spelling reports in
       record { job = Ok object; answers = []; cut = same.cut; asked = asked_build i ws old new (Ok object) reads; left = same.left; ends = same.ends; touched = tt }
 
-  pub build_done : (object : Object) (bytes : List ℕ) → ReadsAs built_of Means text_limit i.observable (word 1 ws) (i.state old) (i.state new) (Ok object) → Reads bytes object → Reports o.observable (one_piece bytes) (o.state sink) (o.state sink') result → i.observable → o.observable → result ≡ exit.Done → IsBuilt i o ws old sink sink'
+  pub build_done : (object : Object) (bytes : List ℕ) → ReadsAs built_of Means text_limit i.observable (word 1 ws) (i.state old) (i.state new) (Ok object) → Reads bytes object → Reports o (one_piece bytes) sink sink' result → i.observable → o.observable → result ≡ exit.Done → IsBuilt i o ws old sink sink'
   build_done object bytes reads again reports seen written done = record {
     bytes = reads.prefix.bytes;
     object = object;
     held = prefix_whole text_limit ((i.state old).file (word 1 ws)) (i.state old).room reads.prefix (reads.read.is seen) (text_end reads.prefix object reads.read.size reads.says reads.is);
     says = reads.says;
-    text = (wrote_one o.observable bytes (o.state sink) (o.state sink') result reports done).appended written ∙ ap (λ (text : List ℕ). (o.state sink).bytes ++ text) again.spelling;
+    text = (wrote_one o bytes sink sink' result reports done).appended written ∙ ap (λ (text : List ℕ). (o.state sink).bytes ++ text) again.spelling;
     reads = subst (λ (bytes : List ℕ). Reads bytes object) again.spelling again;
   }

@@ -7,23 +7,24 @@ use Rattle.pm_base.specs.declared.errors.Exit.TheVariants as exit
 use Rattle.pm_base.specs.declared.inputs.Inputs as Inputs
 use Rattle.pm_base.specs.declared.sink.Sink as Sink
 use Rattle.pm_base.specs.Prefix.{IsUnread, Prefix}
-use Rattle.pm_base.specs.Sink.{HasFailed}
+use Rattle.pm_base.specs.Sink.{HasFailed, IsUnfailed}
 use Rattle.pm_device.specs.declared.device.Device as Device
 use Rattle.pm_script.specs.Script.{script_of}
 use Rattle.pm_trace.specs.declared.faults.Fault.{Fault}
 use Rattle.pm_trace.specs.declared.faults.Fault.TheVariants.{Memory, Read, Usage}
+use Rattle.pm_trace.specs.Exits.{ExitsSay, IsStarved}
 use Rattle.pm_trace.specs.Report.{exit_of, report_of}
 use Rattle.pm_replay.specs.Replayed.{IsReadFault, script_or_fault}
 use Rattle.pm_replay.specs.World.{World}
 use Rattle.pm_top.specs.declared.form.Form.{Form}
 use Rattle.pm_top.specs.declared.form.Form.TheVariants.{Replay, Print, Build}
 use Rattle.pm_top.specs.Form.{form}
-use Rattle.pm_top.specs.Job.{FailsToRead, Job, report}
-use Rattle.pm_top.specs.Ran.{Decides, FormDecides, FormMayFail, InputsMayFail, IsBeforeRun, IsStarved, Ran, RanForm, Touches, nothing_to_do}
+use Rattle.pm_top.specs.Job.{FailsToRead, Job}
+use Rattle.pm_top.specs.Ran.{Decides, FormDecides, FormMayFail, InputsMayFail, IsBeforeRun, Ran, RanForm, Touches, nothing_to_do}
 use Rattle.pm_top.proofs.CauseLemmas.{job_cause}
-use Rattle.pm_top.proofs.ExitsLemmas.{RunExit, at_broken, at_done, at_large, at_line, at_unread, decided, not_usage, read_exit, read_fault, refused_exit, run_exit, starved, write_fault}
+use Rattle.pm_top.proofs.ExitsLemmas.{decided, not_before, not_usage, read_fault, refused_exit, starved, unfailed, unread, write_fault}
 
-module _ {I O D : Type 0} (i : Inputs.Ghosts I) (o : Sink.Ghosts O) (d : Device.Ghosts D) (ws : List (List ℕ)) (w w' : World I O D) (result : Exit) where
+module _ {I O D : Type 0} (i : Inputs.Ghosts I) (o : Sink.Ghosts O) (say : ExitsSay o) (d : Device.Ghosts D) (ws : List (List ℕ)) (w w' : World I O D) (result : Exit) where
   -- words without a form are refused
   usage_exit : RanForm i o d None ws w w' result → result ≡ exit.Usage
   usage_exit did = did.ends ∙ ap (λ job. exit_of (report_of nothing_to_do job did.answers) did.cut) did.asked ∙ refused_exit Usage did.cut
@@ -33,35 +34,42 @@ module _ {I O D : Type 0} (i : Inputs.Ghosts I) (o : Sink.Ghosts O) (d : Device.
     where
       no_form : (f : Option Form) → form ws ≡ f → RanForm i o d f ws w w' result → result ≡ exit.Usage → form ws ≡ None
       no_form None at did is = at
-      no_form (Some f) at did is = absurd (not_usage i o f ws w.inputs w'.inputs w.sink w'.sink result (Touches d f w.device w'.device) did is)
+      no_form (Some f) at did is = absurd (not_usage i o say f ws w.inputs w'.inputs w.sink w'.sink result (Touches d f w.device w'.device) did is)
 
   pub decides : Ran i o d ws w w' result → i.observable → Decides o ws (i.state w.inputs) w.sink w'.sink result
   decides ran seen = by (form ws) ran
     where
       by : (f : Option Form) → RanForm i o d f ws w w' result → FormDecides o f ws (i.state w.inputs) w.sink w'.sink result
       by None did = usage_exit did
-      by (Some f) did = decided i o f ws w.inputs w'.inputs w.sink w'.sink result (Touches d f w.device w'.device) did seen
+      by (Some f) did = decided i o say f ws w.inputs w'.inputs w.sink w'.sink result (Touches d f w.device w'.device) did seen
 
   pub memory : Ran i o d ws w w' result → result ≡ exit.Memory → IsStarved o w.sink w'.sink
   memory ran is = by (form ws) ran
     where
       by : (f : Option Form) → RanForm i o d f ws w w' result → IsStarved o w.sink w'.sink
       by None did = let clash : exit.Usage ≡ exit.Memory = sym (usage_exit did) ∙ is in cc
-      by (Some f) did = starved i o f ws w.inputs w'.inputs w.sink w'.sink result (Touches d f w.device w'.device) did is
+      by (Some f) did = starved i o say f ws w.inputs w'.inputs w.sink w'.sink result (Touches d f w.device w'.device) did is
 
   pub reading_fault : Ran i o d ws w w' result → result ≡ exit.ReadFault → Rose (i.state w.inputs).faults (i.state w'.inputs).faults
   reading_fault ran is = by (form ws) ran
     where
       by : (f : Option Form) → RanForm i o d f ws w w' result → Rose (i.state w.inputs).faults (i.state w'.inputs).faults
       by None did = let clash : exit.Usage ≡ exit.ReadFault = sym (usage_exit did) ∙ is in cc
-      by (Some f) did = read_fault i o f ws w.inputs w'.inputs w.sink w'.sink result (Touches d f w.device w'.device) did is
+      by (Some f) did = read_fault i o say f ws w.inputs w'.inputs w.sink w'.sink result (Touches d f w.device w'.device) did is
 
   pub writing_fault : Ran i o d ws w w' result → result ≡ exit.WriteFault → HasFailed (o.state w.sink) (o.state w'.sink)
   writing_fault ran is = by (form ws) ran
     where
       by : (f : Option Form) → RanForm i o d f ws w w' result → HasFailed (o.state w.sink) (o.state w'.sink)
       by None did = let clash : exit.Usage ≡ exit.WriteFault = sym (usage_exit did) ∙ is in cc
-      by (Some f) did = write_fault i o f ws w.inputs w'.inputs w.sink w'.sink result (Touches d f w.device w'.device) did is
+      by (Some f) did = write_fault i o say f ws w.inputs w'.inputs w.sink w'.sink result (Touches d f w.device w'.device) did is
+
+  pub unfailing : Ran i o d ws w w' result → result ≡ exit.Done → IsUnfailed (o.state w.sink) (o.state w'.sink)
+  unfailing ran is = by (form ws) ran
+    where
+      by : (f : Option Form) → RanForm i o d f ws w w' result → IsUnfailed (o.state w.sink) (o.state w'.sink)
+      by None did = let clash : exit.Usage ≡ exit.Done = sym (usage_exit did) ∙ is in cc
+      by (Some f) did = unfailed i o say f ws w.inputs w'.inputs w.sink w'.sink result (Touches d f w.device w'.device) did is
 
   memory_fails : (f : Form) → FailsToRead f (Err Memory) → ⊥
   memory_fails Replay is = let clash : Memory ≡ Read = is in cc
@@ -74,35 +82,13 @@ module _ {I O D : Type 0} (i : Inputs.Ghosts I) (o : Sink.Ghosts O) (d : Device.
       by : (f : Option Form) → RanForm i o d f ws w w' result → FormMayFail f ws (i.state w.inputs)
       by None did = let clash : exit.Usage ≡ exit.ReadFault = sym (usage_exit did) ∙ is in cc
       by (Some f) did =
-          let fails : FailsToRead f did.job = read_exit f did.job did.answers did.cut result did.ends is in
+          let fails : FailsToRead f did.job = unread i o say f ws w.inputs w'.inputs w.sink w'.sink result (Touches d f w.device w'.device) did is in
           elim (did.asked.shown seen) [
             | inl starved ↦ absurd (memory_fails f (subst (FailsToRead f) starved fails))
             | inr job ↦ job_cause script_unread f ws (i.state w.inputs) job.0 job.1 (subst (FailsToRead f) job.2 fails)
           ]
 
   -- ---- before a run
-
-  early : RunExit result → IsBeforeRun result → ⊥
-  early (at_done e same) (inl is) = let clash : exit.Done ≡ exit.Usage = sym same ∙ is in cc
-  early (at_done e same) (inr (inl is)) = let clash : exit.Done ≡ exit.BadObject = sym same ∙ is in cc
-  early (at_done e same) (inr (inr (inl is))) = let clash : exit.Done ≡ exit.BadText = sym same ∙ is in cc
-  early (at_done e same) (inr (inr (inr is))) = let clash : exit.Done ≡ exit.Memory = sym same ∙ is in cc
-  early (at_line e same) (inl is) = let clash : exit.BadLine ≡ exit.Usage = sym same ∙ is in cc
-  early (at_line e same) (inr (inl is)) = let clash : exit.BadLine ≡ exit.BadObject = sym same ∙ is in cc
-  early (at_line e same) (inr (inr (inl is))) = let clash : exit.BadLine ≡ exit.BadText = sym same ∙ is in cc
-  early (at_line e same) (inr (inr (inr is))) = let clash : exit.BadLine ≡ exit.Memory = sym same ∙ is in cc
-  early (at_large e same) (inl is) = let clash : exit.TooLarge ≡ exit.Usage = sym same ∙ is in cc
-  early (at_large e same) (inr (inl is)) = let clash : exit.TooLarge ≡ exit.BadObject = sym same ∙ is in cc
-  early (at_large e same) (inr (inr (inl is))) = let clash : exit.TooLarge ≡ exit.BadText = sym same ∙ is in cc
-  early (at_large e same) (inr (inr (inr is))) = let clash : exit.TooLarge ≡ exit.Memory = sym same ∙ is in cc
-  early (at_unread e same) (inl is) = let clash : exit.ReadFault ≡ exit.Usage = sym same ∙ is in cc
-  early (at_unread e same) (inr (inl is)) = let clash : exit.ReadFault ≡ exit.BadObject = sym same ∙ is in cc
-  early (at_unread e same) (inr (inr (inl is))) = let clash : exit.ReadFault ≡ exit.BadText = sym same ∙ is in cc
-  early (at_unread e same) (inr (inr (inr is))) = let clash : exit.ReadFault ≡ exit.Memory = sym same ∙ is in cc
-  early (at_broken e same) (inl is) = let clash : exit.WriteFault ≡ exit.Usage = sym same ∙ is in cc
-  early (at_broken e same) (inr (inl is)) = let clash : exit.WriteFault ≡ exit.BadObject = sym same ∙ is in cc
-  early (at_broken e same) (inr (inr (inl is))) = let clash : exit.WriteFault ≡ exit.BadText = sym same ∙ is in cc
-  early (at_broken e same) (inr (inr (inr is))) = let clash : exit.WriteFault ≡ exit.Memory = sym same ∙ is in cc
 
   pub untouched : Ran i o d ws w w' result → IsBeforeRun result → w.device ≡ w'.device
   untouched ran before = by (form ws) ran
@@ -111,8 +97,8 @@ module _ {I O D : Type 0} (i : Inputs.Ghosts I) (o : Sink.Ghosts O) (d : Device.
       by None did = did.touched
       by (Some Print) did = did.touched
       by (Some Build) did = did.touched
-      by (Some Replay) did = of_job did.job did.ends did.touched
+      by (Some Replay) did = of_job did.job refl did.touched
         where
-          of_job : (job : Result (Job Replay) Fault) → result ≡ exit_of (report_of (report Replay) job did.answers) did.cut → Touches d Replay w.device w'.device job did.answers did.cut → w.device ≡ w'.device
-          of_job (Err fault) ends same = same
-          of_job (Ok job) ends drove = absurd (early (run_exit Replay job did.answers did.cut result ends) before)
+          of_job : (job : Result (Job Replay) Fault) → did.job ≡ job → Touches d Replay w.device w'.device job did.answers did.cut → w.device ≡ w'.device
+          of_job (Err fault) is same = same
+          of_job (Ok job) is drove = absurd (not_before i o say Replay ws w.inputs w'.inputs w.sink w'.sink result (Touches d Replay w.device w'.device) did job is before)

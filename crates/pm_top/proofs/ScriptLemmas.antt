@@ -4,7 +4,7 @@ use Rattle.pm_base.specs.declared.errors.Exit.{Exit}
 use Rattle.pm_base.specs.declared.inputs.Inputs as Inputs
 use Rattle.pm_base.specs.declared.sink.Sink as Sink
 use Rattle.pm_base.specs.Inputs.{File}
-use Rattle.pm_base.specs.Sink.{Leaves}
+use Rattle.pm_base.specs.Writing.{Leaves}
 use Rattle.pm_base.proofs.PrefixEnds.{prefix_whole}
 use Rattle.pm_object.specs.declared.object.Object.{Object}
 use Rattle.pm_object.specs.Grammar.{Reads}
@@ -33,7 +33,7 @@ module _ {I O D : Type 0} (i : Inputs.Ghosts I) (o : Sink.Ghosts O) (d : Device.
   pub script_ran : (object : Object) → ReadsAs object_of Reads object_limit i.observable (word 1 ws) (i.state old) (i.state mid) (Ok object) → Replayed i o d (setup object chip) (word 2 ws) (world mid sink dev) (world new sink' dev') result → RanForm i o d (Some Replay) ws (world old sink dev) (world new sink' dev') result
   script_ran object reads did = by did.job did.asked did.left did.ends did.touched
     where
-      by : (job : Result Script Fault) → IsScriptOf i (word 2 ws) mid new job → Leaves o.observable (pieces (report_of (replay_report (setup object chip)) job did.answers)) did.cut (o.state sink) (o.state sink') → result ≡ exit_of (report_of (replay_report (setup object chip)) job did.answers) did.cut → Touched d (setup object chip) dev dev' job did.answers did.cut → RanForm i o d (Some Replay) ws (world old sink dev) (world new sink' dev') result
+      by : (job : Result Script Fault) → IsScriptOf i (word 2 ws) mid new job → Leaves o (pieces (report_of (replay_report (setup object chip)) job did.answers)) did.cut sink sink' → result ≡ exit_of (report_of (replay_report (setup object chip)) job did.answers) did.cut → Touched d (setup object chip) dev dev' job did.answers did.cut → RanForm i o d (Some Replay) ws (world old sink dev) (world new sink' dev') result
       by (Ok s) asked left ends touched = record { job = Ok (setup object chip, s); answers = did.answers; cut = did.cut; asked = asked_replay i ws old mid new object (Ok s) reads asked; left = left; ends = ends; touched = touched }
       by (Err fault) asked left ends touched = record { job = Err fault; answers = did.answers; cut = did.cut; asked = asked_replay i ws old mid new object (Err fault) reads asked; left = left; ends = ends; touched = touched }
 
@@ -58,7 +58,7 @@ module _ {I O D : Type 0} (i : Inputs.Ghosts I) (o : Sink.Ghosts O) (d : Device.
   asked fault (inl memory) = subst (λ (fault : Fault). IsAsked i Replay ws old new (Err fault)) (sym (err_is memory)) (starved i Replay ws old new)
   asked fault (inr reads) = asked_refused i ws old new fault reads
 
-  pub script_refused : (fault : Fault) → ((◌≡◌ {A = Result Object Fault} (Err fault) (Err Memory)) ⊎ ReadsAs object_of Reads object_limit i.observable (word 1 ws) (i.state old) (i.state new) (Err fault)) → Reports o.observable (refusal fault) (o.state sink) (o.state sink') result → RanForm i o d (Some Replay) ws (world old sink dev) (world new sink' dev) result
+  pub script_refused : (fault : Fault) → ((◌≡◌ {A = Result Object Fault} (Err fault) (Err Memory)) ⊎ ReadsAs object_of Reads object_limit i.observable (word 1 ws) (i.state old) (i.state new) (Err fault)) → Reports o (refusal fault) sink sink' result → RanForm i o d (Some Replay) ws (world old sink dev) (world new sink' dev) result
   script_refused fault read reports = record { job = Err fault; answers = []; cut = reports.cut; asked = asked fault read; left = reports.left; ends = reports.ends; touched = refl }
 
   pub refused_safe : IsSafe d chip dev dev

@@ -117,7 +117,7 @@ IsFaultOf Replay (BadText fault) = ⊥
 IsFaultOf Print (BadText fault) = ⊥
 IsFaultOf Build (BadText fault) = ⊤
 IsFaultOf f Usage = ⊥
-IsFaultOf f (Line n) = ⊥
+IsFaultOf f (Line n cause) = ⊥
 IsFaultOf f Size = ⊥
 
 -- a job is over the chip, and a refusal is one of the form's

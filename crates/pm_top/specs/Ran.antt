@@ -1,16 +1,16 @@
 -- What a run of the program did, on every exit, and what each exit means.
-use Rattle.std.specs.Prelude.{◌≡◌, ℕ, ◌<◌, ◌≤◌, ◌⊎◌, Bool, true, List, [], ◌∷◌, Option, Some, None, Result, Ok, Err, ⊤}
+use Rattle.std.specs.Prelude.{◌≡◌, ℕ, ◌<◌, ◌≤◌, ◌⊎◌, Bool, true, List, [], Option, Some, None, Result, Ok, Err, ⊤}
 use Rattle.pm_base.specs.declared.errors.Exit.{Exit}
 use Rattle.pm_base.specs.declared.errors.Exit.TheVariants as exit
 use Rattle.pm_base.specs.declared.inputs.Inputs as Inputs
 use Rattle.pm_base.specs.declared.sink.Sink as Sink
 use Rattle.pm_base.specs.Inputs.{Moment, MayFail}
-use Rattle.pm_base.specs.Sink.{HasFailed, Leaves}
 use Rattle.pm_device.specs.declared.device.Device as Device
 use Rattle.pm_script.specs.Script.{script_limit}
 use Rattle.pm_trace.specs.declared.faults.Fault.{Fault}
-use Rattle.pm_trace.specs.declared.faults.Fault.TheVariants.{Memory, Usage}
-use Rattle.pm_trace.specs.Faults.{exit_after, fault_text}
+use Rattle.pm_trace.specs.declared.faults.Fault.TheVariants.{Usage}
+use Rattle.pm_trace.specs.Exits.{EndsWith}
+use Rattle.pm_trace.specs.Faults.{exit_after}
 use Rattle.pm_trace.specs.Report.{Did, Report}
 use Rattle.pm_replay.specs.Replay.{Touched}
 use Rattle.pm_replay.specs.World.{World}
@@ -61,16 +61,10 @@ module _ {O : Type 0} (o : Sink.Ghosts O) where
   abbrev pub FormDecides : Option Form → List (List ℕ) → Moment → O → O → Exit → Type 0
   FormDecides None ws m old new result = result ≡ exit.Usage
   FormDecides (Some f) ws m old new result =
-      (again : Bool) × (2 ≤ m.room → again ≡ true)
-      × ((result ≡ job_exit f (job_of f ws m again))
-      ⊎ ((result ≡ exit.Memory) ⊎ ((result ≡ exit.WriteFault) × HasFailed (o.state old) (o.state new))))
+      (again : Bool) × (2 ≤ m.room → again ≡ true) × EndsWith o (job_exit f (job_of f ws m again)) old new result
 
   abbrev pub Decides : List (List ℕ) → Moment → O → O → Exit → Type 0
   Decides ws m old new result = FormDecides (form ws) ws m old new result
-
-  -- nothing was written but the fault line, as far as the sink took it
-  abbrev pub IsStarved : O → O → Type 0
-  IsStarved old new = (cut : Option ℕ) × Leaves o.observable (fault_text Memory ∷ []) cut (o.state old) (o.state new)
 
 -- an exit that comes before a script is run
 abbrev pub IsBeforeRun : Exit → Type 0

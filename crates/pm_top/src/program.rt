@@ -1,17 +1,18 @@
 //! The top call: a run of the program.
 
 ghost use Rattle.std.specs.Prelude.{◌≡◌, ◌<◌, ◌↔◌, None, Some, length, map, string_bytes};
-ghost use Rattle.pm_base.specs.declared.names.Unit.{Unit as Place};
+ghost use Rattle.pm_base.specs.declared.names.Unit.{Unit};
 ghost use Rattle.pm_base.specs.Faults.{Rose};
-ghost use Rattle.pm_base.specs.Sink.{HasFailed};
+ghost use Rattle.pm_base.specs.Sink.{HasFailed, IsUnfailed};
 ghost use Rattle.pm_topology.specs.Chip.{chip};
+ghost use Rattle.pm_trace.specs.Exits.{IsStarved};
 ghost use Rattle.pm_replay.specs.Replayed.{IsRun, Replayed, setup};
 ghost use Rattle.pm_replay.specs.Safe.{IsSafe};
 ghost use Rattle.pm_replay.specs.World.{world};
 ghost use Rattle.pm_top.specs.declared.form.Form.TheVariants as forms;
 ghost use Rattle.pm_top.specs.Done.{IsDone, IsReplayed};
 ghost use Rattle.pm_top.specs.Form.{form};
-ghost use Rattle.pm_top.specs.Ran.{Decides, InputsMayFail, IsBeforeRun, IsStarved, Ran, RanForm};
+ghost use Rattle.pm_top.specs.Ran.{Decides, InputsMayFail, IsBeforeRun, Ran, RanForm};
 
 use crate::conversions::{build_object, print_object};
 use crate::form::{Form, form_of, word};
@@ -21,7 +22,7 @@ use pm_device::Device;
 use pm_object::Object;
 use pm_replay::{a_script_that_fails, replay};
 use pm_topology::zynqmp;
-use pm_trace::{Fault, refuse};
+use pm_trace::{Fault, exits_say, refuse};
 use std::alloc::Global;
 
 /// Does all that the program does, for its words without its own name. `replay OBJ SCRIPT` runs the
@@ -36,7 +37,7 @@ pub fn pm_main<I: Inputs, O: Sink, D: Device>(
     out: &mut O,
     dev: &mut D,
 ) -> Exit
-    requires idle { D.values_observable → (unit : Place) → (D.state dev.old).value unit ≡ 0 }
+    requires idle { D.values_observable → (unit : Unit) → (D.state dev.old).value unit ≡ 0 }
     // On Done the inputs held what the words name, and the whole text of what the words ask for was
     // written; a replay drove the device through the run of that script over that object.
     ensures done { I.observable → O.observable → result ≡ Exit.Done
@@ -64,8 +65,11 @@ pub fn pm_main<I: Inputs, O: Sink, D: Device>(
         → InputsMayFail (map string_bytes words.now) (I.state inputs.old) }
     // WriteFault comes only where a write failed, or took 0 of a piece that isn't empty.
     ensures write_fault { result ≡ Exit.WriteFault → HasFailed (O.state out.old) (O.state out.new) }
+    // Done comes only where no write failed, and none took 0 of a piece that isn't empty.
+    ensures unfailed { result ≡ Exit.Done → IsUnfailed (O.state out.old) (O.state out.new) }
 {
     a_script_that_fails();
+    exits_say::<O>();
     run_words(alloc, words, inputs, out, dev)
 }
 
@@ -77,7 +81,7 @@ fn run_words<I: Inputs, O: Sink, D: Device>(
     out: &mut O,
     dev: &mut D,
 ) -> Exit
-    requires idle { D.values_observable → (unit : Place) → (D.state dev.old).value unit ≡ 0 }
+    requires idle { D.values_observable → (unit : Unit) → (D.state dev.old).value unit ≡ 0 }
     ensures done { I.observable → O.observable → result ≡ Exit.Done
         → IsDone I.Inputs O.Sink D.Device (map string_bytes words.now)
         (world inputs.old out.old dev.old) (world inputs.new out.new dev.new) }
@@ -102,7 +106,7 @@ fn run_script<I: Inputs, O: Sink, D: Device>(
     dev: &mut D,
 ) -> Exit
     requires places { 2 < length words.now }
-    requires idle { D.values_observable → (unit : Place) → (D.state dev.old).value unit ≡ 0 }
+    requires idle { D.values_observable → (unit : Unit) → (D.state dev.old).value unit ≡ 0 }
     ensures done { I.observable → O.observable → result ≡ Exit.Done
         → IsReplayed I.Inputs O.Sink D.Device (map string_bytes words.now)
         (world inputs.old out.old dev.old) (world inputs.new out.new dev.new) }
@@ -125,7 +129,7 @@ fn run_object<I: Inputs, O: Sink, D: Device>(
     out: &mut O,
     dev: &mut D,
 ) -> Exit
-    requires idle { D.values_observable → (unit : Place) → (D.state dev.old).value unit ≡ 0 }
+    requires idle { D.values_observable → (unit : Unit) → (D.state dev.old).value unit ≡ 0 }
     ensures done { I.observable → O.observable → result ≡ Exit.Done
         → IsRun I.Inputs O.Sink D.Device (setup object chip) script.now
         (world inputs.old out.old dev.old) (world inputs.new out.new dev.new) }

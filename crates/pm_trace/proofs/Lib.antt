@@ -1,3 +1,4 @@
+pub mod ExitsLemmas
 pub mod LineLemmas
 pub mod StepLemmas
 pub mod ReportLemmas

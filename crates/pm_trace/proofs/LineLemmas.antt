@@ -1,7 +1,11 @@
 -- A line of output is made of its words one after another.
-use Rattle.std.proofs.Common.{◌≡◌, ℕ, List, [], ◌∷◌, ◌++◌, map, take, length, refl, ap, sym, append-nil, ◌≤◌, take_all}
+use Rattle.std.proofs.Common.{◌≡◌, ℕ, ◌+◌, ◌<◌, ◌≤◌, List, [], ◌∷◌, ◌++◌, map, take, length, get_or, refl, suc, ap, sym, ◌∙◌, arith, append-nil, take_all}
 use Rattle.std.specs.List.{join_with_byte, flat_map}
+use Rattle.std.proofs.Math.Seq.{take-suc}
+use Rattle.std.proofs.lemmas.List.{append_assoc}
+use Rattle.std.proofs.lemmas.Grind.{flat_map-append}
 use Rattle.pm_trace.specs.declared.line.Word.{Word}
+use Rattle.pm_trace.specs.declared.line.Word.TheVariants.{Number}
 use Rattle.pm_trace.specs.Line.{word_text, line_text}
 
 -- a word that isn't the first of its line
@@ -20,3 +24,15 @@ pub line_is_made : (first : Word) (rest : List Word) (k : ℕ) (start begun done
 line_is_made first rest k start begun done new empty word words all feed =
     let whole : take k rest ≡ rest = take_all k rest all in
     rw (line_of first rest, feed, words, whole, word, empty) refl
+
+-- one more word, after a space
+pub word_more : (rest : List Word) (k : ℕ) (begun done spaced new : List ℕ) → k < length rest → done ≡ begun ++ flat_map after_space (take k rest) → spaced ≡ done ++ 32 ∷ [] → new ≡ spaced ++ word_text (get_or rest k (Number 0)) → new ≡ begun ++ flat_map after_space (take (k + 1) rest)
+word_more rest k begun done spaced new there so space word =
+    let next : Word = get_or rest k (Number 0) in
+    let one_on : k + 1 ≡ suc k = omega arith in
+    let taken : take (k + 1) rest ≡ take k rest ++ next ∷ [] = ap (λ n. take n rest) one_on ∙ take-suc rest k (Number 0) there in
+    let parts : flat_map after_space (take k rest ++ next ∷ []) ≡ flat_map after_space (take k rest) ++ flat_map after_space (next ∷ []) =
+    flat_map-append after_space (take k rest) (next ∷ [])
+    in
+    let one : flat_map after_space (next ∷ []) ≡ 32 ∷ word_text next = append-nil (after_space next) in
+    rw (word, space, so, taken, parts, one, append_assoc (begun ++ flat_map after_space (take k rest)) (32 ∷ []) (word_text next), append_assoc begun (flat_map after_space (take k rest)) (32 ∷ word_text next)) refl

@@ -1,50 +1,86 @@
 -- The lines of a core step by their places.
-use Rattle.std.proofs.Common.{◌≡◌, ℕ, ◌+◌, ◌<◌, List, [], ◌∷◌, ◌++◌, length, map, refl, sym, ◌∙◌, ap, arith, Option, Some, None, zero, suc}
+use Rattle.std.proofs.Common.{◌≡◌, ℕ, ◌+◌, ◌-◌, ◌<◌, ◌≤◌, List, [], ◌∷◌, ◌++◌, length, map, refl, ◌∙◌, ap, arith, Option, Some, None, zero, suc}
 use Rattle.std.specs.Prelude.{slice_get}
 use Rattle.std.specs.Option.{option_map}
 use Rattle.std.proofs.lemmas.List.{map-append, length-append, length-map}
 use Rattle.std.proofs.lemmas.Option.{slice_get-map}
 use Rattle.pm_base.proofs.ListLemmas.{slice_get-append_left}
 use Rattle.pm_core.specs.declared.outbox.Done.{Done}
+use Rattle.pm_core.specs.declared.outbox.Start.{Start}
 use Rattle.pm_core.specs.declared.replies.Answer.{Answer}
-use Rattle.pm_trace.specs.Step.{answer_words, command_words, numbered_line, core_lines, output_words}
+use Rattle.pm_trace.specs.declared.line.Word.{Word}
+use Rattle.pm_trace.specs.Step.{answer_words, command_words, start_words, numbered_line, core_lines, output_words, rest_words}
 
--- the one element after a front of a list
-after_front : {X : Type 0} (xs ys : List X) (k : ℕ) (x : X) → slice_get xs k ≡ None → k < length (xs ++ ys) → ys ≡ x ∷ [] → slice_get (xs ++ ys) k ≡ Some x
-after_front [] ys zero x past within is = rw is refl
-after_front [] ys (suc k) x past within is = let short : length ys ≡ 1 = ap length is in absurd (omega arith)
-after_front (y ∷ xs) ys zero x past within is = cc
-after_front (y ∷ xs) ys (suc k) x past within is = after_front xs ys k x past (omega (arith, within)) is
+-- the one element of a list of one
+one_at : {X : Type 0} (xs : List X) (k : ℕ) (x : X) → xs ≡ x ∷ [] → k < length xs → slice_get xs k ≡ Some x
+one_at xs zero x is within = rw is refl
+one_at xs (suc k) x is within = let short : length xs ≡ 1 = ap length is in absurd (omega arith)
 
-lines_are : (n : ℕ) (done : List Done) (answer : Answer) → core_lines n done answer ≡ map (numbered_line n) (map command_words done) ++ map (numbered_line n) (answer_words answer)
-lines_are n done answer = map-append (numbered_line n) (map command_words done) (answer_words answer)
+-- no element stands past the end alone
+past_end : {X : Type 0} (xs : List X) (k : ℕ) → slice_get xs k ≡ None → length xs ≤ k
+past_end [] k past = omega arith
+past_end (x ∷ xs) zero past = cc
+past_end (x ∷ xs) (suc k) past = omega (arith, past_end xs k past)
 
-command_at : (n : ℕ) (done : List Done) (k : ℕ) → slice_get (map (numbered_line n) (map command_words done)) k ≡ option_map (λ (d : Done). numbered_line n (command_words d)) (slice_get done k)
-command_at n done k = slice_get-map (numbered_line n) (map command_words done) k ∙ ap (λ o. option_map (numbered_line n) o) (slice_get-map command_words done k) ∙ both (slice_get done k)
+-- the k-th element after a front of a list
+past_front : {X : Type 0} (xs ys : List X) (k : ℕ) → slice_get xs k ≡ None → slice_get (xs ++ ys) k ≡ slice_get ys (k - length xs)
+past_front [] ys k past = ap (λ n. slice_get ys n) (omega arith)
+past_front (x ∷ xs) ys zero past = cc
+past_front (x ∷ xs) ys (suc k) past = past_front xs ys k past ∙ ap (λ n. slice_get ys n) (omega arith)
+
+-- the lines of some of what a step puts out, each of which is made by these words
+lines_at : {X : Type 0} (n : ℕ) (words : X → List Word) (xs : List X) (k : ℕ) → slice_get (map (numbered_line n) (map words xs)) k ≡ option_map (λ (x : X). numbered_line n (words x)) (slice_get xs k)
+lines_at {X} n words xs k = slice_get-map (numbered_line n) (map words xs) k ∙ ap (λ o. option_map (numbered_line n) o) (slice_get-map words xs k) ∙ both (slice_get xs k)
   where
-    both : (o : Option Done) → option_map (numbered_line n) (option_map command_words o) ≡ option_map (λ (d : Done). numbered_line n (command_words d)) o
+    both : (o : Option X) → option_map (numbered_line n) (option_map words o) ≡ option_map (λ (x : X). numbered_line n (words x)) o
     both None = refl
-    both (Some d) = refl
+    both (Some x) = refl
+
+-- the line of an element of a front
+front_line : {X : Type 0} (n : ℕ) (words : X → List Word) (xs : List X) (later : List (List Word)) (k : ℕ) (x : X) (line : List ℕ) → slice_get xs k ≡ Some x → line ≡ numbered_line n (words x) → slice_get (map (numbered_line n) (map words xs ++ later)) k ≡ Some line
+front_line {X} n words xs later k x line found is =
+    let here : slice_get (map (numbered_line n) (map words xs)) k ≡ Some (numbered_line n (words x)) =
+    lines_at n words xs k ∙ ap (λ o. option_map (λ (x : X). numbered_line n (words x)) o) found in
+    rw (map-append (numbered_line n) (map words xs) later, is) (slice_get-append_left (map (numbered_line n) (map words xs)) (map (numbered_line n) later) k (numbered_line n (words x)) here)
+
+-- a line past a front
+later_line : {X : Type 0} (n : ℕ) (words : X → List Word) (xs : List X) (later : List (List Word)) (k : ℕ) → slice_get xs k ≡ None → slice_get (map (numbered_line n) (map words xs ++ later)) k ≡ slice_get (map (numbered_line n) later) (k - length xs)
+later_line {X} n words xs later k past =
+    let none : slice_get (map (numbered_line n) (map words xs)) k ≡ None = lines_at n words xs k ∙ ap (λ o. option_map (λ (x : X). numbered_line n (words x)) o) past in
+    let count : length (map (numbered_line n) (map words xs)) ≡ length xs = length-map (map words xs) (numbered_line n) ∙ length-map xs words in
+    ap (λ ys. slice_get ys k) (map-append (numbered_line n) (map words xs) later)
+    ∙ (past_front (map (numbered_line n) (map words xs)) (map (numbered_line n) later) k none
+    ∙ ap (λ c. slice_get (map (numbered_line n) later) (k - c)) count)
+
+-- where a line stands past a front there are as many after it
+past_within : {X : Type 0} (xs : List X) (words : X → List Word) (later : List (List Word)) (k : ℕ) → slice_get xs k ≡ None → k < length (map words xs ++ later) → k - length xs < length later
+past_within xs words later k past within =
+    let count : length (map words xs ++ later) ≡ length xs + length later = length-append (map words xs) later ∙ ap (λ c. c + length later) (length-map xs words) in
+    let out : length xs ≤ k = past_end xs k past in
+    omega (arith, count, out, within)
 
 -- the line of a command
-pub command_line : (n : ℕ) (done : List Done) (answer : Answer) (k : ℕ) (d : Done) (line : List ℕ) → slice_get done k ≡ Some d → line ≡ numbered_line n (command_words d) → slice_get (core_lines n done answer) k ≡ Some line
-command_line n done answer k d line found is =
-    let here : slice_get (map (numbered_line n) (map command_words done)) k ≡ Some (numbered_line n (command_words d)) =
-    command_at n done k ∙ ap (λ o. option_map (λ (d : Done). numbered_line n (command_words d)) o) found in
-    rw (lines_are n done answer, is) (slice_get-append_left (map (numbered_line n) (map command_words done)) (map (numbered_line n) (answer_words answer)) k (numbered_line n (command_words d)) here)
+pub command_line : (n : ℕ) (done : List Done) (starts : List Start) (answer : Answer) (k : ℕ) (d : Done) (line : List ℕ) → slice_get done k ≡ Some d → line ≡ numbered_line n (command_words d) → slice_get (core_lines n done starts answer) k ≡ Some line
+command_line n done starts answer k d line found is = front_line n command_words done (rest_words starts answer) k d line found is
 
--- past the commands there is the line of the answer
-pub answer_shown : (done : List Done) (answer : Answer) (k : ℕ) → slice_get done k ≡ None → k < length (output_words done answer) → 0 < length (answer_words answer)
-answer_shown done answer k past within = grows done k past (length (answer_words answer)) (let parts : length (output_words done answer) ≡ length done + length (answer_words answer) = length-append (map command_words done) (answer_words answer) ∙ ap (λ c. c + length (answer_words answer)) (length-map done command_words) in omega arith)
-  where
-    grows : (done : List Done) (k : ℕ) → slice_get done k ≡ None → (more : ℕ) → k < length done + more → 0 < more
-    grows [] k past more within = omega arith
-    grows (d ∷ done) zero past more within = cc
-    grows (d ∷ done) (suc k) past more within = grows done k past more (omega (arith, within))
+-- past the commands there are the lines of the rest
+pub rest_line : (n : ℕ) (done : List Done) (starts : List Start) (answer : Answer) (k : ℕ) (line : List ℕ) → slice_get done k ≡ None → slice_get (map (numbered_line n) (rest_words starts answer)) (k - length done) ≡ Some line → slice_get (core_lines n done starts answer) k ≡ Some line
+rest_line n done starts answer k line past is = later_line n command_words done (rest_words starts answer) k past ∙ is
 
-pub answer_line : (n : ℕ) (done : List Done) (answer : Answer) (k : ℕ) (line : List ℕ) → slice_get done k ≡ None → k < length (output_words done answer) → map (numbered_line n) (answer_words answer) ≡ line ∷ [] → slice_get (core_lines n done answer) k ≡ Some line
-answer_line n done answer k line past within is =
-    let none : slice_get (map (numbered_line n) (map command_words done)) k ≡ None = command_at n done k ∙ ap (λ o. option_map (λ (d : Done). numbered_line n (command_words d)) o) past in
-    let count : length (map (numbered_line n) (map command_words done) ++ map (numbered_line n) (answer_words answer)) ≡ length (output_words done answer) =
-    ap length (sym (lines_are n done answer)) ∙ length-map (output_words done answer) (numbered_line n) in
-    rw (lines_are n done answer) (after_front (map (numbered_line n) (map command_words done)) (map (numbered_line n) (answer_words answer)) k line none (omega (arith, count, within)) is)
+pub rest_within : (done : List Done) (starts : List Start) (answer : Answer) (k : ℕ) → slice_get done k ≡ None → k < length (output_words done starts answer) → k - length done < length (rest_words starts answer)
+rest_within done starts answer k past within = past_within done command_words (rest_words starts answer) k past within
+
+-- the line of a start
+pub start_line : (n : ℕ) (starts : List Start) (answer : Answer) (k : ℕ) (start : Start) (line : List ℕ) → slice_get starts k ≡ Some start → line ≡ numbered_line n (start_words start) → slice_get (map (numbered_line n) (rest_words starts answer)) k ≡ Some line
+start_line n starts answer k start line found is = front_line n start_words starts (answer_words answer) k start line found is
+
+-- past the starts there is the line of the answer
+pub answer_line : (n : ℕ) (starts : List Start) (answer : Answer) (k : ℕ) (line : List ℕ) → slice_get starts k ≡ None → k < length (rest_words starts answer) → map (numbered_line n) (answer_words answer) ≡ line ∷ [] → slice_get (map (numbered_line n) (rest_words starts answer)) k ≡ Some line
+answer_line n starts answer k line past within is =
+    later_line n start_words starts (answer_words answer) k past
+    ∙ one_at (map (numbered_line n) (answer_words answer)) (k - length starts) line is
+    (rw (length-map (answer_words answer) (numbered_line n)) (past_within starts start_words (answer_words answer) k past within))
+
+-- where an answer has a line, there is one past the starts
+pub answer_shown : (starts : List Start) (answer : Answer) (k : ℕ) → slice_get starts k ≡ None → k < length (rest_words starts answer) → 0 < length (answer_words answer)
+answer_shown starts answer k past within = omega (arith, past_within starts start_words (answer_words answer) k past within)

@@ -1,7 +1,8 @@
--- The closing table, which follows the last step: each unit's value in the book, and its kept value.
+-- The closing table, which follows the last step: each unit's value in the book, or the mode of a processor, and its kept
+-- value.
 use Rattle.std.specs.Prelude.{ℕ, ◌==◌, ◌&&◌, if◌then◌else◌, List, [], ◌∷◌, ◌++◌, map}
 use Rattle.std.specs.List.{concat}
-use Rattle.pm_base.specs.declared.names.Unit.{Unit as Place}
+use Rattle.pm_base.specs.declared.names.Unit.{Unit}
 use Rattle.pm_base.specs.declared.names.Unit.TheVariants.{Node, Line}
 use Rattle.pm_topology.specs.declared.topology.Topology.{Topology}
 use Rattle.pm_topology.specs.declared.places.Kind.{Kind}
@@ -9,7 +10,7 @@ use Rattle.pm_topology.specs.declared.places.Kind.TheVariants as kind
 use Rattle.pm_topology.specs.Places.{kind_of}
 use Rattle.pm_core.specs.State.{State}
 use Rattle.pm_core.specs.Units.{units}
-use Rattle.pm_core.specs.Values.{value}
+use Rattle.pm_core.specs.Values.{point, value}
 use Rattle.pm_apply.specs.Part.{Kept}
 use Rattle.pm_apply.specs.Record.{kept_value}
 use Rattle.pm_trace.specs.declared.line.Word.{Word}
@@ -24,18 +25,23 @@ kind_name (kind.Power w) = word.Power
 kind_name kind.Unknown = word.Slave
 
 -- what a unit is called in the closing table, and its number
-abbrev pub unit_name : Topology → Place → List Word
+abbrev pub unit_name : Topology → Unit → List Word
 unit_name t (Node node) = kind_name (kind_of t node) ∷ word.Number node.0 ∷ []
 unit_name t (Line reset) = word.Line ∷ word.Number reset.0 ∷ []
 
--- the closing line of a unit with this value in the book and this kept value: nothing where both are 0
-abbrev pub unit_line : Topology → Place → ℕ → ℕ → List ℕ
+-- the closing line of a unit of which the book's column shows this, with this kept value: nothing where both are 0
+abbrev pub unit_line : Topology → Unit → ℕ → ℕ → List ℕ
 unit_line t unit book kept =
     if (book == 0) && (kept == 0) then []
     else line_text (word.End ∷ (unit_name t unit ++ numbers (book ∷ kept ∷ [])))
 
-abbrev pub unit_text : State → Kept → Place → List ℕ
-unit_text book kept unit = unit_line book.fixed.topology unit (value unit book) (kept_value kept unit)
+-- what the book's column shows of a unit: the number of the mode of a processor, and the value of any other
+abbrev pub shown : Unit → State → ℕ
+shown (Node node) book = point node book
+shown (Line reset) book = value (Line reset) book
+
+abbrev pub unit_text : State → Kept → Unit → List ℕ
+unit_text book kept unit = unit_line book.fixed.topology unit (shown unit book) (kept_value kept unit)
 
 -- the closing lines of all units in order, where that of a unit which isn't shown is empty
 abbrev pub closing_lines : State → Kept → List (List ℕ)

@@ -8,6 +8,8 @@ use Rattle.pm_object.specs.declared.object.ObjectCause.{ObjectCause}
 use Rattle.pm_object.specs.declared.object.ObjectCause.TheVariants as objects
 use Rattle.pm_objtext.specs.declared.fault.TextCause.{TextCause}
 use Rattle.pm_objtext.specs.declared.fault.TextCause.TheVariants as texts
+use Rattle.pm_script.specs.declared.meaning.LineFault.{LineFault}
+use Rattle.pm_script.specs.declared.meaning.LineFault.TheVariants as lines
 use Rattle.pm_trace.specs.declared.line.Word.{Word}
 use Rattle.pm_trace.specs.declared.line.Word.TheVariants as word
 use Rattle.pm_trace.specs.Line.{line_text}
@@ -35,12 +37,20 @@ text_cause texts.Repeated = 3
 text_cause texts.Master = 4
 text_cause texts.Size = 5
 
+-- the number of a cause for which a line has no meaning
+abbrev pub line_cause : LineFault → ℕ
+line_cause lines.Unknown = 1
+line_cause lines.Number = 2
+line_cause lines.Count = 3
+line_cause lines.Long = 4
+line_cause lines.NotAscii = 5
+
 -- what a fault is called, with its place
 abbrev pub fault_words : Fault → List Word
 fault_words Usage = word.Usage ∷ []
 fault_words (Object fault) = word.Object ∷ word.Number (object_cause fault.cause) ∷ word.Number fault.offset ∷ []
 fault_words (Text fault) = word.Text ∷ word.Number fault.line ∷ word.Number (text_cause fault.cause) ∷ []
-fault_words (Line n) = word.Line ∷ word.Number n ∷ []
+fault_words (Line n cause) = word.Line ∷ word.Number n ∷ word.Number (line_cause cause) ∷ []
 fault_words Read = word.Read ∷ []
 fault_words Memory = word.Memory ∷ []
 fault_words Size = word.Size ∷ []
@@ -54,7 +64,7 @@ abbrev pub exit_by : Fault → Exit
 exit_by Usage = exit.Usage
 exit_by (Object fault) = exit.BadObject
 exit_by (Text fault) = exit.BadText
-exit_by (Line n) = exit.BadLine
+exit_by (Line n cause) = exit.BadLine
 exit_by Read = exit.ReadFault
 exit_by Memory = exit.Memory
 exit_by Size = exit.TooLarge

@@ -1,4 +1,5 @@
 pub mod Closing
+pub mod Exits
 pub mod Faults
 pub mod Line
 pub mod Report

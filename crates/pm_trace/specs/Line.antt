@@ -1,14 +1,16 @@
 -- The lines of output: their words and bytes.
-use Rattle.std.specs.Prelude.{ℕ, List, [], ◌∷◌, ◌++◌, map, codes, decimal}
+use Rattle.std.specs.Prelude.{ℕ, ◌+◌, List, [], ◌∷◌, ◌++◌, map, codes, decimal}
 use Rattle.std.specs.List.{join_with_byte}
 use Rattle.pm_trace.specs.declared.line.Word.{Word}
-use Rattle.pm_trace.specs.declared.line.Word.TheVariants.{Number, Set, Fail, Reply, Drop, Call, End, Proc, Slave, Power, Fault, Usage, Object, Text, Line, LineFail, Read, Memory, Size}
+use Rattle.pm_trace.specs.declared.line.Word.TheVariants.{Number, Address, Set, Fail, Run, Reply, Drop, Call, End, Proc, Slave, Power, Fault, Usage, Object, Text, Line, LineFail, Read, Memory, Size}
 
 -- the bytes of a word
 abbrev pub word_text : Word → List ℕ
 word_text (Number n) = decimal n
+word_text (Address address) = decimal address
 word_text Set = codes "set"
 word_text Fail = codes "fail"
+word_text Run = codes "run"
 word_text Reply = codes "reply"
 word_text Drop = codes "drop"
 word_text Call = codes "call"
@@ -25,6 +27,35 @@ word_text LineFail = codes "linefail"
 word_text Read = codes "read"
 word_text Memory = codes "memory"
 word_text Size = codes "size"
+
+-- how many bytes a word has at most: an address has 64 bits, and a number 32
+abbrev pub width : Word → ℕ
+width (Address address) = 20
+width (Number n) = 10
+width Set = 3
+width Fail = 4
+width Run = 3
+width Reply = 5
+width Drop = 4
+width Call = 4
+width End = 3
+width Proc = 4
+width Slave = 5
+width Power = 5
+width Fault = 5
+width Usage = 5
+width Object = 6
+width Text = 4
+width Line = 4
+width LineFail = 8
+width Read = 4
+width Memory = 6
+width Size = 4
+
+-- how many bytes these words have at most, each with a space before it
+abbrev pub widths : List Word → ℕ
+widths [] = 0
+widths (word ∷ words) = width word + 1 + widths words
 
 -- numbers as words
 abbrev pub numbers : List ℕ → List Word

@@ -3,7 +3,7 @@ use Rattle.std.specs.Prelude.{◌≡◌, ℕ, Bool, List, [], ◌∷◌, ◌++�
 use Rattle.pm_base.specs.declared.errors.Exit.{Exit}
 use Rattle.pm_base.specs.declared.errors.Exit.TheVariants.{WriteFault}
 use Rattle.pm_base.specs.declared.sink.Sink as Sink
-use Rattle.pm_base.specs.Sink.{SinkMoment, Leaves}
+use Rattle.pm_base.specs.Writing.{Leaves}
 use Rattle.pm_trace.specs.declared.faults.Fault.{Fault}
 use Rattle.pm_trace.specs.Faults.{fault_text, exit_after}
 
@@ -33,13 +33,13 @@ abbrev pub report_of : {J : Type 0} → (J → List (List Bool) → Report) → 
 report_of report (Ok job) answers = report job answers
 report_of report (Err fault) answers = refusal fault
 
--- a report was written up to a cut, and this is the exit
-pub record Reports (shown : Type 0) (report : Report) (old new : SinkMoment) (exit : Exit) : Type 0 where
-  pub cut : Option ℕ
-  pub left : Leaves shown (pieces report) cut old new
-  pub ends : exit ≡ exit_of report cut
-
 module _ {O : Type 0} (o : Sink.Ghosts O) where
+  -- a report was written up to a cut, and this is the exit
+  pub record Reports (report : Report) (old new : O) (exit : Exit) : Type 0 where
+    pub cut : Option ℕ
+    pub left : Leaves o (pieces report) cut old new
+    pub ends : exit ≡ exit_of report cut
+
   -- what a call did: what it had to do, or the fault that refuses that; the device's answers to each of its core steps;
   -- and the piece within which the sink broke off, if it did. All that is said of the call is said of these three
   pub record Did {J : Type 0} (IsAsked : Result J Fault → Type 0) (report : J → List (List Bool) → Report)
@@ -48,6 +48,6 @@ module _ {O : Type 0} (o : Sink.Ghosts O) where
     pub answers : List (List Bool)
     pub cut : Option ℕ
     pub asked : IsAsked job
-    pub left : Leaves o.observable (pieces (report_of report job answers)) cut (o.state old) (o.state new)
+    pub left : Leaves o (pieces (report_of report job answers)) cut old new
     pub ends : exit ≡ exit_of (report_of report job answers) cut
     pub touched : Touches job answers cut

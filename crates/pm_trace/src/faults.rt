@@ -1,12 +1,13 @@
 //! The line that a command ends with where it fails, and the exit.
 
 ghost use Rattle.std.specs.Prelude.{◌≡◌};
-ghost use Rattle.pm_trace.specs.Faults.{fault_text, object_cause, text_cause, exit_by};
+ghost use Rattle.pm_trace.specs.Faults.{fault_text, object_cause, text_cause, line_cause, exit_by};
 
 use crate::line::{TextLine, Word, write_line};
 use pm_base::Exit;
 use pm_object::{ObjectCause, ObjectFault};
 use pm_objtext::{TextCause, TextFault};
+use pm_script::LineFault;
 
 /// Why a command failed, as its last line says it.
 #[derive(Clone, Copy, Debug, PartialEq, Eq)]
@@ -17,8 +18,8 @@ pub enum Fault {
     Object(ObjectFault),
     /// The text of an object has no reading: its first bad line.
     Text(TextFault),
-    /// The script line of this number, counted from 1, has no meaning.
-    Line(u32),
+    /// The script line of this number, counted from 1, has no meaning: its first fault.
+    Line(u32, LineFault),
     /// An input could not be begun or read.
     Read,
     /// There was not enough memory.
@@ -51,7 +52,11 @@ pub fn write_fault(fault: Fault, line: &mut TextLine)
                 Word::Number(text_cause(fault.cause)),
             ],
         ),
-        Fault::Line(n) => write_line(line, Word::Fault, &[Word::Line, Word::Number(n)]),
+        Fault::Line(n, cause) => write_line(
+            line,
+            Word::Fault,
+            &[Word::Line, Word::Number(n), Word::Number(line_cause(cause))],
+        ),
         Fault::Read => write_line(line, Word::Fault, &[Word::Read]),
         Fault::Memory => write_line(line, Word::Fault, &[Word::Memory]),
         Fault::Size => write_line(line, Word::Fault, &[Word::Size]),
@@ -72,6 +77,13 @@ fn text_cause(cause: TextCause) -> u32
     cause as u32
 }
 
+/// The number of a cause for which a line has no meaning.
+fn line_cause(cause: LineFault) -> u32
+    ensures { result ≡ line_cause cause }
+{
+    cause as u32
+}
+
 /// The exit of a command that a fault stops.
 pub fn exit(fault: Fault) -> Exit
     ensures { result ≡ exit_by fault }
@@ -80,7 +92,7 @@ pub fn exit(fault: Fault) -> Exit
         Fault::Usage => Exit::Usage,
         Fault::Object(_) => Exit::BadObject,
         Fault::Text(_) => Exit::BadText,
-        Fault::Line(_) => Exit::BadLine,
+        Fault::Line(_, _) => Exit::BadLine,
         Fault::Read => Exit::ReadFault,
         Fault::Memory => Exit::Memory,
         Fault::Size => Exit::TooLarge,

@@ -2,12 +2,14 @@
 #![tactic(auto)]
 
 pub mod closing_table;
+pub mod exits;
 pub mod faults;
 pub mod line;
 pub mod report;
 pub mod step;
 
 pub use closing_table::closing;
+pub use exits::exits_say;
 pub use faults::{Fault, exit, write_fault};
 pub use line::{TextLine, Word, write_line};
 pub use report::refuse;

@@ -2,7 +2,7 @@
 
 ghost use Rattle.std.specs.Prelude.{◌≡◌, ◌+◌, ◌≤◌, ◌++◌, ◌∷◌, length};
 ghost use Rattle.arrayvec.specs.ArrayVec.{array_vec_len};
-ghost use Rattle.pm_trace.specs.Line.{word_text, line_text};
+ghost use Rattle.pm_trace.specs.Line.{word_text, line_text, width, widths};
 
 use arrayvec::ArrayVec;
 use itoa::Buffer;
@@ -10,12 +10,14 @@ use itoa::Buffer;
 /// A line of output with its line feed.
 pub type TextLine = ArrayVec<u8, 128>;
 
-/// A word of a line of output: a number in decimal, or a name.
+/// A word of a line of output: a number or an address in decimal, or a name.
 #[derive(Clone, Copy)]
 pub enum Word {
     Number(u32),
+    Address(u64),
     Set,
     Fail,
+    Run,
     Reply,
     Drop,
     Call,
@@ -36,7 +38,7 @@ pub enum Word {
 
 /// Leaves a line of these words, with one space between them and a line feed at the end.
 pub fn write_line(line: &mut TextLine, first: Word, rest: &[Word])
-    requires few { length rest.now ≤ 10 }
+    requires room { widths (first ∷ rest.now) ≤ 127 }
     ensures { line.new.items ≡ line_text (first ∷ rest.now) }
 {
     line.clear();
@@ -49,9 +51,9 @@ pub fn write_line(line: &mut TextLine, first: Word, rest: &[Word])
 }
 
 fn push_word(line: &mut TextLine, word: Word)
-    requires room { array_vec_len line.old + 10 ≤ 128 }
+    requires room { array_vec_len line.old + width word ≤ 128 }
     ensures items { line.new.items ≡ line.old.items ++ word_text word }
-    ensures len { array_vec_len line.new ≤ array_vec_len line.old + 10 }
+    ensures len { array_vec_len line.new ≤ array_vec_len line.old + width word }
 {
     let mut buffer = Buffer::new();
     push_text(line, text_of(word, &mut buffer));
@@ -65,15 +67,17 @@ fn push_text(line: &mut TextLine, text: &[u8])
     line.try_extend_from_slice(text).unwrap();
 }
 
-/// The bytes of a word, at most ten. The buffer holds those of a number.
+/// The bytes of a word. The buffer holds those of a number.
 fn text_of<'a>(word: Word, buffer: &'a mut Buffer) -> &'a [u8]
     ensures text { result.now ≡ word_text word }
-    ensures short { length result.now ≤ 10 }
+    ensures short { length result.now ≤ width word }
 {
     match word {
         Word::Number(n) => buffer.format(n).as_bytes(),
+        Word::Address(address) => buffer.format(address).as_bytes(),
         Word::Set => b"set",
         Word::Fail => b"fail",
+        Word::Run => b"run",
         Word::Reply => b"reply",
         Word::Drop => b"drop",
         Word::Call => b"call",

@@ -9,7 +9,7 @@ use pm_base::{Exit, Sink, write_all};
 /// Writes the line of a fault that stops a command, and answers the exit. The line is tried once:
 /// where the sink fails on it, the exit stays.
 pub fn refuse<O: Sink>(fault: Fault, out: &mut O) -> Exit
-    ensures { Reports O.observable (refusal fault) (O.state out.old) (O.state out.new) result }
+    ensures { Reports O.Sink (refusal fault) out.old out.new result }
 {
     let mut line = TextLine::new();
     write_fault(fault, &mut line);

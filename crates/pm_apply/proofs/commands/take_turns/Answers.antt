@@ -8,7 +8,7 @@ use Rattle.pm_apply.proofs.commands.take_turns.Goals as goal
 pub take_turn-requires : goal.take_turn-requires
 take_turn-requires g c =
     let t = c.args.book.now.fixed.topology in
-    let fits = most_of_step t (λ u. value u c.args.book.now) in
+    let fits = most_of_step t (λ u. value u c.args.book.now) c.units_stand_in_order.ensures in
     let none = ap length c.requires.fresh in
     record { room = Takes-room g.D.Device.Does t (λ u. value u c.args.book.now) (turns_of t) c.loop-k.k c.turn_at.result c.args.kept.now c.loop-k.kept c.args.out.now.done.items c.loop-k.out.done.items c.args.dev.now c.loop-k.dev c.loop-k.out.done.room c.turn_at.ensures (omega (arith, fits, none, c.loop-k.invariant.rest.room, c.requires.room.done)) c.loop-k.invariant.takes }
 

@@ -1,17 +1,14 @@
+use Rattle.pm_apply.proofs.Below.{ChipLaws}
 use Rattle.pm_apply.proofs.StepLaw.{part_agreed, part_reaches, part_succeeds, part_unrefused, unrefused_succeed}
 use Rattle.pm_apply.proofs.laws.a_part_without_refusal.Goals as goal
 
-pub returns-clause-same : goal.returns-clause-same
-returns-clause-same c = part_unrefused
-
-pub returns-clause-agreed : goal.returns-clause-agreed
-returns-clause-agreed c = part_agreed
-
-pub returns-clause-succeeds : goal.returns-clause-succeeds
-returns-clause-succeeds c = part_succeeds
-
-pub returns-clause-unrefused : goal.returns-clause-unrefused
-returns-clause-unrefused c = unrefused_succeed
-
-pub returns-clause-reaches : goal.returns-clause-reaches
-returns-clause-reaches c = λ kept answers book outputs well record_of. part_reaches kept answers book outputs well (c.values_are_fed.ensures book well) record_of
+pub returns : goal.returns
+returns c =
+    let laws : ChipLaws = record { units = c.units_stand_in_order.ensures; kinds = c.kinds_are_exact.ensures; table = c.unit_maps.ensures } in
+    record {
+      same = part_unrefused;
+      agreed = part_agreed;
+      succeeds = part_succeeds;
+      unrefused = unrefused_succeed;
+      reaches = λ kept answers book outputs well record_of. part_reaches kept answers book outputs laws well (c.values_are_fed.ensures book well) record_of;
+    }

@@ -9,7 +9,7 @@ overflow_add-result c =
     let t = c.args.book.now.fixed.topology in
     let powers : c.len-powers.result ≡ length t.powers = c.len-powers.ensures ∙ ap (λ t. length t.powers) c.topology.ensures.topology in
     let units : c.units.result ≡ length (units_of t) = c.units.ensures in
-    let few = few_turns t (subst IsWellFormed c.topology.ensures.topology c.topology.ensures.formed) in
+    let few = few_turns c.units_stand_in_order.ensures t (subst IsWellFormed c.topology.ensures.topology c.topology.ensures.formed) in
     omega (arith, powers, units, few, length-turns_of t)
 
 pub overflow_add-result-2 : goal.overflow_add-result-2
@@ -17,7 +17,7 @@ overflow_add-result-2 c =
     let t = c.args.book.now.fixed.topology in
     let powers : c.len-powers.result ≡ length t.powers = c.len-powers.ensures ∙ ap (λ t. length t.powers) c.topology.ensures.topology in
     let units : c.units.result ≡ length (units_of t) = c.units.ensures in
-    let few = few_turns t (subst IsWellFormed c.topology.ensures.topology c.topology.ensures.formed) in
+    let few = few_turns c.units_stand_in_order.ensures t (subst IsWellFormed c.topology.ensures.topology c.topology.ensures.formed) in
     omega (arith, powers, units, few, length-turns_of t)
 
 pub returns-clause-count : goal.returns-clause-count

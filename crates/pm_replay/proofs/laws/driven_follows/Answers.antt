@@ -15,6 +15,8 @@ returns g c = λ setup events answers cut old new well idle given.
       join = c.orders_join.ensures.append;
       alike = c.orders_join.ensures.alike;
       refused = c.acts_append.ensures.refusals;
+      harmless = c.acts_append.ensures.harmless;
+      kinds = c.kinds_are_exact.ensures;
       after = c.acts_append.ensures.values;
     })
     (λ events. c.books_of_a_run.ensures.all setup events well)

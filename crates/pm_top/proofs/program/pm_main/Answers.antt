@@ -1,10 +1,28 @@
 use Rattle.std.proofs.Common.{map, string_bytes}
 use Rattle.pm_replay.specs.World.{world}
-use Rattle.pm_top.proofs.MainLemmas.{decides, read_cause}
+use Rattle.pm_top.proofs.MainLemmas.{decides, memory, read_cause, reading_fault, unfailing, untouched, usage, writing_fault}
 use Rattle.pm_top.proofs.program.pm_main.Goals as goal
 
+pub returns-clause-usage : goal.returns-clause-usage
+returns-clause-usage g c = usage g.I.Inputs g.O.Sink c.exits_say.ensures g.D.Device (map string_bytes c.args.words.now) (world c.args.inputs.now c.args.out.now c.args.dev.now) (world c.run_words.new.inputs c.run_words.new.out c.run_words.new.dev) c.run_words.result c.run_words.ensures.ran
+
 pub returns-clause-decided : goal.returns-clause-decided
-returns-clause-decided g c = decides g.I.Inputs g.O.Sink g.D.Device (map string_bytes c.args.words.now) (world c.args.inputs.now c.args.out.now c.args.dev.now) (world c.run_words.new.inputs c.run_words.new.out c.run_words.new.dev) c.run_words.result c.run_words.ensures.ran
+returns-clause-decided g c = decides g.I.Inputs g.O.Sink c.exits_say.ensures g.D.Device (map string_bytes c.args.words.now) (world c.args.inputs.now c.args.out.now c.args.dev.now) (world c.run_words.new.inputs c.run_words.new.out c.run_words.new.dev) c.run_words.result c.run_words.ensures.ran
+
+pub returns-clause-untouched : goal.returns-clause-untouched
+returns-clause-untouched g c = untouched g.I.Inputs g.O.Sink c.exits_say.ensures g.D.Device (map string_bytes c.args.words.now) (world c.args.inputs.now c.args.out.now c.args.dev.now) (world c.run_words.new.inputs c.run_words.new.out c.run_words.new.dev) c.run_words.result c.run_words.ensures.ran
+
+pub returns-clause-memory : goal.returns-clause-memory
+returns-clause-memory g c = memory g.I.Inputs g.O.Sink c.exits_say.ensures g.D.Device (map string_bytes c.args.words.now) (world c.args.inputs.now c.args.out.now c.args.dev.now) (world c.run_words.new.inputs c.run_words.new.out c.run_words.new.dev) c.run_words.result c.run_words.ensures.ran
+
+pub returns-clause-read_fault : goal.returns-clause-read_fault
+returns-clause-read_fault g c = reading_fault g.I.Inputs g.O.Sink c.exits_say.ensures g.D.Device (map string_bytes c.args.words.now) (world c.args.inputs.now c.args.out.now c.args.dev.now) (world c.run_words.new.inputs c.run_words.new.out c.run_words.new.dev) c.run_words.result c.run_words.ensures.ran
 
 pub returns-clause-read_cause : goal.returns-clause-read_cause
-returns-clause-read_cause g c = read_cause g.I.Inputs g.O.Sink g.D.Device (map string_bytes c.args.words.now) (world c.args.inputs.now c.args.out.now c.args.dev.now) (world c.run_words.new.inputs c.run_words.new.out c.run_words.new.dev) c.run_words.result c.a_script_that_fails.ensures c.run_words.ensures.ran
+returns-clause-read_cause g c = read_cause g.I.Inputs g.O.Sink c.exits_say.ensures g.D.Device (map string_bytes c.args.words.now) (world c.args.inputs.now c.args.out.now c.args.dev.now) (world c.run_words.new.inputs c.run_words.new.out c.run_words.new.dev) c.run_words.result c.a_script_that_fails.ensures c.run_words.ensures.ran
+
+pub returns-clause-write_fault : goal.returns-clause-write_fault
+returns-clause-write_fault g c = writing_fault g.I.Inputs g.O.Sink c.exits_say.ensures g.D.Device (map string_bytes c.args.words.now) (world c.args.inputs.now c.args.out.now c.args.dev.now) (world c.run_words.new.inputs c.run_words.new.out c.run_words.new.dev) c.run_words.result c.run_words.ensures.ran
+
+pub returns-clause-unfailed : goal.returns-clause-unfailed
+returns-clause-unfailed g c = unfailing g.I.Inputs g.O.Sink c.exits_say.ensures g.D.Device (map string_bytes c.args.words.now) (world c.args.inputs.now c.args.out.now c.args.dev.now) (world c.run_words.new.inputs c.run_words.new.out c.run_words.new.dev) c.run_words.result c.run_words.ensures.ran

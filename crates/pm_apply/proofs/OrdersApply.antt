@@ -5,7 +5,7 @@ use Rattle.std.specs.Prelude.{slice_get}
 use Rattle.std.specs.List.{list_any}
 use Rattle.std.proofs.lemmas.Bool.{or_right, or_from, both_ways}
 use Rattle.pm_base.specs.declared.names.NodeId.{NodeId}
-use Rattle.pm_base.specs.declared.names.Unit.{Unit as Place}
+use Rattle.pm_base.specs.declared.names.Unit.{Unit}
 use Rattle.pm_base.specs.declared.names.Unit.TheVariants.{Node, Line}
 use Rattle.pm_base.specs.declared.names.Command.{Command}
 use Rattle.pm_topology.specs.declared.topology.Topology.{Topology}
@@ -15,20 +15,21 @@ use Rattle.pm_topology.specs.WellFormed.{IsWellFormed}
 use Rattle.pm_topology.specs.Units.{needs_power, parent_of_unit, same_unit}
 use Rattle.pm_core.specs.declared.outbox.Done.{Done}
 use Rattle.pm_core.specs.Fed.{IsFed}
-use Rattle.pm_apply.specs.declared.turns.Turn.TheVariants.{Settle}
+use Rattle.pm_apply.proofs.Below.{ChipLaws}
+use Rattle.pm_apply.specs.declared.turns.Turn.TheVariants.{Apply}
 use Rattle.pm_apply.specs.Record.{Kept, kept_value, IsRecordOf}
 use Rattle.pm_apply.specs.Plan.{due, done_as, after_answer, is_fed, is_power}
 use Rattle.pm_apply.specs.Order.{FailedOn}
 use Rattle.pm_apply.proofs.PlanLeads.{Leads, leads_none, leads_turn}
-use Rattle.pm_apply.proofs.RecordLemmas.{same_unit-true, same_unit-refl, kept_stays, was_refused}
+use Rattle.pm_apply.proofs.RecordLemmas.{kept_stays, was_refused}
 use Rattle.pm_apply.proofs.RecordLaw.{has_cell_in, turn_keeps}
 use Rattle.pm_apply.proofs.OrdersUnits.{is_listed, power_is_power}
 use Rattle.pm_apply.proofs.OrdersDue.{settles, waits}
 use Rattle.pm_apply.proofs.OrdersFailed.{FailsAtOrAbove, fails_before, failed_before, failed_last, waits_for}
 
-module _ (t : Topology) (values : Place → ℕ) where
+module _ (t : Topology) (values : Unit → ℕ) where
   -- a unit needs power for its value, and a command failed on the power node above it or higher
-  pub record IsStarved (front : List Done) (unit : Place) : Type 0 where
+  pub record IsStarved (front : List Done) (unit : Unit) : Type 0 where
     pub node : NodeId
     pub u : ℕ
     pub is : unit ≡ Node node
@@ -37,10 +38,10 @@ module _ (t : Topology) (values : Place → ℕ) where
     pub failed : FailsAtOrAbove t front u
 
   -- why a unit isn't at its value
-  abbrev pub Lags : List Done → Place → Type 0
+  abbrev pub Lags : List Done → Unit → Type 0
   Lags front unit = FailedOn front unit ⊎ IsStarved front unit
 
-  pub lags_before : (front more : List Done) (unit : Place) → Lags front unit → Lags (front ++ more) unit
+  pub lags_before : (front more : List Done) (unit : Unit) → Lags front unit → Lags (front ++ more) unit
   lags_before front more unit (inl failed) = inl (failed_before front more unit failed)
   lags_before front more unit (inr starved) = inr (record {
     node = starved.node;
@@ -56,19 +57,19 @@ module _ (t : Topology) (values : Place → ℕ) where
   AllRaised kept front = (v : ℕ) (p : PowerDef) → slice_get t.powers v ≡ Some p → values (Node p.node) ≡ 1 → kept_value kept (Node p.node) ≡ 0 → FailsAtOrAbove t front v
 
   -- so it is, and each unit that is no power node, has had its turn and isn't at its value lags for such a reason
-  pub record Settled (rest : List Place) (kept : Kept) (front : List Done) : Type 0 where
+  pub record Settled (rest : List Unit) (kept : Kept) (front : List Done) : Type 0 where
     pub record_of : IsRecordOf t kept
-    pub among : (x : Place) → list_any (λ u. same_unit u x) rest ≡ true → is_listed t x ≡ true
+    pub among : (x : Unit) → list_any (λ u. same_unit u x) rest ≡ true → is_listed t x ≡ true
     pub raised : AllRaised kept front
-    pub settled : (x : Place) → is_listed t x ≡ true → is_power t x ≡ false → kept_value kept x ≢ values x → list_any (λ u. same_unit u x) rest ≡ false → Lags front x
+    pub settled : (x : Unit) → is_listed t x ≡ true → is_power t x ≡ false → kept_value kept x ≢ values x → list_any (λ u. same_unit u x) rest ≡ false → Lags front x
 
-module _ (t : Topology) (values : Place → ℕ) (well : IsWellFormed t) (fed : IsFed t values) where
+module _ (laws : ChipLaws) (t : Topology) (values : Unit → ℕ) (well : IsWellFormed t) (fed : IsFed t values) where
   -- a unit that needs power and has none by the record
-  starved : (kept : Kept) (front : List Done) (unit : Place) → AllRaised t values kept front
+  starved : (kept : Kept) (front : List Done) (unit : Unit) → AllRaised t values kept front
       → needs_power t unit (values unit) ≡ true → is_fed t kept (parent_of_unit t unit) ≡ false → IsStarved t values front unit
   starved kept front (Line line) raised needs unfed = cc
   starved kept front (Node node) raised needs unfed =
-      let waits = waits_for t values well fed kept node needs unfed in
+      let waits = waits_for t values laws well fed kept node needs unfed in
       record {
         node = node;
         u = waits.u;
@@ -78,8 +79,8 @@ module _ (t : Topology) (values : Place → ℕ) (well : IsWellFormed t) (fed : 
         failed = raised waits.u waits.power waits.is waits.value waits.down;
       }
 
-  module _ (u : Place) (rest : List Place) (kept : Kept) (front : List Done) (s : Settled t values (u ∷ rest) kept front) where
-    settled_none : due t values kept (Settle u) ≡ None → Settled t values rest kept front
+  module _ (u : Unit) (rest : List Unit) (kept : Kept) (front : List Done) (s : Settled t values (u ∷ rest) kept front) where
+    settled_none : due t values kept (Apply u) ≡ None → Settled t values rest kept front
     settled_none none = record {
       record_of = s.record_of;
       among = λ x is. s.among x (or_right (same_unit u x) _ is);
@@ -87,20 +88,20 @@ module _ (t : Topology) (values : Place → ℕ) (well : IsWellFormed t) (fed : 
       settled = λ x has other lags off. by_turn x (same_unit u x) refl has other lags off;
     }
       where
-        by_turn : (x : Place) (same : Bool) → same_unit u x ≡ same → is_listed t x ≡ true → is_power t x ≡ false → kept_value kept x ≢ values x → list_any (λ u. same_unit u x) rest ≡ false → Lags t values front x
+        by_turn : (x : Unit) (same : Bool) → same_unit u x ≡ same → is_listed t x ≡ true → is_power t x ≡ false → kept_value kept x ≢ values x → list_any (λ u. same_unit u x) rest ≡ false → Lags t values front x
         by_turn x false is has other lags off = s.settled x has other lags (or_from (same_unit u x) _ is off)
         by_turn x true is has other lags off =
-            let at = same_unit-true u x is in
-            let why = waits t values kept x (ap (λ unit. due t values kept (Settle unit)) (sym at) ∙ none) other lags in
+            let at = laws.units.same u x is in
+            let why = waits t values kept x (ap (λ unit. due t values kept (Apply unit)) (sym at) ∙ none) other lags in
             inr (starved kept front x s.raised why.0 why.1)
 
-    settled_some : (c : Command) (ok : Bool) → due t values kept (Settle u) ≡ Some c → Settled t values rest (after_answer c ok kept) (front ++ done_as c kept ok ∷ [])
+    settled_some : (c : Command) (ok : Bool) → due t values kept (Apply u) ≡ Some c → Settled t values rest (after_answer c ok kept) (front ++ done_as c kept ok ∷ [])
     settled_some c ok is = record {
-      record_of = turn_keeps t values well (Settle u) kept c ok s.record_of is;
+      record_of = turn_keeps laws t values well (Apply u) kept c ok s.record_of is;
       among = λ x is. s.among x (or_right (same_unit u x) _ is);
       raised = λ v p here value down.
           fails_before t front (done_as c kept ok ∷ []) v
-          (s.raised v p here value (sym (kept_stays c ok kept (Node p.node) (not_power v p here)) ∙ down));
+          (s.raised v p here value (sym (kept_stays laws c ok kept (Node p.node) (not_power v p here)) ∙ down));
       settled = λ x has other lags off. by_turn x (same_unit u x) refl has other lags off;
     }
       where
@@ -113,22 +114,22 @@ module _ (t : Topology) (values : Place → ℕ) (well : IsWellFormed t) (fed : 
         not_power : (v : ℕ) (p : PowerDef) → slice_get t.powers v ≡ Some p → c.unit ≡ Node p.node → ⊥
         not_power v p here same =
             both_ways (is_power t u) (settles t values kept u c is).other
-            (ap (is_power t) (sym unit ∙ same) ∙ power_is_power t well v p here)
+            (ap (is_power t) (sym unit ∙ same) ∙ power_is_power laws t well v p here)
 
-        by_turn : (x : Place) (same : Bool) → same_unit u x ≡ same → is_listed t x ≡ true → is_power t x ≡ false → kept_value (after_answer c ok kept) x ≢ values x → list_any (λ u. same_unit u x) rest ≡ false → Lags t values (front ++ done_as c kept ok ∷ []) x
+        by_turn : (x : Unit) (same : Bool) → same_unit u x ≡ same → is_listed t x ≡ true → is_power t x ≡ false → kept_value (after_answer c ok kept) x ≢ values x → list_any (λ u. same_unit u x) rest ≡ false → Lags t values (front ++ done_as c kept ok ∷ []) x
         by_turn x false is has other lags off =
-            let apart : c.unit ≡ x → ⊥ = λ same. both_ways (same_unit u x) is (ap (same_unit u) (sym (sym unit ∙ same)) ∙ same_unit-refl u) in
-            let before : kept_value kept x ≢ values x = λ same. lags (kept_stays c ok kept x apart ∙ same) in
+            let apart : c.unit ≡ x → ⊥ = λ same. both_ways (same_unit u x) is (ap (same_unit u) (sym (sym unit ∙ same)) ∙ laws.units.itself u) in
+            let before : kept_value kept x ≢ values x = λ same. lags (kept_stays laws c ok kept x apart ∙ same) in
             lags_before t values front (done_as c kept ok ∷ []) x (s.settled x has other before (or_from (same_unit u x) _ is off))
         by_turn x true is has other lags off =
-            let at : c.unit ≡ x = unit ∙ same_unit-true u x is in
-            let wants : c.value ≡ values x = value ∙ ap values (same_unit-true u x is) in
+            let at : c.unit ≡ x = unit ∙ laws.units.same u x is in
+            let wants : c.value ≡ values x = value ∙ ap values (laws.units.same u x is) in
             let cell = has_cell_in t kept c.unit s.record_of (ap (is_listed t) at ∙ has) in
-            let fails = was_refused c ok kept cell (λ same. lags (ap (kept_value (after_answer c ok kept)) (sym at) ∙ same ∙ wants)) in
+            let fails = was_refused laws c ok kept cell (λ same. lags (ap (kept_value (after_answer c ok kept)) (sym at) ∙ same ∙ wants)) in
             inl (failed_last front (done_as c kept ok) x at fails)
 
-  pub settle_all : (units : List Place) → Leads t values (Settled t values units) (map Settle units) (Settled t values [])
+  pub settle_all : (units : List Unit) → Leads t values (Settled t values units) (map Apply units) (Settled t values [])
   settle_all [] = leads_none t values (Settled t values []) (Settled t values []) (λ kept front s. s)
   settle_all (u ∷ units) =
-      leads_turn t values (Settled t values (u ∷ units)) (Settled t values units) (Settled t values []) (Settle u) (map Settle units)
+      leads_turn t values (Settled t values (u ∷ units)) (Settled t values units) (Settled t values []) (Apply u) (map Apply units)
       (settled_none u units) (settled_some u units) (settle_all units)
