@@ -6,28 +6,34 @@ use std::alloc::{AllocError, Global};
 use std::test::Fail;
 
 /// A run that takes a slave of each class up, in each power domain, and down: a line of its script,
-/// the commands of its step with the value before and after, and what is answered. The first entry is
-/// step 0. In the script an empty line comes after each.
-static STEPS: [(&str, &[&str], &str); 15] = [
-    ("", &["62 0 1"], ""),
+/// the commands of its step with the value before and after, and the start or the answer. The first entry
+/// is step 0. In the script an empty line comes after each.
+static STEPS: [(&str, &[&str], &str); 17] = [
+    ("", &["62 0 1", "6 0 1", "8 0 1"], "run 8 0"),
+    ("boot 7 4096", &["7 0 1"], "run 7 4096"),
     ("ipi 7 13 33 1 0 2", &["33 0 1"], "reply 7 0 0 0 0"),
-    ("ipi 7 13 15 1 0 2", &["6 0 1", "15 0 2"], "reply 7 0 0 0 0"),
+    ("ipi 7 13 15 1 0 2", &["15 0 2"], "reply 7 0 0 0 0"),
     (
-        "ipi 1 13 28 4 0 2",
+        "ipi 7 13 28 4 0 2",
         &["10 0 1", "28 0 1"],
-        "reply 1 0 0 0 0",
+        "reply 7 0 0 0 0",
     ),
     ("ipi 7 13 55 2 0 2", &["55 0 1"], "reply 7 0 0 0 0"),
-    ("ipi 1 13 55 1 0 3", &["55 1 2"], "call 1 31 55 0 2 0"),
+    ("ipi 7 15 55 1 0 3", &["55 1 2"], "call 7 31 55 0 2 0"),
     ("ipi 7 13 63 1 0 1", &["9 0 1", "63 0 1"], ""),
-    ("ipi 1 13 49 7 0 2", &[], "reply 1 0 0 0 0"),
-    ("ipi 7 3 28", &[], "reply 7 0 1 0 2"),
-    ("ipi 1 14 28", &["28 1 0"], "reply 1 0 0 0 0"),
-    ("ipi 1 14 55", &["55 2 1", "10 1 0"], "reply 1 0 0 0 0"),
+    ("ipi 7 13 49 7 0 2", &[], "reply 7 0 0 0 0"),
+    ("ipi 7 3 28", &[], "reply 7 0 1 4 1"),
+    ("ipi 7 14 28", &["28 1 0"], "reply 7 0 0 0 0"),
+    (
+        "ipi 7 15 55 2 0 2",
+        &["55 2 1", "10 1 0"],
+        "reply 7 0 0 0 0",
+    ),
     ("ipi 7 14 63", &["63 1 0", "9 1 0"], "reply 7 0 0 0 0"),
-    ("ipi 7 14 15", &["15 2 0", "6 1 0"], "reply 7 0 0 0 0"),
-    ("ipi 7 14 33", &["33 1 0"], "reply 7 0 0 0 0"),
-    ("ipi 1 3 55", &[], "reply 1 0 1 0 2"),
+    ("ipi 7 14 15", &["15 2 0"], "reply 7 0 0 0 0"),
+    ("ipi 7 7 7 0 0 0 0", &[], "reply 7 0 0 0 0"),
+    ("wfi 7", &["7 1 0"], ""),
+    ("ipi 8 3 55", &[], "reply 8 0 1 0 2"),
 ];
 
 /// Puts a line at the end of a text: the number of a step and then words, the first of which may be
@@ -75,6 +81,7 @@ fn text_of_steps(alloc: Global, failing: usize, k: usize) -> Result<String, Allo
             push_line(alloc, &mut text, number.saturating_add(1), "set ", command)?;
         }
     }
+    text.push_str("end power 6 1 1\nend proc 7 2 0\nend proc 8 1 1\nend slave 33 1 1\n")?;
     text.push_str("end slave 55 1 1\nend power 62 1 1\n")?;
     Ok(text)
 }
@@ -91,6 +98,6 @@ fn each_command_that_fails_alone_is_issued_again(rt: HostRuntime) -> Result<(), 
             check_listed(&rt, &[number], &asked, text.as_str(), &[(55, 1)])?;
         }
     }
-    assert_eq!(rt; number, 18);
+    assert_eq!(rt; number, 19);
     Ok(())
 }

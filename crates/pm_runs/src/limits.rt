@@ -1,6 +1,6 @@
 //! Runs of a script of the limit, and of one byte more.
 
-use super::run::{OBJECT, check, replay_of};
+use super::run::{ALONE, STANDS, STARTED, check, joined, replay_of};
 use pm_base::Exit;
 use std::alloc::{AllocError, Global};
 use std::test::Fail;
@@ -20,8 +20,8 @@ fn script_of_the_limit(alloc: Global) -> Result<Vec<u8>, AllocError> {
 #[test]
 fn a_script_of_the_limit(rt: HostRuntime) -> Result<(), Fail> {
     let script = script_of_the_limit(rt.alloc())?;
-    let text = b"0 set 62 0 1\nend power 62 1 1\n";
-    check(&rt, &replay_of(OBJECT, &script), None, text, Exit::Done)
+    let text = joined(rt.alloc(), &[STARTED, STANDS])?;
+    check(&rt, &replay_of(ALONE, &script), None, &text, Exit::Done)
 }
 
 /// One byte more than the limit.
@@ -34,8 +34,8 @@ fn longer_script(alloc: Global) -> Result<Vec<u8>, AllocError> {
 #[test]
 fn a_script_of_one_byte_more_than_the_limit(rt: HostRuntime) -> Result<(), Fail> {
     let script = longer_script(rt.alloc())?;
-    let text = b"0 set 62 0 1\nfault size\n";
-    check(&rt, &replay_of(OBJECT, &script), None, text, Exit::TooLarge)
+    let text = joined(rt.alloc(), &[STARTED, "fault size\n"])?;
+    check(&rt, &replay_of(ALONE, &script), None, &text, Exit::TooLarge)
 }
 
 /// Where the sink fails within the body the exit is WriteFault, and where it fails on the fault line alone
@@ -43,7 +43,9 @@ fn a_script_of_one_byte_more_than_the_limit(rt: HostRuntime) -> Result<(), Fail>
 #[test]
 fn such_a_script_over_a_sink_of_each_side_of_the_body(rt: HostRuntime) -> Result<(), Fail> {
     let script = longer_script(rt.alloc())?;
-    let asked = replay_of(OBJECT, &script);
-    check(&rt, &asked, Some(12), b"0 set 62 0 1", Exit::WriteFault)?;
-    check(&rt, &asked, Some(13), b"0 set 62 0 1\n", Exit::TooLarge)
+    let asked = replay_of(ALONE, &script);
+    let body = STARTED.as_bytes();
+    let cut = body.get(..46).ok_or("all but the last byte")?;
+    check(&rt, &asked, Some(46), cut, Exit::WriteFault)?;
+    check(&rt, &asked, Some(47), body, Exit::TooLarge)
 }

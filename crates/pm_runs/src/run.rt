@@ -1,7 +1,7 @@
 //! One run of the top call. All tests go through the functions here, so what a run needs is shown once.
 
 ghost use Rattle.std.specs.Prelude.{◌≡◌, IfOk};
-ghost use Rattle.pm_base.specs.declared.names.Unit.{Unit as Place};
+ghost use Rattle.pm_base.specs.declared.names.Unit.{Unit};
 ghost use Rattle.pm_device.specs.Listed.{listed_moment};
 ghost use Rattle.pm_device.specs.Model.{moment_of};
 
@@ -25,12 +25,29 @@ pub(crate) const LABORATORY: &[u32] = &[
     0, 0x101, 33, 0, 0x1, 39, 0, 0x101, 46, 1, 0x101, 0x104, 1, 10, 0x100, 0x105, 1, 33, 0x1,
 ];
 
-/// Two masters that share a slave of each class, in each power domain: the memory 15 in the RPU's
-/// island, the peripherals 28 and 42 below FPD and 33 below LPD, the external interrupts 49, the
-/// dynamic memory 55 below FPD and the block 63 below PLD.
+/// One master, the first real-time processor, which may use no slave.
+pub(crate) const ALONE: &[u32] = &[2, 1, 1, 0x101, 1, 7, 0x100, 100, 0, 0];
+
+/// What a run over the object of one master writes at load, and its closing table.
+pub(crate) const STARTED: &str = "0 set 62 0 1\n0 set 6 0 1\n0 set 7 0 1\n0 run 7 0\n";
+
+pub(crate) const STANDS: &str = "end power 6 1 1\nend proc 7 1 1\nend power 62 1 1\n";
+
+/// Texts in their order, as one.
+pub(crate) fn joined(alloc: Global, texts: &[&str]) -> Result<Vec<u8>, AllocError> {
+    let mut whole = Vec::new(alloc);
+    for text in texts {
+        whole.extend_from_slice(text.as_bytes())?;
+    }
+    Ok(whole)
+}
+
+/// The real-time processors as two masters, of which the second may use a slave of each class, in each power
+/// domain: the memory 15 in the processors' own domain, the peripherals 28 and 42 below FPD and 33 below LPD,
+/// the external interrupts 49, the dynamic memory 55 below FPD and the block 63 below PLD.
 pub(crate) const DOMAINS: &[u32] = &[
-    2, 2, 1, 0x101, 2, 1, 0x1, 100, 0, 0, 7, 0x100, 100, 0, 0, 0x102, 7, 15, 1, 0x101, 28, 1,
-    0x101, 33, 1, 0x101, 42, 1, 0x101, 49, 1, 0x101, 55, 1, 0x101, 63, 1, 0x101,
+    2, 2, 1, 0x101, 2, 8, 0x200, 100, 0, 0, 7, 0x100, 100, 0, 0, 0x102, 7, 15, 1, 0x100, 28, 1,
+    0x100, 33, 1, 0x100, 42, 1, 0x100, 49, 1, 0x100, 55, 1, 0x100, 63, 1, 0x100,
 ];
 
 /// What is asked for: the words with one space between them, the words of the input `obj`, the bytes of
@@ -92,7 +109,7 @@ pub(crate) fn run_with<O: Sink, D: Device>(
     out: &mut O,
     dev: &mut D,
 ) -> Result<Exit, Fail>
-    requires idle { D.values_observable → (unit : Place) → (D.state dev.old).value unit ≡ 0 }
+    requires idle { D.values_observable → (unit : Unit) → (D.state dev.old).value unit ≡ 0 }
 {
     let words = words_of(alloc, asked.words)?;
     let mut inputs = inputs_of(alloc, asked)?;
@@ -107,21 +124,21 @@ fn run_words<O: Sink, D: Device>(
     out: &mut O,
     dev: &mut D,
 ) -> Exit
-    requires idle { D.values_observable → (unit : Place) → (D.state dev.old).value unit ≡ 0 }
+    requires idle { D.values_observable → (unit : Unit) → (D.state dev.old).value unit ≡ 0 }
 {
     pm_main(alloc, words, inputs, out, dev)
 }
 
 /// A device that doesn't fail, and stands at 0.
 pub(crate) fn model(alloc: Global) -> Result<Box<ModelDevice>, NoMemory>
-    ensures { IfOk result (λ device. (unit : Place) → (moment_of device.value).value unit ≡ 0) }
+    ensures { IfOk result (λ device. (unit : Unit) → (moment_of device.value).value unit ≡ 0) }
 {
     Box::new(alloc, ModelDevice::new(alloc, &zynqmp(alloc)?)?).map_err(|_| NoMemory)
 }
 
 /// A device that fails the commands with these numbers, and stands at 0.
 pub(crate) fn listed(alloc: Global, failing: &[u32]) -> Result<Box<ListedDevice>, NoMemory>
-    ensures { IfOk result (λ device. (unit : Place) → (listed_moment device.value).value unit ≡ 0) }
+    ensures { IfOk result (λ device. (unit : Unit) → (listed_moment device.value).value unit ≡ 0) }
 {
     Box::new(alloc, ListedDevice::new(alloc, &zynqmp(alloc)?, failing)?).map_err(|_| NoMemory)
 }
@@ -141,7 +158,7 @@ pub(crate) fn check_with<D: Device>(
     exit: Exit,
     dev: &mut D,
 ) -> Result<(), Fail>
-    requires idle { D.values_observable → (unit : Place) → (D.state dev.old).value unit ≡ 0 }
+    requires idle { D.values_observable → (unit : Unit) → (D.state dev.old).value unit ≡ 0 }
 {
     let mut out = MemSink::new(rt.alloc(), room)?;
     let found = run_with(rt.alloc(), asked, &mut out, dev)?;

@@ -2,7 +2,7 @@
 
 ghost use Rattle.std.specs.Prelude.{[]};
 
-use super::run::{Asked, OBJECT, bytes_of, check, replay_of, run};
+use super::run::{ALONE, Asked, OBJECT, STARTED, bytes_of, check, replay_of, run};
 use pm_base::{Exit, Failed, MemSink, Sink};
 use std::process::Abort;
 use std::test::Fail;
@@ -58,24 +58,39 @@ type Case = (
 
 const REPLAY: &str = "replay obj script";
 
-const STEP_0: &str = "0 set 62 0 1\n";
+/// A script, and the text of its run over the object of two masters.
+const SCRIPT: &str = "ipi 1 21\nboot 7 0\nipi 7 13 11 2 0 2\nipi 8 3 11\n";
 
-static EXITS: [Case; 16] = [
-    (
-        REPLAY,
-        OBJECT,
-        "ipi 7 13 11 2 0 2\nipi 8 3 11\n",
-        &[],
-        "0 set 62 0 1
-1 set 11 0 1
-1 reply 7 0 0 0 0
-2 drop 8
+const TEXT: &str = "0 set 10 0 1
+0 set 62 0 1
+0 set 1 0 1
+0 set 2 0 1
+0 set 11 0 2
+0 set 33 0 1
+0 run 2 0
+1 set 11 2 0
+1 set 33 1 0
+1 reply 1 0 0 0 0
+2 set 6 0 1
+2 set 7 0 1
+2 run 7 0
+3 set 11 0 1
+3 reply 7 0 0 0 0
+4 drop 8
+end power 1 1 1
+end proc 2 1 1
+end power 6 1 1
+end proc 7 1 1
+end power 10 1 1
 end slave 11 1 1
 end power 62 1 1
-",
-        "",
-        Exit::Done,
-    ),
+";
+
+/// What is written of a script of which the first line is dropped.
+const DROPPED: &str = "0 set 62 0 1\n0 set 6 0 1\n0 set 7 0 1\n0 run 7 0\n1 drop 8\n";
+
+static EXITS: [Case; 16] = [
+    (REPLAY, OBJECT, SCRIPT, &[], TEXT, "", Exit::Done),
     ("print obj", SMALL, "", &[], SMALL_TEXT, "", Exit::Done),
     // words without a form
     (
@@ -119,20 +134,20 @@ end power 62 1 1
     // a line without a meaning, at first and after a step
     (
         REPLAY,
-        OBJECT,
+        ALONE,
         "x",
         &[],
-        STEP_0,
-        "fault line 1\n",
+        STARTED,
+        "fault line 1 1\n",
         Exit::BadLine,
     ),
     (
         REPLAY,
-        OBJECT,
-        "ipi 8 3 11\nx\nipi 8 3 11\n",
+        ALONE,
+        "ipi 8 3 11\nwfi x\nipi 8 3 11\n",
         &[],
-        "0 set 62 0 1\n1 drop 8\n",
-        "fault line 2\n",
+        DROPPED,
+        "fault line 2 2\n",
         Exit::BadLine,
     ),
     // inputs that aren't there or fail
@@ -183,19 +198,19 @@ end power 62 1 1
     ),
     (
         REPLAY,
-        OBJECT,
+        ALONE,
         "",
         &[(1, 0)],
-        STEP_0,
+        STARTED,
         "fault read\n",
         Exit::ReadFault,
     ),
     (
         REPLAY,
-        OBJECT,
+        ALONE,
         "ipi 8 3 11\nipi 8 3 12",
         &[(1, 20)],
-        "0 set 62 0 1\n1 drop 8\n",
+        DROPPED,
         "fault read\n",
         Exit::ReadFault,
     ),
@@ -270,33 +285,65 @@ impl Sink for Full {
     }
 }
 
-/// A script, and the text of its run over the object of two masters.
-const SCRIPT: &[u8] = b"ipi 7 13 11 2 0 2\nipi 8 3 11\n";
+/// A sink that fails one write, the one after so many, and takes all of every other piece.
+#[derive(Drop)]
+struct FailsOnce {
+    before: u32,
+    taken: usize,
+    faults: u64,
+}
 
-const TEXT: &[u8] = b"0 set 62 0 1
-1 set 11 0 1
-1 reply 7 0 0 0 0
-2 drop 8
-end slave 11 1 1
-end power 62 1 1
-";
+impl Sink for FailsOnce {
+    ghost state = { λ sink. record { bytes = []; faults = sink.faults; stalls = 0 } };
+
+    fn write(&mut self, piece: &[u8]) -> Result<usize, Failed> {
+        if self.before == 0 && self.faults == 0 {
+            self.faults = 1;
+            return Err(Failed);
+        }
+        self.before = self.before.saturating_sub(1);
+        self.taken = self.taken.saturating_add(piece.len());
+        Ok(piece.len())
+    }
+}
 
 #[test]
 fn a_sink_that_takes_little_at_a_time(rt: HostRuntime) -> Result<(), Fail> {
     let mut slow = Trickle {
         inner: MemSink::new(rt.alloc(), None)?,
     };
-    let exit = run(rt.alloc(), &replay_of(OBJECT, SCRIPT), &mut slow)?;
+    let exit = run(rt.alloc(), &replay_of(OBJECT, SCRIPT.as_bytes()), &mut slow)?;
     assert_eq!(rt; exit, Exit::Done);
-    assert_eq!(rt; slow.inner.bytes(), TEXT);
+    assert_eq!(rt; slow.inner.bytes(), TEXT.as_bytes());
     Ok(())
 }
 
 #[test]
 fn a_sink_that_takes_nothing(rt: HostRuntime) -> Result<(), Fail> {
     let mut full = Full { stalls: 0 };
-    let exit = run(rt.alloc(), &replay_of(OBJECT, SCRIPT), &mut full)?;
+    let exit = run(rt.alloc(), &replay_of(OBJECT, SCRIPT.as_bytes()), &mut full)?;
     assert_eq!(rt; exit, Exit::WriteFault);
     assert_eq!(rt; full.stalls, 1);
+    Ok(())
+}
+
+/// How many bytes the lines of `TEXT` before each have.
+static BEFORE: [usize; 23] = [
+    0, 13, 26, 38, 50, 63, 76, 86, 99, 112, 130, 142, 154, 164, 177, 195, 204, 220, 235, 251, 266,
+    283, 300,
+];
+
+#[test]
+fn a_sink_that_fails_once_and_then_takes_again(rt: HostRuntime) -> Result<(), Fail> {
+    for (lines, taken) in (0..).zip(&BEFORE) {
+        let mut sink = FailsOnce {
+            before: lines,
+            taken: 0,
+            faults: 0,
+        };
+        let exit = run(rt.alloc(), &replay_of(OBJECT, SCRIPT.as_bytes()), &mut sink)?;
+        assert_eq!(rt; exit, Exit::WriteFault, "after {lines} lines");
+        assert_eq!(rt; sink.taken, *taken, "after {lines} lines");
+    }
     Ok(())
 }

@@ -6,11 +6,10 @@ ghost use Rattle.pm_topology.specs.Masters.{ObeysMasterRules};
 ghost use Rattle.pm_core.specs.Outbox.{HasRoomFor};
 
 use crate::rows::all_right;
-use pm_base::{Caps, Event, LineId, Message, NoMemory, NodeId, Unit};
+use pm_base::{Event, LineId, Message, NoMemory, NodeId, Unit};
 use pm_core::{Answer, Book, Outbox};
 use pm_ipi::Response;
 use pm_object::{Object, decode};
-use pm_rows::Row;
 use pm_topology::{Topology, zynqmp};
 use std::alloc::Global;
 use std::test::Fail;
@@ -56,15 +55,23 @@ pub(crate) fn bytes_of(alloc: Global, words: &[u32]) -> Result<Vec<u8>, Fail> {
     Ok(bytes)
 }
 
-fn desk_of(alloc: Global, words: &[u32]) -> Result<Box<Desk>, Fail> {
+pub(crate) fn desk_of(alloc: Global, words: &[u32]) -> Result<Box<Desk>, Fail> {
     let bytes = bytes_of(alloc, words)?;
     let object = decode(alloc, &bytes)?;
     Ok(desk_with(alloc, object, chip(alloc)?)?)
 }
 
+/// The book once master 1 has finished its initialization and master 7 is started.
+pub(crate) fn settled(alloc: Global, words: &[u32]) -> Result<Box<Desk>, Fail> {
+    let mut desk = desk_of(alloc, words)?;
+    desk.take(&message(1, 21, [0; 4]));
+    desk.take(&event_of(Trigger::Boot(7, 0)));
+    Ok(desk)
+}
+
 impl Desk {
     /// An event, and the answer to it.
-    fn take(&mut self, event: &Event) -> Answer {
+    pub(crate) fn take(&mut self, event: &Event) -> Answer {
         self.book.step(event, &mut self.out);
         self.out.answer
     }
@@ -86,7 +93,7 @@ fn message(master: u32, api: u32, args: [u32; 4]) -> Event {
 /// What is answered to the sender: nothing, a drop, a reply of a status and three words, or an
 /// acknowledgement of a node with its status and operating point.
 #[derive(Clone, Copy)]
-enum Want {
+pub(crate) enum Want {
     Silent,
     Drop,
     Reply(u32, [u32; 3]),
@@ -113,10 +120,30 @@ fn answer_to(sender: u32, want: Want) -> Answer {
     }
 }
 
-/// A message of a master, and the answer to it: the number of the call and its first arguments.
-type Case = (u32, u32, [u32; 4], Want);
+/// What happens: a master sends a call with its first arguments, a processor is booted at an address, or one
+/// waits for an interrupt.
+#[derive(Clone, Copy)]
+pub(crate) enum Trigger {
+    Call(u32, u32, [u32; 4]),
+    Boot(u32, u64),
+    Wfi(u32),
+}
 
-fn wrong_answer(desk: &mut Desk, cases: &[Case]) -> Option<usize> {
+pub(crate) fn event_of(trigger: Trigger) -> Event {
+    match trigger {
+        Trigger::Call(master, api, args) => message(master, api, args),
+        Trigger::Boot(proc, address) => Event::Boot {
+            proc: NodeId(proc),
+            address,
+        },
+        Trigger::Wfi(proc) => Event::Wfi { proc: NodeId(proc) },
+    }
+}
+
+/// A message of a master, and the answer to it: the number of the call and its first arguments.
+pub(crate) type Case = (u32, u32, [u32; 4], Want);
+
+pub(crate) fn wrong_answer(desk: &mut Desk, cases: &[Case]) -> Option<usize> {
     for (place, (master, api, args, want)) in cases.iter().enumerate() {
         if desk.take(&message(*master, *api, *args)) != answer_to(*master, *want) {
             return Some(place);
@@ -135,7 +162,7 @@ fn wrong_value(book: &Book, values: &[(u32, u32)]) -> Option<usize> {
 }
 
 /// Whether these nodes moved, in order.
-fn have_moved(out: &Outbox, nodes: &[u32]) -> bool {
+pub(crate) fn have_moved(out: &Outbox, nodes: &[u32]) -> bool {
     let moved = out.moved.as_slice();
     for (place, node) in nodes.iter().enumerate() {
         if moved.get(place).copied() != Some(Unit::Node(NodeId(*node))) {
@@ -146,11 +173,11 @@ fn have_moved(out: &Outbox, nodes: &[u32]) -> bool {
 }
 
 /// The masters 1 and 7, both of which may use slave 11 at a time, and only the first one slave 33.
-static SHARED_AND_OWN: [u32; 23] = [
+pub(crate) static SHARED_AND_OWN: [u32; 23] = [
     2, 2, 1, 0x101, 2, 1, 0x1, 100, 0, 0, 7, 0x100, 100, 0, 0, 0x102, 2, 11, 1, 0x101, 33, 0, 0x1,
 ];
 
-static TWO_MASTERS: [Case; 7] = [
+pub(crate) static TWO_MASTERS: [Case; 7] = [
     (7, 13, [11, 2, 0, 2], Want::Reply(0, [0, 0, 0])),
     (1, 13, [11, 1, 0, 2], Want::Reply(0, [0, 0, 0])),
     (1, 3, [11, 0, 0, 0], Want::Reply(0, [2, 1, 3])),
@@ -162,147 +189,17 @@ static TWO_MASTERS: [Case; 7] = [
 
 #[test]
 fn request_release_and_status_of_two_masters(rt: HostRuntime) -> Result<(), Fail> {
-    let mut desk = desk_of(rt.alloc(), &SHARED_AND_OWN)?;
+    let mut desk = settled(rt.alloc(), &SHARED_AND_OWN)?;
     all_right(&rt, wrong_answer(&mut desk, &TWO_MASTERS));
     all_right(&rt, wrong_value(&desk.book, &[(11, 1), (12, 0), (33, 0)]));
     assert_eq!(rt; desk.book.object().masters.len(), 2);
     Ok(())
 }
 
-/// A row that is used, and rows that aren't there.
-static ROWS: [(u32, u32, Option<Row>); 4] = [
-    (
-        7,
-        11,
-        Some(Row {
-            used: true,
-            now: Caps(2),
-            latency: None,
-        }),
-    ),
-    (
-        1,
-        33,
-        Some(Row {
-            used: false,
-            now: Caps(0),
-            latency: None,
-        }),
-    ),
-    (7, 33, None),
-    (8, 11, None),
-];
-
-fn wrong_row(book: &Book) -> Option<usize> {
-    for (place, (master, slave, row)) in ROWS.iter().enumerate() {
-        if book.row(NodeId(*master), NodeId(*slave)) != *row {
-            return Some(place);
-        }
-    }
-    None
-}
-
-#[test]
-fn each_permitted_pair_has_a_row(rt: HostRuntime) -> Result<(), Fail> {
-    let mut desk = desk_of(rt.alloc(), &SHARED_AND_OWN)?;
-    all_right(&rt, wrong_answer(&mut desk, &TWO_MASTERS));
-    all_right(&rt, wrong_row(&desk.book));
-    Ok(())
-}
-
-/// The same masters. Slave 12 has one user at a time.
-static ONE_USER: [u32; 26] = [
-    2, 2, 1, 0x101, 2, 1, 0x1, 100, 0, 0, 7, 0x100, 100, 0, 0, 0x102, 3, 11, 1, 0x101, 12, 0,
-    0x101, 33, 0, 0x1,
-];
-
-/// Each check failing alone, and together with a later one.
-static CHECKS: [Case; 33] = [
-    // senders that are no configured masters
-    (0, 3, [11, 0, 0, 0], Want::Drop),
-    (2, 3, [11, 0, 0, 0], Want::Drop),
-    (6, 3, [11, 0, 0, 0], Want::Drop),
-    (8, 3, [11, 0, 0, 0], Want::Drop),
-    (11, 3, [11, 0, 0, 0], Want::Drop),
-    // the call: these aren't known, whatever their arguments
-    (1, 0, [11, 0, 0, 0], Want::Reply(19, [0, 0, 0])),
-    (1, 12, [99, 0, 0, 0], Want::Reply(19, [0, 0, 0])),
-    (7, 15, [33, 1, 0, 3], Want::Reply(19, [0, 0, 0])),
-    // the acknowledge kind, alone and with a bad node
-    (1, 13, [11, 1, 0, 0], Want::Reply(15, [0, 0, 0])),
-    (1, 13, [11, 1, 0, 4], Want::Reply(15, [0, 0, 0])),
-    (1, 13, [99, 1, 0, 4], Want::Reply(15, [0, 0, 0])),
-    // the node: a power node and a processor are no slaves
-    (1, 13, [99, 1, 0, 2], Want::Reply(2003, [0, 0, 0])),
-    (1, 13, [1, 8, 0, 2], Want::Reply(2003, [0, 0, 0])),
-    (1, 14, [2, 0, 0, 0], Want::Reply(2003, [0, 0, 0])),
-    (1, 3, [70, 0, 0, 0], Want::Reply(2003, [0, 0, 0])),
-    // a slave with no record in the object
-    (1, 14, [13, 0, 0, 0], Want::Reply(2002, [0, 0, 0])),
-    // the permission, alone and with a bad capability
-    (7, 13, [33, 1, 0, 2], Want::Reply(2002, [0, 0, 0])),
-    (7, 13, [33, 8, 0, 2], Want::Reply(2002, [0, 0, 0])),
-    (7, 14, [33, 0, 0, 0], Want::Reply(2002, [0, 0, 0])),
-    // the capabilities: a memory has no WAKEUP, and no slave has bit 3
-    (1, 13, [11, 4, 0, 2], Want::Reply(19, [0, 0, 0])),
-    (1, 13, [33, 15, 0, 2], Want::Reply(19, [0, 0, 0])),
-    // a row that isn't used can't be released
-    (1, 14, [11, 0, 0, 0], Want::Reply(2002, [0, 0, 0])),
-    // in use by the caller, alone and with a bad capability
-    (7, 13, [12, 2, 0, 2], Want::Reply(0, [0, 0, 0])),
-    (7, 13, [12, 1, 0, 2], Want::Reply(2004, [0, 0, 0])),
-    (7, 13, [12, 4, 0, 2], Want::Reply(19, [0, 0, 0])),
-    (7, 3, [12, 0, 0, 0], Want::Reply(0, [1, 2, 1])),
-    // in use by another, alone and with a bad capability
-    (1, 13, [12, 1, 0, 2], Want::Reply(2007, [7, 0, 0])),
-    (1, 13, [12, 4, 0, 2], Want::Reply(19, [0, 0, 0])),
-    (1, 3, [12, 0, 0, 0], Want::Reply(0, [1, 0, 2])),
-    (1, 14, [12, 0, 0, 0], Want::Reply(2002, [0, 0, 0])),
-    // free again
-    (7, 14, [12, 0, 0, 0], Want::Reply(0, [0, 0, 0])),
-    (1, 13, [12, 1, 0, 2], Want::Reply(0, [0, 0, 0])),
-    (7, 13, [12, 1, 0, 2], Want::Reply(2007, [1, 0, 0])),
-];
-
-#[test]
-fn the_first_check_that_fails_decides(rt: HostRuntime) -> Result<(), Fail> {
-    let mut desk = desk_of(rt.alloc(), &ONE_USER)?;
-    all_right(&rt, wrong_answer(&mut desk, &CHECKS));
-    Ok(())
-}
-
-/// Acknowledge kind 1 is silent, and kind 3 is a callback with the operating point after the step.
-static ACKNOWLEDGED: [Case; 6] = [
-    (1, 13, [11, 2, 0, 1], Want::Silent),
-    (1, 13, [11, 2, 0, 1], Want::Silent),
-    (1, 13, [99, 2, 0, 1], Want::Silent),
-    (7, 13, [11, 1, 0, 3], Want::Ack(11, 0, 2)),
-    (7, 13, [11, 1, 0, 3], Want::Ack(11, 2004, 2)),
-    (7, 13, [99, 1, 0, 3], Want::Ack(99, 2003, 0)),
-];
-
-/// The status of a slave that the caller may not use, and the least state for all of its users.
-static USERS: [Case; 5] = [
-    (1, 13, [33, 0, 0, 2], Want::Reply(0, [0, 0, 0])),
-    (7, 3, [33, 0, 0, 0], Want::Reply(0, [0, 0, 2])),
-    (1, 3, [11, 0, 0, 0], Want::Reply(0, [2, 2, 3])),
-    (7, 14, [11, 0, 0, 0], Want::Reply(0, [0, 0, 0])),
-    (1, 3, [11, 0, 0, 0], Want::Reply(0, [1, 2, 1])),
-];
-
-#[test]
-fn acknowledgements_and_other_events(rt: HostRuntime) -> Result<(), Fail> {
-    let mut desk = desk_of(rt.alloc(), &ONE_USER)?;
-    all_right(&rt, wrong_answer(&mut desk, &ACKNOWLEDGED));
-    assert!(rt; desk.take(&Event::Tick { count: 5 }) == Answer::Silent);
-    all_right(&rt, wrong_answer(&mut desk, &USERS));
-    Ok(())
-}
-
-/// Slaves below FPD (28, 42, 55), the RPU's island (15) and PLD (63). Both masters may use them.
+/// Slaves below FPD (28, 42, 55), the RPU's domain (15) and PLD (63), which master 7 may use. Master 8 runs.
 static BELOW: [u32; 32] = [
-    2, 2, 1, 0x101, 2, 1, 0x1, 100, 0, 0, 7, 0x100, 100, 0, 0, 0x102, 5, 28, 0, 0x101, 15, 0,
-    0x101, 42, 0, 0x101, 55, 0, 0x101, 63, 0, 0x101,
+    2, 2, 1, 0x101, 2, 8, 0x200, 100, 0, 0, 7, 0x100, 100, 0, 0, 0x102, 5, 28, 0, 0x100, 15, 0,
+    0x100, 42, 0, 0x100, 55, 0, 0x100, 63, 0, 0x100,
 ];
 
 /// Calls of master 7, and the nodes that move: the call, the node, the capabilities, and the nodes
@@ -318,8 +215,8 @@ static MOVES: [(u32, u32, u32, &[u32]); 13] = [
     (14, 55, 0, &[55]),
     (13, 55, 3, &[10, 55]),
     (14, 55, 0, &[10, 55]),
-    // the RPU's island comes alone, since LPD is held
-    (13, 15, 2, &[6, 15]),
+    // the RPU's domain is up for the processors
+    (13, 15, 2, &[15]),
     (13, 63, 1, &[9, 63]),
     // refused, and without a requirement
     (13, 63, 1, &[]),
@@ -339,28 +236,30 @@ fn wrong_move(desk: &mut Desk) -> Option<usize> {
 
 #[test]
 fn slaves_take_their_power_nodes_with_them(rt: HostRuntime) -> Result<(), Fail> {
-    let mut desk = desk_of(rt.alloc(), &BELOW)?;
-    assert!(rt; have_moved(&desk.out, &[62]));
+    let mut desk = settled(rt.alloc(), &BELOW)?;
     all_right(&rt, wrong_move(&mut desk));
     let wrong = wrong_value(&desk.book, &[(6, 1), (9, 0), (10, 0), (15, 1), (62, 1)]);
     all_right(&rt, wrong);
     Ok(())
 }
 
-/// The status of a slave, of its power node, of one that is held, of one that is down and of a
-/// processor.
-static UP: [Case; 6] = [
+/// The status of a slave, of its power node, of one that is held, of one that is down, and of processors
+/// that are off, active and suspending.
+static UP: [Case; 9] = [
     (7, 13, [28, 1, 0, 2], Want::Reply(0, [0, 0, 0])),
     (7, 3, [28, 0, 0, 0], Want::Reply(0, [1, 1, 1])),
     (7, 3, [10, 0, 0, 0], Want::Reply(0, [1, 0, 0])),
     (7, 3, [62, 0, 0, 0], Want::Reply(0, [1, 0, 0])),
     (7, 3, [9, 0, 0, 0], Want::Reply(0, [0, 0, 0])),
     (7, 3, [2, 0, 0, 0], Want::Reply(0, [0, 0, 0])),
+    (7, 3, [8, 0, 0, 0], Want::Reply(0, [1, 0, 0])),
+    (7, 7, [7, 0, 0, 0], Want::Reply(0, [0, 0, 0])),
+    (7, 3, [7, 0, 0, 0], Want::Reply(0, [3, 0, 0])),
 ];
 
 #[test]
 fn each_node_has_a_status(rt: HostRuntime) -> Result<(), Fail> {
-    let mut desk = desk_of(rt.alloc(), &BELOW)?;
+    let mut desk = settled(rt.alloc(), &BELOW)?;
     all_right(&rt, wrong_answer(&mut desk, &UP));
     assert!(rt; have_moved(&desk.out, &[]));
     Ok(())

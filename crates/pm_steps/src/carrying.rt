@@ -4,7 +4,7 @@ ghost use Rattle.pm_topology.specs.WellFormed.{IsWellFormed};
 ghost use Rattle.pm_topology.specs.Masters.{ObeysMasterRules};
 ghost use Rattle.pm_apply.specs.Record.{IsRecordOf};
 
-use crate::book::{Desk, bytes_of, chip, desk_with};
+use crate::book::{Desk, Trigger, bytes_of, chip, desk_with, event_of};
 use crate::rows::all_right;
 use pm_apply::{Kept, carry};
 use pm_base::{Event, Message, NoMemory, NodeId, Unit};
@@ -15,9 +15,9 @@ use pm_topology::Topology;
 use std::alloc::Global;
 use std::test::Fail;
 
-/// The masters 1 and 7, each of which may use slave 28.
+/// The masters 8 and 7, the second of which may use slave 28.
 const OBJECT: &[u32] = &[
-    2, 2, 1, 0x101, 2, 1, 0x1, 100, 0, 0, 7, 0x100, 100, 0, 0, 0x102, 1, 28, 0, 0x101,
+    2, 2, 1, 0x101, 2, 8, 0x200, 100, 0, 0, 7, 0x100, 100, 0, 0, 0x102, 1, 28, 0, 0x100,
 ];
 
 /// A book with its outbox, and what is kept of a device that follows it.
@@ -45,10 +45,13 @@ fn started<D: Device>(
     Ok(Drive { kept, desk: boxed })
 }
 
+/// The same once master 7 is started.
 fn drive_of<D: Device>(alloc: Global, dev: &mut D) -> Result<Drive, Fail> {
     let bytes = bytes_of(alloc, OBJECT)?;
     let object = decode(alloc, &bytes)?;
-    Ok(started(alloc, object, chip(alloc)?, dev)?)
+    let mut drive = started(alloc, object, chip(alloc)?, dev)?;
+    drive.take(&event_of(Trigger::Boot(7, 0)), dev);
+    Ok(drive)
 }
 
 /// A call of master 7 on node 28 with ACCESS.
@@ -145,14 +148,14 @@ fn a_domain_goes_up_before_its_slave_and_down_after_it(rt: HostRuntime) -> Resul
         ModelDevice::new(rt.alloc(), &chip(rt.alloc())?)?,
     )?;
     let mut drive = drive_of(rt.alloc(), &mut *dev)?;
-    assert!(rt; are_done(&drive.desk.out, &[(62, 0, 1, true)]));
+    assert!(rt; are_done(&drive.desk.out, &[(7, 0, 1, true)]));
     all_right(&rt, wrong_turn(&mut drive, &mut *dev, &UP));
     assert!(rt; dev.value(Unit::Node(NodeId(28))) == 1);
     all_right(&rt, wrong_turn(&mut drive, &mut *dev, &DOWN));
     Ok(())
 }
 
-/// The second command fails.
+/// The fifth command fails.
 static SKIPPED: [Turn; 2] = [
     (
         false,
@@ -171,7 +174,7 @@ static SKIPPED: [Turn; 2] = [
 #[test]
 fn a_slave_is_skipped_while_its_domain_is_down(rt: HostRuntime) -> Result<(), Fail> {
     let chip = chip(rt.alloc())?;
-    let mut dev = Box::new(rt.alloc(), ListedDevice::new(rt.alloc(), &chip, &[2])?)?;
+    let mut dev = Box::new(rt.alloc(), ListedDevice::new(rt.alloc(), &chip, &[5])?)?;
     let mut drive = drive_of(rt.alloc(), &mut *dev)?;
     all_right(&rt, wrong_turn(&mut drive, &mut *dev, &SKIPPED));
     Ok(())

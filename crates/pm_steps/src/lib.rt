@@ -4,7 +4,13 @@
 #[cfg(test)]
 mod book;
 #[cfg(test)]
+mod calls;
+#[cfg(test)]
 mod carrying;
+#[cfg(test)]
+mod modes;
+#[cfg(test)]
+mod permitted;
 #[cfg(test)]
 mod rows;
 #[cfg(test)]

@@ -1,24 +1,35 @@
 //! The lines of output of a step, and the line and the exit of a fault.
 
 use crate::rows::all_right;
-use pm_base::{Command, Exit, LineId, NoMemory, NodeId, Unit};
-use pm_core::{Answer, Done, Outbox, Shelf};
+use pm_base::{BoundedList, Command, Exit, LineId, NoMemory, NodeId, Unit};
+use pm_core::{Answer, Done, Outbox, Start};
 use pm_ipi::Response;
 use pm_object::{ObjectCause, ObjectFault};
 use pm_objtext::{TextCause, TextFault};
+use pm_script::LineFault;
 use pm_trace::{Fault, TextLine, entries, entry, exit, write_fault};
 use std::alloc::Global;
 use std::test::Fail;
 
-/// An outbox of a step with at most one command.
-fn outbox(alloc: Global, done: Option<Done>, answer: Answer) -> Result<Outbox, NoMemory> {
-    let mut commands = Shelf::with_room(alloc, 1)?;
+/// An outbox of a step with at most one command and one start.
+fn outbox(
+    alloc: Global,
+    done: Option<Done>,
+    start: Option<Start>,
+    answer: Answer,
+) -> Result<Outbox, NoMemory> {
+    let mut commands = BoundedList::with_room(alloc, 1)?;
     if let Some(done) = done {
         commands.push(done);
     }
+    let mut starts = BoundedList::with_room(alloc, 1)?;
+    if let Some(start) = start {
+        starts.push(start);
+    }
     Ok(Outbox {
-        moved: Shelf::with_room(alloc, 0)?,
+        moved: BoundedList::with_room(alloc, 0)?,
         done: commands,
+        starts,
         answer,
     })
 }
@@ -89,16 +100,17 @@ fn writes(
     alloc: Global,
     n: u32,
     done: Option<Done>,
+    start: Option<Start>,
     answer: Answer,
     text: &str,
 ) -> Result<bool, Fail> {
-    let out = outbox(alloc, done, answer)?;
+    let out = outbox(alloc, done, start, answer)?;
     Ok(text_of(alloc, n, &out)?.as_slice() == text.as_bytes())
 }
 
 fn wrong_answer(alloc: Global) -> Result<Option<usize>, Fail> {
     for (place, (n, answer, text)) in ANSWERS.iter().enumerate() {
-        if !writes(alloc, *n, None, *answer, text)? {
+        if !writes(alloc, *n, None, None, *answer, text)? {
             return Ok(Some(place));
         }
     }
@@ -192,7 +204,7 @@ fn wrong_command(alloc: Global) -> Result<Option<usize>, Fail> {
             from: *from,
             ok: *ok,
         };
-        if !writes(alloc, *n, Some(done), *answer, text)? {
+        if !writes(alloc, *n, Some(done), None, *answer, text)? {
             return Ok(Some(place));
         }
     }
@@ -205,8 +217,59 @@ fn each_command_is_its_line_before_the_answer(rt: HostRuntime) -> Result<(), Fai
     Ok(())
 }
 
+/// A step's number, the processor that starts and its address, and the line. The last line is the longest.
+static STARTS: [(u32, u32, u64, &str); 3] = [
+    (0, 2, 0, "0 run 2 0\n"),
+    (4, 7, 4096, "4 run 7 4096\n"),
+    (
+        4_294_967_295,
+        4_294_967_295,
+        18_446_744_073_709_551_615,
+        "4294967295 run 4294967295 18446744073709551615\n",
+    ),
+];
+
+fn wrong_start(alloc: Global) -> Result<Option<usize>, Fail> {
+    for (place, (n, proc, address, text)) in STARTS.iter().enumerate() {
+        let start = Start {
+            proc: NodeId(*proc),
+            address: *address,
+        };
+        if !writes(alloc, *n, None, Some(start), Answer::Silent, text)? {
+            return Ok(Some(place));
+        }
+    }
+    Ok(None)
+}
+
+#[test]
+fn each_start_is_its_line(rt: HostRuntime) -> Result<(), Fail> {
+    all_right(&rt, wrong_start(rt.alloc())?);
+    Ok(())
+}
+
+#[test]
+fn a_start_stands_between_the_commands_and_the_answer(rt: HostRuntime) -> Result<(), Fail> {
+    let command = Command {
+        unit: Unit::Node(NodeId(7)),
+        value: 1,
+    };
+    let done = Done {
+        command,
+        from: 0,
+        ok: true,
+    };
+    let start = Start {
+        proc: NodeId(7),
+        address: 16,
+    };
+    let text = "3 set 7 0 1\n3 run 7 16\n3 drop 8\n";
+    assert!(rt; writes(rt.alloc(), 3, Some(done), Some(start), DROP, text)?);
+    Ok(())
+}
+
 /// A fault, its line and the exit.
-static FAULTS: [(Fault, &str, Exit); 8] = [
+static FAULTS: [(Fault, &str, Exit); 12] = [
     (Fault::Usage, "fault usage\n", Exit::Usage),
     (
         Fault::Object(ObjectFault {
@@ -224,10 +287,34 @@ static FAULTS: [(Fault, &str, Exit); 8] = [
         "fault text 1 2\n",
         Exit::BadText,
     ),
-    (Fault::Line(9), "fault line 9\n", Exit::BadLine),
     (
-        Fault::Line(16_777_216),
-        "fault line 16777216\n",
+        Fault::Line(9, LineFault::Unknown),
+        "fault line 9 1\n",
+        Exit::BadLine,
+    ),
+    (
+        Fault::Line(9, LineFault::Number),
+        "fault line 9 2\n",
+        Exit::BadLine,
+    ),
+    (
+        Fault::Line(9, LineFault::Count),
+        "fault line 9 3\n",
+        Exit::BadLine,
+    ),
+    (
+        Fault::Line(9, LineFault::Long),
+        "fault line 9 4\n",
+        Exit::BadLine,
+    ),
+    (
+        Fault::Line(9, LineFault::NotAscii),
+        "fault line 9 5\n",
+        Exit::BadLine,
+    ),
+    (
+        Fault::Line(16_777_216, LineFault::Unknown),
+        "fault line 16777216 1\n",
         Exit::BadLine,
     ),
     (Fault::Read, "fault read\n", Exit::ReadFault),

@@ -2,6 +2,8 @@
 #![tactic(auto)]
 
 #[cfg(test)]
+mod calls;
+#[cfg(test)]
 mod chip;
 #[cfg(test)]
 mod choice;
@@ -15,6 +17,12 @@ mod inputs;
 mod lines;
 #[cfg(test)]
 mod objects;
+#[cfg(test)]
+mod procs;
+#[cfg(test)]
+mod reach;
+#[cfg(test)]
+mod requirements;
 #[cfg(test)]
 mod rows;
 #[cfg(test)]

@@ -3,6 +3,8 @@
 use crate::rows::all_right;
 use pm_base::{Ending, Event, Message, NodeId, number, split_line, word};
 use pm_script::{LineFault, parse_line};
+use std::alloc::Global;
+use std::test::Fail;
 
 /// A line, the place of a word, and where the word begins and ends.
 static WORDS: [(&str, usize, Option<(usize, usize)>); 16] = [
@@ -150,7 +152,7 @@ const SPACES: &[u8] = &[b' '; 256];
 const ZEROS: &[u8] = &[0; 256];
 
 /// A line, and the first of its faults.
-static FAULTS: [(&[u8], LineFault); 19] = [
+static FAULTS: [(&[u8], LineFault); 39] = [
     (b"ipi 1 3 11#", LineFault::Number),
     (b"ipi 1 2 3 4 5 6 4294967296", LineFault::Number),
     (b"ipi -1 3", LineFault::Number),
@@ -160,18 +162,120 @@ static FAULTS: [(&[u8], LineFault); 19] = [
     (b"ipi 1 2 3 4 5 6 7 8", LineFault::Count),
     (b"IPI 1 3", LineFault::Unknown),
     (b"ip", LineFault::Unknown),
-    (b"boot 7 0", LineFault::Unknown),
+    (b"boot", LineFault::Count),
+    (b"boot 7", LineFault::Count),
+    (b"boot 7 0 0", LineFault::Count),
+    (b"boot 4294967296 0", LineFault::Number),
+    (b"boot 7 18446744073709551616", LineFault::Number),
+    (b"boot 7 0x10000000000000000", LineFault::Number),
+    (b"boot 7 a", LineFault::Number),
+    (b"wfi", LineFault::Count),
+    (b"wfi 7 7", LineFault::Count),
+    (b"wfi 4294967296", LineFault::Number),
+    (b"wfi x", LineFault::Number),
+    (b"Boot 7 0", LineFault::Unknown),
+    (b"irq 35", LineFault::Unknown),
+    (b"gic 7", LineFault::Unknown),
+    (b"tick 1", LineFault::Unknown),
     (b"# \x7F", LineFault::NotAscii),
     (b"ipi 1 3\r\r", LineFault::NotAscii),
     (SPACES, LineFault::Long),
     // two faults in one line
     (b"ipi x", LineFault::Count),
+    (b"boot x", LineFault::Count),
+    (b"wfi 7 x", LineFault::Count),
+    (b"boot x y z", LineFault::Count),
+    (b"boots x 0", LineFault::Unknown),
+    (b"boot x 0\x80", LineFault::NotAscii),
+    (b"boot \x80", LineFault::NotAscii),
     (b"wait x y", LineFault::Unknown),
     (b"wait\x80", LineFault::NotAscii),
     (b"ipi \n 3", LineFault::NotAscii),
     (ZEROS, LineFault::Long),
     (&[0; 255], LineFault::NotAscii),
 ];
+
+/// How a line begins, and its fault where it goes on with spaces up to the greatest length.
+static STARTS: [(&[u8], LineFault); 4] = [
+    (b"wfi \x80", LineFault::NotAscii),
+    (b"wait", LineFault::Unknown),
+    (b"wfi", LineFault::Count),
+    (b"wfi x", LineFault::Number),
+];
+
+/// Whether the line has its fault up to the greatest length, and is too long with one byte more.
+fn is_too_long(alloc: Global, start: &[u8], fault: LineFault) -> Result<bool, Fail> {
+    let mut line = Vec::new(alloc);
+    line.extend_from_slice(start)?;
+    line.resize(255, b' ')?;
+    let before = parse_line(&line);
+    line.push(b' ')?;
+    Ok(before == Err(fault) && parse_line(&line) == Err(LineFault::Long))
+}
+
+fn wrong_start(alloc: Global) -> Result<Option<usize>, Fail> {
+    for (place, (start, fault)) in STARTS.iter().enumerate() {
+        if !is_too_long(alloc, start, *fault)? {
+            return Ok(Some(place));
+        }
+    }
+    Ok(None)
+}
+
+#[test]
+fn a_long_line_has_no_other_fault(rt: HostRuntime) -> Result<(), Fail> {
+    all_right(&rt, wrong_start(rt.alloc())?);
+    Ok(())
+}
+
+/// A line, and the processor and the address that it boots.
+static BOOTS: [(&[u8], u32, u64); 5] = [
+    (b"boot 7 0", 7, 0),
+    (b"boot 0xFFFFFFFF 4294967296", u32::MAX, 4_294_967_296),
+    (b" boot\t007 0xFFFFFFFFFFFFFFFF # c", 7, u64::MAX),
+    (b"boot 7 18446744073709551615\r", 7, u64::MAX),
+    (b"boot 0 0x100000004", 0, 0x1_0000_0004),
+];
+
+fn wrong_boot() -> Option<usize> {
+    for (place, (line, proc, address)) in BOOTS.iter().enumerate() {
+        let boot = Event::Boot {
+            proc: NodeId(*proc),
+            address: *address,
+        };
+        if parse_line(line) != Ok(boot) {
+            return Some(place);
+        }
+    }
+    None
+}
+
+#[test]
+fn a_line_boots_a_processor(rt: HostRuntime) {
+    all_right(&rt, wrong_boot());
+}
+
+/// A line, and the processor that waits for an interrupt.
+static WAITS: [(&[u8], u32); 3] = [
+    (b"wfi 7", 7),
+    (b"wfi 0xffffffff", u32::MAX),
+    (b"\twfi 07\r", 7),
+];
+
+fn wrong_wait() -> Option<usize> {
+    for (place, (line, proc)) in WAITS.iter().enumerate() {
+        let proc = NodeId(*proc);
+        if parse_line(line) != Ok(Event::Wfi { proc }) {
+            return Some(place);
+        }
+    }
+    None
+}
+
+#[test]
+fn a_line_lets_a_processor_wait(rt: HostRuntime) {
+    all_right(&rt, wrong_wait());
+}
 
 /// Lines in which nothing happens.
 static EMPTY: [&[u8]; 4] = [b"", b" \t # \t ipi 1", b"\r", &[b' '; 255]];

@@ -1,0 +1,108 @@
+//! The modes of processors and of the masters that have them.
+
+use crate::chip::chip;
+use crate::rows::all_right;
+use pm_base::{List, Mode};
+use pm_procs::{Proc, Procs};
+use std::alloc::Global;
+use std::test::Fail;
+
+const OFF: Mode = Mode::Off;
+
+const ACTIVE: Mode = Mode::Active;
+
+const ASLEEP: Mode = Mode::Asleep;
+
+const SUSPENDING: Mode = Mode::Suspending;
+
+/// The modes of two processors, and that of a master that has both.
+static PAIRS: [(Mode, Mode, Mode); 16] = [
+    (OFF, OFF, OFF),
+    (OFF, ACTIVE, ACTIVE),
+    (OFF, ASLEEP, ASLEEP),
+    (OFF, SUSPENDING, SUSPENDING),
+    (ACTIVE, OFF, ACTIVE),
+    (ACTIVE, ACTIVE, ACTIVE),
+    (ACTIVE, ASLEEP, ACTIVE),
+    (ACTIVE, SUSPENDING, ACTIVE),
+    (ASLEEP, OFF, ASLEEP),
+    (ASLEEP, ACTIVE, ACTIVE),
+    (ASLEEP, ASLEEP, ASLEEP),
+    (ASLEEP, SUSPENDING, SUSPENDING),
+    (SUSPENDING, OFF, SUSPENDING),
+    (SUSPENDING, ACTIVE, ACTIVE),
+    (SUSPENDING, ASLEEP, SUSPENDING),
+    (SUSPENDING, SUSPENDING, SUSPENDING),
+];
+
+/// A list of two places.
+fn two(alloc: Global, first: usize, second: usize) -> Result<List<usize>, Fail> {
+    let mut places = List::new(alloc);
+    places.push(first)?;
+    places.push(second)?;
+    Ok(places)
+}
+
+/// The processors of the chip, of which a first master has those at places 4 and 1, a second one those at 0
+/// and 5, and a third one none.
+fn processors(alloc: Global) -> Result<Procs, Fail> {
+    let mut members = List::new(alloc);
+    members.push(two(alloc, 4, 1)?)?;
+    members.push(two(alloc, 0, 5)?)?;
+    members.push(List::new(alloc))?;
+    Ok(Procs::load(alloc, &chip(alloc)?, members)?)
+}
+
+/// The place of the first pair for which a master doesn't have its mode, or another master has one.
+fn wrong_pair(procs: &mut Procs) -> Option<usize> {
+    for (place, (first, second, both)) in PAIRS.iter().enumerate() {
+        procs.put(0, *first);
+        procs.put(5, *second);
+        let found = (
+            procs.master_mode(0),
+            procs.master_mode(1),
+            procs.master_mode(2),
+            procs.master_mode(3),
+        );
+        if found != (OFF, *both, OFF, OFF) {
+            return Some(place);
+        }
+    }
+    None
+}
+
+#[test]
+fn a_master_has_the_mode_of_its_processors(rt: HostRuntime) -> Result<(), Fail> {
+    let mut procs = processors(rt.alloc())?;
+    all_right(&rt, wrong_pair(&mut procs));
+    Ok(())
+}
+
+#[test]
+fn a_processor_that_goes_off_forgets_its_address(rt: HostRuntime) -> Result<(), Fail> {
+    let mut procs = processors(rt.alloc())?;
+    procs.put(5, ACTIVE);
+    procs.put_resume(5, 0xFFFF_FFFF_0000_0004);
+    procs.put(5, SUSPENDING);
+    procs.put(5, ASLEEP);
+    let asleep = Proc {
+        mode: ASLEEP,
+        address: 0xFFFF_FFFF_0000_0004,
+    };
+    assert_eq!(rt; procs.proc(5), asleep);
+    assert_eq!(rt; procs.resume(4), 0);
+    procs.put(5, OFF);
+    assert_eq!(rt; (procs.mode(5), procs.resume(5)), (OFF, 0));
+    Ok(())
+}
+
+#[test]
+fn what_is_not_there_is_off(rt: HostRuntime) -> Result<(), Fail> {
+    let mut procs = processors(rt.alloc())?;
+    procs.put(99, ACTIVE);
+    procs.put_resume(99, 1);
+    assert_eq!(rt; procs.proc(99), Proc::off());
+    assert_eq!(rt; procs.members(0), [4, 1].as_slice());
+    assert!(rt; procs.members(3).is_empty());
+    Ok(())
+}

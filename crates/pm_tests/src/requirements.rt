@@ -1,0 +1,444 @@
+//! The requirement rows: the changes of a master's mode, and what is wanted of a slave.
+
+ghost use Rattle.std.specs.Prelude.{◌≡◌, ◌<◌};
+
+use crate::rows::all_right;
+use pm_base::{Caps, Mode, NoMemory, NodeId, Steps};
+use pm_rows::{Change, Row, RowSeed, Rows, Wanted};
+use std::alloc::Global;
+use std::marker::Brand;
+use std::process::Abort;
+use std::sync::ledger::{Blank, Ledger};
+use std::test::Fail;
+
+/// The row of a master on the one slave, with a preset.
+fn seed(master: usize, shareable: bool, preset: u32, hold: bool) -> RowSeed {
+    RowSeed {
+        master,
+        slave: 0,
+        shareable,
+        all: Caps(7),
+        preset: Caps(preset),
+        start: None,
+        hold,
+    }
+}
+
+/// What a row has besides use and preset: whether the slave is held, and the processor that it wakes.
+static BESIDES: [(bool, Option<NodeId>); 4] = [
+    (false, None),
+    (true, None),
+    (false, Some(NodeId(2))),
+    (true, Some(NodeId(2))),
+];
+
+/// The rows of two masters, of which the first one is in a mode and may use the slave. A row that is used
+/// has ACCESS now, CONTEXT next, and a latency of 9.
+fn prepared(alloc: Global, mode: Mode, used: bool, from: RowSeed) -> Result<Rows, NoMemory> {
+    let boot = if mode == Mode::Active { 0 } else { 1 };
+    let mut rows = Rows::load(alloc, 2, 1, boot, &[from])?;
+    rows.shift(0, mode);
+    if used {
+        rows.change(0, 0, Change::Request(Caps(1)));
+        rows.change(0, 0, Change::Set(Mode::Suspending, Caps(2)));
+        rows.change(0, 0, Change::Limit(9));
+    }
+    Ok(rows)
+}
+
+/// The capabilities now and next of a row that is used.
+type Use = Option<(u32, u32)>;
+
+const USED: Use = Some((1, 2));
+
+const UNUSED: Use = None;
+
+const ALL_UNUSED: &[Use] = &[UNUSED, UNUSED, UNUSED, UNUSED];
+
+const AS_BEFORE: &[Use] = &[USED, USED, UNUSED, UNUSED];
+
+/// The sixteen pairs of modes. What the change makes of a used row with no preset, of one with a preset of
+/// WAKEUP and ACCESS, of an unused row with no preset, and of one with that preset; and whether the row
+/// keeps its hold, its arming and its latency.
+static SHIFTS: [(Mode, Mode, &[Use], bool); 16] = [
+    (Mode::Off, Mode::Off, AS_BEFORE, true),
+    (
+        Mode::Off,
+        Mode::Active,
+        &[USED, Some((5, 5)), UNUSED, Some((5, 5))],
+        true,
+    ),
+    (Mode::Off, Mode::Asleep, AS_BEFORE, true),
+    (Mode::Off, Mode::Suspending, AS_BEFORE, true),
+    (Mode::Active, Mode::Off, ALL_UNUSED, false),
+    (Mode::Active, Mode::Active, AS_BEFORE, true),
+    (
+        Mode::Active,
+        Mode::Asleep,
+        &[Some((2, 1)), Some((2, 1)), UNUSED, UNUSED],
+        true,
+    ),
+    (
+        Mode::Active,
+        Mode::Suspending,
+        &[Some((1, 1)), Some((1, 1)), UNUSED, UNUSED],
+        true,
+    ),
+    (Mode::Asleep, Mode::Off, ALL_UNUSED, false),
+    (
+        Mode::Asleep,
+        Mode::Active,
+        &[Some((2, 2)), Some((2, 2)), UNUSED, UNUSED],
+        true,
+    ),
+    (Mode::Asleep, Mode::Asleep, AS_BEFORE, true),
+    (Mode::Asleep, Mode::Suspending, AS_BEFORE, true),
+    (Mode::Suspending, Mode::Off, ALL_UNUSED, false),
+    (
+        Mode::Suspending,
+        Mode::Active,
+        &[Some((1, 1)), Some((1, 1)), UNUSED, UNUSED],
+        true,
+    ),
+    (
+        Mode::Suspending,
+        Mode::Asleep,
+        &[Some((2, 1)), Some((2, 1)), UNUSED, UNUSED],
+        true,
+    ),
+    (Mode::Suspending, Mode::Suspending, AS_BEFORE, true),
+];
+
+/// The row after a shift, where it was armed and held like this.
+fn shifted(wanted: Use, was_used: bool, preset: u32, hold: bool, armed: Option<NodeId>) -> Row {
+    let (now, next) = wanted.unwrap_or((0, 0));
+    Row {
+        used: wanted.is_some(),
+        now: Caps(now),
+        next: Caps(next),
+        preset: Caps(preset),
+        hold,
+        armed,
+        latency: if was_used { Some(9) } else { None },
+    }
+}
+
+/// Whether a shift makes of a row in one of its four forms what is wanted, held and armed or not.
+fn is_shifted(
+    alloc: Global,
+    shift: &(Mode, Mode, &[Use], bool),
+    form: usize,
+    wanted: Use,
+) -> Result<bool, NoMemory> {
+    let (from, to, _, keeps) = *shift;
+    let used = form < 2;
+    let preset = if form % 2 == 1 { 5 } else { 0 };
+    for (hold, armed) in BESIDES.iter() {
+        let mut rows = prepared(alloc, from, used, seed(0, false, preset, *hold))?;
+        rows.arm(0, 0, *armed);
+        rows.shift(0, to);
+        let row = if keeps {
+            shifted(wanted, used, preset, *hold, *armed)
+        } else {
+            shifted(wanted, false, preset, false, None)
+        };
+        if rows.row(0, 0) != Some(row) || rows.mode(0) != to {
+            return Ok(false);
+        }
+    }
+    Ok(true)
+}
+
+/// Whether a shift makes what is wanted of a row in each of its four forms.
+fn is_right(alloc: Global, shift: &(Mode, Mode, &[Use], bool)) -> Result<bool, NoMemory> {
+    for (form, wanted) in shift.2.iter().enumerate() {
+        if !is_shifted(alloc, shift, form, *wanted)? {
+            return Ok(false);
+        }
+    }
+    Ok(true)
+}
+
+fn wrong_shift(alloc: Global) -> Result<Option<usize>, NoMemory> {
+    for (place, shift) in SHIFTS.iter().enumerate() {
+        if !is_right(alloc, shift)? {
+            return Ok(Some(place));
+        }
+    }
+    Ok(None)
+}
+
+#[test]
+fn each_change_of_a_mode_changes_the_rows_by_its_table(rt: HostRuntime) -> Result<(), Fail> {
+    all_right(&rt, wrong_shift(rt.alloc())?);
+    Ok(())
+}
+
+/// Who uses the slave: each of the masters 1 and 2, how many, and who stands in the way of each.
+type Users = (bool, bool, u32, Option<usize>, Option<usize>);
+
+fn is_used(rows: &Rows, master: usize) -> bool {
+    match rows.row(master, 0) {
+        Some(row) => row.used,
+        None => false,
+    }
+}
+
+fn users(rows: &Rows) -> Users {
+    (
+        is_used(rows, 1),
+        is_used(rows, 2),
+        rows.users(0),
+        rows.rival(1, 0),
+        rows.rival(2, 0),
+    )
+}
+
+/// Whether the slave can be shared, the masters with presets that start one after another, and who uses
+/// the slave then.
+static STARTS: [(bool, &[usize], Users); 6] = [
+    (false, &[1], (true, false, 1, None, Some(1))),
+    (false, &[1, 2], (true, false, 1, None, Some(1))),
+    (false, &[2, 1], (false, true, 1, Some(2), None)),
+    (false, &[1, 1, 2], (true, false, 1, None, Some(1))),
+    (true, &[1, 2], (true, true, 2, None, None)),
+    (true, &[2], (false, true, 1, None, None)),
+];
+
+/// Three masters, of which the last two have presets for the slave. They start in this order.
+fn started(alloc: Global, shareable: bool, order: &[usize]) -> Result<Rows, NoMemory> {
+    let mut rows = Rows::load(
+        alloc,
+        3,
+        1,
+        0,
+        &[seed(1, shareable, 1, false), seed(2, shareable, 4, false)],
+    )?;
+    for master in order {
+        rows.shift(*master, Mode::Active);
+    }
+    Ok(rows)
+}
+
+fn wrong_start(alloc: Global) -> Result<Option<usize>, NoMemory> {
+    for (place, (shareable, order, wanted)) in STARTS.iter().enumerate() {
+        if users(&started(alloc, *shareable, order)?) != *wanted {
+            return Ok(Some(place));
+        }
+    }
+    Ok(None)
+}
+
+#[test]
+fn the_first_to_start_gets_a_slave_that_cannot_be_shared(rt: HostRuntime) -> Result<(), Fail> {
+    all_right(&rt, wrong_start(rt.alloc())?);
+    let mut rows = started(rt.alloc(), false, &[1, 2])?;
+    rows.shift(1, Mode::Off);
+    assert_eq!(rt; users(&rows), (false, false, 0, None, None));
+    rows.shift(2, Mode::Asleep);
+    rows.shift(2, Mode::Active);
+    assert_eq!(rt; users(&rows), (false, false, 0, None, None));
+    rows.shift(2, Mode::Off);
+    rows.shift(2, Mode::Active);
+    assert_eq!(rt; users(&rows), (false, true, 1, Some(2), None));
+    Ok(())
+}
+
+/// The mode of a master, whether it uses the slave, whether its row is armed and held, and the
+/// capabilities that are wanted of the slave: ACCESS is 1, CONTEXT 2, WAKEUP 4.
+static WANTS: [(Mode, bool, bool, bool, u32); 14] = [
+    (Mode::Active, false, false, false, 0),
+    (Mode::Active, true, false, false, 1),
+    (Mode::Suspending, true, false, false, 1),
+    (Mode::Asleep, true, false, false, 1),
+    (Mode::Off, true, false, false, 1),
+    (Mode::Active, false, true, false, 0),
+    (Mode::Suspending, false, true, false, 0),
+    (Mode::Asleep, false, true, false, 4),
+    (Mode::Off, false, true, false, 0),
+    (Mode::Asleep, true, true, false, 5),
+    (Mode::Active, true, true, false, 1),
+    (Mode::Active, false, false, true, 7),
+    (Mode::Off, false, false, true, 7),
+    (Mode::Asleep, true, true, true, 7),
+];
+
+/// Whether what is wanted is right, of a slave with these capabilities.
+fn is_wanted(
+    alloc: Global,
+    row: &(Mode, bool, bool, bool, u32),
+    all: u32,
+) -> Result<bool, NoMemory> {
+    let (mode, used, armed, hold, caps) = *row;
+    let own = RowSeed {
+        all: Caps(all),
+        ..seed(0, true, 0, hold)
+    };
+    let mut rows = prepared(alloc, mode, used, own)?;
+    if armed {
+        rows.arm(0, 0, Some(NodeId(2)));
+    }
+    let wanted = Wanted {
+        caps: Caps(caps & all),
+        limit: if used { Some(9) } else { None },
+    };
+    let none = Wanted {
+        caps: Caps(0),
+        limit: None,
+    };
+    Ok(rows.wanted(0) == wanted && rows.wanted(1) == none)
+}
+
+fn wrong_want(alloc: Global) -> Result<Option<usize>, NoMemory> {
+    for (place, row) in WANTS.iter().enumerate() {
+        if !is_wanted(alloc, row, 7)? || !is_wanted(alloc, row, 3)? {
+            return Ok(Some(place));
+        }
+    }
+    Ok(None)
+}
+
+#[test]
+fn what_is_wanted_has_three_parts(rt: HostRuntime) -> Result<(), Fail> {
+    all_right(&rt, wrong_want(rt.alloc())?);
+    Ok(())
+}
+
+fn wanted_in_all(caps: u32, limit: Option<u32>) -> Wanted {
+    Wanted {
+        caps: Caps(caps),
+        limit,
+    }
+}
+
+#[test]
+fn rows_of_several_masters_are_joined(rt: HostRuntime) -> Result<(), Fail> {
+    let mut rows = started(rt.alloc(), true, &[1, 2])?;
+    assert_eq!(rt; rows.wanted(0), wanted_in_all(5, None));
+    rows.change(1, 0, Change::Limit(300));
+    rows.change(2, 0, Change::Limit(299));
+    assert_eq!(rt; rows.wanted(0), wanted_in_all(5, Some(299)));
+    assert_eq!(rt;
+        [rows.usage(0, 0), rows.usage(1, 0), rows.usage(2, 0)],
+        [2, 3, 3]
+    );
+    rows.change(2, 0, Change::Release);
+    rows.change(2, 0, Change::Limit(7));
+    assert_eq!(rt; rows.wanted(0), wanted_in_all(1, Some(300)));
+    assert_eq!(rt;
+        [rows.usage(0, 0), rows.usage(1, 0), rows.usage(2, 0)],
+        [2, 1, 2]
+    );
+    Ok(())
+}
+
+/// A master that is active at load, with a slave in use and held, and one with a preset.
+static SEEDS: [RowSeed; 2] = [
+    RowSeed {
+        master: 0,
+        slave: 0,
+        shareable: true,
+        all: Caps(7),
+        preset: Caps(2),
+        start: Some(Caps(3)),
+        hold: true,
+    },
+    RowSeed {
+        master: 1,
+        slave: 0,
+        shareable: true,
+        all: Caps(7),
+        preset: Caps(1),
+        start: None,
+        hold: false,
+    },
+];
+
+fn row(used: bool, now: u32, next: u32, preset: u32) -> Row {
+    Row {
+        used,
+        now: Caps(now),
+        next: Caps(next),
+        preset: Caps(preset),
+        hold: false,
+        armed: None,
+        latency: None,
+    }
+}
+
+fn modes(rows: &Rows) -> [Mode; 3] {
+    [rows.mode(0), rows.mode(1), rows.mode(2)]
+}
+
+#[test]
+fn a_restart_makes_the_rows_at_load(rt: HostRuntime) -> Result<(), Fail> {
+    let mut rows = Rows::load(rt.alloc(), 2, 1, 0, &SEEDS)?;
+    let first = Row {
+        hold: true,
+        ..row(true, 3, 3, 2)
+    };
+    assert_eq!(rt;
+        (rows.row(0, 0), rows.row(1, 0)),
+        (Some(first), Some(row(false, 0, 0, 1)))
+    );
+    assert_eq!(rt; modes(&rows), [Mode::Active, Mode::Off, Mode::Off]);
+    assert_eq!(rt; (rows.row(1, 1), rows.row(2, 0)), (None, None));
+    rows.settle(1);
+    assert_eq!(rt; rows.row(0, 0), Some(first));
+    rows.settle(0);
+    assert_eq!(rt; rows.row(0, 0), Some(row(true, 3, 3, 2)));
+    rows.shift(1, Mode::Active);
+    rows.drop_slave(1);
+    assert_eq!(rt; rows.row(1, 0), Some(row(true, 1, 1, 1)));
+    rows.arm(1, 0, Some(NodeId(7)));
+    rows.drop_slave(0);
+    assert_eq!(rt; rows.row(0, 0), Some(row(false, 0, 0, 2)));
+    assert_eq!(rt; rows.row(1, 0), Some(row(false, 0, 0, 1)));
+    rows.shift(0, Mode::Asleep);
+    rows.restart();
+    assert_eq!(rt;
+        (rows.row(0, 0), rows.row(1, 0)),
+        (Some(first), Some(row(false, 0, 0, 1)))
+    );
+    assert_eq!(rt; modes(&rows), [Mode::Active, Mode::Off, Mode::Off]);
+    Ok(())
+}
+
+/// Does each change of a row by its own call, and stops where a row isn't what it should be then.
+fn change_each<L: Ledger>(rt: &impl Abort, rows: &mut Rows, blank: Blank)
+    requires name { blank.name ≡ L.name }
+    requires parts { blank.parts ≡ L.parts }
+    requires some { 0 < blank.parts }
+{
+    let mut steps = Steps::<L>::new(blank);
+    rows.release(0, 0, &mut steps);
+    rows.settle(0);
+    assert_eq!(rt; rows.row(0, 0), Some(row(false, 0, 0, 2)));
+    rows.request(0, 0, Caps(5), &mut steps);
+    assert_eq!(rt; rows.row(0, 0), Some(row(true, 5, 5, 2)));
+    rows.set(0, 0, Caps(1), &mut steps);
+    assert_eq!(rt; rows.row(0, 0), Some(row(true, 1, 1, 2)));
+    rows.shift(0, Mode::Suspending);
+    rows.set(0, 0, Caps(4), &mut steps);
+    assert_eq!(rt; rows.row(0, 0), Some(row(true, 1, 4, 2)));
+    rows.shift(0, Mode::Asleep);
+    rows.set(0, 0, Caps(7), &mut steps);
+    assert_eq!(rt; rows.row(0, 0), Some(row(true, 4, 1, 2)));
+    rows.shift(0, Mode::Active);
+    assert_eq!(rt; rows.row(0, 0), Some(row(true, 1, 1, 2)));
+    rows.limit(0, 0, 10, &mut steps);
+    let limited = Row {
+        latency: Some(10),
+        ..row(true, 1, 1, 2)
+    };
+    assert_eq!(rt; rows.row(0, 0), Some(limited));
+    rows.release(0, 0, &mut steps);
+    assert_eq!(rt; rows.row(0, 0), Some(row(false, 0, 0, 2)));
+}
+
+#[test]
+fn a_row_is_changed_by_its_calls(rt: HostRuntime) -> Result<(), Fail> {
+    let mut rows = Rows::load(rt.alloc(), 2, 1, 0, &SEEDS)?;
+    change_each::<Brand>(&rt, &mut rows, Blank::new(1));
+    Ok(())
+}
