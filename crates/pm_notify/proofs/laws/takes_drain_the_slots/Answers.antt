@@ -1,0 +1,16 @@
+use Rattle.pm_notify.specs.Laws.{TakeLaws}
+use Rattle.pm_notify.specs.Notify.{mail_of}
+use Rattle.pm_notify.proofs.OrderLemmas.{told_in_order}
+use Rattle.pm_notify.proofs.TakeLemmas.{all_next, drained, few, next}
+use Rattle.pm_notify.proofs.WaitingLemmas.{exactly_waits}
+use Rattle.pm_notify.proofs.laws.takes_drain_the_slots.Goals as goal
+
+pub returns : goal.returns
+returns c = record {
+  exactly = λ m notify w order. exactly_waits c.units_stand_in_order.ensures (mail_of m notify) w order;
+  ordered = λ m notify order. told_in_order (mail_of m notify) order;
+  next = next;
+  all = all_next c.unit_maps.ensures;
+  drained = drained c.unit_maps.ensures;
+  few = λ m notify. few (mail_of m notify);
+}

@@ -1,0 +1,5 @@
+pub mod Laws
+pub mod Mailbox
+pub mod NodeNotes
+pub mod Notes
+pub mod Notify

@@ -1,0 +1,45 @@
+//! Laws of the notifiers and of the notes that wait. Each is a record of facts, which stands with its
+//! definitions.
+
+ghost use Rattle.pm_notify.specs.Laws.{NotifierLaws, OrderLaws, OtherMailLaws, SlotLaws, TakeLaws};
+
+use crate::node_notes::NodeNotes;
+use pm_topology::{unit_maps, units_stand_in_order};
+
+/// What was put is asked for, until it is put otherwise or the master's mail is cleared; and no other
+/// notifier notices.
+pub fn notifiers_are_kept()
+    ensures { NotifierLaws }
+{
+    unit_maps::<NodeNotes>();
+    units_stand_in_order();
+}
+
+/// A note waits in its slot until it is taken out, replaced or cleared; and no other slot notices.
+pub fn notes_wait_in_slots()
+    ensures { SlotLaws }
+{
+    unit_maps::<NodeNotes>();
+    units_stand_in_order();
+}
+
+/// What is put, waits, is taken or is cleared for one master leaves the mail of all others.
+pub fn others_keep_their_mail()
+    ensures { OtherMailLaws }
+{}
+
+/// The mail of each master is about the units of the chip, in order.
+pub fn mail_stands_in_order()
+    ensures { OrderLaws }
+{
+    unit_maps::<NodeNotes>();
+    units_stand_in_order();
+}
+
+/// Notes are taken by the number of their node and then by their kind, each once, until none waits.
+pub fn takes_drain_the_slots()
+    ensures { TakeLaws }
+{
+    unit_maps::<NodeNotes>();
+    units_stand_in_order();
+}

@@ -1,0 +1,172 @@
+//! What one master has asked for and what waits for it, about each node of a chip.
+
+ghost use Rattle.std.specs.Prelude.{◌≡◌, IfOk, slice_get, true};
+ghost use Rattle.pm_topology.specs.UnitMap.{all_at, units_in};
+ghost use Rattle.pm_topology.specs.Units.{rises, units_of};
+ghost use Rattle.pm_notify.specs.Mailbox as spec;
+ghost use Rattle.pm_notify.specs.Mailbox.{asks_about, forgotten, notes_at, waiting_about, waiting_in, with_note, with_notes, with_notifier, without_note};
+ghost use Rattle.pm_notify.specs.NodeNotes.{no_notes};
+
+use crate::node_notes::{NodeNotes, Slots};
+use crate::notes::{NodeEvent, Note, Waiting};
+use pm_base::{NoMemory, NodeId, Unit};
+use pm_topology::{Topology, UnitMap, unit_map_places};
+use std::alloc::Global;
+use std::marker::Model;
+
+/// What a master has asked for and what waits for it about each unit of a chip, in the order of units.
+/// About a reset line nothing is ever asked for, and nothing waits.
+#[derive(Drop)]
+pub struct Mailbox {
+    notes: UnitMap<NodeNotes>,
+}
+
+impl Model for Mailbox {
+    ghost use Rattle.std.specs.Prelude.{List};
+    ghost use Rattle.pm_base.specs.declared.names.Unit.{Unit};
+    ghost use Rattle.pm_notify.specs.declared.node_notes.NodeNotes.{NodeNotes};
+
+    ghost Value = { List (Unit × NodeNotes) };
+
+    ghost view = { λ mailbox. mailbox.notes };
+}
+
+impl Mailbox {
+    /// A master that has asked for nothing and for which nothing waits, about each unit of the chip.
+    ///
+    /// # Errors
+    ///
+    /// `NoMemory` where there is not enough memory.
+    pub fn load(alloc: Global, t: &Topology) -> Result<Mailbox, NoMemory>
+        ensures { IfOk result (λ mail. mail ≡ all_at no_notes (units_of t.now)) }
+    {
+        let notes = UnitMap::load(alloc, t, NodeNotes::none())?;
+        Ok(Mailbox { notes })
+    }
+
+    /// What was asked for and what waits about a node: nothing where the chip doesn't have it.
+    fn about(&self, node: NodeId) -> NodeNotes
+        ensures { result ≡ notes_at node self.now }
+    {
+        self.notes
+            .get(Unit::Node(node))
+            .unwrap_or(NodeNotes::none())
+    }
+
+    /// Keeps this about a node. Nothing changes where the chip doesn't have it.
+    fn set(&mut self, node: NodeId, notes: NodeNotes)
+        ensures { self.new ≡ with_notes node notes self.old }
+    {
+        self.notes.set(Unit::Node(node), notes);
+    }
+
+    /// Whether an event of a node is asked for.
+    pub fn asks(&self, node: NodeId, event: NodeEvent) -> bool
+        ensures { result ≡ asks_about node event self.now }
+    {
+        self.about(node).notifiers.asks(event)
+    }
+
+    /// An event of a node is asked for from now on, or isn't any more.
+    pub fn put(&mut self, node: NodeId, event: NodeEvent, on: bool)
+        ensures { self.new ≡ with_notifier node event on self.old }
+    {
+        let notes = self.about(node);
+        self.set(
+            node,
+            NodeNotes {
+                notifiers: notes.notifiers.with_asked(event, on),
+                slots: notes.slots,
+            },
+        );
+    }
+
+    /// A note about a node waits from now on, in the slot of its kind.
+    pub fn wait(&mut self, node: NodeId, note: Note)
+        ensures { self.new ≡ with_note node note self.old }
+    {
+        let notes = self.about(node);
+        self.set(
+            node,
+            NodeNotes {
+                notifiers: notes.notifiers,
+                slots: notes.slots.filled(note),
+            },
+        );
+    }
+
+    /// No note of this one's kind waits about a node any more.
+    pub fn drop_note(&mut self, node: NodeId, note: Note)
+        ensures { self.new ≡ without_note node note self.old }
+    {
+        let notes = self.about(node);
+        self.set(
+            node,
+            NodeNotes {
+                notifiers: notes.notifiers,
+                slots: notes.slots.emptied(note),
+            },
+        );
+    }
+
+    /// The first note that waits: by the number of its node, and then by its kind.
+    pub fn first(&self) -> Option<Waiting>
+        ensures first { result ≡ slice_get (waiting_in self.now) 0 }
+        ensures rising { rises (units_in self.now) ≡ true }
+    {
+        first_in(&self.notes)
+    }
+
+    /// Nothing is asked for any more, and nothing waits.
+    pub fn clear(&mut self)
+        ensures { self.new ≡ forgotten self.old }
+    {
+        clear_all(&mut self.notes);
+    }
+}
+
+/// The first note that waits about a unit.
+fn first_about(unit: Unit, slots: Slots) -> Option<Waiting>
+    ensures { result ≡ slice_get (waiting_about unit slots) 0 }
+{
+    match unit {
+        Unit::Node(node) => match slots.first() {
+            Some(note) => Some(Waiting { node, note }),
+            None => None,
+        },
+        Unit::Line(_) => None,
+    }
+}
+
+/// The first note that waits about the unit at a place.
+fn first_at(notes: &UnitMap<NodeNotes>, place: usize) -> Option<Waiting>
+    ensures { result ≡ spec.first_at notes.now place }
+{
+    match notes.entry(place) {
+        Some((unit, notes)) => first_about(unit, notes.slots),
+        None => None,
+    }
+}
+
+/// The first note that waits about any unit, in the order of units.
+fn first_in(notes: &UnitMap<NodeNotes>) -> Option<Waiting>
+    ensures first { result ≡ slice_get (waiting_in notes.now) 0 }
+    ensures rising { rises (units_in notes.now) ≡ true }
+{
+    for place in 0..notes.len() {
+        if let Some(waiting) = first_at(notes, place) {
+            return Some(waiting);
+        }
+    }
+    None
+}
+
+/// About each unit nothing is asked for any more, and nothing waits.
+fn clear_all(notes: &mut UnitMap<NodeNotes>)
+    ensures { notes.new ≡ forgotten notes.old }
+{
+    unit_map_places::<NodeNotes>();
+    for place in 0..notes.len() {
+        notes.set_at(place, NodeNotes::none());
+    }
+}

@@ -1,0 +1,133 @@
+//! What all masters have asked for and what waits for each of them.
+
+ghost use Rattle.std.specs.Prelude.{◌≡◌, IfOk};
+ghost use Rattle.pm_notify.specs.Notify.{IsInOrder, asks_of, dropped, first_for, loaded, noted, registered, taken_out, without_mail};
+
+use crate::mailbox::Mailbox;
+use crate::notes::{NodeEvent, Note, Waiting};
+use pm_base::{NoMemory, NodeId};
+use pm_topology::Topology;
+use std::alloc::Global;
+use std::marker::Model;
+
+/// For each master by its place in the object, and for each node of the chip, of which events the master
+/// asked to be told (UG1200, PM_REGISTER_NOTIFIER), and the notes that wait for it until it wakes, in one slot
+/// for each kind.
+///
+/// About a node that the chip doesn't have, and for a master that isn't there, nothing is asked for and
+/// nothing waits.
+#[derive(Drop)]
+pub struct Notify {
+    mail: Vec<Mailbox>,
+}
+
+impl Model for Notify {
+    ghost use Rattle.std.specs.Prelude.{List};
+    ghost use Rattle.pm_base.specs.declared.names.Unit.{Unit};
+    ghost use Rattle.pm_notify.specs.declared.node_notes.NodeNotes.{NodeNotes};
+
+    ghost Value = { List (List (Unit × NodeNotes)) };
+
+    ghost view = { λ notify. notify.mail.items };
+}
+
+impl Notify {
+    /// This many masters that have asked for nothing and for which nothing waits. No later call takes
+    /// memory.
+    ///
+    /// # Errors
+    ///
+    /// `NoMemory` where there is not enough memory.
+    pub fn load(alloc: Global, t: &Topology, masters: usize) -> Result<Notify, NoMemory>
+        ensures { IfOk result (λ notify. notify ≡ loaded t.now masters) }
+    {
+        let mail = mailboxes(alloc, t, masters)?;
+        Ok(Notify { mail })
+    }
+
+    /// Whether a master has asked to be told of an event of a node.
+    pub fn asked(&self, m: usize, n: NodeId, event: NodeEvent) -> bool
+        ensures { result ≡ asks_of m n event self.now }
+    {
+        match self.mail.get(m) {
+            Some(mail) => mail.asks(n, event),
+            None => false,
+        }
+    }
+
+    /// A master is told of an event of a node from now on, or isn't any more. Nothing changes where the
+    /// master or the node isn't there.
+    pub fn put(&mut self, m: usize, n: NodeId, event: NodeEvent, on: bool)
+        ensures { self.new ≡ registered m n event on self.old }
+    {
+        if m < self.mail.len() {
+            self.mail[m].put(n, event, on);
+        }
+    }
+
+    /// A note about a node waits for a master from now on, in the slot of that master, node and kind: what
+    /// waited there is replaced. Nothing changes where the master or the node isn't there.
+    pub fn wait(&mut self, m: usize, n: NodeId, note: Note)
+        ensures { self.new ≡ noted m n note self.old }
+    {
+        if m < self.mail.len() {
+            self.mail[m].wait(n, note);
+        }
+    }
+
+    /// Takes out the first note that waits for a master: by the number of its node, and then an
+    /// acknowledgement before a change before no users any more. `None` where nothing waits. It looks
+    /// at most once at each unit in the mail of this master, and at no other mail.
+    pub fn take(&mut self, m: usize) -> Option<Waiting>
+        ensures first { result ≡ first_for m self.old }
+        ensures rest { self.new ≡ taken_out m result self.old }
+        ensures order { IsInOrder m self.old }
+    {
+        let first = self.first(m);
+        if let Some(waiting) = first {
+            self.drop_note(m, waiting.node, waiting.note);
+        }
+        first
+    }
+
+    /// The first note that waits for a master.
+    fn first(&self, m: usize) -> Option<Waiting>
+        ensures first { result ≡ first_for m self.now }
+        ensures order { IsInOrder m self.now }
+    {
+        match self.mail.get(m) {
+            Some(mail) => mail.first(),
+            None => None,
+        }
+    }
+
+    /// No note of this one's kind waits for a master about a node any more.
+    fn drop_note(&mut self, m: usize, n: NodeId, note: Note)
+        ensures { self.new ≡ dropped m n note self.old }
+    {
+        if m < self.mail.len() {
+            self.mail[m].drop_note(n, note);
+        }
+    }
+
+    /// A master forgets what it asked for, and what waits for it is lost.
+    pub fn clear(&mut self, m: usize)
+        ensures { self.new ≡ without_mail m self.old }
+    {
+        if m < self.mail.len() {
+            self.mail[m].clear();
+        }
+    }
+}
+
+/// The mail of this many masters: each has asked for nothing, and nothing waits for it.
+fn mailboxes(alloc: Global, t: &Topology, masters: usize) -> Result<Vec<Mailbox>, NoMemory>
+    ensures { IfOk result (λ mail. mail.items ≡ loaded t.now masters) }
+{
+    let mut mail = Vec::new(alloc);
+    for _master in 0..masters {
+        let mailbox = Mailbox::load(alloc, t)?;
+        mail.push(mailbox).map_err(|_| NoMemory)?;
+    }
+    Ok(mail)
+}
