@@ -1,10 +1,10 @@
 -- The calls by their words (UG1200, API calls), and how each is acknowledged.
-use Rattle.std.specs.Prelude.{ℕ, ◌+◌, ◌*◌, ◌^◌, ◌==◌, if◌then◌else◌, slice_index, Option, Some, None}
+use Rattle.std.specs.Prelude.{ℕ, ◌+◌, ◌-◌, ◌*◌, ◌^◌, ◌%◌, ◌==◌, if◌then◌else◌, slice_index, Option, Some, None}
 use Rattle.pm_base.specs.declared.caps.Caps.{Caps}
 use Rattle.pm_base.specs.declared.names.NodeId.{NodeId}
 use Rattle.pm_base.specs.declared.events.Message.{Message}
 use Rattle.pm_ipi.specs.declared.calls.Call.{Call}
-use Rattle.pm_ipi.specs.declared.calls.Call.TheVariants.{GetApiVersion, GetNodeStatus, SelfSuspend, AbortSuspend, RequestNode, ReleaseNode, SetRequirement, SetMaxLatency, InitFinalize, Unknown}
+use Rattle.pm_ipi.specs.declared.calls.Call.TheVariants.{GetApiVersion, GetNodeStatus, SelfSuspend, AbortSuspend, RequestWakeup, SetWakeupSource, RequestNode, ReleaseNode, SetRequirement, SetMaxLatency, InitFinalize, Unknown}
 use Rattle.pm_ipi.specs.declared.calls.AckKind.{AckKind}
 use Rattle.pm_ipi.specs.declared.calls.AckKind.TheVariants.{No, Blocking, NonBlocking}
 
@@ -41,6 +41,19 @@ self_suspend message = SelfSuspend (node_word message 0) (address_of (argument m
 abbrev pub abort_suspend : Message → Call
 abort_suspend message = AbortSuspend (node_word message 1) (argument message 0)
 
+-- the address at which a processor wakes: bit 0 of the low word says that there is one, and is no part of it
+abbrev pub wake_address : ℕ → ℕ → Option ℕ
+wake_address low high = if low % 2 == 1 then Some (address_of (low - 1) high) else None
+
+-- REQUEST_WAKEUP: the processor, the low and the high word of the address at which it wakes, and the acknowledge kind
+abbrev pub request_wakeup : Message → Call
+request_wakeup message =
+    RequestWakeup (node_word message 0) (wake_address (argument message 1) (argument message 2)) (argument message 3)
+
+-- SET_WAKEUP_SOURCE: the processor, the slave whose interrupt wakes it, and whether it does from now on
+abbrev pub set_wakeup_source : Message → Call
+set_wakeup_source message = SetWakeupSource (node_word message 0) (node_word message 1) (argument message 2)
+
 -- REQUEST_NODE: the slave, the capabilities, the quality of service, which nothing depends on, and the acknowledge kind
 abbrev pub request_node : Message → Call
 request_node message = RequestNode (node_word message 0) (caps_word message 1) (argument message 3)
@@ -68,6 +81,8 @@ call_of message =
     else if message.api == 3 then get_node_status message
     else if message.api == 7 then self_suspend message
     else if message.api == 9 then abort_suspend message
+    else if message.api == 10 then request_wakeup message
+    else if message.api == 11 then set_wakeup_source message
     else if message.api == 13 then request_node message
     else if message.api == 14 then release_node message
     else if message.api == 15 then set_requirement message
@@ -89,12 +104,14 @@ kind_or_reply None = Blocking
 kind_or_reply (Some kind) = kind
 
 abbrev pub ack_of : Call → AckKind
+ack_of (RequestWakeup node address ack) = kind_or_reply (ack_kind ack)
 ack_of (RequestNode node caps ack) = kind_or_reply (ack_kind ack)
 ack_of (SetRequirement node caps ack) = kind_or_reply (ack_kind ack)
 ack_of _ = Blocking
 
 -- the node that the acknowledgement of a call names, for the calls that have an acknowledge kind
 abbrev pub node_of : Call → NodeId
+node_of (RequestWakeup node address ack) = node
 node_of (RequestNode node caps ack) = node
 node_of (SetRequirement node caps ack) = node
 node_of _ = record { 0 = 0 }

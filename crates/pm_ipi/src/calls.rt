@@ -1,7 +1,7 @@
 //! The calls by their words (UG1200, API calls).
 
 ghost use Rattle.std.specs.Prelude.{◌≡◌};
-ghost use Rattle.pm_ipi.specs.Calls.{call_of, address_of, ack_kind, ack_of, node_of};
+ghost use Rattle.pm_ipi.specs.Calls.{call_of, address_of, wake_address, ack_kind, ack_of, node_of};
 
 use pm_base::{Caps, Message, NodeId};
 
@@ -18,16 +18,49 @@ pub enum AckKind {
 #[derive(Clone, Copy, Debug, PartialEq, Eq)]
 pub enum Call {
     GetApiVersion,
-    GetNodeStatus { node: NodeId },
+    GetNodeStatus {
+        node: NodeId,
+    },
     /// The processor suspends, and resumes at the address.
-    SelfSuspend { node: NodeId, address: u64 },
+    SelfSuspend {
+        node: NodeId,
+        address: u64,
+    },
     /// The processor goes on in place of suspending.
-    AbortSuspend { node: NodeId, reason: u32 },
-    RequestNode { node: NodeId, caps: Caps, ack: u32 },
-    ReleaseNode { node: NodeId },
-    SetRequirement { node: NodeId, caps: Caps, ack: u32 },
+    AbortSuspend {
+        node: NodeId,
+        reason: u32,
+    },
+    /// The processor wakes, at the address where there is one, and else where it is to resume.
+    RequestWakeup {
+        node: NodeId,
+        address: Option<u64>,
+        ack: u32,
+    },
+    /// From now on the interrupt of the source wakes the target, or not any more.
+    SetWakeupSource {
+        target: NodeId,
+        source: NodeId,
+        enable: u32,
+    },
+    RequestNode {
+        node: NodeId,
+        caps: Caps,
+        ack: u32,
+    },
+    ReleaseNode {
+        node: NodeId,
+    },
+    SetRequirement {
+        node: NodeId,
+        caps: Caps,
+        ack: u32,
+    },
     /// The slave may take this long at most until it is in use again.
-    SetMaxLatency { node: NodeId, latency: u32 },
+    SetMaxLatency {
+        node: NodeId,
+        latency: u32,
+    },
     /// The master has requested all that it needs.
     InitFinalize,
     /// Any other number of a call.
@@ -53,6 +86,16 @@ pub fn decode_call(message: &Message) -> Call
             node: NodeId(args[1]),
             reason: args[0],
         },
+        10 => Call::RequestWakeup {
+            node,
+            address: wake_address(args[1], args[2]),
+            ack,
+        },
+        11 => Call::SetWakeupSource {
+            target: node,
+            source: NodeId(args[1]),
+            enable: args[2],
+        },
         13 => Call::RequestNode { node, caps, ack },
         14 => Call::ReleaseNode { node },
         15 => Call::SetRequirement { node, caps, ack },
@@ -70,6 +113,17 @@ fn address(low: u32, high: u32) -> u64
     ensures { result ≡ address_of low high }
 {
     u64::from(high) * 0x1_0000_0000 + u64::from(low)
+}
+
+/// The address at which a processor wakes, where bit 0 of the low word says that there is one. That bit is no part of it.
+fn wake_address(low: u32, high: u32) -> Option<u64>
+    ensures { result ≡ wake_address low high }
+{
+    if low % 2 == 1 {
+        Some(address(low - 1, high))
+    } else {
+        None
+    }
 }
 
 /// The acknowledge kind of an argument, where it is one.
@@ -90,9 +144,9 @@ impl Call {
         ensures { result ≡ ack_of self.now }
     {
         match self {
-            Call::RequestNode { ack, .. } | Call::SetRequirement { ack, .. } => {
-                ack_kind(*ack).unwrap_or(AckKind::Blocking)
-            }
+            Call::RequestWakeup { ack, .. }
+            | Call::RequestNode { ack, .. }
+            | Call::SetRequirement { ack, .. } => { ack_kind(*ack).unwrap_or(AckKind::Blocking) }
             _ => AckKind::Blocking,
         }
     }
@@ -103,7 +157,9 @@ impl Call {
         ensures { result ≡ node_of self.now }
     {
         match self {
-            Call::RequestNode { node, .. } | Call::SetRequirement { node, .. } => *node,
+            Call::RequestWakeup { node, .. }
+            | Call::RequestNode { node, .. }
+            | Call::SetRequirement { node, .. } => *node,
             _ => NodeId(0),
         }
     }

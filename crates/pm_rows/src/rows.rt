@@ -1,6 +1,6 @@
 //! The rows of the book: one for each pair of a master and a slave that the object permits.
 
-ghost use Rattle.std.specs.Prelude.{◌≡◌, ◌-◌, ◌^◌, min, map, IfOk};
+ghost use Rattle.std.specs.Prelude.{◌≡◌, ◌-◌, ◌<◌, ◌^◌, min, map, length, slice_get, Some, IfOk};
 ghost use Rattle.pm_rows.specs.declared.row.Change.TheVariants.{Request, Release, Set, Limit, Arm};
 ghost use Rattle.pm_rows.specs.Rows as spec;
 ghost use Rattle.pm_rows.specs.Rows.{mode_of, loaded_entry, loaded_rows, reloaded, restarted, change_at, row_changed, settled_at, settled, dropped_at, slave_dropped, entry_at, row_at, rival_of, users_of, usage_of};
@@ -99,6 +99,21 @@ impl Rows {
         ensures { result ≡ mode_of master self.now }
     {
         mode_in(&self.known, master)
+    }
+
+    /// The number of rows.
+    pub fn len(&self) -> usize
+        ensures { result ≡ length self.now.entries }
+    {
+        self.entries.len()
+    }
+
+    /// The row at a place with its pair.
+    pub fn entry(&self, k: usize) -> Entry
+        requires { k < length self.now.entries }
+        ensures { slice_get self.now.entries k ≡ Some result }
+    {
+        self.entries[k]
     }
 
     /// The row of a pair with its pair, which is there where the pair is permitted.
