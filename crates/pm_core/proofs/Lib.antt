@@ -1,3 +1,4 @@
+pub mod ArmedLaw
 pub mod Below
 pub mod CachesLaw
 pub mod Each
@@ -20,4 +21,6 @@ pub mod SoundSteps
 pub mod StageLaw
 pub mod StartsLaw
 pub mod StepLaw
+pub mod WakeLemmas
+pub mod WakeSound
 pub mod Wants

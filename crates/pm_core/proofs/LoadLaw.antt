@@ -33,6 +33,7 @@ use Rattle.pm_core.specs.Sound.{IsSound}
 use Rattle.pm_core.proofs.Each.{Each-append}
 use Rattle.pm_core.proofs.MembersLaw.{Owns, members_owned, one_owner}
 use Rattle.pm_core.proofs.PairsLaw.{pairs_once}
+use Rattle.pm_core.proofs.ArmedLaw.{load_arms}
 use Rattle.pm_core.proofs.RowLaws.{RowLaws}
 
 -- ---- the permitted pairs can be loaded
@@ -200,4 +201,5 @@ load_sound rows modes object topology =
         each = counted (boot_proc object topology) (length topology.procs);
         nobodys = nobody_up object topology (boot_proc object topology) refl;
       };
+      armed = load_arms (record { object = object; topology = topology }) (pairs_of object topology);
     }

@@ -1,13 +1,14 @@
 -- What the rows of a book keep, as the crate of the rows promises it.
-use Rattle.std.proofs.Common.{◌≡◌, ℕ, List, is_some, nat_lt, Some}
+use Rattle.std.proofs.Common.{◌≡◌, ℕ, Bool, List, is_some, nat_lt, Some, None, ◌⊎◌}
 use Rattle.std.specs.Prelude.{count_by}
 use Rattle.std.specs.List.{All}
 use Rattle.pm_base.specs.declared.names.Mode.{Mode}
 use Rattle.pm_rows.specs.declared.row.RowSeed.{RowSeed}
+use Rattle.pm_rows.specs.declared.row.Row.{Row}
 use Rattle.pm_rows.specs.declared.row.Entry.{Entry}
 use Rattle.pm_rows.specs.declared.row.Change.{Change}
 use Rattle.pm_rows.specs.Rows.{Rows, entry_at, loaded_rows, row_changed, settled}
-use Rattle.pm_rows.specs.Shift.{shifted}
+use Rattle.pm_rows.specs.Shift.{shifted, shifted_row}
 use Rattle.pm_rows.specs.Sound.{AreOnce, AreSound, IsFit, IsLoadable, is_pair}
 
 pub record RowLaws : Type 0 where
@@ -21,3 +22,5 @@ pub record RowLaws : Type 0 where
   pub settle : (permitted : List RowSeed) (rows : Rows) (m : ℕ) → AreSound permitted rows → AreSound permitted (settled m rows)
   pub there : (permitted : List RowSeed) (rows : Rows) (m s : ℕ) → AreSound permitted rows
       → is_some (entry_at m s rows) ≡ nat_lt 0 (count_by (is_pair m s) permitted)
+  pub armed : (from to : Mode) (taken : Bool) (row : Row)
+      → (shifted_row from to taken row).armed ≡ row.armed ⊎ (shifted_row from to taken row).armed ≡ None

@@ -5,12 +5,12 @@ use Rattle.std.specs.List.{list_all}
 use Rattle.std.proofs.lemmas.List.Quantifiers.{position-Some}
 use Rattle.pm_base.specs.declared.caps.Caps.{Caps}
 use Rattle.pm_base.specs.declared.events.Event.{Event}
-use Rattle.pm_base.specs.declared.events.Event.TheVariants.{Ipi, Boot, Wfi}
+use Rattle.pm_base.specs.declared.events.Event.TheVariants.{Ipi, Boot, Wfi, Irq, Gic}
 use Rattle.pm_base.specs.declared.events.Message.{Message}
 use Rattle.pm_base.specs.declared.names.Mode.{Mode}
 use Rattle.pm_base.specs.declared.names.Mode.TheVariants.{Off, Active, Asleep, Suspending}
 use Rattle.pm_ipi.specs.declared.calls.Call.{Call}
-use Rattle.pm_ipi.specs.declared.calls.Call.TheVariants.{SelfSuspend, AbortSuspend, RequestNode, ReleaseNode, SetRequirement, SetMaxLatency, InitFinalize, Unknown as Other}
+use Rattle.pm_ipi.specs.declared.calls.Call.TheVariants.{SelfSuspend, AbortSuspend, RequestWakeup, SetWakeupSource, RequestNode, ReleaseNode, SetRequirement, SetMaxLatency, InitFinalize, Unknown as Other}
 use Rattle.pm_ipi.specs.Calls.{call_of, ack_kind}
 use Rattle.pm_ipi.specs.Status.{invalid_parameter, invalid_node, no_access, no_feature, double_request}
 use Rattle.pm_object.specs.declared.object.MasterRec.{MasterRec}
@@ -20,13 +20,15 @@ use Rattle.pm_procs.specs.Procs.{proc_at}
 use Rattle.pm_rows.specs.declared.row.Change.{Change}
 use Rattle.pm_rows.specs.declared.row.Change.TheVariants.{Request, Release, Set, Limit}
 use Rattle.pm_rows.specs.declared.row.Entry.{Entry}
-use Rattle.pm_rows.specs.Rows.{has_all, mode_of, rival_of, entry_at}
+use Rattle.pm_rows.specs.Rows.{has_all, mode_of, rival_of, entry_at, is_at}
+use Rattle.pm_rows.specs.Wanted.{wakeup}
 use Rattle.pm_rows.specs.Sound.{IsFit}
 use Rattle.pm_topology.specs.declared.places.Kind.{Kind}
 use Rattle.pm_topology.specs.declared.places.Kind.TheVariants.{Proc, Slave, Power, Unknown}
 use Rattle.pm_topology.specs.Places.{kind_of}
 use Rattle.pm_core.specs.declared.views.ProcView.{ProcView}
 use Rattle.pm_core.specs.declared.views.RowView.{RowView}
+use Rattle.pm_core.specs.declared.views.WakeView.{WakeView}
 use Rattle.pm_core.specs.Events.{boot_at, boot_by, booted, wait_at, wait_by, waits}
 use Rattle.pm_core.specs.Members.{mode_of_master, owner_at}
 use Rattle.pm_core.specs.Outcome.{Deed, Check, Tried, judged, outcome_of, done, must, must_be_free}
@@ -38,17 +40,25 @@ use Rattle.pm_core.specs.Stages.{after_stage, after_stages}
 use Rattle.pm_core.specs.State.{State, in_force}
 use Rattle.pm_core.specs.Step.{called, tried_by, heard_at, stages_of, effect}
 use Rattle.pm_core.specs.Values.{master_place, slave_place}
-use Rattle.pm_core.specs.Views.{row_view_at, proc_view, rival_node, master_node}
+use Rattle.pm_core.specs.Views.{row_view_at, proc_view, wake_view, rival_node, master_node}
 use Rattle.pm_core.specs.calls.AbortSuspend.{abort_suspend}
 use Rattle.pm_core.specs.calls.InitFinalize.{init_finalize}
 use Rattle.pm_core.specs.calls.ReleaseNode.{release_node}
 use Rattle.pm_core.specs.calls.RequestNode.{request_checks, request_node}
+use Rattle.pm_core.specs.calls.RequestWakeup.{request_wakeup}
 use Rattle.pm_core.specs.calls.SelfSuspend.{self_suspend}
 use Rattle.pm_core.specs.calls.SetMaxLatency.{set_max_latency}
 use Rattle.pm_core.specs.calls.SetRequirement.{set_requirement, set_requirement_checks}
+use Rattle.pm_core.specs.calls.SetWakeupSource.{arming, is_switch, set_wakeup_source, set_wakeup_source_checks}
+use Rattle.std.proofs.lemmas.Bool.{eqb-true}
+use Rattle.pm_base.proofs.Booleans.{both}
+use Rattle.pm_base.proofs.Counts.{split}
+use Rattle.pm_base.specs.declared.names.NodeId.{NodeId}
+use Rattle.pm_core.proofs.ArmedLaw.{MayArm, arming_may}
 use Rattle.pm_core.proofs.Judged.{judged_either, passes, must_passes, free_passes}
 use Rattle.pm_core.proofs.RowLaws.{RowLaws}
 use Rattle.pm_core.proofs.StageLaw.{row, settle, put, stage_keeps, empty_keeps}
+use Rattle.pm_core.proofs.WakeSound.{raised_keeps, interrupt_keeps, request_keeps}
 
 -- ---- calls
 
@@ -69,11 +79,15 @@ record IsHeard (book : State) (m : ℕ) : Type 0 where
   pub there : m < length (in_force book).masters
   pub awake : IsTrue (is_awake (mode_of_master book.fixed book.now.core m))
 
+-- a change fits a row of the master at place m, and what it arms the row with
+abbrev FitsRow : ℕ → ℕ → Change → Entry → State → Type 0
+FitsRow m s by e book = IsFit m s by e book.now.core.rows × MayArm book.fixed e.seed.master by
+
 -- a change of the caller's row keeps the book sound where it fits the row that is there
-row_keeps : RowLaws → (m s : ℕ) (by : Change) (book : State) (entry : Option Entry) → IsSound book → entry_at m s book.now.core.rows ≡ entry → ((e : Entry) → entry ≡ Some e → IsFit m s by e book.now.core.rows) → IsSound (after_stage (changes_of by entry) book)
+row_keeps : RowLaws → (m s : ℕ) (by : Change) (book : State) (entry : Option Entry) → IsSound book → entry_at m s book.now.core.rows ≡ entry → ((e : Entry) → entry ≡ Some e → FitsRow m s by e book) → IsSound (after_stage (changes_of by entry) book)
 row_keeps laws m s by book None sound found fits = empty_keeps laws book sound
 row_keeps laws m s by book (Some entry) sound found fits =
-    stage_keeps laws book (At_row entry.seed.master entry.seed.slave by) sound (row m s by entry found (fits entry refl))
+    stage_keeps laws book (At_row entry.seed.master entry.seed.slave by) sound (row m s by entry found (fits entry refl).0 (fits entry refl).1)
 
 abbrev view_of : ℕ → ℕ → State → RowView
 view_of m s book = record { slave = Some s; entry = entry_at m s book.now.core.rows; rival = rival_node m s book }
@@ -82,7 +96,7 @@ abbrev no_view : RowView
 no_view = record { slave = None; entry = None; rival = None }
 
 -- a call on a row keeps the book sound where its change fits the row of each slave once its checks pass
-row_call_keeps : RowLaws → (m : ℕ) (by : Change) (call : RowView → Tried) (book : State) (slave : Option ℕ) → IsSound book → ((view : RowView) → (call view).deed ≡ done (row_changes by view)) → ((s : ℕ) → IsTrue (list_all passes (call (view_of m s book)).checks) → (e : Entry) → entry_at m s book.now.core.rows ≡ Some e → IsFit m s by e book.now.core.rows) → IsSound (after_stages (outcome_of (call (row_view_at m slave book))).stages book)
+row_call_keeps : RowLaws → (m : ℕ) (by : Change) (call : RowView → Tried) (book : State) (slave : Option ℕ) → IsSound book → ((view : RowView) → (call view).deed ≡ done (row_changes by view)) → ((s : ℕ) → IsTrue (list_all passes (call (view_of m s book)).checks) → (e : Entry) → entry_at m s book.now.core.rows ≡ Some e → FitsRow m s by e book) → IsSound (after_stages (outcome_of (call (row_view_at m slave book))).stages book)
 row_call_keeps laws m by call book None sound deed fits =
     tried_keeps (call no_view) book sound (λ passing.
     let P : Deed → Type 0 = λ d. IsSound (after_stages d.stages book) in
@@ -141,6 +155,24 @@ set_fits m caps ack book sound heard s passing e is =
     let part = requirement_part (passes (must (is_some (ack_kind ack)) invalid_parameter)) (passes (must (is_some view.slave) invalid_node)) (passes (must (is_some view.entry) no_access)) (passes (must (can_have caps view) no_feature)) (passes (must (is_in_use view) no_access)) passing in
     (able caps view e is part, sound.knows.right m heard.there)
 
+-- of the checks of an arming: the processor is the caller's
+arming_part : (a b c d e f : Bool) → IsTrue (a && (b && (c && (d && (e && (f && true)))))) → IsTrue d
+arming_part true true true true e f is = refl
+arming_part true true true false e f is = cc
+arming_part true true false d e f is = cc
+arming_part true false c d e f is = cc
+arming_part false b c d e f is = cc
+
+arming_fits : (m : ℕ) (node : NodeId) (enable : ℕ) (book : State) → (s : ℕ) → IsTrue (list_all passes (set_wakeup_source_checks enable (proc_view m node book) (view_of m s book))) → (e : Entry) → entry_at m s book.now.core.rows ≡ Some e → FitsRow m s (arming node enable) e book
+arming_fits m node enable book s passing e is =
+    let target : ProcView = proc_view m node book in
+    let source : RowView = view_of m s book in
+    let part = arming_part (passes (must (is_some target.place) invalid_node)) (passes (must (is_some source.slave) invalid_node)) (passes (must (is_switch enable) invalid_parameter)) (passes (must (is_some target.own) no_access)) (passes (must (is_some source.entry) no_access)) (passes (must (can_have wakeup source) no_feature)) passing in
+    let at : is_at m s e ≡ true = (split (is_at m s) book.now.core.rows.entries e is).passes in
+    let own : e.seed.master ≡ m = eqb-true e.seed.master m (both (e.seed.master == m) (e.seed.slave == s) at).0 in
+    let P : ℕ → Type 0 = λ k. MayArm book.fixed k (arming node enable) in
+    (tt, subst P (sym own) (arming_may m node enable book (must_passes (is_some target.own) no_access part)))
+
 -- a call on a processor keeps the book sound
 put_keeps : RowLaws → (m : ℕ) (place : Option ℕ) (mode : Mode) (address : ℕ) (book : State) → IsSound book → IsSound (after_stage (put_at m place mode address) book)
 put_keeps laws m None mode address book sound = empty_keeps laws book sound
@@ -153,15 +185,20 @@ called_keeps laws m (SelfSuspend node address) book sound heard =
 called_keeps laws m (AbortSuspend node reason) book sound heard =
     let view : ProcView = proc_view m node book in
     tried_keeps (abort_suspend m reason view) book sound (λ passing. put_keeps laws m view.place Active (address_in view) book sound)
+called_keeps laws m (RequestWakeup node address ack) book sound heard =
+    let view : WakeView = wake_view m node book in
+    tried_keeps (request_wakeup address ack view) book sound (λ passing. request_keeps laws address view.place view.target book sound)
+called_keeps laws m (SetWakeupSource target source enable) book sound heard =
+    row_call_keeps laws m (arming target enable) (set_wakeup_source target enable (proc_view m target book)) book (slave_place source book) sound (λ view. refl) (arming_fits m target enable book)
 called_keeps laws m (RequestNode node caps ack) book sound heard =
-    row_call_keeps laws m (Request caps) (request_node caps ack) book (slave_place node book) sound (λ view. refl) (request_fits m caps ack book sound heard)
+    row_call_keeps laws m (Request caps) (request_node caps ack) book (slave_place node book) sound (λ view. refl) (λ s passing e is. (request_fits m caps ack book sound heard s passing e is, tt))
 called_keeps laws m (ReleaseNode node) book sound heard =
-    row_call_keeps laws m Release release_node book (slave_place node book) sound (λ view. refl) (λ s passing e is. tt)
+    row_call_keeps laws m Release release_node book (slave_place node book) sound (λ view. refl) (λ s passing e is. (tt, tt))
 called_keeps laws m (SetRequirement node caps ack) book sound heard =
     let mode : Mode = mode_of_master book.fixed book.now.core m in
-    row_call_keeps laws m (Set mode caps) (set_requirement mode caps ack) book (slave_place node book) sound (λ view. refl) (set_fits m caps ack book sound heard)
+    row_call_keeps laws m (Set mode caps) (set_requirement mode caps ack) book (slave_place node book) sound (λ view. refl) (λ s passing e is. (set_fits m caps ack book sound heard s passing e is, tt))
 called_keeps laws m (SetMaxLatency node latency) book sound heard =
-    row_call_keeps laws m (Limit latency) (set_max_latency latency) book (slave_place node book) sound (λ view. refl) (λ s passing e is. tt)
+    row_call_keeps laws m (Limit latency) (set_max_latency latency) book (slave_place node book) sound (λ view. refl) (λ s passing e is. (tt, tt))
 called_keeps laws m InitFinalize book sound heard =
     tried_keeps (init_finalize m) book sound (λ passing. stage_keeps laws book (Settle m) sound (settle m))
 called_keeps laws m Other book sound heard = sound
@@ -219,6 +256,8 @@ effect_sound laws (Ipi master message) book sound =
     (λ m is. (position-Some (λ (x : MasterRec). x.node == master.0) (in_force book).masters m (record { node = 0; mask = 0; timeout = 0; suspend = 0; wake = 0 }) is).0)
 effect_sound laws (Boot proc address) book sound = boot_keeps laws (kind_of book.fixed.topology proc) address book sound
 effect_sound laws (Wfi proc) book sound = wait_keeps laws (kind_of book.fixed.topology proc) book sound
+effect_sound laws (Irq slave) book sound = raised_keeps laws (kind_of book.fixed.topology slave) book sound
+effect_sound laws (Gic proc) book sound = interrupt_keeps laws (kind_of book.fixed.topology proc) book sound
 effect_sound laws _ book sound = sound
 
 -- what holds in every book is kept by each step

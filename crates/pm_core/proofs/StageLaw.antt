@@ -18,9 +18,10 @@ use Rattle.pm_rows.specs.Sound.{IsFit}
 use Rattle.pm_core.specs.Members.{mode_of_master, owner_at, owns, is_place}
 use Rattle.pm_core.specs.Pairs.{pairs_of}
 use Rattle.pm_core.specs.Prims.{Prim, At_row, Settle, Put_proc, Shift, applies, changed, proc_put}
-use Rattle.pm_core.specs.Sound.{HasProcs, HasSoundRows, IsSound}
+use Rattle.pm_core.specs.Sound.{ArmsOwn, HasProcs, HasSoundRows, IsSound}
 use Rattle.pm_core.specs.Stages.{after_stage, follow_at, follow_from, followed}
 use Rattle.pm_core.specs.State.{Fixed, Now, State, in_force}
+use Rattle.pm_core.proofs.ArmedLaw.{MayArm, change_arms, settle_arms, shift_arms}
 use Rattle.pm_core.proofs.FollowLemmas.{Leaves, follow_leaves, other_mode, same_later, applies_append}
 use Rattle.pm_core.proofs.PairsLaw.{pairs_once}
 use Rattle.pm_core.proofs.RowLaws.{RowLaws}
@@ -30,9 +31,10 @@ pub record IsWithin (fixed : Fixed) (now : Now) : Type 0 where
   pub rows : HasSoundRows (record { fixed = fixed; now = now })
   pub each : length now.core.rows.known ≡ length fixed.object.masters
   pub procs : HasProcs (record { fixed = fixed; now = now })
+  pub armed : ArmsOwn (record { fixed = fixed; now = now })
 
 pub within : (book : State) → IsSound book → IsWithin book.fixed book.now
-within book sound = record { rows = sound.rows; each = sound.knows.each; procs = sound.procs }
+within book sound = record { rows = sound.rows; each = sound.knows.each; procs = sound.procs; armed = sound.armed }
 
 -- ---- the rows follow
 
@@ -69,6 +71,7 @@ follows_by laws fixed now m to false is there of = record {
     rows = laws.shift (pairs_of fixed.object fixed.topology) now.core.rows m to (λ m s. pairs_once m s fixed.object fixed.topology) of.rows;
     each = length-set now.core.rows.known m to ∙ of.each;
     procs = record { each = of.procs.each; nobodys = of.procs.nobodys };
+    armed = shift_arms laws fixed m (mode_of m now.core.rows) to now.core.rows.entries of.armed;
   };
   knows = own_mode now.core.rows.known m to (omega (arith, there, of.each));
 }
@@ -100,7 +103,7 @@ knows_more fixed now next m k is before here procs below =
 -- all masters from place m on follow
 follow_keeps : RowLaws → (fixed : Fixed) (m : ℕ) (masters : List MasterRec) (now : Now) → m + length masters ≡ length fixed.object.masters → IsWithin fixed now → KnowsBefore m fixed now → IsSound (record { fixed = fixed; now = applies fixed (follow_from fixed now.core m masters) now })
 follow_keeps laws fixed m [] now count of before =
-    record { rows = of.rows; knows = record { each = of.each; right = λ k there. before k (omega (arith, count, there)) }; procs = of.procs }
+    record { rows = of.rows; knows = record { each = of.each; right = λ k there. before k (omega (arith, count, there)) }; procs = of.procs; armed = of.armed }
 follow_keeps laws fixed m (x ∷ xs) now count of before =
     let first = follow_at fixed now.core m in
     let next : Now = applies fixed first now in
@@ -125,7 +128,7 @@ followed_sound laws book of =
 
 -- a change of a row that is there and that fits, dropped holds, and a processor that goes to a mode
 pub data Fits (book : State) : Prim → Type 0 where
-  row : (m s : ℕ) (by : Change) (entry : Entry) → entry_at m s book.now.core.rows ≡ Some entry → IsFit m s by entry book.now.core.rows → Fits book (At_row entry.seed.master entry.seed.slave by)
+  row : (m s : ℕ) (by : Change) (entry : Entry) → entry_at m s book.now.core.rows ≡ Some entry → IsFit m s by entry book.now.core.rows → MayArm book.fixed entry.seed.master by → Fits book (At_row entry.seed.master entry.seed.slave by)
   settle : (m : ℕ) → Fits book (Settle m)
   put : (m p : ℕ) (mode : Mode) (address : ℕ) → Fits book (Put_proc m p mode address)
 
@@ -138,7 +141,7 @@ put_other procs p q proc other =
     ap (λ (x : Proc). x.mode)
     (unwrap_or-slice_get (slice_set procs p proc) q off ∙ (get_or-set_other procs p q proc off other ∙ sym (unwrap_or-slice_get procs q off)))
 
-put_keeps : (fixed : Fixed) (now : Now) (m p : ℕ) (mode : Mode) (address : ℕ) (own : Bool) → own ≡ owns fixed.object fixed.topology m p → IsWithin fixed now → IsWithin fixed (record now { core = if own then record now.core { procs = proc_put p mode address now.core.procs } else now.core })
+pub put_keeps : (fixed : Fixed) (now : Now) (m p : ℕ) (mode : Mode) (address : ℕ) (own : Bool) → own ≡ owns fixed.object fixed.topology m p → IsWithin fixed now → IsWithin fixed (record now { core = if own then record now.core { procs = proc_put p mode address now.core.procs } else now.core })
 put_keeps fixed now m p mode address false is of = of
 put_keeps fixed now m p mode address true is of = record {
   rows = of.rows;
@@ -150,15 +153,18 @@ put_keeps fixed now m p mode address true is of = record {
       | inr other ↦ put_other now.core.procs p q (gone mode (record { mode = mode; address = address })) other ∙ of.procs.nobodys q nobody
     ];
   };
+  armed = of.armed;
 }
 
 pub change_within : RowLaws → (book : State) (prim : Prim) → IsSound book → Fits book prim → IsWithin book.fixed (changed (prim ∷ []) book).now
-change_within laws book _ sound (row m s by entry found fit) = record {
+change_within laws book _ sound (row m s by entry found fit may) = record {
+  armed = change_arms book.fixed entry.seed.master entry.seed.slave by book.now.core.rows.entries may sound.armed;
   rows = laws.change (pairs_of book.fixed.object book.fixed.topology) book.now.core.rows m s by entry (λ m s. pairs_once m s book.fixed.object book.fixed.topology) sound.rows found fit;
   each = sound.knows.each;
   procs = record { each = sound.procs.each; nobodys = sound.procs.nobodys };
 }
 change_within laws book _ sound (settle m) = record {
+  armed = settle_arms book.fixed m book.now.core.rows.entries sound.armed;
   rows = laws.settle (pairs_of book.fixed.object book.fixed.topology) book.now.core.rows m sound.rows;
   each = sound.knows.each;
   procs = record { each = sound.procs.each; nobodys = sound.procs.nobodys };

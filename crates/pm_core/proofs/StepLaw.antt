@@ -6,11 +6,11 @@ use Rattle.pm_base.specs.declared.names.Mode.{Mode}
 use Rattle.pm_base.specs.declared.names.Mode.TheVariants.{Off, Active, Asleep, Suspending}
 use Rattle.pm_base.specs.declared.names.Unit.{Unit}
 use Rattle.pm_base.specs.declared.events.Event.{Event}
-use Rattle.pm_base.specs.declared.events.Event.TheVariants.{Ipi, Boot, Wfi}
+use Rattle.pm_base.specs.declared.events.Event.TheVariants.{Ipi, Boot, Wfi, Irq, Gic}
 use Rattle.pm_base.specs.declared.events.Message.{Message}
 use Rattle.pm_ipi.specs.Calls.{call_of}
 use Rattle.pm_ipi.specs.declared.calls.Call.{Call}
-use Rattle.pm_ipi.specs.declared.calls.Call.TheVariants.{GetApiVersion, GetNodeStatus, SelfSuspend, AbortSuspend, RequestNode, ReleaseNode, SetRequirement, SetMaxLatency, InitFinalize, Unknown}
+use Rattle.pm_ipi.specs.declared.calls.Call.TheVariants.{GetApiVersion, GetNodeStatus, SelfSuspend, AbortSuspend, RequestWakeup, SetWakeupSource, RequestNode, ReleaseNode, SetRequirement, SetMaxLatency, InitFinalize, Unknown}
 use Rattle.pm_topology.specs.declared.places.Kind.{Kind}
 use Rattle.pm_topology.specs.declared.places.Kind.TheVariants.{Proc, Slave, Power, Unknown as NoNode}
 use Rattle.pm_topology.specs.Places.{kind_of}
@@ -18,7 +18,7 @@ use Rattle.pm_procs.specs.declared.procs.Proc.{Proc as Processor}
 use Rattle.pm_procs.specs.Modes.{is_awake, same_mode}
 use Rattle.pm_procs.specs.Procs.{mode_at, proc_at}
 use Rattle.pm_core.specs.Caches.{kind_of_unit, moved_by, starts_by, valued}
-use Rattle.pm_core.specs.Events.{boot_at, boot_by, booted, wait_at, wait_by, waits}
+use Rattle.pm_core.specs.Events.{boot_at, boot_by, booted, wait_at, wait_by, waits, interrupt_at, interrupt_by, raised_at}
 use Rattle.pm_core.specs.Members.{owner_at, mode_of_master}
 use Rattle.pm_core.specs.Outcome.{Outcome, Deed, Check, judged}
 use Rattle.pm_core.specs.Prims.{Prim}
@@ -48,6 +48,8 @@ deed_once m GetApiVersion book = tt
 deed_once m (GetNodeStatus node) book = tt
 deed_once m (SelfSuspend node address) book = refl
 deed_once m (AbortSuspend node reason) book = refl
+deed_once m (RequestWakeup node address ack) book = refl
+deed_once m (SetWakeupSource target source enable) book = refl
 deed_once m (RequestNode node caps ack) book = refl
 deed_once m (ReleaseNode node) book = refl
 deed_once m (SetRequirement node caps ack) book = refl
@@ -99,11 +101,29 @@ wait_once (Slave s) book = tt
 wait_once (Power w) book = tt
 wait_once NoNode book = tt
 
+raised_once : (kind : Kind) (book : State) → HasOneAtMost (raised_at kind book)
+raised_once (Slave s) book = refl
+raised_once (Proc p) book = tt
+raised_once (Power w) book = tt
+raised_once NoNode book = tt
+
+interrupt_by_once : (owner : Option ℕ) (p : ℕ) (proc : Processor) → HasOneAtMost (interrupt_by owner p proc)
+interrupt_by_once None p proc = tt
+interrupt_by_once (Some m) p proc = refl
+
+interrupt_once : (kind : Kind) (book : State) → HasOneAtMost (interrupt_at kind book)
+interrupt_once (Proc p) book = interrupt_by_once (owner_at book.fixed.object book.fixed.topology p) p (proc_at p book.now.core.procs)
+interrupt_once (Slave s) book = tt
+interrupt_once (Power w) book = tt
+interrupt_once NoNode book = tt
+
 -- a step has one stage at most
 stages_once : (event : Event) (book : State) → HasOneAtMost (stages event book)
 stages_once (Ipi master message) book = message_once message book (master_place master book)
 stages_once (Boot proc address) book = boot_once (kind_of book.fixed.topology proc) address book
 stages_once (Wfi proc) book = wait_once (kind_of book.fixed.topology proc) book
+stages_once (Irq slave) book = raised_once (kind_of book.fixed.topology slave) book
+stages_once (Gic proc) book = interrupt_once (kind_of book.fixed.topology proc) book
 stages_once _ book = tt
 
 -- ---- what was down before and is active now

@@ -1,5 +1,5 @@
 -- What events other than messages do to the processors.
-use Rattle.std.specs.Prelude.{ℕ, List, [], ◌∷◌, Option, Some, None}
+use Rattle.std.specs.Prelude.{ℕ, ◌==◌, if◌then◌else◌, List, [], ◌∷◌, flat_map, Option, Some, None}
 use Rattle.pm_base.specs.declared.names.NodeId.{NodeId}
 use Rattle.pm_base.specs.declared.names.Mode.{Mode}
 use Rattle.pm_base.specs.declared.names.Mode.TheVariants.{Off, Active, Asleep, Suspending}
@@ -8,6 +8,7 @@ use Rattle.pm_topology.specs.declared.places.Kind.TheVariants.{Proc, Slave, Powe
 use Rattle.pm_topology.specs.Places.{kind_of}
 use Rattle.pm_procs.specs.declared.procs.Proc.{Proc as Processor}
 use Rattle.pm_procs.specs.Procs.{proc_at}
+use Rattle.pm_rows.specs.declared.row.Entry.{Entry}
 use Rattle.pm_core.specs.Members.{owner_at}
 use Rattle.pm_core.specs.Prims.{Prim, Put_proc}
 use Rattle.pm_core.specs.State.{State}
@@ -56,3 +57,54 @@ boot node address book = boot_at (kind_of book.fixed.topology node) address book
 
 abbrev pub wait : NodeId → State → List (List Prim)
 wait node book = wait_at (kind_of book.fixed.topology node) book
+
+-- an interrupt wakes a processor that is asleep or suspending: it is active, and keeps its resume address
+abbrev pub woken_in : ℕ → ℕ → ℕ → Mode → List Prim
+woken_in m p address Asleep = Put_proc m p Active address ∷ []
+woken_in m p address Suspending = Put_proc m p Active address ∷ []
+woken_in m p address Off = []
+woken_in m p address Active = []
+
+abbrev pub woken : ℕ → ℕ → Processor → List Prim
+woken m p proc = woken_in m p proc.address proc.mode
+
+-- the stages of an interrupt at a processor itself, by its kind and the configured master that has it
+abbrev pub interrupt_by : Option ℕ → ℕ → Processor → List (List Prim)
+interrupt_by None p proc = []
+interrupt_by (Some m) p proc = woken m p proc ∷ []
+
+abbrev pub interrupt_at : Kind → State → List (List Prim)
+interrupt_at (Proc p) book =
+    interrupt_by (owner_at book.fixed.object book.fixed.topology p) p (proc_at p book.now.core.procs)
+interrupt_at (Slave s) book = []
+interrupt_at (Power w) book = []
+interrupt_at Unknown book = []
+
+abbrev pub interrupt : NodeId → State → List (List Prim)
+interrupt node book = interrupt_at (kind_of book.fixed.topology node) book
+
+-- what wakes of a master: its processor that is of this kind
+abbrev pub woken_at : ℕ → Kind → State → List Prim
+woken_at m (Proc p) book = woken m p (proc_at p book.now.core.procs)
+woken_at m (Slave s) book = []
+woken_at m (Power w) book = []
+woken_at m Unknown book = []
+
+-- what wakes of a master whose row is armed with this processor
+abbrev pub woken_by : ℕ → Option NodeId → State → List Prim
+woken_by m None book = []
+woken_by m (Some node) book = woken_at m (kind_of book.fixed.topology node) book
+
+-- what a row does where the slave at place s raises its interrupt: a row on that slave wakes the processor that it is armed with
+abbrev pub woken_from : ℕ → State → Entry → List Prim
+woken_from s book entry = if entry.seed.slave == s then woken_by entry.seed.master entry.row.armed book else []
+
+-- the stages of the interrupt of a slave: each row that is armed there wakes its processor
+abbrev pub raised_at : Kind → State → List (List Prim)
+raised_at (Slave s) book = flat_map (woken_from s book) book.now.core.rows.entries ∷ []
+raised_at (Proc p) book = []
+raised_at (Power w) book = []
+raised_at Unknown book = []
+
+abbrev pub raised : NodeId → State → List (List Prim)
+raised node book = raised_at (kind_of book.fixed.topology node) book

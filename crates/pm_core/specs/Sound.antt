@@ -1,12 +1,15 @@
 -- What holds in every book.
-use Rattle.std.specs.Prelude.{◌≡◌, ◌<◌, ℕ, true, length, slice_get, Some, None, ◌↔◌, ◌⊎◌, ⊤}
+use Rattle.std.specs.Prelude.{◌≡◌, ◌<◌, ℕ, Bool, true, false, IsTrue, Option, length, slice_get, Some, None, ◌↔◌, ◌⊎◌, ⊤}
 use Rattle.pm_base.specs.declared.names.Mode.TheVariants.{Off, Active, Suspending}
+use Rattle.std.specs.List.{list_all}
+use Rattle.pm_base.specs.declared.names.NodeId.{NodeId}
 use Rattle.pm_base.specs.declared.names.Unit.{Unit}
 use Rattle.pm_base.specs.declared.names.Unit.TheVariants.{Node, Line}
 use Rattle.pm_topology.specs.declared.topology.ProcDef.{ProcDef}
 use Rattle.pm_topology.specs.declared.topology.SlaveDef.{SlaveDef}
 use Rattle.pm_topology.specs.declared.topology.PowerDef.{PowerDef}
-use Rattle.pm_topology.specs.declared.places.Kind.TheVariants.{Slave}
+use Rattle.pm_topology.specs.declared.places.Kind.{Kind}
+use Rattle.pm_topology.specs.declared.places.Kind.TheVariants.{Proc, Slave, Power, Unknown}
 use Rattle.pm_topology.specs.Masters.{ObeysMasterRules}
 use Rattle.pm_topology.specs.Places.{kind_of}
 use Rattle.pm_topology.specs.WellFormed.{IsWellFormed}
@@ -16,9 +19,10 @@ use Rattle.pm_procs.specs.Procs.{mode_at}
 use Rattle.pm_rows.specs.Rows.{mode_of}
 use Rattle.pm_rows.specs.Sound.{AreSound}
 use Rattle.pm_rows.specs.Wanted.{wanted_of}
-use Rattle.pm_core.specs.Members.{owner_at, mode_of_master}
+use Rattle.pm_rows.specs.declared.row.Entry.{Entry}
+use Rattle.pm_core.specs.Members.{owner_at, owns, mode_of_master}
 use Rattle.pm_core.specs.Pairs.{pairs_of}
-use Rattle.pm_core.specs.State.{State, in_force}
+use Rattle.pm_core.specs.State.{Fixed, State, in_force}
 
 -- the rows are those of the permitted pairs, a slave that can't be shared has one user at most, each row wants only what its
 -- slave has, while a master is active nothing is scheduled in its rows, and one that is off uses nothing
@@ -35,11 +39,31 @@ pub record HasProcs (book : State) : Type 0 where
   pub each : length book.now.core.procs ≡ length book.fixed.topology.procs
   pub nobodys : (p : ℕ) → owner_at book.fixed.object book.fixed.topology p ≡ None → mode_at p book.now.core.procs ≡ Off
 
--- the book is sound in its rows, in the modes that they know, and in its processors
+-- a node of this kind is a processor of the master at place m
+abbrev pub is_own : Fixed → ℕ → Kind → Bool
+is_own fixed m (Proc p) = owns fixed.object fixed.topology m p
+is_own fixed m (Slave s) = false
+is_own fixed m (Power w) = false
+is_own fixed m Unknown = false
+
+-- a row of the master at place m may be armed with this: with nothing, or with a processor of that master
+abbrev pub arms_own : Fixed → ℕ → Option NodeId → Bool
+arms_own fixed m None = true
+arms_own fixed m (Some node) = is_own fixed m (kind_of fixed.topology node)
+
+abbrev pub is_armed_own : Fixed → Entry → Bool
+is_armed_own fixed entry = arms_own fixed entry.seed.master entry.row.armed
+
+-- a row that is armed names a processor of its own master
+abbrev pub ArmsOwn : State → Type 0
+ArmsOwn book = IsTrue (list_all (is_armed_own book.fixed) book.now.core.rows.entries)
+
+-- the book is sound in its rows, in the modes that they know, in its processors, and in what its rows are armed with
 pub record IsSound (book : State) : Type 0 where
   pub rows : HasSoundRows book
   pub knows : KnowsModes book
   pub procs : HasProcs book
+  pub armed : ArmsOwn book
 
 -- what holds in every book: the topology has passed its check and obeys the rules on masters, and the book is sound
 pub record IsBook (book : State) : Type 0 where

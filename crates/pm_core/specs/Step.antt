@@ -3,9 +3,9 @@ use Rattle.std.specs.Prelude.{ℕ, Bool, true, false, not, ◌==◌, List, [], �
 use Rattle.pm_base.specs.declared.names.NodeId.{NodeId}
 use Rattle.pm_base.specs.declared.events.Message.{Message}
 use Rattle.pm_base.specs.declared.events.Event.{Event}
-use Rattle.pm_base.specs.declared.events.Event.TheVariants.{Ipi, Boot, Wfi}
+use Rattle.pm_base.specs.declared.events.Event.TheVariants.{Ipi, Boot, Wfi, Irq, Gic}
 use Rattle.pm_ipi.specs.declared.calls.Call.{Call}
-use Rattle.pm_ipi.specs.declared.calls.Call.TheVariants.{GetApiVersion, GetNodeStatus, SelfSuspend, AbortSuspend, RequestNode, ReleaseNode, SetRequirement, SetMaxLatency, InitFinalize, Unknown}
+use Rattle.pm_ipi.specs.declared.calls.Call.TheVariants.{GetApiVersion, GetNodeStatus, SelfSuspend, AbortSuspend, RequestWakeup, SetWakeupSource, RequestNode, ReleaseNode, SetRequirement, SetMaxLatency, InitFinalize, Unknown}
 use Rattle.pm_ipi.specs.declared.calls.AckKind.{AckKind}
 use Rattle.pm_ipi.specs.declared.calls.AckKind.TheVariants.{No, Blocking, NonBlocking}
 use Rattle.pm_ipi.specs.declared.responses.Response.{Response}
@@ -17,7 +17,7 @@ use Rattle.pm_core.specs.declared.replies.Answer.{Answer}
 use Rattle.pm_core.specs.declared.replies.Answer.TheVariants.{Silent, Drop, Reply, Ack}
 use Rattle.pm_core.specs.declared.step.Heard.{Heard}
 use Rattle.pm_core.specs.declared.step.Heard.TheVariants.{Nothing, Dropped, Served}
-use Rattle.pm_core.specs.Events.{boot, wait}
+use Rattle.pm_core.specs.Events.{boot, wait, interrupt, raised}
 use Rattle.pm_core.specs.Members.{mode_of_master}
 use Rattle.pm_core.specs.Outbox.{Outputs}
 use Rattle.pm_core.specs.Outcome.{Outcome, Tried, tried, done, outcome_of}
@@ -27,16 +27,18 @@ use Rattle.pm_core.specs.Starts.{starts, was_down}
 use Rattle.pm_core.specs.State.{State}
 use Rattle.pm_core.specs.Units.{moved}
 use Rattle.pm_core.specs.Values.{master_place, value, point}
-use Rattle.pm_core.specs.Views.{row_view, status_view, proc_view, master_mode}
+use Rattle.pm_core.specs.Views.{row_view, status_view, proc_view, wake_view, master_mode}
 use Rattle.pm_core.specs.calls.AbortSuspend.{abort_suspend}
 use Rattle.pm_core.specs.calls.GetApiVersion.{get_api_version}
 use Rattle.pm_core.specs.calls.GetNodeStatus.{get_node_status}
 use Rattle.pm_core.specs.calls.InitFinalize.{init_finalize}
 use Rattle.pm_core.specs.calls.ReleaseNode.{release_node}
 use Rattle.pm_core.specs.calls.RequestNode.{request_node}
+use Rattle.pm_core.specs.calls.RequestWakeup.{request_wakeup}
 use Rattle.pm_core.specs.calls.SelfSuspend.{self_suspend}
 use Rattle.pm_core.specs.calls.SetMaxLatency.{set_max_latency}
 use Rattle.pm_core.specs.calls.SetRequirement.{set_requirement}
+use Rattle.pm_core.specs.calls.SetWakeupSource.{set_wakeup_source}
 
 -- a call of the configured master at place m, over what it reads of the book: its checks, and what it does
 abbrev pub tried_by : ℕ → Call → State → Tried
@@ -44,6 +46,9 @@ tried_by m GetApiVersion book = get_api_version
 tried_by m (GetNodeStatus node) book = get_node_status (status_view m node book)
 tried_by m (SelfSuspend node address) book = self_suspend m address (proc_view m node book)
 tried_by m (AbortSuspend node reason) book = abort_suspend m reason (proc_view m node book)
+tried_by m (RequestWakeup node address ack) book = request_wakeup address ack (wake_view m node book)
+tried_by m (SetWakeupSource target source enable) book =
+    set_wakeup_source target enable (proc_view m target book) (row_view m source book)
 tried_by m (RequestNode node caps ack) book = request_node caps ack (row_view m node book)
 tried_by m (ReleaseNode node) book = release_node (row_view m node book)
 tried_by m (SetRequirement node caps ack) book =
@@ -75,6 +80,8 @@ abbrev pub stages : Event → State → List (List Prim)
 stages (Ipi master message) book = stages_of (verdict master message book)
 stages (Boot proc address) book = boot proc address book
 stages (Wfi proc) book = wait proc book
+stages (Irq slave) book = raised slave book
+stages (Gic proc) book = interrupt proc book
 stages _ book = []
 
 -- the books along a step

@@ -1,5 +1,5 @@
 -- What the calls read of the book.
-use Rattle.std.specs.Prelude.{ℕ, List, slice_get, if◌then◌else◌, Option, Some, None, option_map}
+use Rattle.std.specs.Prelude.{ℕ, Bool, ◌==◌, ◌||◌, List, slice_get, if◌then◌else◌, Option, Some, None, option_map}
 use Rattle.std.specs.Option.{option_map_or}
 use Rattle.pm_base.specs.declared.names.NodeId.{NodeId}
 use Rattle.pm_base.specs.declared.names.Mode.{Mode}
@@ -8,13 +8,16 @@ use Rattle.pm_object.specs.declared.object.MasterRec.{MasterRec}
 use Rattle.pm_core.specs.declared.views.RowView.{RowView}
 use Rattle.pm_core.specs.declared.views.StatusView.{StatusView}
 use Rattle.pm_core.specs.declared.views.ProcView.{ProcView}
+use Rattle.pm_core.specs.declared.views.WakeView.{WakeView}
+use Rattle.pm_core.specs.declared.views.Wakeable.{Wakeable}
 use Rattle.pm_rows.specs.Rows.{entry_at, rival_of, now_of, usage_of}
 use Rattle.pm_topology.specs.declared.places.Kind.{Kind}
 use Rattle.pm_topology.specs.declared.places.Kind.TheVariants.{Proc, Slave, Power, Unknown}
 use Rattle.pm_topology.specs.Places.{kind_of}
 use Rattle.pm_procs.specs.declared.procs.Proc.{Proc as Processor}
 use Rattle.pm_procs.specs.Procs.{mode_at, proc_at}
-use Rattle.pm_core.specs.Members.{owns, mode_of_master}
+use Rattle.pm_core.specs.Members.{owner_at, owns, mode_of_master}
+use Rattle.pm_perms.specs.Permits.{may_wake}
 use Rattle.pm_core.specs.Values.{slave_place, master_place, point_at}
 use Rattle.pm_rows.specs.declared.row.Entry.{Entry}
 use Rattle.pm_rows.specs.declared.row.Row.{Row}
@@ -57,6 +60,30 @@ proc_view_at m Unknown book = record { place = None; own = None }
 -- is the master's own
 abbrev pub proc_view : ℕ → NodeId → State → ProcView
 proc_view m node book = proc_view_at m (kind_of book.fixed.topology node) book
+
+-- the master at place m may wake the processors of the one at place k: they are its own, or the object permits it
+abbrev pub can_wake : ℕ → ℕ → State → Bool
+can_wake m k book =
+    (k == m)
+    || may_wake (in_force book) book.fixed.topology (master_node (in_force book).masters m) (master_node (in_force book).masters k)
+
+-- the processor at place p with the master that has it, where the master at place m may wake it
+abbrev pub wakeable : ℕ → ℕ → Option ℕ → State → Option Wakeable
+wakeable m p None book = None
+wakeable m p (Some k) book =
+    if can_wake m k book then Some (record { owner = k; proc = proc_at p book.now.core.procs }) else None
+
+abbrev pub wake_view_at : ℕ → Kind → State → WakeView
+wake_view_at m (Proc p) book =
+    record { place = Some p; target = wakeable m p (owner_at book.fixed.object book.fixed.topology p) book }
+wake_view_at m (Slave s) book = record { place = None; target = None }
+wake_view_at m (Power w) book = record { place = None; target = None }
+wake_view_at m Unknown book = record { place = None; target = None }
+
+-- what the master at place m sees of a processor that it wants to wake: its place, where the node is one, and its master, mode
+-- and resume address where it may be woken
+abbrev pub wake_view : ℕ → NodeId → State → WakeView
+wake_view m node book = wake_view_at m (kind_of book.fixed.topology node) book
 
 -- a node that isn't a slave is told with this operating point alone
 abbrev pub plain : ℕ → StatusView

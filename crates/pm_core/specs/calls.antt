@@ -4,6 +4,8 @@ pub mod GetNodeStatus
 pub mod InitFinalize
 pub mod ReleaseNode
 pub mod RequestNode
+pub mod RequestWakeup
 pub mod SelfSuspend
 pub mod SetMaxLatency
 pub mod SetRequirement
+pub mod SetWakeupSource

@@ -75,7 +75,8 @@ impl Book {
 
         // Exactly the permitted pairs have a row, a slave that can't be shared has one user at most, the rows
         // know the modes of the masters, nothing is scheduled while a master is active, one that is off uses
-        // nothing, and a processor that no configured master has is off.
+        // nothing, a processor that no configured master has is off, and a row that is armed names a processor
+        // of its own master.
         ensures sound { IfOk result IsSound }
 
         // Each slave stands in the first of its states that meets all that is required of it, each processor
@@ -95,8 +96,9 @@ impl Book {
     /// One event. A message of a configured master that is active or suspending is a call, which is
     /// checked, changes the book where all checks pass, and is answered as its acknowledge kind says. A
     /// boot loader starts a processor that is off and that a configured master has, and a suspending one
-    /// that waits for an interrupt sleeps. No
-    /// other event changes the book. The outbox, which was loaded for the book's topology and masters, then holds what
+    /// that waits for an interrupt sleeps. An interrupt wakes a processor that is asleep or suspending: one at
+    /// the processor itself, or that of a slave on which a row is armed with the processor. No other event
+    /// changes the book. The outbox, which was loaded for the book's topology and masters, then holds what
     /// this step puts out. No memory is taken.
     #[tactic(auto, using(crate::proofs::Refused::refused_stays))]
     pub fn step(&mut self, event: &Event, out: &mut Outbox)
@@ -114,7 +116,8 @@ impl Book {
 
         // Exactly the permitted pairs have a row, a slave that can't be shared has one user at most, the rows
         // know the modes of the masters, nothing is scheduled while a master is active, one that is off uses
-        // nothing, and a processor that no configured master has is off.
+        // nothing, a processor that no configured master has is off, and a row that is armed names a processor
+        // of its own master.
         ensures sound { IsSound self.new }
 
         // Each slave stands in the first of its states that meets all that is required of it, each processor

@@ -6,9 +6,11 @@ mod get_node_status;
 mod init_finalize;
 mod release_node;
 mod request_node;
+mod request_wakeup;
 mod self_suspend;
 mod set_max_latency;
 mod set_requirement;
+mod set_wakeup_source;
 
 pub(crate) use get_api_version::get_api_version;
 pub(crate) use get_node_status::get_node_status;

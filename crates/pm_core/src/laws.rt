@@ -22,7 +22,7 @@ ghost use Rattle.pm_core.specs.Views.{row};
 
 use pm_power::up_where_needed;
 use pm_procs::modes_of_masters;
-use pm_rows::rows_stay_sound;
+use pm_rows::{rows_stay_sound, shifts_leave_others};
 use pm_slaves::first_state_meets;
 use pm_topology::kinds_are_exact;
 
@@ -35,6 +35,7 @@ pub fn books_stay_sound()
         → is_some (row master slave book) ≡ may_use (in_force book) book.fixed.topology master slave }
 {
     rows_stay_sound();
+    shifts_leave_others();
     modes_of_masters();
 }
 

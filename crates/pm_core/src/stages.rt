@@ -33,7 +33,8 @@ impl Inner {
         self.procs.master_mode(m)
     }
 
-    fn put_proc(&mut self, m: usize, p: usize, mode: Mode, address: u64)
+    /// A processor of a master goes to a mode, with a resume address.
+    pub(crate) fn put_proc(&mut self, m: usize, p: usize, mode: Mode, address: u64)
         ensures { self.new ≡ changed (Put_proc m p mode address ∷ []) self.old }
     {
         if self.owns(m, p) {
@@ -53,7 +54,7 @@ impl Inner {
     }
 
     /// The rows of each master follow it, in object order.
-    fn follow(&mut self)
+    pub(crate) fn follow(&mut self)
         ensures { self.new ≡ followed self.old }
     {
         for m in 0..self.object.masters.len() {

@@ -42,6 +42,8 @@ impl Inner {
             Event::Ipi { master, message } => return self.hear(caches, *master, message),
             Event::Boot { proc, address } => self.boot(*proc, *address),
             Event::Wfi { proc } => self.wait(*proc),
+            Event::Irq { slave } => self.raise(*slave),
+            Event::Gic { proc } => self.interrupt(*proc),
             _ => {}
         }
         Heard::Nothing
@@ -84,6 +86,19 @@ impl Inner {
             Call::AbortSuspend { node, reason } => {
                 let view = self.proc_view(master, node);
                 self.abort_suspend(master, &view, reason)
+            }
+            Call::RequestWakeup { node, address, ack } => {
+                let view = self.wake_view(master, node);
+                self.request_wakeup(&view, address, ack)
+            }
+            Call::SetWakeupSource {
+                target,
+                source,
+                enable,
+            } => {
+                let row = self.row_view(master, source);
+                let proc = self.proc_view(master, target);
+                self.set_wakeup_source(&proc, &row, target, enable)
             }
             Call::RequestNode { node, caps, ack } => {
                 let view = self.row_view(master, node);

@@ -10,6 +10,7 @@ use crate::caches::Caches;
 use crate::inner::Inner;
 use pm_base::{Caps, Mode, NodeId, Unit};
 use pm_object::MasterRec;
+use pm_perms::may_wake;
 use pm_procs::{Proc, mode_number};
 use pm_rows::Entry;
 use pm_topology::Kind;
@@ -39,6 +40,21 @@ pub struct StatusView {
 pub struct ProcView {
     pub place: Option<usize>,
     pub own: Option<Proc>,
+}
+
+/// A processor that may be woken: the place of the master that has it, and its mode and resume address.
+#[derive(Clone, Copy, Debug, PartialEq, Eq)]
+pub struct Wakeable {
+    pub owner: usize,
+    pub proc: Proc,
+}
+
+/// What a master sees of a processor that it wants to wake: its place, where the node is one, and the
+/// processor where the master may wake it.
+#[derive(Clone, Copy, Debug, PartialEq, Eq)]
+pub struct WakeView {
+    pub place: Option<usize>,
+    pub target: Option<Wakeable>,
 }
 
 fn now_of(entry: Option<Entry>) -> Caps
@@ -114,6 +130,53 @@ impl Inner {
         } else {
             None
         }
+    }
+}
+
+impl Inner {
+    ghost use Rattle.pm_core.specs.Views.{can_wake, wakeable, wake_view};
+
+    pub(crate) fn wake_view(&self, master: usize, node: NodeId) -> WakeView
+        ensures { result ≡ wake_view master node self.now }
+    {
+        match self.kind(node) {
+            Kind::Proc(p) => WakeView {
+                place: Some(p),
+                target: self.wakeable(master, p, self.owner(p)),
+            },
+            Kind::Slave(_) | Kind::Power(_) | Kind::Unknown => WakeView {
+                place: None,
+                target: None,
+            },
+        }
+    }
+
+    fn wakeable(&self, master: usize, p: usize, owner: Option<usize>) -> Option<Wakeable>
+        ensures { result ≡ wakeable master p owner self.now }
+    {
+        let owner = owner?;
+        if self.can_wake(master, owner) {
+            Some(Wakeable {
+                owner,
+                proc: self.procs.proc(p),
+            })
+        } else {
+            None
+        }
+    }
+
+    /// Whether a master may wake the processors of another: they are its own, or the object permits it.
+    fn can_wake(&self, master: usize, owner: usize) -> bool
+        ensures { result ≡ can_wake master owner self.now }
+    {
+        let masters = self.object.masters.as_slice();
+        owner == master
+            || may_wake(
+                &self.object,
+                &self.topology,
+                master_node(masters, master),
+                master_node(masters, owner),
+            )
     }
 }
 

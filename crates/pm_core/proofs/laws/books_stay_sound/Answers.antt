@@ -12,6 +12,7 @@ returns c =
       shift = c.rows_stay_sound.ensures.shift;
       settle = c.rows_stay_sound.ensures.settle;
       there = c.rows_stay_sound.ensures.there;
+      armed = c.shifts_leave_others.ensures.kept;
     } in
     let modes : ModeLaws = record {
       active = c.modes_of_masters.ensures.active;
