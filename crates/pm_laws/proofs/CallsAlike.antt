@@ -1,37 +1,42 @@
 -- A call of a master beyond does the same in two books that agree, unless it changes a row on a slave within reach.
 use Rattle.std.proofs.Common.{◌≡◌, ℕ, Bool, true, false, not, ◌&&◌, ◌==◌, if◌then◌else◌, List, [], ◌∷◌, Option, Some, None, refl, sym, ◌∙◌, ap, subst}
-use Rattle.std.specs.Prelude.{find, option_map}
+use Rattle.std.specs.Prelude.{find, option_map, cond}
 use Rattle.std.proofs.lemmas.Bool.{eqb-true}
 use Rattle.pm_base.specs.declared.names.NodeId.{NodeId}
-use Rattle.pm_base.proofs.Booleans.{both}
+use Rattle.pm_base.proofs.Booleans.{both, equal}
 use Rattle.pm_ipi.specs.declared.calls.Call.{Call}
-use Rattle.pm_ipi.specs.declared.calls.Call.TheVariants.{GetNodeStatus, SelfSuspend, AbortSuspend, RequestNode, ReleaseNode, SetRequirement, SetMaxLatency}
+use Rattle.pm_ipi.specs.declared.calls.Call.TheVariants.{GetNodeStatus, SelfSuspend, AbortSuspend, RequestWakeup, SetWakeupSource, RequestNode, ReleaseNode, SetRequirement, SetMaxLatency}
 use Rattle.pm_procs.specs.declared.procs.Proc.{Proc as Processor}
 use Rattle.pm_procs.specs.Procs.{proc_at}
 use Rattle.pm_rows.specs.declared.row.Entry.{Entry}
 use Rattle.pm_rows.specs.declared.row.Row.{Row}
 use Rattle.pm_rows.specs.declared.row.RowSeed.{RowSeed}
-use Rattle.pm_rows.specs.Rows.{entry_at, is_at, is_rival}
+use Rattle.pm_rows.specs.Rows.{entry_at, is_at, is_rival, rival_of}
+use Rattle.pm_rows.specs.Sound.{pair_in}
+use Rattle.pm_core.specs.declared.views.ProcView.{ProcView}
+use Rattle.pm_core.specs.declared.views.RowView.{RowView}
 use Rattle.pm_topology.specs.declared.places.Kind.{Kind}
 use Rattle.pm_topology.specs.declared.places.Kind.TheVariants.{Proc, Slave, Power, Unknown}
 use Rattle.pm_topology.specs.Places.{kind_of}
-use Rattle.pm_core.specs.Members.{mode_of_master, owns}
+use Rattle.pm_core.specs.Members.{is_place, mode_of_master, owner_at, owns}
 use Rattle.pm_core.specs.Outcome.{Check, judged, outcome_of, told}
 use Rattle.pm_core.specs.Prims.{Prim}
 use Rattle.pm_core.specs.State.{Fixed, Now, State}
 use Rattle.pm_core.specs.Step.{called, tried_by}
 use Rattle.pm_core.specs.Values.{slave_place}
-use Rattle.pm_core.specs.Views.{master_node, proc_view, proc_view_at, row_view, row_view_at}
+use Rattle.pm_core.specs.Views.{can_wake, master_node, proc_view, proc_view_at, rival_node, row_view, row_view_at, wake_view, wake_view_at, wakeable}
 use Rattle.pm_core.specs.calls.AbortSuspend.{abort_suspend}
 use Rattle.pm_core.specs.calls.ReleaseNode.{release_node}
 use Rattle.pm_core.specs.calls.RequestNode.{request_node}
+use Rattle.pm_core.specs.calls.RequestWakeup.{request_wakeup}
 use Rattle.pm_core.specs.calls.SelfSuspend.{self_suspend}
 use Rattle.pm_core.specs.calls.SetMaxLatency.{set_max_latency}
 use Rattle.pm_core.specs.calls.SetRequirement.{set_requirement}
+use Rattle.pm_core.specs.calls.SetWakeupSource.{set_wakeup_source}
 use Rattle.pm_laws.specs.Agree.{SameRow, SameRows, Same, Agree}
 use Rattle.pm_laws.specs.Border.{Border, IsBeyond, IsClosed}
 use Rattle.pm_laws.specs.Both.{Both}
-use Rattle.pm_laws.specs.Hidden.{is_slave_within, changes_within}
+use Rattle.pm_laws.specs.Hidden.{is_slave_within, is_within, owner_by, changes_within}
 use Rattle.pm_laws.specs.Seen.{AreAlike, IsSeenAlike}
 use Rattle.pm_laws.proofs.AgreeLaw.{clash}
 use Rattle.pm_laws.proofs.FollowLaw.{mode_alike, proc_alike}
@@ -102,6 +107,53 @@ proc_view_alike fixed border m (Slave s) a b beyond same = refl
 proc_view_alike fixed border m (Power w) a b beyond same = refl
 proc_view_alike fixed border m Unknown a b beyond same = refl
 
+-- ---- the view of a processor that is to wake
+
+wake_owner : (fixed : Fixed) (border : Border) (m p : ℕ) (owner : Option ℕ) (a b : Now) → owner_at fixed.object fixed.topology p ≡ owner → is_within border owner ≡ false → Same fixed border a b → wakeable m p owner (book_of fixed a) ≡ wakeable m p owner (book_of fixed b)
+wake_owner fixed border m p None a b owner is same = cc
+wake_owner fixed border m p (Some k) a b owner is same =
+    let own : owns fixed.object fixed.topology k p ≡ true = ap (is_place k) owner ∙ equal k k refl in
+    ap (λ (proc : Processor). if can_wake m k (book_of fixed a) then Some (record { owner = k; proc = proc }) else None)
+    (proc_alike fixed border k p a b (kept (border.master k) is) own same)
+
+wake_alike : (fixed : Fixed) (border : Border) (m : ℕ) (kind : Kind) (a b : Now) → is_within border (owner_by kind (book_of fixed a)) ≡ false → Same fixed border a b → wake_view_at m kind (book_of fixed a) ≡ wake_view_at m kind (book_of fixed b)
+wake_alike fixed border m (Proc p) a b is same =
+    ap (λ target. record { place = Some p; target = target }) (wake_owner fixed border m p (owner_at fixed.object fixed.topology p) a b refl is same)
+wake_alike fixed border m (Slave s) a b is same = refl
+wake_alike fixed border m (Power w) a b is same = refl
+wake_alike fixed border m Unknown a b is same = refl
+
+-- ---- the call that arms: of the row it looks at the pair alone
+
+found_seed : (at : Bool) (x y : Entry) (first second : Option Entry) → x.seed ≡ y.seed → option_map pair_in first ≡ option_map pair_in second → option_map pair_in (cond at (Some x) first) ≡ option_map pair_in (cond at (Some y) second)
+found_seed true x y first second same later = ap (λ seed. Some seed) same
+found_seed false x y first second same later = later
+
+seeds_alike : (border : Border) (m s : ℕ) (a b : List Entry) → Both (SameRow border) a b → option_map pair_in (find (is_at m s) a) ≡ option_map pair_in (find (is_at m s) b)
+seeds_alike border m s [] [] same = refl
+seeds_alike border m s [] (y ∷ ys) same = absurd same
+seeds_alike border m s (x ∷ xs) [] same = absurd same
+seeds_alike border m s (x ∷ xs) (y ∷ ys) same =
+    found_seed (is_at m s x) x y (find (is_at m s) xs) (find (is_at m s) ys) same.0.seed (seeds_alike border m s xs ys same.1)
+    ∙ ap (λ at. option_map pair_in (cond at (Some y) (find (is_at m s) ys))) (ap (λ (seed : RowSeed). (seed.master == m) && (seed.slave == s)) same.0.seed)
+
+abbrev arm_stages : NodeId → ℕ → ProcView → RowView → List (List Prim)
+arm_stages node enable target source = (outcome_of (set_wakeup_source node enable target source)).stages
+
+arm_alike : (node : NodeId) (enable : ℕ) (target : ProcView) (slave : Option ℕ) (x y : Option Entry) (r q : Option NodeId) → option_map pair_in x ≡ option_map pair_in y → arm_stages node enable target (record { slave = slave; entry = x; rival = r }) ≡ arm_stages node enable target (record { slave = slave; entry = y; rival = q })
+arm_alike node enable target slave None None r q same = refl
+arm_alike node enable target slave None (Some y) r q same = cc
+arm_alike node enable target slave (Some x) None r q same = cc
+arm_alike node enable target slave (Some x) (Some y) r q same =
+    let seed : x.seed ≡ y.seed = cc in
+    ap (λ (seed : RowSeed). arm_stages node enable target (record { slave = slave; entry = Some (record { seed = seed; row = x.row }); rival = r })) seed
+
+source_alike : (fixed : Fixed) (border : Border) (m : ℕ) (node : NodeId) (enable : ℕ) (target : ProcView) (slave : Option ℕ) (a b : Now) → border.some ≡ true → Same fixed border a b → arm_stages node enable target (row_view_at m slave (book_of fixed a)) ≡ arm_stages node enable target (row_view_at m slave (book_of fixed b))
+source_alike fixed border m node enable target None a b some same = refl
+source_alike fixed border m node enable target (Some s) a b some same =
+    arm_alike node enable target (Some s) (entry_at m s a.core.rows) (entry_at m s b.core.rows) (rival_node m s (book_of fixed a)) (rival_node m s (book_of fixed b))
+    (seeds_alike border m s a.core.rows.entries b.core.rows.entries (rows_both border a.core.rows.entries b.core.rows.entries some same.rows))
+
 -- ---- calls
 
 -- a call that only tells words changes nothing
@@ -119,6 +171,11 @@ called_alike laws fixed border m (SelfSuspend node address) a b beyond some plai
     ap (λ view. (outcome_of (self_suspend m address view)).stages) (proc_view_alike fixed border m (kind_of fixed.topology node) a b beyond same)
 called_alike laws fixed border m (AbortSuspend node reason) a b beyond some plain same =
     ap (λ view. (outcome_of (abort_suspend m reason view)).stages) (proc_view_alike fixed border m (kind_of fixed.topology node) a b beyond same)
+called_alike laws fixed border m (RequestWakeup node address ack) a b beyond some plain same =
+    ap (λ view. (outcome_of (request_wakeup address ack view)).stages) (wake_alike fixed border m (kind_of fixed.topology node) a b plain same)
+called_alike laws fixed border m (SetWakeupSource target source enable) a b beyond some plain same =
+    ap (λ view. arm_stages target enable view (row_view m source (book_of fixed a))) (proc_view_alike fixed border m (kind_of fixed.topology target) a b beyond same)
+    ∙ source_alike fixed border m target enable (proc_view m target (book_of fixed b)) (slave_place source (book_of fixed a)) a b some same
 called_alike laws fixed border m (RequestNode node caps ack) a b beyond some plain same =
     ap (λ view. (outcome_of (request_node caps ack view)).stages) (row_view_alike fixed border m (slave_place node (book_of fixed a)) a b some plain same)
 called_alike laws fixed border m (ReleaseNode node) a b beyond some plain same =
@@ -145,3 +202,8 @@ pub proc_views_agree : (border : Border) (m : ℕ) (node : NodeId) (a b : State)
 proc_views_agree border m node a b beyond agree =
     let P : Fixed → Type 0 = λ fixed. proc_view m node a ≡ proc_view m node (book_of fixed b.now) in
     subst P agree.fixed (proc_view_alike a.fixed border m (kind_of a.fixed.topology node) a.now b.now beyond agree.now)
+
+pub wake_views_agree : (border : Border) (m : ℕ) (node : NodeId) (a b : State) → is_within border (owner_by (kind_of a.fixed.topology node) a) ≡ false → Agree border a b → wake_view m node a ≡ wake_view m node b
+wake_views_agree border m node a b there agree =
+    let P : Fixed → Type 0 = λ fixed. wake_view m node a ≡ wake_view m node (book_of fixed b.now) in
+    subst P agree.fixed (wake_alike a.fixed border m (kind_of a.fixed.topology node) a.now b.now there agree.now)

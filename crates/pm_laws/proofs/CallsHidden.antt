@@ -1,35 +1,44 @@
 -- Which calls are hidden: those of a master within reach, and those that change a row on a slave within reach.
-use Rattle.std.proofs.Common.{◌≡◌, ℕ, Bool, true, false, not, ◌&&◌, ◌||◌, ◌==◌, if◌then◌else◌, List, [], ◌∷◌, Option, Some, None, refl, sym, ◌∙◌, ap, subst}
+use Rattle.std.proofs.Common.{◌≡◌, ℕ, Bool, true, false, not, ◌&&◌, ◌||◌, ◌==◌, if◌then◌else◌, List, [], ◌∷◌, Option, Some, None, refl, sym, ◌∙◌, ap, subst, inl, inr}
+use Rattle.std.specs.Prelude.{unwrap_or}
 use Rattle.std.proofs.lemmas.Bool.{eqb-true}
 use Rattle.pm_base.specs.declared.names.Mode.{Mode}
 use Rattle.pm_base.specs.declared.names.Mode.TheVariants.{Active, Suspending}
-use Rattle.pm_base.proofs.Booleans.{both}
+use Rattle.pm_base.proofs.Booleans.{both, either}
+use Rattle.pm_topology.specs.declared.places.Kind.{Kind}
+use Rattle.pm_topology.specs.declared.places.Kind.TheVariants.{Proc, Slave, Power, Unknown as NoNode}
+use Rattle.pm_topology.specs.Places.{kind_of}
+use Rattle.pm_procs.specs.declared.procs.Proc.{Proc as Processor}
+use Rattle.pm_procs.specs.Procs.{proc_at}
+use Rattle.pm_perms.specs.Permits.{may_wake}
 use Rattle.pm_base.proofs.Counts.{split}
 use Rattle.pm_ipi.specs.declared.calls.Call.{Call}
-use Rattle.pm_ipi.specs.declared.calls.Call.TheVariants.{SelfSuspend, AbortSuspend, RequestNode, ReleaseNode, SetRequirement, SetMaxLatency, InitFinalize, Unknown}
+use Rattle.pm_ipi.specs.declared.calls.Call.TheVariants.{SelfSuspend, AbortSuspend, RequestWakeup, SetWakeupSource, RequestNode, ReleaseNode, SetRequirement, SetMaxLatency, InitFinalize, Unknown}
 use Rattle.pm_rows.specs.declared.row.Change.{Change}
 use Rattle.pm_rows.specs.declared.row.Change.TheVariants.{Request, Release, Set, Limit}
 use Rattle.pm_rows.specs.declared.row.Entry.{Entry}
 use Rattle.pm_rows.specs.Rows.{entry_at, is_at}
 use Rattle.pm_core.specs.declared.views.RowView.{RowView}
-use Rattle.pm_core.specs.Members.{mode_of_master}
+use Rattle.pm_core.specs.Members.{mode_of_master, owner_at}
 use Rattle.pm_core.specs.Outcome.{Deed, Check, Tried, judged, outcome_of, done}
 use Rattle.pm_core.specs.Prims.{Prim, At_row, Settle, Put_proc}
 use Rattle.pm_core.specs.ProcCalls.{address_in, put_at}
 use Rattle.pm_core.specs.RowCalls.{changes_of, row_changes}
-use Rattle.pm_core.specs.State.{State}
+use Rattle.pm_core.specs.State.{State, in_force}
 use Rattle.pm_core.specs.Step.{called, tried_by}
 use Rattle.pm_core.specs.Values.{slave_place}
-use Rattle.pm_core.specs.Views.{proc_view, row_view_at}
+use Rattle.pm_core.specs.Views.{can_wake, master_node, proc_view, row_view_at, wake_view, wake_view_at, wakeable}
 use Rattle.pm_core.specs.calls.AbortSuspend.{abort_suspend}
 use Rattle.pm_core.specs.calls.InitFinalize.{init_finalize}
 use Rattle.pm_core.specs.calls.ReleaseNode.{release_node}
 use Rattle.pm_core.specs.calls.RequestNode.{request_node}
+use Rattle.pm_core.specs.calls.RequestWakeup.{request_wakeup, woken_to}
 use Rattle.pm_core.specs.calls.SelfSuspend.{self_suspend}
 use Rattle.pm_core.specs.calls.SetMaxLatency.{set_max_latency}
 use Rattle.pm_core.specs.calls.SetRequirement.{set_requirement}
-use Rattle.pm_laws.specs.Border.{Border}
-use Rattle.pm_laws.specs.Hidden.{is_slave_within, changes_within}
+use Rattle.pm_core.specs.calls.SetWakeupSource.{arming, set_wakeup_source}
+use Rattle.pm_laws.specs.Border.{Border, IsClosed}
+use Rattle.pm_laws.specs.Hidden.{is_slave_within, is_within, owner_by, changes_within}
 use Rattle.pm_laws.specs.Seen.{is_arming, seen, IsUnseen, AreHidden}
 
 -- ---- one change
@@ -78,6 +87,44 @@ put_hidden : (border : Border) (m : ℕ) (place : Option ℕ) (mode : Mode) (add
 put_hidden border m None mode address within = refl
 put_hidden border m (Some p) mode address within = one_hidden border (Put_proc m p mode address) within
 
+-- the wake-up of a processor of a master within isn't seen
+wake_hidden : (border : Border) (k p : ℕ) (address : Option ℕ) (proc : Processor) (can : Bool) → border.master k ≡ false → IsUnseen border (woken_to address (Some p) (if can then Some (record { owner = k; proc = proc }) else None))
+wake_hidden border k p address proc true within = one_hidden border (Put_proc k p Active (unwrap_or address proc.address)) within
+wake_hidden border k p address proc false within = refl
+
+-- what gives only what isn't there isn't there
+pub within_by : (b c : Bool) → (b ≡ true → c ≡ true) → c ≡ false → b ≡ false
+within_by false c gives none = refl
+within_by true c gives none = let e : true ≡ false = sym (gives refl) ∙ none in cc
+
+abbrev pub HasClosed : Border → State → Type 0
+HasClosed border book = IsClosed book.fixed.object book.fixed.topology border
+
+-- whom a master within may wake is within
+woken_within : (border : Border) (m k : ℕ) (book : State) → HasClosed border book → border.master m ≡ false → can_wake m k book ≡ true → border.master k ≡ false
+woken_within border m k book closed within can =
+    let masters = (in_force book).masters in
+    elim (either (k == m) (may_wake (in_force book) book.fixed.topology (master_node masters m) (master_node masters k)) can) [
+      | inl same ↦ ap border.master (eqb-true k m same) ∙ within
+      | inr may ↦ within_by (border.master k) (border.master m) (closed.wakes m k may) within
+    ]
+
+caller_wakes : (border : Border) (m k p : ℕ) (address : Option ℕ) (book : State) (can : Bool) → can_wake m k book ≡ can → HasClosed border book → border.master m ≡ false → IsUnseen border (woken_to address (Some p) (if can then Some (record { owner = k; proc = proc_at p book.now.core.procs }) else None))
+caller_wakes border m k p address book true is closed within =
+    wake_hidden border k p address (proc_at p book.now.core.procs) true (woken_within border m k book closed within is)
+caller_wakes border m k p address book false is closed within = refl
+
+caller_owner : (border : Border) (m p : ℕ) (owner : Option ℕ) (address : Option ℕ) (book : State) → HasClosed border book → border.master m ≡ false → IsUnseen border (woken_to address (Some p) (wakeable m p owner book))
+caller_owner border m p None address book closed within = refl
+caller_owner border m p (Some k) address book closed within = caller_wakes border m k p address book (can_wake m k book) refl closed within
+
+caller_kind : (border : Border) (m : ℕ) (kind : Kind) (address : Option ℕ) (book : State) → HasClosed border book → border.master m ≡ false → IsUnseen border (woken_to address (wake_view_at m kind book).place (wake_view_at m kind book).target)
+caller_kind border m (Proc p) address book closed within =
+    caller_owner border m p (owner_at book.fixed.object book.fixed.topology p) address book closed within
+caller_kind border m (Slave s) address book closed within = refl
+caller_kind border m (Power w) address book closed within = refl
+caller_kind border m NoNode address book closed within = refl
+
 -- ---- the two reasons
 
 master_hides : (border : Border) (m s : ℕ) (by : Change) → border.master m ≡ false → Hides border m s by
@@ -93,26 +140,30 @@ slave_hides border m s by plain within =
     ∙ (ap (λ b. border.master m && (false || b)) plain ∙ none_seen (border.master m))
 
 -- a call of a master within
-pub caller_hidden : (border : Border) (m : ℕ) (call : Call) (book : State) → border.master m ≡ false → AreHidden border (called m call book).stages
-caller_hidden border m (SelfSuspend node address) book within =
+pub caller_hidden : (border : Border) (m : ℕ) (call : Call) (book : State) → HasClosed border book → border.master m ≡ false → AreHidden border (called m call book).stages
+caller_hidden border m (SelfSuspend node address) book closed within =
     let view = proc_view m node book in
     tried_hidden border (self_suspend m address view) (put_hidden border m view.place Suspending address within, tt)
-caller_hidden border m (AbortSuspend node reason) book within =
+caller_hidden border m (AbortSuspend node reason) book closed within =
     let view = proc_view m node book in
     tried_hidden border (abort_suspend m reason view) (put_hidden border m view.place Active (address_in view) within, tt)
-caller_hidden border m (RequestNode node caps ack) book within =
+caller_hidden border m (RequestWakeup node address ack) book closed within =
+    tried_hidden border (request_wakeup address ack (wake_view m node book)) (caller_kind border m (kind_of book.fixed.topology node) address book closed within, tt)
+caller_hidden border m (SetWakeupSource target source enable) book closed within =
+    row_call_hidden border m (arming target enable) (set_wakeup_source target enable (proc_view m target book)) book (slave_place source book) (λ view. refl) (λ s is. master_hides border m s (arming target enable) within)
+caller_hidden border m (RequestNode node caps ack) book closed within =
     row_call_hidden border m (Request caps) (request_node caps ack) book (slave_place node book) (λ view. refl) (λ s is. master_hides border m s (Request caps) within)
-caller_hidden border m (ReleaseNode node) book within =
+caller_hidden border m (ReleaseNode node) book closed within =
     row_call_hidden border m Release release_node book (slave_place node book) (λ view. refl) (λ s is. master_hides border m s Release within)
-caller_hidden border m (SetRequirement node caps ack) book within =
+caller_hidden border m (SetRequirement node caps ack) book closed within =
     let mode : Mode = mode_of_master book.fixed book.now.core m in
     row_call_hidden border m (Set mode caps) (set_requirement mode caps ack) book (slave_place node book) (λ view. refl) (λ s is. master_hides border m s (Set mode caps) within)
-caller_hidden border m (SetMaxLatency node latency) book within =
+caller_hidden border m (SetMaxLatency node latency) book closed within =
     row_call_hidden border m (Limit latency) (set_max_latency latency) book (slave_place node book) (λ view. refl) (λ s is. master_hides border m s (Limit latency) within)
-caller_hidden border m InitFinalize book within =
+caller_hidden border m InitFinalize book closed within =
     tried_hidden border (init_finalize m) (one_hidden border (Settle m) within, tt)
-caller_hidden border m Unknown book within = tt
-caller_hidden border m call book within = tried_hidden border (tried_by m call book) tt
+caller_hidden border m Unknown book closed within = tt
+caller_hidden border m call book closed within = tried_hidden border (tried_by m call book) tt
 
 pub turned : (b : Bool) → not b ≡ true → b ≡ false
 turned true is = cc
@@ -123,8 +174,21 @@ within_is border None is s at = cc
 within_is border (Some k) is s at =
     let same : k ≡ s = cc in ap border.slave (sym same) ∙ turned (border.slave k) is
 
--- a call that changes a row on a slave within
+target_owner : (border : Border) (m p : ℕ) (owner : Option ℕ) (address : Option ℕ) (book : State) → is_within border owner ≡ true → IsUnseen border (woken_to address (Some p) (wakeable m p owner book))
+target_owner border m p None address book is = refl
+target_owner border m p (Some k) address book is =
+    wake_hidden border k p address (proc_at p book.now.core.procs) (can_wake m k book) (turned (border.master k) is)
+
+target_kind : (border : Border) (m : ℕ) (kind : Kind) (address : Option ℕ) (book : State) → is_within border (owner_by kind book) ≡ true → IsUnseen border (woken_to address (wake_view_at m kind book).place (wake_view_at m kind book).target)
+target_kind border m (Proc p) address book is = target_owner border m p (owner_at book.fixed.object book.fixed.topology p) address book is
+target_kind border m (Slave s) address book is = refl
+target_kind border m (Power w) address book is = refl
+target_kind border m NoNode address book is = refl
+
+-- a call that changes a row on a slave within, or wakes a processor of a master within
 pub slave_hidden : (border : Border) (m : ℕ) (call : Call) (book : State) → changes_within border call book ≡ true → AreHidden border (called m call book).stages
+slave_hidden border m (RequestWakeup node address ack) book is =
+    tried_hidden border (request_wakeup address ack (wake_view m node book)) (target_kind border m (kind_of book.fixed.topology node) address book is, tt)
 slave_hidden border m (RequestNode node caps ack) book is =
     row_call_hidden border m (Request caps) (request_node caps ack) book (slave_place node book) (λ view. refl)
     (λ s at. slave_hides border m s (Request caps) refl (within_is border (slave_place node book) is s at))

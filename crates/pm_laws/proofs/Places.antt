@@ -142,3 +142,19 @@ map_among test f g itself [] alike = refl
 map_among test f g itself (x ∷ xs) alike =
     ap (λ y. y ∷ map f xs) (alike x (first_passes (test x x) (list_any (λ y. test y x) xs) (itself x)))
     ∙ ap (λ ys. g x ∷ ys) (map_among test f g itself xs (λ y is. alike y (later_passes (test x y) (list_any (λ z. test z y) xs) is)))
+
+-- ---- the rest of a list
+
+-- these stand in a list from a place on
+abbrev pub StandsFrom : {X : Type 0} → List X → ℕ → List X → Type 0
+StandsFrom {X} whole k part = (i : ℕ) (x : X) → slice_get part i ≡ Some x → slice_get whole (k + i) ≡ Some x
+
+pub stands_first : {X : Type 0} (whole : List X) (k : ℕ) (x : X) (part : List X) → StandsFrom whole k (x ∷ part) → slice_get whole k ≡ Some x
+stands_first whole k x part stands = let at : k ≡ k + 0 = omega arith in ap (λ n. slice_get whole n) at ∙ stands 0 x refl
+
+pub stands_later : {X : Type 0} (whole : List X) (k : ℕ) (x : X) (part : List X) → StandsFrom whole k (x ∷ part) → StandsFrom whole (k + 1) part
+stands_later whole k x part stands i y is =
+    let at : (k + 1) + i ≡ k + suc i = omega arith in ap (λ n. slice_get whole n) at ∙ stands (suc i) y is
+
+pub stands_from_start : {X : Type 0} (whole : List X) → StandsFrom whole 0 whole
+stands_from_start whole i x is = let at : 0 + i ≡ i = omega arith in ap (λ n. slice_get whole n) at ∙ is

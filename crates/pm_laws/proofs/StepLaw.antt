@@ -2,14 +2,14 @@
 use Rattle.std.proofs.Common.{◌≡◌, ℕ, Bool, true, false, not, ◌||◌, if◌then◌else◌, Option, Some, None, refl, sym, ◌∙◌, ap, subst, inl, inr}
 use Rattle.std.specs.Prelude.{option_and_then}
 use Rattle.pm_base.specs.declared.events.Event.{Event}
-use Rattle.pm_base.specs.declared.events.Event.TheVariants.{Ipi, Boot, Wfi}
+use Rattle.pm_base.specs.declared.events.Event.TheVariants.{Ipi, Boot, Wfi, Irq, Gic}
 use Rattle.pm_base.specs.declared.events.Message.{Message}
 use Rattle.pm_base.specs.declared.names.Mode.{Mode}
 use Rattle.pm_base.specs.declared.names.Mode.TheVariants.{Off, Active, Asleep, Suspending}
 use Rattle.pm_base.specs.declared.names.NodeId.{NodeId}
 use Rattle.pm_base.proofs.Booleans.{either, equal, first_passes, neither}
 use Rattle.pm_ipi.specs.declared.calls.Call.{Call}
-use Rattle.pm_ipi.specs.declared.calls.Call.TheVariants.{RequestNode, ReleaseNode, SetRequirement, SetMaxLatency}
+use Rattle.pm_ipi.specs.declared.calls.Call.TheVariants.{RequestWakeup, RequestNode, ReleaseNode, SetRequirement, SetMaxLatency}
 use Rattle.pm_ipi.specs.Calls.{call_of}
 use Rattle.pm_procs.specs.declared.procs.Proc.{Proc as Processor}
 use Rattle.pm_procs.specs.Modes.{is_awake}
@@ -17,11 +17,11 @@ use Rattle.pm_procs.specs.Procs.{proc_at}
 use Rattle.pm_topology.specs.declared.places.Kind.{Kind}
 use Rattle.pm_topology.specs.declared.places.Kind.TheVariants.{Proc, Slave, Power, Unknown}
 use Rattle.pm_topology.specs.Places.{kind_of}
-use Rattle.pm_core.specs.Events.{boot_at, boot_by, booted, wait_at, wait_by, waits}
+use Rattle.pm_core.specs.Events.{boot_at, boot_by, booted, wait_at, wait_by, waits, interrupt_at, interrupt_by, raised_at, woken}
 use Rattle.pm_core.specs.Members.{is_place, mode_of_master, owner_at, owns}
 use Rattle.pm_core.specs.Outcome.{Outcome}
 use Rattle.pm_core.specs.Prims.{Prim, Put_proc}
-use Rattle.pm_core.specs.Sound.{IsSound, KnowsModes}
+use Rattle.pm_core.specs.Sound.{ArmsOwn, IsSound, KnowsModes}
 use Rattle.pm_core.specs.State.{Fixed, Now, State}
 use Rattle.pm_core.specs.Step.{called, heard_at, stages_of, stages, effect}
 use Rattle.pm_core.specs.Values.{master_place}
@@ -31,7 +31,8 @@ use Rattle.pm_laws.specs.Hidden.{is_within, changes_within, owner_by, is_hidden}
 use Rattle.pm_laws.specs.Seen.{AreAlike, AreHidden}
 use Rattle.pm_laws.proofs.AgreeLaw.{agree_sym, agree_trans}
 use Rattle.pm_laws.proofs.CallsAlike.{alike_of, book_of, call_alike, kept}
-use Rattle.pm_laws.proofs.CallsHidden.{caller_hidden, one_hidden, slave_hidden, turned}
+use Rattle.pm_laws.proofs.CallsHidden.{HasClosed, caller_hidden, one_hidden, slave_hidden, turned}
+use Rattle.pm_laws.proofs.WakeLaw.{raised_alike, raised_hidden, woken_unseen}
 use Rattle.pm_laws.proofs.FollowLaw.{mode_alike, proc_alike}
 use Rattle.pm_laws.proofs.PathLaw.{stages_alike, stages_hidden}
 use Rattle.pm_laws.proofs.RowFacts.{BelowLaws}
@@ -42,12 +43,12 @@ heard_hidden : (border : Border) (outcome : Outcome) (awake : Bool) → AreHidde
 heard_hidden border outcome true hidden = hidden
 heard_hidden border outcome false hidden = tt
 
-message_hidden : (border : Border) (message : Message) (book : State) (place : Option ℕ) → (is_within border place || changes_within border (call_of message) book) ≡ true → AreHidden border (stages_of (option_and_then (heard_at message book) place))
-message_hidden border message book None is = tt
-message_hidden border message book (Some m) is =
+message_hidden : (border : Border) (message : Message) (book : State) (place : Option ℕ) → HasClosed border book → (is_within border place || changes_within border (call_of message) book) ≡ true → AreHidden border (stages_of (option_and_then (heard_at message book) place))
+message_hidden border message book None closed is = tt
+message_hidden border message book (Some m) closed is =
     heard_hidden border (called m (call_of message) book) (is_awake (mode_of_master book.fixed book.now.core m))
     (elim (either (not (border.master m)) (changes_within border (call_of message) book) is) [
-      | inl within ↦ caller_hidden border m (call_of message) book (turned (border.master m) within)
+      | inl within ↦ caller_hidden border m (call_of message) book closed (turned (border.master m) within)
       | inr slave ↦ slave_hidden border m (call_of message) book slave
     ])
 
@@ -85,12 +86,25 @@ wait_hidden border (Slave s) book is = tt
 wait_hidden border (Power w) book is = tt
 wait_hidden border Unknown book is = tt
 
+interrupt_by_hidden : (border : Border) (owner : Option ℕ) (p : ℕ) (proc : Processor) → is_within border owner ≡ true → AreHidden border (interrupt_by owner p proc)
+interrupt_by_hidden border None p proc is = tt
+interrupt_by_hidden border (Some m) p proc is = (woken_unseen border m p proc.address proc.mode (turned (border.master m) is), tt)
+
+interrupt_hidden : (border : Border) (kind : Kind) (book : State) → is_within border (owner_by kind book) ≡ true → AreHidden border (interrupt_at kind book)
+interrupt_hidden border (Proc p) book is =
+    interrupt_by_hidden border (owner_at book.fixed.object book.fixed.topology p) p (proc_at p book.now.core.procs) is
+interrupt_hidden border (Slave s) book is = tt
+interrupt_hidden border (Power w) book is = tt
+interrupt_hidden border Unknown book is = tt
+
 -- nothing is seen of what a hidden event does
-pub event_hidden : (border : Border) (event : Event) (book : State) → is_hidden border event book ≡ true → AreHidden border (stages event book)
-event_hidden border (Ipi master message) book is = message_hidden border message book (master_place master book) is
-event_hidden border (Boot proc address) book is = boot_hidden border (kind_of book.fixed.topology proc) address book is
-event_hidden border (Wfi proc) book is = wait_hidden border (kind_of book.fixed.topology proc) book is
-event_hidden border _ book is = tt
+pub event_hidden : (border : Border) (event : Event) (book : State) → HasClosed border book → is_hidden border event book ≡ true → AreHidden border (stages event book)
+event_hidden border (Ipi master message) book closed is = message_hidden border message book (master_place master book) closed is
+event_hidden border (Boot proc address) book closed is = boot_hidden border (kind_of book.fixed.topology proc) address book is
+event_hidden border (Wfi proc) book closed is = wait_hidden border (kind_of book.fixed.topology proc) book is
+event_hidden border (Irq slave) book closed is = raised_hidden border (kind_of book.fixed.topology slave) book closed.some is
+event_hidden border (Gic proc) book closed is = interrupt_hidden border (kind_of book.fixed.topology proc) book is
+event_hidden border _ book closed is = tt
 
 -- ---- all other events
 
@@ -126,6 +140,17 @@ wait_alike fixed border None p a b owner is same = cc
 wait_alike fixed border (Some m) p a b owner is same =
     ap (λ (proc : Processor). waits m p proc.address proc.mode) (owned_alike fixed border m p a b owner is same)
 
+interrupt_alike : (fixed : Fixed) (border : Border) (owner : Option ℕ) (p : ℕ) (a b : Now) → owner_at fixed.object fixed.topology p ≡ owner → is_within border owner ≡ false → Same fixed border a b → interrupt_by owner p (proc_at p a.core.procs) ≡ interrupt_by owner p (proc_at p b.core.procs)
+interrupt_alike fixed border None p a b owner is same = cc
+interrupt_alike fixed border (Some m) p a b owner is same =
+    ap (λ (proc : Processor). interrupt_by (Some m) p proc) (owned_alike fixed border m p a b owner is same)
+
+interrupts_alike : (fixed : Fixed) (border : Border) (kind : Kind) (a b : Now) → is_within border (owner_by kind (book_of fixed a)) ≡ false → Same fixed border a b → interrupt_at kind (book_of fixed a) ≡ interrupt_at kind (book_of fixed b)
+interrupts_alike fixed border (Proc p) a b is same = interrupt_alike fixed border (owner_at fixed.object fixed.topology p) p a b refl is same
+interrupts_alike fixed border (Slave s) a b is same = refl
+interrupts_alike fixed border (Power w) a b is same = refl
+interrupts_alike fixed border Unknown a b is same = refl
+
 boots_alike : (fixed : Fixed) (border : Border) (kind : Kind) (address : ℕ) (a b : Now) → is_within border (owner_by kind (book_of fixed a)) ≡ false → Same fixed border a b → boot_at kind address (book_of fixed a) ≡ boot_at kind address (book_of fixed b)
 boots_alike fixed border (Proc p) address a b is same = boot_alike fixed border (owner_at fixed.object fixed.topology p) p address a b refl is same
 boots_alike fixed border (Slave s) address a b is same = refl
@@ -138,25 +163,23 @@ waits_alike fixed border (Slave s) a b is same = refl
 waits_alike fixed border (Power w) a b is same = refl
 waits_alike fixed border Unknown a b is same = refl
 
-event_alike : BelowLaws → (fixed : Fixed) (border : Border) (event : Event) (a b : Now) → ((m : ℕ) → IsBeyond border m → border.some ≡ true) → is_hidden border event (book_of fixed a) ≡ false → Same fixed border a b → AreAlike border (stages event (book_of fixed a)) (stages event (book_of fixed b))
-event_alike laws fixed border (Ipi master message) a b some is same =
+pub event_alike : BelowLaws → (fixed : Fixed) (border : Border) (event : Event) (a b : Now) → ArmsOwn (book_of fixed a) → ((m : ℕ) → IsBeyond border m → border.some ≡ true) → is_hidden border event (book_of fixed a) ≡ false → Same fixed border a b → AreAlike border (stages event (book_of fixed a)) (stages event (book_of fixed b))
+event_alike laws fixed border (Ipi master message) a b armed some is same =
     message_alike laws fixed border message (master_place master (book_of fixed a)) a b some is same
-event_alike laws fixed border (Boot proc address) a b some is same =
+event_alike laws fixed border (Boot proc address) a b armed some is same =
     let kind : Kind = kind_of fixed.topology proc in
     alike_of border (boot_at kind address (book_of fixed a)) (boot_at kind address (book_of fixed b)) (boots_alike fixed border kind address a b is same)
-event_alike laws fixed border (Wfi proc) a b some is same =
+event_alike laws fixed border (Wfi proc) a b armed some is same =
     let kind : Kind = kind_of fixed.topology proc in
     alike_of border (wait_at kind (book_of fixed a)) (wait_at kind (book_of fixed b)) (waits_alike fixed border kind a b is same)
-event_alike laws fixed border _ a b some is same = cc
+event_alike laws fixed border (Irq slave) a b armed some is same =
+    raised_alike fixed border (kind_of fixed.topology slave) a b armed (kept border.some is) same
+event_alike laws fixed border (Gic proc) a b armed some is same =
+    let kind : Kind = kind_of fixed.topology proc in
+    alike_of border (interrupt_at kind (book_of fixed a)) (interrupt_at kind (book_of fixed b)) (interrupts_alike fixed border kind a b is same)
+event_alike laws fixed border _ a b armed some is same = cc
 
 -- ---- what is fixed decides which events are hidden
-
-changes_fixed : (fixed : Fixed) (border : Border) (call : Call) (a b : Now) → changes_within border call (book_of fixed a) ≡ changes_within border call (book_of fixed b)
-changes_fixed fixed border (RequestNode node caps ack) a b = refl
-changes_fixed fixed border (ReleaseNode node) a b = refl
-changes_fixed fixed border (SetRequirement node caps ack) a b = refl
-changes_fixed fixed border (SetMaxLatency node latency) a b = refl
-changes_fixed fixed border _ a b = refl
 
 owner_fixed : (fixed : Fixed) (kind : Kind) (a b : Now) → owner_by kind (book_of fixed a) ≡ owner_by kind (book_of fixed b)
 owner_fixed fixed (Proc p) a b = refl
@@ -164,50 +187,59 @@ owner_fixed fixed (Slave s) a b = refl
 owner_fixed fixed (Power w) a b = refl
 owner_fixed fixed Unknown a b = refl
 
-hidden_fixed : (fixed : Fixed) (border : Border) (event : Event) (a b : Now) → is_hidden border event (book_of fixed a) ≡ is_hidden border event (book_of fixed b)
+changes_fixed : (fixed : Fixed) (border : Border) (call : Call) (a b : Now) → changes_within border call (book_of fixed a) ≡ changes_within border call (book_of fixed b)
+changes_fixed fixed border (RequestWakeup node address ack) a b = ap (is_within border) (owner_fixed fixed (kind_of fixed.topology node) a b)
+changes_fixed fixed border (RequestNode node caps ack) a b = refl
+changes_fixed fixed border (ReleaseNode node) a b = refl
+changes_fixed fixed border (SetRequirement node caps ack) a b = refl
+changes_fixed fixed border (SetMaxLatency node latency) a b = refl
+changes_fixed fixed border _ a b = refl
+
+pub hidden_fixed : (fixed : Fixed) (border : Border) (event : Event) (a b : Now) → is_hidden border event (book_of fixed a) ≡ is_hidden border event (book_of fixed b)
 hidden_fixed fixed border (Ipi master message) a b =
     ap (λ changes. is_within border (master_place master (book_of fixed a)) || changes) (changes_fixed fixed border (call_of message) a b)
 hidden_fixed fixed border (Boot proc address) a b = ap (is_within border) (owner_fixed fixed (kind_of fixed.topology proc) a b)
 hidden_fixed fixed border (Wfi proc) a b = ap (is_within border) (owner_fixed fixed (kind_of fixed.topology proc) a b)
+hidden_fixed fixed border (Gic proc) a b = ap (is_within border) (owner_fixed fixed (kind_of fixed.topology proc) a b)
 hidden_fixed fixed border _ a b = refl
 
 -- ---- steps
 
 -- a hidden event, beside a book that stays
-pub effect_hidden : BelowLaws → (border : Border) (event : Event) (still now : State) → KnowsModes still → is_hidden border event now ≡ true → Agree border still now → Agree border still (effect event now)
-effect_hidden laws border event still now knows is agree =
-    stages_hidden laws border (stages event now) still now knows (event_hidden border event now is) agree
+pub effect_hidden : BelowLaws → (border : Border) (event : Event) (still now : State) → HasClosed border now → KnowsModes still → is_hidden border event now ≡ true → Agree border still now → Agree border still (effect event now)
+effect_hidden laws border event still now closed knows is agree =
+    stages_hidden laws border (stages event now) still now knows (event_hidden border event now closed is) agree
 
-effects_by : BelowLaws → (fixed : Fixed) (border : Border) (event : Event) (a b : Now) (hidden : Bool) → is_hidden border event (book_of fixed a) ≡ hidden → ((m : ℕ) → IsBeyond border m → border.some ≡ true) → KnowsModes (book_of fixed a) → KnowsModes (book_of fixed b) → Same fixed border a b → Agree border (effect event (book_of fixed a)) (effect event (book_of fixed b))
-effects_by laws fixed border event a b true is some knows_a knows_b same =
+effects_by : BelowLaws → (fixed : Fixed) (border : Border) (event : Event) (a b : Now) (hidden : Bool) → is_hidden border event (book_of fixed a) ≡ hidden → HasClosed border (book_of fixed a) → ArmsOwn (book_of fixed a) → KnowsModes (book_of fixed a) → KnowsModes (book_of fixed b) → Same fixed border a b → Agree border (effect event (book_of fixed a)) (effect event (book_of fixed b))
+effects_by laws fixed border event a b true is closed armed knows_a knows_b same =
     let first : State = book_of fixed a in
     let second : State = book_of fixed b in
     let agree : Agree border first second = record { fixed = refl; now = same } in
     let turned : Agree border second first = agree_sym border first second agree in
-    let one : Agree border second (effect event first) = effect_hidden laws border event second first knows_b is turned in
-    let two : Agree border first (effect event second) = effect_hidden laws border event first second knows_a (sym (hidden_fixed fixed border event a b) ∙ is) agree in
+    let one : Agree border second (effect event first) = effect_hidden laws border event second first closed knows_b is turned in
+    let two : Agree border first (effect event second) = effect_hidden laws border event first second closed knows_a (sym (hidden_fixed fixed border event a b) ∙ is) agree in
     agree_trans border (effect event first) second (effect event second)
     (agree_sym border second (effect event first) one) (agree_trans border second first (effect event second) turned two)
-effects_by laws fixed border event a b false is some knows_a knows_b same =
+effects_by laws fixed border event a b false is closed armed knows_a knows_b same =
     stages_alike laws border (stages event (book_of fixed a)) (stages event (book_of fixed b)) (book_of fixed a) (book_of fixed b)
-    (event_alike laws fixed border event a b some is same) (record { fixed = refl; now = same })
+    (event_alike laws fixed border event a b armed closed.some is same) (record { fixed = refl; now = same })
 
 -- one event in two books
-pub effects_agree : BelowLaws → (border : Border) (event : Event) (a b : State) → ((m : ℕ) → IsBeyond border m → border.some ≡ true) → KnowsModes a → KnowsModes b → Agree border a b → Agree border (effect event a) (effect event b)
-effects_agree laws border event a b some knows_a knows_b agree =
+pub effects_agree : BelowLaws → (border : Border) (event : Event) (a b : State) → HasClosed border a → ArmsOwn a → KnowsModes a → KnowsModes b → Agree border a b → Agree border (effect event a) (effect event b)
+effects_agree laws border event a b closed armed knows_a knows_b agree =
     let P : Fixed → Type 0 = λ fixed. KnowsModes (book_of fixed b.now) → Agree border (effect event a) (effect event (book_of fixed b.now)) in
     subst P agree.fixed
-    (λ knows. effects_by laws a.fixed border event a.now b.now (is_hidden border event a) refl some knows_a knows agree.now) knows_b
+    (λ knows. effects_by laws a.fixed border event a.now b.now (is_hidden border event a) refl closed armed knows_a knows agree.now) knows_b
 
 -- ---- sound books
 
 pub steps_agree : BelowLaws → (border : Border) (event : Event) (a b : State) → IsClosed a.fixed.object a.fixed.topology border → IsSound a → IsSound b → Agree border a b → Agree border (effect event a) (effect event b)
 steps_agree laws border event a b closed sound_a sound_b agree =
-    effects_agree laws border event a b closed.some sound_a.knows sound_b.knows agree
+    effects_agree laws border event a b closed sound_a.armed sound_a.knows sound_b.knows agree
 
-pub step_hidden : BelowLaws → (border : Border) (event : Event) (a b : State) → IsSound b → is_hidden border event a ≡ true → Agree border a b → Agree border (effect event a) b
-step_hidden laws border event a b sound is agree =
-    agree_sym border b (effect event a) (effect_hidden laws border event b a sound.knows is (agree_sym border a b agree))
+pub step_hidden : BelowLaws → (border : Border) (event : Event) (a b : State) → HasClosed border a → IsSound b → is_hidden border event a ≡ true → Agree border a b → Agree border (effect event a) b
+step_hidden laws border event a b closed sound is agree =
+    agree_sym border b (effect event a) (effect_hidden laws border event b a closed sound.knows is (agree_sym border a b agree))
 
 -- the messages of a master within
 pub message_within : (border : Border) (master : NodeId) (message : Message) (book : State) → is_within border (master_place master book) ≡ true → is_hidden border (Ipi master message) book ≡ true

@@ -43,8 +43,7 @@ pub record Same (fixed : Fixed) (border : Border) (a b : Now) : Type 0 where
   pub known : BothFrom (SameKnown border) 0 a.core.rows.known b.core.rows.known
   pub procs : BothFrom (SameProc fixed border) 0 a.core.procs b.core.procs
 
--- two books agree beyond the border: they have the same object and the same chip, and what a master beyond is told or can
--- notice is equal in both
+-- two books agree beyond the border: they have the same object and the same chip, and what changes of them agrees there
 pub record Agree (border : Border) (a b : State) : Type 0 where
   pub fixed : a.fixed ≡ b.fixed
   pub now : Same a.fixed border a.now b.now

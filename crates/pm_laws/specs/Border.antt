@@ -1,6 +1,7 @@
 -- What lies beyond the reach of a master. The laws of two worlds hold of every border that is closed.
-use Rattle.std.specs.Prelude.{◌≡◌, ℕ, Bool, true, ◌&&◌, ◌==◌, slice_get, position, Option, Some, None}
+use Rattle.std.specs.Prelude.{◌≡◌, ℕ, Bool, true, ◌&&◌, ◌||◌, ◌==◌, slice_get, position, Option, Some, None}
 use Rattle.std.specs.List.{All}
+use Rattle.pm_base.specs.declared.names.LineId.{LineId}
 use Rattle.pm_base.specs.declared.names.NodeId.{NodeId}
 use Rattle.pm_object.specs.declared.object.MasterRec.{MasterRec}
 use Rattle.pm_object.specs.declared.object.Object.{Object}
@@ -8,12 +9,16 @@ use Rattle.pm_rows.specs.declared.row.RowSeed.{RowSeed}
 use Rattle.pm_topology.specs.declared.places.Kind.{Kind}
 use Rattle.pm_topology.specs.declared.places.Kind.TheVariants.{Proc, Slave, Power, Unknown}
 use Rattle.pm_topology.specs.Places.{kind_of}
+use Rattle.pm_topology.specs.declared.topology.LineDef.{LineDef}
 use Rattle.pm_topology.specs.declared.topology.PowerDef.{PowerDef}
 use Rattle.pm_topology.specs.declared.topology.ProcDef.{ProcDef}
 use Rattle.pm_topology.specs.declared.topology.SlaveDef.{SlaveDef}
 use Rattle.pm_topology.specs.declared.topology.Topology.{Topology}
 use Rattle.pm_core.specs.Members.{owner_at}
 use Rattle.pm_core.specs.Pairs.{pairs_of}
+use Rattle.pm_core.specs.Views.{master_node}
+use Rattle.pm_perms.specs.Permits.{may_configure, may_reset, may_shut, may_suspend, may_use, may_wake}
+use Rattle.pm_reach.specs.Leads.{forces_above, forces_proc, targets}
 
 -- which masters, slaves and power nodes are beyond, by their places; which reset lines and nodes are, by their numbers; and
 -- whether any master is beyond
@@ -51,16 +56,41 @@ node_beyond object t border node =
     unit_beyond object t border (kind_of t node)
     && none_within border (position (λ (master : MasterRec). master.node == node.0) object.masters)
 
--- the border is closed: who may use a slave beyond is beyond; what stands directly below a power node beyond is beyond, or is
--- a processor that no configured master has; a node is beyond where its unit and the master of its number are; and where a
--- master is beyond, some is
+-- the border is closed: nobody within can change what is beyond
 pub record IsClosed (object : Object) (t : Topology) (border : Border) : Type 0 where
+  -- who may use a slave beyond is beyond
   pub users : All (IsPairClosed border) (pairs_of object t)
+  -- what stands directly below a power node beyond is beyond, or is a processor that no configured master has
   pub slaves : (s : ℕ) (slave : SlaveDef) → slice_get t.slaves s ≡ Some slave
       → border.power slave.parent ≡ true → border.slave s ≡ true
   pub procs : (p m : ℕ) (proc : ProcDef) → slice_get t.procs p ≡ Some proc → border.power proc.parent ≡ true
       → owner_at object t p ≡ Some m → IsBeyond border m
   pub powers : (w v : ℕ) (power : PowerDef) → slice_get t.powers w ≡ Some power → power.parent ≡ Some v
       → border.power v ≡ true → border.power w ≡ true
+  -- a node is beyond where its unit and the master of its number are
   pub nodes : (node : NodeId) → border.node node.0 ≡ node_beyond object t border node
+  -- who may suspend or wake a master beyond is beyond
+  pub suspends : (m k : ℕ) → may_suspend object t (master_node object.masters m) (master_node object.masters k) ≡ true
+      → IsBeyond border k → IsBeyond border m
+  pub wakes : (m k : ℕ) → may_wake object t (master_node object.masters m) (master_node object.masters k) ≡ true
+      → IsBeyond border k → IsBeyond border m
+  -- who may force a processor of a master beyond, or a power node above one, is beyond; and so is who may force a power
+  -- node above a slave that a master beyond may use
+  pub forces : (m k p : ℕ) (proc : ProcDef) → slice_get t.procs p ≡ Some proc
+      → forces_proc object t (master_node object.masters m) proc.node ≡ true
+      → owner_at object t p ≡ Some k → IsBeyond border k → IsBeyond border m
+  pub clears : (m k s : ℕ) (slave : SlaveDef) → slice_get t.slaves s ≡ Some slave
+      → forces_above object t (master_node object.masters m) slave.node ≡ true
+      → may_use object t (master_node object.masters k) slave.node ≡ true → IsBeyond border k → IsBeyond border m
+  -- who may reset a processor of a master beyond is beyond, and who may reset a line beyond
+  pub resets : (m k l : ℕ) (line : LineDef) → slice_get t.lines l ≡ Some line
+      → may_reset object t (master_node object.masters m) line.line ≡ true
+      → targets object t line k ≡ true → IsBeyond border k → IsBeyond border m
+  pub lines : (m : ℕ) (line : LineId) → may_reset object t (master_node object.masters m) line ≡ true
+      → border.line line.0 ≡ true → IsBeyond border m
+  -- where any master is beyond, so is who may shut down more than itself, and who may set the configuration
+  pub shuts : (m : ℕ) → (may_shut object t (master_node object.masters m) 1 || may_shut object t (master_node object.masters m) 2) ≡ true
+      → border.some ≡ true → IsBeyond border m
+  pub configures : (m : ℕ) → may_configure object t (master_node object.masters m) ≡ true → border.some ≡ true → IsBeyond border m
+  -- where a master is beyond, some is
   pub some : (m : ℕ) → IsBeyond border m → border.some ≡ true

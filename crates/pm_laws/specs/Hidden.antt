@@ -1,9 +1,9 @@
 -- Which events are hidden from what is beyond a border. The border, the object and the event decide it, and no row and no mode.
 use Rattle.std.specs.Prelude.{ℕ, Bool, true, false, not, ◌||◌, Option, Some, None}
 use Rattle.pm_base.specs.declared.events.Event.{Event}
-use Rattle.pm_base.specs.declared.events.Event.TheVariants.{Ipi, Boot, Wfi}
+use Rattle.pm_base.specs.declared.events.Event.TheVariants.{Ipi, Boot, Wfi, Irq, Gic}
 use Rattle.pm_ipi.specs.declared.calls.Call.{Call}
-use Rattle.pm_ipi.specs.declared.calls.Call.TheVariants.{RequestNode, ReleaseNode, SetRequirement, SetMaxLatency}
+use Rattle.pm_ipi.specs.declared.calls.Call.TheVariants.{RequestWakeup, RequestNode, ReleaseNode, SetRequirement, SetMaxLatency}
 use Rattle.pm_ipi.specs.Calls.{call_of}
 use Rattle.pm_topology.specs.declared.places.Kind.{Kind}
 use Rattle.pm_topology.specs.declared.places.Kind.TheVariants.{Proc, Slave, Power, Unknown}
@@ -23,14 +23,6 @@ abbrev pub is_slave_within : Border → Option ℕ → Bool
 is_slave_within border None = false
 is_slave_within border (Some s) = not (border.slave s)
 
--- the call changes a row on a slave within reach
-abbrev pub changes_within : Border → Call → State → Bool
-changes_within border (RequestNode node caps ack) book = is_slave_within border (slave_place node book)
-changes_within border (ReleaseNode node) book = is_slave_within border (slave_place node book)
-changes_within border (SetRequirement node caps ack) book = is_slave_within border (slave_place node book)
-changes_within border (SetMaxLatency node latency) book = is_slave_within border (slave_place node book)
-changes_within border _ book = false
-
 -- the place of the configured master that has the processor of this kind
 abbrev pub owner_by : Kind → State → Option ℕ
 owner_by (Proc p) book = owner_at (in_force book) book.fixed.topology p
@@ -38,11 +30,23 @@ owner_by (Slave s) book = None
 owner_by (Power w) book = None
 owner_by Unknown book = None
 
--- an event is hidden where its caller is within reach or isn't configured, where it changes a row on a slave within reach, and
--- where the owner of its processor is within reach, or nobody is
+-- the call changes a row on a slave within reach, or wakes a processor whose owner is within reach or that nobody has
+abbrev pub changes_within : Border → Call → State → Bool
+changes_within border (RequestWakeup node address ack) book =
+    is_within border (owner_by (kind_of book.fixed.topology node) book)
+changes_within border (RequestNode node caps ack) book = is_slave_within border (slave_place node book)
+changes_within border (ReleaseNode node) book = is_slave_within border (slave_place node book)
+changes_within border (SetRequirement node caps ack) book = is_slave_within border (slave_place node book)
+changes_within border (SetMaxLatency node latency) book = is_slave_within border (slave_place node book)
+changes_within border _ book = false
+
+-- an event is hidden where its caller is within reach or isn't configured, where it changes what is within reach, where the
+-- owner of its processor is within reach or nobody is; and the interrupt of a slave is hidden where no master is beyond
 abbrev pub is_hidden : Border → Event → State → Bool
 is_hidden border (Ipi master message) book =
     is_within border (master_place master book) || changes_within border (call_of message) book
 is_hidden border (Boot proc address) book = is_within border (owner_by (kind_of book.fixed.topology proc) book)
 is_hidden border (Wfi proc) book = is_within border (owner_by (kind_of book.fixed.topology proc) book)
+is_hidden border (Gic proc) book = is_within border (owner_by (kind_of book.fixed.topology proc) book)
+is_hidden border (Irq slave) book = not border.some
 is_hidden border _ book = true

@@ -1,31 +1,43 @@
 //! Laws of two books that agree beyond a border.
 
 ghost use Rattle.std.specs.List.{AllByRecursion as Each};
-ghost use Rattle.std.specs.Prelude.{◌≡◌, ℕ, List, [], ◌∷◌, true, false};
+ghost use Rattle.std.specs.Prelude.{◌≡◌, ℕ, List, [], ◌∷◌, true, false, Some, None};
 ghost use Rattle.pm_core.specs.Prims.{Prim, changed};
 ghost use Rattle.pm_base.specs.declared.events.Event.{Event};
-ghost use Rattle.pm_base.specs.declared.events.Event.TheVariants.{Ipi};
+ghost use Rattle.pm_base.specs.declared.events.Event.TheVariants.{Ipi, Pass};
 ghost use Rattle.pm_base.specs.declared.events.Message.{Message};
 ghost use Rattle.pm_base.specs.declared.names.NodeId.{NodeId};
+ghost use Rattle.pm_base.specs.declared.names.Unit.{Unit};
 ghost use Rattle.pm_object.specs.declared.object.Object.{Object};
+ghost use Rattle.pm_object.specs.Grammar.{IsObject};
+ghost use Rattle.pm_procs.specs.Procs.{mode_at};
+ghost use Rattle.pm_topology.specs.Places.{kind_of};
+ghost use Rattle.pm_topology.specs.declared.places.Kind.TheVariants.{Proc};
 ghost use Rattle.pm_topology.specs.declared.topology.Topology.{Topology};
+ghost use Rattle.pm_topology.specs.WellFormed.{IsWellFormed};
 ghost use Rattle.pm_rows.specs.Wanted.{wanted_of};
 ghost use Rattle.pm_core.specs.Load.{load_of};
 ghost use Rattle.pm_core.specs.Members.{mode_of_master};
+ghost use Rattle.pm_core.specs.Run.{Setup, run};
 ghost use Rattle.pm_core.specs.Sound.{IsSound, KnowsModes};
 ghost use Rattle.pm_core.specs.Stages.{after_stage, after_stages, follow, path_from};
 ghost use Rattle.pm_core.specs.State.{State};
-ghost use Rattle.pm_core.specs.Step.{effect, stages};
-ghost use Rattle.pm_core.specs.Values.{master_place, slave_place};
-ghost use Rattle.pm_core.specs.Views.{proc_view, row_view};
+ghost use Rattle.pm_core.specs.Step.{effect, outputs, stages};
+ghost use Rattle.pm_core.specs.Values.{master_place, slave_place, value};
+ghost use Rattle.pm_core.specs.Views.{proc_view, row_view, wake_view};
 ghost use Rattle.pm_laws.specs.Agree.{Agree};
-ghost use Rattle.pm_laws.specs.Border.{Border, IsBeyond, IsClosed};
+ghost use Rattle.pm_laws.specs.Border.{Border, IsBeyond, IsClosed, unit_beyond};
 ghost use Rattle.pm_laws.specs.Both.{Both};
-ghost use Rattle.pm_laws.specs.Hidden.{is_hidden, is_slave_within, is_within};
+ghost use Rattle.pm_laws.specs.Hidden.{is_hidden, is_slave_within, is_within, owner_by};
+ghost use Rattle.pm_laws.specs.Quiet.{AreRunsAlike, quiet};
+ghost use Rattle.pm_laws.specs.ReachBorder.{IsAllBeyond, IsBorderOf, border_of, place_of};
 ghost use Rattle.pm_laws.specs.Seen.{seen, seen_part, IsUnseen, AreAlike, AreHidden};
+ghost use Rattle.pm_laws.specs.Values.{HaveValuesAlike, is_beyond, starts_beyond};
 
-use pm_core::{books_stay_sound, members_are_owned};
+use pm_core::{books_of_a_run, books_stay_sound, members_are_owned};
+use pm_reach::{masters_within, parents_within, reach_is_decided, units_within};
 use pm_rows::shifts_leave_others;
+use pm_topology::kinds_are_exact;
 
 /// A sound book agrees with itself beyond each closed border, as the book at load does; two books that agree do so either way, and
 /// so do two that agree with a third one.
@@ -94,8 +106,8 @@ pub fn paths_agree()
 }
 
 /// What a master beyond sees in two books that agree is equal: its row on a slave beyond, with the other
-/// master that uses the slave, and its own processors. So is what is wanted of a slave beyond, where any
-/// master is beyond.
+/// master that uses the slave, and its own processors. So is what any master sees of a processor that it wants
+/// to wake, whose owner is beyond; and what is wanted of a slave beyond, where any master is beyond.
 pub fn views_agree()
     ensures row { (border : Border) (m : ℕ) (node : NodeId) (a b : State)
         → IsClosed a.fixed.object a.fixed.topology border → IsBeyond border m
@@ -103,8 +115,22 @@ pub fn views_agree()
         → Agree border a b → row_view m node a ≡ row_view m node b }
     ensures proc { (border : Border) (m : ℕ) (node : NodeId) (a b : State) → IsBeyond border m
         → Agree border a b → proc_view m node a ≡ proc_view m node b }
+    ensures wake { (border : Border) (m : ℕ) (node : NodeId) (a b : State)
+        → is_within border (owner_by (kind_of a.fixed.topology node) a) ≡ false
+        → Agree border a b → wake_view m node a ≡ wake_view m node b }
     ensures wanted { (border : Border) (s : ℕ) (a b : State) → border.some ≡ true → border.slave s ≡ true
         → Agree border a b → wanted_of s a.now.core.rows ≡ wanted_of s b.now.core.rows }
+{}
+
+/// A unit beyond has the same value in two books that agree: a slave, a power node, a processor of a master beyond or of
+/// nobody; and a processor has the same mode.
+pub fn values_agree()
+    ensures values { (border : Border) (unit : Unit) (a b : State) → IsClosed a.fixed.object a.fixed.topology border
+        → is_beyond a.fixed.object a.fixed.topology border unit ≡ true
+        → Agree border a b → value unit a ≡ value unit b }
+    ensures modes { (border : Border) (p : ℕ) (a b : State)
+        → unit_beyond a.fixed.object a.fixed.topology border (Proc p) ≡ true
+        → Agree border a b → mode_at p a.now.core.procs ≡ mode_at p b.now.core.procs }
 {}
 
 /// An event keeps two sound books in agreement beyond each closed border, whether it does the same in both
@@ -114,13 +140,75 @@ pub fn steps_agree()
     ensures both { (border : Border) (event : Event) (a b : State)
         → IsClosed a.fixed.object a.fixed.topology border → IsSound a → IsSound b
         → Agree border a b → Agree border (effect event a) (effect event b) }
-    ensures hidden { (border : Border) (event : Event) (a b : State) → IsSound b
+    ensures hidden { (border : Border) (event : Event) (a b : State)
+        → IsClosed a.fixed.object a.fixed.topology border → IsSound b
         → is_hidden border event a ≡ true → Agree border a b → Agree border (effect event a) b }
     ensures messages { (border : Border) (master : NodeId) (message : Message) (book : State)
         → is_within border (master_place master book) ≡ true → is_hidden border (Ipi master message) book ≡ true }
     ensures stages { (border : Border) (event : Event) (book : State)
+        → IsClosed book.fixed.object book.fixed.topology border
         → is_hidden border event book ≡ true → AreHidden border (stages event book) }
 {
     shifts_leave_others();
     members_are_owned();
+}
+
+/// The same processors beyond start in two books that agree, at the same addresses, whether an event does the same in
+/// both or is hidden; and a hidden event starts none of them that a step in which nothing happens doesn't.
+pub fn starts_agree()
+    ensures both { (border : Border) (event : Event) (a b : State)
+        → IsClosed a.fixed.object a.fixed.topology border → IsSound a → IsSound b → Agree border a b
+        → starts_beyond a.fixed.object a.fixed.topology border (outputs event a).starts
+        ≡ starts_beyond a.fixed.object a.fixed.topology border (outputs event b).starts }
+    ensures hidden { (border : Border) (event : Event) (a b : State)
+        → IsClosed a.fixed.object a.fixed.topology border → IsSound b
+        → is_hidden border event a ≡ true → Agree border a b
+        → starts_beyond a.fixed.object a.fixed.topology border (outputs event a).starts
+        ≡ starts_beyond a.fixed.object a.fixed.topology border (outputs Pass b).starts }
+{
+    shifts_leave_others();
+    members_are_owned();
+}
+
+/// Over a well-formed object and a chip that passes its check the border of the reach of a master is closed, and it is
+/// no narrower and no wider than that reach. The master itself is within; where it isn't configured, nothing is.
+pub fn reach_is_closed()
+    ensures closed { (object : Object) (t : Topology) (m : NodeId) → IsObject object → IsWellFormed t
+        → IsClosed object t (border_of object t m) }
+    ensures exact { (object : Object) (t : Topology) (m : NodeId) (from : ℕ) → place_of object m ≡ Some from
+        → IsBorderOf object t from (border_of object t m) }
+    ensures unconfigured { (object : Object) (t : Topology) (m : NodeId) → place_of object m ≡ None
+        → IsAllBeyond object (border_of object t m) }
+    ensures own { (m : NodeId) (book : State)
+        → is_within (border_of book.fixed.object book.fixed.topology m) (master_place m book) ≡ true }
+{
+    masters_within();
+    units_within();
+    parents_within();
+    reach_is_decided();
+    kinds_are_exact();
+}
+
+/// Nothing that a master sends changes what is beyond its reach: two books that agree there agree after an event in both,
+/// and after a message of the master in the one and nothing in the other. So a run, and the run without the messages of
+/// the master, have books that agree beyond its reach after each step, and each unit beyond has the same value in both.
+pub fn reach_keeps_apart()
+    ensures event { (m : NodeId) (event : Event) (a b : State) → IsObject a.fixed.object → IsWellFormed a.fixed.topology
+        → IsSound a → IsSound b
+        → Agree (border_of a.fixed.object a.fixed.topology m) a b
+        → Agree (border_of a.fixed.object a.fixed.topology m) (effect event a) (effect event b) }
+    ensures message { (m : NodeId) (message : Message) (a b : State) → IsObject a.fixed.object
+        → IsWellFormed a.fixed.topology → IsSound a → IsSound b
+        → Agree (border_of a.fixed.object a.fixed.topology m) a b
+        → Agree (border_of a.fixed.object a.fixed.topology m) (effect (Ipi m message) a) (effect Pass b) }
+    ensures books { (c : Setup) (m : NodeId) (events : List Event) → IsObject c.object → IsWellFormed c.topology
+        → AreRunsAlike (border_of c.object c.topology m) (run c events) (run c (quiet m events)) }
+    ensures values { (c : Setup) (m : NodeId) (events : List Event) → IsObject c.object → IsWellFormed c.topology
+        → HaveValuesAlike c.object c.topology (border_of c.object c.topology m) (run c events) (run c (quiet m events)) }
+{
+    reach_is_closed();
+    steps_agree();
+    values_agree();
+    books_agree();
+    books_of_a_run();
 }

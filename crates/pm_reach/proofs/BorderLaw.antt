@@ -40,7 +40,7 @@ some_found {X} p (x ∷ xs) e = at (p x) refl e (some_found p xs)
     at true here e later = (x, rw here refl)
     at false here e later = let found = later e in (found.0, rw here found.1)
 
-yes : (b : Bool) (why : Why) → b ≡ true → cond b (Some why) None ≡ Some why
+pub yes : (b : Bool) (why : Why) → b ≡ true → cond b (Some why) None ≡ Some why
 yes b why e = rw e refl
 
 module _ (object : Object) (t : Topology) (from a : ℕ) (r : Reaches object t from a) where

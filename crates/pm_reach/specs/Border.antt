@@ -6,11 +6,13 @@ use Rattle.pm_base.specs.declared.names.Unit.{Unit}
 use Rattle.pm_base.specs.declared.names.Unit.TheVariants.{Node, Line}
 use Rattle.pm_object.specs.declared.object.Object.{Object}
 use Rattle.pm_topology.specs.declared.topology.LineDef.{LineDef}
+use Rattle.pm_topology.specs.declared.topology.PowerDef.{PowerDef}
 use Rattle.pm_topology.specs.declared.topology.ProcDef.{ProcDef}
 use Rattle.pm_topology.specs.declared.topology.SlaveDef.{SlaveDef}
 use Rattle.pm_topology.specs.declared.topology.Topology.{Topology}
 use Rattle.pm_topology.specs.declared.places.Kind.TheVariants as kinds
 use Rattle.pm_topology.specs.Places.{is_below, kind_of}
+use Rattle.pm_topology.specs.WellFormed.{IsWellFormed}
 use Rattle.pm_perms.specs.Permits.{may_configure, may_reset, may_shut, may_suspend, may_use, may_wake}
 use Rattle.pm_reach.specs.declared.members.MemberKind.{MemberKind}
 use Rattle.pm_reach.specs.declared.members.MemberKind.TheVariants as members
@@ -80,4 +82,24 @@ pub record IsClosedToUnits : Type 0 where
       → kind_of t s.node ≡ kinds.Slave j
       → IsIn o t from members.Slave (Node s.node)
       → IsTrue (is_below t w s.node)
+      → IsIn o t from members.Power (Node n)
+
+-- it is closed upwards: in a well-formed topology the power node directly above a processor of a master within, a slave
+-- within or a power node within is within
+pub record IsClosedUpwards : Type 0 where
+  pub proc : (o : Object) (t : Topology) (from a : ℕ) → IsWellFormed t → Reaches o t from a
+      → (k : ℕ) (p : ProcDef) (n : NodeId) → slice_get t.procs k ≡ Some p
+      → IsTrue (owns o t a p.node)
+      → kind_of t n ≡ kinds.Power p.parent
+      → IsIn o t from members.Power (Node n)
+  pub slave : (o : Object) (t : Topology) (from : ℕ) → IsWellFormed t
+      → (k : ℕ) (s : SlaveDef) (n : NodeId) → slice_get t.slaves k ≡ Some s
+      → IsIn o t from members.Slave (Node s.node)
+      → kind_of t n ≡ kinds.Power s.parent
+      → IsIn o t from members.Power (Node n)
+  pub power : (o : Object) (t : Topology) (from : ℕ) → IsWellFormed t
+      → (w v : ℕ) (power : PowerDef) (n : NodeId) → slice_get t.powers w ≡ Some power
+      → power.parent ≡ Some v
+      → IsIn o t from members.Power (Node power.node)
+      → kind_of t n ≡ kinds.Power v
       → IsIn o t from members.Power (Node n)

@@ -60,12 +60,14 @@ brings_power object t a w = is_above_proc object t a w || is_above_slave object 
 
 -- ---- units
 
+-- why the master at place a brings in a node as a slave: none where its kind is another
 abbrev pub brings_as_slave : Object → Topology → ℕ → NodeId → Kind → Option Why
 brings_as_slave object t a node (kinds.Slave k) = brings_slave object t a node
 brings_as_slave object t a node (kinds.Proc k) = None
 brings_as_slave object t a node (kinds.Power k) = None
 brings_as_slave object t a node kinds.Unknown = None
 
+-- why it brings in a node as a power node: none where its kind is another
 abbrev pub brings_as_power : Object → Topology → ℕ → Kind → Option Why
 brings_as_power object t a (kinds.Power w) = if brings_power object t a w then Some Above else None
 brings_as_power object t a (kinds.Proc k) = None

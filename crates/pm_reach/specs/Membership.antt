@@ -42,9 +42,10 @@ master_members object routes = filter_map (master_member object routes) (range_w
 
 -- ---- slaves, power nodes and lines
 
-abbrev pub number_of : Unit → ℕ
-number_of (Node node) = node.0
-number_of (Line line) = line.0
+-- the number of a node or a reset line
+abbrev pub unit_number : Unit → ℕ
+unit_number (Node node) = node.0
+unit_number (Line line) = line.0
 
 -- a unit is a member where a master of the reach brings it in: with the path of the first one that does, by the order
 -- of paths, and that one's first reason
@@ -52,7 +53,7 @@ abbrev pub unit_member : Object → Topology → MemberKind → Unit → List Ro
 unit_member object t kind unit [] = None
 unit_member object t kind unit (r ∷ routes) =
     option_or
-    (option_map (λ why. member_by object kind (number_of unit) why r) (brings object t kind unit r.end))
+    (option_map (λ why. member_by object kind (unit_number unit) why r) (brings object t kind unit r.end))
     (unit_member object t kind unit routes)
 
 -- the members of a kind by number

@@ -25,6 +25,7 @@ fn is_line_of(slave: NodeId, line: &LineDef) -> bool
     }
 }
 
+/// Whether a master may reset a line whose target is this slave.
 fn resets_slave(object: &Object, t: &Topology, master: NodeId, slave: NodeId) -> bool
     ensures { result ≡ spec.resets_slave object.now t.now master slave }
 {
@@ -72,6 +73,7 @@ fn is_above_slave(object: &Object, t: &Topology, a: usize, w: usize) -> bool
         && t.below(w, slave.node))
 }
 
+/// Why the master at place `a` brings in a node as a member of a kind.
 fn brings_node(
     object: &Object,
     t: &Topology,
@@ -88,6 +90,7 @@ fn brings_node(
     }
 }
 
+/// Why the master at place `a` brings in the power node at place `w`.
 fn brings_power(object: &Object, t: &Topology, a: usize, w: usize) -> Option<Why>
     requires { w < length t.now.powers }
     ensures { result ≡ spec.brings_as_power object.now t.now a (Power w) }

@@ -75,6 +75,7 @@ fn forces_proc(object: &Object, t: &Topology, master: NodeId, proc: NodeId) -> b
     may_force(object, t, master, proc) || forces_above(object, t, master, proc)
 }
 
+/// Whether a master may force a processor of the one at place `b`, or a power node above one.
 fn forces_a_proc(object: &Object, t: &Topology, master: NodeId, b: usize) -> bool
     ensures { result ≡ spec.forces_a_proc object.now t.now master b }
 {
@@ -82,6 +83,7 @@ fn forces_a_proc(object: &Object, t: &Topology, master: NodeId, b: usize) -> boo
         && forces_proc(object, t, master, proc.node))
 }
 
+/// Whether a master may force a power node above a slave that another may use.
 fn forces_a_slave(object: &Object, t: &Topology, master: NodeId, user: NodeId) -> bool
     ensures { result ≡ spec.forces_a_slave object.now t.now master user }
 {
@@ -89,6 +91,7 @@ fn forces_a_slave(object: &Object, t: &Topology, master: NodeId, user: NodeId) -
         && forces_above(object, t, master, slave.node))
 }
 
+/// Whether a master may reset a line whose target is a processor of the one at place `b`.
 fn resets_a_proc(object: &Object, t: &Topology, master: NodeId, b: usize) -> bool
     ensures { result ≡ spec.resets_a_proc object.now t.now master b }
 {

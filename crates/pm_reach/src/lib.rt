@@ -9,5 +9,6 @@ pub mod members;
 pub mod membership;
 pub mod routes;
 
+pub use laws::{masters_within, parents_within, reach_is_decided, units_within};
 pub use members::{Member, MemberKind, Reach, Why};
 pub use membership::reach;

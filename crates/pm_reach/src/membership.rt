@@ -101,6 +101,7 @@ fn nodes_of(alloc: Global, object: &Object, path: &[usize]) -> Result<List<NodeI
     Ok(nodes)
 }
 
+/// A member, with the path that leads to it.
 fn member_by(
     alloc: Global,
     object: &Object,
@@ -144,6 +145,7 @@ fn master_member(
     Ok(None)
 }
 
+/// Puts in the masters.
 fn push_masters(
     alloc: Global,
     object: &Object,
@@ -160,8 +162,9 @@ fn push_masters(
     Ok(())
 }
 
-fn number_of(unit: Unit) -> u32
-    ensures { result ≡ spec.number_of unit }
+/// The number of a node or a reset line.
+fn unit_number(unit: Unit) -> u32
+    ensures { result ≡ spec.unit_number unit }
 {
     match unit {
         Unit::Node(node) => node.0,
@@ -182,7 +185,7 @@ fn unit_member(
 {
     for route in routes {
         if let Some(why) = brings(object, t, kind, unit, route.end) {
-            return Ok(Some(member_by(alloc, object, kind, number_of(unit), why, route)?));
+            return Ok(Some(member_by(alloc, object, kind, unit_number(unit), why, route)?));
         }
     }
     Ok(None)

@@ -1,0 +1,266 @@
+-- The border of a reach is closed.
+use Rattle.std.proofs.Common.{◌≡◌, ℕ, ◌<◌, ◌&&◌, ◌||◌, ◌==◌, Bool, true, false, not, zero, suc, List, [], ◌∷◌, length, slice_get, position, Option, Some, None, refl, ap, sym, ◌∙◌, arith}
+use Rattle.std.specs.Prelude.{option_and_then}
+use Rattle.std.specs.Option.{option_map, option_map_or}
+use Rattle.std.specs.List.{AllByRecursion as Each}
+use Rattle.std.proofs.lemmas.List.Elements.{All-from_recursion}
+use Rattle.std.proofs.lemmas.Option.{slice_get_within}
+use Rattle.pm_base.specs.declared.names.LineId.{LineId}
+use Rattle.pm_base.specs.declared.names.NodeId.{NodeId}
+use Rattle.pm_base.specs.declared.names.Unit.TheVariants.{Node, Line}
+use Rattle.pm_base.proofs.Booleans.{equal}
+use Rattle.pm_base.proofs.Options.{holds_of}
+use Rattle.pm_base.proofs.Searches.{position-first}
+use Rattle.pm_object.specs.declared.object.MasterRec.{MasterRec}
+use Rattle.pm_object.specs.declared.object.Object.{Object}
+use Rattle.pm_object.specs.Grammar.{IsObject}
+use Rattle.pm_topology.specs.declared.places.Kind.{Kind}
+use Rattle.pm_topology.specs.declared.places.Kind.TheVariants as kinds
+use Rattle.pm_topology.specs.declared.topology.LineDef.{LineDef}
+use Rattle.pm_topology.specs.declared.topology.PowerDef.{PowerDef}
+use Rattle.pm_topology.specs.declared.topology.ProcDef.{ProcDef}
+use Rattle.pm_topology.specs.declared.topology.SlaveDef.{SlaveDef}
+use Rattle.pm_topology.specs.declared.topology.Topology.{Topology}
+use Rattle.pm_topology.specs.Places.{kind_of}
+use Rattle.pm_topology.specs.WellFormed.{IsWellFormed}
+use Rattle.pm_perms.specs.Owner.{has_processor, owner}
+use Rattle.pm_perms.specs.Permits.{may_configure, may_reset, may_shut, may_suspend, may_use, may_wake}
+use Rattle.pm_reach.specs.declared.members.MemberKind.{MemberKind}
+use Rattle.pm_reach.specs.declared.members.MemberKind.TheVariants as members
+use Rattle.pm_reach.specs.Border.{Reaches}
+use Rattle.pm_reach.specs.Leads.{forces_above, forces_proc, node_at, owns, targets}
+use Rattle.pm_rows.specs.declared.row.RowSeed.{RowSeed}
+use Rattle.pm_core.specs.Members.{owner_at}
+use Rattle.pm_core.specs.Pairs.{pairs_of}
+use Rattle.pm_core.specs.Views.{master_node}
+use Rattle.pm_laws.specs.Border.{Border, IsBeyond, IsClosed, IsPairClosed, node_beyond, none_within, unit_beyond}
+use Rattle.pm_laws.specs.ReachBorder.{border_of, brings_in, entry_beyond, master_beyond, number_beyond, place_of, unit_border}
+use Rattle.pm_laws.proofs.PairsLaw.{IsPermitted, pairs_permitted, permitted_use}
+use Rattle.pm_laws.proofs.Records.{configures_there, forces_above_there, forces_there, record_place, resets_there, same_node, shuts_there, suspends_there, wakes_there}
+use Rattle.pm_laws.proofs.WithinReach.{ReachLaws, Starts, beyond_parts, lead, lead_in, lead_up, master_by, master_by_unit, unit_by}
+
+entry_there : {X : Type 0} (xs : List X) (k : ℕ) → k < length xs → (x : X) × (slice_get xs k ≡ Some x)
+entry_there [] k within = absurd (omega arith)
+entry_there (x ∷ xs) zero within = (x, refl)
+entry_there (x ∷ xs) (suc k) within = entry_there xs k (omega arith)
+
+-- the border of the reach from a place, with these numbers of nodes
+abbrev pub edge : Object → Topology → Option ℕ → Border
+edge object t from = unit_border object t from (number_beyond object t from)
+
+module _ (laws : ReachLaws) (object : Object) (t : Topology) (formed : IsObject object) (well : IsWellFormed t) (from : Option ℕ) (starts : Starts object from) where
+  abbrev masters : ℕ
+  masters = length object.masters
+
+  abbrev number : ℕ → NodeId
+  number m = master_node object.masters m
+
+  abbrev border : Border
+  border = edge object t from
+
+  -- the same permission by the other way to say a master's number
+  by_number : (may : NodeId → Bool) (m : ℕ) → may (number m) ≡ true → may (node_at object m) ≡ true
+  by_number may m e = ap may (same_node object m) ∙ e
+
+  by_numbers : (may : NodeId → NodeId → Bool) (m k : ℕ) → may (number m) (number k) ≡ true → may (node_at object m) (node_at object k) ≡ true
+  by_numbers may m k e = by_number (λ n. may n (node_at object k)) m (by_number (may (number m)) k e)
+
+  -- ---- from master to master
+
+  leads : (m k : ℕ) → m < masters
+      → (k < masters → (f : ℕ) → Reaches object t f m → Reaches object t f k)
+      → IsBeyond border k
+      → IsBeyond border m
+  leads m k there on beyond =
+      let parts = beyond_parts laws object t from starts k beyond in
+      master_by laws object t from starts m k there (lead object t from m k (on parts.0)) beyond
+
+  suspends : (m k : ℕ) → may_suspend object t (number m) (number k) ≡ true → IsBeyond border k → IsBeyond border m
+  suspends m k may beyond =
+      leads m k (record_place object formed m (suspends_there object t (number m) (number k) may))
+      (λ there f r. laws.masters.suspended object t f m r k there (by_numbers (may_suspend object t) m k may)) beyond
+
+  wakes : (m k : ℕ) → may_wake object t (number m) (number k) ≡ true → IsBeyond border k → IsBeyond border m
+  wakes m k may beyond =
+      leads m k (record_place object formed m (wakes_there object t (number m) (number k) may))
+      (λ there f r. laws.masters.woken object t f m r k there (by_numbers (may_wake object t) m k may)) beyond
+
+  owner_is : (p k : ℕ) (proc : ProcDef) → slice_get t.procs p ≡ Some proc → owner_at object t p ≡ Some k → owner object t proc.node ≡ Some k
+  owner_is p k proc is own = sym (ap (λ o. option_and_then (λ (proc : ProcDef). owner object t proc.node) o) is) ∙ own
+
+  owned : (p k : ℕ) (proc : ProcDef) → slice_get t.procs p ≡ Some proc → owner_at object t p ≡ Some k → owns object t k proc.node ≡ true
+  owned p k proc is own = ap (λ o. option_map_or (λ (j : ℕ). j == k) o false) (owner_is p k proc is own) ∙ equal k k refl
+
+  forces : (m k p : ℕ) (proc : ProcDef) → slice_get t.procs p ≡ Some proc
+      → forces_proc object t (number m) proc.node ≡ true
+      → owner_at object t p ≡ Some k → IsBeyond border k → IsBeyond border m
+  forces m k p proc is may own beyond =
+      leads m k (record_place object formed m (forces_there object t (number m) proc.node may))
+      (λ there f r. laws.masters.forced object t f m r k there p proc is (owned p k proc is own) (by_number (λ n. forces_proc object t n proc.node) m may)) beyond
+
+  clears : (m k s : ℕ) (slave : SlaveDef) → slice_get t.slaves s ≡ Some slave
+      → forces_above object t (number m) slave.node ≡ true
+      → may_use object t (number k) slave.node ≡ true → IsBeyond border k → IsBeyond border m
+  clears m k s slave is may use_ beyond =
+      leads m k (record_place object formed m (forces_above_there object t (number m) slave.node may))
+      (λ there f r. laws.masters.user object t f m r k there s slave is
+      (by_number (λ n. may_use object t n slave.node) k use_) (by_number (λ n. forces_above object t n slave.node) m may)) beyond
+
+  resets : (m k l : ℕ) (line : LineDef) → slice_get t.lines l ≡ Some line
+      → may_reset object t (number m) line.line ≡ true
+      → targets object t line k ≡ true → IsBeyond border k → IsBeyond border m
+  resets m k l line is may target beyond =
+      leads m k (record_place object formed m (resets_there object t (number m) line.line may))
+      (λ there f r. laws.masters.reset object t f m r k there l line is target (by_number (λ n. may_reset object t n line.line) m may)) beyond
+
+  -- some master beyond, where any is
+  one_beyond : border.some ≡ true → (k : ℕ) × IsBeyond border k
+  one_beyond e = let found = (laws.tests.some object (master_beyond object t from)).0 e in (found.0, found.2)
+
+  shuts : (m : ℕ) → (may_shut object t (number m) 1 || may_shut object t (number m) 2) ≡ true → border.some ≡ true → IsBeyond border m
+  shuts m may e =
+      let one = one_beyond e in
+      leads m one.0 (record_place object formed m (shuts_there object t (number m) may))
+      (λ there f r. laws.masters.shut object t f m r one.0 there (by_number (λ n. may_shut object t n 1 || may_shut object t n 2) m may)) one.1
+
+  configures : (m : ℕ) → may_configure object t (number m) ≡ true → border.some ≡ true → IsBeyond border m
+  configures m may e =
+      let one = one_beyond e in
+      leads m one.0 (record_place object formed m (configures_there object t (number m) may))
+      (λ there f r. laws.masters.configured object t f m r one.0 there (by_number (may_configure object t) m may)) one.1
+
+  -- ---- from masters to units
+
+  -- an entry of a table that is beyond
+  entry_is : (kind : MemberKind) (got : Option NodeId) (node : NodeId) → got ≡ Some node → entry_beyond object t from kind got ≡ true
+      → not (brings_in object t from kind (Node node)) ≡ true
+  entry_is kind got node is e = ap (entry_beyond object t from kind) (sym is) ∙ e
+
+  is_entry : (kind : MemberKind) (got : Option NodeId) (node : NodeId) → got ≡ Some node → not (brings_in object t from kind (Node node)) ≡ true
+      → entry_beyond object t from kind got ≡ true
+  is_entry kind got node is e = ap (entry_beyond object t from kind) is ∙ e
+
+  slave_node : (s : ℕ) (slave : SlaveDef) → slice_get t.slaves s ≡ Some slave → option_map (λ (slave : SlaveDef). slave.node) (slice_get t.slaves s) ≡ Some slave.node
+  slave_node s slave is = ap (λ o. option_map (λ (slave : SlaveDef). slave.node) o) is
+
+  power_node : (w : ℕ) (power : PowerDef) → slice_get t.powers w ≡ Some power → option_map (λ (power : PowerDef). power.node) (slice_get t.powers w) ≡ Some power.node
+  power_node w power is = ap (λ o. option_map (λ (power : PowerDef). power.node) o) is
+
+  power_beyond : (w : ℕ) (power : PowerDef) → slice_get t.powers w ≡ Some power → border.power w ≡ true → not (brings_in object t from members.Power (Node power.node)) ≡ true
+  power_beyond w power is e = entry_is members.Power _ power.node (power_node w power is) e
+
+  power_kind : (w : ℕ) (power : PowerDef) → slice_get t.powers w ≡ Some power → kind_of t power.node ≡ kinds.Power w
+  power_kind w power is = sym (laws.kinds.alone t power.node (kinds.Power w) well (power, is, refl))
+
+  pair_closed : (pair : RowSeed) → IsPermitted object t pair → IsPairClosed border pair
+  pair_closed pair permitted e =
+      let slave = permitted.slave in
+      let kind : kind_of t slave.node ≡ kinds.Slave pair.slave = sym (laws.kinds.alone t slave.node (kinds.Slave pair.slave) well (slave, permitted.there, refl)) in
+      master_by_unit laws object t from starts pair.master members.Slave (Node slave.node)
+      (slice_get_within object.masters pair.master permitted.master permitted.configured)
+      (lead_in object t from pair.master members.Slave (Node slave.node)
+      (λ f r. laws.units.used object t f pair.master r slave.node pair.slave kind (permitted_use object t formed pair permitted)))
+      (entry_is members.Slave _ slave.node (slave_node pair.slave slave permitted.there) e)
+
+  pairs_closed : (pairs : List RowSeed) → Each (IsPermitted object t) pairs → Each (IsPairClosed border) pairs
+  pairs_closed [] each = tt
+  pairs_closed (pair ∷ pairs) each = (pair_closed pair each.0, pairs_closed pairs each.1)
+
+  lines : (m : ℕ) (line : LineId) → may_reset object t (number m) line ≡ true → border.line line.0 ≡ true → IsBeyond border m
+  lines m line may e =
+      master_by_unit laws object t from starts m members.Line (Line line)
+      (record_place object formed m (resets_there object t (number m) line may))
+      (lead_in object t from m members.Line (Line line)
+      (λ f r. laws.units.line object t f m r line (by_number (λ n. may_reset object t n line) m may))) e
+
+  owner_within : (p m : ℕ) (proc : ProcDef) → slice_get t.procs p ≡ Some proc → owner_at object t p ≡ Some m → m < masters
+  owner_within p m proc is own =
+      let test : MasterRec → Bool = λ r. has_processor t r.node proc.node in
+      let first = position-first test object.masters m (owner_is p m proc is own) in
+      slice_get_within object.masters m first.element first.here
+
+  -- ---- below a power node
+
+  procs : (p m : ℕ) (proc : ProcDef) → slice_get t.procs p ≡ Some proc → border.power proc.parent ≡ true
+      → owner_at object t p ≡ Some m → IsBeyond border m
+  procs p m proc is e own =
+      let entry = entry_there t.powers proc.parent (well.proc_parents p proc is) in
+      let power = entry.0 in
+      master_by_unit laws object t from starts m members.Power (Node power.node) (owner_within p m proc is own)
+      (lead_in object t from m members.Power (Node power.node)
+      (λ f r. laws.parents.proc object t f m well r p proc power.node is (owned p m proc is own) (power_kind proc.parent power entry.1)))
+      (power_beyond proc.parent power entry.1 e)
+
+  slaves : (s : ℕ) (slave : SlaveDef) → slice_get t.slaves s ≡ Some slave → border.power slave.parent ≡ true → border.slave s ≡ true
+  slaves s slave is e =
+      let entry = entry_there t.powers slave.parent (well.slave_parents s slave is) in
+      let power = entry.0 in
+      is_entry members.Slave _ slave.node (slave_node s slave is)
+      (unit_by laws object t from starts members.Slave members.Power (Node slave.node) (Node power.node)
+      (lead_up object t from members.Slave members.Power (Node slave.node) (Node power.node)
+      (λ f within. laws.parents.slave object t f well s slave power.node is within (power_kind slave.parent power entry.1)))
+      (power_beyond slave.parent power entry.1 e))
+
+  powers : (w v : ℕ) (power : PowerDef) → slice_get t.powers w ≡ Some power → power.parent ≡ Some v
+      → border.power v ≡ true → border.power w ≡ true
+  powers w v power is up e =
+      let lower : v < w = (let P : ℕ → Type 0 = λ u. u < w in holds_of P power.parent v up (well.power_parents w power is)) in
+      let within = slice_get_within t.powers w power is in
+      let entry = entry_there t.powers v (omega arith) in
+      let above = entry.0 in
+      is_entry members.Power _ power.node (power_node w power is)
+      (unit_by laws object t from starts members.Power members.Power (Node power.node) (Node above.node)
+      (lead_up object t from members.Power members.Power (Node power.node) (Node above.node)
+      (λ f within. laws.parents.power object t f well w v power above.node is up within (power_kind v above entry.1)))
+      (power_beyond v above entry.1 e))
+
+  -- ---- numbers of nodes
+
+  abbrev plain : Border
+  plain = unit_border object t from (λ other. true)
+
+  none_same : (place : Option ℕ) → none_within plain place ≡ none_within border place
+  none_same None = refl
+  none_same (Some m) = refl
+
+  unit_same : (kind : Kind) → unit_beyond object t plain kind ≡ unit_beyond object t border kind
+  unit_same (kinds.Proc p) = none_same (owner_at object t p)
+  unit_same (kinds.Slave s) = refl
+  unit_same (kinds.Power w) = refl
+  unit_same kinds.Unknown = refl
+
+  nodes : (node : NodeId) → border.node node.0 ≡ node_beyond object t border node
+  nodes node =
+      let place = position (λ (master : MasterRec). master.node == node.0) object.masters in
+      ap (λ b. b && none_within plain place) (unit_same (kind_of t node)) ∙ ap (λ b. unit_beyond object t border (kind_of t node) && b) (none_same place)
+
+  pub edge_closed : IsClosed object t border
+  edge_closed = record {
+    users = All-from_recursion (IsPairClosed border) (pairs_of object t) (pairs_closed (pairs_of object t) (pairs_permitted object t));
+    slaves = slaves;
+    procs = procs;
+    powers = powers;
+    nodes = nodes;
+    suspends = suspends;
+    wakes = wakes;
+    forces = forces;
+    clears = clears;
+    resets = resets;
+    lines = lines;
+    shuts = shuts;
+    configures = configures;
+    some = λ m e. (laws.tests.some object (master_beyond object t from)).1 (m, (beyond_parts laws object t from starts m e).0, e);
+  }
+
+-- ---- the reach of a master with a number
+
+pub place_starts : (object : Object) (m : NodeId) (got : Option ℕ) → place_of object m ≡ got → Starts object got
+place_starts object m None is = tt
+place_starts object m (Some k) is =
+    let test : MasterRec → Bool = λ r. r.node == m.0 in
+    let first = position-first test object.masters k is in
+    slice_get_within object.masters k first.element first.here
+
+pub reach_closed : ReachLaws → (object : Object) (t : Topology) (m : NodeId) → IsObject object → IsWellFormed t → IsClosed object t (border_of object t m)
+reach_closed laws object t m formed well =
+    edge_closed laws object t formed well (place_of object m) (place_starts object m (place_of object m) refl)

@@ -1,0 +1,95 @@
+-- The border of a reach is that of the reach: no narrower and no wider.
+use Rattle.std.proofs.Common.{◌≡◌, ℕ, ◌<◌, ◌&&◌, Bool, true, false, not, slice_get, length, Option, Some, None, refl, ap, sym, ◌∙◌, subst, ◌↔◌}
+use Rattle.std.specs.Option.{option_map}
+use Rattle.std.proofs.lemmas.Bool.{lt-ltb}
+use Rattle.pm_base.specs.declared.names.NodeId.{NodeId}
+use Rattle.pm_base.specs.declared.names.Unit.TheVariants.{Node, Line}
+use Rattle.pm_object.specs.declared.object.Object.{Object}
+use Rattle.pm_topology.specs.declared.topology.PowerDef.{PowerDef}
+use Rattle.pm_topology.specs.declared.topology.SlaveDef.{SlaveDef}
+use Rattle.pm_topology.specs.declared.topology.Topology.{Topology}
+use Rattle.pm_reach.specs.declared.members.MemberKind.{MemberKind}
+use Rattle.pm_reach.specs.declared.members.MemberKind.TheVariants as members
+use Rattle.pm_reach.specs.declared.members.Why.TheVariants.{Myself}
+use Rattle.pm_reach.specs.Border.{IsIn}
+use Rattle.pm_reach.specs.Paths.{start}
+use Rattle.pm_reach.specs.Reached.{is_reached}
+use Rattle.pm_core.specs.State.{State}
+use Rattle.pm_core.specs.Values.{master_place}
+use Rattle.pm_laws.specs.Border.{Border}
+use Rattle.pm_laws.specs.Hidden.{is_within}
+use Rattle.pm_laws.specs.ReachBorder.{IsAllBeyond, IsBorderOf, border_of, brings_in, entry_beyond, master_beyond, place_of}
+use Rattle.pm_laws.proofs.ReachBorderLaw.{edge, place_starts}
+use Rattle.pm_laws.proofs.WithinReach.{ReachLaws, Starts, beyond_parts}
+
+not_beyond : (b : Bool) → not b ≡ false → b ≡ true
+not_beyond true e = refl
+not_beyond false e = cc
+
+is_beyond : (b : Bool) → b ≡ true → not b ≡ false
+is_beyond true e = refl
+is_beyond false e = cc
+
+module _ (laws : ReachLaws) (object : Object) (t : Topology) (from : ℕ) (starts : from < length object.masters) where
+  abbrev border : Border
+  border = edge object t (Some from)
+
+  there : (k : ℕ) → k < length object.masters → border.master k ≡ not (is_reached object t from k)
+  there k within = ap (λ b. b && not (is_reached object t from k)) (lt-ltb k (length object.masters) within)
+
+  entry_where : (kind : MemberKind) (got : Option NodeId) (node : NodeId) → got ≡ Some node
+      → (entry_beyond object t (Some from) kind got ≡ false) ↔ IsIn object t from kind (Node node)
+  entry_where kind got node is =
+      let same = ap (entry_beyond object t (Some from) kind) is in
+      let test = laws.tests.units object t from kind (Node node) starts in (
+        λ e. test.0 (not_beyond (brings_in object t (Some from) kind (Node node)) (sym same ∙ e)),
+        λ within. same ∙ is_beyond (brings_in object t (Some from) kind (Node node)) (test.1 within),
+      )
+
+  pub edge_exact : IsBorderOf object t from border
+  edge_exact = record {
+    master = λ k within. (
+      λ e. (laws.tests.masters object t from k starts).0 (not_beyond (is_reached object t from k) (sym (there k within) ∙ e)),
+      λ path. there k within ∙ is_beyond (is_reached object t from k) ((laws.tests.masters object t from k starts).1 path),
+    );
+    slave = λ k s is. entry_where members.Slave _ s.node (ap (λ o. option_map (λ (slave : SlaveDef). slave.node) o) is);
+    power = λ k p is. entry_where members.Power _ p.node (ap (λ o. option_map (λ (power : PowerDef). power.node) o) is);
+    line = λ l. (
+      λ e. (laws.tests.units object t from members.Line (Line l) starts).0 (not_beyond (brings_in object t (Some from) members.Line (Line l)) e),
+      λ within. is_beyond (brings_in object t (Some from) members.Line (Line l)) ((laws.tests.units object t from members.Line (Line l) starts).1 within),
+    );
+    configured = λ k e. (beyond_parts laws object t (Some from) starts k e).0;
+    some = λ e. let found = (laws.tests.some object (master_beyond object t (Some from))).0 e in (found.0, found.2);
+  }
+
+pub reach_exact : ReachLaws → (object : Object) (t : Topology) (m : NodeId) (from : ℕ) → place_of object m ≡ Some from → IsBorderOf object t from (border_of object t m)
+reach_exact laws object t m from is =
+    let P : Option ℕ → Type 0 = λ place. IsBorderOf object t from (edge object t place) in
+    subst P (sym is) (edge_exact laws object t from (place_starts object m (Some from) is))
+
+-- a master that isn't configured reaches nothing
+unreached : (object : Object) (t : Topology) (kind : MemberKind) (got : Option NodeId) → entry_beyond object t None kind got ≡ true
+unreached object t kind None = refl
+unreached object t kind (Some node) = refl
+
+pub all_beyond : (object : Object) (t : Topology) (m : NodeId) → place_of object m ≡ None → IsAllBeyond object (border_of object t m)
+all_beyond object t m is =
+    let P : Option ℕ → Type 0 = λ place. IsAllBeyond object (edge object t place) in
+    subst P (sym is) (record {
+      masters = λ k within. ap (λ b. b && true) (lt-ltb k (length object.masters) within);
+      slaves = λ s. unreached object t members.Slave (option_map (λ (slave : SlaveDef). slave.node) (slice_get t.slaves s));
+      powers = λ w. unreached object t members.Power (option_map (λ (power : PowerDef). power.node) (slice_get t.powers w));
+      lines = λ l. refl;
+    })
+
+-- the master itself is within its reach
+own_within : (laws : ReachLaws) (object : Object) (t : Topology) (place : Option ℕ) → Starts object place → is_within (edge object t place) place ≡ true
+own_within laws object t None starts = refl
+own_within laws object t (Some from) starts =
+    let one = (edge_exact laws object t from starts).master from starts in
+    let within : (edge object t (Some from)).master from ≡ false = one.1 (_, Myself, start) in
+    ap not within
+
+pub caller_within : ReachLaws → (m : NodeId) (book : State) → is_within (border_of book.fixed.object book.fixed.topology m) (master_place m book) ≡ true
+caller_within laws m book =
+    own_within laws book.fixed.object book.fixed.topology (master_place m book) (place_starts book.fixed.object m (master_place m book) refl)

@@ -1,0 +1,115 @@
+-- What is within the reach of a master by the tests, and what that makes beyond it.
+use Rattle.std.proofs.Common.{◌≡◌, ℕ, ◌<◌, Bool, true, false, not, nat_lt, length, Option, Some, None, refl}
+use Rattle.std.specs.Prelude.{⊤}
+use Rattle.std.proofs.lemmas.Bool.{ltb-true, lt-ltb}
+use Rattle.pm_base.specs.declared.names.Unit.{Unit}
+use Rattle.pm_base.proofs.Booleans.{both, pair_of}
+use Rattle.pm_object.specs.declared.object.Object.{Object}
+use Rattle.pm_topology.specs.declared.topology.Topology.{Topology}
+use Rattle.pm_topology.specs.Places.{KindLaws}
+use Rattle.pm_reach.specs.declared.members.MemberKind.{MemberKind}
+use Rattle.pm_reach.specs.Border.{IsClosedToMasters, IsClosedToUnits, IsClosedUpwards, Reaches, IsIn}
+use Rattle.pm_reach.specs.Reached.{ReachTests}
+use Rattle.pm_laws.specs.ReachBorder.{brings_in, master_beyond, reaches}
+
+-- what is known of every reach and of every chip
+pub record ReachLaws : Type 0 where
+  pub masters : IsClosedToMasters
+  pub units : IsClosedToUnits
+  pub parents : IsClosedUpwards
+  pub tests : ReachTests
+  pub kinds : KindLaws
+
+-- ---- tests
+
+-- what passes at most where another test does doesn't where the other one doesn't
+blocked : (a b : Bool) → (a ≡ true → b ≡ true) → not b ≡ true → not a ≡ true
+blocked false b follows e = refl
+blocked true b follows e = let is = follows refl in cc
+
+-- ---- within
+
+-- the place is that of a master
+abbrev pub Starts : Object → Option ℕ → Type 0
+Starts object None = ⊤
+Starts object (Some from) = from < length object.masters
+
+-- a path leads from there to a master
+abbrev pub Within : Object → Topology → Option ℕ → ℕ → Type 0
+Within object t None k = ⊥
+Within object t (Some from) k = Reaches object t from k
+
+-- and the master there brings in a unit
+abbrev pub UnitWithin : Object → Topology → Option ℕ → MemberKind → Unit → Type 0
+UnitWithin object t None kind unit = ⊥
+UnitWithin object t (Some from) kind unit = IsIn object t from kind unit
+
+-- what leads from one master to another does so from every start
+pub lead : (object : Object) (t : Topology) (from : Option ℕ) (m k : ℕ) → ((f : ℕ) → Reaches object t f m → Reaches object t f k) → Within object t from m → Within object t from k
+lead object t None m k leads within = within
+lead object t (Some f) m k leads within = leads f within
+
+pub lead_in : (object : Object) (t : Topology) (from : Option ℕ) (m : ℕ) (kind : MemberKind) (unit : Unit) → ((f : ℕ) → Reaches object t f m → IsIn object t f kind unit) → Within object t from m → UnitWithin object t from kind unit
+lead_in object t None m kind unit leads within = within
+lead_in object t (Some f) m kind unit leads within = leads f within
+
+pub lead_up : (object : Object) (t : Topology) (from : Option ℕ) (kind other : MemberKind) (unit above : Unit) → ((f : ℕ) → IsIn object t f kind unit → IsIn object t f other above) → UnitWithin object t from kind unit → UnitWithin object t from other above
+lead_up object t None kind other unit above leads within = within
+lead_up object t (Some f) kind other unit above leads within = leads f within
+
+module _ (laws : ReachLaws) (object : Object) (t : Topology) where
+  to_within : (from : Option ℕ) (k : ℕ) → Starts object from → reaches object t from k ≡ true → Within object t from k
+  to_within None k starts e = cc
+  to_within (Some from) k starts e = (laws.tests.masters object t from k starts).0 e
+
+  from_within : (from : Option ℕ) (k : ℕ) → Starts object from → Within object t from k → reaches object t from k ≡ true
+  from_within None k starts e = absurd e
+  from_within (Some from) k starts e = (laws.tests.masters object t from k starts).1 e
+
+  unit_to : (from : Option ℕ) (kind : MemberKind) (unit : Unit) → Starts object from → brings_in object t from kind unit ≡ true → UnitWithin object t from kind unit
+  unit_to None kind unit starts e = cc
+  unit_to (Some from) kind unit starts e = (laws.tests.units object t from kind unit starts).0 e
+
+  unit_from : (from : Option ℕ) (kind : MemberKind) (unit : Unit) → Starts object from → UnitWithin object t from kind unit → brings_in object t from kind unit ≡ true
+  unit_from None kind unit starts e = absurd e
+  unit_from (Some from) kind unit starts e = (laws.tests.units object t from kind unit starts).1 e
+
+  -- ---- one within brings another in
+
+  module _ (from : Option ℕ) (starts : Starts object from) where
+    abbrev pub Beyond : ℕ → Type 0
+    Beyond k = master_beyond object t from k ≡ true
+
+    beyond_by : (m : ℕ) → m < length object.masters → not (reaches object t from m) ≡ true → Beyond m
+    beyond_by m there e = pair_of (nat_lt m (length object.masters)) _ (lt-ltb m (length object.masters) there) e
+
+    pub beyond_parts : (k : ℕ) → Beyond k → (k < length object.masters) × (not (reaches object t from k) ≡ true)
+    beyond_parts k e =
+        let parts = both (nat_lt k (length object.masters)) (not (reaches object t from k)) e in
+        (ltb-true k (length object.masters) parts.0, parts.1)
+
+    -- a master that leads to one beyond is beyond
+    pub master_by : (m k : ℕ) → m < length object.masters → (Within object t from m → Within object t from k) → Beyond k → Beyond m
+    master_by m k there leads beyond =
+        beyond_by m there
+        (blocked (reaches object t from m) (reaches object t from k)
+        (λ e. from_within from k starts (leads (to_within from m starts e))) (beyond_parts k beyond).1)
+
+    -- so is one that brings in a unit beyond
+    pub master_by_unit : (m : ℕ) (kind : MemberKind) (unit : Unit) → m < length object.masters
+        → (Within object t from m → UnitWithin object t from kind unit)
+        → not (brings_in object t from kind unit) ≡ true
+        → Beyond m
+    master_by_unit m kind unit there leads beyond =
+        beyond_by m there
+        (blocked (reaches object t from m) (brings_in object t from kind unit)
+        (λ e. unit_from from kind unit starts (leads (to_within from m starts e))) beyond)
+
+    -- and a unit by which another one is within
+    pub unit_by : (kind other : MemberKind) (unit above : Unit)
+        → (UnitWithin object t from kind unit → UnitWithin object t from other above)
+        → not (brings_in object t from other above) ≡ true
+        → not (brings_in object t from kind unit) ≡ true
+    unit_by kind other unit above leads beyond =
+        blocked (brings_in object t from kind unit) (brings_in object t from other above)
+        (λ e. unit_from from other above starts (leads (unit_to from kind unit starts e))) beyond

@@ -1,0 +1,15 @@
+use Rattle.pm_laws.proofs.ReachBorderLaw.{reach_closed}
+use Rattle.pm_laws.proofs.ReachExact.{all_beyond, caller_within, reach_exact}
+use Rattle.pm_laws.proofs.WithinReach.{ReachLaws}
+use Rattle.pm_laws.proofs.laws.reach_is_closed.Goals as goal
+
+pub returns : goal.returns
+returns c =
+    let laws : ReachLaws = record {
+      masters = c.masters_within.ensures;
+      units = c.units_within.ensures;
+      parents = c.parents_within.ensures;
+      tests = c.reach_is_decided.ensures;
+      kinds = c.kinds_are_exact.ensures;
+    } in
+    record { closed = reach_closed laws; exact = reach_exact laws; unconfigured = all_beyond; own = caller_within laws }

@@ -1,0 +1,12 @@
+use Rattle.pm_laws.proofs.RowFacts.{BelowLaws}
+use Rattle.pm_laws.proofs.StartsLaw.{starts_agree, starts_hidden}
+use Rattle.pm_laws.proofs.laws.starts_agree.Goals as goal
+
+pub returns : goal.returns
+returns c =
+    let laws : BelowLaws = record {
+      armed = c.shifts_leave_others.ensures.armed;
+      owned = c.members_are_owned.ensures;
+      hold = c.shifts_leave_others.ensures.hold;
+    } in
+    record { both = starts_agree laws; hidden = starts_hidden laws }
