@@ -1,18 +1,20 @@
 -- A fault of reading comes only where the inputs show that one may fail.
-use Rattle.std.proofs.Common.{◌≡◌, ℕ, ◌<◌, ◌≤◌, ◌⊎◌, Bool, true, false, List, Some, None, Result, Ok, Err, refl, sym, ◌∙◌, subst, inl, inr}
+use Rattle.std.proofs.Common.{◌≡◌, ℕ, ◌<◌, ◌≤◌, ◌⊎◌, Bool, true, false, List, Option, Some, None, Result, Ok, Err, refl, sym, ◌∙◌, subst, inl, inr}
 use Rattle.std.specs.Prelude.{IsSomeAnd}
 use Rattle.std.proofs.lemmas.Bool.{cases_lt}
+use Rattle.pm_base.specs.declared.names.NodeId.{NodeId}
 use Rattle.pm_base.specs.Inputs.{FailsWithin, MayFail, Moment}
 use Rattle.pm_base.specs.Prefix.{IsUnread, Prefix, prefix_of}
 use Rattle.pm_base.proofs.PrefixEnds.{prefix_fails}
 use Rattle.pm_object.specs.declared.object.Object.{Object}
 use Rattle.pm_script.specs.Script.{Script, script_limit, script_of}
 use Rattle.pm_trace.specs.declared.faults.Fault.{Fault}
+use Rattle.pm_trace.specs.declared.faults.Fault.TheVariants.{Node, Read}
 use Rattle.pm_replay.specs.Replayed.{IsReadFault, script_or_fault}
 use Rattle.pm_top.specs.declared.form.Form.{Form}
-use Rattle.pm_top.specs.declared.form.Form.TheVariants.{Replay, Print, Build}
+use Rattle.pm_top.specs.declared.form.Form.TheVariants.{Replay, Reach, Print, Build}
 use Rattle.pm_top.specs.Form.{word}
-use Rattle.pm_top.specs.Job.{FailsToRead, built_of, first_prefix, job_of, object_limit, object_of, replay_job, second_prefix, text_limit, with_script}
+use Rattle.pm_top.specs.Job.{FailsToRead, IsReachJob, Job, Meets, built_of, first_prefix, job_of, master_of, object_limit, object_of, reach_job, replay_job, second_prefix, text_limit, with_master, with_script}
 use Rattle.pm_top.specs.Ran.{FormMayFail}
 use Rattle.pm_top.proofs.JobLemmas.{object_kind, text_kind}
 
@@ -44,18 +46,29 @@ second_fails m again name more unread = by again refl
       | inr fails ↦ inr (inr fails)
     ]
 
-pub job_cause : (script_unread : (p : Prefix) → IsReadFault (script_or_fault (script_of p)) → IsUnread p.stop) (f : Form) (ws : List (List ℕ)) (m : Moment) (again : Bool) → (2 ≤ m.room → again ≡ true) → FailsToRead f (job_of f ws m again) → FormMayFail (Some f) ws m
-job_cause script_unread Print ws m again more fails = by (object_of (first_prefix object_limit m (word 1 ws))) refl fails
+-- a reach that fails to read fails at its object
+reach_cause : (ws : List (List ℕ)) (m : Moment) (job : Result (Job Reach) Fault) (v : Result Object Fault) → object_of (first_prefix object_limit m (word 1 ws)) ≡ v → IsReachJob job (reach_job v (word 2 ws)) → FailsToRead Reach job → MayFail (word 1 ws) object_limit m
+reach_cause ws m (Ok found) v is meets none = absurd none
+reach_cause ws m (Err fault) (Err due) is meets read = first_fails object_limit m (word 1 ws) ((object_kind (first_prefix object_limit m (word 1 ws)) due is).1.unread (sym meets ∙ read))
+reach_cause ws m (Err fault) (Ok o) is meets read = by (master_of o (word 2 ws)) meets
+  where
+    by : (named : Option NodeId) → IsReachJob (Err fault) (with_master o named) → MayFail (word 1 ws) object_limit m
+    by (Some master) none = absurd none
+    by None node = let clash : Node ≡ Read = sym node ∙ read in cc
+
+pub job_cause : (script_unread : (p : Prefix) → IsReadFault (script_or_fault (script_of p)) → IsUnread p.stop) (f : Form) (ws : List (List ℕ)) (m : Moment) (again : Bool) → (2 ≤ m.room → again ≡ true) → (job : Result (Job f) Fault) → Meets f job (job_of f ws m again) → FailsToRead f job → FormMayFail (Some f) ws m
+job_cause script_unread Reach ws m again more job meets fails = reach_cause ws m job (object_of (first_prefix object_limit m (word 1 ws))) refl meets fails
+job_cause script_unread Print ws m again more job meets fails = by (object_of (first_prefix object_limit m (word 1 ws))) refl (subst (FailsToRead Print) meets fails)
   where
     by : (v : Result Object Fault) → object_of (first_prefix object_limit m (word 1 ws)) ≡ v → FailsToRead Print v → MayFail (word 1 ws) object_limit m
     by (Ok o) is none = absurd none
     by (Err fault) is read = first_fails object_limit m (word 1 ws) ((object_kind (first_prefix object_limit m (word 1 ws)) fault is).1.unread read)
-job_cause script_unread Build ws m again more fails = by (built_of (first_prefix text_limit m (word 1 ws))) refl fails
+job_cause script_unread Build ws m again more job meets fails = by (built_of (first_prefix text_limit m (word 1 ws))) refl (subst (FailsToRead Build) meets fails)
   where
     by : (v : Result Object Fault) → built_of (first_prefix text_limit m (word 1 ws)) ≡ v → FailsToRead Build v → MayFail (word 1 ws) text_limit m
     by (Ok o) is none = absurd none
     by (Err fault) is read = first_fails text_limit m (word 1 ws) ((text_kind (first_prefix text_limit m (word 1 ws)) fault is).unread read)
-job_cause script_unread Replay ws m again more fails = by (object_of (first_prefix object_limit m (word 1 ws))) refl fails
+job_cause script_unread Replay ws m again more job meets fails = by (object_of (first_prefix object_limit m (word 1 ws))) refl (subst (FailsToRead Replay) meets fails)
   where
     script_fails : (o : Object) (job : Result Script Fault) → FailsToRead Replay (with_script o job) → IsReadFault job
     script_fails o (Ok s) fails = fails

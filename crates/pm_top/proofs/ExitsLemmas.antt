@@ -18,8 +18,8 @@ use Rattle.pm_trace.specs.Faults.{exit_after, exit_by, fault_text}
 use Rattle.pm_trace.specs.Report.{Did, exit_of, pieces, refusal, report_of}
 use Rattle.pm_replay.specs.Replay.{fault_at}
 use Rattle.pm_top.specs.declared.form.Form.{Form}
-use Rattle.pm_top.specs.declared.form.Form.TheVariants.{Replay, Print, Build}
-use Rattle.pm_top.specs.Job.{FailsToRead, IsAsked, IsFaultOf, IsKnown, Job, job_of, report}
+use Rattle.pm_top.specs.declared.form.Form.TheVariants.{Replay, Reach, Print, Build}
+use Rattle.pm_top.specs.Job.{Asked, FailsToRead, IsAsked, IsFaultOf, IsKnown, Job, Meets, job_of, report}
 use Rattle.pm_top.specs.Ran.{FormDecides, IsBeforeRun, job_exit}
 
 some_is : {X : Type 0} {x y : X} → ◌≡◌ {A = Option X} (Some x) (Some y) → x ≡ y
@@ -52,6 +52,7 @@ stops_late n Failed = refl
 
 late : (f : Form) (job : Job f) (answers : List (List Bool)) → comes_before (exit_after (report f job answers).fault) ≡ false
 late Replay job answers = stops_late (1 + length job.1.events) job.1.stop
+late Reach job answers = refl
 late Print job answers = refl
 late Build job answers = refl
 
@@ -77,11 +78,13 @@ failed_stop n Failed is = refl
 
 refusal_fails : (f : Form) (fault : Fault) → fault ≡ Read → FailsToRead f (Err fault)
 refusal_fails Replay fault is = is
+refusal_fails Reach fault is = is
 refusal_fails Print fault is = is
 refusal_fails Build fault is = is
 
 job_fails : (f : Form) (job : Job f) (answers : List (List Bool)) → (report f job answers).fault ≡ Some Read → FailsToRead f (Ok job)
 job_fails Replay job answers is = failed_stop (1 + length job.1.events) job.1.stop is
+job_fails Reach job answers is = cc
 job_fails Print job answers is = cc
 job_fails Build job answers is = cc
 
@@ -91,18 +94,34 @@ fails f (Ok job) answers is = job_fails f job answers is
 
 known_fault : (f : Form) (fault : Fault) → IsKnown f (Err fault) → IsFaultOf f fault
 known_fault Replay fault known = known
+known_fault Reach fault known = known
 known_fault Print fault known = known
 known_fault Build fault known = known
 
--- the fault of a job doesn't depend on the device's answers
-same_fault : (f : Form) (job : Job f) (answers : List (List Bool)) → (report f job answers).fault ≡ (report f job []).fault
-same_fault Replay job answers = refl
-same_fault Print job answers = refl
-same_fault Build job answers = refl
+-- the exit of a job is that of what is asked for, whatever the device answers
+due_replay : (job asked : Result (Job Replay) Fault) (answers : List (List Bool)) → job ≡ asked → exit_after (report_of (report Replay) job answers).fault ≡ job_exit Replay asked
+due_replay (Ok job) asked answers is = ap (job_exit Replay) is
+due_replay (Err fault) asked answers is = ap (job_exit Replay) is
 
-due : (f : Form) (job : Result (Job f) Fault) (answers : List (List Bool)) → exit_after (report_of (report f) job answers).fault ≡ job_exit f job
-due f (Ok job) answers = ap exit_after (same_fault f job answers)
-due f (Err fault) answers = refl
+due_print : (job asked : Result (Job Print) Fault) (answers : List (List Bool)) → job ≡ asked → exit_after (report_of (report Print) job answers).fault ≡ job_exit Print asked
+due_print (Ok job) asked answers is = ap (job_exit Print) is
+due_print (Err fault) asked answers is = ap (job_exit Print) is
+
+due_build : (job asked : Result (Job Build) Fault) (answers : List (List Bool)) → job ≡ asked → exit_after (report_of (report Build) job answers).fault ≡ job_exit Build asked
+due_build (Ok job) asked answers is = ap (job_exit Build) is
+due_build (Err fault) asked answers is = ap (job_exit Build) is
+
+due_reach : (job : Result (Job Reach) Fault) (asked : Result (Asked Reach) Fault) (answers : List (List Bool)) → Meets Reach job asked → exit_after (report_of (report Reach) job answers).fault ≡ job_exit Reach asked
+due_reach (Ok found) (Ok asked) answers is = refl
+due_reach (Err fault) (Err due) answers is = ap (λ (fault : Fault). exit_by fault) is
+due_reach (Ok found) (Err due) answers is = absurd is
+due_reach (Err fault) (Ok asked) answers is = absurd is
+
+due : (f : Form) (job : Result (Job f) Fault) (asked : Result (Asked f) Fault) (answers : List (List Bool)) → Meets f job asked → exit_after (report_of (report f) job answers).fault ≡ job_exit f asked
+due Replay job asked answers is = due_replay job asked answers is
+due Reach job asked answers is = due_reach job asked answers is
+due Print job asked answers is = due_print job asked answers is
+due Build job asked answers is = due_build job asked answers is
 
 -- ---- what a call that did its job means
 
@@ -155,9 +174,9 @@ module _ {I O : Type 0} (i : Inputs.Ghosts I) (o : Sink.Ghosts O) (say : ExitsSa
     ]
       where
         by_memory : (other : Exit) (job : Result (Job f) Fault) → job ≡ Err Memory → EndsBy o (exit_after (report_of (report f) job did.answers).fault) sink sink' result → EndsWith o other sink sink' result
-        by_memory other job is (inl ends) = inr (inl (ends ∙ due f job did.answers ∙ ap (job_exit f) is))
+        by_memory other job is (inl ends) = inr (inl (ends ∙ ap (λ (j : Result (Job f) Fault). exit_after (report_of (report f) j did.answers).fault) is))
         by_memory other job is (inr broken) = inr (inr broken)
 
-        by : (job asked : Result (Job f) Fault) → job ≡ asked → EndsBy o (exit_after (report_of (report f) job did.answers).fault) sink sink' result → EndsWith o (job_exit f asked) sink sink' result
-        by job asked is (inl ends) = inl (ends ∙ due f job did.answers ∙ ap (job_exit f) is)
+        by : (job : Result (Job f) Fault) (asked : Result (Asked f) Fault) → Meets f job asked → EndsBy o (exit_after (report_of (report f) job did.answers).fault) sink sink' result → EndsWith o (job_exit f asked) sink sink' result
+        by job asked is (inl ends) = inl (ends ∙ due f job asked did.answers is)
         by job asked is (inr broken) = inr (inr broken)

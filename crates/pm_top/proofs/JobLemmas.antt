@@ -20,7 +20,7 @@ use Rattle.pm_trace.specs.declared.faults.Fault.{Fault}
 use Rattle.pm_trace.specs.declared.faults.Fault.TheVariants.{Object as BadObject, Text as BadText, Memory, Read}
 use Rattle.pm_replay.specs.Replayed.{IsReadFault, IsScriptOf, script_in, script_or_fault}
 use Rattle.pm_top.specs.declared.form.Form.{Form}
-use Rattle.pm_top.specs.declared.form.Form.TheVariants.{Replay, Print, Build}
+use Rattle.pm_top.specs.declared.form.Form.TheVariants.{Replay, Reach, Print, Build}
 use Rattle.pm_top.specs.Form.{word}
 use Rattle.pm_top.specs.Job.{FailsToRead, IsAsked, IsFaultOf, IsJobOf, IsKnown, built_of, first_prefix, judged, object_limit, object_of, object_or_fault, replay_job, second_prefix, text_limit, text_or_fault, with_script}
 use Rattle.pm_top.specs.Within.{ReadsAs}
@@ -86,6 +86,7 @@ text_kind p fault is = by p.stop (building p.bytes) is
 module _ {I : Type 0} (i : Inputs.Ghosts I) where
   pub starved : (f : Form) (ws : List (List ℕ)) (old new : I) → IsAsked i f ws old new (Err Memory)
   starved Replay ws old new = record { shown = λ seen. inl refl; failed = λ e. absurd (memory_is_read e); known = tt }
+  starved Reach ws old new = record { shown = λ seen. inl refl; failed = λ e. absurd (memory_is_read e); known = tt }
   starved Print ws old new = record { shown = λ seen. inl refl; failed = λ e. absurd (memory_is_read e); known = tt }
   starved Build ws old new = record { shown = λ seen. inl refl; failed = λ e. absurd (memory_is_read e); known = tt }
 

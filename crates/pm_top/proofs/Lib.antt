@@ -4,3 +4,4 @@ pub mod ConversionLemmas
 pub mod ScriptLemmas
 pub mod CauseLemmas
 pub mod MainLemmas
+pub mod ReachingLemmas

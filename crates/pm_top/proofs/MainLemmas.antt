@@ -17,7 +17,7 @@ use Rattle.pm_trace.specs.Report.{exit_of, report_of}
 use Rattle.pm_replay.specs.Replayed.{IsReadFault, script_or_fault}
 use Rattle.pm_replay.specs.World.{World}
 use Rattle.pm_top.specs.declared.form.Form.{Form}
-use Rattle.pm_top.specs.declared.form.Form.TheVariants.{Replay, Print, Build}
+use Rattle.pm_top.specs.declared.form.Form.TheVariants.{Replay, Reach, Print, Build}
 use Rattle.pm_top.specs.Form.{form}
 use Rattle.pm_top.specs.Job.{FailsToRead, Job}
 use Rattle.pm_top.specs.Ran.{Decides, FormDecides, FormMayFail, InputsMayFail, IsBeforeRun, Ran, RanForm, Touches, nothing_to_do}
@@ -73,6 +73,7 @@ module _ {I O D : Type 0} (i : Inputs.Ghosts I) (o : Sink.Ghosts O) (say : Exits
 
   memory_fails : (f : Form) → FailsToRead f (Err Memory) → ⊥
   memory_fails Replay is = let clash : Memory ≡ Read = is in cc
+  memory_fails Reach is = let clash : Memory ≡ Read = is in cc
   memory_fails Print is = let clash : Memory ≡ Read = is in cc
   memory_fails Build is = let clash : Memory ≡ Read = is in cc
 
@@ -85,7 +86,7 @@ module _ {I O D : Type 0} (i : Inputs.Ghosts I) (o : Sink.Ghosts O) (say : Exits
           let fails : FailsToRead f did.job = unread i o say f ws w.inputs w'.inputs w.sink w'.sink result (Touches d f w.device w'.device) did is in
           elim (did.asked.shown seen) [
             | inl starved ↦ absurd (memory_fails f (subst (FailsToRead f) starved fails))
-            | inr job ↦ job_cause script_unread f ws (i.state w.inputs) job.0 job.1 (subst (FailsToRead f) job.2 fails)
+            | inr job ↦ job_cause script_unread f ws (i.state w.inputs) job.0 job.1 did.job job.2 fails
           ]
 
   -- ---- before a run
@@ -95,6 +96,7 @@ module _ {I O D : Type 0} (i : Inputs.Ghosts I) (o : Sink.Ghosts O) (say : Exits
     where
       by : (f : Option Form) → RanForm i o d f ws w w' result → w.device ≡ w'.device
       by None did = did.touched
+      by (Some Reach) did = did.touched
       by (Some Print) did = did.touched
       by (Some Build) did = did.touched
       by (Some Replay) did = of_job did.job refl did.touched

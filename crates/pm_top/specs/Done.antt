@@ -3,23 +3,41 @@ use Rattle.std.specs.Prelude.{◌≡◌, ℕ, Bool, List, ◌++◌, map, Option,
 use Rattle.pm_base.specs.declared.events.Event.{Event}
 use Rattle.pm_base.specs.declared.inputs.Inputs as Inputs
 use Rattle.pm_base.specs.declared.sink.Sink as Sink
+use Rattle.pm_base.specs.declared.names.NodeId.{NodeId}
 use Rattle.pm_base.specs.Lines.{lines_of}
 use Rattle.pm_object.specs.declared.object.Object.{Object}
 use Rattle.pm_object.specs.Grammar.{Reads, little_endian, words_of}
 use Rattle.pm_objtext.specs.Meaning.{Means}
 use Rattle.pm_objtext.specs.Printing.{text_of}
 use Rattle.pm_topology.specs.Chip.{chip}
+use Rattle.pm_reach.specs.declared.members.Member.{Member}
+use Rattle.pm_reach.specs.Membership.{IsReach}
 use Rattle.pm_device.specs.declared.device.Device as Device
 use Rattle.pm_script.specs.Meaning.{meaning}
+use Rattle.pm_trace.specs.Reach.{reach_text}
 use Rattle.pm_replay.specs.Drive.{driven}
 use Rattle.pm_replay.specs.Drove.{Drove}
 use Rattle.pm_replay.specs.Replayed.{Holds, run_text, setup}
 use Rattle.pm_replay.specs.World.{World}
 use Rattle.pm_top.specs.declared.form.Form.{Form}
-use Rattle.pm_top.specs.declared.form.Form.TheVariants.{Replay, Print, Build}
+use Rattle.pm_top.specs.declared.form.Form.TheVariants.{Replay, Reach, Print, Build}
 use Rattle.pm_top.specs.Form.{form, word}
+use Rattle.pm_top.specs.Job.{master_of}
 
 module _ {I O : Type 0} (i : Inputs.Ghosts I) (o : Sink.Ghosts O) where
+  -- an object was held under the first name, the second one names a master of it, and the text of what that master can
+  -- reach was written
+  pub record IsReached (ws : List (List ℕ)) (inputs : I) (old new : O) : Type 0 where
+    pub bytes : List ℕ
+    pub object : Object
+    pub master : NodeId
+    pub members : List Member
+    pub held : Holds (i.state inputs) (word 1 ws) bytes
+    pub reads : Reads bytes object
+    pub named : master_of object (word 2 ws) ≡ Some master
+    pub reach : IsReach object chip master members
+    pub text : (o.state new).bytes ≡ (o.state old).bytes ++ reach_text members
+
   -- an object was held under the name, and its text was written
   pub record IsPrinted (ws : List (List ℕ)) (inputs : I) (old new : O) : Type 0 where
     pub bytes : List ℕ
@@ -53,9 +71,11 @@ module _ {I O D : Type 0} (i : Inputs.Ghosts I) (o : Sink.Ghosts O) (d : Device.
     pub text : (o.state w'.sink).bytes ≡ (o.state w.sink).bytes ++ run_text (setup object chip) answers events
     pub drove : Drove d (setup object chip) (driven (setup object chip) answers events) w.device w'.device
 
+  -- what a form asks for was done. Only a replay touches the device
   abbrev pub FormDone : Option Form → List (List ℕ) → World I O D → World I O D → Type 0
   FormDone None ws w w' = ⊥
   FormDone (Some Replay) ws w w' = IsReplayed ws w w'
+  FormDone (Some Reach) ws w w' = IsReached i o ws w.inputs w.sink w'.sink × (w.device ≡ w'.device)
   FormDone (Some Print) ws w w' = IsPrinted i o ws w.inputs w.sink w'.sink × (w.device ≡ w'.device)
   FormDone (Some Build) ws w w' = IsBuilt i o ws w.inputs w.sink w'.sink × (w.device ≡ w'.device)
 

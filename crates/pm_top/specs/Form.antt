@@ -2,15 +2,26 @@
 use Rattle.std.specs.Prelude.{ℕ, List, [], ◌∷◌, codes, if◌then◌else◌, get_or, Option, Some, None}
 use Rattle.std.specs.Str.{bytes_eq}
 use Rattle.pm_top.specs.declared.form.Form.{Form}
-use Rattle.pm_top.specs.declared.form.Form.TheVariants.{Replay, Print, Build}
+use Rattle.pm_top.specs.declared.form.Form.TheVariants.{Replay, Reach, Print, Build}
 
--- the first word and the number of words decide: `replay OBJ SCRIPT`, `print OBJ`, `build TEXT`
-abbrev pub form : List (List ℕ) → Option Form
-form (first ∷ second ∷ []) =
+-- what two words ask for by the first: `print OBJ`, `build TEXT`
+abbrev pub form_of_two : List ℕ → Option Form
+form_of_two first =
     if bytes_eq first (codes "print") then Some Print
     else if bytes_eq first (codes "build") then Some Build
     else None
-form (first ∷ second ∷ third ∷ []) = if bytes_eq first (codes "replay") then Some Replay else None
+
+-- what three words ask for by the first: `replay OBJ SCRIPT`, `reach OBJ NODE`
+abbrev pub form_of_three : List ℕ → Option Form
+form_of_three first =
+    if bytes_eq first (codes "replay") then Some Replay
+    else if bytes_eq first (codes "reach") then Some Reach
+    else None
+
+-- the first word and the number of words decide
+abbrev pub form : List (List ℕ) → Option Form
+form (first ∷ second ∷ []) = form_of_two first
+form (first ∷ second ∷ third ∷ []) = form_of_three first
 form words = None
 
 -- the word at a place

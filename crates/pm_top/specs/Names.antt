@@ -1,9 +1,10 @@
--- How many names the words of a form have.
+-- How many names the words of a form have: of what is read, and of a master.
 use Rattle.std.specs.Prelude.{ℕ}
 use Rattle.pm_top.specs.declared.form.Form.{Form}
-use Rattle.pm_top.specs.declared.form.Form.TheVariants.{Replay, Print, Build}
+use Rattle.pm_top.specs.declared.form.Form.TheVariants.{Replay, Reach, Print, Build}
 
 abbrev pub names : Form → ℕ
 names Replay = 2
+names Reach = 2
 names Print = 1
 names Build = 1

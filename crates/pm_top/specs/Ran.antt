@@ -15,20 +15,23 @@ use Rattle.pm_trace.specs.Report.{Did, Report}
 use Rattle.pm_replay.specs.Replay.{Touched}
 use Rattle.pm_replay.specs.World.{World}
 use Rattle.pm_top.specs.declared.form.Form.{Form}
-use Rattle.pm_top.specs.declared.form.Form.TheVariants.{Replay, Print, Build}
+use Rattle.pm_top.specs.declared.form.Form.TheVariants.{Replay, Reach, Print, Build}
 use Rattle.pm_top.specs.Form.{form, word}
-use Rattle.pm_top.specs.Job.{IsAsked, Job, job_of, object_limit, report, text_limit}
+use Rattle.pm_top.specs.Job.{Asked, IsAsked, Job, job_of, object_limit, report, text_limit}
 
 -- ---- what was done
 
 -- a replay drives the device through its steps up to the cut, and nothing else touches it
 module _ {D : Type 0} (d : Device.Ghosts D) where
+  -- what is done to the device under these answers, up to the cut
   abbrev pub Touches : (f : Form) → D → D → Result (Job f) Fault → List (List Bool) → Option ℕ → Type 0
   Touches Replay old new (Ok job) answers cut = Touched d job.0 old new (Ok job.1) answers cut
   Touches Replay old new (Err fault) answers cut = old ≡ new
+  Touches Reach old new job answers cut = old ≡ new
   Touches Print old new job answers cut = old ≡ new
   Touches Build old new job answers cut = old ≡ new
 
+-- words without a form have no job
 abbrev pub nothing_to_do : ⊤ → List (List Bool) → Report
 nothing_to_do job answers = record { body = []; fault = None }
 
@@ -46,23 +49,33 @@ module _ {I O D : Type 0} (i : Inputs.Ghosts I) (o : Sink.Ghosts O) (d : Device.
   RanForm (Some f) ws w w' result =
       Did o (IsAsked i f ws w.inputs w'.inputs) (report f) (Touches d f w.device w'.device) w.sink w'.sink result
 
+  -- the same by the words
   abbrev pub Ran : List (List ℕ) → World I O D → World I O D → Exit → Type 0
   Ran ws w w' result = RanForm (form ws) ws w w' result
 
 -- ---- what the exits mean
 
--- the exit of a job: that of its fault, or of the fault at which its run stops, or Done
-abbrev pub job_exit : (f : Form) → Result (Job f) Fault → Exit
-job_exit f (Ok job) = exit_after (report f job []).fault
+-- the fault at which the run of a script stops: nothing else that is asked for has one
+abbrev pub asked_fault : (f : Form) → Asked f → Option Fault
+asked_fault Replay job = (report Replay job []).fault
+asked_fault Reach asked = None
+asked_fault Print object = None
+asked_fault Build object = None
+
+-- the exit of what is asked for: that of the fault that refuses it, or at which its run stops, or Done
+abbrev pub job_exit : (f : Form) → Result (Asked f) Fault → Exit
+job_exit f (Ok asked) = exit_after (asked_fault f asked)
 job_exit f (Err fault) = exit_after (Some fault)
 
 -- the exit is that of what the words ask for, unless memory is wanted or the sink fails
 module _ {O : Type 0} (o : Sink.Ghosts O) where
+  -- the exit of a form; words without one end in Usage
   abbrev pub FormDecides : Option Form → List (List ℕ) → Moment → O → O → Exit → Type 0
   FormDecides None ws m old new result = result ≡ exit.Usage
   FormDecides (Some f) ws m old new result =
       (again : Bool) × (2 ≤ m.room → again ≡ true) × EndsWith o (job_exit f (job_of f ws m again)) old new result
 
+  -- the same by the words
   abbrev pub Decides : List (List ℕ) → Moment → O → O → Exit → Type 0
   Decides ws m old new result = FormDecides (form ws) ws m old new result
 
@@ -74,8 +87,10 @@ IsBeforeRun result = (result ≡ exit.Usage) ⊎ ((result ≡ exit.BadObject) �
 abbrev pub FormMayFail : Option Form → List (List ℕ) → Moment → Type 0
 FormMayFail None ws m = ⊥
 FormMayFail (Some Replay) ws m = (m.room < 2) ⊎ (MayFail (word 1 ws) object_limit m ⊎ MayFail (word 2 ws) script_limit m)
+FormMayFail (Some Reach) ws m = MayFail (word 1 ws) object_limit m
 FormMayFail (Some Print) ws m = MayFail (word 1 ws) object_limit m
 FormMayFail (Some Build) ws m = MayFail (word 1 ws) text_limit m
 
+-- the same by the words
 abbrev pub InputsMayFail : List (List ℕ) → Moment → Type 0
 InputsMayFail ws m = FormMayFail (form ws) ws m

@@ -57,7 +57,7 @@ pub(crate) fn build_object<I: Inputs, O: Sink>(
 }
 
 /// Writes all that a command writes.
-fn write_whole<O: Sink>(text: &[u8], out: &mut O) -> Exit
+pub(crate) fn write_whole<O: Sink>(text: &[u8], out: &mut O) -> Exit
     ensures { Reports O.Sink (record { body = text.now ∷ []; fault = None }) out.old out.new result }
 {
     match write_all(out, text) {

@@ -1,7 +1,7 @@
 //! The forms of the words of the program.
 
 ghost use Rattle.std.specs.Prelude.{◌≡◌, ◌<◌, IfSome, length, map, string_bytes};
-ghost use Rattle.pm_top.specs.Form.{form, word};
+ghost use Rattle.pm_top.specs.Form.{form, form_of_three, form_of_two, word};
 ghost use Rattle.pm_top.specs.Names.{names};
 
 /// What the words of the program ask for.
@@ -9,6 +9,8 @@ ghost use Rattle.pm_top.specs.Names.{names};
 pub enum Form {
     /// `replay OBJ SCRIPT`: the script of one name is run over the object of another.
     Replay,
+    /// `reach OBJ NODE`: what a master of an object can reach is written.
+    Reach,
     /// `print OBJ`: the text of an object is written.
     Print,
     /// `build TEXT`: the bytes of the object that a text says are written.
@@ -21,9 +23,32 @@ pub(crate) fn form_of(words: &[String]) -> Option<Form>
     ensures words { IfSome result (λ f. names f < length words.now) }
 {
     match words {
-        [command, _] if command.as_str() == "print" => Some(Form::Print),
-        [command, _] if command.as_str() == "build" => Some(Form::Build),
-        [command, _, _] if command.as_str() == "replay" => Some(Form::Replay),
+        [command, _] => form_of_two(command.as_str()),
+        [command, _, _] => form_of_three(command.as_str()),
+        _ => None,
+    }
+}
+
+/// The form of two words by the first; by itself, so that a proof meets two forms at a time.
+fn form_of_two(first: &str) -> Option<Form>
+    ensures form { result ≡ form_of_two first.now }
+    ensures words { IfSome result (λ f. names f < 2) }
+{
+    match first {
+        "print" => Some(Form::Print),
+        "build" => Some(Form::Build),
+        _ => None,
+    }
+}
+
+/// The form of three words by the first; by itself, so that a proof meets two forms at a time.
+fn form_of_three(first: &str) -> Option<Form>
+    ensures form { result ≡ form_of_three first.now }
+    ensures words { IfSome result (λ f. names f < 3) }
+{
+    match first {
+        "replay" => Some(Form::Replay),
+        "reach" => Some(Form::Reach),
         _ => None,
     }
 }

@@ -17,6 +17,7 @@ ghost use Rattle.pm_top.specs.Ran.{Decides, InputsMayFail, IsBeforeRun, Ran, Ran
 use crate::conversions::{build_object, print_object};
 use crate::form::{Form, form_of, word};
 use crate::objects::read_object;
+use crate::reaching::write_reach;
 use pm_base::{Exit, Inputs, NoMemory, Sink};
 use pm_device::Device;
 use pm_object::Object;
@@ -26,10 +27,10 @@ use pm_trace::{Fault, exits_say, refuse};
 use std::alloc::Global;
 
 /// Does all that the program does, for its words without its own name. `replay OBJ SCRIPT` runs the
-/// script of one name over the object of another, `print OBJ` writes the text of an object, and
-/// `build TEXT` the bytes of the object that a text says. No other words have a form. A replay makes
-/// the device, which stands at 0 everywhere, follow the book of requirements; no other words command
-/// it.
+/// script of one name over the object of another, `reach OBJ NODE` writes what a master of an object can
+/// reach, `print OBJ` writes the text of an object, and `build TEXT` the bytes of the object that a text
+/// says. No other words have a form. A replay makes the device, which stands at 0 everywhere, follow the
+/// book of requirements; no other words command it.
 pub fn pm_main<I: Inputs, O: Sink, D: Device>(
     alloc: Global,
     words: &[String],
@@ -93,6 +94,7 @@ fn run_words<I: Inputs, O: Sink, D: Device>(
         None => refuse(Fault::Usage, out),
         Some(Form::Print) => print_object(alloc, words, inputs, out),
         Some(Form::Build) => build_object(alloc, words, inputs, out),
+        Some(Form::Reach) => write_reach(alloc, words, inputs, out),
         Some(Form::Replay) => run_script(alloc, words, inputs, out, dev),
     }
 }

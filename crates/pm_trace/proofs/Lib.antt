@@ -1,4 +1,5 @@
 pub mod ExitsLemmas
 pub mod LineLemmas
+pub mod ReachLemmas
 pub mod StepLemmas
 pub mod ReportLemmas

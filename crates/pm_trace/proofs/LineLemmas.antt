@@ -6,11 +6,7 @@ use Rattle.std.proofs.lemmas.List.{append_assoc}
 use Rattle.std.proofs.lemmas.Grind.{flat_map-append}
 use Rattle.pm_trace.specs.declared.line.Word.{Word}
 use Rattle.pm_trace.specs.declared.line.Word.TheVariants.{Number}
-use Rattle.pm_trace.specs.Line.{word_text, line_text}
-
--- a word that isn't the first of its line
-abbrev pub after_space : Word → List ℕ
-after_space word = 32 ∷ word_text word
+use Rattle.pm_trace.specs.Line.{after_space, word_text, line_text}
 
 pub line_of : (first : Word) (rest : List Word) → line_text (first ∷ rest) ≡ (word_text first ++ flat_map after_space rest) ++ 10 ∷ []
 line_of first rest = ap (λ words. words ++ 10 ∷ []) (joined first rest)

@@ -40,6 +40,7 @@ abbrev pub shown : Unit → State → ℕ
 shown (Node node) book = point node book
 shown (Line reset) book = value (Line reset) book
 
+-- the closing line of a unit, by the book and the kept values
 abbrev pub unit_text : State → Kept → Unit → List ℕ
 unit_text book kept unit = unit_line book.fixed.topology unit (shown unit book) (kept_value kept unit)
 

@@ -3,7 +3,7 @@ use Rattle.std.specs.Prelude.{ℕ, List, [], ◌∷◌, Option, Some, None}
 use Rattle.pm_base.specs.declared.errors.Exit.{Exit}
 use Rattle.pm_base.specs.declared.errors.Exit.TheVariants as exit
 use Rattle.pm_trace.specs.declared.faults.Fault.{Fault}
-use Rattle.pm_trace.specs.declared.faults.Fault.TheVariants.{Usage, Object, Text, Line, Read, Memory, Size}
+use Rattle.pm_trace.specs.declared.faults.Fault.TheVariants.{Usage, Object, Text, Line, Read, Memory, Size, Node}
 use Rattle.pm_object.specs.declared.object.ObjectCause.{ObjectCause}
 use Rattle.pm_object.specs.declared.object.ObjectCause.TheVariants as objects
 use Rattle.pm_objtext.specs.declared.fault.TextCause.{TextCause}
@@ -54,6 +54,7 @@ fault_words (Line n cause) = word.Line ∷ word.Number n ∷ word.Number (line_c
 fault_words Read = word.Read ∷ []
 fault_words Memory = word.Memory ∷ []
 fault_words Size = word.Size ∷ []
+fault_words Node = word.Node ∷ []
 
 -- the line of a fault
 abbrev pub fault_text : Fault → List ℕ
@@ -68,6 +69,7 @@ exit_by (Line n cause) = exit.BadLine
 exit_by Read = exit.ReadFault
 exit_by Memory = exit.Memory
 exit_by Size = exit.TooLarge
+exit_by Node = exit.BadText
 
 -- the exit of a command after all that it writes
 abbrev pub exit_after : Option Fault → Exit

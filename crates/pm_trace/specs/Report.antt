@@ -12,10 +12,12 @@ pub record Report : Type 0 where
   pub body : List (List ℕ)
   pub fault : Option Fault
 
+-- the line of a fault, where there is one
 abbrev pub fault_lines : Option Fault → List (List ℕ)
 fault_lines None = []
 fault_lines (Some fault) = fault_text fault ∷ []
 
+-- the pieces of a report in order: its body, and then its fault line
 abbrev pub pieces : Report → List (List ℕ)
 pieces report = report.body ++ fault_lines report.fault
 

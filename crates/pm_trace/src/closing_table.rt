@@ -72,6 +72,7 @@ fn name_of(t: &Topology, unit: Unit) -> (Word, u32)
     }
 }
 
+/// What a node of a kind is called.
 fn kind_name(kind: Kind) -> Word
     ensures { result ≡ kind_name kind }
 {

@@ -26,6 +26,8 @@ pub enum Fault {
     Memory,
     /// The script is too large.
     Size,
+    /// A word names no master of the object.
+    Node,
 }
 
 /// Leaves in `line` the line of a fault with its line feed.
@@ -60,6 +62,7 @@ pub fn write_fault(fault: Fault, line: &mut TextLine)
         Fault::Read => write_line(line, Word::Fault, &[Word::Read]),
         Fault::Memory => write_line(line, Word::Fault, &[Word::Memory]),
         Fault::Size => write_line(line, Word::Fault, &[Word::Size]),
+        Fault::Node => write_line(line, Word::Fault, &[Word::Node]),
     }
 }
 
@@ -91,7 +94,7 @@ pub fn exit(fault: Fault) -> Exit
     match fault {
         Fault::Usage => Exit::Usage,
         Fault::Object(_) => Exit::BadObject,
-        Fault::Text(_) => Exit::BadText,
+        Fault::Text(_) | Fault::Node => Exit::BadText,
         Fault::Line(_, _) => Exit::BadLine,
         Fault::Read => Exit::ReadFault,
         Fault::Memory => Exit::Memory,

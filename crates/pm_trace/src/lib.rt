@@ -1,10 +1,12 @@
-//! The lines of output: those of a step, the closing table, the line of a fault, and how a command ends.
+//! The lines of output: those of a step, the closing table, a reach, the line of a fault, and how a command
+//! ends.
 #![tactic(auto)]
 
 pub mod closing_table;
 pub mod exits;
 pub mod faults;
 pub mod line;
+pub mod reach;
 pub mod report;
 pub mod step;
 
@@ -12,5 +14,6 @@ pub use closing_table::closing;
 pub use exits::exits_say;
 pub use faults::{Fault, exit, write_fault};
 pub use line::{TextLine, Word, write_line};
+pub use reach::reach_text;
 pub use report::refuse;
 pub use step::{entries, entry};

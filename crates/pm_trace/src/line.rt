@@ -34,6 +34,17 @@ pub enum Word {
     Read,
     Memory,
     Size,
+    Node,
+    Master,
+    Myself,
+    Suspend,
+    Wake,
+    Force,
+    Reset,
+    Shutdown,
+    Config,
+    Use,
+    Above,
 }
 
 /// Leaves a line of these words, with one space between them and a line feed at the end.
@@ -50,6 +61,7 @@ pub fn write_line(line: &mut TextLine, first: Word, rest: &[Word])
     push_text(line, b"\n");
 }
 
+/// Puts a word at the end of a line.
 fn push_word(line: &mut TextLine, word: Word)
     requires room { array_vec_len line.old + width word ≤ 128 }
     ensures items { line.new.items ≡ line.old.items ++ word_text word }
@@ -59,6 +71,7 @@ fn push_word(line: &mut TextLine, word: Word)
     push_text(line, text_of(word, &mut buffer));
 }
 
+/// Puts bytes at the end of a line.
 fn push_text(line: &mut TextLine, text: &[u8])
     requires room { array_vec_len line.old + length text.now ≤ 128 }
     ensures items { line.new.items ≡ line.old.items ++ text.now }
@@ -68,7 +81,7 @@ fn push_text(line: &mut TextLine, text: &[u8])
 }
 
 /// The bytes of a word. The buffer holds those of a number.
-fn text_of<'a>(word: Word, buffer: &'a mut Buffer) -> &'a [u8]
+pub(crate) fn text_of<'a>(word: Word, buffer: &'a mut Buffer) -> &'a [u8]
     ensures text { result.now ≡ word_text word }
     ensures short { length result.now ≤ width word }
 {
@@ -94,5 +107,16 @@ fn text_of<'a>(word: Word, buffer: &'a mut Buffer) -> &'a [u8]
         Word::Read => b"read",
         Word::Memory => b"memory",
         Word::Size => b"size",
+        Word::Node => b"node",
+        Word::Master => b"master",
+        Word::Myself => b"self",
+        Word::Suspend => b"suspend",
+        Word::Wake => b"wake",
+        Word::Force => b"force",
+        Word::Reset => b"reset",
+        Word::Shutdown => b"shutdown",
+        Word::Config => b"config",
+        Word::Use => b"use",
+        Word::Above => b"above",
     }
 }

@@ -53,6 +53,7 @@ fn write_rest(n: u32, out: &Outbox, k: usize, line: &mut TextLine)
     }
 }
 
+/// The start at a place, where there is one.
 fn start_at(starts: &[Start], k: usize) -> Option<Start>
     ensures { result ≡ slice_get starts.now k }
 {
@@ -74,6 +75,7 @@ fn write_start(n: u32, start: Start, line: &mut TextLine)
     );
 }
 
+/// The command at a place, where there is one.
 fn command_at(done: &[Done], k: usize) -> Option<Done>
     ensures { result ≡ slice_get done.now k }
 {

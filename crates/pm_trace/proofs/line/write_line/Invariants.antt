@@ -1,8 +1,7 @@
 use Rattle.std.proofs.Common.{◌≡◌, ◌≤◌, ◌+◌, ◌++◌, take, drop}
 use Rattle.std.specs.List.{flat_map}
 use Rattle.arrayvec.specs.ArrayVec.{array_vec_len}
-use Rattle.pm_trace.specs.Line.{widths}
-use Rattle.pm_trace.proofs.LineLemmas.{after_space}
+use Rattle.pm_trace.specs.Line.{after_space, widths}
 use Rattle.pm_trace.proofs.line.write_line.Given as goal
 
 abbrev pub invariant-loop-word : goal.invariant-loop-word

@@ -1,0 +1,101 @@
+//! The text of a reach.
+
+ghost use Rattle.std.specs.Prelude.{◌≡◌, ◌++◌, IfOk, OnOk};
+ghost use Rattle.std.specs.List.{flat_map};
+ghost use Rattle.pm_trace.specs.Line.{after_space, word_text};
+ghost use Rattle.pm_trace.specs.Reach.{kind_word, why_word, path_words, member_text, reach_text};
+
+use crate::line::{Word, text_of};
+use itoa::Buffer;
+use pm_base::{NoMemory, NodeId};
+use pm_reach::{Member, MemberKind, Reach, Why};
+use std::alloc::Global;
+
+/// The text of a reach: a line for each member, with what it is, its number, why it is in the reach, and
+/// the path of masters that leads to it.
+///
+/// # Errors
+///
+/// `NoMemory` where there is not enough memory.
+pub fn reach_text(alloc: Global, reach: &Reach) -> Result<Vec<u8>, NoMemory>
+    ensures { IfOk result (λ text. text.items ≡ reach_text reach.now.members) }
+{
+    let mut text = Vec::new(alloc);
+    for member in reach.members.as_slice() {
+        put_member(&mut text, member)?;
+    }
+    Ok(text)
+}
+
+/// Puts the line of a member at the end of a text.
+fn put_member(text: &mut Vec<u8>, member: &Member) -> Result<(), NoMemory>
+    ensures { OnOk result (text.new.items ≡ text.old.items ++ member_text member.now) }
+{
+    put_word(text, kind_word(member.kind))?;
+    put_spaced(text, Word::Number(member.number))?;
+    put_spaced(text, why_word(member.why))?;
+    put_path(text, member.path.as_slice())?;
+    put(text, b"\n")
+}
+
+/// What a member is called.
+fn kind_word(kind: MemberKind) -> Word
+    ensures { result ≡ kind_word kind }
+{
+    match kind {
+        MemberKind::Master => Word::Master,
+        MemberKind::Slave => Word::Slave,
+        MemberKind::Power => Word::Power,
+        MemberKind::Line => Word::Line,
+    }
+}
+
+/// What the reason of a member is called.
+fn why_word(why: Why) -> Word
+    ensures { result ≡ why_word why }
+{
+    match why {
+        Why::Myself => Word::Myself,
+        Why::Suspend => Word::Suspend,
+        Why::Wake => Word::Wake,
+        Why::Force => Word::Force,
+        Why::Reset => Word::Reset,
+        Why::Shutdown => Word::Shutdown,
+        Why::Config => Word::Config,
+        Why::Uses => Word::Use,
+        Why::Above => Word::Above,
+    }
+}
+
+/// Puts the numbers of the masters of a path at the end, each after a space.
+fn put_path(text: &mut Vec<u8>, path: &[NodeId]) -> Result<(), NoMemory>
+    ensures { OnOk result (text.new.items ≡ text.old.items ++ flat_map after_space (path_words path.now)) }
+{
+    for node in path {
+        put_spaced(text, Word::Number(node.0))?;
+    }
+    Ok(())
+}
+
+/// Puts a word at the end, after a space.
+fn put_spaced(text: &mut Vec<u8>, word: Word) -> Result<(), NoMemory>
+    ensures { OnOk result (text.new.items ≡ text.old.items ++ after_space word) }
+{
+    put(text, b" ")?;
+    put_word(text, word)
+}
+
+/// Puts a word at the end.
+fn put_word(text: &mut Vec<u8>, word: Word) -> Result<(), NoMemory>
+    ensures { OnOk result (text.new.items ≡ text.old.items ++ word_text word) }
+{
+    let mut buffer = Buffer::new();
+    put(text, text_of(word, &mut buffer))
+}
+
+/// Puts bytes at the end.
+fn put(text: &mut Vec<u8>, bytes: &[u8]) -> Result<(), NoMemory>
+    ensures { OnOk result (text.new.items ≡ text.old.items ++ bytes.now) }
+{
+    text.extend_from_slice(bytes).map_err(|_| NoMemory)
+}
