@@ -13,8 +13,12 @@ mod inputs;
 #[cfg(test)]
 mod limits;
 #[cfg(test)]
+mod reach;
+#[cfg(test)]
 mod run;
 #[cfg(test)]
 mod sinks;
 #[cfg(test)]
 mod steps;
+#[cfg(test)]
+mod waking;

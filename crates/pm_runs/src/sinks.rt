@@ -10,7 +10,7 @@ use std::test::Fail;
 /// Runs what is asked over a sink of each length up to the whole text, which takes as much of it. Where
 /// the sink fails within the body the exit is WriteFault; within the fault line, also before its first
 /// byte, it stays.
-fn check_each_length(
+pub(crate) fn check_each_length(
     rt: &(impl Abort + AllocGlobal),
     asked: &Asked,
     body: &[u8],

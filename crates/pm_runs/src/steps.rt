@@ -2,6 +2,7 @@
 
 use super::run::{LABORATORY, OBJECT, check, joined, replay_of};
 use pm_base::Exit;
+use std::process::Abort;
 use std::test::Fail;
 
 /// What a run over the laboratory's object writes at load: the first processor of master 1 starts, and
@@ -195,13 +196,16 @@ end power 62 1 1
     ),
 ];
 
-#[test]
-fn each_run_of_a_master_that_has_settled_writes_its_text(rt: HostRuntime) -> Result<(), Fail> {
-    for (lines, text) in &SETTLED_RUNS {
+/// Compares each run over the laboratory's object whose first line is `ipi 1 21` with its text.
+pub(crate) fn check_settled(
+    rt: &(impl Abort + AllocGlobal),
+    runs: &[(&str, &str)],
+) -> Result<(), Fail> {
+    for (lines, text) in runs {
         let script = joined(rt.alloc(), &["ipi 1 21\n", lines])?;
         let whole = joined(rt.alloc(), &[LOADED, SETTLED, text])?;
         check(
-            &rt,
+            rt,
             &replay_of(LABORATORY, &script),
             None,
             &whole,
@@ -209,6 +213,11 @@ fn each_run_of_a_master_that_has_settled_writes_its_text(rt: HostRuntime) -> Res
         )?;
     }
     Ok(())
+}
+
+#[test]
+fn each_run_of_a_master_that_has_settled_writes_its_text(rt: HostRuntime) -> Result<(), Fail> {
+    check_settled(&rt, &SETTLED_RUNS)
 }
 
 /// The laboratory's object, in which slave 46 is in use by master 7 from its start on.

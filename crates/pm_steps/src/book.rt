@@ -120,13 +120,15 @@ fn answer_to(sender: u32, want: Want) -> Answer {
     }
 }
 
-/// What happens: a master sends a call with its first arguments, a processor is booted at an address, or one
-/// waits for an interrupt.
+/// What happens: a master sends a call with its first arguments, a processor is booted at an address, one waits
+/// for an interrupt, a slave raises its interrupt, or there is one at a processor itself.
 #[derive(Clone, Copy)]
 pub(crate) enum Trigger {
     Call(u32, u32, [u32; 4]),
     Boot(u32, u64),
     Wfi(u32),
+    Irq(u32),
+    Gic(u32),
 }
 
 pub(crate) fn event_of(trigger: Trigger) -> Event {
@@ -137,6 +139,10 @@ pub(crate) fn event_of(trigger: Trigger) -> Event {
             address,
         },
         Trigger::Wfi(proc) => Event::Wfi { proc: NodeId(proc) },
+        Trigger::Irq(slave) => Event::Irq {
+            slave: NodeId(slave),
+        },
+        Trigger::Gic(proc) => Event::Gic { proc: NodeId(proc) },
     }
 }
 

@@ -15,3 +15,5 @@ mod permitted;
 mod rows;
 #[cfg(test)]
 mod traces;
+#[cfg(test)]
+mod waking;

@@ -23,8 +23,10 @@ fn have_started(out: &Outbox, procs: &[(u32, u64)]) -> bool {
     starts.len() == procs.len()
 }
 
-/// What happens, the processors that start, and the nodes that move, each in order.
-static TRIGGERS: [(Trigger, &[(u32, u64)], &[u32]); 17] = [
+/// What happens, the processors that start, each at its address, and the nodes that move, each in order.
+pub(crate) type Turn = (Trigger, &'static [(u32, u64)], &'static [u32]);
+
+static TRIGGERS: [Turn; 17] = [
     (Trigger::Boot(7, 4096), &[(7, 4096)], &[6, 7]),
     // active processors, those of nobody, and nodes that are no processors
     (Trigger::Boot(7, 1), &[], &[]),
@@ -48,8 +50,8 @@ static TRIGGERS: [(Trigger, &[(u32, u64)], &[u32]); 17] = [
     (Trigger::Boot(3, u64::MAX), &[(3, u64::MAX)], &[3]),
 ];
 
-fn wrong_turn(desk: &mut Desk) -> Option<usize> {
-    for (place, (trigger, starts, moved)) in TRIGGERS.iter().enumerate() {
+pub(crate) fn wrong_turn(desk: &mut Desk, turns: &[Turn]) -> Option<usize> {
+    for (place, (trigger, starts, moved)) in turns.iter().enumerate() {
         desk.take(&event_of(*trigger));
         if !have_started(&desk.out, starts) || !have_moved(&desk.out, moved) {
             return Some(place);
@@ -63,7 +65,7 @@ fn processors_start_and_sleep(rt: HostRuntime) -> Result<(), Fail> {
     let mut desk = desk_of(rt.alloc(), &ONE_USER)?;
     assert!(rt; have_started(&desk.out, &[(2, 0)]));
     assert!(rt; have_moved(&desk.out, &[1, 2, 10, 11, 12, 33, 62]));
-    all_right(&rt, wrong_turn(&mut desk));
+    all_right(&rt, wrong_turn(&mut desk, &TRIGGERS));
     Ok(())
 }
 

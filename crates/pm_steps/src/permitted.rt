@@ -8,7 +8,7 @@ use pm_rows::Row;
 use std::test::Fail;
 
 /// A row in which nothing is used, scheduled, held or preallocated.
-const UNUSED: Row = Row {
+pub(crate) const UNUSED: Row = Row {
     used: false,
     now: Caps(0),
     next: Caps(0),
@@ -19,7 +19,7 @@ const UNUSED: Row = Row {
 };
 
 /// A master, a slave, and its row.
-type RowCase = (u32, u32, Option<Row>);
+pub(crate) type RowCase = (u32, u32, Option<Row>);
 
 /// A row that is used, one that isn't, and rows that aren't there.
 static ROWS: [RowCase; 4] = [
@@ -38,7 +38,7 @@ static ROWS: [RowCase; 4] = [
     (8, 11, None),
 ];
 
-fn wrong_row(book: &Book, rows: &[RowCase]) -> Option<usize> {
+pub(crate) fn wrong_row(book: &Book, rows: &[RowCase]) -> Option<usize> {
     for (place, (master, slave, row)) in rows.iter().enumerate() {
         if book.row(NodeId(*master), NodeId(*slave)) != *row {
             return Some(place);

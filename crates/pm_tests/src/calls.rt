@@ -10,7 +10,7 @@ const ACK: u32 = 3;
 
 /// The number of a call, the call that it makes with the arguments 22, 7, 5, 3 and 2, and how it is
 /// acknowledged.
-static CALLS: [(u32, Call, AckKind, NodeId); 14] = [
+static CALLS: [(u32, Call, AckKind, NodeId); 17] = [
     (0, Call::Unknown, AckKind::Blocking, NodeId(0)),
     (1, Call::GetApiVersion, AckKind::Blocking, NodeId(0)),
     (2, Call::Unknown, AckKind::Blocking, NodeId(0)),
@@ -38,6 +38,27 @@ static CALLS: [(u32, Call, AckKind, NodeId); 14] = [
         AckKind::Blocking,
         NodeId(0),
     ),
+    (
+        10,
+        Call::RequestWakeup {
+            node: NODE,
+            address: Some(0x5_0000_0006),
+            ack: ACK,
+        },
+        AckKind::NonBlocking,
+        NODE,
+    ),
+    (
+        11,
+        Call::SetWakeupSource {
+            target: NODE,
+            source: NodeId(7),
+            enable: 5,
+        },
+        AckKind::Blocking,
+        NodeId(0),
+    ),
+    (12, Call::Unknown, AckKind::Blocking, NodeId(0)),
     (
         13,
         Call::RequestNode {
@@ -96,4 +117,39 @@ fn wrong_call() -> Option<usize> {
 #[test]
 fn a_message_makes_a_call(rt: HostRuntime) {
     all_right(&rt, wrong_call());
+}
+
+/// The low and the high word of a wake-up, and its address: bit 0 says that there is one, and is no part of it.
+static ADDRESSES: [(u32, u32, Option<u64>); 8] = [
+    (0, 0, None),
+    (1, 0, Some(0)),
+    (4096, 7, None),
+    (4097, 0, Some(4096)),
+    (4099, 7, Some(0x7_0000_1002)),
+    (u32::MAX - 1, u32::MAX, None),
+    (u32::MAX, 0, Some(0xFFFF_FFFE)),
+    (u32::MAX, u32::MAX, Some(0xFFFF_FFFF_FFFF_FFFE)),
+];
+
+fn wrong_address() -> Option<usize> {
+    for (place, (low, high, address)) in ADDRESSES.iter().enumerate() {
+        let message = Message {
+            api: 10,
+            args: [22, *low, *high, ACK, 2],
+        };
+        let call = Call::RequestWakeup {
+            node: NODE,
+            address: *address,
+            ack: ACK,
+        };
+        if decode_call(&message) != call {
+            return Some(place);
+        }
+    }
+    None
+}
+
+#[test]
+fn bit_0_of_the_low_word_says_that_a_wake_up_has_an_address(rt: HostRuntime) {
+    all_right(&rt, wrong_address());
 }

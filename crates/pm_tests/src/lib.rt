@@ -16,13 +16,21 @@ mod inputs;
 #[cfg(test)]
 mod lines;
 #[cfg(test)]
+mod notify;
+#[cfg(test)]
 mod objects;
+#[cfg(test)]
+mod permits;
 #[cfg(test)]
 mod procs;
 #[cfg(test)]
 mod reach;
 #[cfg(test)]
+mod reach_masters;
+#[cfg(test)]
 mod requirements;
+#[cfg(test)]
+mod resets;
 #[cfg(test)]
 mod rows;
 #[cfg(test)]

@@ -152,7 +152,7 @@ const SPACES: &[u8] = &[b' '; 256];
 const ZEROS: &[u8] = &[0; 256];
 
 /// A line, and the first of its faults.
-static FAULTS: [(&[u8], LineFault); 39] = [
+static FAULTS: [(&[u8], LineFault); 51] = [
     (b"ipi 1 3 11#", LineFault::Number),
     (b"ipi 1 2 3 4 5 6 4294967296", LineFault::Number),
     (b"ipi -1 3", LineFault::Number),
@@ -174,8 +174,16 @@ static FAULTS: [(&[u8], LineFault); 39] = [
     (b"wfi 4294967296", LineFault::Number),
     (b"wfi x", LineFault::Number),
     (b"Boot 7 0", LineFault::Unknown),
-    (b"irq 35", LineFault::Unknown),
-    (b"gic 7", LineFault::Unknown),
+    (b"irq", LineFault::Count),
+    (b"irq 46 46", LineFault::Count),
+    (b"irq 4294967296", LineFault::Number),
+    (b"irq x", LineFault::Number),
+    (b"irqs 46", LineFault::Unknown),
+    (b"gic", LineFault::Count),
+    (b"gic 7 7", LineFault::Count),
+    (b"gic 0x100000000", LineFault::Number),
+    (b"gic -7", LineFault::Number),
+    (b"GIC 7", LineFault::Unknown),
     (b"tick 1", LineFault::Unknown),
     (b"# \x7F", LineFault::NotAscii),
     (b"ipi 1 3\r\r", LineFault::NotAscii),
@@ -184,6 +192,10 @@ static FAULTS: [(&[u8], LineFault); 39] = [
     (b"ipi x", LineFault::Count),
     (b"boot x", LineFault::Count),
     (b"wfi 7 x", LineFault::Count),
+    (b"irq x 46", LineFault::Count),
+    (b"gic x 7", LineFault::Count),
+    (b"irq \x80", LineFault::NotAscii),
+    (b"gic 7\r\r", LineFault::NotAscii),
     (b"boot x y z", LineFault::Count),
     (b"boots x 0", LineFault::Unknown),
     (b"boot x 0\x80", LineFault::NotAscii),
@@ -196,11 +208,13 @@ static FAULTS: [(&[u8], LineFault); 39] = [
 ];
 
 /// How a line begins, and its fault where it goes on with spaces up to the greatest length.
-static STARTS: [(&[u8], LineFault); 4] = [
+static STARTS: [(&[u8], LineFault); 6] = [
     (b"wfi \x80", LineFault::NotAscii),
     (b"wait", LineFault::Unknown),
     (b"wfi", LineFault::Count),
     (b"wfi x", LineFault::Number),
+    (b"irq", LineFault::Count),
+    (b"gic x", LineFault::Number),
 ];
 
 /// Whether the line has its fault up to the greatest length, and is too long with one byte more.
@@ -255,17 +269,38 @@ fn a_line_boots_a_processor(rt: HostRuntime) {
     all_right(&rt, wrong_boot());
 }
 
-/// A line, and the processor that waits for an interrupt.
-static WAITS: [(&[u8], u32); 3] = [
-    (b"wfi 7", 7),
-    (b"wfi 0xffffffff", u32::MAX),
-    (b"\twfi 07\r", 7),
+/// A line, and what happens in it: a processor waits for an interrupt, a slave raises its own, or there is one
+/// at a processor itself.
+static EVENTS: [(&[u8], Event); 9] = [
+    (b"wfi 7", Event::Wfi { proc: NodeId(7) }),
+    (
+        b"wfi 0xffffffff",
+        Event::Wfi {
+            proc: NodeId(u32::MAX),
+        },
+    ),
+    (b"\twfi 07\r", Event::Wfi { proc: NodeId(7) }),
+    (b"irq 46", Event::Irq { slave: NodeId(46) }),
+    (
+        b"irq 0xffffffff # a",
+        Event::Irq {
+            slave: NodeId(u32::MAX),
+        },
+    ),
+    (b" irq\t0x2E\r", Event::Irq { slave: NodeId(46) }),
+    (b"gic 7", Event::Gic { proc: NodeId(7) }),
+    (
+        b"gic 4294967295",
+        Event::Gic {
+            proc: NodeId(u32::MAX),
+        },
+    ),
+    (b"\tgic 07 \r", Event::Gic { proc: NodeId(7) }),
 ];
 
-fn wrong_wait() -> Option<usize> {
-    for (place, (line, proc)) in WAITS.iter().enumerate() {
-        let proc = NodeId(*proc);
-        if parse_line(line) != Ok(Event::Wfi { proc }) {
+fn wrong_event() -> Option<usize> {
+    for (place, (line, event)) in EVENTS.iter().enumerate() {
+        if parse_line(line) != Ok(*event) {
             return Some(place);
         }
     }
@@ -273,8 +308,8 @@ fn wrong_wait() -> Option<usize> {
 }
 
 #[test]
-fn a_line_lets_a_processor_wait(rt: HostRuntime) {
-    all_right(&rt, wrong_wait());
+fn a_line_is_a_wait_or_an_interrupt(rt: HostRuntime) {
+    all_right(&rt, wrong_event());
 }
 
 /// Lines in which nothing happens.

@@ -1,9 +1,12 @@
-//! The modes of processors and of the masters that have them.
+//! The modes of processors and of the masters that have them, and to which master a processor belongs.
 
 use crate::chip::chip;
+use crate::permits::{HEAD, object_of};
 use crate::rows::all_right;
-use pm_base::{List, Mode};
+use pm_base::{List, Mode, NodeId};
+use pm_perms::owner_of;
 use pm_procs::{Proc, Procs};
+use pm_topology::Topology;
 use std::alloc::Global;
 use std::test::Fail;
 
@@ -104,5 +107,37 @@ fn what_is_not_there_is_off(rt: HostRuntime) -> Result<(), Fail> {
     assert_eq!(rt; procs.proc(99), Proc::off());
     assert_eq!(rt; procs.members(0), [4, 1].as_slice());
     assert!(rt; procs.members(3).is_empty());
+    Ok(())
+}
+
+/// How the text of an object goes on, a node, and the place of the master to which it belongs.
+static OWNERS: [(&str, u32, Option<usize>); 9] = [
+    ("master 1 0x1 0 0 0\nmaster 7 0x100 0 0 0\n", 2, Some(0)),
+    ("master 1 0x1 0 0 0\nmaster 7 0x100 0 0 0\n", 5, Some(0)),
+    ("master 1 0x1 0 0 0\nmaster 7 0x100 0 0 0\n", 7, Some(1)),
+    ("master 7 0x100 0 0 0\nmaster 1 0x1 0 0 0\n", 5, Some(1)),
+    ("master 6 0x100 0 0 0\n", 7, Some(0)),
+    // a processor that no configured master has, also the second one in lock-step
+    ("master 1 0x1 0 0 0\nmaster 7 0x100 0 0 0\n", 8, None),
+    ("master 6 0x100 0 0 0\n", 8, None),
+    // nodes that are no processors, though one has the number of a master
+    ("master 1 0x1 0 0 0\n", 1, None),
+    ("master 1 0x1 0 0 0\n", 33, None),
+];
+
+fn wrong_owner(alloc: Global, chip: &Topology) -> Result<Option<usize>, Fail> {
+    for (place, (rest, proc, want)) in OWNERS.iter().enumerate() {
+        let object = object_of(alloc, HEAD, rest)?;
+        if owner_of(&object, chip, NodeId(*proc)) != *want {
+            return Ok(Some(place));
+        }
+    }
+    Ok(None)
+}
+
+#[test]
+fn a_processor_belongs_to_the_first_master_that_has_it(rt: HostRuntime) -> Result<(), Fail> {
+    let chip = Box::new(rt.alloc(), chip(rt.alloc())?)?;
+    all_right(&rt, wrong_owner(rt.alloc(), &chip)?);
     Ok(())
 }

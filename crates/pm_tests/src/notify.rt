@@ -1,0 +1,199 @@
+//! Notifiers, and the notes that wait for a master.
+
+use crate::chip::chip;
+use crate::rows::all_right;
+use pm_base::NodeId;
+use pm_notify::{NodeEvent, Note, Notify, Waiting};
+use std::test::Fail;
+
+const CHANGE: NodeEvent = NodeEvent::Change;
+
+const ZERO_USERS: NodeEvent = NodeEvent::ZeroUsers;
+
+/// What is done with the notifiers and slots of three masters, and what is expected.
+enum Deed {
+    /// A master, a node and an event: the notifier is put on or off.
+    Put(usize, u32, NodeEvent, bool),
+    /// A master, a node and an event: whether it is asked for.
+    Asked(usize, u32, NodeEvent, bool),
+    /// A note waits for a master about a node.
+    Wait(usize, u32, Note),
+    /// A master takes this note about a node.
+    Takes(usize, u32, Note),
+    /// Nothing waits for a master.
+    Empty(usize),
+    /// A master's mail is cleared.
+    Clear(usize),
+}
+
+/// Notifiers: each is on or off by itself, and cleared with its master's.
+static NOTIFIERS: [Deed; 29] = [
+    Deed::Asked(0, 11, CHANGE, false),
+    Deed::Put(0, 11, CHANGE, true),
+    Deed::Asked(0, 11, CHANGE, true),
+    Deed::Asked(0, 11, ZERO_USERS, false),
+    Deed::Asked(1, 11, CHANGE, false),
+    Deed::Asked(0, 12, CHANGE, false),
+    Deed::Put(0, 11, CHANGE, true),
+    Deed::Put(0, 10, ZERO_USERS, true),
+    Deed::Put(2, 11, ZERO_USERS, true),
+    Deed::Asked(0, 10, ZERO_USERS, true),
+    Deed::Asked(0, 10, CHANGE, false),
+    Deed::Asked(2, 11, ZERO_USERS, true),
+    Deed::Asked(2, 11, CHANGE, false),
+    Deed::Put(0, 11, CHANGE, false),
+    Deed::Asked(0, 11, CHANGE, false),
+    Deed::Asked(0, 10, ZERO_USERS, true),
+    Deed::Put(0, 62, CHANGE, true),
+    // the chip has no node 1000, and there is no fourth master
+    Deed::Put(0, 1000, CHANGE, true),
+    Deed::Asked(0, 1000, CHANGE, false),
+    Deed::Put(3, 11, CHANGE, true),
+    Deed::Asked(3, 11, CHANGE, false),
+    Deed::Clear(3),
+    Deed::Asked(0, 62, CHANGE, true),
+    Deed::Clear(0),
+    Deed::Asked(0, 62, CHANGE, false),
+    Deed::Asked(0, 10, ZERO_USERS, false),
+    Deed::Asked(2, 11, ZERO_USERS, true),
+    Deed::Put(0, 62, CHANGE, true),
+    Deed::Asked(0, 62, CHANGE, true),
+];
+
+/// Notes are taken by the number of their node and then by their kind: power node 1 comes before processor 2
+/// and slave 11, though the chip's tables have processors and slaves in other places.
+static ORDER: [Deed; 22] = [
+    Deed::Empty(1),
+    Deed::Wait(1, 33, Note::Change),
+    Deed::Wait(1, 11, Note::ZeroUsers),
+    Deed::Wait(1, 62, Note::Ack { status: 0 }),
+    Deed::Wait(1, 11, Note::Ack { status: 2005 }),
+    Deed::Wait(1, 2, Note::Change),
+    Deed::Wait(1, 11, Note::Change),
+    Deed::Wait(1, 1, Note::Ack { status: 15 }),
+    Deed::Wait(1, 10, Note::Change),
+    Deed::Empty(0),
+    Deed::Empty(2),
+    Deed::Takes(1, 1, Note::Ack { status: 15 }),
+    Deed::Takes(1, 2, Note::Change),
+    Deed::Takes(1, 10, Note::Change),
+    Deed::Takes(1, 11, Note::Ack { status: 2005 }),
+    Deed::Takes(1, 11, Note::Change),
+    // a note that comes while others are taken stands in its place
+    Deed::Wait(1, 1, Note::ZeroUsers),
+    Deed::Takes(1, 1, Note::ZeroUsers),
+    Deed::Takes(1, 11, Note::ZeroUsers),
+    Deed::Takes(1, 33, Note::Change),
+    Deed::Takes(1, 62, Note::Ack { status: 0 }),
+    Deed::Empty(1),
+];
+
+/// One slot for each master, node and kind: the last note counts, and no other slot notices.
+static SLOTS: [Deed; 26] = [
+    Deed::Wait(0, 33, Note::Ack { status: 0 }),
+    Deed::Wait(0, 33, Note::Ack { status: 2006 }),
+    Deed::Wait(2, 33, Note::Ack { status: 19 }),
+    Deed::Takes(0, 33, Note::Ack { status: 2006 }),
+    Deed::Empty(0),
+    Deed::Takes(2, 33, Note::Ack { status: 19 }),
+    Deed::Empty(2),
+    Deed::Wait(0, 33, Note::Change),
+    Deed::Wait(0, 33, Note::Change),
+    Deed::Wait(0, 33, Note::ZeroUsers),
+    Deed::Takes(0, 33, Note::Change),
+    Deed::Takes(0, 33, Note::ZeroUsers),
+    Deed::Empty(0),
+    // nothing waits about a node that the chip doesn't have, nor for a master that isn't there
+    Deed::Wait(0, 1000, Note::Ack { status: 2003 }),
+    Deed::Wait(3, 33, Note::Change),
+    Deed::Empty(0),
+    Deed::Empty(3),
+    // what was asked for stays when notes are taken, and a cleared master loses both
+    Deed::Put(1, 33, CHANGE, true),
+    Deed::Wait(1, 33, Note::Change),
+    Deed::Wait(2, 33, Note::Change),
+    Deed::Takes(1, 33, Note::Change),
+    Deed::Asked(1, 33, CHANGE, true),
+    Deed::Wait(1, 11, Note::ZeroUsers),
+    Deed::Clear(1),
+    Deed::Empty(1),
+    Deed::Takes(2, 33, Note::Change),
+];
+
+fn is_taken(taken: Option<Waiting>, node: u32, note: Note) -> bool {
+    match taken {
+        Some(waiting) => waiting.node.0 == node && waiting.note == note,
+        None => false,
+    }
+}
+
+/// Does what a row says, and answers whether what comes is expected.
+fn is_right(notify: &mut Notify, deed: &Deed) -> bool {
+    match deed {
+        Deed::Put(master, node, event, on) => {
+            notify.put(*master, NodeId(*node), *event, *on);
+            true
+        }
+        Deed::Asked(master, node, event, on) => {
+            notify.asked(*master, NodeId(*node), *event) == *on
+        }
+        Deed::Wait(master, node, note) => {
+            notify.wait(*master, NodeId(*node), *note);
+            true
+        }
+        Deed::Takes(master, node, note) => is_taken(notify.take(*master), *node, *note),
+        Deed::Empty(master) => notify.take(*master).is_none(),
+        Deed::Clear(master) => {
+            notify.clear(*master);
+            true
+        }
+    }
+}
+
+/// The place of the first row that comes to something else.
+fn wrong_deed(notify: &mut Notify, deeds: &[Deed]) -> Option<usize> {
+    for (place, deed) in deeds.iter().enumerate() {
+        if !is_right(notify, deed) {
+            return Some(place);
+        }
+    }
+    None
+}
+
+#[test]
+fn each_notifier_is_on_or_off_by_itself(rt: HostRuntime) -> Result<(), Fail> {
+    let mut notify = Notify::load(rt.alloc(), &chip(rt.alloc())?, 3)?;
+    all_right(&rt, wrong_deed(&mut notify, &NOTIFIERS));
+    Ok(())
+}
+
+#[test]
+fn notes_are_taken_by_node_and_then_by_kind(rt: HostRuntime) -> Result<(), Fail> {
+    let mut notify = Notify::load(rt.alloc(), &chip(rt.alloc())?, 3)?;
+    all_right(&rt, wrong_deed(&mut notify, &ORDER));
+    Ok(())
+}
+
+#[test]
+fn a_later_note_takes_the_slot_of_an_earlier_one(rt: HostRuntime) -> Result<(), Fail> {
+    let mut notify = Notify::load(rt.alloc(), &chip(rt.alloc())?, 3)?;
+    all_right(&rt, wrong_deed(&mut notify, &SLOTS));
+    Ok(())
+}
+
+#[test]
+fn an_event_has_its_number(rt: HostRuntime) -> Result<(), Fail> {
+    let events = [
+        NodeEvent::from_number(0),
+        NodeEvent::from_number(1),
+        NodeEvent::from_number(2),
+        NodeEvent::from_number(3),
+    ];
+    assert_eq!(rt; events, [None, Some(CHANGE), Some(ZERO_USERS), None]);
+    assert_eq!(rt; (CHANGE.number(), ZERO_USERS.number()), (1, 2));
+    assert_eq!(rt;
+        (CHANGE.note(), ZERO_USERS.note()),
+        (Note::Change, Note::ZeroUsers)
+    );
+    Ok(())
+}
