@@ -4,7 +4,7 @@ use Rattle.pm_base.specs.declared.caps.Caps.{Caps}
 use Rattle.pm_base.specs.declared.names.NodeId.{NodeId}
 use Rattle.pm_base.specs.declared.events.Message.{Message}
 use Rattle.pm_ipi.specs.declared.calls.Call.{Call}
-use Rattle.pm_ipi.specs.declared.calls.Call.TheVariants.{GetApiVersion, GetNodeStatus, SelfSuspend, AbortSuspend, RequestWakeup, SetWakeupSource, RequestNode, ReleaseNode, SetRequirement, SetMaxLatency, InitFinalize, Unknown}
+use Rattle.pm_ipi.specs.declared.calls.Call.TheVariants.{GetApiVersion, GetNodeStatus, RequestSuspend, SelfSuspend, AbortSuspend, RequestWakeup, SetWakeupSource, RequestNode, ReleaseNode, SetRequirement, SetMaxLatency, InitFinalize, Unknown}
 use Rattle.pm_ipi.specs.declared.calls.AckKind.{AckKind}
 use Rattle.pm_ipi.specs.declared.calls.AckKind.TheVariants.{No, Blocking, NonBlocking}
 
@@ -31,6 +31,11 @@ get_api_version message = GetApiVersion
 -- GET_NODE_STATUS: the node
 abbrev pub get_node_status : Message → Call
 get_node_status message = GetNodeStatus (node_word message 0)
+
+-- REQUEST_SUSPEND: the node that names the master that is asked, the acknowledge kind, and the latency and the state that the
+-- master is told
+abbrev pub request_suspend : Message → Call
+request_suspend message = RequestSuspend (node_word message 0) (argument message 1) (argument message 2) (argument message 3)
 
 -- SELF_SUSPEND: the processor, the latency and the state, which nothing depends on, and the low and the high word of the
 -- address at which it resumes
@@ -79,6 +84,7 @@ abbrev pub call_of : Message → Call
 call_of message =
     if message.api == 1 then get_api_version message
     else if message.api == 3 then get_node_status message
+    else if message.api == 6 then request_suspend message
     else if message.api == 7 then self_suspend message
     else if message.api == 9 then abort_suspend message
     else if message.api == 10 then request_wakeup message
@@ -104,6 +110,7 @@ kind_or_reply None = Blocking
 kind_or_reply (Some kind) = kind
 
 abbrev pub ack_of : Call → AckKind
+ack_of (RequestSuspend node ack latency state) = kind_or_reply (ack_kind ack)
 ack_of (RequestWakeup node address ack) = kind_or_reply (ack_kind ack)
 ack_of (RequestNode node caps ack) = kind_or_reply (ack_kind ack)
 ack_of (SetRequirement node caps ack) = kind_or_reply (ack_kind ack)
@@ -111,6 +118,7 @@ ack_of _ = Blocking
 
 -- the node that the acknowledgement of a call names, for the calls that have an acknowledge kind
 abbrev pub node_of : Call → NodeId
+node_of (RequestSuspend node ack latency state) = node
 node_of (RequestWakeup node address ack) = node
 node_of (RequestNode node caps ack) = node
 node_of (SetRequirement node caps ack) = node

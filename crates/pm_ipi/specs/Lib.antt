@@ -1,3 +1,4 @@
+pub mod Callbacks
 pub mod Calls
 pub mod Responses
 pub mod Status

@@ -19,5 +19,11 @@ invalid_node = 2003
 abbrev pub double_request : ℕ
 double_request = 2004
 
+abbrev pub abort_suspend : ℕ
+abort_suspend = 2005
+
+abbrev pub timeout : ℕ
+timeout = 2006
+
 abbrev pub node_used : ℕ
 node_used = 2007

@@ -21,6 +21,13 @@ pub enum Call {
     GetNodeStatus {
         node: NodeId,
     },
+    /// The master that the node names is asked to suspend. The latency and the state are passed on to it.
+    RequestSuspend {
+        node: NodeId,
+        ack: u32,
+        latency: u32,
+        state: u32,
+    },
     /// The processor suspends, and resumes at the address.
     SelfSuspend {
         node: NodeId,
@@ -78,6 +85,12 @@ pub fn decode_call(message: &Message) -> Call
     match message.api {
         1 => Call::GetApiVersion,
         3 => Call::GetNodeStatus { node },
+        6 => Call::RequestSuspend {
+            node,
+            ack: args[1],
+            latency: args[2],
+            state: args[3],
+        },
         7 => Call::SelfSuspend {
             node,
             address: address(args[3], args[4]),
@@ -144,7 +157,8 @@ impl Call {
         ensures { result ≡ ack_of self.now }
     {
         match self {
-            Call::RequestWakeup { ack, .. }
+            Call::RequestSuspend { ack, .. }
+            | Call::RequestWakeup { ack, .. }
             | Call::RequestNode { ack, .. }
             | Call::SetRequirement { ack, .. } => { ack_kind(*ack).unwrap_or(AckKind::Blocking) }
             _ => AckKind::Blocking,
@@ -157,7 +171,8 @@ impl Call {
         ensures { result ≡ node_of self.now }
     {
         match self {
-            Call::RequestWakeup { node, .. }
+            Call::RequestSuspend { node, .. }
+            | Call::RequestWakeup { node, .. }
             | Call::RequestNode { node, .. }
             | Call::SetRequirement { node, .. } => *node,
             _ => NodeId(0),

@@ -1,7 +1,7 @@
 //! What a call is answered.
 
 ghost use Rattle.std.specs.Prelude.{◌≡◌};
-ghost use Rattle.pm_ipi.specs.Responses.{success, refusal, used_by};
+ghost use Rattle.pm_ipi.specs.Responses.{success, refusal, response_words, used_by};
 
 use crate::status::{NODE_USED, SUCCESS};
 use pm_base::NodeId;
@@ -44,4 +44,12 @@ impl Response {
             words: [master.0, 0, 0],
         }
     }
+}
+
+/// The words of a reply: the status of the response, and then the words that it tells.
+pub fn respond(response: &Response) -> [u32; 4]
+    ensures { result ≡ response_words response.now }
+{
+    let words = response.words;
+    [response.status, words[0], words[1], words[2]]
 }

@@ -13,7 +13,12 @@ pub const NO_FEATURE: u32 = 19;
 pub const NO_ACCESS: u32 = 2002;
 /// No such node, or not of the kind that the call takes.
 pub const INVALID_NODE: u32 = 2003;
-/// The caller uses the slave already.
+/// The caller uses the slave already, the processor suspends already, or a request to suspend is pending
+/// on the master already.
 pub const DOUBLE_REQUEST: u32 = 2004;
+/// The master that was asked to suspend goes on.
+pub const ABORT_SUSPEND: u32 = 2005;
+/// The master that was asked to suspend didn't do so in its time.
+pub const TIMEOUT: u32 = 2006;
 /// Another master uses the slave, and it can't be shared.
 pub const NODE_USED: u32 = 2007;

@@ -13,7 +13,7 @@ use std::alloc::Global;
 
 /// Whether the node is a master's: the application processors, the real-time processors as a pair
 /// in lockstep, or one of them alone (UG1200, nodes).
-fn is_master(node: u32) -> bool
+pub fn is_master_node(node: u32) -> bool
     ensures { result ≡ is_master_node node }
 {
     matches!(node, 1 | 6 | 7 | 8)
@@ -42,7 +42,7 @@ fn has_bit(earlier: &[MasterRec], mask: u32) -> bool
 pub fn is_bad_node(earlier: &[MasterRec], node: u32) -> bool
     ensures { result ≡ is_bad_node earlier.now node }
 {
-    !is_master(node) || has_split(earlier, node)
+    !is_master_node(node) || has_split(earlier, node)
 }
 
 /// Whether a mask hasn't exactly one bit, or has an earlier master's.

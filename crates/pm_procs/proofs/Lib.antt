@@ -1,2 +1,4 @@
 pub mod MastersLaw
 pub mod ModeLemmas
+pub mod PendingLaw
+pub mod Places

@@ -2,7 +2,7 @@
 use Rattle.std.proofs.Common.{◌≡◌, ◌≢◌, ℕ, ◌<◌, Bool, true, false, ◌==◌, List, length, true≢false, refl, ap, sym, ◌∙◌, arith, ⊎_elim}
 use Rattle.std.specs.Prelude.{slice_set}
 use Rattle.std.specs.List.{list_any}
-use Rattle.std.proofs.lemmas.List.{get_or-set_same, get_or-set_other, get_or-replicate, get_or_past, length-replicate, set_past}
+use Rattle.std.proofs.lemmas.List.{get_or-replicate, get_or_past, length-replicate, set_past}
 use Rattle.std.proofs.lemmas.Bool.{cases_lt}
 use Rattle.std.proofs.lemmas.Bool.Decides.{nat_tests}
 use Rattle.std.proofs.lemmas.Option.{unwrap_or-slice_get}
@@ -13,15 +13,15 @@ use Rattle.pm_procs.specs.declared.procs.Proc.{Proc}
 use Rattle.pm_procs.specs.Modes.{mode_among}
 use Rattle.pm_procs.specs.Procs.{all_off, gone, has_member, master_mode_in, members_at, mode_at, off, proc_at, with_address, with_mode}
 use Rattle.pm_procs.proofs.ModeLemmas.{active_among, modes_alike, off_among}
+use Rattle.pm_procs.proofs.Places as place
 
 -- ---- one processor is written
 
 set_here : (p : ℕ) (proc : Proc) (procs : List Proc) → p < length procs → proc_at p (slice_set procs p proc) ≡ proc
-set_here p proc procs within = unwrap_or-slice_get (slice_set procs p proc) p off ∙ get_or-set_same procs p proc off within
+set_here p proc procs within = place.set_here p proc off procs within
 
 set_there : (p q : ℕ) (proc : Proc) (procs : List Proc) → q ≢ p → proc_at q (slice_set procs p proc) ≡ proc_at q procs
-set_there p q proc procs other =
-    unwrap_or-slice_get (slice_set procs p proc) q off ∙ get_or-set_other procs p q proc off other ∙ sym (unwrap_or-slice_get procs q off)
+set_there p q proc procs other = place.set_there p q proc off procs other
 
 gone_to : (to : Mode) (proc : Proc) → (gone to proc).mode ≡ to
 gone_to Off proc = refl

@@ -1,15 +1,18 @@
 -- The processors of a chip: the mode and the resume address of each, and which master has which of them.
-use Rattle.std.specs.Prelude.{ℕ, ◌==◌, Bool, List, map, slice_get, slice_set, unwrap_or, replicate, []}
+use Rattle.std.specs.Prelude.{ℕ, ◌==◌, Bool, List, Option, map, slice_get, slice_set, unwrap_or, replicate, []}
 use Rattle.std.specs.List.{list_any}
 use Rattle.pm_base.specs.declared.names.Mode.{Mode}
 use Rattle.pm_base.specs.declared.names.Mode.TheVariants.{Off, Active, Asleep, Suspending}
+use Rattle.pm_procs.specs.declared.pending.Pending.{Pending}
 use Rattle.pm_procs.specs.declared.procs.Proc.{Proc}
 use Rattle.pm_procs.specs.Modes.{mode_among}
 
--- each processor by its place, and for each master the places of its processors, the first one first
+-- each processor by its place; and for each master by its place, the places of its processors, the first one first, and
+-- the request to suspend that is pending on it
 pub record Procs : Type 0 where
   pub procs : List Proc
   pub members : List (List ℕ)
+  pub pending : List (Option Pending)
 
 -- a processor that is off
 abbrev pub off : Proc

@@ -1,9 +1,11 @@
-//! Laws of the processors and of the modes of masters.
+//! Laws of the processors, of the modes of masters, and of what is pending on those.
 
-ghost use Rattle.std.specs.Prelude.{◌≡◌, ◌≢◌, ℕ, ◌<◌, List, false, true, length};
+ghost use Rattle.std.specs.Prelude.{◌≡◌, ◌≢◌, ℕ, ◌+◌, ◌<◌, List, Option, false, true, length, option_map};
 ghost use Rattle.pm_base.specs.declared.names.Mode.{Mode};
 ghost use Rattle.pm_base.specs.declared.names.Mode.TheVariants.{Active, Off};
+ghost use Rattle.pm_procs.specs.declared.pending.Pending.{Pending};
 ghost use Rattle.pm_procs.specs.declared.procs.Proc.{Proc};
+ghost use Rattle.pm_procs.specs.Pending.{all_lowered, asked, ended, is_due, lowered, none_pending, pending_at};
 ghost use Rattle.pm_procs.specs.Procs.{all_off, has_member, master_mode_in, members_at, mode_at, proc_at, with_address, with_mode};
 
 /// A processor that goes to a mode has it then, and no other processor and no master that doesn't have
@@ -23,4 +25,26 @@ pub fn modes_of_masters()
     ensures load { (m count : ℕ) (members : List (List ℕ)) → master_mode_in m members (all_off count) ≡ Off }
     ensures length_mode { (p : ℕ) (to : Mode) (procs : List Proc) → length (with_mode p to procs) ≡ length procs }
     ensures length_address { (p a : ℕ) (procs : List Proc) → length (with_address p a procs) ≡ length procs }
+{}
+
+/// A request that is made is pending on the master that it asks, one that ended is not, and what is pending
+/// on the other masters stays. Time passes for each request alike, and in parts as at once: a request is
+/// due where its time is no more than all the time that passed. Nothing is pending at load.
+pub fn requests_of_masters()
+    ensures asks { (m : ℕ) (request : Pending) (pending : List (Option Pending))
+        → m < length pending → pending_at m (asked m request pending) ≡ Some request }
+    ensures asks_one { (m n : ℕ) (request : Pending) (pending : List (Option Pending))
+        → n ≢ m → pending_at n (asked m request pending) ≡ pending_at n pending }
+    ensures ends { (m : ℕ) (pending : List (Option Pending)) → pending_at m (ended m pending) ≡ None }
+    ensures ends_one { (m n : ℕ) (pending : List (Option Pending)) → n ≢ m → pending_at n (ended m pending) ≡ pending_at n pending }
+    ensures passes { (m count : ℕ) (pending : List (Option Pending))
+        → pending_at m (all_lowered count pending) ≡ option_map (lowered count) (pending_at m pending) }
+    ensures adds { (first second : ℕ) (pending : List (Option Pending))
+        → all_lowered second (all_lowered first pending) ≡ all_lowered (first + second) pending }
+    ensures due { (first second : ℕ) (request : Pending) → is_due second (lowered first request) ≡ is_due (first + second) request }
+    ensures load { (m masters : ℕ) → pending_at m (none_pending masters) ≡ None }
+    ensures length_asked { (m : ℕ) (request : Pending) (pending : List (Option Pending)) → length (asked m request pending) ≡ length pending }
+    ensures length_ended { (m : ℕ) (pending : List (Option Pending)) → length (ended m pending) ≡ length pending }
+    ensures length_lowered { (count : ℕ) (pending : List (Option Pending)) → length (all_lowered count pending) ≡ length pending }
+    ensures length_load { (masters : ℕ) → length (none_pending masters) ≡ masters }
 {}

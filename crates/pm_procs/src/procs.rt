@@ -3,9 +3,11 @@
 ghost use Rattle.std.specs.Prelude.{◌≡◌, IfOk, length, map, slice_set};
 ghost use Rattle.std.specs.List.{list_any};
 ghost use Rattle.pm_procs.specs.Modes.{has_mode, same_mode as is_same};
+ghost use Rattle.pm_procs.specs.Pending.{all_lowered, asked, ended, none_pending, pending_at};
 ghost use Rattle.pm_procs.specs.Procs.{all_off, gone, master_mode, members_at, mode_at, off, proc_at, with_address, with_mode};
 
 use crate::modes::same_mode;
+use crate::pending::{self, Pending};
 use pm_base::{List, Mode, NoMemory};
 use pm_topology::Topology;
 use std::alloc::Global;
@@ -44,14 +46,16 @@ impl Proc {
     }
 }
 
-/// The processors of a chip by their places in its table, and for each master the places of the
-/// processors that it has, its first one first.
+/// The processors of a chip by their places in its table; and for each master the places of the
+/// processors that it has, its first one first, and the request to suspend that is pending on it.
 ///
-/// A processor that isn't there is off, and a master that isn't there has no processors.
+/// A processor that isn't there is off. A master that isn't there has no processors, and nothing is
+/// pending on it.
 #[derive(Debug, Drop)]
 pub struct Procs {
     procs: Vec<Proc>,
     members: List<List<usize>>,
+    pending: Vec<Option<Pending>>,
 }
 
 impl Model for Procs {
@@ -59,12 +63,12 @@ impl Model for Procs {
 
     ghost Value = { Procs };
 
-    ghost view = { λ procs. record { procs = procs.procs.items; members = procs.members } };
+    ghost view = { λ procs. record { procs = procs.procs.items; members = procs.members; pending = procs.pending.items } };
 }
 
 impl Procs {
-    /// The processors of a chip at load: all are off. `members` has for each master the places of its
-    /// processors.
+    /// The processors of a chip at load: all are off, and nothing is pending. `members` has for each
+    /// master the places of its processors.
     ///
     /// # Errors
     ///
@@ -72,9 +76,15 @@ impl Procs {
     pub fn load(alloc: Global, t: &Topology, members: List<List<usize>>) -> Result<Procs, NoMemory>
         ensures procs { IfOk result (λ loaded. loaded.procs ≡ all_off (length t.now.procs)) }
         ensures members { IfOk result (λ loaded. loaded.members ≡ members) }
+        ensures pending { IfOk result (λ loaded. loaded.pending ≡ none_pending (length members)) }
     {
         let procs = all_off(alloc, t.procs.len())?;
-        Ok(Procs { procs, members })
+        let pending = pending::none_pending(alloc, members.len())?;
+        Ok(Procs {
+            procs,
+            members,
+            pending,
+        })
     }
 
     /// The processor at a place.
@@ -150,6 +160,36 @@ impl Procs {
         } else {
             Mode::Off
         }
+    }
+
+    /// The request to suspend that is pending on a master.
+    pub fn pending(&self, m: usize) -> Option<Pending>
+        ensures { result ≡ pending_at m self.now.pending }
+    {
+        pending::pending_at(&self.pending, m)
+    }
+
+    /// A request to suspend is pending on a master from now on, in place of one that was. Nothing changes
+    /// where the master isn't there.
+    pub fn ask(&mut self, m: usize, request: Pending)
+        ensures { self.new ≡ record self.old { pending = asked m request self.old.pending } }
+    {
+        pending::set_pending(&mut self.pending, m, Some(request));
+    }
+
+    /// Nothing is pending on a master any more.
+    pub fn end(&mut self, m: usize)
+        ensures { self.new ≡ record self.old { pending = ended m self.old.pending } }
+    {
+        pending::set_pending(&mut self.pending, m, None);
+    }
+
+    /// So many units of time pass: of each pending request that is due some time, what is left of its
+    /// time is less by that, or 0 where it was no more.
+    pub fn tick(&mut self, count: u32)
+        ensures { self.new ≡ record self.old { pending = all_lowered count self.old.pending } }
+    {
+        pending::lower_all(&mut self.pending, count);
     }
 
     /// Whether one of a master's processors has this mode.

@@ -5,7 +5,6 @@ use Rattle.std.specs.Result.{IsOk}
 use Rattle.std.proofs.lemmas.Bool.Decides.{nat_tests}
 use Rattle.std.proofs.lemmas.List.{length-map}
 use Rattle.pm_base.specs.Words.{words, word_texts, text_between}
-use Rattle.pm_base.specs.declared.names.NodeId.{NodeId}
 use Rattle.pm_base.specs.declared.events.Event.{Event}
 use Rattle.pm_base.specs.declared.events.Event.TheVariants.{Ipi}
 use Rattle.pm_script.specs.declared.meaning.LineFault.{LineFault}
@@ -108,17 +107,17 @@ module _ (line : List ℕ) (counted : (3 ≤ length (words line)) × (length (wo
       let e6 = number_after_first line 6 e is6 in
       numbers_event 2 7 message_event line counted all ∙ rw (e0, e1, e2, e3, e4, e5, e6) refl
 
--- one number after the first word, which names the node of the event
-module _ (event : NodeId → Event) (line : List ℕ) (counted : (2 ≤ length (words line)) × (length (words line) ≤ 2)) where
-  pub only_number_fault : (fault : LineFault) → given_number (slice_get (word_texts line) 1) ≡ Err fault → numbers_meaning 1 1 (λ words. event (record { 0 = number_at words 0 })) (drop 1 (word_texts line)) ≡ Err fault
-  only_number_fault fault is = number_fault 1 1 (λ words. event (record { 0 = number_at words 0 })) line counted 0 fault is
+-- one number after the first word, which the event is made of
+module _ (event : ℕ → Event) (line : List ℕ) (counted : (2 ≤ length (words line)) × (length (words line) ≤ 2)) where
+  pub only_number_fault : (fault : LineFault) → given_number (slice_get (word_texts line) 1) ≡ Err fault → numbers_meaning 1 1 (λ words. event (number_at words 0)) (drop 1 (word_texts line)) ≡ Err fault
+  only_number_fault fault is = number_fault 1 1 (λ words. event (number_at words 0)) line counted 0 fault is
 
   only_place : (P : ℕ → Type 0) → P 0 → (k : ℕ) → k < 1 → P k
   only_place P a zero within = a
   only_place P a (suc k) within = absurd (omega arith)
 
-  pub only_number : (node : ℕ) → given_number (slice_get (word_texts line) 1) ≡ Ok node → numbers_meaning 1 1 (λ words. event (record { 0 = number_at words 0 })) (drop 1 (word_texts line)) ≡ Ok (event (record { 0 = node }))
-  only_number node is =
+  pub only_number : (n : ℕ) → given_number (slice_get (word_texts line) 1) ≡ Ok n → numbers_meaning 1 1 (λ words. event (number_at words 0)) (drop 1 (word_texts line)) ≡ Ok (event n)
+  only_number n is =
       let P : ℕ → Type 0 = λ k. IsOk (given_number (slice_get (word_texts line) (suc k))) in
-      let first = number_after_first line 0 node is in
-      numbers_event 1 1 (λ words. event (record { 0 = number_at words 0 })) line counted (only_place P (ok_is _ node is)) ∙ rw first refl
+      let first = number_after_first line 0 n is in
+      numbers_event 1 1 (λ words. event (number_at words 0)) line counted (only_place P (ok_is _ n is)) ∙ rw first refl

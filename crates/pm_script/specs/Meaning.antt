@@ -3,7 +3,7 @@ use Rattle.std.specs.Prelude.{ℕ, ◌-◌, ◌^◌, ◌&&◌, Bool, nat_lt, nat
 use Rattle.std.specs.List.{list_all}
 use Rattle.std.specs.Str.{bytes_eq}
 use Rattle.pm_base.specs.declared.events.Event.{Event}
-use Rattle.pm_base.specs.declared.events.Event.TheVariants.{Ipi, Boot, Wfi, Irq, Gic, Pass}
+use Rattle.pm_base.specs.declared.events.Event.TheVariants.{Ipi, Boot, Wfi, Irq, Gic, Tick, Pass}
 use Rattle.pm_base.specs.Lines.{without_return, is_plain}
 use Rattle.pm_base.specs.Words.{word_texts}
 use Rattle.pm_base.specs.Numbers.{number_of, at_most}
@@ -73,6 +73,10 @@ irq_meaning words = numbers_meaning 1 1 (λ words. Irq (record { 0 = number_at w
 abbrev pub gic_meaning : List (List ℕ) → Result Event LineFault
 gic_meaning words = numbers_meaning 1 1 (λ words. Gic (record { 0 = number_at words 0 })) words
 
+-- `tick N`: N units of time pass
+abbrev pub tick_meaning : List (List ℕ) → Result Event LineFault
+tick_meaning words = numbers_meaning 1 1 (λ words. Tick (number_at words 0)) words
+
 -- what a line with these words means: the first one says what kind of line it is
 abbrev pub words_meaning : List (List ℕ) → Result Event LineFault
 words_meaning [] = Ok Pass
@@ -82,6 +86,7 @@ words_meaning (kind ∷ words) =
     else if bytes_eq kind (codes "wfi") then wfi_meaning words
     else if bytes_eq kind (codes "irq") then irq_meaning words
     else if bytes_eq kind (codes "gic") then gic_meaning words
+    else if bytes_eq kind (codes "tick") then tick_meaning words
     else Err Unknown
 
 -- what a line means: an event, or its first fault. A line with no word does nothing

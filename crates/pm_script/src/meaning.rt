@@ -2,7 +2,7 @@
 
 ghost use Rattle.std.specs.Prelude.{◌≡◌, ◌↔◌, ◌<◌, ◌≤◌, drop, length, slice_get, IsTrue};
 ghost use Rattle.pm_base.specs.Words.{words, word_texts};
-ghost use Rattle.pm_script.specs.Meaning.{meaning, ipi_meaning, boot_meaning, wfi_meaning, irq_meaning, gic_meaning, given_number, given_address};
+ghost use Rattle.pm_script.specs.Meaning.{meaning, ipi_meaning, boot_meaning, wfi_meaning, irq_meaning, gic_meaning, tick_meaning, given_number, given_address};
 
 use pm_base::{
     Event, Message, NodeId, TOO_LONG, is_plain, number, without_return, word, word_text,
@@ -27,7 +27,8 @@ pub enum LineFault {
 /// What a line without its line feed means. A line with no word is `Event::Pass`; the line
 /// `ipi M API` with 0 to 5 arguments is a message of master M; in `boot P ADDRESS` a boot loader starts
 /// processor P at an address of 64 bits; in `wfi P` processor P waits for an interrupt; in `irq S` slave S
-/// raises its interrupt; and in `gic P` there is an interrupt at processor P itself.
+/// raises its interrupt; in `gic P` there is an interrupt at processor P itself; and in `tick N` N units of
+/// time pass.
 pub fn parse_line(line: &[u8]) -> Result<Event, LineFault>
     ensures { result ≡ meaning line.now }
 {
@@ -44,6 +45,7 @@ pub fn parse_line(line: &[u8]) -> Result<Event, LineFault>
         Some(b"wfi") => parse_wfi(line),
         Some(b"irq") => parse_irq(line),
         Some(b"gic") => parse_gic(line),
+        Some(b"tick") => parse_tick(line),
         Some(_) => Err(LineFault::Unknown),
     }
 }
@@ -113,6 +115,17 @@ fn parse_gic(line: &[u8]) -> Result<Event, LineFault>
     }
     let proc = NodeId(number_at(line, 1)?);
     Ok(Event::Gic { proc })
+}
+
+/// The units of time of a line `tick N`.
+fn parse_tick(line: &[u8]) -> Result<Event, LineFault>
+    ensures { result ≡ tick_meaning (drop 1 (word_texts line.now)) }
+{
+    if !has_words(line, 2, 2) {
+        return Err(LineFault::Count);
+    }
+    let count = number_at(line, 1)?;
+    Ok(Event::Tick { count })
 }
 
 /// Whether the line has `least` to `most` words.
