@@ -2,6 +2,8 @@ pub mod ArmedLaw
 pub mod Below
 pub mod CachesLaw
 pub mod Each
+pub mod EndedLaw
+pub mod EndedLemmas
 pub mod FedLaw
 pub mod FollowLemmas
 pub mod Full
@@ -12,6 +14,7 @@ pub mod MetLaw
 pub mod MovesLemmas
 pub mod NeededLaw
 pub mod PairsLaw
+pub mod PendingLaw
 pub mod Permitted
 pub mod PlacedLemmas
 pub mod Refused

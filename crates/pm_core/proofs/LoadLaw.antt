@@ -34,6 +34,7 @@ use Rattle.pm_core.proofs.Each.{Each-append}
 use Rattle.pm_core.proofs.MembersLaw.{Owns, members_owned, one_owner}
 use Rattle.pm_core.proofs.PairsLaw.{pairs_once}
 use Rattle.pm_core.proofs.ArmedLaw.{load_arms}
+use Rattle.pm_core.proofs.PendingLaw.{RequestLaws, none_named}
 use Rattle.pm_core.proofs.RowLaws.{RowLaws}
 
 -- ---- the permitted pairs can be loaded
@@ -187,8 +188,8 @@ nobody_up object t (Some p) is q nobody =
     boot_down (length t.procs) p q (λ same. unowned (owner_at object t p) (rw (← same) nobody) boot.own)
 
 -- the book at load
-pub load_sound : RowLaws → ModeLaws → (object : Object) (topology : Topology) → IsSound (load_of object topology)
-load_sound rows modes object topology =
+pub load_sound : RowLaws → ModeLaws → RequestLaws → (object : Object) (topology : Topology) → IsSound (load_of object topology)
+load_sound rows modes requests object topology =
     let masters : ℕ = length object.masters in
     let boot = boot_master object topology in
     record {
@@ -202,4 +203,5 @@ load_sound rows modes object topology =
         nobodys = nobody_up object topology (boot_proc object topology) refl;
       };
       armed = load_arms (record { object = object; topology = topology }) (pairs_of object topology);
+      pending = none_named requests (record { object = object; topology = topology });
     }

@@ -14,6 +14,12 @@ use Rattle.pm_procs.specs.Procs.{has_member, members_at}
 use Rattle.pm_base.proofs.Booleans.{either}
 use Rattle.pm_core.specs.Members.{is_place, member_at, members_among, members_from, members_of, owns, procs_of}
 
+-- each master has its list of processors
+pub members_count : (object : Object) (t : Topology) (m : ℕ) (masters : List MasterRec) → length (members_from object t m masters) ≡ length masters
+members_count object t m [] = refl
+members_count object t m (master ∷ masters) =
+    let later : length (members_from object t (m + 1) masters) ≡ length masters = members_count object t (m + 1) masters in omega (arith, later)
+
 -- a place that stands in a list of places
 abbrev stands_in : ℕ → List ℕ → Bool
 stands_in q places = list_any (λ p. p == q) places

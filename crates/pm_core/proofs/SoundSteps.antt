@@ -1,5 +1,5 @@
 -- Each step keeps the book sound.
-use Rattle.std.proofs.Common.{◌≡◌, ◌≢◌, ℕ, ◌<◌, Bool, true, false, not, ◌&&◌, ◌==◌, if◌then◌else◌, IsTrue, List, length, is_some, Option, Some, None, refl, sym, subst, inl, inr}
+use Rattle.std.proofs.Common.{◌≡◌, ◌≢◌, ℕ, ◌<◌, Bool, true, false, not, ◌&&◌, ◌==◌, if◌then◌else◌, IsTrue, List, [], length, is_some, Option, Some, None, refl, sym, subst, inl, inr}
 use Rattle.std.specs.Prelude.{option_and_then, option_map}
 use Rattle.std.specs.List.{list_all}
 use Rattle.std.proofs.lemmas.List.Quantifiers.{position-Some}
@@ -33,14 +33,14 @@ use Rattle.pm_core.specs.Events.{boot_at, boot_by, booted, wait_at, wait_by, wai
 use Rattle.pm_core.specs.Members.{mode_of_master, owner_at}
 use Rattle.pm_core.specs.Outcome.{Deed, Check, Tried, judged, outcome_of, done, must, must_be_free}
 use Rattle.pm_core.specs.Prims.{Prim, At_row, Settle, Put_proc}
-use Rattle.pm_core.specs.ProcCalls.{address_in, put_at}
+use Rattle.pm_core.specs.ProcCalls.{address_in, is_in, proc_changes, put_at}
 use Rattle.pm_core.specs.RowCalls.{changes_of, row_changes, can_have, is_in_use}
 use Rattle.pm_core.specs.Sound.{IsSound, IsBook}
 use Rattle.pm_core.specs.Stages.{after_stage, after_stages}
 use Rattle.pm_core.specs.State.{State, in_force}
-use Rattle.pm_core.specs.Step.{called, tried_by, heard_at, stages_of, effect}
+use Rattle.pm_core.specs.Step.{called, tried_by, heard_at, stages_of, stages, talk, effect}
 use Rattle.pm_core.specs.Values.{master_place, slave_place}
-use Rattle.pm_core.specs.Views.{row_view_at, proc_view, wake_view, rival_node, master_node}
+use Rattle.pm_core.specs.Views.{is_asked, row_view_at, proc_view, wake_view, rival_node, master_node}
 use Rattle.pm_core.specs.calls.AbortSuspend.{abort_suspend}
 use Rattle.pm_core.specs.calls.InitFinalize.{init_finalize}
 use Rattle.pm_core.specs.calls.ReleaseNode.{release_node}
@@ -57,6 +57,7 @@ use Rattle.pm_base.specs.declared.names.NodeId.{NodeId}
 use Rattle.pm_core.proofs.ArmedLaw.{MayArm, arming_may}
 use Rattle.pm_core.proofs.Judged.{judged_either, passes, must_passes, free_passes}
 use Rattle.pm_core.proofs.RowLaws.{RowLaws}
+use Rattle.pm_core.proofs.PendingLaw.{RequestLaws, talk_keeps, talk_named}
 use Rattle.pm_core.proofs.StageLaw.{row, settle, put, stage_keeps, empty_keeps}
 use Rattle.pm_core.proofs.WakeSound.{raised_keeps, interrupt_keeps, request_keeps}
 
@@ -178,13 +179,18 @@ put_keeps : RowLaws → (m : ℕ) (place : Option ℕ) (mode : Mode) (address : 
 put_keeps laws m None mode address book sound = empty_keeps laws book sound
 put_keeps laws m (Some p) mode address book sound = stage_keeps laws book (Put_proc m p mode address) sound (put m p mode address)
 
+-- a processor that is suspending goes on, and any other stays
+on_keeps : RowLaws → (m : ℕ) (view : ProcView) (suspending : Bool) (book : State) → IsSound book → IsSound (after_stage (if suspending then proc_changes m Active (address_in view) view else []) book)
+on_keeps laws m view true book sound = put_keeps laws m view.place Active (address_in view) book sound
+on_keeps laws m view false book sound = empty_keeps laws book sound
+
 called_keeps : RowLaws → (m : ℕ) (call : Call) (book : State) → IsSound book → IsHeard book m → IsSound (after_stages (called m call book).stages book)
 called_keeps laws m (SelfSuspend node address) book sound heard =
     let view : ProcView = proc_view m node book in
     tried_keeps (self_suspend m address view) book sound (λ passing. put_keeps laws m view.place Suspending address book sound)
 called_keeps laws m (AbortSuspend node reason) book sound heard =
     let view : ProcView = proc_view m node book in
-    tried_keeps (abort_suspend m reason view) book sound (λ passing. put_keeps laws m view.place Active (address_in view) book sound)
+    tried_keeps (abort_suspend m reason (is_asked m book) view) book sound (λ passing. on_keeps laws m view (is_in Suspending view) book sound)
 called_keeps laws m (RequestWakeup node address ack) book sound heard =
     let view : WakeView = wake_view m node book in
     tried_keeps (request_wakeup address ack view) book sound (λ passing. request_keeps laws address view.place view.target book sound)
@@ -249,16 +255,28 @@ wait_keeps laws (Slave s) book sound = sound
 wait_keeps laws (Power w) book sound = sound
 wait_keeps laws Unknown book sound = sound
 
--- each step keeps the book sound
-pub effect_sound : RowLaws → (event : Event) (book : State) → IsSound book → IsSound (effect event book)
-effect_sound laws (Ipi master message) book sound =
+-- the stages of each step keep the book sound
+stages_keep : RowLaws → (event : Event) (book : State) → IsSound book → IsSound (after_stages (stages event book) book)
+stages_keep laws (Ipi master message) book sound =
     message_keeps laws message book (master_place master book) sound
     (λ m is. (position-Some (λ (x : MasterRec). x.node == master.0) (in_force book).masters m (record { node = 0; mask = 0; timeout = 0; suspend = 0; wake = 0 }) is).0)
-effect_sound laws (Boot proc address) book sound = boot_keeps laws (kind_of book.fixed.topology proc) address book sound
-effect_sound laws (Wfi proc) book sound = wait_keeps laws (kind_of book.fixed.topology proc) book sound
-effect_sound laws (Irq slave) book sound = raised_keeps laws (kind_of book.fixed.topology slave) book sound
-effect_sound laws (Gic proc) book sound = interrupt_keeps laws (kind_of book.fixed.topology proc) book sound
-effect_sound laws _ book sound = sound
+stages_keep laws (Boot proc address) book sound = boot_keeps laws (kind_of book.fixed.topology proc) address book sound
+stages_keep laws (Wfi proc) book sound = wait_keeps laws (kind_of book.fixed.topology proc) book sound
+stages_keep laws (Irq slave) book sound = raised_keeps laws (kind_of book.fixed.topology slave) book sound
+stages_keep laws (Gic proc) book sound = interrupt_keeps laws (kind_of book.fixed.topology proc) book sound
+stages_keep laws _ book sound = sound
+
+-- each step keeps the book sound: what is told after its stages changes nothing but what is pending
+pub effect_sound : RowLaws → RequestLaws → (event : Event) (book : State) → IsSound book → IsSound (effect event book)
+effect_sound laws requests event book sound =
+    let after : IsSound (after_stages (stages event book) book) = stages_keep laws event book sound in
+    record {
+      rows = after.rows;
+      knows = record { each = after.knows.each; right = after.knows.right };
+      procs = record { each = after.procs.each; nobodys = after.procs.nobodys };
+      armed = after.armed;
+      pending = talk_keeps requests book.fixed (talk event book) (after_stages (stages event book) book).now.talk (talk_named event book) after.pending;
+    }
 
 -- what holds in every book is kept by each step
 pub kept_by : ((event : Event) (book : State) → IsSound book → IsSound (effect event book))

@@ -18,7 +18,7 @@ use Rattle.pm_rows.specs.Sound.{IsFit}
 use Rattle.pm_core.specs.Members.{mode_of_master, owner_at, owns, is_place}
 use Rattle.pm_core.specs.Pairs.{pairs_of}
 use Rattle.pm_core.specs.Prims.{Prim, At_row, Settle, Put_proc, Shift, applies, changed, proc_put}
-use Rattle.pm_core.specs.Sound.{ArmsOwn, HasProcs, HasSoundRows, IsSound}
+use Rattle.pm_core.specs.Sound.{AreNamed, ArmsOwn, HasProcs, HasSoundRows, IsSound}
 use Rattle.pm_core.specs.Stages.{after_stage, follow_at, follow_from, followed}
 use Rattle.pm_core.specs.State.{Fixed, Now, State, in_force}
 use Rattle.pm_core.proofs.ArmedLaw.{MayArm, change_arms, settle_arms, shift_arms}
@@ -32,9 +32,10 @@ pub record IsWithin (fixed : Fixed) (now : Now) : Type 0 where
   pub each : length now.core.rows.known ≡ length fixed.object.masters
   pub procs : HasProcs (record { fixed = fixed; now = now })
   pub armed : ArmsOwn (record { fixed = fixed; now = now })
+  pub pending : AreNamed fixed now.talk.pending
 
 pub within : (book : State) → IsSound book → IsWithin book.fixed book.now
-within book sound = record { rows = sound.rows; each = sound.knows.each; procs = sound.procs; armed = sound.armed }
+within book sound = record { rows = sound.rows; each = sound.knows.each; procs = sound.procs; armed = sound.armed; pending = sound.pending }
 
 -- ---- the rows follow
 
@@ -72,6 +73,7 @@ follows_by laws fixed now m to false is there of = record {
     each = length-set now.core.rows.known m to ∙ of.each;
     procs = record { each = of.procs.each; nobodys = of.procs.nobodys };
     armed = shift_arms laws fixed m (mode_of m now.core.rows) to now.core.rows.entries of.armed;
+    pending = of.pending;
   };
   knows = own_mode now.core.rows.known m to (omega (arith, there, of.each));
 }
@@ -103,7 +105,7 @@ knows_more fixed now next m k is before here procs below =
 -- all masters from place m on follow
 follow_keeps : RowLaws → (fixed : Fixed) (m : ℕ) (masters : List MasterRec) (now : Now) → m + length masters ≡ length fixed.object.masters → IsWithin fixed now → KnowsBefore m fixed now → IsSound (record { fixed = fixed; now = applies fixed (follow_from fixed now.core m masters) now })
 follow_keeps laws fixed m [] now count of before =
-    record { rows = of.rows; knows = record { each = of.each; right = λ k there. before k (omega (arith, count, there)) }; procs = of.procs; armed = of.armed }
+    record { rows = of.rows; knows = record { each = of.each; right = λ k there. before k (omega (arith, count, there)) }; procs = of.procs; armed = of.armed; pending = of.pending }
 follow_keeps laws fixed m (x ∷ xs) now count of before =
     let first = follow_at fixed now.core m in
     let next : Now = applies fixed first now in
@@ -154,6 +156,7 @@ put_keeps fixed now m p mode address true is of = record {
     ];
   };
   armed = of.armed;
+  pending = of.pending;
 }
 
 pub change_within : RowLaws → (book : State) (prim : Prim) → IsSound book → Fits book prim → IsWithin book.fixed (changed (prim ∷ []) book).now
@@ -162,12 +165,14 @@ change_within laws book _ sound (row m s by entry found fit may) = record {
   rows = laws.change (pairs_of book.fixed.object book.fixed.topology) book.now.core.rows m s by entry (λ m s. pairs_once m s book.fixed.object book.fixed.topology) sound.rows found fit;
   each = sound.knows.each;
   procs = record { each = sound.procs.each; nobodys = sound.procs.nobodys };
+  pending = sound.pending;
 }
 change_within laws book _ sound (settle m) = record {
   armed = settle_arms book.fixed m book.now.core.rows.entries sound.armed;
   rows = laws.settle (pairs_of book.fixed.object book.fixed.topology) book.now.core.rows m sound.rows;
   each = sound.knows.each;
   procs = record { each = sound.procs.each; nobodys = sound.procs.nobodys };
+  pending = sound.pending;
 }
 change_within laws book _ sound (put m p mode address) =
     put_keeps book.fixed book.now m p mode address (owns book.fixed.object book.fixed.topology m p) refl (within book sound)

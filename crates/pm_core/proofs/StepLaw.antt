@@ -10,7 +10,7 @@ use Rattle.pm_base.specs.declared.events.Event.TheVariants.{Ipi, Boot, Wfi, Irq,
 use Rattle.pm_base.specs.declared.events.Message.{Message}
 use Rattle.pm_ipi.specs.Calls.{call_of}
 use Rattle.pm_ipi.specs.declared.calls.Call.{Call}
-use Rattle.pm_ipi.specs.declared.calls.Call.TheVariants.{GetApiVersion, GetNodeStatus, SelfSuspend, AbortSuspend, RequestWakeup, SetWakeupSource, RequestNode, ReleaseNode, SetRequirement, SetMaxLatency, InitFinalize, Unknown}
+use Rattle.pm_ipi.specs.declared.calls.Call.TheVariants.{GetApiVersion, GetNodeStatus, RequestSuspend, SelfSuspend, AbortSuspend, RequestWakeup, SetWakeupSource, RequestNode, ReleaseNode, SetRequirement, SetMaxLatency, InitFinalize, Unknown}
 use Rattle.pm_topology.specs.declared.places.Kind.{Kind}
 use Rattle.pm_topology.specs.declared.places.Kind.TheVariants.{Proc, Slave, Power, Unknown as NoNode}
 use Rattle.pm_topology.specs.Places.{kind_of}
@@ -22,7 +22,7 @@ use Rattle.pm_core.specs.Events.{boot_at, boot_by, booted, wait_at, wait_by, wai
 use Rattle.pm_core.specs.Members.{owner_at, mode_of_master}
 use Rattle.pm_core.specs.Outcome.{Outcome, Deed, Check, judged}
 use Rattle.pm_core.specs.Prims.{Prim}
-use Rattle.pm_core.specs.Stages.{after_stage, path_from, last_of}
+use Rattle.pm_core.specs.Stages.{after_stage, after_stages, path_from, last_of}
 use Rattle.pm_core.specs.Starts.{starts, was_down}
 use Rattle.pm_core.specs.State.{State}
 use Rattle.pm_core.specs.Step.{called, heard_at, stages_of, stages, path, effect, tried_by}
@@ -34,7 +34,7 @@ use Rattle.pm_core.proofs.StartsLaw.{TellsDown, starts_are}
 -- ---- one stage at most
 
 -- there is no element, or one alone
-abbrev HasOneAtMost : {X : Type 0} → List X → Type 0
+abbrev pub HasOneAtMost : {X : Type 0} → List X → Type 0
 HasOneAtMost [] = ⊤
 HasOneAtMost (x ∷ xs) = xs ≡ []
 
@@ -46,6 +46,7 @@ judged_once (Some response ∷ checks) deed once = tt
 deed_once : (m : ℕ) (call : Call) (book : State) → HasOneAtMost (tried_by m call book).deed.stages
 deed_once m GetApiVersion book = tt
 deed_once m (GetNodeStatus node) book = tt
+deed_once m (RequestSuspend node ack latency state) book = tt
 deed_once m (SelfSuspend node address) book = refl
 deed_once m (AbortSuspend node reason) book = refl
 deed_once m (RequestWakeup node address ack) book = refl
@@ -118,7 +119,7 @@ interrupt_once (Power w) book = tt
 interrupt_once NoNode book = tt
 
 -- a step has one stage at most
-stages_once : (event : Event) (book : State) → HasOneAtMost (stages event book)
+pub stages_once : (event : Event) (book : State) → HasOneAtMost (stages event book)
 stages_once (Ipi master message) book = message_once message book (master_place master book)
 stages_once (Boot proc address) book = boot_once (kind_of book.fixed.topology proc) address book
 stages_once (Wfi proc) book = wait_once (kind_of book.fixed.topology proc) book
@@ -167,7 +168,7 @@ step_tells event book = λ node p is.
 -- ---- what a step puts out
 
 -- the units that move
-pub step_moves : (event : Event) (old new : State) (kinds : List Kind) (values : List (Unit × ℕ)) → new ≡ effect event old → kinds ≡ map (kind_of_unit old.fixed.topology) (units old) → values ≡ valued old → moved_by (λ kind. value_at kind new.fixed new.now.core) kinds values ≡ moved (λ u. value u old) (effect event old)
+pub step_moves : (event : Event) (old new : State) (kinds : List Kind) (values : List (Unit × ℕ)) → new ≡ after_stages (stages event old) old → kinds ≡ map (kind_of_unit old.fixed.topology) (units old) → values ≡ valued old → moved_by (λ kind. value_at kind new.fixed new.now.core) kinds values ≡ moved (λ u. value u old) (effect event old)
 step_moves event old new kinds values is kinds_are values_are =
     ap (λ (b : State). moved_by (λ kind. value_at kind b.fixed b.now.core) kinds values) is
     ∙ moves_are (effect event old) (λ u. value u old) kinds values kinds_are values_are
@@ -179,7 +180,7 @@ starts_all before down after kinds values kinds_are values_are tells =
     ∙ (ap (starts_by after.now.core.procs (map (kind_of_unit after.fixed.topology) (units after))) values_are
     ∙ starts_are before down after (units after) tells)
 
-pub step_starts : (event : Event) (old new : State) (kinds : List Kind) (values : List (Unit × ℕ)) → new ≡ effect event old → kinds ≡ map (kind_of_unit old.fixed.topology) (units old) → values ≡ valued old → starts_by new.now.core.procs kinds values ≡ starts (was_down (old ∷ path event old)) (effect event old)
+pub step_starts : (event : Event) (old new : State) (kinds : List Kind) (values : List (Unit × ℕ)) → new ≡ after_stages (stages event old) old → kinds ≡ map (kind_of_unit old.fixed.topology) (units old) → values ≡ valued old → starts_by new.now.core.procs kinds values ≡ starts (was_down (old ∷ path event old)) (effect event old)
 step_starts event old new kinds values is kinds_are values_are =
     ap (λ (b : State). starts_by b.now.core.procs kinds values) is
     ∙ starts_all (λ u. value u old) (was_down (old ∷ path event old)) (effect event old) kinds values kinds_are values_are (step_tells event old)

@@ -1,8 +1,11 @@
 pub mod Boot
 pub mod Caches
+pub mod Callbacks
 pub mod Choice
+pub mod Ended
 pub mod Events
 pub mod Fed
+pub mod Heard
 pub mod Load
 pub mod Members
 pub mod Outbox
@@ -17,6 +20,8 @@ pub mod Stages
 pub mod Starts
 pub mod State
 pub mod Step
+pub mod Talk
+pub mod Telling
 pub mod Units
 pub mod Values
 pub mod Views

@@ -1,9 +1,11 @@
 -- The outbox: the room that it has, and what a step puts into it.
-use Rattle.std.specs.Prelude.{◌≡◌, ℕ, ◌+◌, ◌≤◌, List, [], length}
+use Rattle.std.specs.Prelude.{◌≡◌, ℕ, ◌+◌, ◌*◌, ◌≤◌, List, [], length}
 use Rattle.pm_base.specs.declared.names.Unit.{Unit}
 use Rattle.pm_topology.specs.declared.topology.Topology.{Topology}
 use Rattle.pm_core.specs.declared.replies.Answer.{Answer}
 use Rattle.pm_core.specs.declared.replies.Answer.TheVariants.{Silent}
+use Rattle.pm_core.specs.declared.outbox.Callback.{Callback}
+use Rattle.pm_core.specs.declared.outbox.Late.{Late}
 use Rattle.pm_core.specs.declared.outbox.Outbox.{Outbox}
 use Rattle.pm_core.specs.declared.outbox.Start.{Start}
 use Rattle.pm_core.specs.State.{State, in_force}
@@ -16,12 +18,18 @@ unit_count t = length t.slaves + length t.procs + length t.powers + length t.lin
 abbrev pub command_count : Topology → ℕ
 command_count t = unit_count t + length t.powers
 
--- an outbox of a chip and so many masters: there is room for each unit to move, for the commands of a step, and for each
--- processor to start
+-- how many callbacks a step makes at most: each master is asked to suspend, and hears of the end of each request
+abbrev pub callback_count : ℕ → ℕ
+callback_count masters = masters * (masters + 1)
+
+-- an outbox of a chip and so many masters: there is room for each unit to move, for the commands of a step, for each
+-- processor to start, for a late reply for each request that can be pending, and for the callbacks
 pub record HasRoom (t : Topology) (masters : ℕ) (out : Outbox) : Type 0 where
   pub moved : unit_count t ≤ out.moved.room
   pub done : command_count t ≤ out.done.room
   pub starts : length t.procs ≤ out.starts.room
+  pub late : masters ≤ out.late.room
+  pub calls : callback_count masters ≤ out.calls.room
 
 -- the same for the chip and the masters of a book
 abbrev pub HasRoomFor : State → Outbox → Type 0
@@ -32,22 +40,31 @@ pub record KeepsRoom (before after : Outbox) : Type 0 where
   pub moved : after.moved.room ≡ before.moved.room
   pub done : after.done.room ≡ before.done.room
   pub starts : after.starts.room ≡ before.starts.room
+  pub late : after.late.room ≡ before.late.room
+  pub calls : after.calls.room ≡ before.calls.room
 
 pub record IsEmpty (out : Outbox) : Type 0 where
   pub moved : out.moved.items ≡ []
   pub done : out.done.items ≡ []
   pub starts : out.starts.items ≡ []
+  pub late : out.late.items ≡ []
+  pub calls : out.calls.items ≡ []
   pub answer : out.answer ≡ Silent
 
--- what a step puts out: the units that move, the processors that start, and the answer
+-- what a step puts out: the units that move, the processors that start, the late replies and the callbacks to masters that
+-- wait for them, and the answer
 pub record Outputs : Type 0 where
   pub moved : List Unit
   pub starts : List Start
+  pub late : List Late
+  pub calls : List Callback
   pub answer : Answer
 
 -- an outbox holds these outputs, and no command is done yet
 pub record Holds (outputs : Outputs) (out : Outbox) : Type 0 where
   pub moved : out.moved.items ≡ outputs.moved
   pub starts : out.starts.items ≡ outputs.starts
+  pub late : out.late.items ≡ outputs.late
+  pub calls : out.calls.items ≡ outputs.calls
   pub answer : out.answer ≡ outputs.answer
   pub done : out.done.items ≡ []

@@ -1,32 +1,49 @@
 -- What a call comes to: the checks in order, of which the first that fails gives the response, and
--- the changes of the book where all pass.
+-- what is done where all pass.
 use Rattle.std.specs.Prelude.{ℕ, Bool, if◌then◌else◌, List, [], ◌∷◌, Option, Some, None}
 use Rattle.pm_base.specs.declared.names.NodeId.{NodeId}
 use Rattle.pm_ipi.specs.declared.responses.Response.{Response}
 use Rattle.pm_ipi.specs.Responses.{success, refusal, used_by}
+use Rattle.pm_core.specs.declared.judgement.Asked.{Asked}
+use Rattle.pm_core.specs.declared.judgement.Judgement.{Judgement}
 use Rattle.pm_core.specs.Prims.{Prim}
 
--- the response, and the stages of the step: each is a list of changes
+-- what is judged of a call, and the stages of the step: each is a list of changes
 pub record Outcome : Type 0 where
-  pub response : Response
+  pub judgement : Judgement
   pub stages : List (List Prim)
+
+-- a call that only answers its caller with this response
+abbrev pub answering : Response → Judgement
+answering response = record { response = response; asks = None; aborts = None }
 
 -- a refused call changes nothing
 abbrev pub refused : Response → Outcome
-refused response = record { response = response; stages = [] }
+refused response = record { judgement = answering response; stages = [] }
 
--- what a call does once its checks pass: the words that it tells, and its stages
+-- what a call does once its checks pass: the words that it tells, its stages, the master that it asks to suspend, and the
+-- master that aborts its suspend
 pub record Deed : Type 0 where
   pub words : List ℕ
   pub stages : List (List Prim)
+  pub asks : Option Asked
+  pub aborts : Option ℕ
 
 -- a call that only tells words
 abbrev pub told : List ℕ → Deed
-told words = record { words = words; stages = [] }
+told words = record { words = words; stages = []; asks = None; aborts = None }
 
 -- a call that only changes the book, in one stage
 abbrev pub done : List Prim → Deed
-done changes = record { words = 0 ∷ 0 ∷ 0 ∷ []; stages = changes ∷ [] }
+done changes = record { words = 0 ∷ 0 ∷ 0 ∷ []; stages = changes ∷ []; asks = None; aborts = None }
+
+-- a call that asks a master to suspend, where there is one
+abbrev pub asking : Option Asked → Deed
+asking asked = record { words = 0 ∷ 0 ∷ 0 ∷ []; stages = []; asks = asked; aborts = None }
+
+-- a call by which the master at place m aborts its suspend, with these changes
+abbrev pub aborting : ℕ → List Prim → Deed
+aborting m changes = record { words = 0 ∷ 0 ∷ 0 ∷ []; stages = changes ∷ []; asks = None; aborts = Some m }
 
 -- a check of a call: nothing where it passes, and else the response to the call
 abbrev pub Check : Type 0
@@ -43,7 +60,10 @@ must_be_free (Some rival) = Some (used_by rival)
 
 -- the first check that fails decides, and where all pass the call is done
 abbrev pub judged : List Check → Deed → Outcome
-judged [] deed = record { response = success deed.words; stages = deed.stages }
+judged [] deed = record {
+  judgement = record { response = success deed.words; asks = deed.asks; aborts = deed.aborts };
+  stages = deed.stages;
+}
 judged (None ∷ checks) deed = judged checks deed
 judged (Some response ∷ checks) deed = refused response
 

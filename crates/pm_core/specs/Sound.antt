@@ -1,5 +1,5 @@
 -- What holds in every book.
-use Rattle.std.specs.Prelude.{◌≡◌, ◌<◌, ℕ, Bool, true, false, IsTrue, Option, length, slice_get, Some, None, ◌↔◌, ◌⊎◌, ⊤}
+use Rattle.std.specs.Prelude.{◌≡◌, ◌<◌, ℕ, Bool, true, false, IsTrue, List, Option, length, slice_get, Some, None, ◌↔◌, ◌⊎◌, ⊤}
 use Rattle.pm_base.specs.declared.names.Mode.TheVariants.{Off, Active, Suspending}
 use Rattle.std.specs.List.{list_all}
 use Rattle.pm_base.specs.declared.names.NodeId.{NodeId}
@@ -15,6 +15,8 @@ use Rattle.pm_topology.specs.Places.{kind_of}
 use Rattle.pm_topology.specs.WellFormed.{IsWellFormed}
 use Rattle.pm_core.specs.Choice.{StandsMet}
 use Rattle.pm_core.specs.Fed.{IsNeeded}
+use Rattle.pm_procs.specs.declared.pending.Pending.{Pending}
+use Rattle.pm_procs.specs.Pending.{pending_at}
 use Rattle.pm_procs.specs.Procs.{mode_at}
 use Rattle.pm_rows.specs.Rows.{mode_of}
 use Rattle.pm_rows.specs.Sound.{AreSound}
@@ -23,6 +25,7 @@ use Rattle.pm_rows.specs.declared.row.Entry.{Entry}
 use Rattle.pm_core.specs.Members.{owner_at, owns, mode_of_master}
 use Rattle.pm_core.specs.Pairs.{pairs_of}
 use Rattle.pm_core.specs.State.{Fixed, State, in_force}
+use Rattle.pm_core.specs.Views.{named_master}
 
 -- the rows are those of the permitted pairs, a slave that can't be shared has one user at most, each row wants only what its
 -- slave has, while a master is active nothing is scheduled in its rows, and one that is off uses nothing
@@ -58,12 +61,22 @@ is_armed_own fixed entry = arms_own fixed entry.seed.master entry.row.armed
 abbrev pub ArmsOwn : State → Type 0
 ArmsOwn book = IsTrue (list_all (is_armed_own book.fixed) book.now.core.rows.entries)
 
--- the book is sound in its rows, in the modes that they know, in its processors, and in what its rows are armed with
+-- on each master a request to suspend may be pending, whose node names that master
+pub record AreNamed (fixed : Fixed) (pending : List (Option Pending)) : Type 0 where
+  pub each : length pending ≡ length fixed.object.masters
+  pub named : (m : ℕ) (request : Pending) → pending_at m pending ≡ Some request → named_master fixed request.node ≡ Some m
+
+abbrev pub HasPending : State → Type 0
+HasPending book = AreNamed book.fixed book.now.talk.pending
+
+-- the book is sound in its rows, in the modes that they know, in its processors, in what its rows are armed with, and in
+-- what is pending
 pub record IsSound (book : State) : Type 0 where
   pub rows : HasSoundRows book
   pub knows : KnowsModes book
   pub procs : HasProcs book
   pub armed : ArmsOwn book
+  pub pending : HasPending book
 
 -- what holds in every book: the topology has passed its check and obeys the rules on masters, and the book is sound
 pub record IsBook (book : State) : Type 0 where

@@ -1,8 +1,9 @@
 -- The book: what is fixed from the load on, and what changes. It keeps no state of a slave and no state
 -- of a power node.
-use Rattle.std.specs.Prelude.{List}
+use Rattle.std.specs.Prelude.{List, Option}
 use Rattle.pm_object.specs.declared.object.Object.{Object}
 use Rattle.pm_topology.specs.declared.topology.Topology.{Topology}
+use Rattle.pm_procs.specs.declared.pending.Pending.{Pending}
 use Rattle.pm_procs.specs.declared.procs.Proc.{Proc}
 use Rattle.pm_rows.specs.Rows.{Rows}
 
@@ -16,8 +17,9 @@ pub record CoreHalf : Type 0 where
   pub rows : Rows
   pub procs : List Proc
 
--- what the masters are told, from which no value follows: nothing yet
+-- what the masters are told, from which no value follows: for each master the request that it suspends, where one is pending
 pub record TalkHalf : Type 0 where
+  pub pending : List (Option Pending)
 
 pub record Now : Type 0 where
   pub core : CoreHalf

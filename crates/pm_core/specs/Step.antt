@@ -1,11 +1,11 @@
 -- The step: what an event does to the book, and what it puts out.
-use Rattle.std.specs.Prelude.{ℕ, Bool, true, false, not, ◌==◌, List, [], ◌∷◌, Option, Some, None, option_and_then, if◌then◌else◌}
+use Rattle.std.specs.Prelude.{ℕ, Bool, true, false, not, ◌==◌, List, [], ◌∷◌, ◌++◌, map, Option, Some, None, option_and_then, if◌then◌else◌}
 use Rattle.pm_base.specs.declared.names.NodeId.{NodeId}
 use Rattle.pm_base.specs.declared.events.Message.{Message}
 use Rattle.pm_base.specs.declared.events.Event.{Event}
-use Rattle.pm_base.specs.declared.events.Event.TheVariants.{Ipi, Boot, Wfi, Irq, Gic}
+use Rattle.pm_base.specs.declared.events.Event.TheVariants.{Ipi, Boot, Wfi, Irq, Gic, Tick}
 use Rattle.pm_ipi.specs.declared.calls.Call.{Call}
-use Rattle.pm_ipi.specs.declared.calls.Call.TheVariants.{GetApiVersion, GetNodeStatus, SelfSuspend, AbortSuspend, RequestWakeup, SetWakeupSource, RequestNode, ReleaseNode, SetRequirement, SetMaxLatency, InitFinalize, Unknown}
+use Rattle.pm_ipi.specs.declared.calls.Call.TheVariants.{GetApiVersion, GetNodeStatus, RequestSuspend, SelfSuspend, AbortSuspend, RequestWakeup, SetWakeupSource, RequestNode, ReleaseNode, SetRequirement, SetMaxLatency, InitFinalize, Unknown}
 use Rattle.pm_ipi.specs.declared.calls.AckKind.{AckKind}
 use Rattle.pm_ipi.specs.declared.calls.AckKind.TheVariants.{No, Blocking, NonBlocking}
 use Rattle.pm_ipi.specs.declared.responses.Response.{Response}
@@ -17,6 +17,10 @@ use Rattle.pm_core.specs.declared.replies.Answer.{Answer}
 use Rattle.pm_core.specs.declared.replies.Answer.TheVariants.{Silent, Drop, Reply, Ack}
 use Rattle.pm_core.specs.declared.step.Heard.{Heard}
 use Rattle.pm_core.specs.declared.step.Heard.TheVariants.{Nothing, Dropped, Served}
+use Rattle.pm_core.specs.declared.ended.Ended.{Ended}
+use Rattle.pm_core.specs.declared.judgement.Asked.{Asked}
+use Rattle.pm_core.specs.Callbacks.{callbacks, late_replies}
+use Rattle.pm_core.specs.Ended.{ended_from, turns_along}
 use Rattle.pm_core.specs.Events.{boot, wait, interrupt, raised}
 use Rattle.pm_core.specs.Members.{mode_of_master}
 use Rattle.pm_core.specs.Outbox.{Outputs}
@@ -25,9 +29,10 @@ use Rattle.pm_core.specs.Prims.{Prim}
 use Rattle.pm_core.specs.Stages.{after_stages, path_from}
 use Rattle.pm_core.specs.Starts.{starts, was_down}
 use Rattle.pm_core.specs.State.{State}
+use Rattle.pm_core.specs.Talk.{Talk, talk_of, talked}
 use Rattle.pm_core.specs.Units.{moved}
 use Rattle.pm_core.specs.Values.{master_place, value, point}
-use Rattle.pm_core.specs.Views.{row_view, status_view, proc_view, wake_view, master_mode}
+use Rattle.pm_core.specs.Views.{is_asked, row_view, status_view, suspend_view, proc_view, wake_view, master_mode}
 use Rattle.pm_core.specs.calls.AbortSuspend.{abort_suspend}
 use Rattle.pm_core.specs.calls.GetApiVersion.{get_api_version}
 use Rattle.pm_core.specs.calls.GetNodeStatus.{get_node_status}
@@ -35,6 +40,7 @@ use Rattle.pm_core.specs.calls.InitFinalize.{init_finalize}
 use Rattle.pm_core.specs.calls.ReleaseNode.{release_node}
 use Rattle.pm_core.specs.calls.RequestNode.{request_node}
 use Rattle.pm_core.specs.calls.RequestWakeup.{request_wakeup}
+use Rattle.pm_core.specs.calls.RequestSuspend.{request_suspend}
 use Rattle.pm_core.specs.calls.SelfSuspend.{self_suspend}
 use Rattle.pm_core.specs.calls.SetMaxLatency.{set_max_latency}
 use Rattle.pm_core.specs.calls.SetRequirement.{set_requirement}
@@ -44,8 +50,10 @@ use Rattle.pm_core.specs.calls.SetWakeupSource.{set_wakeup_source}
 abbrev pub tried_by : ℕ → Call → State → Tried
 tried_by m GetApiVersion book = get_api_version
 tried_by m (GetNodeStatus node) book = get_node_status (status_view m node book)
+tried_by m (RequestSuspend node ack latency state) book =
+    request_suspend m node ack latency state (suspend_view m node book)
 tried_by m (SelfSuspend node address) book = self_suspend m address (proc_view m node book)
-tried_by m (AbortSuspend node reason) book = abort_suspend m reason (proc_view m node book)
+tried_by m (AbortSuspend node reason) book = abort_suspend m reason (is_asked m book) (proc_view m node book)
 tried_by m (RequestWakeup node address ack) book = request_wakeup address ack (wake_view m node book)
 tried_by m (SetWakeupSource target source enable) book =
     set_wakeup_source target enable (proc_view m target book) (row_view m source book)
@@ -88,9 +96,41 @@ stages _ book = []
 abbrev pub path : Event → State → List State
 path event book = path_from (stages event book) book
 
--- the book after an event
+-- the master that a message asks to suspend, and the one that aborts its suspend by it
+abbrev pub asks_of : Option Outcome → Option Asked
+asks_of None = None
+asks_of (Some outcome) = outcome.judgement.asks
+
+abbrev pub aborts_of : Option Outcome → Option ℕ
+aborts_of None = None
+aborts_of (Some outcome) = outcome.judgement.aborts
+
+-- the same of an event: only a message does so
+abbrev pub asks : Event → State → Option Asked
+asks (Ipi master message) book = asks_of (verdict master message book)
+asks _ book = None
+
+abbrev pub aborts : Event → State → Option ℕ
+aborts (Ipi master message) book = aborts_of (verdict master message book)
+aborts _ book = None
+
+-- the time that passes with an event
+abbrev pub time_of : Event → Option ℕ
+time_of (Tick count) = Some count
+time_of _ = None
+
+-- the requests that were pending before a step and end in it, in object order of the masters that were asked
+abbrev pub ended : Event → State → List Ended
+ended event book =
+    ended_from (turns_along book (path event book)) (aborts event book) (time_of event) 0 book.now.talk.pending
+
+-- what is told in a step
+abbrev pub talk : Event → State → List Talk
+talk event book = talk_of (asks event book) (time_of event) (ended event book)
+
+-- the book after an event: after its stages, and then what is told
 abbrev pub effect : Event → State → State
-effect event book = after_stages (stages event book) book
+effect event book = talked (talk event book) (after_stages (stages event book) book)
 
 -- how a response reaches the caller, by the acknowledge kind of the call, in the book after it: the callback is written where
 -- the caller is active or suspending then
@@ -103,37 +143,51 @@ acknowledged NonBlocking master node response after =
 -- what an event came to
 abbrev pub heard_by : NodeId → Call → Option Outcome → Heard
 heard_by master call None = Dropped master
-heard_by master call (Some outcome) = Served master call outcome.response
+heard_by master call (Some outcome) = Served master call outcome.judgement
 
 abbrev pub heard_of : Event → State → Heard
 heard_of (Ipi master message) book = heard_by master (call_of message) (verdict master message book)
 heard_of _ book = Nothing
 
+-- a master that asked another to suspend is answered when that ends, and any other caller now
+abbrev pub answered : Option Asked → NodeId → Call → Response → State → Answer
+answered None master call response after = acknowledged (ack_of call) master (node_of call) response after
+answered (Some asked) master call response after = Silent
+
 -- what the sender of a message gets for it, in the book after it
 abbrev pub answer_by : Heard → State → Answer
 answer_by Nothing after = Silent
 answer_by (Dropped master) after = Drop master
-answer_by (Served master call response) after = acknowledged (ack_of call) master (node_of call) response after
+answer_by (Served master call judgement) after = answered judgement.asks master call judgement.response after
 
 -- the answer to an event
 abbrev pub answer_to : Event → State → Answer
 answer_to event book = answer_by (heard_of event book) (effect event book)
 
--- what a step puts out: the units whose value it changes, the processors that it starts, and the answer
+-- what a step puts out: the units whose value it changes, the processors that it starts, what other masters are told, and the
+-- answer
 abbrev pub outputs : Event → State → Outputs
 outputs event book = record {
   moved = moved (λ u. value u book) (effect event book);
   starts = starts (was_down (book ∷ path event book)) (effect event book);
+  late = late_replies (ended event book) (effect event book);
+  calls = callbacks (asks event book) (ended event book) (effect event book);
   answer = answer_to event book;
 }
 
 -- what the load puts out: before it all values are 0, and all processors are off
 abbrev pub outputs_at_load : State → Outputs
-outputs_at_load book = record { moved = moved (λ u. 0) book; starts = starts (λ p. true) book; answer = Silent }
+outputs_at_load book = record {
+  moved = moved (λ u. 0) book;
+  starts = starts (λ p. true) book;
+  late = [];
+  calls = [];
+  answer = Silent;
+}
 
 abbrev pub is_refusal : Option Outcome → Bool
 is_refusal None = true
-is_refusal (Some outcome) = not (outcome.response.status == 0)
+is_refusal (Some outcome) = not (outcome.judgement.response.status == 0)
 
 -- a message that is dropped, or whose status isn't 0
 abbrev pub is_refused : Event → State → Bool

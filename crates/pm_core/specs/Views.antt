@@ -1,5 +1,5 @@
 -- What the calls read of the book.
-use Rattle.std.specs.Prelude.{ℕ, Bool, ◌==◌, ◌||◌, List, slice_get, if◌then◌else◌, Option, Some, None, option_map}
+use Rattle.std.specs.Prelude.{ℕ, Bool, true, false, ◌==◌, ◌||◌, List, slice_get, if◌then◌else◌, is_some, position, Option, Some, None, option_map}
 use Rattle.std.specs.Option.{option_map_or}
 use Rattle.pm_base.specs.declared.names.NodeId.{NodeId}
 use Rattle.pm_base.specs.declared.names.Mode.{Mode}
@@ -10,6 +10,8 @@ use Rattle.pm_core.specs.declared.views.StatusView.{StatusView}
 use Rattle.pm_core.specs.declared.views.ProcView.{ProcView}
 use Rattle.pm_core.specs.declared.views.WakeView.{WakeView}
 use Rattle.pm_core.specs.declared.views.Wakeable.{Wakeable}
+use Rattle.pm_core.specs.declared.views.SuspendView.{SuspendView}
+use Rattle.pm_core.specs.declared.views.Suspendable.{Suspendable}
 use Rattle.pm_rows.specs.Rows.{entry_at, rival_of, now_of, usage_of}
 use Rattle.pm_topology.specs.declared.places.Kind.{Kind}
 use Rattle.pm_topology.specs.declared.places.Kind.TheVariants.{Proc, Slave, Power, Unknown}
@@ -17,11 +19,14 @@ use Rattle.pm_topology.specs.Places.{kind_of}
 use Rattle.pm_procs.specs.declared.procs.Proc.{Proc as Processor}
 use Rattle.pm_procs.specs.Procs.{mode_at, proc_at}
 use Rattle.pm_core.specs.Members.{owner_at, owns, mode_of_master}
-use Rattle.pm_perms.specs.Permits.{may_wake}
+use Rattle.pm_object.specs.Grammar.{is_master_node}
+use Rattle.pm_perms.specs.Owner.{owner}
+use Rattle.pm_perms.specs.Permits.{may_suspend, may_wake}
+use Rattle.pm_procs.specs.Pending.{pending_at}
 use Rattle.pm_core.specs.Values.{slave_place, master_place, point_at}
 use Rattle.pm_rows.specs.declared.row.Entry.{Entry}
 use Rattle.pm_rows.specs.declared.row.Row.{Row}
-use Rattle.pm_core.specs.State.{State, in_force}
+use Rattle.pm_core.specs.State.{Fixed, State, in_force}
 
 -- the node of the master at a place, and 0 past the last one
 abbrev pub master_node : List MasterRec → ℕ → NodeId
@@ -84,6 +89,59 @@ wake_view_at m Unknown book = record { place = None; target = None }
 -- and resume address where it may be woken
 abbrev pub wake_view : ℕ → NodeId → State → WakeView
 wake_view m node book = wake_view_at m (kind_of book.fixed.topology node) book
+
+-- a request to suspend is pending on the master at place m
+abbrev pub is_asked : ℕ → State → Bool
+is_asked m book = is_some (pending_at m book.now.talk.pending)
+
+-- the node can name a master: it is a processor, or a number that masters have
+abbrev pub is_proc : Kind → Bool
+is_proc (Proc p) = true
+is_proc (Slave s) = false
+is_proc (Power w) = false
+is_proc Unknown = false
+
+abbrev pub names_master : Fixed → NodeId → Bool
+names_master fixed node = is_proc (kind_of fixed.topology node) || is_master_node node.0
+
+-- the first of two places that is there
+abbrev pub first_place : Option ℕ → Option ℕ → Option ℕ
+first_place None second = second
+first_place (Some m) second = Some m
+
+-- the master that a node names: the configured master of that number, and else the one that has that processor
+abbrev pub named_master : Fixed → NodeId → Option ℕ
+named_master fixed node = first_place
+    (position (λ (master : MasterRec). master.node == node.0) fixed.object.masters)
+    (owner fixed.object fixed.topology node)
+
+-- the timeout of the master at a place, and 0 past the last one
+abbrev pub master_timeout : List MasterRec → ℕ → ℕ
+master_timeout masters place = option_map_or (λ (master : MasterRec). master.timeout) (slice_get masters place) 0
+
+-- the object permits the master at place m to ask the one at place k that it suspends
+abbrev pub can_suspend : ℕ → ℕ → State → Bool
+can_suspend m k book =
+    may_suspend (in_force book) book.fixed.topology (master_node (in_force book).masters m) (master_node (in_force book).masters k)
+
+-- what is seen of the master at place k
+abbrev pub suspendable_at : ℕ → State → Suspendable
+suspendable_at k book = record {
+  master = k;
+  pending = is_asked k book;
+  mode = mode_of_master book.fixed book.now.core k;
+  timeout = master_timeout (in_force book).masters k;
+}
+
+abbrev pub suspendable : ℕ → Option ℕ → State → Option Suspendable
+suspendable m None book = None
+suspendable m (Some k) book = if can_suspend m k book then Some (suspendable_at k book) else None
+
+-- what the master at place m sees of a master that it asks to suspend: whether the node can name one, and, where it may ask the
+-- one that is named, its place, whether a request is pending on it, its mode and its timeout
+abbrev pub suspend_view : ℕ → NodeId → State → SuspendView
+suspend_view m node book =
+    record { named = names_master book.fixed node; target = suspendable m (named_master book.fixed node) book }
 
 -- a node that isn't a slave is told with this operating point alone
 abbrev pub plain : ℕ → StatusView

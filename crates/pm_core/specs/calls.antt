@@ -4,6 +4,7 @@ pub mod GetNodeStatus
 pub mod InitFinalize
 pub mod ReleaseNode
 pub mod RequestNode
+pub mod RequestSuspend
 pub mod RequestWakeup
 pub mod SelfSuspend
 pub mod SetMaxLatency

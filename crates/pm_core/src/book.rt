@@ -18,6 +18,8 @@ use crate::caches::Caches;
 use crate::inner::Inner;
 use crate::laws::{books_stay_sound, values_meet};
 use crate::outbox::Outbox;
+use crate::talk::tell;
+use crate::telling::Telling;
 use pm_base::{Event, Mode, NoMemory, NodeId, Unit};
 use pm_object::Object;
 use pm_rows::Row;
@@ -26,24 +28,28 @@ use std::alloc::Global;
 use std::marker::Model;
 
 /// The book of requirements. It keeps the object, the parts of the chip, a row for each permitted pair
-/// of a master and a slave, and the mode and resume address of each processor, which contracts see, and
-/// what is found of the values.
+/// of a master and a slave, the mode and resume address of each processor, and the request to suspend
+/// that is pending on each master, which contracts see, and what is found of the values.
 #[derive(Drop)]
 pub struct Book {
     inner: Inner,
     caches: Caches,
+    telling: Telling,
 }
 
 impl Model for Book {
+    ghost use Rattle.std.specs.Prelude.{length};
     ghost use Rattle.pm_core.specs.Caches.{AreKept};
     ghost use Rattle.pm_core.specs.Sound.{IsBook};
-    ghost use Rattle.pm_core.specs.State.{State};
+    ghost use Rattle.pm_core.specs.State.{State, in_force};
+    ghost use Rattle.pm_core.specs.Telling.{HasPlaces};
 
     ghost Value = { State };
 
     ghost view = { λ book. book.inner };
 
-    ghost invariant = { λ book. IsBook book.inner × AreKept book.inner book.caches };
+    ghost invariant = { λ book. IsBook book.inner × AreKept book.inner book.caches
+        × HasPlaces (length (in_force book.inner).masters) book.telling };
 }
 
 impl Book {
@@ -75,8 +81,8 @@ impl Book {
 
         // Exactly the permitted pairs have a row, a slave that can't be shared has one user at most, the rows
         // know the modes of the masters, nothing is scheduled while a master is active, one that is off uses
-        // nothing, a processor that no configured master has is off, and a row that is armed names a processor
-        // of its own master.
+        // nothing, a processor that no configured master has is off, a row that is armed names a processor of
+        // its own master, and the node of a request to suspend names the master on which it is pending.
         ensures sound { IfOk result IsSound }
 
         // Each slave stands in the first of its states that meets all that is required of it, each processor
@@ -87,19 +93,26 @@ impl Book {
         units_stand_in_order();
         values_meet();
         out.clear();
+        let telling = Telling::load(alloc, object.masters.len())?;
         let inner = Inner::load(alloc, object, topology)?;
         let mut caches = Caches::load(alloc, &inner)?;
         caches.update(&inner, &mut out.moved, &mut out.starts);
-        Ok(Book { inner, caches })
+        Ok(Book {
+            inner,
+            caches,
+            telling,
+        })
     }
 
     /// One event. A message of a configured master that is active or suspending is a call, which is
     /// checked, changes the book where all checks pass, and is answered as its acknowledge kind says. A
     /// boot loader starts a processor that is off and that a configured master has, and a suspending one
     /// that waits for an interrupt sleeps. An interrupt wakes a processor that is asleep or suspending: one at
-    /// the processor itself, or that of a slave on which a row is armed with the processor. No other event
-    /// changes the book. The outbox, which was loaded for the book's topology and masters, then holds what
-    /// this step puts out. No memory is taken.
+    /// the processor itself, or that of a slave on which a row is armed with the processor. With a tick time
+    /// passes for each request to suspend. Such a request ends where its target becomes asleep or off, goes
+    /// on in place of suspending or aborts, or where its time is over. No other event changes the book. The
+    /// outbox, which was loaded for the book's topology and masters, then holds what this step puts out. No
+    /// memory is taken.
     #[tactic(auto, using(crate::proofs::Refused::refused_stays))]
     pub fn step(&mut self, event: &Event, out: &mut Outbox)
         requires room { HasRoomFor self.old out.old }
@@ -116,8 +129,8 @@ impl Book {
 
         // Exactly the permitted pairs have a row, a slave that can't be shared has one user at most, the rows
         // know the modes of the masters, nothing is scheduled while a master is active, one that is off uses
-        // nothing, a processor that no configured master has is off, and a row that is armed names a processor
-        // of its own master.
+        // nothing, a processor that no configured master has is off, a row that is armed names a processor of
+        // its own master, and the node of a request to suspend names the master on which it is pending.
         ensures sound { IsSound self.new }
 
         // Each slave stands in the first of its states that meets all that is required of it, each processor
@@ -129,9 +142,19 @@ impl Book {
         books_stay_sound();
         values_meet();
         out.clear();
+        self.telling.note_modes(&self.inner);
         let heard = self.inner.take(&self.caches, event);
         self.caches
             .update(&self.inner, &mut out.moved, &mut out.starts);
+        tell(
+            &mut self.inner,
+            &self.caches,
+            &mut self.telling,
+            event,
+            &heard,
+            &mut out.late,
+            &mut out.calls,
+        );
         out.answer = self.inner.answer(&self.caches, heard);
     }
 

@@ -6,6 +6,7 @@ mod get_node_status;
 mod init_finalize;
 mod release_node;
 mod request_node;
+mod request_suspend;
 mod request_wakeup;
 mod self_suspend;
 mod set_max_latency;
@@ -14,3 +15,4 @@ mod set_wakeup_source;
 
 pub(crate) use get_api_version::get_api_version;
 pub(crate) use get_node_status::get_node_status;
+pub(crate) use request_suspend::request_suspend;

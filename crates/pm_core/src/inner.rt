@@ -4,16 +4,18 @@ ghost use Rattle.std.specs.Prelude.{◌≡◌, length, slice_get};
 ghost use Rattle.std.specs.Option.{option_copied};
 ghost use Rattle.pm_topology.specs.WellFormed.{IsWellFormed};
 ghost use Rattle.pm_topology.specs.Places.{kind_of};
+ghost use Rattle.pm_procs.specs.Pending.{pending_at};
 ghost use Rattle.pm_core.specs.Caches.{AreKept};
 ghost use Rattle.pm_core.specs.State.{in_force};
+ghost use Rattle.pm_core.specs.Telling.{modes_of};
 ghost use Rattle.pm_core.specs.Values.{value, slave_place, master_place, state_at, placed, chosen, need_of, run_of};
 ghost use Rattle.pm_core.specs.Views.{row};
 
 use crate::caches::Caches;
 use crate::choice::chosen_state;
-use pm_base::{NodeId, Unit};
+use pm_base::{Mode, NodeId, Unit};
 use pm_object::Object;
-use pm_procs::{Procs, is_awake};
+use pm_procs::{Pending, Procs, is_awake};
 use pm_rows::{Row, Rows};
 use pm_topology::{Kind, SlaveDef, Topology, kinds_are_exact, needs_in, units_stand_in_order};
 use std::marker::Model;
@@ -38,7 +40,7 @@ impl Model for Inner {
 
     ghost view = { λ inner. record {
       fixed = record { object = inner.object; topology = inner.topology };
-      now = record { core = record { rows = inner.rows; procs = inner.procs.procs }; talk = record {} };
+      now = record { core = record { rows = inner.rows; procs = inner.procs.procs }; talk = record { pending = inner.procs.pending } };
     } };
 
     ghost invariant = { λ inner. IsWellFormed inner.topology
@@ -64,6 +66,20 @@ impl Inner {
         ensures topology { result.now ≡ self.now.fixed.topology }
     {
         &self.topology
+    }
+
+    /// The number of configured masters.
+    pub(crate) fn masters(&self) -> usize
+        ensures { result ≡ length (in_force self.now).masters }
+    {
+        self.object.masters.len()
+    }
+
+    /// The request to suspend that is pending on the master at a place.
+    pub(crate) fn pending(&self, m: usize) -> Option<Pending>
+        ensures { result ≡ pending_at m self.now.now.talk.pending }
+    {
+        self.procs.pending(m)
     }
 
     pub(crate) fn kind(&self, node: NodeId) -> Kind
@@ -132,6 +148,16 @@ impl Inner {
             let state = self.state_of(s);
             states[s] = state;
             needs[s] = needs_in(self.topology.slaves.get(s), state);
+        }
+    }
+
+    /// Writes the mode of each master.
+    pub(crate) fn note_modes(&self, modes: &mut [Mode])
+        requires { length modes.old ≡ length (in_force self.now).masters }
+        ensures { modes.new ≡ modes_of self.now }
+    {
+        for m in 0..self.object.masters.len() {
+            modes[m] = self.mode_of_master(m);
         }
     }
 

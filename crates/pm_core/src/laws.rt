@@ -21,7 +21,7 @@ ghost use Rattle.pm_core.specs.Values.{value};
 ghost use Rattle.pm_core.specs.Views.{row};
 
 use pm_power::up_where_needed;
-use pm_procs::modes_of_masters;
+use pm_procs::{modes_of_masters, requests_of_masters};
 use pm_rows::{rows_stay_sound, shifts_leave_others};
 use pm_slaves::first_state_meets;
 use pm_topology::kinds_are_exact;
@@ -37,6 +37,7 @@ pub fn books_stay_sound()
     rows_stay_sound();
     shifts_leave_others();
     modes_of_masters();
+    requests_of_masters();
 }
 
 /// In each sound book over a chip that passes its check the values are those that the requirements ask

@@ -1,6 +1,6 @@
 //! The processors of the configured masters.
 
-ghost use Rattle.std.specs.Prelude.{◌≡◌, ◌==◌, ◌++◌, IfOk, OnOk, find, option_to_list, slice_get};
+ghost use Rattle.std.specs.Prelude.{◌≡◌, ◌==◌, ◌++◌, IfOk, OnOk, find, length, option_to_list, slice_get};
 ghost use Rattle.std.specs.Option.{option_copied};
 ghost use Rattle.pm_topology.specs.Places.{proc_place};
 ghost use Rattle.pm_core.specs.Members.{member_at, members_among, members_from, members_of, owner_at, procs_of};
@@ -95,7 +95,8 @@ pub(crate) fn members_of(
     object: &Object,
     t: &Topology,
 ) -> Result<List<List<usize>>, NoMemory>
-    ensures { IfOk result (λ members. members ≡ members_of object.now t.now) }
+    ensures members { IfOk result (λ members. members ≡ members_of object.now t.now) }
+    ensures count { IfOk result (λ members. length members ≡ length object.now.masters) }
 {
     let mut members = List::new(alloc);
     for (m, master) in object.masters.as_slice().iter().enumerate() {

@@ -1,7 +1,7 @@
 //! What a step puts out, with room that is reserved at load.
 
-ghost use Rattle.std.specs.Prelude.{◌≡◌, IfOk};
-ghost use Rattle.pm_core.specs.Outbox.{HasRoom, IsEmpty, KeepsRoom, unit_count};
+ghost use Rattle.std.specs.Prelude.{◌≡◌, IfOk, IfSome};
+ghost use Rattle.pm_core.specs.Outbox.{HasRoom, IsEmpty, KeepsRoom, callback_count, unit_count};
 ghost use Rattle.pm_topology.specs.WellFormed.{IsWellFormed};
 
 use crate::replies::Answer;
@@ -24,14 +24,31 @@ pub struct Start {
     pub address: u64,
 }
 
+/// A reply to a master whose request that another one suspends has ended, with the status of its end.
+#[derive(Clone, Copy, Debug, PartialEq, Eq)]
+pub struct Late {
+    pub master: NodeId,
+    pub status: u32,
+}
+
+/// A callback to a master: its number and its arguments (UG1200, callbacks). Missing arguments are 0.
+#[derive(Clone, Copy, Debug, PartialEq, Eq)]
+pub struct Callback {
+    pub master: NodeId,
+    pub id: u32,
+    pub args: [u32; 4],
+}
+
 /// What a step puts out: the units whose value it changed, in the order of the units, the processors
-/// that it started, by number, and the answer. The commands that are done for it are put in by whoever
-/// drives the device.
+/// that it started, by number, the late replies and the callbacks to masters that wait for them, and the
+/// answer. The commands that are done for it are put in by whoever drives the device.
 #[derive(Drop)]
 pub struct Outbox {
     pub moved: BoundedList<Unit>,
     pub done: BoundedList<Done>,
     pub starts: BoundedList<Start>,
+    pub late: BoundedList<Late>,
+    pub calls: BoundedList<Callback>,
     pub answer: Answer,
 }
 
@@ -52,6 +69,8 @@ impl Outbox {
             moved: BoundedList::with_room(alloc, units)?,
             done: BoundedList::with_room(alloc, units + t.powers.len())?,
             starts: BoundedList::with_room(alloc, t.procs.len())?,
+            late: BoundedList::with_room(alloc, masters)?,
+            calls: BoundedList::with_room(alloc, most_callbacks(masters).ok_or(NoMemory)?)?,
             answer: Answer::Silent,
         })
     }
@@ -64,6 +83,8 @@ impl Outbox {
         self.moved.clear();
         self.done.clear();
         self.starts.clear();
+        self.late.clear();
+        self.calls.clear();
         self.answer = Answer::Silent;
     }
 }
@@ -74,4 +95,11 @@ fn count(t: &Topology) -> usize
     ensures { result ≡ unit_count t.now }
 {
     t.slaves.len() + t.procs.len() + t.powers.len() + t.lines.len()
+}
+
+/// The number of callbacks of a step at most, of so many masters. There is none where no list is that long.
+fn most_callbacks(masters: usize) -> Option<usize>
+    ensures { IfSome result (λ count. count ≡ callback_count masters) }
+{
+    masters.checked_mul(masters.checked_add(1)?)
 }

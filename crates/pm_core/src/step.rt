@@ -5,11 +5,13 @@ ghost use Rattle.pm_base.specs.declared.events.Event.TheVariants.{Ipi};
 ghost use Rattle.pm_ipi.specs.Calls.{ack_of, node_of};
 ghost use Rattle.pm_core.specs.Caches.{AreKept};
 ghost use Rattle.pm_core.specs.Stages.{after_stages};
-ghost use Rattle.pm_core.specs.Step.{called, effect, heard_of, answer_by, acknowledged};
+ghost use Rattle.pm_core.specs.Step.{called, stages, heard_of, answer_by, acknowledged, time_of};
+ghost use Rattle.pm_core.specs.Heard.{asks_in, aborts_in};
 
 use crate::caches::Caches;
-use crate::calls::{get_api_version, get_node_status};
+use crate::calls::{get_api_version, get_node_status, request_suspend};
 use crate::inner::Inner;
+use crate::judgement::{Asked, Judgement};
 use crate::replies::Answer;
 use pm_base::{Event, Message, NodeId};
 use pm_ipi::status::NO_FEATURE;
@@ -27,15 +29,47 @@ pub(crate) enum Heard {
     Served {
         master: NodeId,
         call: Call,
-        response: Response,
+        judgement: Judgement,
     },
 }
 
+/// The time that passes with an event.
+pub(crate) fn time_of(event: &Event) -> Option<u32>
+    ensures { result ≡ time_of event.now }
+{
+    match event {
+        Event::Tick { count } => Some(*count),
+        _ => None,
+    }
+}
+
+impl Heard {
+    /// The master that the message asks to suspend.
+    pub(crate) fn asks(&self) -> Option<Asked>
+        ensures { result ≡ asks_in self.now }
+    {
+        match self {
+            Heard::Served { judgement, .. } => judgement.asks,
+            Heard::Nothing | Heard::Dropped { .. } => None,
+        }
+    }
+
+    /// The master that aborts its suspend by the message.
+    pub(crate) fn aborts(&self) -> Option<usize>
+        ensures { result ≡ aborts_in self.now }
+    {
+        match self {
+            Heard::Served { judgement, .. } => judgement.aborts,
+            Heard::Nothing | Heard::Dropped { .. } => None,
+        }
+    }
+}
+
 impl Inner {
-    /// One event: the book by its effect, and what it came to.
+    /// One event: the book after its stages, and what it came to.
     pub(crate) fn take(&mut self, caches: &Caches, event: &Event) -> Heard
         requires { AreKept self.old caches.now }
-        ensures book { self.new ≡ effect event.now self.old }
+        ensures book { self.new ≡ after_stages (stages event.now self.old) self.old }
         ensures heard { result ≡ heard_of event.now self.old }
     {
         match event {
@@ -51,7 +85,7 @@ impl Inner {
 
     fn hear(&mut self, caches: &Caches, master: NodeId, message: &Message) -> Heard
         requires { AreKept self.old caches.now }
-        ensures book { self.new ≡ effect (Ipi master message.now) self.old }
+        ensures book { self.new ≡ after_stages (stages (Ipi master message.now) self.old) self.old }
         ensures heard { result ≡ heard_of (Ipi master message.now) self.old }
     {
         let Some(place) = self.master_place(master) else {
@@ -61,17 +95,17 @@ impl Inner {
             return Heard::Dropped { master };
         }
         let call = decode_call(message);
-        let response = self.serve(caches, place, call);
+        let judgement = self.serve(caches, place, call);
         Heard::Served {
             master,
             call,
-            response,
+            judgement,
         }
     }
 
-    fn serve(&mut self, caches: &Caches, master: usize, call: Call) -> Response
+    fn serve(&mut self, caches: &Caches, master: usize, call: Call) -> Judgement
         requires { AreKept self.old caches.now }
-        ensures response { result ≡ (called master call self.old).response }
+        ensures judgement { result ≡ (called master call self.old).judgement }
         ensures book { self.new ≡ after_stages (called master call self.old).stages self.old }
     {
         match call {
@@ -79,13 +113,22 @@ impl Inner {
             Call::GetNodeStatus { node } => {
                 get_node_status(&self.status_view(caches, master, node))
             }
+            Call::RequestSuspend {
+                node,
+                ack,
+                latency,
+                state,
+            } => {
+                let view = self.suspend_view(master, node);
+                request_suspend(master, &view, node, ack, latency, state)
+            }
             Call::SelfSuspend { node, address } => {
                 let view = self.proc_view(master, node);
                 self.self_suspend(master, &view, address)
             }
             Call::AbortSuspend { node, reason } => {
                 let view = self.proc_view(master, node);
-                self.abort_suspend(master, &view, reason)
+                self.abort_suspend(master, &view, reason, self.is_asked(master))
             }
             Call::RequestWakeup { node, address, ack } => {
                 let view = self.wake_view(master, node);
@@ -118,7 +161,7 @@ impl Inner {
                 self.set_max_latency(&view, latency)
             }
             Call::InitFinalize => self.init_finalize(master),
-            Call::Unknown => Response::refusal(NO_FEATURE),
+            Call::Unknown => Judgement::refusal(NO_FEATURE),
         }
     }
 
@@ -133,8 +176,11 @@ impl Inner {
             Heard::Served {
                 master,
                 call,
-                response,
-            } => self.acknowledge(caches, master, &call, response),
+                judgement,
+            } => match judgement.asks {
+                None => self.acknowledge(caches, master, &call, judgement.response),
+                Some(_) => Answer::Silent,
+            },
         }
     }
 

@@ -9,8 +9,8 @@ ghost use Rattle.pm_core.specs.Views;
 use crate::caches::Caches;
 use crate::inner::Inner;
 use pm_base::{Caps, Mode, NodeId, Unit};
-use pm_object::MasterRec;
-use pm_perms::may_wake;
+use pm_object::{MasterRec, is_master_node};
+use pm_perms::{may_suspend, may_wake, owner_of};
 use pm_procs::{Proc, mode_number};
 use pm_rows::Entry;
 use pm_topology::Kind;
@@ -57,6 +57,24 @@ pub struct WakeView {
     pub target: Option<Wakeable>,
 }
 
+/// A master that may be asked to suspend: its place, whether a request is pending on it, its mode, and the
+/// time that the object gives it.
+#[derive(Clone, Copy, Debug, PartialEq, Eq)]
+pub struct Suspendable {
+    pub master: usize,
+    pub pending: bool,
+    pub mode: Mode,
+    pub timeout: u32,
+}
+
+/// What a master sees of one that it asks to suspend: whether the node can name a master, and the master
+/// that it names where that may be asked.
+#[derive(Clone, Copy, Debug, PartialEq, Eq)]
+pub struct SuspendView {
+    pub named: bool,
+    pub target: Option<Suspendable>,
+}
+
 fn now_of(entry: Option<Entry>) -> Caps
     ensures { result ≡ now_of entry }
 {
@@ -66,7 +84,7 @@ fn now_of(entry: Option<Entry>) -> Caps
     }
 }
 
-fn master_node(masters: &[MasterRec], place: usize) -> NodeId
+pub(crate) fn master_node(masters: &[MasterRec], place: usize) -> NodeId
     ensures { result ≡ Views.master_node masters.now place }
 {
     masters
@@ -177,6 +195,85 @@ impl Inner {
                 master_node(masters, master),
                 master_node(masters, owner),
             )
+    }
+}
+
+fn master_timeout(masters: &[MasterRec], place: usize) -> u32
+    ensures { result ≡ Views.master_timeout masters.now place }
+{
+    masters.get(place).map_or(0, |master| master.timeout)
+}
+
+impl Inner {
+    ghost use Rattle.pm_core.specs.Views.{can_suspend, is_asked, named_master, names_master, suspendable, suspendable_at, suspend_view};
+
+    /// Whether a request to suspend is pending on the master at a place.
+    pub(crate) fn is_asked(&self, m: usize) -> bool
+        ensures { result ≡ is_asked m self.now }
+    {
+        self.procs.pending(m).is_some()
+    }
+
+    pub(crate) fn suspend_view(&self, master: usize, node: NodeId) -> SuspendView
+        ensures { result ≡ suspend_view master node self.now }
+    {
+        SuspendView {
+            named: self.names_master(node),
+            target: self.suspendable(master, self.named_master(node)),
+        }
+    }
+
+    /// Whether a node can name a master: it is a processor, or a number that masters have.
+    fn names_master(&self, node: NodeId) -> bool
+        ensures { result ≡ names_master self.now.fixed node }
+    {
+        matches!(self.kind(node), Kind::Proc(_)) || is_master_node(node.0)
+    }
+
+    /// The master that a node names: the configured master of that number, and else the one that has
+    /// that processor.
+    fn named_master(&self, node: NodeId) -> Option<usize>
+        ensures { result ≡ named_master self.now.fixed node }
+    {
+        match self.master_place(node) {
+            Some(m) => Some(m),
+            None => owner_of(&self.object, &self.topology, node),
+        }
+    }
+
+    fn suspendable(&self, master: usize, target: Option<usize>) -> Option<Suspendable>
+        ensures { result ≡ suspendable master target self.now }
+    {
+        let target = target?;
+        if self.can_suspend(master, target) {
+            Some(self.suspendable_at(target))
+        } else {
+            None
+        }
+    }
+
+    fn suspendable_at(&self, target: usize) -> Suspendable
+        ensures { result ≡ suspendable_at target self.now }
+    {
+        Suspendable {
+            master: target,
+            pending: self.is_asked(target),
+            mode: self.mode_of_master(target),
+            timeout: master_timeout(self.object.masters.as_slice(), target),
+        }
+    }
+
+    /// Whether the object permits a master to ask another one that it suspends.
+    fn can_suspend(&self, master: usize, target: usize) -> bool
+        ensures { result ≡ can_suspend master target self.now }
+    {
+        let masters = self.object.masters.as_slice();
+        may_suspend(
+            &self.object,
+            &self.topology,
+            master_node(masters, master),
+            master_node(masters, target),
+        )
     }
 }
 

@@ -1,11 +1,13 @@
 //! PM_ABORT_SUSPEND (UG1200).
 
-ghost use Rattle.std.specs.Prelude.{◌≡◌};
+ghost use Rattle.std.specs.Prelude.{◌≡◌, ◌∷◌, [], None, Some};
+ghost use Rattle.pm_ipi.specs.Responses.{success};
 ghost use Rattle.pm_core.specs.Outcome.{outcome_of};
 ghost use Rattle.pm_core.specs.Stages.{after_stages};
 ghost use Rattle.pm_core.specs.calls.AbortSuspend.{abort_suspend, is_reason};
 
 use crate::inner::Inner;
+use crate::judgement::Judgement;
 use crate::views::ProcView;
 use pm_base::Mode;
 use pm_ipi::Response;
@@ -18,27 +20,44 @@ fn is_reason(reason: u32) -> bool
     (100..=103).contains(&reason)
 }
 
+/// What the call comes to where its checks pass: the caller aborts its suspend.
+fn aborted(master: usize) -> Judgement
+    ensures { result ≡ record { response = success (0 ∷ 0 ∷ 0 ∷ []); asks = None; aborts = Some master } }
+{
+    Judgement {
+        response: Response::success([0; 3]),
+        asks: None,
+        aborts: Some(master),
+    }
+}
+
 impl Inner {
-    /// The caller's processor doesn't suspend any more.
-    pub(crate) fn abort_suspend(&mut self, master: usize, view: &ProcView, reason: u32) -> Response
-        ensures response { result ≡ (outcome_of (abort_suspend master reason view.now)).response }
-        ensures book { self.new ≡ after_stages (outcome_of (abort_suspend master reason view.now)).stages self.old }
+    /// The caller's processor doesn't suspend any more, and a request that the caller suspends ends.
+    /// `pending` tells whether there is one.
+    pub(crate) fn abort_suspend(
+        &mut self,
+        master: usize,
+        view: &ProcView,
+        reason: u32,
+        pending: bool,
+    ) -> Judgement
+        ensures judgement { result ≡ (outcome_of (abort_suspend master reason pending view.now)).judgement }
+        ensures book { self.new ≡ after_stages (outcome_of (abort_suspend master reason pending view.now)).stages self.old }
     {
         let Some(p) = view.place else {
-            return Response::refusal(INVALID_NODE);
+            return Judgement::refusal(INVALID_NODE);
         };
         if !is_reason(reason) {
-            return Response::refusal(INVALID_PARAMETER);
+            return Judgement::refusal(INVALID_PARAMETER);
         }
         let Some(proc) = view.own else {
-            return Response::refusal(NO_ACCESS);
+            return Judgement::refusal(NO_ACCESS);
         };
         match proc.mode {
-            Mode::Off | Mode::Asleep | Mode::Active => Response::refusal(FAILURE),
-            Mode::Suspending => {
-                self.proc_stage(master, p, Mode::Active, proc.address);
-                Response::success([0; 3])
-            }
+            Mode::Suspending => self.proc_stage(master, p, Mode::Active, proc.address),
+            Mode::Active if pending => self.follow(),
+            Mode::Active | Mode::Off | Mode::Asleep => return Judgement::refusal(FAILURE),
         }
+        aborted(master)
     }
 }

@@ -6,15 +6,15 @@ ghost use Rattle.pm_core.specs.Stages.{after_stages};
 ghost use Rattle.pm_core.specs.calls.InitFinalize.{init_finalize};
 
 use crate::inner::Inner;
-use pm_ipi::Response;
+use crate::judgement::Judgement;
 
 impl Inner {
     /// The caller's holds are dropped.
-    pub(crate) fn init_finalize(&mut self, master: usize) -> Response
-        ensures response { result ≡ (outcome_of (init_finalize master)).response }
+    pub(crate) fn init_finalize(&mut self, master: usize) -> Judgement
+        ensures judgement { result ≡ (outcome_of (init_finalize master)).judgement }
         ensures book { self.new ≡ after_stages (outcome_of (init_finalize master)).stages self.old }
     {
         self.settle_stage(master);
-        Response::success([0; 3])
+        Judgement::success([0; 3])
     }
 }

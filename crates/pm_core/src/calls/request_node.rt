@@ -6,6 +6,7 @@ ghost use Rattle.pm_core.specs.calls.RequestNode.{request_node};
 ghost use Rattle.pm_core.specs.Stages.{after_stages};
 
 use crate::inner::Inner;
+use crate::judgement::Judgement;
 use crate::views::RowView;
 use bitflags::Flags;
 use pm_base::Caps;
@@ -15,29 +16,29 @@ use pm_rows::Change;
 
 impl Inner {
     /// The caller uses the slave from now on, with these capabilities.
-    pub(crate) fn request_node(&mut self, view: &RowView, caps: Caps, ack: u32) -> Response
-        ensures response { result ≡ (outcome_of (request_node caps ack view.now)).response }
+    pub(crate) fn request_node(&mut self, view: &RowView, caps: Caps, ack: u32) -> Judgement
+        ensures judgement { result ≡ (outcome_of (request_node caps ack view.now)).judgement }
         ensures book { self.new ≡ after_stages (outcome_of (request_node caps ack view.now)).stages self.old }
     {
         if ack_kind(ack).is_none() {
-            return Response::refusal(INVALID_PARAMETER);
+            return Judgement::refusal(INVALID_PARAMETER);
         }
         if view.slave.is_none() {
-            return Response::refusal(INVALID_NODE);
+            return Judgement::refusal(INVALID_NODE);
         }
         let Some(entry) = view.entry else {
-            return Response::refusal(NO_ACCESS);
+            return Judgement::refusal(NO_ACCESS);
         };
         if !entry.seed.all.contains(caps) {
-            return Response::refusal(NO_FEATURE);
+            return Judgement::refusal(NO_FEATURE);
         }
         if entry.row.used {
-            return Response::refusal(DOUBLE_REQUEST);
+            return Judgement::refusal(DOUBLE_REQUEST);
         }
         if let Some(rival) = view.rival {
-            return Response::used_by(rival);
+            return Judgement::of(Response::used_by(rival));
         }
         self.row_stage(entry.seed.master, entry.seed.slave, Change::Request(caps));
-        Response::success([0; 3])
+        Judgement::success([0; 3])
     }
 }

@@ -6,10 +6,11 @@ ghost use Rattle.pm_core.specs.Stages.{after_stages};
 ghost use Rattle.pm_core.specs.calls.RequestWakeup.{request_wakeup};
 
 use crate::inner::Inner;
+use crate::judgement::Judgement;
 use crate::views::WakeView;
 use pm_base::Mode;
+use pm_ipi::ack_kind;
 use pm_ipi::status::{FAILURE, INVALID_NODE, INVALID_PARAMETER, NO_ACCESS};
-use pm_ipi::{Response, ack_kind};
 
 impl Inner {
     /// A processor of the caller, or of a master that it may wake, is active from now on. It resumes at
@@ -19,25 +20,25 @@ impl Inner {
         view: &WakeView,
         address: Option<u64>,
         ack: u32,
-    ) -> Response
-        ensures response { result ≡ (outcome_of (request_wakeup address ack view.now)).response }
+    ) -> Judgement
+        ensures judgement { result ≡ (outcome_of (request_wakeup address ack view.now)).judgement }
         ensures book { self.new ≡ after_stages (outcome_of (request_wakeup address ack view.now)).stages self.old }
     {
         if ack_kind(ack).is_none() {
-            return Response::refusal(INVALID_PARAMETER);
+            return Judgement::refusal(INVALID_PARAMETER);
         }
         let Some(p) = view.place else {
-            return Response::refusal(INVALID_NODE);
+            return Judgement::refusal(INVALID_NODE);
         };
         let Some(target) = view.target else {
-            return Response::refusal(NO_ACCESS);
+            return Judgement::refusal(NO_ACCESS);
         };
         match target.proc.mode {
-            Mode::Active => Response::refusal(FAILURE),
+            Mode::Active => Judgement::refusal(FAILURE),
             Mode::Off | Mode::Asleep | Mode::Suspending => {
                 let address = address.unwrap_or(target.proc.address);
                 self.proc_stage(target.owner, p, Mode::Active, address);
-                Response::success([0; 3])
+                Judgement::success([0; 3])
             }
         }
     }

@@ -6,29 +6,29 @@ ghost use Rattle.pm_core.specs.Stages.{after_stages};
 ghost use Rattle.pm_core.specs.calls.SelfSuspend.{self_suspend};
 
 use crate::inner::Inner;
+use crate::judgement::Judgement;
 use crate::views::ProcView;
 use pm_base::Mode;
-use pm_ipi::Response;
 use pm_ipi::status::{DOUBLE_REQUEST, FAILURE, INVALID_NODE, NO_ACCESS};
 
 impl Inner {
     /// The caller's processor suspends from now on, and is to resume at the address.
-    pub(crate) fn self_suspend(&mut self, master: usize, view: &ProcView, address: u64) -> Response
-        ensures response { result ≡ (outcome_of (self_suspend master address view.now)).response }
+    pub(crate) fn self_suspend(&mut self, master: usize, view: &ProcView, address: u64) -> Judgement
+        ensures judgement { result ≡ (outcome_of (self_suspend master address view.now)).judgement }
         ensures book { self.new ≡ after_stages (outcome_of (self_suspend master address view.now)).stages self.old }
     {
         let Some(p) = view.place else {
-            return Response::refusal(INVALID_NODE);
+            return Judgement::refusal(INVALID_NODE);
         };
         let Some(proc) = view.own else {
-            return Response::refusal(NO_ACCESS);
+            return Judgement::refusal(NO_ACCESS);
         };
         match proc.mode {
-            Mode::Suspending => Response::refusal(DOUBLE_REQUEST),
-            Mode::Off | Mode::Asleep => Response::refusal(FAILURE),
+            Mode::Suspending => Judgement::refusal(DOUBLE_REQUEST),
+            Mode::Off | Mode::Asleep => Judgement::refusal(FAILURE),
             Mode::Active => {
                 self.proc_stage(master, p, Mode::Suspending, address);
-                Response::success([0; 3])
+                Judgement::success([0; 3])
             }
         }
     }

@@ -6,11 +6,12 @@ ghost use Rattle.pm_core.specs.Stages.{after_stages};
 ghost use Rattle.pm_core.specs.calls.SetRequirement.{set_requirement};
 
 use crate::inner::Inner;
+use crate::judgement::Judgement;
 use crate::views::RowView;
 use bitflags::Flags;
 use pm_base::{Caps, Mode};
+use pm_ipi::ack_kind;
 use pm_ipi::status::{INVALID_NODE, INVALID_PARAMETER, NO_ACCESS, NO_FEATURE};
-use pm_ipi::{Response, ack_kind};
 use pm_rows::Change;
 
 impl Inner {
@@ -22,26 +23,26 @@ impl Inner {
         mode: Mode,
         caps: Caps,
         ack: u32,
-    ) -> Response
-        ensures response { result ≡ (outcome_of (set_requirement mode caps ack view.now)).response }
+    ) -> Judgement
+        ensures judgement { result ≡ (outcome_of (set_requirement mode caps ack view.now)).judgement }
         ensures book { self.new ≡ after_stages (outcome_of (set_requirement mode caps ack view.now)).stages self.old }
     {
         if ack_kind(ack).is_none() {
-            return Response::refusal(INVALID_PARAMETER);
+            return Judgement::refusal(INVALID_PARAMETER);
         }
         if view.slave.is_none() {
-            return Response::refusal(INVALID_NODE);
+            return Judgement::refusal(INVALID_NODE);
         }
         let Some(entry) = view.entry else {
-            return Response::refusal(NO_ACCESS);
+            return Judgement::refusal(NO_ACCESS);
         };
         if !entry.seed.all.contains(caps) {
-            return Response::refusal(NO_FEATURE);
+            return Judgement::refusal(NO_FEATURE);
         }
         if !entry.row.used {
-            return Response::refusal(NO_ACCESS);
+            return Judgement::refusal(NO_ACCESS);
         }
         self.row_stage(entry.seed.master, entry.seed.slave, Change::Set(mode, caps));
-        Response::success([0; 3])
+        Judgement::success([0; 3])
     }
 }

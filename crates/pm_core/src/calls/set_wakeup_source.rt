@@ -6,10 +6,10 @@ ghost use Rattle.pm_core.specs.Stages.{after_stages};
 ghost use Rattle.pm_core.specs.calls.SetWakeupSource.{arming, set_wakeup_source};
 
 use crate::inner::Inner;
+use crate::judgement::Judgement;
 use crate::views::{ProcView, RowView};
 use bitflags::Flags;
 use pm_base::{Caps, NodeId};
-use pm_ipi::Response;
 use pm_ipi::status::{INVALID_NODE, INVALID_PARAMETER, NO_ACCESS, NO_FEATURE};
 use pm_rows::Change;
 
@@ -29,26 +29,26 @@ impl Inner {
         source: &RowView,
         node: NodeId,
         enable: u32,
-    ) -> Response
-        ensures response { result ≡ (outcome_of (set_wakeup_source node enable target.now source.now)).response }
+    ) -> Judgement
+        ensures judgement { result ≡ (outcome_of (set_wakeup_source node enable target.now source.now)).judgement }
         ensures book { self.new ≡ after_stages (outcome_of (set_wakeup_source node enable target.now source.now)).stages self.old }
     {
         if target.place.is_none() || source.slave.is_none() {
-            return Response::refusal(INVALID_NODE);
+            return Judgement::refusal(INVALID_NODE);
         }
         if enable > 1 {
-            return Response::refusal(INVALID_PARAMETER);
+            return Judgement::refusal(INVALID_PARAMETER);
         }
         if target.own.is_none() {
-            return Response::refusal(NO_ACCESS);
+            return Judgement::refusal(NO_ACCESS);
         }
         let Some(entry) = source.entry else {
-            return Response::refusal(NO_ACCESS);
+            return Judgement::refusal(NO_ACCESS);
         };
         if !entry.seed.all.contains(Caps::WAKEUP) {
-            return Response::refusal(NO_FEATURE);
+            return Judgement::refusal(NO_FEATURE);
         }
         self.row_stage(entry.seed.master, entry.seed.slave, arming(node, enable));
-        Response::success([0; 3])
+        Judgement::success([0; 3])
     }
 }

@@ -1,4 +1,5 @@
 use Rattle.pm_core.proofs.LoadLaw.{ModeLaws, load_sound}
+use Rattle.pm_core.proofs.PendingLaw.{RequestLaws}
 use Rattle.pm_core.proofs.Permitted.{row_permitted}
 use Rattle.pm_core.proofs.RowLaws.{RowLaws}
 use Rattle.pm_core.proofs.SoundSteps.{effect_sound}
@@ -19,4 +20,16 @@ returns c =
       off = c.modes_of_masters.ensures.off;
       load = c.modes_of_masters.ensures.load;
     } in
-    record { load = load_sound rows modes; step = effect_sound rows; permitted = row_permitted rows }
+    let requests : RequestLaws = record {
+      asks = c.requests_of_masters.ensures.asks;
+      asks_one = c.requests_of_masters.ensures.asks_one;
+      ends = c.requests_of_masters.ensures.ends;
+      ends_one = c.requests_of_masters.ensures.ends_one;
+      passes = c.requests_of_masters.ensures.passes;
+      load = c.requests_of_masters.ensures.load;
+      length_asked = c.requests_of_masters.ensures.length_asked;
+      length_ended = c.requests_of_masters.ensures.length_ended;
+      length_lowered = c.requests_of_masters.ensures.length_lowered;
+      length_load = c.requests_of_masters.ensures.length_load;
+    } in
+    record { load = load_sound rows modes requests; step = effect_sound rows requests; permitted = row_permitted rows }

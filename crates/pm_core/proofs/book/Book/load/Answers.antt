@@ -39,6 +39,8 @@ returns-clause-out c =
           ∙ moves_are book (λ _. 0) caches.kinds.items caches.values c.in_ok-caches.ensures.places.kinds c.in_ok-caches.ensures.zeros);
       starts = ap (λ (s : Bounded Start). s.items) c.update.ensures.starts
           ∙ load_starts book caches.kinds.items caches.values c.in_ok-caches.ensures.places.kinds c.in_ok-caches.ensures.zeros;
+      late = c.clear.ensures.empty.late;
+      calls = c.clear.ensures.empty.calls;
       answer = c.clear.ensures.empty.answer;
       done = c.clear.ensures.empty.done;
     }
