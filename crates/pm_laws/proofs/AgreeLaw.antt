@@ -14,8 +14,8 @@ use Rattle.pm_core.specs.Load.{load_of}
 use Rattle.pm_core.specs.Members.{owner_at}
 use Rattle.pm_core.specs.Pairs.{pairs_of}
 use Rattle.pm_core.specs.Sound.{IsSound}
-use Rattle.pm_core.specs.State.{Fixed, Now, State}
-use Rattle.pm_laws.specs.Agree.{SameRow, IsWithin, SameRows, SameKnown, SameProc, Same, Agree}
+use Rattle.pm_core.specs.State.{Fixed, TalkHalf, Now, State}
+use Rattle.pm_laws.specs.Agree.{SameRow, IsWithin, SameRows, SameKnown, SamePending, SameProc, SameTalk, Same, Agree}
 use Rattle.pm_laws.specs.Border.{Border, IsBeyond, IsPairClosed, IsClosed}
 use Rattle.pm_laws.proofs.Places.{Both-sym, Both-trans, Both-self, BothFrom-sym, BothFrom-trans, BothFrom-self, Each-of_map}
 
@@ -48,11 +48,17 @@ proc_sym fixed border p x y same = record {
   nobodys = λ none. ((same.nobodys none).1, (same.nobodys none).0);
 }
 
+pub talk_sym : (border : Border) (a b : TalkHalf) → SameTalk border a b → SameTalk border b a
+talk_sym border a b same = record {
+  pending = BothFrom-sym (SamePending border) (λ k x y is beyond. sym (is beyond)) 0 a.pending b.pending same.pending;
+}
+
 pub same_sym : (fixed : Fixed) (border : Border) (a b : Now) → Same fixed border a b → Same fixed border b a
 same_sym fixed border a b same = record {
   rows = rows_sym border border.some a.core.rows.entries b.core.rows.entries same.rows;
   known = BothFrom-sym (SameKnown border) (λ k x y is beyond. sym (is beyond)) 0 a.core.rows.known b.core.rows.known same.known;
   procs = BothFrom-sym (SameProc fixed border) (proc_sym fixed border) 0 a.core.procs b.core.procs same.procs;
+  talk = talk_sym border a.talk b.talk same.talk;
 }
 
 -- ---- through a third
@@ -79,11 +85,17 @@ proc_trans fixed border p x y z first second = record {
   nobodys = λ none. ((first.nobodys none).0, (second.nobodys none).1);
 }
 
+pub talk_trans : (border : Border) (a b c : TalkHalf) → SameTalk border a b → SameTalk border b c → SameTalk border a c
+talk_trans border a b c first second = record {
+  pending = BothFrom-trans (SamePending border) (λ k x y z one two beyond. one beyond ∙ two beyond) 0 a.pending b.pending c.pending first.pending second.pending;
+}
+
 pub same_trans : (fixed : Fixed) (border : Border) (a b c : Now) → Same fixed border a b → Same fixed border b c → Same fixed border a c
 same_trans fixed border a b c first second = record {
   rows = rows_trans border border.some a.core.rows.entries b.core.rows.entries c.core.rows.entries first.rows second.rows;
   known = BothFrom-trans (SameKnown border) (λ k x y z one two beyond. one beyond ∙ two beyond) 0 a.core.rows.known b.core.rows.known c.core.rows.known first.known second.known;
   procs = BothFrom-trans (SameProc fixed border) (proc_trans fixed border) 0 a.core.procs b.core.procs c.core.procs first.procs second.procs;
+  talk = talk_trans border a.talk b.talk c.talk first.talk second.talk;
 }
 
 -- ---- with itself
@@ -124,6 +136,7 @@ agree_self border book closed sound =
         rows = rows_self border border.some refl closed.some book.now.core.rows.entries each;
         known = BothFrom-self (SameKnown border) 0 book.now.core.rows.known (λ p x is beyond. refl);
         procs = BothFrom-self (SameProc book.fixed border) 0 book.now.core.procs (proc_self book.fixed border book.now.core.procs sound.procs.nobodys);
+        talk = record { pending = BothFrom-self (SamePending border) 0 book.now.talk.pending (λ p x is beyond. refl) };
       };
     }
 

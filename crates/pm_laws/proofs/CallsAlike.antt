@@ -1,17 +1,18 @@
 -- A call of a master beyond does the same in two books that agree, unless it changes a row on a slave within reach.
-use Rattle.std.proofs.Common.{◌≡◌, ℕ, Bool, true, false, not, ◌&&◌, ◌==◌, if◌then◌else◌, List, [], ◌∷◌, Option, Some, None, refl, sym, ◌∙◌, ap, subst}
-use Rattle.std.specs.Prelude.{find, option_map, cond}
+use Rattle.std.proofs.Common.{◌≡◌, ℕ, Bool, true, false, not, ◌&&◌, ◌==◌, if◌then◌else◌, List, [], ◌∷◌, Option, Some, None, refl, sym, ◌∙◌, ap, subst, arith}
+use Rattle.std.specs.Prelude.{find, is_some, option_map, cond}
 use Rattle.std.proofs.lemmas.Bool.{eqb-true}
 use Rattle.pm_base.specs.declared.names.NodeId.{NodeId}
 use Rattle.pm_base.proofs.Booleans.{both, equal}
 use Rattle.pm_ipi.specs.declared.calls.Call.{Call}
-use Rattle.pm_ipi.specs.declared.calls.Call.TheVariants.{GetNodeStatus, SelfSuspend, AbortSuspend, RequestWakeup, SetWakeupSource, RequestNode, ReleaseNode, SetRequirement, SetMaxLatency}
+use Rattle.pm_ipi.specs.declared.calls.Call.TheVariants.{GetNodeStatus, RequestSuspend, SelfSuspend, AbortSuspend, RequestWakeup, SetWakeupSource, RequestNode, ReleaseNode, SetRequirement, SetMaxLatency}
 use Rattle.pm_procs.specs.declared.procs.Proc.{Proc as Processor}
+use Rattle.pm_procs.specs.Pending.{pending_at}
 use Rattle.pm_procs.specs.Procs.{proc_at}
 use Rattle.pm_rows.specs.declared.row.Entry.{Entry}
 use Rattle.pm_rows.specs.declared.row.Row.{Row}
 use Rattle.pm_rows.specs.declared.row.RowSeed.{RowSeed}
-use Rattle.pm_rows.specs.Rows.{entry_at, is_at, is_rival, rival_of}
+use Rattle.pm_rows.specs.Rows.{entry_at, is_at, is_rival}
 use Rattle.pm_rows.specs.Sound.{pair_in}
 use Rattle.pm_core.specs.declared.views.ProcView.{ProcView}
 use Rattle.pm_core.specs.declared.views.RowView.{RowView}
@@ -24,16 +25,17 @@ use Rattle.pm_core.specs.Prims.{Prim}
 use Rattle.pm_core.specs.State.{Fixed, Now, State}
 use Rattle.pm_core.specs.Step.{called, tried_by}
 use Rattle.pm_core.specs.Values.{slave_place}
-use Rattle.pm_core.specs.Views.{can_wake, master_node, proc_view, proc_view_at, rival_node, row_view, row_view_at, wake_view, wake_view_at, wakeable}
+use Rattle.pm_core.specs.Views.{can_suspend, can_wake, is_asked, master_node, master_timeout, named_master, names_master, proc_view, proc_view_at, rival_node, row_view, row_view_at, suspend_view, suspendable, suspendable_at, wake_view, wake_view_at, wakeable}
 use Rattle.pm_core.specs.calls.AbortSuspend.{abort_suspend}
 use Rattle.pm_core.specs.calls.ReleaseNode.{release_node}
 use Rattle.pm_core.specs.calls.RequestNode.{request_node}
+use Rattle.pm_core.specs.calls.RequestSuspend.{request_suspend}
 use Rattle.pm_core.specs.calls.RequestWakeup.{request_wakeup}
 use Rattle.pm_core.specs.calls.SelfSuspend.{self_suspend}
 use Rattle.pm_core.specs.calls.SetMaxLatency.{set_max_latency}
 use Rattle.pm_core.specs.calls.SetRequirement.{set_requirement}
 use Rattle.pm_core.specs.calls.SetWakeupSource.{set_wakeup_source}
-use Rattle.pm_laws.specs.Agree.{SameRow, SameRows, Same, Agree}
+use Rattle.pm_laws.specs.Agree.{SamePending, SameRow, SameRows, Same, Agree}
 use Rattle.pm_laws.specs.Border.{Border, IsBeyond, IsClosed}
 use Rattle.pm_laws.specs.Both.{Both}
 use Rattle.pm_laws.specs.Hidden.{is_slave_within, is_within, owner_by, changes_within}
@@ -41,7 +43,7 @@ use Rattle.pm_laws.specs.Seen.{AreAlike, IsSeenAlike}
 use Rattle.pm_laws.proofs.AgreeLaw.{clash}
 use Rattle.pm_laws.proofs.FollowLaw.{mode_alike, proc_alike}
 use Rattle.pm_laws.proofs.RowFacts.{BelowLaws}
-use Rattle.pm_laws.proofs.Places.{Both-find, Both-refl}
+use Rattle.pm_laws.proofs.Places.{Both-find, Both-refl, BothFrom-get}
 use Rattle.pm_laws.proofs.RowFacts.{no_rival, rival_alike}
 
 abbrev pub book_of : Fixed → Now → State
@@ -123,6 +125,28 @@ wake_alike fixed border m (Slave s) a b is same = refl
 wake_alike fixed border m (Power w) a b is same = refl
 wake_alike fixed border m Unknown a b is same = refl
 
+-- ---- the view of a master that is asked to suspend
+
+-- on a master beyond the same is pending
+pub pending_alike : (fixed : Fixed) (border : Border) (m : ℕ) (a b : Now) → IsBeyond border m → Same fixed border a b → pending_at m a.talk.pending ≡ pending_at m b.talk.pending
+pending_alike fixed border m a b beyond same =
+    BothFrom-get (SamePending border) (λ x y. x ≡ y) 0 m m None (omega arith) refl (λ x y is. is beyond) a.talk.pending b.talk.pending same.talk.pending
+
+target_alike : BelowLaws → (fixed : Fixed) (border : Border) (k : ℕ) (a b : Now) → IsBeyond border k → Same fixed border a b → suspendable_at k (book_of fixed a) ≡ suspendable_at k (book_of fixed b)
+target_alike laws fixed border k a b beyond same =
+    let timeout : ℕ = master_timeout fixed.object.masters k in
+    ap (λ pending. record { master = k; pending = is_some pending; mode = mode_of_master fixed a.core k; timeout = timeout }) (pending_alike fixed border k a b beyond same)
+    ∙ ap (λ mode. record { master = k; pending = is_asked k (book_of fixed b); mode = mode; timeout = timeout }) (mode_alike laws fixed border k a b beyond same)
+
+targets_alike : BelowLaws → (fixed : Fixed) (border : Border) (m : ℕ) (named : Option ℕ) (a b : Now) → is_within border named ≡ false → Same fixed border a b → suspendable m named (book_of fixed a) ≡ suspendable m named (book_of fixed b)
+targets_alike laws fixed border m None a b is same = cc
+targets_alike laws fixed border m (Some k) a b is same =
+    ap (λ target. if can_suspend m k (book_of fixed a) then Some target else None) (target_alike laws fixed border k a b (kept (border.master k) is) same)
+
+pub suspend_alike : BelowLaws → (fixed : Fixed) (border : Border) (m : ℕ) (node : NodeId) (a b : Now) → is_within border (named_master fixed node) ≡ false → Same fixed border a b → suspend_view m node (book_of fixed a) ≡ suspend_view m node (book_of fixed b)
+suspend_alike laws fixed border m node a b is same =
+    ap (λ target. record { named = names_master fixed node; target = target }) (targets_alike laws fixed border m (named_master fixed node) a b is same)
+
 -- ---- the call that arms: of the row it looks at the pair alone
 
 found_seed : (at : Bool) (x y : Entry) (first second : Option Entry) → x.seed ≡ y.seed → option_map pair_in first ≡ option_map pair_in second → option_map pair_in (cond at (Some x) first) ≡ option_map pair_in (cond at (Some y) second)
@@ -162,6 +186,16 @@ told_stages [] words = refl
 told_stages (None ∷ checks) words = told_stages checks words
 told_stages (Some response ∷ checks) words = refl
 
+-- a call that asks a master beyond to suspend, and one of a master beyond that aborts its own suspend, come to the same
+pub asks_alike : BelowLaws → (fixed : Fixed) (border : Border) (m ack latency state : ℕ) (node : NodeId) (a b : Now) → is_within border (named_master fixed node) ≡ false → Same fixed border a b → called m (RequestSuspend node ack latency state) (book_of fixed a) ≡ called m (RequestSuspend node ack latency state) (book_of fixed b)
+asks_alike laws fixed border m ack latency state node a b is same =
+    ap (λ view. outcome_of (request_suspend m node ack latency state view)) (suspend_alike laws fixed border m node a b is same)
+
+pub aborts_alike : (fixed : Fixed) (border : Border) (m reason : ℕ) (node : NodeId) (a b : Now) → IsBeyond border m → Same fixed border a b → called m (AbortSuspend node reason) (book_of fixed a) ≡ called m (AbortSuspend node reason) (book_of fixed b)
+aborts_alike fixed border m reason node a b beyond same =
+    ap (λ view. outcome_of (abort_suspend m reason (is_asked m (book_of fixed a)) view)) (proc_view_alike fixed border m (kind_of fixed.topology node) a b beyond same)
+    ∙ ap (λ pending. outcome_of (abort_suspend m reason (is_some pending) (proc_view m node (book_of fixed b)))) (pending_alike fixed border m a b beyond same)
+
 called_alike : BelowLaws → (fixed : Fixed) (border : Border) (m : ℕ) (call : Call) (a b : Now) → IsBeyond border m → border.some ≡ true → changes_within border call (book_of fixed a) ≡ false → Same fixed border a b → (called m call (book_of fixed a)).stages ≡ (called m call (book_of fixed b)).stages
 called_alike laws fixed border m (GetNodeStatus node) a b beyond some plain same =
     let first = tried_by m (GetNodeStatus node) (book_of fixed a) in
@@ -169,8 +203,10 @@ called_alike laws fixed border m (GetNodeStatus node) a b beyond some plain same
     told_stages first.checks first.deed.words ∙ sym (told_stages second.checks second.deed.words)
 called_alike laws fixed border m (SelfSuspend node address) a b beyond some plain same =
     ap (λ view. (outcome_of (self_suspend m address view)).stages) (proc_view_alike fixed border m (kind_of fixed.topology node) a b beyond same)
+called_alike laws fixed border m (RequestSuspend node ack latency state) a b beyond some plain same =
+    ap (λ outcome. outcome.stages) (asks_alike laws fixed border m ack latency state node a b plain same)
 called_alike laws fixed border m (AbortSuspend node reason) a b beyond some plain same =
-    ap (λ view. (outcome_of (abort_suspend m reason view)).stages) (proc_view_alike fixed border m (kind_of fixed.topology node) a b beyond same)
+    ap (λ outcome. outcome.stages) (aborts_alike fixed border m reason node a b beyond same)
 called_alike laws fixed border m (RequestWakeup node address ack) a b beyond some plain same =
     ap (λ view. (outcome_of (request_wakeup address ack view)).stages) (wake_alike fixed border m (kind_of fixed.topology node) a b plain same)
 called_alike laws fixed border m (SetWakeupSource target source enable) a b beyond some plain same =
@@ -207,3 +243,11 @@ pub wake_views_agree : (border : Border) (m : ℕ) (node : NodeId) (a b : State)
 wake_views_agree border m node a b there agree =
     let P : Fixed → Type 0 = λ fixed. wake_view m node a ≡ wake_view m node (book_of fixed b.now) in
     subst P agree.fixed (wake_alike a.fixed border m (kind_of a.fixed.topology node) a.now b.now there agree.now)
+
+pub suspend_views_agree : BelowLaws → (border : Border) (m : ℕ) (node : NodeId) (a b : State) → is_within border (named_master a.fixed node) ≡ false → Agree border a b → suspend_view m node a ≡ suspend_view m node b
+suspend_views_agree laws border m node a b there agree =
+    let P : Fixed → Type 0 = λ fixed. suspend_view m node a ≡ suspend_view m node (book_of fixed b.now) in
+    subst P agree.fixed (suspend_alike laws a.fixed border m node a.now b.now there agree.now)
+
+pub asked_agrees : (border : Border) (m : ℕ) (a b : State) → IsBeyond border m → Agree border a b → is_asked m a ≡ is_asked m b
+asked_agrees border m a b beyond agree = ap is_some (pending_alike a.fixed border m a.now b.now beyond agree.now)

@@ -1,4 +1,5 @@
--- Which calls are hidden: those of a master within reach, and those that change a row on a slave within reach.
+-- Which calls are hidden: those of a master within reach, and those that change a row on a slave within reach, or wake or ask a
+-- master within reach.
 use Rattle.std.proofs.Common.{◌≡◌, ℕ, Bool, true, false, not, ◌&&◌, ◌||◌, ◌==◌, if◌then◌else◌, List, [], ◌∷◌, Option, Some, None, refl, sym, ◌∙◌, ap, subst, inl, inr}
 use Rattle.std.specs.Prelude.{unwrap_or}
 use Rattle.std.proofs.lemmas.Bool.{eqb-true}
@@ -13,25 +14,27 @@ use Rattle.pm_procs.specs.Procs.{proc_at}
 use Rattle.pm_perms.specs.Permits.{may_wake}
 use Rattle.pm_base.proofs.Counts.{split}
 use Rattle.pm_ipi.specs.declared.calls.Call.{Call}
-use Rattle.pm_ipi.specs.declared.calls.Call.TheVariants.{SelfSuspend, AbortSuspend, RequestWakeup, SetWakeupSource, RequestNode, ReleaseNode, SetRequirement, SetMaxLatency, InitFinalize, Unknown}
+use Rattle.pm_ipi.specs.declared.calls.Call.TheVariants.{RequestSuspend, SelfSuspend, AbortSuspend, RequestWakeup, SetWakeupSource, RequestNode, ReleaseNode, SetRequirement, SetMaxLatency, InitFinalize, Unknown}
 use Rattle.pm_rows.specs.declared.row.Change.{Change}
 use Rattle.pm_rows.specs.declared.row.Change.TheVariants.{Request, Release, Set, Limit}
 use Rattle.pm_rows.specs.declared.row.Entry.{Entry}
 use Rattle.pm_rows.specs.Rows.{entry_at, is_at}
+use Rattle.pm_core.specs.declared.views.ProcView.{ProcView}
 use Rattle.pm_core.specs.declared.views.RowView.{RowView}
 use Rattle.pm_core.specs.Members.{mode_of_master, owner_at}
 use Rattle.pm_core.specs.Outcome.{Deed, Check, Tried, judged, outcome_of, done}
 use Rattle.pm_core.specs.Prims.{Prim, At_row, Settle, Put_proc}
-use Rattle.pm_core.specs.ProcCalls.{address_in, put_at}
+use Rattle.pm_core.specs.ProcCalls.{address_in, is_in, proc_changes, put_at}
 use Rattle.pm_core.specs.RowCalls.{changes_of, row_changes}
 use Rattle.pm_core.specs.State.{State, in_force}
 use Rattle.pm_core.specs.Step.{called, tried_by}
 use Rattle.pm_core.specs.Values.{slave_place}
-use Rattle.pm_core.specs.Views.{can_wake, master_node, proc_view, row_view_at, wake_view, wake_view_at, wakeable}
+use Rattle.pm_core.specs.Views.{can_wake, is_asked, master_node, proc_view, row_view_at, suspend_view, wake_view, wake_view_at, wakeable}
 use Rattle.pm_core.specs.calls.AbortSuspend.{abort_suspend}
 use Rattle.pm_core.specs.calls.InitFinalize.{init_finalize}
 use Rattle.pm_core.specs.calls.ReleaseNode.{release_node}
 use Rattle.pm_core.specs.calls.RequestNode.{request_node}
+use Rattle.pm_core.specs.calls.RequestSuspend.{request_suspend}
 use Rattle.pm_core.specs.calls.RequestWakeup.{request_wakeup, woken_to}
 use Rattle.pm_core.specs.calls.SelfSuspend.{self_suspend}
 use Rattle.pm_core.specs.calls.SetMaxLatency.{set_max_latency}
@@ -86,6 +89,11 @@ row_call_hidden border m by call book (Some s) deed hides =
 put_hidden : (border : Border) (m : ℕ) (place : Option ℕ) (mode : Mode) (address : ℕ) → border.master m ≡ false → IsUnseen border (put_at m place mode address)
 put_hidden border m None mode address within = refl
 put_hidden border m (Some p) mode address within = one_hidden border (Put_proc m p mode address) within
+
+-- nor is it seen where a master within goes on in place of suspending
+going_hidden : (border : Border) (m : ℕ) (view : ProcView) (suspending : Bool) → border.master m ≡ false → IsUnseen border (if suspending then proc_changes m Active (address_in view) view else [])
+going_hidden border m view true within = put_hidden border m view.place Active (address_in view) within
+going_hidden border m view false within = refl
 
 -- the wake-up of a processor of a master within isn't seen
 wake_hidden : (border : Border) (k p : ℕ) (address : Option ℕ) (proc : Processor) (can : Bool) → border.master k ≡ false → IsUnseen border (woken_to address (Some p) (if can then Some (record { owner = k; proc = proc }) else None))
@@ -146,7 +154,7 @@ caller_hidden border m (SelfSuspend node address) book closed within =
     tried_hidden border (self_suspend m address view) (put_hidden border m view.place Suspending address within, tt)
 caller_hidden border m (AbortSuspend node reason) book closed within =
     let view = proc_view m node book in
-    tried_hidden border (abort_suspend m reason view) (put_hidden border m view.place Active (address_in view) within, tt)
+    tried_hidden border (abort_suspend m reason (is_asked m book) view) (going_hidden border m view (is_in Suspending view) within, tt)
 caller_hidden border m (RequestWakeup node address ack) book closed within =
     tried_hidden border (request_wakeup address ack (wake_view m node book)) (caller_kind border m (kind_of book.fixed.topology node) address book closed within, tt)
 caller_hidden border m (SetWakeupSource target source enable) book closed within =
@@ -185,8 +193,10 @@ target_kind border m (Slave s) address book is = refl
 target_kind border m (Power w) address book is = refl
 target_kind border m NoNode address book is = refl
 
--- a call that changes a row on a slave within, or wakes a processor of a master within
+-- a call that changes a row on a slave within, or wakes a processor of a master within or asks such a master to suspend
 pub slave_hidden : (border : Border) (m : ℕ) (call : Call) (book : State) → changes_within border call book ≡ true → AreHidden border (called m call book).stages
+slave_hidden border m (RequestSuspend node ack latency state) book is =
+    tried_hidden border (request_suspend m node ack latency state (suspend_view m node book)) tt
 slave_hidden border m (RequestWakeup node address ack) book is =
     tried_hidden border (request_wakeup address ack (wake_view m node book)) (target_kind border m (kind_of book.fixed.topology node) address book is, tt)
 slave_hidden border m (RequestNode node caps ack) book is =

@@ -78,7 +78,7 @@ follow_alike laws border a b agree =
 
 -- ---- where the rows know the modes nothing shifts
 
-stays_same : (mode : Mode) → same_mode mode mode ≡ true
+pub stays_same : (mode : Mode) → same_mode mode mode ≡ true
 stays_same Off = refl
 stays_same Active = refl
 stays_same Asleep = refl

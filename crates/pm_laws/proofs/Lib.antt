@@ -1,7 +1,10 @@
 pub mod AgreeLaw
 pub mod CallsAlike
 pub mod CallsHidden
+pub mod CallsTold
 pub mod ChangesLaw
+pub mod EndsLaw
+pub mod EventsLaw
 pub mod FollowLaw
 pub mod PairsLaw
 pub mod PathLaw
@@ -9,11 +12,14 @@ pub mod Places
 pub mod PrimFacts
 pub mod ReachBorderLaw
 pub mod ReachExact
+pub mod ReachRequests
 pub mod ReachStep
 pub mod Records
+pub mod RequestsLaw
 pub mod RowFacts
 pub mod StartsLaw
 pub mod StepLaw
+pub mod TalkFacts
 pub mod ValuesLaw
 pub mod WakeLaw
 pub mod WantedLaw

@@ -86,6 +86,18 @@ BothFrom-trans R join k (x ∷ xs) (y ∷ ys) [] first second = absurd second
 BothFrom-trans R join k (x ∷ xs) (y ∷ ys) (z ∷ zs) first second =
     (join k x y z first.0 second.0, BothFrom-trans R join (k + 1) xs ys zs first.1 second.1)
 
+pub BothFrom-map : {X : Type 0} (R : ℕ → X → X → Type 0) (f g : X → X) → ((k : ℕ) (x y : X) → R k x y → R k (f x) (g y)) → (k : ℕ) (xs ys : List X) → BothFrom R k xs ys → BothFrom R k (map f xs) (map g ys)
+BothFrom-map R f g each k [] [] same = tt
+BothFrom-map R f g each k [] (y ∷ ys) same = absurd same
+BothFrom-map R f g each k (x ∷ xs) [] same = absurd same
+BothFrom-map R f g each k (x ∷ xs) (y ∷ ys) same = (each k x y same.0, BothFrom-map R f g each (k + 1) xs ys same.1)
+
+pub BothFrom-map_left : {X : Type 0} (R : ℕ → X → X → Type 0) (f : X → X) → ((k : ℕ) (x y : X) → R k x y → R k (f x) y) → (k : ℕ) (xs ys : List X) → BothFrom R k xs ys → BothFrom R k (map f xs) ys
+BothFrom-map_left R f each k [] [] same = tt
+BothFrom-map_left R f each k [] (y ∷ ys) same = absurd same
+BothFrom-map_left R f each k (x ∷ xs) [] same = absurd same
+BothFrom-map_left R f each k (x ∷ xs) (y ∷ ys) same = (each k x y same.0, BothFrom-map_left R f each (k + 1) xs ys same.1)
+
 pub BothFrom-set : {X : Type 0} (R : ℕ → X → X → Type 0) (k n p : ℕ) (x y : X) → n ≡ k + p → R n x y → (xs ys : List X) → BothFrom R k xs ys → BothFrom R k (slice_set xs p x) (slice_set ys p y)
 BothFrom-set R k n p x y is here [] [] same = tt
 BothFrom-set R k n p x y is here [] (v ∷ ys) same = absurd same

@@ -52,6 +52,7 @@ puts_alike fixed border m p mode address a b true is same =
       rows = same.rows;
       known = same.known;
       procs = BothFrom-set (SameProc fixed border) 0 p p proc proc (omega arith) (put_alike fixed border m p proc is) a.core.procs b.core.procs same.procs;
+      talk = same.talk;
     }
 
 puts_unseen : (fixed : Fixed) (border : Border) (m p : ℕ) (mode : Mode) (address : ℕ) (a b : Now) (own : Bool) → owns fixed.object fixed.topology m p ≡ own → border.master m ≡ false → Same fixed border a b → Same fixed border (put_if own p mode address a) b
@@ -62,6 +63,7 @@ puts_unseen fixed border m p mode address a b true is within same =
       rows = same.rows;
       known = same.known;
       procs = BothFrom-set_left (SameProc fixed border) 0 p p proc (omega arith) (λ y. put_unseen fixed border m p proc y is within) a.core.procs b.core.procs same.procs;
+      talk = same.talk;
     }
 
 -- ---- each change
@@ -77,11 +79,13 @@ prim_alike laws fixed border (At_row m s by) a b is same = record {
   rows = rows_changed_alike border m s by a.core.rows.entries b.core.rows.entries same.rows;
   known = same.known;
   procs = same.procs;
+  talk = same.talk;
 }
 prim_alike laws fixed border (Settle m) a b is same = record {
   rows = rows_settled_alike border m a.core.rows.entries b.core.rows.entries same.rows;
   known = same.known;
   procs = same.procs;
+  talk = same.talk;
 }
 prim_alike laws fixed border (Put_proc m p mode address) a b is same =
     puts_alike fixed border m p mode address a b (owns fixed.object fixed.topology m p) refl same
@@ -91,6 +95,7 @@ prim_alike laws fixed border (Shift m to) a b is same =
       rows = subst P (known_alike fixed border m a b is same) (rows_shifted_alike laws border m (mode_of m a.core.rows) to a.core.rows.entries b.core.rows.entries same.rows);
       known = BothFrom-set (SameKnown border) 0 m m to to (omega arith) (λ beyond. refl) a.core.rows.known b.core.rows.known same.known;
       procs = same.procs;
+      talk = same.talk;
     }
 
 -- a change that isn't seen, made in one alone
@@ -99,11 +104,13 @@ prim_unseen fixed border (At_row m s by) a b is same = record {
   rows = rows_changed_unseen border m s by a.core.rows.entries b.core.rows.entries is same.rows;
   known = same.known;
   procs = same.procs;
+  talk = same.talk;
 }
 prim_unseen fixed border (Settle m) a b is same = record {
   rows = rows_settled_unseen border m a.core.rows.entries b.core.rows.entries is same.rows;
   known = same.known;
   procs = same.procs;
+  talk = same.talk;
 }
 prim_unseen fixed border (Put_proc m p mode address) a b is same =
     puts_unseen fixed border m p mode address a b (owns fixed.object fixed.topology m p) refl is same
@@ -111,4 +118,5 @@ prim_unseen fixed border (Shift m to) a b is same = record {
   rows = rows_shifted_unseen border m (mode_of m a.core.rows) to a.core.rows.entries b.core.rows.entries is same.rows;
   known = BothFrom-set_left (SameKnown border) 0 m m to (omega arith) (λ y beyond. clash (border.master m) beyond is) a.core.rows.known b.core.rows.known same.known;
   procs = same.procs;
+  talk = same.talk;
 }

@@ -37,6 +37,8 @@ pub record ApartLaws : Type 0 where
       → is_within border (master_place master book) ≡ true → is_hidden border (Ipi master message) book ≡ true
   pub values : (border : Border) (unit : Unit) (a b : State) → IsClosed a.fixed.object a.fixed.topology border
       → is_beyond a.fixed.object a.fixed.topology border unit ≡ true → Agree border a b → value unit a ≡ value unit b
+  pub turned : (border : Border) (a b : State) → Agree border a b → Agree border b a
+  pub through : (border : Border) (a b c : State) → Agree border a b → Agree border b c → Agree border a c
 
 -- ---- one event
 
@@ -47,14 +49,23 @@ pub event_apart : ApartLaws → (m : NodeId) (event : Event) (a b : State) → I
 event_apart laws m event a b object chip sound_a sound_b agree =
     laws.both (border_of a.fixed.object a.fixed.topology m) event a b (laws.closed a.fixed.object a.fixed.topology m object chip) sound_a sound_b agree
 
+-- a book in which nothing happens stays
+still_agrees : ApartLaws → (border : Border) (a b : State) → IsClosed b.fixed.object b.fixed.topology border → IsSound b → Agree border a b → Agree border a (effect Pass b)
+still_agrees laws border a b closed sound agree =
+    let itself : Agree border b b = laws.through border b a b (laws.turned border a b agree) agree in
+    let stays : Agree border (effect Pass b) b = laws.hidden border Pass b b closed sound refl itself in
+    laws.through border a b (effect Pass b) agree (laws.turned border (effect Pass b) b stays)
+
 pub message_apart : ApartLaws → (m : NodeId) (message : Message) (a b : State) → IsObject a.fixed.object → IsWellFormed a.fixed.topology
     → IsSound a → IsSound b
     → Agree (border_of a.fixed.object a.fixed.topology m) a b
     → Agree (border_of a.fixed.object a.fixed.topology m) (effect (Ipi m message) a) (effect Pass b)
 message_apart laws m message a b object chip sound_a sound_b agree =
-    let border = border_of a.fixed.object a.fixed.topology m in
-    laws.hidden border (Ipi m message) a b (laws.closed a.fixed.object a.fixed.topology m object chip) sound_b
-    (laws.messages border m message a (laws.own m a)) agree
+    let border : Border = border_of a.fixed.object a.fixed.topology m in
+    let closed : IsClosed a.fixed.object a.fixed.topology border = laws.closed a.fixed.object a.fixed.topology m object chip in
+    let P : Fixed → Type 0 = λ fixed. IsClosed fixed.object fixed.topology border in
+    still_agrees laws border (effect (Ipi m message) a) b (subst P agree.fixed closed) sound_b
+    (laws.hidden border (Ipi m message) a b closed sound_b (laws.messages border m message a (laws.own m a)) agree)
 
 -- ---- runs
 
@@ -79,12 +90,13 @@ module _ (laws : ApartLaws) (c : Setup) (m : NodeId) (object : IsObject c.object
   same_event event a b first second agree = laws.both border event a b (closed_at a first) first.sound second.sound agree
 
   -- a message of the master in the one book, nothing in the other
-  own_event : (master : NodeId) (message : Message) (a b : State) → master.0 ≡ m.0 → IsBookOf c a → IsBookOf c b → Agree border a b → Agree border (effect (Ipi master message) a) b
+  own_event : (master : NodeId) (message : Message) (a b : State) → master.0 ≡ m.0 → IsBookOf c a → IsBookOf c b → Agree border a b → Agree border (effect (Ipi master message) a) (effect Pass b)
   own_event master message a b is first second agree =
       let within : is_within border (master_place master a) ≡ true =
       ap (λ (n : ℕ). is_within border (position (λ (r : MasterRec). r.node == n) a.fixed.object.masters)) is ∙ own_at a first
       in
-      laws.hidden border (Ipi master message) a b (closed_at a first) second.sound (laws.messages border master message a within) agree
+      still_agrees laws border (effect (Ipi master message) a) b (closed_at b second) second.sound
+      (laws.hidden border (Ipi master message) a b (closed_at a first) second.sound (laws.messages border master message a within) agree)
 
   message_event : (master : NodeId) (message : Message) (a b : State) (own : Bool) → (master.0 == m.0) ≡ own
       → IsBookOf c a → IsBookOf c b → Agree border a b

@@ -30,12 +30,13 @@ use Rattle.pm_laws.specs.Border.{Border, IsClosed, none_within, unit_beyond}
 use Rattle.pm_laws.specs.Both.{Both}
 use Rattle.pm_laws.specs.Hidden.{is_hidden}
 use Rattle.pm_laws.specs.Values.{is_beyond, starts_beyond}
-use Rattle.pm_laws.proofs.AgreeLaw.{agree_sym, same_sym}
+use Rattle.pm_laws.proofs.AgreeLaw.{agree_sym, agree_trans, same_sym}
 use Rattle.pm_laws.proofs.CallsAlike.{book_of}
+use Rattle.pm_laws.proofs.EventsLaw.{event_alike, event_hidden, hidden_fixed}
 use Rattle.pm_laws.proofs.FollowLaw.{proc_alike}
-use Rattle.pm_laws.proofs.PathLaw.{path_alike, path_hidden, stages_alike, stages_hidden}
+use Rattle.pm_laws.proofs.PathLaw.{path_alike, path_hidden}
 use Rattle.pm_laws.proofs.RowFacts.{BelowLaws}
-use Rattle.pm_laws.proofs.StepLaw.{event_alike, event_hidden, hidden_fixed}
+use Rattle.pm_laws.proofs.StepLaw.{effect_alike, effect_hidden}
 use Rattle.pm_laws.proofs.ValuesLaw.{mode_same, nobody_off}
 
 -- what a processor that was down starts with, where it is active now
@@ -157,9 +158,13 @@ module _ (laws : BelowLaws) (fixed : Fixed) (border : Border) (closed : IsClosed
       let agree : Agree border second first = agree_sym border first second (record { fixed = refl; now = same }) in
       let hidden = event_hidden border event first closed is in
       let books : Each (Agree border second) (path event first) = path_hidden laws border (stages event first) second first sound.knows hidden agree in
-      let after : Agree border second (effect event first) = stages_hidden laws border (stages event first) second first sound.knows hidden agree in
-      let end : Agree border (effect event first) second = agree_sym border second (effect event first) after in
-      starts_alike fixed border (effect event first).now b end.now
+      let after : Agree border second (effect event first) = effect_hidden laws border event second first closed sound.knows is agree in
+      let itself : Agree border second second = agree_trans border second first second agree (agree_sym border second first agree) in
+      let rest : Agree border second (effect Pass second) = effect_hidden laws border Pass second second closed sound.knows refl itself in
+      let end : Agree border (effect event first) (effect Pass second) =
+      agree_trans border (effect event first) second (effect Pass second) (agree_sym border second (effect event first) after) rest
+      in
+      starts_alike fixed border (effect event first).now (effect Pass second).now end.now
       (was_down (first ∷ path event first)) (was_down (second ∷ []))
       (λ p beyond. ap (λ mode. not (is_awake mode) || was_down (path event first) p) (sym (book_modes fixed border p beyond second first refl agree))
       ∙ still_down fixed border p beyond second (path event first) refl books)
@@ -173,7 +178,7 @@ module _ (laws : BelowLaws) (fixed : Fixed) (border : Border) (closed : IsClosed
       let agree : Agree border first second = record { fixed = refl; now = same } in
       let alike = event_alike laws fixed border event a b sound_a.armed closed.some is same in
       let books : Both (Agree border) (path event first) (path event second) = path_alike laws border (stages event first) (stages event second) first second alike agree in
-      let end : Agree border (effect event first) (effect event second) = stages_alike laws border (stages event first) (stages event second) first second alike agree in
+      let end : Agree border (effect event first) (effect event second) = effect_alike laws fixed border event a b closed sound_a.armed is same in
       starts_alike fixed border (effect event first).now (effect event second).now end.now
       (was_down (first ∷ path event first)) (was_down (second ∷ path event second))
       (λ p beyond. downs_alike fixed border p beyond (first ∷ path event first) (second ∷ path event second)

@@ -1,214 +1,49 @@
 -- A step keeps two books in agreement, and one of a hidden event is not seen.
-use Rattle.std.proofs.Common.{◌≡◌, ℕ, Bool, true, false, not, ◌||◌, if◌then◌else◌, Option, Some, None, refl, sym, ◌∙◌, ap, subst, inl, inr}
-use Rattle.std.specs.Prelude.{option_and_then}
+use Rattle.std.proofs.Common.{◌≡◌, Bool, true, false, sym, ◌∙◌, refl, subst}
 use Rattle.pm_base.specs.declared.events.Event.{Event}
-use Rattle.pm_base.specs.declared.events.Event.TheVariants.{Ipi, Boot, Wfi, Irq, Gic}
+use Rattle.pm_base.specs.declared.events.Event.TheVariants.{Ipi}
 use Rattle.pm_base.specs.declared.events.Message.{Message}
-use Rattle.pm_base.specs.declared.names.Mode.{Mode}
-use Rattle.pm_base.specs.declared.names.Mode.TheVariants.{Off, Active, Asleep, Suspending}
 use Rattle.pm_base.specs.declared.names.NodeId.{NodeId}
-use Rattle.pm_base.proofs.Booleans.{either, equal, first_passes, neither}
-use Rattle.pm_ipi.specs.declared.calls.Call.{Call}
-use Rattle.pm_ipi.specs.declared.calls.Call.TheVariants.{RequestWakeup, RequestNode, ReleaseNode, SetRequirement, SetMaxLatency}
+use Rattle.pm_base.proofs.Booleans.{first_passes}
 use Rattle.pm_ipi.specs.Calls.{call_of}
-use Rattle.pm_procs.specs.declared.procs.Proc.{Proc as Processor}
-use Rattle.pm_procs.specs.Modes.{is_awake}
-use Rattle.pm_procs.specs.Procs.{proc_at}
-use Rattle.pm_topology.specs.declared.places.Kind.{Kind}
-use Rattle.pm_topology.specs.declared.places.Kind.TheVariants.{Proc, Slave, Power, Unknown}
-use Rattle.pm_topology.specs.Places.{kind_of}
-use Rattle.pm_core.specs.Events.{boot_at, boot_by, booted, wait_at, wait_by, waits, interrupt_at, interrupt_by, raised_at, woken}
-use Rattle.pm_core.specs.Members.{is_place, mode_of_master, owner_at, owns}
-use Rattle.pm_core.specs.Outcome.{Outcome}
-use Rattle.pm_core.specs.Prims.{Prim, Put_proc}
 use Rattle.pm_core.specs.Sound.{ArmsOwn, IsSound, KnowsModes}
+use Rattle.pm_core.specs.Stages.{after_stages}
 use Rattle.pm_core.specs.State.{Fixed, Now, State}
-use Rattle.pm_core.specs.Step.{called, heard_at, stages_of, stages, effect}
+use Rattle.pm_core.specs.Step.{effect, stages, talk}
 use Rattle.pm_core.specs.Values.{master_place}
 use Rattle.pm_laws.specs.Agree.{Same, Agree}
-use Rattle.pm_laws.specs.Border.{Border, IsBeyond, IsClosed}
-use Rattle.pm_laws.specs.Hidden.{is_within, changes_within, owner_by, is_hidden}
-use Rattle.pm_laws.specs.Seen.{AreAlike, AreHidden}
+use Rattle.pm_laws.specs.Border.{Border, IsClosed}
+use Rattle.pm_laws.specs.Hidden.{is_within, changes_within, is_hidden}
 use Rattle.pm_laws.proofs.AgreeLaw.{agree_sym, agree_trans}
-use Rattle.pm_laws.proofs.CallsAlike.{alike_of, book_of, call_alike, kept}
-use Rattle.pm_laws.proofs.CallsHidden.{HasClosed, caller_hidden, one_hidden, slave_hidden, turned}
-use Rattle.pm_laws.proofs.WakeLaw.{raised_alike, raised_hidden, woken_unseen}
-use Rattle.pm_laws.proofs.FollowLaw.{mode_alike, proc_alike}
+use Rattle.pm_laws.proofs.CallsAlike.{book_of}
+use Rattle.pm_laws.proofs.CallsHidden.{HasClosed}
+use Rattle.pm_laws.proofs.EndsLaw.{talk_alike, talk_hidden}
+use Rattle.pm_laws.proofs.EventsLaw.{event_alike, event_hidden, hidden_fixed}
 use Rattle.pm_laws.proofs.PathLaw.{stages_alike, stages_hidden}
 use Rattle.pm_laws.proofs.RowFacts.{BelowLaws}
-
--- ---- hidden events
-
-heard_hidden : (border : Border) (outcome : Outcome) (awake : Bool) → AreHidden border outcome.stages → AreHidden border (stages_of (if awake then Some outcome else None))
-heard_hidden border outcome true hidden = hidden
-heard_hidden border outcome false hidden = tt
-
-message_hidden : (border : Border) (message : Message) (book : State) (place : Option ℕ) → HasClosed border book → (is_within border place || changes_within border (call_of message) book) ≡ true → AreHidden border (stages_of (option_and_then (heard_at message book) place))
-message_hidden border message book None closed is = tt
-message_hidden border message book (Some m) closed is =
-    heard_hidden border (called m (call_of message) book) (is_awake (mode_of_master book.fixed book.now.core m))
-    (elim (either (not (border.master m)) (changes_within border (call_of message) book) is) [
-      | inl within ↦ caller_hidden border m (call_of message) book closed (turned (border.master m) within)
-      | inr slave ↦ slave_hidden border m (call_of message) book slave
-    ])
-
-booted_hidden : (border : Border) (m p address : ℕ) (mode : Mode) → border.master m ≡ false → AreHidden border (booted m p address mode)
-booted_hidden border m p address Off within = (one_hidden border (Put_proc m p Active address) within, tt)
-booted_hidden border m p address Active within = tt
-booted_hidden border m p address Asleep within = tt
-booted_hidden border m p address Suspending within = tt
-
-waits_hidden : (border : Border) (m p address : ℕ) (mode : Mode) → border.master m ≡ false → AreHidden border (waits m p address mode)
-waits_hidden border m p address Off within = tt
-waits_hidden border m p address Active within = tt
-waits_hidden border m p address Asleep within = tt
-waits_hidden border m p address Suspending within = (one_hidden border (Put_proc m p Asleep address) within, tt)
-
-boot_by_hidden : (border : Border) (owner : Option ℕ) (p address : ℕ) (proc : Processor) → is_within border owner ≡ true → AreHidden border (boot_by owner p address proc)
-boot_by_hidden border None p address proc is = tt
-boot_by_hidden border (Some m) p address proc is = booted_hidden border m p address proc.mode (turned (border.master m) is)
-
-wait_by_hidden : (border : Border) (owner : Option ℕ) (p : ℕ) (proc : Processor) → is_within border owner ≡ true → AreHidden border (wait_by owner p proc)
-wait_by_hidden border None p proc is = tt
-wait_by_hidden border (Some m) p proc is = waits_hidden border m p proc.address proc.mode (turned (border.master m) is)
-
-boot_hidden : (border : Border) (kind : Kind) (address : ℕ) (book : State) → is_within border (owner_by kind book) ≡ true → AreHidden border (boot_at kind address book)
-boot_hidden border (Proc p) address book is =
-    boot_by_hidden border (owner_at book.fixed.object book.fixed.topology p) p address (proc_at p book.now.core.procs) is
-boot_hidden border (Slave s) address book is = tt
-boot_hidden border (Power w) address book is = tt
-boot_hidden border Unknown address book is = tt
-
-wait_hidden : (border : Border) (kind : Kind) (book : State) → is_within border (owner_by kind book) ≡ true → AreHidden border (wait_at kind book)
-wait_hidden border (Proc p) book is =
-    wait_by_hidden border (owner_at book.fixed.object book.fixed.topology p) p (proc_at p book.now.core.procs) is
-wait_hidden border (Slave s) book is = tt
-wait_hidden border (Power w) book is = tt
-wait_hidden border Unknown book is = tt
-
-interrupt_by_hidden : (border : Border) (owner : Option ℕ) (p : ℕ) (proc : Processor) → is_within border owner ≡ true → AreHidden border (interrupt_by owner p proc)
-interrupt_by_hidden border None p proc is = tt
-interrupt_by_hidden border (Some m) p proc is = (woken_unseen border m p proc.address proc.mode (turned (border.master m) is), tt)
-
-interrupt_hidden : (border : Border) (kind : Kind) (book : State) → is_within border (owner_by kind book) ≡ true → AreHidden border (interrupt_at kind book)
-interrupt_hidden border (Proc p) book is =
-    interrupt_by_hidden border (owner_at book.fixed.object book.fixed.topology p) p (proc_at p book.now.core.procs) is
-interrupt_hidden border (Slave s) book is = tt
-interrupt_hidden border (Power w) book is = tt
-interrupt_hidden border Unknown book is = tt
-
--- nothing is seen of what a hidden event does
-pub event_hidden : (border : Border) (event : Event) (book : State) → HasClosed border book → is_hidden border event book ≡ true → AreHidden border (stages event book)
-event_hidden border (Ipi master message) book closed is = message_hidden border message book (master_place master book) closed is
-event_hidden border (Boot proc address) book closed is = boot_hidden border (kind_of book.fixed.topology proc) address book is
-event_hidden border (Wfi proc) book closed is = wait_hidden border (kind_of book.fixed.topology proc) book is
-event_hidden border (Irq slave) book closed is = raised_hidden border (kind_of book.fixed.topology slave) book closed.some is
-event_hidden border (Gic proc) book closed is = interrupt_hidden border (kind_of book.fixed.topology proc) book is
-event_hidden border _ book closed is = tt
-
--- ---- all other events
-
-heard_alike : (border : Border) (first second : Outcome) (a b : Bool) → a ≡ b → AreAlike border first.stages second.stages → AreAlike border (stages_of (if a then Some first else None)) (stages_of (if b then Some second else None))
-heard_alike border first second true true is alike = alike
-heard_alike border first second true false is alike = cc
-heard_alike border first second false true is alike = cc
-heard_alike border first second false false is alike = tt
-
-message_alike : BelowLaws → (fixed : Fixed) (border : Border) (message : Message) (place : Option ℕ) (a b : Now) → ((m : ℕ) → IsBeyond border m → border.some ≡ true) → (is_within border place || changes_within border (call_of message) (book_of fixed a)) ≡ false → Same fixed border a b → AreAlike border (stages_of (option_and_then (heard_at message (book_of fixed a)) place)) (stages_of (option_and_then (heard_at message (book_of fixed b)) place))
-message_alike laws fixed border message None a b some is same = cc
-message_alike laws fixed border message (Some m) a b some is same =
-    let parts = neither (not (border.master m)) (changes_within border (call_of message) (book_of fixed a)) is in
-    let beyond : IsBeyond border m = kept (border.master m) parts.0 in
-    heard_alike border (called m (call_of message) (book_of fixed a)) (called m (call_of message) (book_of fixed b))
-    (is_awake (mode_of_master fixed a.core m)) (is_awake (mode_of_master fixed b.core m))
-    (ap is_awake (mode_alike laws fixed border m a b beyond same))
-    (call_alike laws fixed border m (call_of message) a b beyond (some m beyond) parts.1 same)
-
--- the processor of a master beyond is the same in both
-owned_alike : (fixed : Fixed) (border : Border) (m p : ℕ) (a b : Now) → owner_at fixed.object fixed.topology p ≡ Some m → is_within border (Some m) ≡ false → Same fixed border a b → proc_at p a.core.procs ≡ proc_at p b.core.procs
-owned_alike fixed border m p a b owner is same =
-    let own : owns fixed.object fixed.topology m p ≡ true = ap (is_place m) owner ∙ equal m m refl in
-    proc_alike fixed border m p a b (kept (border.master m) is) own same
-
-boot_alike : (fixed : Fixed) (border : Border) (owner : Option ℕ) (p address : ℕ) (a b : Now) → owner_at fixed.object fixed.topology p ≡ owner → is_within border owner ≡ false → Same fixed border a b → boot_by owner p address (proc_at p a.core.procs) ≡ boot_by owner p address (proc_at p b.core.procs)
-boot_alike fixed border None p address a b owner is same = cc
-boot_alike fixed border (Some m) p address a b owner is same =
-    ap (λ (proc : Processor). booted m p address proc.mode) (owned_alike fixed border m p a b owner is same)
-
-wait_alike : (fixed : Fixed) (border : Border) (owner : Option ℕ) (p : ℕ) (a b : Now) → owner_at fixed.object fixed.topology p ≡ owner → is_within border owner ≡ false → Same fixed border a b → wait_by owner p (proc_at p a.core.procs) ≡ wait_by owner p (proc_at p b.core.procs)
-wait_alike fixed border None p a b owner is same = cc
-wait_alike fixed border (Some m) p a b owner is same =
-    ap (λ (proc : Processor). waits m p proc.address proc.mode) (owned_alike fixed border m p a b owner is same)
-
-interrupt_alike : (fixed : Fixed) (border : Border) (owner : Option ℕ) (p : ℕ) (a b : Now) → owner_at fixed.object fixed.topology p ≡ owner → is_within border owner ≡ false → Same fixed border a b → interrupt_by owner p (proc_at p a.core.procs) ≡ interrupt_by owner p (proc_at p b.core.procs)
-interrupt_alike fixed border None p a b owner is same = cc
-interrupt_alike fixed border (Some m) p a b owner is same =
-    ap (λ (proc : Processor). interrupt_by (Some m) p proc) (owned_alike fixed border m p a b owner is same)
-
-interrupts_alike : (fixed : Fixed) (border : Border) (kind : Kind) (a b : Now) → is_within border (owner_by kind (book_of fixed a)) ≡ false → Same fixed border a b → interrupt_at kind (book_of fixed a) ≡ interrupt_at kind (book_of fixed b)
-interrupts_alike fixed border (Proc p) a b is same = interrupt_alike fixed border (owner_at fixed.object fixed.topology p) p a b refl is same
-interrupts_alike fixed border (Slave s) a b is same = refl
-interrupts_alike fixed border (Power w) a b is same = refl
-interrupts_alike fixed border Unknown a b is same = refl
-
-boots_alike : (fixed : Fixed) (border : Border) (kind : Kind) (address : ℕ) (a b : Now) → is_within border (owner_by kind (book_of fixed a)) ≡ false → Same fixed border a b → boot_at kind address (book_of fixed a) ≡ boot_at kind address (book_of fixed b)
-boots_alike fixed border (Proc p) address a b is same = boot_alike fixed border (owner_at fixed.object fixed.topology p) p address a b refl is same
-boots_alike fixed border (Slave s) address a b is same = refl
-boots_alike fixed border (Power w) address a b is same = refl
-boots_alike fixed border Unknown address a b is same = refl
-
-waits_alike : (fixed : Fixed) (border : Border) (kind : Kind) (a b : Now) → is_within border (owner_by kind (book_of fixed a)) ≡ false → Same fixed border a b → wait_at kind (book_of fixed a) ≡ wait_at kind (book_of fixed b)
-waits_alike fixed border (Proc p) a b is same = wait_alike fixed border (owner_at fixed.object fixed.topology p) p a b refl is same
-waits_alike fixed border (Slave s) a b is same = refl
-waits_alike fixed border (Power w) a b is same = refl
-waits_alike fixed border Unknown a b is same = refl
-
-pub event_alike : BelowLaws → (fixed : Fixed) (border : Border) (event : Event) (a b : Now) → ArmsOwn (book_of fixed a) → ((m : ℕ) → IsBeyond border m → border.some ≡ true) → is_hidden border event (book_of fixed a) ≡ false → Same fixed border a b → AreAlike border (stages event (book_of fixed a)) (stages event (book_of fixed b))
-event_alike laws fixed border (Ipi master message) a b armed some is same =
-    message_alike laws fixed border message (master_place master (book_of fixed a)) a b some is same
-event_alike laws fixed border (Boot proc address) a b armed some is same =
-    let kind : Kind = kind_of fixed.topology proc in
-    alike_of border (boot_at kind address (book_of fixed a)) (boot_at kind address (book_of fixed b)) (boots_alike fixed border kind address a b is same)
-event_alike laws fixed border (Wfi proc) a b armed some is same =
-    let kind : Kind = kind_of fixed.topology proc in
-    alike_of border (wait_at kind (book_of fixed a)) (wait_at kind (book_of fixed b)) (waits_alike fixed border kind a b is same)
-event_alike laws fixed border (Irq slave) a b armed some is same =
-    raised_alike fixed border (kind_of fixed.topology slave) a b armed (kept border.some is) same
-event_alike laws fixed border (Gic proc) a b armed some is same =
-    let kind : Kind = kind_of fixed.topology proc in
-    alike_of border (interrupt_at kind (book_of fixed a)) (interrupt_at kind (book_of fixed b)) (interrupts_alike fixed border kind a b is same)
-event_alike laws fixed border _ a b armed some is same = cc
-
--- ---- what is fixed decides which events are hidden
-
-owner_fixed : (fixed : Fixed) (kind : Kind) (a b : Now) → owner_by kind (book_of fixed a) ≡ owner_by kind (book_of fixed b)
-owner_fixed fixed (Proc p) a b = refl
-owner_fixed fixed (Slave s) a b = refl
-owner_fixed fixed (Power w) a b = refl
-owner_fixed fixed Unknown a b = refl
-
-changes_fixed : (fixed : Fixed) (border : Border) (call : Call) (a b : Now) → changes_within border call (book_of fixed a) ≡ changes_within border call (book_of fixed b)
-changes_fixed fixed border (RequestWakeup node address ack) a b = ap (is_within border) (owner_fixed fixed (kind_of fixed.topology node) a b)
-changes_fixed fixed border (RequestNode node caps ack) a b = refl
-changes_fixed fixed border (ReleaseNode node) a b = refl
-changes_fixed fixed border (SetRequirement node caps ack) a b = refl
-changes_fixed fixed border (SetMaxLatency node latency) a b = refl
-changes_fixed fixed border _ a b = refl
-
-pub hidden_fixed : (fixed : Fixed) (border : Border) (event : Event) (a b : Now) → is_hidden border event (book_of fixed a) ≡ is_hidden border event (book_of fixed b)
-hidden_fixed fixed border (Ipi master message) a b =
-    ap (λ changes. is_within border (master_place master (book_of fixed a)) || changes) (changes_fixed fixed border (call_of message) a b)
-hidden_fixed fixed border (Boot proc address) a b = ap (is_within border) (owner_fixed fixed (kind_of fixed.topology proc) a b)
-hidden_fixed fixed border (Wfi proc) a b = ap (is_within border) (owner_fixed fixed (kind_of fixed.topology proc) a b)
-hidden_fixed fixed border (Gic proc) a b = ap (is_within border) (owner_fixed fixed (kind_of fixed.topology proc) a b)
-hidden_fixed fixed border _ a b = refl
+use Rattle.pm_laws.proofs.TalkFacts.{talked_alike, talked_unseen}
 
 -- ---- steps
 
 -- a hidden event, beside a book that stays
 pub effect_hidden : BelowLaws → (border : Border) (event : Event) (still now : State) → HasClosed border now → KnowsModes still → is_hidden border event now ≡ true → Agree border still now → Agree border still (effect event now)
 effect_hidden laws border event still now closed knows is agree =
-    stages_hidden laws border (stages event now) still now knows (event_hidden border event now closed is) agree
+    let after : State = after_stages (stages event now) now in
+    let stays : Agree border still after = stages_hidden laws border (stages event now) still now knows (event_hidden border event now closed is) agree in
+    agree_sym border (effect event now) still
+    (talked_unseen border (talk event now) after still closed.some (talk_hidden laws border event still now closed knows is agree) (agree_sym border still after stays))
+
+-- any other event, in two books
+pub effect_alike : BelowLaws → (fixed : Fixed) (border : Border) (event : Event) (a b : Now) → HasClosed border (book_of fixed a) → ArmsOwn (book_of fixed a) → is_hidden border event (book_of fixed a) ≡ false → Same fixed border a b → Agree border (effect event (book_of fixed a)) (effect event (book_of fixed b))
+effect_alike laws fixed border event a b closed armed is same =
+    let first : State = book_of fixed a in
+    let second : State = book_of fixed b in
+    let after : Agree border (after_stages (stages event first) first) (after_stages (stages event second) second) =
+    stages_alike laws border (stages event first) (stages event second) first second
+    (event_alike laws fixed border event a b armed closed.some is same) (record { fixed = refl; now = same })
+    in
+    talked_alike border (talk event first) (talk event second) (after_stages (stages event first) first) (after_stages (stages event second) second) closed.some
+    (talk_alike laws fixed border event a b armed closed.some is same) after
 
 effects_by : BelowLaws → (fixed : Fixed) (border : Border) (event : Event) (a b : Now) (hidden : Bool) → is_hidden border event (book_of fixed a) ≡ hidden → HasClosed border (book_of fixed a) → ArmsOwn (book_of fixed a) → KnowsModes (book_of fixed a) → KnowsModes (book_of fixed b) → Same fixed border a b → Agree border (effect event (book_of fixed a)) (effect event (book_of fixed b))
 effects_by laws fixed border event a b true is closed armed knows_a knows_b same =
@@ -221,8 +56,7 @@ effects_by laws fixed border event a b true is closed armed knows_a knows_b same
     agree_trans border (effect event first) second (effect event second)
     (agree_sym border second (effect event first) one) (agree_trans border second first (effect event second) turned two)
 effects_by laws fixed border event a b false is closed armed knows_a knows_b same =
-    stages_alike laws border (stages event (book_of fixed a)) (stages event (book_of fixed b)) (book_of fixed a) (book_of fixed b)
-    (event_alike laws fixed border event a b armed closed.some is same) (record { fixed = refl; now = same })
+    effect_alike laws fixed border event a b closed armed is same
 
 -- one event in two books
 pub effects_agree : BelowLaws → (border : Border) (event : Event) (a b : State) → HasClosed border a → ArmsOwn a → KnowsModes a → KnowsModes b → Agree border a b → Agree border (effect event a) (effect event b)

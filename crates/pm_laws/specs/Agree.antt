@@ -1,12 +1,13 @@
 -- When two books agree beyond a border.
-use Rattle.std.specs.Prelude.{◌≡◌, ℕ, Bool, true, false, List, None, Some}
+use Rattle.std.specs.Prelude.{◌≡◌, ℕ, Bool, true, false, List, Option, None, Some}
 use Rattle.std.specs.List.{AllByRecursion as Each}
 use Rattle.pm_base.specs.declared.names.Mode.{Mode}
 use Rattle.pm_base.specs.declared.names.Mode.TheVariants.{Off}
+use Rattle.pm_procs.specs.declared.pending.Pending.{Pending}
 use Rattle.pm_procs.specs.declared.procs.Proc.{Proc}
 use Rattle.pm_rows.specs.declared.row.Entry.{Entry}
 use Rattle.pm_core.specs.Members.{owner_at}
-use Rattle.pm_core.specs.State.{Fixed, Now, State}
+use Rattle.pm_core.specs.State.{Fixed, TalkHalf, Now, State}
 use Rattle.pm_laws.specs.Border.{Border, IsBeyond}
 use Rattle.pm_laws.specs.Both.{Both, BothFrom}
 
@@ -37,11 +38,20 @@ pub record SameProc (fixed : Fixed) (border : Border) (p : ℕ) (a b : Proc) : T
   pub beyond : (m : ℕ) → owner_at fixed.object fixed.topology p ≡ Some m → IsBeyond border m → a ≡ b
   pub nobodys : owner_at fixed.object fixed.topology p ≡ None → (a.mode ≡ Off) × (b.mode ≡ Off)
 
+-- the same is pending on a master beyond
+abbrev pub SamePending : Border → ℕ → Option Pending → Option Pending → Type 0
+SamePending border m a b = IsBeyond border m → a ≡ b
+
+-- what the masters beyond are told is the same: the requests to suspend that are pending on them
+pub record SameTalk (border : Border) (a b : TalkHalf) : Type 0 where
+  pub pending : BothFrom (SamePending border) 0 a.pending b.pending
+
 -- what changes of two books with the same object and chip agrees beyond the border
 pub record Same (fixed : Fixed) (border : Border) (a b : Now) : Type 0 where
   pub rows : SameRows border border.some a.core.rows.entries b.core.rows.entries
   pub known : BothFrom (SameKnown border) 0 a.core.rows.known b.core.rows.known
   pub procs : BothFrom (SameProc fixed border) 0 a.core.procs b.core.procs
+  pub talk : SameTalk border a.talk b.talk
 
 -- two books agree beyond the border: they have the same object and the same chip, and what changes of them agrees there
 pub record Agree (border : Border) (a b : State) : Type 0 where

@@ -34,6 +34,10 @@ pub record Border : Type 0 where
 abbrev pub IsBeyond : Border → ℕ → Type 0
 IsBeyond border m = border.master m ≡ true
 
+-- where a master is beyond, some is
+abbrev pub HasSome : Border → Type 0
+HasSome border = (m : ℕ) → IsBeyond border m → border.some ≡ true
+
 -- the master of a permitted pair is beyond where its slave is
 abbrev pub IsPairClosed : Border → RowSeed → Type 0
 IsPairClosed border pair = border.slave pair.slave ≡ true → IsBeyond border pair.master
@@ -93,4 +97,4 @@ pub record IsClosed (object : Object) (t : Topology) (border : Border) : Type 0 
       → border.some ≡ true → IsBeyond border m
   pub configures : (m : ℕ) → may_configure object t (master_node object.masters m) ≡ true → border.some ≡ true → IsBeyond border m
   -- where a master is beyond, some is
-  pub some : (m : ℕ) → IsBeyond border m → border.some ≡ true
+  pub some : HasSome border

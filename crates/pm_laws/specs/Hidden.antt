@@ -1,9 +1,9 @@
 -- Which events are hidden from what is beyond a border. The border, the object and the event decide it, and no row and no mode.
 use Rattle.std.specs.Prelude.{ℕ, Bool, true, false, not, ◌||◌, Option, Some, None}
 use Rattle.pm_base.specs.declared.events.Event.{Event}
-use Rattle.pm_base.specs.declared.events.Event.TheVariants.{Ipi, Boot, Wfi, Irq, Gic}
+use Rattle.pm_base.specs.declared.events.Event.TheVariants.{Ipi, Boot, Wfi, Irq, Gic, Tick}
 use Rattle.pm_ipi.specs.declared.calls.Call.{Call}
-use Rattle.pm_ipi.specs.declared.calls.Call.TheVariants.{RequestWakeup, RequestNode, ReleaseNode, SetRequirement, SetMaxLatency}
+use Rattle.pm_ipi.specs.declared.calls.Call.TheVariants.{RequestSuspend, RequestWakeup, RequestNode, ReleaseNode, SetRequirement, SetMaxLatency}
 use Rattle.pm_ipi.specs.Calls.{call_of}
 use Rattle.pm_topology.specs.declared.places.Kind.{Kind}
 use Rattle.pm_topology.specs.declared.places.Kind.TheVariants.{Proc, Slave, Power, Unknown}
@@ -11,6 +11,7 @@ use Rattle.pm_topology.specs.Places.{kind_of}
 use Rattle.pm_core.specs.Members.{owner_at}
 use Rattle.pm_core.specs.State.{State, in_force}
 use Rattle.pm_core.specs.Values.{master_place, slave_place}
+use Rattle.pm_core.specs.Views.{named_master}
 use Rattle.pm_laws.specs.Border.{Border}
 
 -- the master at this place is within reach, or there is none
@@ -30,8 +31,10 @@ owner_by (Slave s) book = None
 owner_by (Power w) book = None
 owner_by Unknown book = None
 
--- the call changes a row on a slave within reach, or wakes a processor whose owner is within reach or that nobody has
+-- the call changes a row on a slave within reach, wakes a processor whose owner is within reach or that nobody has, or asks a
+-- master within reach to suspend, or none
 abbrev pub changes_within : Border → Call → State → Bool
+changes_within border (RequestSuspend node ack latency state) book = is_within border (named_master book.fixed node)
 changes_within border (RequestWakeup node address ack) book =
     is_within border (owner_by (kind_of book.fixed.topology node) book)
 changes_within border (RequestNode node caps ack) book = is_slave_within border (slave_place node book)
@@ -41,7 +44,8 @@ changes_within border (SetMaxLatency node latency) book = is_slave_within border
 changes_within border _ book = false
 
 -- an event is hidden where its caller is within reach or isn't configured, where it changes what is within reach, where the
--- owner of its processor is within reach or nobody is; and the interrupt of a slave is hidden where no master is beyond
+-- owner of its processor is within reach or nobody is; and the interrupt of a slave and the time that passes are hidden where no
+-- master is beyond
 abbrev pub is_hidden : Border → Event → State → Bool
 is_hidden border (Ipi master message) book =
     is_within border (master_place master book) || changes_within border (call_of message) book
@@ -49,4 +53,5 @@ is_hidden border (Boot proc address) book = is_within border (owner_by (kind_of 
 is_hidden border (Wfi proc) book = is_within border (owner_by (kind_of book.fixed.topology proc) book)
 is_hidden border (Gic proc) book = is_within border (owner_by (kind_of book.fixed.topology proc) book)
 is_hidden border (Irq slave) book = not border.some
+is_hidden border (Tick count) book = not border.some
 is_hidden border _ book = true

@@ -5,4 +5,5 @@ pub mod Hidden
 pub mod Quiet
 pub mod ReachBorder
 pub mod Seen
+pub mod SeenTalk
 pub mod Values

@@ -22,16 +22,18 @@ ghost use Rattle.pm_core.specs.Run.{Setup, run};
 ghost use Rattle.pm_core.specs.Sound.{IsSound, KnowsModes};
 ghost use Rattle.pm_core.specs.Stages.{after_stage, after_stages, follow, path_from};
 ghost use Rattle.pm_core.specs.State.{State};
-ghost use Rattle.pm_core.specs.Step.{effect, outputs, stages};
+ghost use Rattle.pm_core.specs.Step.{asks, effect, ended, outputs, stages, talk};
+ghost use Rattle.pm_core.specs.Talk.{Talk, talked};
 ghost use Rattle.pm_core.specs.Values.{master_place, slave_place, value};
-ghost use Rattle.pm_core.specs.Views.{proc_view, row_view, wake_view};
+ghost use Rattle.pm_core.specs.Views.{is_asked, named_master, proc_view, row_view, suspend_view, wake_view};
 ghost use Rattle.pm_laws.specs.Agree.{Agree};
-ghost use Rattle.pm_laws.specs.Border.{Border, IsBeyond, IsClosed, unit_beyond};
+ghost use Rattle.pm_laws.specs.Border.{Border, HasSome, IsBeyond, IsClosed, unit_beyond};
 ghost use Rattle.pm_laws.specs.Both.{Both};
 ghost use Rattle.pm_laws.specs.Hidden.{is_hidden, is_slave_within, is_within, owner_by};
-ghost use Rattle.pm_laws.specs.Quiet.{AreRunsAlike, quiet};
+ghost use Rattle.pm_laws.specs.Quiet.{AreRunsAlike, quiet, quiet_event};
 ghost use Rattle.pm_laws.specs.ReachBorder.{IsAllBeyond, IsBorderOf, border_of, place_of};
 ghost use Rattle.pm_laws.specs.Seen.{seen, seen_part, IsUnseen, AreAlike, AreHidden};
+ghost use Rattle.pm_laws.specs.SeenTalk.{seen_talk, talk_part, IsTalkUnseen, asks_beyond, ends_beyond};
 ghost use Rattle.pm_laws.specs.Values.{HaveValuesAlike, is_beyond, starts_beyond};
 
 use pm_core::{books_of_a_run, books_stay_sound, members_are_owned};
@@ -70,6 +72,22 @@ pub fn changes_agree()
     members_are_owned();
 }
 
+/// The two facts of each change of what masters are told: made in both books it leaves them in agreement,
+/// and unseen and made in one alone it does so too, where some is beyond if a master is. So do two lists of
+/// such changes, one in each book, with the same seen part; and a list of which nothing is seen, in one book
+/// alone.
+pub fn talks_agree()
+    ensures both { (border : Border) (change : Talk) (a b : State)
+        → Agree border a b → Agree border (talked (change ∷ []) a) (talked (change ∷ []) b) }
+    ensures unseen { (border : Border) (change : Talk) (a b : State) → HasSome border → seen_talk border change ≡ false
+        → Agree border a b → Agree border (talked (change ∷ []) a) b }
+    ensures alike { (border : Border) (first second : List Talk) (a b : State) → HasSome border
+        → talk_part border first ≡ talk_part border second
+        → Agree border a b → Agree border (talked first a) (talked second b) }
+    ensures hidden { (border : Border) (changes : List Talk) (a b : State) → HasSome border → IsTalkUnseen border changes
+        → Agree border a b → Agree border (talked changes a) b }
+{}
+
 /// A master beyond has the same mode in two books that agree, since it comes from its own processors. So
 /// the same part is seen of the shifts by which the rows follow, and none of them is where the rows know
 /// the modes already; and two stages with the same seen part leave the books in agreement.
@@ -106,8 +124,9 @@ pub fn paths_agree()
 }
 
 /// What a master beyond sees in two books that agree is equal: its row on a slave beyond, with the other
-/// master that uses the slave, and its own processors. So is what any master sees of a processor that it wants
-/// to wake, whose owner is beyond; and what is wanted of a slave beyond, where any master is beyond.
+/// master that uses the slave, its own processors, and whether a request to suspend is pending on it. So is
+/// what any master sees of a processor that it wants to wake, whose owner is beyond, and of a master beyond
+/// that it asks to suspend; and what is wanted of a slave beyond, where any master is beyond.
 pub fn views_agree()
     ensures row { (border : Border) (m : ℕ) (node : NodeId) (a b : State)
         → IsClosed a.fixed.object a.fixed.topology border → IsBeyond border m
@@ -118,9 +137,17 @@ pub fn views_agree()
     ensures wake { (border : Border) (m : ℕ) (node : NodeId) (a b : State)
         → is_within border (owner_by (kind_of a.fixed.topology node) a) ≡ false
         → Agree border a b → wake_view m node a ≡ wake_view m node b }
+    ensures suspend { (border : Border) (m : ℕ) (node : NodeId) (a b : State)
+        → is_within border (named_master a.fixed node) ≡ false
+        → Agree border a b → suspend_view m node a ≡ suspend_view m node b }
+    ensures asked { (border : Border) (m : ℕ) (a b : State) → IsBeyond border m
+        → Agree border a b → is_asked m a ≡ is_asked m b }
     ensures wanted { (border : Border) (s : ℕ) (a b : State) → border.some ≡ true → border.slave s ≡ true
         → Agree border a b → wanted_of s a.now.core.rows ≡ wanted_of s b.now.core.rows }
-{}
+{
+    shifts_leave_others();
+    members_are_owned();
+}
 
 /// A unit beyond has the same value in two books that agree: a slave, a power node, a processor of a master beyond or of
 /// nobody; and a processor has the same mode.
@@ -148,6 +175,33 @@ pub fn steps_agree()
     ensures stages { (border : Border) (event : Event) (book : State)
         → IsClosed book.fixed.object book.fixed.topology border
         → is_hidden border event book ≡ true → AreHidden border (stages event book) }
+{
+    shifts_leave_others();
+    members_are_owned();
+}
+
+/// The same is asked of masters beyond in two books that agree, and, where they are sound, the same requests
+/// to masters beyond end, with the same status, and the same part is seen of what is told. In a hidden event
+/// no master beyond is asked, no request to one ends, and nothing is seen of what is told.
+pub fn requests_agree()
+    ensures asked { (border : Border) (event : Event) (a b : State)
+        → IsClosed a.fixed.object a.fixed.topology border → Agree border a b
+        → asks_beyond border (asks event a) ≡ asks_beyond border (asks event b) }
+    ensures asked_hidden { (border : Border) (event : Event) (book : State)
+        → IsClosed book.fixed.object book.fixed.topology border
+        → is_hidden border event book ≡ true → asks_beyond border (asks event book) ≡ None }
+    ensures ended { (border : Border) (event : Event) (a b : State)
+        → IsClosed a.fixed.object a.fixed.topology border → IsSound a → IsSound b → Agree border a b
+        → ends_beyond border (ended event a) ≡ ends_beyond border (ended event b) }
+    ensures ended_hidden { (border : Border) (event : Event) (book : State)
+        → IsClosed book.fixed.object book.fixed.topology border → IsSound book
+        → is_hidden border event book ≡ true → ends_beyond border (ended event book) ≡ [] }
+    ensures told { (border : Border) (event : Event) (a b : State)
+        → IsClosed a.fixed.object a.fixed.topology border → IsSound a → IsSound b → Agree border a b
+        → talk_part border (talk event a) ≡ talk_part border (talk event b) }
+    ensures told_hidden { (border : Border) (event : Event) (book : State)
+        → IsClosed book.fixed.object book.fixed.topology border → IsSound book
+        → is_hidden border event book ≡ true → IsTalkUnseen border (talk event book) }
 {
     shifts_leave_others();
     members_are_owned();
@@ -190,8 +244,9 @@ pub fn reach_is_closed()
 }
 
 /// Nothing that a master sends changes what is beyond its reach: two books that agree there agree after an event in both,
-/// and after a message of the master in the one and nothing in the other. So a run, and the run without the messages of
-/// the master, have books that agree beyond its reach after each step, and each unit beyond has the same value in both.
+/// and after a message of the master in the one and nothing in the other; and in both ways the same is asked of masters
+/// beyond, and the same requests to them end. So a run, and the run without the messages of the master, have books that
+/// agree beyond its reach after each step, and each unit beyond has the same value in both.
 pub fn reach_keeps_apart()
     ensures event { (m : NodeId) (event : Event) (a b : State) → IsObject a.fixed.object → IsWellFormed a.fixed.topology
         → IsSound a → IsSound b
@@ -201,6 +256,15 @@ pub fn reach_keeps_apart()
         → IsWellFormed a.fixed.topology → IsSound a → IsSound b
         → Agree (border_of a.fixed.object a.fixed.topology m) a b
         → Agree (border_of a.fixed.object a.fixed.topology m) (effect (Ipi m message) a) (effect Pass b) }
+    ensures asked { (m : NodeId) (event : Event) (a b : State) → IsObject a.fixed.object → IsWellFormed a.fixed.topology
+        → Agree (border_of a.fixed.object a.fixed.topology m) a b
+        → asks_beyond (border_of a.fixed.object a.fixed.topology m) (asks event a)
+        ≡ asks_beyond (border_of a.fixed.object a.fixed.topology m) (asks (quiet_event m event) b) }
+    ensures ended { (m : NodeId) (event : Event) (a b : State) → IsObject a.fixed.object → IsWellFormed a.fixed.topology
+        → IsSound a → IsSound b
+        → Agree (border_of a.fixed.object a.fixed.topology m) a b
+        → ends_beyond (border_of a.fixed.object a.fixed.topology m) (ended event a)
+        ≡ ends_beyond (border_of a.fixed.object a.fixed.topology m) (ended (quiet_event m event) b) }
     ensures books { (c : Setup) (m : NodeId) (events : List Event) → IsObject c.object → IsWellFormed c.topology
         → AreRunsAlike (border_of c.object c.topology m) (run c events) (run c (quiet m events)) }
     ensures values { (c : Setup) (m : NodeId) (events : List Event) → IsObject c.object → IsWellFormed c.topology
@@ -208,6 +272,7 @@ pub fn reach_keeps_apart()
 {
     reach_is_closed();
     steps_agree();
+    requests_agree();
     values_agree();
     books_agree();
     books_of_a_run();

@@ -4,6 +4,6 @@
 mod laws;
 
 pub use laws::{
-    books_agree, changes_agree, paths_agree, reach_is_closed, reach_keeps_apart, rows_follow_alike,
-    starts_agree, steps_agree, values_agree, views_agree,
+    books_agree, changes_agree, paths_agree, reach_is_closed, reach_keeps_apart, requests_agree,
+    rows_follow_alike, starts_agree, steps_agree, talks_agree, values_agree, views_agree,
 };

@@ -1,3 +1,4 @@
+use Rattle.pm_laws.proofs.ReachRequests.{RequestLaws, asked_apart, ended_apart}
 use Rattle.pm_laws.proofs.ReachStep.{ApartLaws, RunLaws, event_apart, message_apart, runs_apart, values_apart}
 use Rattle.pm_laws.proofs.laws.reach_keeps_apart.Goals as goal
 
@@ -10,6 +11,14 @@ returns c =
       hidden = c.steps_agree.ensures.hidden;
       messages = c.steps_agree.ensures.messages;
       values = c.values_agree.ensures.values;
+      turned = c.books_agree.ensures.turned;
+      through = c.books_agree.ensures.through;
+    } in
+    let requests : RequestLaws = record {
+      same_asked = c.requests_agree.ensures.asked;
+      none_asked = c.requests_agree.ensures.asked_hidden;
+      same_ended = c.requests_agree.ensures.ended;
+      none_ended = c.requests_agree.ensures.ended_hidden;
     } in
     let runs : RunLaws = record {
       keeps = c.books_of_a_run.ensures.step;
@@ -19,6 +28,8 @@ returns c =
     record {
       event = event_apart laws;
       message = message_apart laws;
+      asked = asked_apart laws requests;
+      ended = ended_apart laws requests;
       books = runs_apart laws runs;
       values = values_apart laws runs;
     }

@@ -1,5 +1,6 @@
+use Rattle.pm_laws.proofs.EventsLaw.{event_hidden}
 use Rattle.pm_laws.proofs.RowFacts.{BelowLaws}
-use Rattle.pm_laws.proofs.StepLaw.{event_hidden, message_within, step_hidden, steps_agree}
+use Rattle.pm_laws.proofs.StepLaw.{message_within, step_hidden, steps_agree}
 use Rattle.pm_laws.proofs.laws.steps_agree.Goals as goal
 
 pub returns : goal.returns

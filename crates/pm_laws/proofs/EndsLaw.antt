@@ -1,0 +1,266 @@
+-- The requests to suspend that end in a step, and what is told in it: of a hidden event nothing of either is seen, and of any
+-- other the same in two books that agree.
+use Rattle.std.proofs.Common.{◌≡◌, ℕ, ◌+◌, Bool, true, false, not, ◌&&◌, ◌||◌, if◌then◌else◌, List, [], ◌∷◌, ◌++◌, Option, Some, None, refl, sym, ◌∙◌, ap, inl, inr}
+use Rattle.std.specs.Prelude.{option_and_then}
+use Rattle.std.specs.List.{AllByRecursion as Each}
+use Rattle.std.proofs.lemmas.List.Elements.{filter-append}
+use Rattle.pm_base.specs.declared.events.Event.{Event}
+use Rattle.pm_base.specs.declared.events.Event.TheVariants.{Ipi, Tick}
+use Rattle.pm_base.specs.declared.events.Message.{Message}
+use Rattle.pm_base.specs.declared.names.Mode.{Mode}
+use Rattle.pm_base.proofs.Booleans.{either, neither}
+use Rattle.pm_ipi.specs.Calls.{call_of}
+use Rattle.pm_procs.specs.declared.pending.Pending.{Pending}
+use Rattle.pm_procs.specs.Modes.{is_awake, same_mode}
+use Rattle.pm_core.specs.declared.ended.Ended.{Ended}
+use Rattle.pm_core.specs.declared.judgement.Asked.{Asked}
+use Rattle.pm_core.specs.Ended.{due_after, ended_at, ended_from, ended_with, ends_with, ever, goes_down, goes_on, modes_along, turns_along, turns_of}
+use Rattle.pm_core.specs.Members.{is_place, mode_of_master}
+use Rattle.pm_core.specs.Outcome.{Outcome}
+use Rattle.pm_core.specs.Sound.{ArmsOwn, KnowsModes}
+use Rattle.pm_core.specs.State.{Fixed, Now, State}
+use Rattle.pm_core.specs.Step.{aborts, aborts_of, asks, asks_of, called, ended, heard_at, path, stages, talk, time_of}
+use Rattle.pm_core.specs.Talk.{Talk, Lower, End, ask_of, ends, lower_by, talk_of}
+use Rattle.pm_core.specs.Values.{master_place}
+use Rattle.pm_laws.specs.Agree.{SamePending, Same, Agree}
+use Rattle.pm_laws.specs.Border.{Border, HasSome, IsBeyond}
+use Rattle.pm_laws.specs.Both.{Both, BothFrom}
+use Rattle.pm_laws.specs.Hidden.{is_within, changes_within, is_hidden}
+use Rattle.pm_laws.specs.SeenTalk.{seen_talk, talk_part, IsTalkUnseen, ends_beyond}
+use Rattle.pm_laws.proofs.AgreeLaw.{clash}
+use Rattle.pm_laws.proofs.CallsAlike.{book_of, kept}
+use Rattle.pm_laws.proofs.CallsHidden.{HasClosed, turned}
+use Rattle.pm_laws.proofs.CallsTold.{SaysAlike, SaysWithin, OutcomesSay, call_says, caller_says, nothing_said, target_says, unasked}
+use Rattle.pm_laws.proofs.EventsLaw.{event_alike, event_hidden}
+use Rattle.pm_laws.proofs.FollowLaw.{book_mode_alike, mode_alike, stays_same}
+use Rattle.pm_laws.proofs.PathLaw.{path_alike, path_hidden}
+use Rattle.pm_laws.proofs.RowFacts.{BelowLaws}
+
+-- the mode of the master at place k in a book
+abbrev mode_in : ℕ → State → Mode
+mode_in k book = mode_of_master book.fixed book.now.core k
+
+-- ---- what becomes of the mode of a master beyond
+
+module _ (laws : BelowLaws) (border : Border) (k : ℕ) (beyond : IsBeyond border k) where
+  -- along books that agree with one that stays its mode stays
+  ever_still : (test : Mode → Mode → Bool) (still : State) (books : List State) → Each (Agree border still) books → ever test (mode_in k still) (modes_along k books) ≡ false
+  ever_still test still [] each = refl
+  ever_still test still (book ∷ books) each =
+      let mode : Mode = mode_in k still in
+      let same : mode_in k book ≡ mode = sym (book_mode_alike laws border k still book beyond each.0) in
+      ap (λ next. (not (same_mode mode next) && test mode next) || ever test next (modes_along k books)) same
+      ∙ (ap (λ stays. (not stays && test mode mode) || ever test mode (modes_along k books)) (stays_same mode)
+      ∙ ever_still test still books each.1)
+
+  never : (test : Mode → Mode → Bool) (still now : State) (books : List State) → Agree border still now → Each (Agree border still) books → ever test (mode_in k now) (modes_along k books) ≡ false
+  never test still now books agree each =
+      ap (λ mode. ever test mode (modes_along k books)) (sym (book_mode_alike laws border k still now beyond agree)) ∙ ever_still test still books each
+
+  modes_alike : (xs ys : List State) → Both (Agree border) xs ys → modes_along k xs ≡ modes_along k ys
+  modes_alike [] [] each = refl
+  modes_alike [] (y ∷ ys) each = absurd each
+  modes_alike (x ∷ xs) [] each = absurd each
+  modes_alike (x ∷ xs) (y ∷ ys) each =
+      ap (λ mode. mode ∷ modes_along k xs) (book_mode_alike laws border k x y beyond each.0)
+      ∙ ap (λ modes. mode_in k y ∷ modes) (modes_alike xs ys each.1)
+
+  -- along books that agree one by one the same becomes of its mode
+  turns_alike : (a b : State) (xs ys : List State) → Agree border a b → Both (Agree border) xs ys → turns_along a xs k ≡ turns_along b ys k
+  turns_alike a b xs ys agree each =
+      ap (λ mode. turns_of mode (modes_along k xs)) (book_mode_alike laws border k a b beyond agree)
+      ∙ ap (turns_of (mode_in k b)) (modes_alike xs ys each)
+
+-- ---- the ends
+
+-- the end of a request to a master within isn't seen
+end_within : (border : Border) (m : ℕ) (request : Pending) (status : Option ℕ) → border.master m ≡ false → ends_beyond border (ended_with m request status) ≡ []
+end_within border m request None within = refl
+end_within border m request (Some status) within =
+    let ended : List Ended = record { target = m; request = request; status = status } ∷ [] in
+    ap (λ b. if b then ended else []) within
+
+-- nothing ends the request to the master at place k along these books
+record Rests (book : State) (books : List State) (aborting passing : Option ℕ) (k : ℕ) : Type 0 where
+  pub down : ever goes_down (mode_in k book) (modes_along k books) ≡ false
+  pub on : ever goes_on (mode_in k book) (modes_along k books) ≡ false
+  pub aborts : is_place k aborting ≡ false
+  pub time : passing ≡ None
+
+module _ (border : Border) (aborts count : Option ℕ) where
+  abbrev test : Ended → Bool
+  test e = border.master e.target
+
+  -- of what is pending on one master, along these books
+  abbrev end_in : State → List State → ℕ → Option Pending → List Ended
+  end_in book books m pending = ended_at (turns_along book books m) aborts count m pending
+
+  at_within : (book : State) (books : List State) (m : ℕ) (pending : Option Pending) → border.master m ≡ false → ends_beyond border (end_in book books m pending) ≡ []
+  at_within book books m None within = refl
+  at_within book books m (Some request) within =
+      end_within border m request
+      (ends_with (ever goes_down (mode_in m book) (modes_along m books)) (ever goes_on (mode_in m book) (modes_along m books) || is_place m aborts) (due_after count request)) within
+
+  at_rest : (book : State) (books : List State) (m : ℕ) (pending : Option Pending) → Rests book books aborts count m → end_in book books m pending ≡ []
+  at_rest book books m None rests = refl
+  at_rest book books m (Some request) rests =
+      ap (λ down. ended_with m request (ends_with down (ever goes_on (mode_in m book) (modes_along m books) || is_place m aborts) (due_after count request))) rests.down
+      ∙ (ap (λ on. ended_with m request (ends_with false (on || is_place m aborts) (due_after count request))) rests.on
+      ∙ (ap (λ own. ended_with m request (ends_with false (false || own) (due_after count request))) rests.aborts
+      ∙ ap (λ time. ended_with m request (ends_with false (false || false) (due_after time request))) rests.time))
+
+  at_unseen : (book : State) (books : List State) (m : ℕ) (pending : Option Pending) (is : Bool) → border.master m ≡ is → (IsBeyond border m → Rests book books aborts count m) → ends_beyond border (end_in book books m pending) ≡ []
+  at_unseen book books m pending true is rests = ap (ends_beyond border) (at_rest book books m pending (rests is))
+  at_unseen book books m pending false is rests = at_within book books m pending is
+
+  ends_unseen : (book : State) (books : List State) → ((k : ℕ) → IsBeyond border k → Rests book books aborts count k) → (m : ℕ) (pending : List (Option Pending)) → ends_beyond border (ended_from (turns_along book books) aborts count m pending) ≡ []
+  ends_unseen book books rests m [] = refl
+  ends_unseen book books rests m (request ∷ pending) =
+      let later : List Ended = ended_from (turns_along book books) aborts count (m + 1) pending in
+      filter-append test (end_in book books m request) later
+      ∙ (ap (λ first. first ++ ends_beyond border later) (at_unseen book books m request (border.master m) refl (rests m))
+      ∙ ends_unseen book books rests (m + 1) pending)
+
+  module _ (a b : State) (xs ys : List State) (turns : (k : ℕ) → IsBeyond border k → turns_along a xs k ≡ turns_along b ys k) where
+    at_alike : (m : ℕ) (p q : Option Pending) (is : Bool) → border.master m ≡ is → SamePending border m p q → ends_beyond border (end_in a xs m p) ≡ ends_beyond border (end_in b ys m q)
+    at_alike m p q true is same =
+        ap (λ t. ends_beyond border (ended_at t aborts count m p)) (turns m is)
+        ∙ ap (λ pending. ends_beyond border (end_in b ys m pending)) (same is)
+    at_alike m p q false is same = at_within a xs m p is ∙ sym (at_within b ys m q is)
+
+    ends_alike : (m : ℕ) (ps qs : List (Option Pending)) → BothFrom (SamePending border) m ps qs → ends_beyond border (ended_from (turns_along a xs) aborts count m ps) ≡ ends_beyond border (ended_from (turns_along b ys) aborts count m qs)
+    ends_alike m [] [] same = refl
+    ends_alike m [] (q ∷ qs) same = absurd same
+    ends_alike m (p ∷ ps) [] same = absurd same
+    ends_alike m (p ∷ ps) (q ∷ qs) same =
+        let first : List Ended = ended_from (turns_along a xs) aborts count (m + 1) ps in
+        let second : List Ended = ended_from (turns_along b ys) aborts count (m + 1) qs in
+        filter-append test (end_in a xs m p) first
+        ∙ (ap (λ here. here ++ ends_beyond border first) (at_alike m p q (border.master m) refl same.0)
+        ∙ (ap (λ later. ends_beyond border (end_in b ys m q) ++ later) (ends_alike (m + 1) ps qs same.1)
+        ∙ sym (filter-append test (end_in b ys m q) second)))
+
+module _ (border : Border) where
+  -- ---- what is seen of what is told
+
+  -- of the ends, those of requests to masters beyond
+  one_end : (e : Ended) (is : Bool) (told : List Talk) (later : List Ended) → told ≡ ends later → (if is then End e.target ∷ told else told) ≡ ends (if is then e ∷ later else later)
+  one_end e true told later same = ap (λ changes. End e.target ∷ changes) same
+  one_end e false told later same = same
+
+  part_of_ends : (es : List Ended) → talk_part border (ends es) ≡ ends (ends_beyond border es)
+  part_of_ends [] = refl
+  part_of_ends (e ∷ es) = one_end e (border.master e.target) (talk_part border (ends es)) (ends_beyond border es) (part_of_ends es)
+
+  part_of : (asked : Option Asked) (count : Option ℕ) (es : List Ended) → talk_part border (talk_of asked count es) ≡ (talk_part border (ask_of asked) ++ talk_part border (lower_by count)) ++ ends (ends_beyond border es)
+  part_of asked count es =
+      filter-append (seen_talk border) (ask_of asked ++ lower_by count) (ends es)
+      ∙ (ap (λ first. first ++ talk_part border (ends es)) (filter-append (seen_talk border) (ask_of asked) (lower_by count))
+      ∙ ap (λ later. (talk_part border (ask_of asked) ++ talk_part border (lower_by count)) ++ later) (part_of_ends es))
+
+  told_nothing : (asked : Option Asked) (count : Option ℕ) (es : List Ended) → IsTalkUnseen border (ask_of asked) → IsTalkUnseen border (lower_by count) → ends_beyond border es ≡ [] → IsTalkUnseen border (talk_of asked count es)
+  told_nothing asked count es asks time none =
+      part_of asked count es
+      ∙ (ap (λ first. (first ++ talk_part border (lower_by count)) ++ ends (ends_beyond border es)) asks
+      ∙ (ap (λ later. later ++ ends (ends_beyond border es)) time ∙ ap ends none))
+
+  told_same : (asked : Option Asked) (count : Option ℕ) (es fs : List Ended) → ends_beyond border es ≡ ends_beyond border fs → talk_part border (talk_of asked count es) ≡ talk_part border (talk_of asked count fs)
+  told_same asked count es fs same =
+      part_of asked count es
+      ∙ (ap (λ part. (talk_part border (ask_of asked) ++ talk_part border (lower_by count)) ++ ends part) same ∙ sym (part_of asked count fs))
+
+-- ---- hidden events
+
+heard_within : (border : Border) (outcome : Outcome) (awake : Bool) → SaysWithin border outcome.judgement.asks outcome.judgement.aborts → SaysWithin border (asks_of (if awake then Some outcome else None)) (aborts_of (if awake then Some outcome else None))
+heard_within border outcome true within = within
+heard_within border outcome false within = nothing_said border
+
+message_within : (border : Border) (message : Message) (book : State) (place : Option ℕ) → HasClosed border book → (is_within border place || changes_within border (call_of message) book) ≡ true → SaysWithin border (asks_of (option_and_then (heard_at message book) place)) (aborts_of (option_and_then (heard_at message book) place))
+message_within border message book None closed is = nothing_said border
+message_within border message book (Some m) closed is =
+    heard_within border (called m (call_of message) book) (is_awake (mode_of_master book.fixed book.now.core m))
+    (elim (either (not (border.master m)) (changes_within border (call_of message) book) is) [
+      | inl within ↦ caller_says border m (call_of message) book closed (turned (border.master m) within)
+      | inr target ↦ target_says border m (call_of message) book target
+    ])
+
+pub event_within : (border : Border) (event : Event) (book : State) → HasClosed border book → is_hidden border event book ≡ true → SaysWithin border (asks event book) (aborts event book)
+event_within border (Ipi master message) book closed is = message_within border message book (master_place master book) closed is
+event_within border _ book closed is = nothing_said border
+
+-- where a master is beyond no time passes in a hidden event
+no_time : (border : Border) (event : Event) (book : State) → border.some ≡ true → is_hidden border event book ≡ true → time_of event ≡ None
+no_time border (Tick count) book some is = clash border.some some (turned border.some is)
+no_time border _ book some is = refl
+
+time_unseen : (border : Border) (event : Event) (book : State) → is_hidden border event book ≡ true → IsTalkUnseen border (lower_by (time_of event))
+time_unseen border (Tick count) book is =
+    let changes : List Talk = Lower count ∷ [] in ap (λ b. if b then changes else []) (turned border.some is)
+time_unseen border _ book is = refl
+
+module _ (laws : BelowLaws) (border : Border) where
+  rests_by : (event : Event) (still now : State) → HasClosed border now → KnowsModes still → is_hidden border event now ≡ true → Agree border still now → (k : ℕ) → IsBeyond border k → Rests now (path event now) (aborts event now) (time_of event) k
+  rests_by event still now closed knows is agree k beyond =
+      let books : Each (Agree border still) (path event now) =
+      path_hidden laws border (stages event now) still now knows (event_hidden border event now closed is) agree
+      in
+      record {
+        down = never laws border k beyond goes_down still now (path event now) agree books;
+        on = never laws border k beyond goes_on still now (path event now) agree books;
+        aborts = (event_within border event now closed is).aborts k beyond;
+        time = no_time border event now (closed.some k beyond) is;
+      }
+
+  -- no request to a master beyond ends in a hidden event
+  pub ended_hidden : (event : Event) (still now : State) → HasClosed border now → KnowsModes still → is_hidden border event now ≡ true → Agree border still now → ends_beyond border (ended event now) ≡ []
+  ended_hidden event still now closed knows is agree =
+      ends_unseen border (aborts event now) (time_of event) now (path event now)
+      (rests_by event still now closed knows is agree) 0 now.now.talk.pending
+
+  -- and nothing is seen of what is told
+  pub talk_hidden : (event : Event) (still now : State) → HasClosed border now → KnowsModes still → is_hidden border event now ≡ true → Agree border still now → IsTalkUnseen border (talk event now)
+  talk_hidden event still now closed knows is agree =
+      told_nothing border (asks event now) (time_of event) (ended event now) (unasked border (asks event now) (event_within border event now closed is).asks)
+      (time_unseen border event now is) (ended_hidden event still now closed knows is agree)
+
+-- ---- all other events
+
+heard_same : (first second : Outcome) (x y : Bool) → x ≡ y → OutcomesSay first second → SaysAlike (asks_of (if x then Some first else None)) (asks_of (if y then Some second else None)) (aborts_of (if x then Some first else None)) (aborts_of (if y then Some second else None))
+heard_same first second true true is same = same
+heard_same first second true false is same = cc
+heard_same first second false true is same = cc
+heard_same first second false false is same = record { asks = refl; aborts = refl }
+
+message_same : BelowLaws → (fixed : Fixed) (border : Border) (message : Message) (place : Option ℕ) (a b : Now) → (is_within border place || changes_within border (call_of message) (book_of fixed a)) ≡ false → Same fixed border a b → SaysAlike (asks_of (option_and_then (heard_at message (book_of fixed a)) place)) (asks_of (option_and_then (heard_at message (book_of fixed b)) place)) (aborts_of (option_and_then (heard_at message (book_of fixed a)) place)) (aborts_of (option_and_then (heard_at message (book_of fixed b)) place))
+message_same laws fixed border message None a b is same = cc
+message_same laws fixed border message (Some m) a b is same =
+    let parts = neither (not (border.master m)) (changes_within border (call_of message) (book_of fixed a)) is in
+    let beyond : IsBeyond border m = kept (border.master m) parts.0 in
+    heard_same (called m (call_of message) (book_of fixed a)) (called m (call_of message) (book_of fixed b))
+    (is_awake (mode_of_master fixed a.core m)) (is_awake (mode_of_master fixed b.core m))
+    (ap is_awake (mode_alike laws fixed border m a b beyond same))
+    (call_says laws fixed border m (call_of message) a b beyond parts.1 same)
+
+pub event_same : BelowLaws → (fixed : Fixed) (border : Border) (event : Event) (a b : Now) → is_hidden border event (book_of fixed a) ≡ false → Same fixed border a b → SaysAlike (asks event (book_of fixed a)) (asks event (book_of fixed b)) (aborts event (book_of fixed a)) (aborts event (book_of fixed b))
+event_same laws fixed border (Ipi master message) a b is same = message_same laws fixed border message (master_place master (book_of fixed a)) a b is same
+event_same laws fixed border _ a b is same = record { asks = refl; aborts = refl }
+
+-- the same requests to masters beyond end
+pub ended_alike : BelowLaws → (fixed : Fixed) (border : Border) (event : Event) (a b : Now) → ArmsOwn (book_of fixed a) → HasSome border → is_hidden border event (book_of fixed a) ≡ false → Same fixed border a b → ends_beyond border (ended event (book_of fixed a)) ≡ ends_beyond border (ended event (book_of fixed b))
+ended_alike laws fixed border event a b armed some is same =
+    let first : State = book_of fixed a in
+    let second : State = book_of fixed b in
+    let agree : Agree border first second = record { fixed = refl; now = same } in
+    let books : Both (Agree border) (path event first) (path event second) =
+    path_alike laws border (stages event first) (stages event second) first second (event_alike laws fixed border event a b armed some is same) agree
+    in
+    ends_alike border (aborts event first) (time_of event) first second (path event first) (path event second)
+    (λ k beyond. turns_alike laws border k beyond first second (path event first) (path event second) agree books) 0 a.talk.pending b.talk.pending same.talk.pending
+    ∙ ap (λ own. ends_beyond border (ended_from (turns_along second (path event second)) own (time_of event) 0 b.talk.pending)) (event_same laws fixed border event a b is same).aborts
+
+-- and the same is seen of what is told
+pub talk_alike : BelowLaws → (fixed : Fixed) (border : Border) (event : Event) (a b : Now) → ArmsOwn (book_of fixed a) → HasSome border → is_hidden border event (book_of fixed a) ≡ false → Same fixed border a b → talk_part border (talk event (book_of fixed a)) ≡ talk_part border (talk event (book_of fixed b))
+talk_alike laws fixed border event a b armed some is same =
+    ap (λ asked. talk_part border (talk_of asked (time_of event) (ended event (book_of fixed a)))) (event_same laws fixed border event a b is same).asks
+    ∙ told_same border (asks event (book_of fixed b)) (time_of event) (ended event (book_of fixed a)) (ended event (book_of fixed b))
+    (ended_alike laws fixed border event a b armed some is same)

@@ -1,0 +1,62 @@
+-- The requests to suspend that are made and that end in two sound books that agree, and what is told there.
+use Rattle.std.proofs.Common.{◌≡◌, Bool, true, false, [], None, refl, ap, sym, ◌∙◌, subst}
+use Rattle.pm_base.specs.declared.events.Event.{Event}
+use Rattle.pm_core.specs.Sound.{IsSound}
+use Rattle.pm_core.specs.State.{Fixed, Now, State}
+use Rattle.pm_core.specs.Step.{asks, ended, talk}
+use Rattle.pm_laws.specs.Agree.{Same, Agree}
+use Rattle.pm_laws.specs.Border.{Border, IsClosed}
+use Rattle.pm_laws.specs.Hidden.{is_hidden}
+use Rattle.pm_laws.specs.SeenTalk.{talk_part, IsTalkUnseen, asks_beyond, ends_beyond}
+use Rattle.pm_laws.proofs.AgreeLaw.{agree_self}
+use Rattle.pm_laws.proofs.CallsAlike.{book_of}
+use Rattle.pm_laws.proofs.CallsHidden.{HasClosed}
+use Rattle.pm_laws.proofs.EndsLaw.{ended_alike, ended_hidden, event_same, event_within, talk_alike, talk_hidden}
+use Rattle.pm_laws.proofs.EventsLaw.{hidden_fixed}
+use Rattle.pm_laws.proofs.RowFacts.{BelowLaws}
+
+module _ (laws : BelowLaws) (border : Border) (event : Event) where
+  -- ---- a hidden event, of one book
+
+  pub asked_hidden : (book : State) → HasClosed border book → is_hidden border event book ≡ true → asks_beyond border (asks event book) ≡ None
+  asked_hidden book closed is = (event_within border event book closed is).asks
+
+  pub ends_hidden : (book : State) → HasClosed border book → IsSound book → is_hidden border event book ≡ true → ends_beyond border (ended event book) ≡ []
+  ends_hidden book closed sound is = ended_hidden laws border event book book closed sound.knows is (agree_self border book closed sound)
+
+  pub told_hidden : (book : State) → HasClosed border book → IsSound book → is_hidden border event book ≡ true → IsTalkUnseen border (talk event book)
+  told_hidden book closed sound is = talk_hidden laws border event book book closed sound.knows is (agree_self border book closed sound)
+
+  -- ---- any event, of two books
+
+  asked_by : (fixed : Fixed) (a b : Now) (hidden : Bool) → is_hidden border event (book_of fixed a) ≡ hidden → HasClosed border (book_of fixed a) → Same fixed border a b → asks_beyond border (asks event (book_of fixed a)) ≡ asks_beyond border (asks event (book_of fixed b))
+  asked_by fixed a b true is closed same =
+      asked_hidden (book_of fixed a) closed is ∙ sym (asked_hidden (book_of fixed b) closed (sym (hidden_fixed fixed border event a b) ∙ is))
+  asked_by fixed a b false is closed same = ap (asks_beyond border) (event_same laws fixed border event a b is same).asks
+
+  ends_by : (fixed : Fixed) (a b : Now) (hidden : Bool) → is_hidden border event (book_of fixed a) ≡ hidden → HasClosed border (book_of fixed a) → IsSound (book_of fixed a) → IsSound (book_of fixed b) → Same fixed border a b → ends_beyond border (ended event (book_of fixed a)) ≡ ends_beyond border (ended event (book_of fixed b))
+  ends_by fixed a b true is closed sound_a sound_b same =
+      ends_hidden (book_of fixed a) closed sound_a is
+      ∙ sym (ends_hidden (book_of fixed b) closed sound_b (sym (hidden_fixed fixed border event a b) ∙ is))
+  ends_by fixed a b false is closed sound_a sound_b same = ended_alike laws fixed border event a b sound_a.armed closed.some is same
+
+  told_by : (fixed : Fixed) (a b : Now) (hidden : Bool) → is_hidden border event (book_of fixed a) ≡ hidden → HasClosed border (book_of fixed a) → IsSound (book_of fixed a) → IsSound (book_of fixed b) → Same fixed border a b → talk_part border (talk event (book_of fixed a)) ≡ talk_part border (talk event (book_of fixed b))
+  told_by fixed a b true is closed sound_a sound_b same =
+      told_hidden (book_of fixed a) closed sound_a is
+      ∙ sym (told_hidden (book_of fixed b) closed sound_b (sym (hidden_fixed fixed border event a b) ∙ is))
+  told_by fixed a b false is closed sound_a sound_b same = talk_alike laws fixed border event a b sound_a.armed closed.some is same
+
+  pub asked_agree : (a b : State) → IsClosed a.fixed.object a.fixed.topology border → Agree border a b → asks_beyond border (asks event a) ≡ asks_beyond border (asks event b)
+  asked_agree a b closed agree =
+      let P : Fixed → Type 0 = λ fixed. asks_beyond border (asks event a) ≡ asks_beyond border (asks event (book_of fixed b.now)) in
+      subst P agree.fixed (asked_by a.fixed a.now b.now (is_hidden border event a) refl closed agree.now)
+
+  pub ends_agree : (a b : State) → IsClosed a.fixed.object a.fixed.topology border → IsSound a → IsSound b → Agree border a b → ends_beyond border (ended event a) ≡ ends_beyond border (ended event b)
+  ends_agree a b closed sound_a sound_b agree =
+      let P : Fixed → Type 0 = λ fixed. IsSound (book_of fixed b.now) → ends_beyond border (ended event a) ≡ ends_beyond border (ended event (book_of fixed b.now)) in
+      subst P agree.fixed (λ sound. ends_by a.fixed a.now b.now (is_hidden border event a) refl closed sound_a sound agree.now) sound_b
+
+  pub told_agree : (a b : State) → IsClosed a.fixed.object a.fixed.topology border → IsSound a → IsSound b → Agree border a b → talk_part border (talk event a) ≡ talk_part border (talk event b)
+  told_agree a b closed sound_a sound_b agree =
+      let P : Fixed → Type 0 = λ fixed. IsSound (book_of fixed b.now) → talk_part border (talk event a) ≡ talk_part border (talk event (book_of fixed b.now)) in
+      subst P agree.fixed (λ sound. told_by a.fixed a.now b.now (is_hidden border event a) refl closed sound_a sound agree.now) sound_b
