@@ -26,6 +26,8 @@ KeepsRest-trans before middle after one two = record {
   room = two.room ∙ one.room;
   moved = two.moved ∙ one.moved;
   starts = two.starts ∙ one.starts;
+  late = two.late ∙ one.late;
+  calls = two.calls ∙ one.calls;
   answer = two.answer ∙ one.answer;
 }
 

@@ -25,6 +25,8 @@ pub record KeepsRest (before after : Outbox) : Type 0 where
   pub room : after.done.room ≡ before.done.room
   pub moved : after.moved ≡ before.moved
   pub starts : after.starts ≡ before.starts
+  pub late : after.late ≡ before.late
+  pub calls : after.calls ≡ before.calls
   pub answer : after.answer ≡ before.answer
 
 -- the marks of a record: each unit of the chip lags exactly where its value isn't this one

@@ -54,6 +54,8 @@ pub fn carry<D: Device>(dev: &mut D, kept: &mut Kept, book: &Book, out: &mut Out
     ensures ready { HasRoomFor book.now out.new }
     ensures moved { out.new.moved ≡ out.old.moved }
     ensures starts { out.new.starts ≡ out.old.starts }
+    ensures late { out.new.late ≡ out.old.late }
+    ensures calls { out.new.calls ≡ out.old.calls }
     ensures answer { out.new.answer ≡ out.old.answer }
 {
     each_part_is_safe();

@@ -1,8 +1,9 @@
-pub mod LeavesLemmas
 pub mod DriveLemmas
-pub mod LinesLemmas
-pub mod RestLemmas
-pub mod DroveLemmas
-pub mod MetLemmas
 pub mod DroveLaw
+pub mod DroveLemmas
+pub mod LeavesLemmas
+pub mod LinesLemmas
+pub mod MetLemmas
+pub mod NoticesLemmas
 pub mod ReplayLemmas
+pub mod RestLemmas

@@ -10,7 +10,6 @@ use Rattle.pm_base.proofs.SinkLemmas.{Wrote-refl}
 use Rattle.pm_device.specs.declared.device.Device as Device
 use Rattle.pm_device.specs.Act.{Chain}
 use Rattle.pm_device.specs.Chains.{Chain-append}
-use Rattle.pm_core.specs.declared.outbox.Start.{Start}
 use Rattle.pm_core.specs.Outbox.{Outputs}
 use Rattle.pm_core.specs.State.{State}
 use Rattle.pm_core.specs.Step.{effect, outputs}
@@ -18,7 +17,7 @@ use Rattle.pm_apply.specs.Part.{Part, answers_in, orders_of, part_in}
 use Rattle.pm_script.specs.declared.meaning.LineFault.{LineFault}
 use Rattle.pm_script.specs.Script.{Gives, IsBad, IsOver, Script, Stop, before, over, script_from}
 use Rattle.pm_script.specs.Script.Stop.{Bad}
-use Rattle.pm_trace.specs.Step.{core_text, step_text}
+use Rattle.pm_trace.specs.Step.{Notices, core_text, step_text}
 use Rattle.pm_replay.specs.declared.lines.LineStop.{LineStop}
 use Rattle.pm_replay.specs.declared.lines.LineStop.TheVariants as lines
 use Rattle.pm_replay.specs.Drive.{Driven, acts, acts_of, last_book, last_kept}
@@ -76,7 +75,7 @@ module _ {O D : Type 0} (o : Sink.Ghosts O) (d : Device.Ghosts D) where
         answers = answers_in then.outbox ∷ [];
         cut = Some 0;
         went = subst (λ (xs : List Driven). Went o d (texts n xs) xs (Some 0) old new from to) (sym next)
-            (Went-broken n event (effect event now.book) (outputs event now.book) (part_in then.kept then.outbox) (texts (n + 1) (driven_from then [] s.events)) (driven_from then [] s.events) old new from to (subst (λ (starts : List Start). BreaksIn o 0 (step_text n then.outbox.done.items starts then.outbox.answer ∷ []) old new) ran.starts ran.writes) ran.given);
+            (Went-broken n event (effect event now.book) (outputs event now.book) (part_in then.kept then.outbox) (texts (n + 1) (driven_from then [] s.events)) (driven_from then [] s.events) old new from to (subst (λ (notices : Notices). BreaksIn o 0 (step_text n then.outbox.done.items notices then.outbox.answer ∷ []) old new) ran.notices ran.writes) ran.given);
         ends = (0, refl);
       }
 
@@ -89,7 +88,7 @@ module _ {O D : Type 0} (o : Sink.Ghosts O) (d : Device.Ghosts D) where
         answers = answers_in mid.outbox ∷ rest.answers;
         cut = behind 1 rest.cut;
         went = subst (λ (xs : List Driven). Went o d (texts n xs) xs (behind 1 rest.cut) old new from to) (sym next)
-            (Went-cons n event (effect event now.book) (outputs event now.book) part (texts (n + 1) (driven_from mid rest.answers s.events)) (driven_from mid rest.answers s.events) rest.cut old via new from between to (subst (λ (starts : List Start). Wrote o.observable (step_text n mid.outbox.done.items starts mid.outbox.answer) (o.state old) (o.state via)) ran.starts ran.writes) ran.given rest.went);
+            (Went-cons n event (effect event now.book) (outputs event now.book) part (texts (n + 1) (driven_from mid rest.answers s.events)) (driven_from mid rest.answers s.events) rest.cut old via new from between to (subst (λ (notices : Notices). Wrote o.observable (step_text n mid.outbox.done.items notices mid.outbox.answer) (o.state old) (o.state via)) ran.notices ran.writes) ran.given rest.went);
         ends = subst (λ (xs : List Driven). LinesEnd n (before (Ok event) s) stop now xs (behind 1 rest.cut) then result) (sym next)
             (ends_later n event s stop now mid then (effect event now.book) (outputs event now.book) part (driven_from mid rest.answers s.events) rest.cut result ran.book refl rest.ends);
       }

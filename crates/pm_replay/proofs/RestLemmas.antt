@@ -21,7 +21,6 @@ use Rattle.pm_topology.specs.declared.topology.Topology.{Topology}
 use Rattle.pm_device.specs.declared.device.Device as Device
 use Rattle.pm_device.specs.Act.{Act, Chain}
 use Rattle.pm_device.specs.Chains.{Chain-append}
-use Rattle.pm_core.specs.declared.outbox.Start.{Start}
 use Rattle.pm_core.specs.Load.{load_of}
 use Rattle.pm_core.specs.Outbox.{Holds}
 use Rattle.pm_core.specs.Run.{Setup, step_0, steps_of}
@@ -36,7 +35,7 @@ use Rattle.pm_trace.specs.declared.faults.Fault.{Fault}
 use Rattle.pm_trace.specs.declared.faults.Fault.TheVariants.{Line}
 use Rattle.pm_trace.specs.Faults.{exit_after}
 use Rattle.pm_trace.specs.Report.{Report, Reports, exit_of, fault_lines, pieces, refusal}
-use Rattle.pm_trace.specs.Step.{core_text, step_text}
+use Rattle.pm_trace.specs.Step.{Notices, core_text, notices_in, notices_of, step_text}
 use Rattle.pm_replay.specs.declared.lines.LineStop.TheVariants as lines
 use Rattle.pm_replay.specs.Drive.{Driven, acts, acts_of, drive, driven, last_book, last_kept}
 use Rattle.pm_replay.specs.Replay.{closing_where, fault_at, replay_report, texts, until}
@@ -200,7 +199,7 @@ module _ {O D : Type 0} (o : Sink.Ghosts O) (d : Device.Ghosts D) where
       ∙ ap (λ (b : State). first_step c events Q ∷ drive after.kept later (steps_of events (record { book = b }))) (sym loaded.book ∙ sym started.book)
 
   -- the report of a script is that of its lines behind the text of step 0
-  report_first : (now after : Controls) (s : Script) (later : List (List Bool)) (from to : D) → IsLoaded now → Started o d now after from to → replay_report (setup_of now.book) s (answers_in after.outbox ∷ later) ≡ report_after (step_text 0 after.outbox.done.items after.outbox.starts.items after.outbox.answer ∷ []) (report_from 1 after s later)
+  report_first : (now after : Controls) (s : Script) (later : List (List Bool)) (from to : D) → IsLoaded now → Started o d now after from to → replay_report (setup_of now.book) s (answers_in after.outbox ∷ later) ≡ report_after (step_text 0 after.outbox.done.items (notices_in after.outbox) after.outbox.answer ∷ []) (report_from 1 after s later)
   report_first now after s later from to loaded started =
       let c : Setup = setup_of now.book in
       let load : State = load_of c.object c.topology in
@@ -209,16 +208,16 @@ module _ {O D : Type 0} (o : Sink.Ghosts O) (d : Device.Ghosts D) where
       ap (λ (xs : List Driven). record { body = texts 0 xs ++ closing_where s.stop (closing_text (last_book load xs) (last_kept (at_zero c.topology) xs)); fault = fault_at (1 + length s.events) s.stop }) (driven_first now after s.events later from to loaded started)
       ∙ ap (λ (text : List ℕ). record { body = text ∷ (texts 1 ys ++ closing_where s.stop (closing_text (last_book load ys) (last_kept after.kept ys))); fault = fault_at (1 + length s.events) s.stop }) (append-nil (core_text 0 (outputs_at_load load) Q))
       ∙ ap (λ (b : State). record { body = core_text 0 (outputs_at_load load) Q ∷ (texts 1 ys ++ closing_where s.stop (closing_text (last_book b ys) (last_kept after.kept ys))); fault = fault_at (1 + length s.events) s.stop }) (sym loaded.book ∙ sym started.book)
-      ∙ ap (λ (starts : List Start). record { body = step_text 0 Q.commands starts Q.answer ∷ (texts 1 ys ++ closing_where s.stop (closing_text (last_book after.book ys) (last_kept after.kept ys))); fault = fault_at (1 + length s.events) s.stop }) (ap (λ (b : State). (outputs_at_load b).starts) (sym loaded.book) ∙ sym started.starts)
+      ∙ ap (λ (notices : Notices). record { body = step_text 0 Q.commands notices Q.answer ∷ (texts 1 ys ++ closing_where s.stop (closing_text (last_book after.book ys) (last_kept after.kept ys))); fault = fault_at (1 + length s.events) s.stop }) (ap (λ (b : State). notices_of (outputs_at_load b)) (sym loaded.book) ∙ sym started.notices)
 
   acts_first : (now after : Controls) (events : List Event) → acts_of (first_step (setup_of now.book) events (part_in after.kept after.outbox)) ≡ orders_in after.outbox
   acts_first now after events = append-nil (orders_in after.outbox)
 
   -- step 0 was written, and after the rest of the script was run
-  pub RanScript-first : (s : Script) (now after : Controls) (old mid new : O) (from via to : D) (exit : Exit) → IsLoaded now → Started o d now after from via → Wrote o.observable (step_text 0 after.outbox.done.items after.outbox.starts.items after.outbox.answer) (o.state old) (o.state mid) → RanRest o d 1 s after mid new via to exit → RanScript o d (setup_of now.book) s old new from to exit
+  pub RanScript-first : (s : Script) (now after : Controls) (old mid new : O) (from via to : D) (exit : Exit) → IsLoaded now → Started o d now after from via → Wrote o.observable (step_text 0 after.outbox.done.items (notices_in after.outbox) after.outbox.answer) (o.state old) (o.state mid) → RanRest o d 1 s after mid new via to exit → RanScript o d (setup_of now.book) s old new from to exit
   RanScript-first s now after old mid new from via to exit loaded started wrote rest =
       let c : Setup = setup_of now.book in
-      let first : List ℕ = step_text 0 after.outbox.done.items after.outbox.starts.items after.outbox.answer in
+      let first : List ℕ = step_text 0 after.outbox.done.items (notices_in after.outbox) after.outbox.answer in
       let x : Driven = first_step c s.events (part_in after.kept after.outbox) in
       let ys : List Driven = driven_from after rest.answers s.events in
       let is = report_first now after s rest.answers from via loaded started in
@@ -239,10 +238,10 @@ module _ {O D : Type 0} (o : Sink.Ghosts O) (d : Device.Ghosts D) where
       }
 
   -- the sink broke off within the text of step 0
-  pub RanScript-cut : (s : Script) (now after : Controls) (old new : O) (from to : D) → IsLoaded now → Started o d now after from to → BreaksIn o 0 (step_text 0 after.outbox.done.items after.outbox.starts.items after.outbox.answer ∷ []) old new → RanScript o d (setup_of now.book) s old new from to WriteFault
+  pub RanScript-cut : (s : Script) (now after : Controls) (old new : O) (from to : D) → IsLoaded now → Started o d now after from to → BreaksIn o 0 (step_text 0 after.outbox.done.items (notices_in after.outbox) after.outbox.answer ∷ []) old new → RanScript o d (setup_of now.book) s old new from to WriteFault
   RanScript-cut s now after old new from to loaded started breaks =
       let c : Setup = setup_of now.book in
-      let first : List ℕ = step_text 0 after.outbox.done.items after.outbox.starts.items after.outbox.answer in
+      let first : List ℕ = step_text 0 after.outbox.done.items (notices_in after.outbox) after.outbox.answer in
       let rest : Report = report_from 1 after s [] in
       let x : Driven = first_step c s.events (part_in after.kept after.outbox) in
       let ys : List Driven = driven_from after [] s.events in

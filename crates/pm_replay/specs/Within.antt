@@ -21,7 +21,7 @@ use Rattle.pm_script.specs.Script.{Script, Stop}
 use Rattle.pm_script.specs.Script.Stop.{Bad}
 use Rattle.pm_trace.specs.Closing.{closing_text}
 use Rattle.pm_trace.specs.Report.{Report, exit_of, pieces}
-use Rattle.pm_trace.specs.Step.{step_text}
+use Rattle.pm_trace.specs.Step.{notices_in, notices_of, step_text}
 use Rattle.pm_replay.specs.declared.lines.LineStop.{LineStop}
 use Rattle.pm_replay.specs.declared.lines.LineStop.TheVariants as lines
 use Rattle.pm_replay.specs.Drive.{Driven, acts, drive, driven, last_book, last_kept}
@@ -88,15 +88,15 @@ module _ {O D : Type 0} (o : Sink.Ghosts O) (d : Device.Ghosts D) where
   pub record RanEvent (n : ℕ) (event : Event) (now then : Controls) (old new : O) (from to : D) (result : Result ⊤ LineStop) : Type 0 where
     pub book : then.book ≡ effect event now.book
     pub part : part_in then.kept then.outbox ≡ part_of now.kept (answers_in then.outbox) then.book (outputs event now.book)
-    pub starts : then.outbox.starts.items ≡ (outputs event now.book).starts
+    pub notices : notices_in then.outbox ≡ notices_of (outputs event now.book)
     pub given : Chain d.Does (orders_in then.outbox) from to
-    pub writes : LineWrites (step_text n then.outbox.done.items then.outbox.starts.items then.outbox.answer) old new result
+    pub writes : LineWrites (step_text n then.outbox.done.items (notices_in then.outbox) then.outbox.answer) old new result
 
   -- the device was made to follow the book at load
   pub record Started (now then : Controls) (from to : D) : Type 0 where
     pub book : then.book ≡ now.book
     pub part : part_in then.kept then.outbox ≡ part_of now.kept (answers_in then.outbox) now.book (outputs_at_load now.book)
-    pub starts : then.outbox.starts.items ≡ (outputs_at_load now.book).starts
+    pub notices : notices_in then.outbox ≡ notices_of (outputs_at_load now.book)
     pub given : Chain d.Does (orders_in then.outbox) from to
 
   -- the lines of a script were run up to the first one that has no meaning. The first of them has number n

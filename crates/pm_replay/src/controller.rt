@@ -9,6 +9,7 @@ ghost use Rattle.pm_core.specs.Outbox.{Holds};
 ghost use Rattle.pm_core.specs.Step.{effect, outputs, outputs_at_load};
 ghost use Rattle.pm_apply.specs.Part.{answers_in, orders_in, part_in, part_of};
 ghost use Rattle.pm_apply.specs.Record.{at_zero};
+ghost use Rattle.pm_trace.specs.Step.{notices_in, notices_of};
 
 use pm_apply::{Kept, carry};
 use pm_base::{Event, NoMemory};
@@ -85,7 +86,7 @@ impl Controller {
         ensures book { self.new.book ≡ self.old.book }
         ensures part { part_in self.new.kept self.new.outbox
             ≡ part_of self.old.kept (answers_in self.new.outbox) self.old.book (outputs_at_load self.old.book) }
-        ensures starts { self.new.outbox.starts.items ≡ (outputs_at_load self.old.book).starts }
+        ensures notices { notices_in self.new.outbox ≡ notices_of (outputs_at_load self.old.book) }
         ensures given { Chain D.Does (orders_in self.new.outbox) dev.old dev.new }
     {
         carry(dev, &mut self.kept, &self.book, &mut self.outbox);
@@ -96,7 +97,7 @@ impl Controller {
         ensures book { self.new.book ≡ effect event.now self.old.book }
         ensures part { part_in self.new.kept self.new.outbox
             ≡ part_of self.old.kept (answers_in self.new.outbox) self.new.book (outputs event.now self.old.book) }
-        ensures starts { self.new.outbox.starts.items ≡ (outputs event.now self.old.book).starts }
+        ensures notices { notices_in self.new.outbox ≡ notices_of (outputs event.now self.old.book) }
         ensures given { Chain D.Does (orders_in self.new.outbox) dev.old dev.new }
     {
         self.book.step(event, &mut self.outbox);

@@ -4,7 +4,7 @@ ghost use Rattle.std.specs.Prelude.{◌≡◌, ◌<◌, Some, length, map, slice
 ghost use Rattle.pm_apply.specs.Part.{outputs_in, part_in};
 ghost use Rattle.pm_core.specs.Units.{units};
 ghost use Rattle.pm_trace.specs.Closing.{closing_lines, closing_text};
-ghost use Rattle.pm_trace.specs.Step.{step_text};
+ghost use Rattle.pm_trace.specs.Step.{notices_in, step_text};
 ghost use Rattle.pm_replay.specs.Within.{Writes};
 
 use crate::controller::Controller;
@@ -14,7 +14,7 @@ use pm_trace::{TextLine, closing, entries, entry};
 
 /// Writes the lines of a step.
 pub(crate) fn write_step<O: Sink>(number: u32, outbox: &Outbox, out: &mut O) -> Result<(), Failed>
-    ensures { Writes O.Sink (step_text number outbox.now.done.items outbox.now.starts.items outbox.now.answer) out.old out.new result }
+    ensures { Writes O.Sink (step_text number outbox.now.done.items (notices_in outbox.now) outbox.now.answer) out.old out.new result }
 {
     let mut line = TextLine::new();
     for k in 0..entries(outbox) {

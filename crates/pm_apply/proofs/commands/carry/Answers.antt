@@ -38,5 +38,7 @@ returns g c =
       ready = search rules;
       moved = search rules;
       starts = search rules;
+      late = search rules;
+      calls = search rules;
       answer = search rules;
     }

@@ -1,0 +1,15 @@
+use Rattle.std.proofs.Common.{◌≡◌, subst, sym}
+use Rattle.pm_core.specs.Outbox.{Holds}
+use Rattle.pm_core.specs.Step.{outputs_at_load}
+use Rattle.pm_trace.specs.Step.{notices_in, notices_of}
+use Rattle.pm_replay.specs.Within.{Controls}
+use Rattle.pm_replay.proofs.NoticesLemmas.{notices_are}
+use Rattle.pm_replay.proofs.controller.Controller.start.Goals as goal
+
+pub returns-clause-notices : goal.returns-clause-notices
+returns-clause-notices g c =
+    let old = c.self.inside in
+    let H : Controls → Type 0 = λ controls. Holds (outputs_at_load controls.book) controls.outbox in
+    let P : Controls → Type 0 = λ controls. notices_in c.carry.new.out ≡ notices_of (outputs_at_load controls.book) in
+    let held : Holds (outputs_at_load old.book) old.outbox = subst H (sym c.self.view_is) c.requires.out in
+    subst P c.self.view_is (notices_are (outputs_at_load old.book) old.outbox c.carry.new.out held c.carry.ensures.starts c.carry.ensures.late c.carry.ensures.calls)
