@@ -121,7 +121,7 @@ fn answer_to(sender: u32, want: Want) -> Answer {
 }
 
 /// What happens: a master sends a call with its first arguments, a processor is booted at an address, one waits
-/// for an interrupt, a slave raises its interrupt, or there is one at a processor itself.
+/// for an interrupt, a slave raises its interrupt, there is one at a processor itself, or time passes.
 #[derive(Clone, Copy)]
 pub(crate) enum Trigger {
     Call(u32, u32, [u32; 4]),
@@ -129,6 +129,7 @@ pub(crate) enum Trigger {
     Wfi(u32),
     Irq(u32),
     Gic(u32),
+    Tick(u32),
 }
 
 pub(crate) fn event_of(trigger: Trigger) -> Event {
@@ -143,6 +144,7 @@ pub(crate) fn event_of(trigger: Trigger) -> Event {
             slave: NodeId(slave),
         },
         Trigger::Gic(proc) => Event::Gic { proc: NodeId(proc) },
+        Trigger::Tick(count) => Event::Tick { count },
     }
 }
 

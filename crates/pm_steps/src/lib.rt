@@ -2,13 +2,19 @@
 #![tactic(auto)]
 
 #[cfg(test)]
+mod asking;
+#[cfg(test)]
 mod book;
 #[cfg(test)]
 mod calls;
 #[cfg(test)]
 mod carrying;
 #[cfg(test)]
+mod ending;
+#[cfg(test)]
 mod modes;
+#[cfg(test)]
+mod notices;
 #[cfg(test)]
 mod permitted;
 #[cfg(test)]

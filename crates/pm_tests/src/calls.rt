@@ -2,7 +2,8 @@
 
 use crate::rows::all_right;
 use pm_base::{Caps, Message, NodeId};
-use pm_ipi::{AckKind, Call, decode_call};
+use pm_ipi::callbacks::INIT_SUSPEND;
+use pm_ipi::{AckKind, Call, Response, callback_words, decode_call, respond};
 
 const NODE: NodeId = NodeId(22);
 
@@ -10,7 +11,7 @@ const ACK: u32 = 3;
 
 /// The number of a call, the call that it makes with the arguments 22, 7, 5, 3 and 2, and how it is
 /// acknowledged.
-static CALLS: [(u32, Call, AckKind, NodeId); 17] = [
+static CALLS: [(u32, Call, AckKind, NodeId); 18] = [
     (0, Call::Unknown, AckKind::Blocking, NodeId(0)),
     (1, Call::GetApiVersion, AckKind::Blocking, NodeId(0)),
     (2, Call::Unknown, AckKind::Blocking, NodeId(0)),
@@ -19,6 +20,17 @@ static CALLS: [(u32, Call, AckKind, NodeId); 17] = [
         Call::GetNodeStatus { node: NODE },
         AckKind::Blocking,
         NodeId(0),
+    ),
+    (
+        6,
+        Call::RequestSuspend {
+            node: NODE,
+            ack: 7,
+            latency: 5,
+            state: ACK,
+        },
+        AckKind::Blocking,
+        NODE,
     ),
     (
         7,
@@ -119,6 +131,28 @@ fn a_message_makes_a_call(rt: HostRuntime) {
     all_right(&rt, wrong_call());
 }
 
+/// The acknowledge argument of a request to suspend, and how the request is acknowledged.
+static KINDS: [(u32, AckKind); 5] = [
+    (0, AckKind::Blocking),
+    (1, AckKind::No),
+    (2, AckKind::Blocking),
+    (3, AckKind::NonBlocking),
+    (4, AckKind::Blocking),
+];
+
+fn wrong_kind() -> Option<usize> {
+    for (place, (ack, kind)) in KINDS.iter().enumerate() {
+        let message = Message {
+            api: 6,
+            args: [22, *ack, 3, 1, 2],
+        };
+        if decode_call(&message).ack() != *kind {
+            return Some(place);
+        }
+    }
+    None
+}
+
 /// The low and the high word of a wake-up, and its address: bit 0 says that there is one, and is no part of it.
 static ADDRESSES: [(u32, u32, Option<u64>); 8] = [
     (0, 0, None),
@@ -147,6 +181,24 @@ fn wrong_address() -> Option<usize> {
         }
     }
     None
+}
+
+#[test]
+fn a_request_to_suspend_has_an_acknowledge_kind(rt: HostRuntime) {
+    all_right(&rt, wrong_kind());
+}
+
+#[test]
+fn words_of_a_reply_and_of_a_callback(rt: HostRuntime) {
+    let response = Response {
+        status: 2007,
+        words: [7, 5, 3],
+    };
+    assert_eq!(rt; respond(&response), [2007, 7, 5, 3]);
+    assert_eq!(rt;
+        callback_words(INIT_SUSPEND, [201, 50, 0, 100]),
+        [30, 201, 50, 0, 100]
+    );
 }
 
 #[test]

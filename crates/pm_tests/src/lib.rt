@@ -28,6 +28,8 @@ mod reach;
 #[cfg(test)]
 mod reach_masters;
 #[cfg(test)]
+mod requests;
+#[cfg(test)]
 mod requirements;
 #[cfg(test)]
 mod resets;
@@ -35,6 +37,8 @@ mod resets;
 mod rows;
 #[cfg(test)]
 mod texts;
+#[cfg(test)]
+mod ticks;
 #[cfg(test)]
 mod topology_faults;
 #[cfg(test)]

@@ -184,7 +184,7 @@ static FAULTS: [(&[u8], LineFault); 51] = [
     (b"gic 0x100000000", LineFault::Number),
     (b"gic -7", LineFault::Number),
     (b"GIC 7", LineFault::Unknown),
-    (b"tick 1", LineFault::Unknown),
+    (b"break 1", LineFault::Unknown),
     (b"# \x7F", LineFault::NotAscii),
     (b"ipi 1 3\r\r", LineFault::NotAscii),
     (SPACES, LineFault::Long),
