@@ -9,6 +9,10 @@ init_suspend = 30
 abbrev pub acknowledge : ℕ
 acknowledge = 31
 
+-- NOTIFY_CB, whose arguments are the node, the event and the operating point
+abbrev pub notify : ℕ
+notify = 32
+
 -- the reason of a suspend that another master requests
 abbrev pub reason_master : ℕ
 reason_master = 201

@@ -4,7 +4,7 @@ use Rattle.pm_base.specs.declared.caps.Caps.{Caps}
 use Rattle.pm_base.specs.declared.names.NodeId.{NodeId}
 use Rattle.pm_base.specs.declared.events.Message.{Message}
 use Rattle.pm_ipi.specs.declared.calls.Call.{Call}
-use Rattle.pm_ipi.specs.declared.calls.Call.TheVariants.{GetApiVersion, GetNodeStatus, RequestSuspend, SelfSuspend, AbortSuspend, RequestWakeup, SetWakeupSource, RequestNode, ReleaseNode, SetRequirement, SetMaxLatency, InitFinalize, Unknown}
+use Rattle.pm_ipi.specs.declared.calls.Call.TheVariants.{GetApiVersion, GetNodeStatus, RegisterNotifier, RequestSuspend, SelfSuspend, AbortSuspend, RequestWakeup, SetWakeupSource, RequestNode, ReleaseNode, SetRequirement, SetMaxLatency, InitFinalize, Unknown}
 use Rattle.pm_ipi.specs.declared.calls.AckKind.{AckKind}
 use Rattle.pm_ipi.specs.declared.calls.AckKind.TheVariants.{No, Blocking, NonBlocking}
 
@@ -31,6 +31,11 @@ get_api_version message = GetApiVersion
 -- GET_NODE_STATUS: the node
 abbrev pub get_node_status : Message → Call
 get_node_status message = GetNodeStatus (node_word message 0)
+
+-- REGISTER_NOTIFIER: the node, the event, whether the event wakes the master, which nothing depends on, and whether the master is
+-- told of it from now on
+abbrev pub register_notifier : Message → Call
+register_notifier message = RegisterNotifier (node_word message 0) (argument message 1) (argument message 2) (argument message 3)
 
 -- REQUEST_SUSPEND: the node that names the master that is asked, the acknowledge kind, and the latency and the state that the
 -- master is told
@@ -84,6 +89,7 @@ abbrev pub call_of : Message → Call
 call_of message =
     if message.api == 1 then get_api_version message
     else if message.api == 3 then get_node_status message
+    else if message.api == 5 then register_notifier message
     else if message.api == 6 then request_suspend message
     else if message.api == 7 then self_suspend message
     else if message.api == 9 then abort_suspend message

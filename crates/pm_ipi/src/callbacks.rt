@@ -9,6 +9,9 @@ pub const INIT_SUSPEND: u32 = 30;
 /// A call is acknowledged, or a request to suspend has ended: the node, the status and the operating
 /// point.
 pub const ACKNOWLEDGE: u32 = 31;
+/// Something happened to a node of which the master asked to be told: the node, the event and the
+/// operating point.
+pub const NOTIFY: u32 = 32;
 /// The reason of a suspend: another master requests it.
 pub const REASON_MASTER: u32 = 201;
 

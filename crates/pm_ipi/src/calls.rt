@@ -21,6 +21,14 @@ pub enum Call {
     GetNodeStatus {
         node: NodeId,
     },
+    /// The caller is told of the event of the node from now on, or not any more. Nothing depends on whether
+    /// the event is to wake it.
+    RegisterNotifier {
+        node: NodeId,
+        event: u32,
+        wake: u32,
+        enable: u32,
+    },
     /// The master that the node names is asked to suspend. The latency and the state are passed on to it.
     RequestSuspend {
         node: NodeId,
@@ -85,6 +93,12 @@ pub fn decode_call(message: &Message) -> Call
     match message.api {
         1 => Call::GetApiVersion,
         3 => Call::GetNodeStatus { node },
+        5 => Call::RegisterNotifier {
+            node,
+            event: args[1],
+            wake: args[2],
+            enable: args[3],
+        },
         6 => Call::RequestSuspend {
             node,
             ack: args[1],
