@@ -21,7 +21,7 @@ use Rattle.pm_power.specs.declared.child.Child.{Child}
 use Rattle.pm_power.specs.Forest.{Needs, ups}
 use Rattle.pm_power.specs.Needs.{child, children_of, with_needs}
 use Rattle.pm_core.specs.declared.caches.Caches.{Caches}
-use Rattle.pm_core.specs.Caches.{AreKept, HasPlaces, idle, kind_of_unit, kind_value, moved_by, revalued, valued, value_kept}
+use Rattle.pm_core.specs.Caches.{AreKept, HasPlaces, idle, kind_of_unit, kind_value, moved_by, revalued, use_of, valued, value_kept}
 use Rattle.pm_core.specs.State.{Fixed, CoreHalf, State}
 use Rattle.pm_procs.specs.declared.procs.Proc.{Proc as Processor}
 use Rattle.pm_procs.specs.Modes.{is_awake}
@@ -182,6 +182,7 @@ kept_places book caches t same kept =
       states = ap length kept.states ∙ length-placed (chosen book.now.core) 0 book.fixed.topology.slaves;
       needs = ap length kept.needs ∙ length-placed (need_of book.now.core) 0 book.fixed.topology.slaves;
       runs = ap length kept.runs ∙ length-placed (run_of book.now.core) 0 book.fixed.topology.procs;
+      used = ap length kept.used ∙ length-placed (use_of book.now.core) 0 book.fixed.topology.slaves;
       powers = ap (λ (n : Needs). n.powers) kept.power;
       children = ap (λ (n : Needs). map idle n.children) kept.power ∙ forest_idle book.fixed book.now.core;
       units = ap units_in kept.values ∙ units_of_valued (λ u. value u book) (units book);

@@ -1,6 +1,6 @@
 -- The requests that end in a step follow from the modes of the masters before it and from the book after it, since a step has
 -- one stage at most.
-use Rattle.std.proofs.Common.{◌≡◌, ℕ, ◌+◌, ◌<◌, List, [], ◌∷◌, ◌++◌, length, slice_get, Option, Some, None, refl, sym, ap, ◌∙◌, inl, inr, arith}
+use Rattle.std.proofs.Common.{◌≡◌, ℕ, ◌+◌, ◌<◌, List, [], ◌∷◌, ◌++◌, length, Option, Some, None, refl, ap, ◌∙◌, inl, inr, arith}
 use Rattle.std.specs.Prelude.{option_map, unwrap_or}
 use Rattle.std.proofs.lemmas.Option.{slice_get_cases}
 use Rattle.pm_base.specs.declared.events.Event.{Event}
@@ -10,22 +10,29 @@ use Rattle.pm_ipi.specs.Calls.{call_of}
 use Rattle.pm_ipi.specs.declared.calls.Call.{Call}
 use Rattle.pm_base.specs.declared.names.Mode.{Mode}
 use Rattle.pm_base.specs.declared.names.Mode.TheVariants.{Off, Active, Asleep, Suspending}
+use Rattle.pm_notify.specs.declared.notes.Waiting.{Waiting}
+use Rattle.pm_notify.specs.Mailbox.{Mail}
+use Rattle.pm_notify.specs.Notify.{mail_of}
+use Rattle.pm_object.specs.declared.object.MasterRec.{MasterRec}
 use Rattle.pm_procs.specs.declared.pending.Pending.{Pending}
 use Rattle.pm_core.specs.declared.ended.Ended.{Ended}
 use Rattle.pm_core.specs.declared.ended.Turns.{Turns}
+use Rattle.pm_core.specs.declared.judgement.Asked.{Asked}
 use Rattle.pm_core.specs.declared.step.Heard.{Heard}
+use Rattle.pm_core.specs.declared.telling.Telling.{Telling}
+use Rattle.pm_core.specs.Callbacks.{News, called_back, callbacks, callbacks_from, mailed, mails_from}
 use Rattle.pm_core.specs.Ended.{ended_at, ended_from, turns_along, turns_of}
-use Rattle.pm_core.specs.Heard.{aborts_in, asks_in}
+use Rattle.pm_core.specs.Heard.{aborts_in, asks_in, kept_of, registers_in}
 use Rattle.pm_core.specs.Members.{mode_of_master}
 use Rattle.pm_core.specs.Outcome.{Outcome}
 use Rattle.pm_core.specs.Prims.{Prim, applies, changed}
 use Rattle.pm_core.specs.Stages.{after_stage, after_stages, follow, last_of, path_from}
 use Rattle.pm_core.specs.State.{Fixed, Now, State, in_force}
-use Rattle.pm_core.specs.Step.{aborts, aborts_of, asks, asks_of, effect, ended, heard_by, heard_of, path, stages, talk, time_of, verdict}
+use Rattle.pm_core.specs.Step.{aborts, aborts_of, asks, asks_of, effect, ended, forgets, heard_by, heard_of, mail_after, modes_in, news, notices, opening, path, registers, registers_of, stages, talk, tellings, time_of, verdict}
 use Rattle.pm_core.specs.Caches.{AreKept}
 use Rattle.pm_core.specs.declared.caches.Caches.{Caches}
-use Rattle.pm_core.specs.Talk.{Talk, talk_of, talked}
-use Rattle.pm_core.specs.Telling.{mode_beside, mode_noted, modes_of, turns_since}
+use Rattle.pm_core.specs.Talk.{Talk, forget_at, forgets_from, talk_of, talked}
+use Rattle.pm_core.specs.Telling.{mode_beside, mode_noted, modes_of, news_in, opening_in, turns_since}
 use Rattle.pm_core.proofs.PlacedLemmas.{slice_get-placed}
 use Rattle.pm_core.proofs.StepLaw.{HasOneAtMost, stages_once}
 
@@ -62,7 +69,7 @@ turns_once [] book m once = same_turns (mode_of_master book.fixed book.now.core 
 turns_once (stage ∷ []) book m once = refl
 turns_once (stage ∷ (next ∷ later)) book m once = cc
 
-noted : (book : State) (m : ℕ) → m < length (in_force book).masters → mode_noted m (modes_of book) ≡ mode_of_master book.fixed book.now.core m
+noted : (book : State) (m : ℕ) → m < length (in_force book).masters → mode_noted (modes_of book) m ≡ mode_of_master book.fixed book.now.core m
 noted book m within = elim ((slice_get_cases (in_force book).masters m).1) [
   | inl here ↦
       ap (λ o. unwrap_or o Off)
@@ -94,6 +101,19 @@ ended_noted event old new modes is modes_are each =
     ∙ ended_alike (turns_since modes new) (turns_along old (path event old)) (aborts event old) (time_of event) 0 old.now.talk.pending
     (λ k below. turns_noted event old new modes k is modes_are (omega (arith, below, each)))
 
+-- the masters that forget
+forgets_alike : (f g : ℕ → Turns) (m : ℕ) (masters : List MasterRec) → ((k : ℕ) → k < m + length masters → f k ≡ g k) → forgets_from f m masters ≡ forgets_from g m masters
+forgets_alike f g m [] alike = refl
+forgets_alike f g m (x ∷ masters) alike =
+    ap (λ turns. forget_at turns m ++ forgets_from f (m + 1) masters) (alike m (omega arith))
+    ∙ ap (λ later. forget_at (g m) m ++ later) (forgets_alike f g (m + 1) masters (λ k below. alike k (omega (arith, below))))
+
+forgets_noted : (event : Event) (old : State) (modes : List Mode) → modes ≡ modes_of old
+    → forgets_from (turns_since modes (after_stages (stages event old) old)) 0 (in_force old).masters ≡ forgets event old
+forgets_noted event old modes modes_are =
+    forgets_alike (turns_since modes (after_stages (stages event old) old)) (turns_along old (path event old)) 0 (in_force old).masters
+    (λ k below. turns_noted event old (after_stages (stages event old) old) modes k refl modes_are (omega (arith, below)))
+
 -- ---- what is told in a step
 
 asks_by : (master : NodeId) (call : Call) (outcome : Option Outcome) → asks_in (heard_by master call outcome) ≡ asks_of outcome
@@ -104,7 +124,11 @@ aborts_by : (master : NodeId) (call : Call) (outcome : Option Outcome) → abort
 aborts_by master call None = refl
 aborts_by master call (Some outcome) = refl
 
-pub asks_heard : (event : Event) (book : State) → asks_in (heard_of event book) ≡ asks event book
+registers_by : (master : NodeId) (call : Call) (outcome : Option Outcome) → registers_in (heard_by master call outcome) ≡ registers_of outcome
+registers_by master call None = refl
+registers_by master call (Some outcome) = refl
+
+asks_heard : (event : Event) (book : State) → asks_in (heard_of event book) ≡ asks event book
 asks_heard (Ipi master message) book = asks_by master (call_of message) (verdict master message book)
 asks_heard _ book = refl
 
@@ -112,28 +136,107 @@ aborts_heard : (event : Event) (book : State) → aborts_in (heard_of event book
 aborts_heard (Ipi master message) book = aborts_by master (call_of message) (verdict master message book)
 aborts_heard _ book = refl
 
--- the requests that end, and the book after a step, as they were found
-pub record IsTold (event : Event) (old new : State) (found : List Ended) : Type 0 where
-  pub ended : found ≡ ended event old
-  pub book : new ≡ effect event old
+registers_heard : (event : Event) (book : State) → registers_in (heard_of event book) ≡ registers event book
+registers_heard (Ipi master message) book = registers_by master (call_of message) (verdict master message book)
+registers_heard _ book = refl
 
-pub step_told : (event : Event) (old mid new : State) (heard : Heard) (modes : List Mode) (found : List Ended) → mid ≡ after_stages (stages event old) old → heard ≡ heard_of event old → modes ≡ modes_of old → length old.now.talk.pending ≡ length (in_force old).masters
-    → found ≡ ended_from (turns_since modes mid) (aborts_in heard) (time_of event) 0 mid.now.talk.pending
-    → new ≡ talked (talk_of (asks_in heard) (time_of event) found) mid
-    → IsTold event old new found
-step_told event old mid new heard modes found mid_is heard_is modes_are each found_is new_is =
-    let same : found ≡ ended event old =
-    found_is
-    ∙ (ap (λ a. ended_from (turns_since modes mid) a (time_of event) 0 mid.now.talk.pending) (ap aborts_in heard_is ∙ aborts_heard event old)
-    ∙ ended_noted event old mid modes mid_is modes_are each)
-    in
-    record {
-      ended = same;
-      book = new_is
-          ∙ (ap (λ a. talked (talk_of a (time_of event) found) mid) (ap asks_in heard_is ∙ asks_heard event old)
-          ∙ (ap (λ es. talked (talk_of (asks event old) (time_of event) es) mid) same
-          ∙ ap (λ b. talked (talk event old) b) mid_is));
-    }
+-- the masters are told the same where the modes before are the same
+mails_alike : (news : News) (f g : ℕ → Mode) (mail : List Mail) (after : State) (k : ℕ) (masters : List MasterRec) → ((j : ℕ) → j < k + length masters → f j ≡ g j) → mails_from news f mail after k masters ≡ mails_from news g mail after k masters
+mails_alike news f g mail after k [] alike = refl
+mails_alike news f g mail after k (x ∷ masters) alike =
+    ap (λ was. mailed news k was (mode_of_master after.fixed after.now.core k) (mail_of k mail) ++ mails_from news f mail after (k + 1) masters) (alike k (omega arith))
+    ∙ ap (λ later. mailed news k (g k) (mode_of_master after.fixed after.now.core k) (mail_of k mail) ++ later)
+    (mails_alike news f g mail after (k + 1) masters (λ j below. alike j (omega (arith, below))))
+
+calls_alike : (news : News) (f g : ℕ → Mode) (mail : List Mail) (after : State) (k : ℕ) (masters : List MasterRec) → ((j : ℕ) → j < k + length masters → f j ≡ g j) → callbacks_from news f mail after k masters ≡ callbacks_from news g mail after k masters
+calls_alike news f g mail after k [] alike = refl
+calls_alike news f g mail after k (x ∷ masters) alike =
+    let node : NodeId = record { 0 = x.node } in
+    ap (λ was. called_back news k node was (mode_of_master after.fixed after.now.core k) (mail_of k mail) after ++ callbacks_from news f mail after (k + 1) masters) (alike k (omega arith))
+    ∙ ap (λ later. called_back news k node (g k) (mode_of_master after.fixed after.now.core k) (mail_of k mail) after ++ later)
+    (calls_alike news f g mail after (k + 1) masters (λ j below. alike j (omega (arith, below))))
+
+was_noted : (book : State) (modes : List Mode) → modes ≡ modes_of book → (k : ℕ) → k < 0 + length (in_force book).masters → mode_noted modes k ≡ modes_in book k
+was_noted book modes are k below = ap (λ ms. mode_noted ms k) are ∙ noted book k (omega (arith, below))
+
+-- what is kept of a step until the masters are told of it
+pub record IsNoted (event : Event) (old mid : State) (heard : Heard) (telling : Telling) : Type 0 where
+  pub mid_is : mid ≡ after_stages (stages event old) old
+  pub heard_is : heard ≡ heard_of event old
+  pub modes_are : telling.modes.items ≡ modes_of old
+  pub asks_are : telling.asks ≡ asks_in heard
+  pub ended_are : telling.ended.items ≡ ended_from (turns_since telling.modes.items mid) (aborts_in heard) (time_of event) 0 mid.now.talk.pending
+  pub notices_are : telling.notices.items ≡ notices event old
+
+abbrev news_of : Option Asked → List Ended → List Waiting → News
+news_of asked ended notices = record { asked = asked; ended = ended; notices = notices }
+
+module _ (event : Event) (old mid : State) (heard : Heard) (telling : Telling) (is : IsNoted event old mid heard telling) (each : length old.now.talk.pending ≡ length (in_force old).masters) where
+  abbrev pub after : State
+  after = after_stages (stages event old) old
+
+  abbrev pub modes : List Mode
+  modes = telling.modes.items
+
+  ended_is : telling.ended.items ≡ ended event old
+  ended_is =
+      is.ended_are
+      ∙ (ap (λ a. ended_from (turns_since modes mid) a (time_of event) 0 mid.now.talk.pending) (ap aborts_in is.heard_is ∙ aborts_heard event old)
+      ∙ ended_noted event old mid modes is.mid_is is.modes_are each)
+
+  asks_is : telling.asks ≡ asks event old
+  asks_is = is.asks_are ∙ (ap asks_in is.heard_is ∙ asks_heard event old)
+
+  news_is : news_in telling ≡ news event old
+  news_is =
+      ap (λ a. news_of a telling.ended.items telling.notices.items) asks_is
+      ∙ (ap (λ es. news_of (asks event old) es telling.notices.items) ended_is
+      ∙ ap (λ ns. news_of (asks event old) (ended event old) ns) is.notices_are)
+
+  first_is : opening_in telling (registers_in heard) (time_of event) mid ≡ opening event old
+  first_is =
+      ap (λ (b : State). opening_in telling (registers_in heard) (time_of event) b) is.mid_is
+      ∙ (ap (λ fs. talk_of fs (registers_in heard) telling.asks (time_of event) telling.ended.items) (forgets_noted event old modes is.modes_are)
+      ∙ (ap (λ r. talk_of (forgets event old) r telling.asks (time_of event) telling.ended.items) (ap registers_in is.heard_is ∙ registers_heard event old)
+      ∙ (ap (λ a. talk_of (forgets event old) (registers event old) a (time_of event) telling.ended.items) asks_is
+      ∙ ap (λ es. talk_of (forgets event old) (registers event old) (asks event old) (time_of event) es) ended_is)))
+
+  -- all that is told, as it was noted
+  pub talk_is : tellings (news_in telling) (mode_noted modes) (opening_in telling (registers_in heard) (time_of event) mid) heard mid ≡ talk event old
+  talk_is =
+      ap (λ n. tellings n (mode_noted modes) (opening_in telling (registers_in heard) (time_of event) mid) heard mid) news_is
+      ∙ (ap (λ first. tellings (news event old) (mode_noted modes) first heard mid) first_is
+      ∙ (ap (λ h. tellings (news event old) (mode_noted modes) (opening event old) h mid) is.heard_is
+      ∙ (ap (λ (b : State). tellings (news event old) (mode_noted modes) (opening event old) (heard_of event old) b) is.mid_is
+      ∙ ap (λ told. opening event old ++ (told ++ kept_of (heard_of event old) after))
+      (mails_alike (news event old) (mode_noted modes) (modes_in old) (mail_after (opening event old) after) after 0 (in_force old).masters (was_noted old modes is.modes_are)))))
+
+  pub book_is : (new : State) → new ≡ talked (tellings (news_in telling) (mode_noted modes) (opening_in telling (registers_in heard) (time_of event) mid) heard mid) mid → new ≡ effect event old
+  book_is new new_is =
+      new_is ∙ (ap (λ told. talked told mid) talk_is ∙ ap (λ b. talked (talk event old) b) is.mid_is)
+
+  -- the callbacks, as they were noted
+  pub calls_are : (new : State) → new ≡ effect event old → callbacks (news_in telling) (mode_noted modes) (mail_after (opening_in telling (registers_in heard) (time_of event) mid) mid) new ≡ callbacks (news event old) (modes_in old) (mail_after (opening event old) after) (effect event old)
+  calls_are new new_is =
+      ap (λ n. callbacks n (mode_noted modes) (mail_after (opening_in telling (registers_in heard) (time_of event) mid) mid) new) news_is
+      ∙ (ap (λ first. callbacks (news event old) (mode_noted modes) (mail_after first mid) new) first_is
+      ∙ (ap (λ b. callbacks (news event old) (mode_noted modes) (mail_after (opening event old) b) new) is.mid_is
+      ∙ (ap (λ b. callbacks (news event old) (mode_noted modes) (mail_after (opening event old) after) b) new_is
+      ∙ calls_alike (news event old) (mode_noted modes) (modes_in old) (mail_after (opening event old) after) (effect event old) 0 (in_force old).masters (was_noted old modes is.modes_are))))
+
+-- the requests that end, the book after a step and the callbacks of it, as they were noted
+pub record IsTold (event : Event) (old mid new : State) (heard : Heard) (telling : Telling) : Type 0 where
+  pub ended : telling.ended.items ≡ ended event old
+  pub book : new ≡ effect event old
+  pub calls : callbacks (news_in telling) (mode_noted telling.modes.items) (mail_after (opening_in telling (registers_in heard) (time_of event) mid) mid) new
+      ≡ callbacks (news event old) (modes_in old) (mail_after (opening event old) (after_stages (stages event old) old)) (effect event old)
+
+pub step_told : (event : Event) (old mid new : State) (heard : Heard) (telling : Telling) → IsNoted event old mid heard telling → length old.now.talk.pending ≡ length (in_force old).masters
+    → new ≡ talked (tellings (news_in telling) (mode_noted telling.modes.items) (opening_in telling (registers_in heard) (time_of event) mid) heard mid) mid
+    → IsTold event old mid new heard telling
+step_told event old mid new heard telling is each new_is =
+    let book : new ≡ effect event old = book_is event old mid heard telling is each new new_is in
+    record { ended = ended_is event old mid heard telling is each; book = book; calls = calls_are event old mid heard telling is each new book }
 
 -- what is kept of the values stays right, whatever is told
 pub kept_talked : (changes : List Talk) (book : State) (caches : Caches) → AreKept book caches → AreKept (talked changes book) caches
@@ -142,6 +245,7 @@ kept_talked changes book caches kept = record {
   states = kept.states;
   needs = kept.needs;
   runs = kept.runs;
+  used = kept.used;
   power = kept.power;
   values = kept.values;
 }

@@ -9,10 +9,12 @@ pub mod FollowLemmas
 pub mod Full
 pub mod Judged
 pub mod LoadLaw
+pub mod MailLaw
 pub mod MembersLaw
 pub mod MetLaw
 pub mod MovesLemmas
 pub mod NeededLaw
+pub mod NoticesLaw
 pub mod PairsLaw
 pub mod PendingLaw
 pub mod Permitted
@@ -24,6 +26,8 @@ pub mod SoundSteps
 pub mod StageLaw
 pub mod StartsLaw
 pub mod StepLaw
+pub mod TalkLemmas
+pub mod TellLemmas
 pub mod WakeLemmas
 pub mod WakeSound
 pub mod Wants

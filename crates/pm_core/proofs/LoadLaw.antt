@@ -10,6 +10,7 @@ use Rattle.std.proofs.lemmas.Nat.Bits.{bit_at_and, same_from_bits}
 use Rattle.std.proofs.lemmas.Option.{unwrap_or-slice_get}
 use Rattle.pm_base.specs.declared.caps.Caps.{Caps}
 use Rattle.pm_base.specs.declared.names.Mode.TheVariants.{Off, Active}
+use Rattle.pm_notify.specs.Laws.{OrderLaws}
 use Rattle.pm_object.specs.declared.object.MasterRec.{MasterRec}
 use Rattle.pm_object.specs.declared.object.Object.{Object}
 use Rattle.pm_object.specs.declared.object.PreRec.{PreRec}
@@ -34,6 +35,7 @@ use Rattle.pm_core.proofs.Each.{Each-append}
 use Rattle.pm_core.proofs.MembersLaw.{Owns, members_owned, one_owner}
 use Rattle.pm_core.proofs.PairsLaw.{pairs_once}
 use Rattle.pm_core.proofs.ArmedLaw.{load_arms}
+use Rattle.pm_core.proofs.MailLaw.{load_mails}
 use Rattle.pm_core.proofs.PendingLaw.{RequestLaws, none_named}
 use Rattle.pm_core.proofs.RowLaws.{RowLaws}
 
@@ -188,8 +190,8 @@ nobody_up object t (Some p) is q nobody =
     boot_down (length t.procs) p q (λ same. unowned (owner_at object t p) (rw (← same) nobody) boot.own)
 
 -- the book at load
-pub load_sound : RowLaws → ModeLaws → RequestLaws → (object : Object) (topology : Topology) → IsSound (load_of object topology)
-load_sound rows modes requests object topology =
+pub load_sound : RowLaws → ModeLaws → RequestLaws → OrderLaws → (object : Object) (topology : Topology) → IsSound (load_of object topology)
+load_sound rows modes requests orders object topology =
     let masters : ℕ = length object.masters in
     let boot = boot_master object topology in
     record {
@@ -204,4 +206,5 @@ load_sound rows modes requests object topology =
       };
       armed = load_arms (record { object = object; topology = topology }) (pairs_of object topology);
       pending = none_named requests (record { object = object; topology = topology });
+      mail = load_mails orders topology masters;
     }

@@ -1,5 +1,5 @@
 -- What is told in a step keeps what is pending sound: the node of each request names the master that is asked.
-use Rattle.std.proofs.Common.{◌≡◌, ◌≢◌, ℕ, ◌<◌, ◌+◌, Bool, true, false, if◌then◌else◌, List, [], ◌∷◌, ◌++◌, length, map, Option, Some, None, refl, sym, ◌∙◌, ap, subst, arith, inl, inr, zero, suc, append_assoc}
+use Rattle.std.proofs.Common.{◌≡◌, ◌≢◌, ℕ, ◌<◌, ◌+◌, Bool, true, false, if◌then◌else◌, List, [], ◌∷◌, ◌++◌, length, map, Option, Some, None, refl, sym, ◌∙◌, ap, subst, arith, inl, inr, zero, suc}
 use Rattle.std.specs.Prelude.{⊤, option_map, option_and_then, slice_get, unwrap_or}
 use Rattle.std.specs.List.{AllByRecursion as Each}
 use Rattle.std.proofs.lemmas.Bool.{cases_eq}
@@ -7,25 +7,40 @@ use Rattle.pm_base.specs.declared.names.NodeId.{NodeId}
 use Rattle.pm_base.specs.declared.events.Event.{Event}
 use Rattle.pm_base.specs.declared.events.Event.TheVariants.{Ipi}
 use Rattle.pm_base.specs.declared.events.Message.{Message}
-use Rattle.pm_ipi.specs.Calls.{call_of}
+use Rattle.pm_base.specs.declared.names.Mode.{Mode}
+use Rattle.pm_base.specs.declared.names.Mode.TheVariants.{Off, Active, Asleep, Suspending}
+use Rattle.pm_ipi.specs.Calls.{ack_of, call_of, node_of}
+use Rattle.pm_notify.specs.declared.notes.Waiting.{Waiting}
+use Rattle.pm_notify.specs.Mailbox.{Mail}
+use Rattle.pm_notify.specs.Notify.{mail_of}
+use Rattle.pm_object.specs.declared.object.MasterRec.{MasterRec}
 use Rattle.pm_ipi.specs.declared.calls.Call.{Call}
 use Rattle.pm_ipi.specs.declared.calls.Call.TheVariants.{RequestSuspend}
 use Rattle.pm_procs.specs.declared.pending.Pending.{Pending}
-use Rattle.pm_procs.specs.Modes.{is_awake}
+use Rattle.pm_procs.specs.Modes.{is_awake, same_mode}
 use Rattle.pm_procs.specs.Pending.{all_lowered, asked, ended, lowered, none_pending, pending_at}
 use Rattle.pm_core.specs.declared.ended.Ended.{Ended}
+use Rattle.pm_core.specs.declared.ended.Turns.{Turns}
 use Rattle.pm_core.specs.declared.judgement.Asked.{Asked}
+use Rattle.pm_core.specs.declared.judgement.Notifier.{Notifier}
+use Rattle.pm_core.specs.declared.step.Heard.{Heard}
+use Rattle.pm_core.specs.declared.step.Heard.TheVariants.{Nothing, Dropped, Served}
 use Rattle.pm_core.specs.declared.views.Suspendable.{Suspendable}
 use Rattle.pm_core.specs.calls.RequestSuspend.{asked_of, request_suspend_checks}
+use Rattle.pm_core.specs.Callbacks.{News, mailed, mails, mails_from, notes_to, told_at_wake}
+use Rattle.pm_core.specs.Ended.{turns_along}
+use Rattle.pm_core.specs.Heard.{kept_at, kept_of, own_note}
 use Rattle.pm_core.specs.Members.{mode_of_master}
 use Rattle.pm_core.specs.Outcome.{Check, Deed, Outcome, judged}
 use Rattle.pm_core.specs.Sound.{AreNamed}
-use Rattle.pm_core.specs.State.{Fixed, State, TalkHalf}
-use Rattle.pm_core.specs.Step.{asks, asks_of, called, heard_at, talk, time_of, tried_by}
+use Rattle.pm_core.specs.State.{Fixed, State, TalkHalf, in_force}
+use Rattle.pm_core.specs.Stages.{after_stages}
+use Rattle.pm_core.specs.Step.{asks, asks_of, called, heard_at, heard_of, mail_after, modes_in, news, opening, path, registers, stages, talk, time_of, tried_by}
 use Rattle.pm_core.specs.Step as step
-use Rattle.pm_core.specs.Talk.{Talk, Ask, Lower, End, ask_of, ends, lower_by, talks}
+use Rattle.pm_core.specs.Talk.{Talk, Ask, Lower, End, Forget, Notify, Take, Wait, apply_talk, ask_of, ends, forget_at, forgets_from, lower_by, notify_by, take_of, talks, wait_of}
 use Rattle.pm_core.specs.Values.{master_place}
 use Rattle.pm_core.specs.Views.{can_suspend, named_master, suspendable, suspendable_at, suspend_view}
+use Rattle.pm_core.proofs.Each.{Each-append}
 
 -- the laws of what is pending on the masters
 pub record RequestLaws : Type 0 where
@@ -60,6 +75,10 @@ abbrev pub NamesTarget : Fixed → Talk → Type 0
 NamesTarget fixed (Ask m request) = named_master fixed request.node ≡ Some m
 NamesTarget fixed (Lower count) = ⊤
 NamesTarget fixed (End m) = ⊤
+NamesTarget fixed (Forget m) = ⊤
+NamesTarget fixed (Notify m node event on) = ⊤
+NamesTarget fixed (Take m node note) = ⊤
+NamesTarget fixed (Wait m node note) = ⊤
 
 one_request : {X : Type 0} (x y : X) → Some x ≡ Some y → x ≡ y
 one_request x y is = cc
@@ -111,6 +130,14 @@ talk_keeps laws fixed (Lower count ∷ changes) half names named =
     talk_keeps laws fixed changes (record half { pending = all_lowered count half.pending }) names.1 (lower_keeps laws fixed count half.pending named)
 talk_keeps laws fixed (End m ∷ changes) half names named =
     talk_keeps laws fixed changes (record half { pending = ended m half.pending }) names.1 (end_keeps laws fixed m half.pending named)
+talk_keeps laws fixed (Forget m ∷ changes) half names named =
+    talk_keeps laws fixed changes (apply_talk (Forget m) half) names.1 named
+talk_keeps laws fixed (Notify m node event on ∷ changes) half names named =
+    talk_keeps laws fixed changes (apply_talk (Notify m node event on) half) names.1 named
+talk_keeps laws fixed (Take m node note ∷ changes) half names named =
+    talk_keeps laws fixed changes (apply_talk (Take m node note) half) names.1 named
+talk_keeps laws fixed (Wait m node note ∷ changes) half names named =
+    talk_keeps laws fixed changes (apply_talk (Wait m node note) half) names.1 named
 
 -- ---- who is asked in a step
 
@@ -163,10 +190,79 @@ ends_name : (fixed : Fixed) (ended : List Ended) → Each (NamesTarget fixed) (e
 ends_name fixed [] = tt
 ends_name fixed (e ∷ ended) = (tt, ends_name fixed ended)
 
+-- ---- what else is told asks nobody
+
+notify_names : (fixed : Fixed) (registers : Option Notifier) → Each (NamesTarget fixed) (notify_by registers)
+notify_names fixed None = tt
+notify_names fixed (Some put) = (tt, tt)
+
+forget_names : (fixed : Fixed) (m : ℕ) (off : Bool) → Each (NamesTarget fixed) (if off then Forget m ∷ [] else [])
+forget_names fixed m true = (tt, tt)
+forget_names fixed m false = tt
+
+forgets_name : (fixed : Fixed) (turns : ℕ → Turns) (m : ℕ) (masters : List MasterRec) → Each (NamesTarget fixed) (forgets_from turns m masters)
+forgets_name fixed turns m [] = tt
+forgets_name fixed turns m (master ∷ masters) =
+    Each-append (NamesTarget fixed) (forget_at (turns m) m) (forgets_from turns (m + 1) masters)
+    (forget_names fixed m (turns m).off) (forgets_name fixed turns (m + 1) masters)
+
+waits_name : (fixed : Fixed) (k : ℕ) (notes : List Waiting) → Each (NamesTarget fixed) (map (wait_of k) notes)
+waits_name fixed k [] = tt
+waits_name fixed k (w ∷ notes) = (tt, waits_name fixed k notes)
+
+takes_name : (fixed : Fixed) (k : ℕ) (notes : List Waiting) → Each (NamesTarget fixed) (map (take_of k) notes)
+takes_name fixed k [] = tt
+takes_name fixed k (w ∷ notes) = (tt, takes_name fixed k notes)
+
+mailed_names : (fixed : Fixed) (news : News) (k : ℕ) (was is : Mode) (mail : Mail) → Each (NamesTarget fixed) (mailed news k was is mail)
+mailed_names fixed news k was Off mail = tt
+mailed_names fixed news k was Active mail = takes_name fixed k (told_at_wake was Active mail)
+mailed_names fixed news k was Asleep mail = waits_name fixed k (notes_to news k mail)
+mailed_names fixed news k was Suspending mail = takes_name fixed k (told_at_wake was Suspending mail)
+
+mails_name : (fixed : Fixed) (news : News) (was : ℕ → Mode) (mail : List Mail) (after : State) (k : ℕ) (masters : List MasterRec) → Each (NamesTarget fixed) (mails_from news was mail after k masters)
+mails_name fixed news was mail after k [] = tt
+mails_name fixed news was mail after k (master ∷ masters) =
+    Each-append (NamesTarget fixed) (mailed news k (was k) (mode_of_master after.fixed after.now.core k) (mail_of k mail)) (mails_from news was mail after (k + 1) masters)
+    (mailed_names fixed news k (was k) (mode_of_master after.fixed after.now.core k) (mail_of k mail))
+    (mails_name fixed news was mail after (k + 1) masters)
+
+kept_if : (fixed : Fixed) (m : ℕ) (asleep : Bool) (notes : List Waiting) → Each (NamesTarget fixed) (if asleep then map (wait_of m) notes else [])
+kept_if fixed m true notes = waits_name fixed m notes
+kept_if fixed m false notes = tt
+
+kept_at_names : (fixed : Fixed) (place : Option ℕ) (notes : List Waiting) (after : State) → Each (NamesTarget fixed) (kept_at place notes after)
+kept_at_names fixed None notes after = tt
+kept_at_names fixed (Some m) notes after = kept_if fixed m (same_mode (mode_of_master after.fixed after.now.core m) Asleep) notes
+
+kept_names : (fixed : Fixed) (heard : Heard) (after : State) → Each (NamesTarget fixed) (kept_of heard after)
+kept_names fixed Nothing after = tt
+kept_names fixed (Dropped master) after = tt
+kept_names fixed (Served master call judgement) after =
+    kept_at_names fixed (master_place master after) (own_note judgement.asks (ack_of call) (node_of call) judgement.response.status) after
+
+-- ---- the whole step
+
+opening_named : (event : Event) (book : State) → Each (NamesTarget book.fixed) (opening event book)
+opening_named event book =
+    let fixed : Fixed = book.fixed in
+    let rest : List Talk = lower_by (time_of event) ++ ends (step.ended event book) in
+    Each-append (NamesTarget fixed) (step.forgets event book) (notify_by (registers event book) ++ (ask_of (asks event book) ++ rest))
+    (forgets_name fixed (turns_along book (path event book)) 0 (in_force book).masters)
+    (Each-append (NamesTarget fixed) (notify_by (registers event book)) (ask_of (asks event book) ++ rest)
+    (notify_names fixed (registers event book))
+    (ask_names fixed (asks event book) (asks_named event book) rest
+    (lower_names fixed (time_of event) (ends (step.ended event book)) (ends_name fixed (step.ended event book)))))
+
 -- what is told in a step asks only a master that is named
 pub talk_named : (event : Event) (book : State) → Each (NamesTarget book.fixed) (talk event book)
 talk_named event book =
-    let rest : List Talk = lower_by (time_of event) ++ ends (step.ended event book) in
-    subst (λ changes. Each (NamesTarget book.fixed) changes) (sym (append_assoc (ask_of (asks event book)) (lower_by (time_of event)) (ends (step.ended event book))))
-    (ask_names book.fixed (asks event book) (asks_named event book) rest
-    (lower_names book.fixed (time_of event) (ends (step.ended event book)) (ends_name book.fixed (step.ended event book))))
+    let fixed : Fixed = book.fixed in
+    let after : State = after_stages (stages event book) book in
+    let mail : List Mail = mail_after (opening event book) after in
+    let told : List Talk = mails (news event book) (modes_in book) mail after in
+    Each-append (NamesTarget fixed) (opening event book) (told ++ kept_of (heard_of event book) after)
+    (opening_named event book)
+    (Each-append (NamesTarget fixed) told (kept_of (heard_of event book) after)
+    (mails_name fixed (news event book) (modes_in book) mail after 0 (in_force after).masters)
+    (kept_names fixed (heard_of event book) after))

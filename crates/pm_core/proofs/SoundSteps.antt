@@ -13,6 +13,7 @@ use Rattle.pm_ipi.specs.declared.calls.Call.{Call}
 use Rattle.pm_ipi.specs.declared.calls.Call.TheVariants.{SelfSuspend, AbortSuspend, RequestWakeup, SetWakeupSource, RequestNode, ReleaseNode, SetRequirement, SetMaxLatency, InitFinalize, Unknown as Other}
 use Rattle.pm_ipi.specs.Calls.{call_of, ack_kind}
 use Rattle.pm_ipi.specs.Status.{invalid_parameter, invalid_node, no_access, no_feature, double_request}
+use Rattle.pm_notify.specs.Laws.{OrderLaws}
 use Rattle.pm_object.specs.declared.object.MasterRec.{MasterRec}
 use Rattle.pm_procs.specs.declared.procs.Proc.{Proc as Processor}
 use Rattle.pm_procs.specs.Modes.{is_awake}
@@ -57,6 +58,7 @@ use Rattle.pm_base.specs.declared.names.NodeId.{NodeId}
 use Rattle.pm_core.proofs.ArmedLaw.{MayArm, arming_may}
 use Rattle.pm_core.proofs.Judged.{judged_either, passes, must_passes, free_passes}
 use Rattle.pm_core.proofs.RowLaws.{RowLaws}
+use Rattle.pm_core.proofs.MailLaw.{talk_mails}
 use Rattle.pm_core.proofs.PendingLaw.{RequestLaws, talk_keeps, talk_named}
 use Rattle.pm_core.proofs.StageLaw.{row, settle, put, stage_keeps, empty_keeps}
 use Rattle.pm_core.proofs.WakeSound.{raised_keeps, interrupt_keeps, request_keeps}
@@ -266,9 +268,9 @@ stages_keep laws (Irq slave) book sound = raised_keeps laws (kind_of book.fixed.
 stages_keep laws (Gic proc) book sound = interrupt_keeps laws (kind_of book.fixed.topology proc) book sound
 stages_keep laws _ book sound = sound
 
--- each step keeps the book sound: what is told after its stages changes nothing but what is pending
-pub effect_sound : RowLaws → RequestLaws → (event : Event) (book : State) → IsSound book → IsSound (effect event book)
-effect_sound laws requests event book sound =
+-- each step keeps the book sound: what is told after its stages changes nothing but what is pending and the mail
+pub effect_sound : RowLaws → RequestLaws → OrderLaws → (event : Event) (book : State) → IsSound book → IsSound (effect event book)
+effect_sound laws requests orders event book sound =
     let after : IsSound (after_stages (stages event book) book) = stages_keep laws event book sound in
     record {
       rows = after.rows;
@@ -276,6 +278,7 @@ effect_sound laws requests event book sound =
       procs = record { each = after.procs.each; nobodys = after.procs.nobodys };
       armed = after.armed;
       pending = talk_keeps requests book.fixed (talk event book) (after_stages (stages event book) book).now.talk (talk_named event book) after.pending;
+      mail = talk_mails orders book.fixed.topology (length (in_force book).masters) (talk event book) (after_stages (stages event book) book).now.talk after.mail;
     }
 
 -- what holds in every book is kept by each step

@@ -18,7 +18,7 @@ use Rattle.pm_rows.specs.Sound.{IsFit}
 use Rattle.pm_core.specs.Members.{mode_of_master, owner_at, owns, is_place}
 use Rattle.pm_core.specs.Pairs.{pairs_of}
 use Rattle.pm_core.specs.Prims.{Prim, At_row, Settle, Put_proc, Shift, applies, changed, proc_put}
-use Rattle.pm_core.specs.Sound.{AreNamed, ArmsOwn, HasProcs, HasSoundRows, IsSound}
+use Rattle.pm_core.specs.Sound.{AreMails, AreNamed, ArmsOwn, HasProcs, HasSoundRows, IsSound}
 use Rattle.pm_core.specs.Stages.{after_stage, follow_at, follow_from, followed}
 use Rattle.pm_core.specs.State.{Fixed, Now, State, in_force}
 use Rattle.pm_core.proofs.ArmedLaw.{MayArm, change_arms, settle_arms, shift_arms}
@@ -33,9 +33,10 @@ pub record IsWithin (fixed : Fixed) (now : Now) : Type 0 where
   pub procs : HasProcs (record { fixed = fixed; now = now })
   pub armed : ArmsOwn (record { fixed = fixed; now = now })
   pub pending : AreNamed fixed now.talk.pending
+  pub mail : AreMails fixed.topology (length fixed.object.masters) now.talk.mail
 
 pub within : (book : State) → IsSound book → IsWithin book.fixed book.now
-within book sound = record { rows = sound.rows; each = sound.knows.each; procs = sound.procs; armed = sound.armed; pending = sound.pending }
+within book sound = record { rows = sound.rows; each = sound.knows.each; procs = sound.procs; armed = sound.armed; pending = sound.pending; mail = sound.mail }
 
 -- ---- the rows follow
 
@@ -74,6 +75,7 @@ follows_by laws fixed now m to false is there of = record {
     procs = record { each = of.procs.each; nobodys = of.procs.nobodys };
     armed = shift_arms laws fixed m (mode_of m now.core.rows) to now.core.rows.entries of.armed;
     pending = of.pending;
+    mail = of.mail;
   };
   knows = own_mode now.core.rows.known m to (omega (arith, there, of.each));
 }
@@ -105,7 +107,7 @@ knows_more fixed now next m k is before here procs below =
 -- all masters from place m on follow
 follow_keeps : RowLaws → (fixed : Fixed) (m : ℕ) (masters : List MasterRec) (now : Now) → m + length masters ≡ length fixed.object.masters → IsWithin fixed now → KnowsBefore m fixed now → IsSound (record { fixed = fixed; now = applies fixed (follow_from fixed now.core m masters) now })
 follow_keeps laws fixed m [] now count of before =
-    record { rows = of.rows; knows = record { each = of.each; right = λ k there. before k (omega (arith, count, there)) }; procs = of.procs; armed = of.armed; pending = of.pending }
+    record { rows = of.rows; knows = record { each = of.each; right = λ k there. before k (omega (arith, count, there)) }; procs = of.procs; armed = of.armed; pending = of.pending; mail = of.mail }
 follow_keeps laws fixed m (x ∷ xs) now count of before =
     let first = follow_at fixed now.core m in
     let next : Now = applies fixed first now in
@@ -157,6 +159,7 @@ put_keeps fixed now m p mode address true is of = record {
   };
   armed = of.armed;
   pending = of.pending;
+  mail = of.mail;
 }
 
 pub change_within : RowLaws → (book : State) (prim : Prim) → IsSound book → Fits book prim → IsWithin book.fixed (changed (prim ∷ []) book).now
@@ -166,6 +169,7 @@ change_within laws book _ sound (row m s by entry found fit may) = record {
   each = sound.knows.each;
   procs = record { each = sound.procs.each; nobodys = sound.procs.nobodys };
   pending = sound.pending;
+  mail = sound.mail;
 }
 change_within laws book _ sound (settle m) = record {
   armed = settle_arms book.fixed m book.now.core.rows.entries sound.armed;
@@ -173,6 +177,7 @@ change_within laws book _ sound (settle m) = record {
   each = sound.knows.each;
   procs = record { each = sound.procs.each; nobodys = sound.procs.nobodys };
   pending = sound.pending;
+  mail = sound.mail;
 }
 change_within laws book _ sound (put m p mode address) =
     put_keeps book.fixed book.now m p mode address (owns book.fixed.object book.fixed.topology m p) refl (within book sound)

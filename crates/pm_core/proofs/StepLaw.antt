@@ -10,7 +10,7 @@ use Rattle.pm_base.specs.declared.events.Event.TheVariants.{Ipi, Boot, Wfi, Irq,
 use Rattle.pm_base.specs.declared.events.Message.{Message}
 use Rattle.pm_ipi.specs.Calls.{call_of}
 use Rattle.pm_ipi.specs.declared.calls.Call.{Call}
-use Rattle.pm_ipi.specs.declared.calls.Call.TheVariants.{GetApiVersion, GetNodeStatus, RequestSuspend, SelfSuspend, AbortSuspend, RequestWakeup, SetWakeupSource, RequestNode, ReleaseNode, SetRequirement, SetMaxLatency, InitFinalize, Unknown}
+use Rattle.pm_ipi.specs.declared.calls.Call.TheVariants.{GetApiVersion, GetNodeStatus, RegisterNotifier, RequestSuspend, SelfSuspend, AbortSuspend, RequestWakeup, SetWakeupSource, RequestNode, ReleaseNode, SetRequirement, SetMaxLatency, InitFinalize, Unknown}
 use Rattle.pm_topology.specs.declared.places.Kind.{Kind}
 use Rattle.pm_topology.specs.declared.places.Kind.TheVariants.{Proc, Slave, Power, Unknown as NoNode}
 use Rattle.pm_topology.specs.Places.{kind_of}
@@ -46,6 +46,7 @@ judged_once (Some response ∷ checks) deed once = tt
 deed_once : (m : ℕ) (call : Call) (book : State) → HasOneAtMost (tried_by m call book).deed.stages
 deed_once m GetApiVersion book = tt
 deed_once m (GetNodeStatus node) book = tt
+deed_once m (RegisterNotifier node event wake enable) book = tt
 deed_once m (RequestSuspend node ack latency state) book = tt
 deed_once m (SelfSuspend node address) book = refl
 deed_once m (AbortSuspend node reason) book = refl

@@ -1,7 +1,8 @@
 -- What a book keeps of its values, so that they needn't be found again. Each of it is a function of the book.
-use Rattle.std.specs.Prelude.{◌≡◌, ℕ, ◌==◌, ◌&&◌, Bool, false, cond, if◌then◌else◌, List, [], ◌∷◌, ◌++◌, map, length, slice_get, unwrap_or, Option, Some, None}
+use Rattle.std.specs.Prelude.{◌≡◌, ℕ, ◌==◌, ◌&&◌, Bool, false, not, cond, if◌then◌else◌, List, [], ◌∷◌, ◌++◌, map, length, slice_get, unwrap_or, Option, Some, None}
 use Rattle.pm_base.specs.declared.names.Unit.{Unit}
 use Rattle.pm_base.specs.declared.names.Unit.TheVariants.{Node, Line}
+use Rattle.pm_topology.specs.declared.topology.SlaveDef.{SlaveDef}
 use Rattle.pm_topology.specs.declared.topology.Topology.{Topology}
 use Rattle.pm_topology.specs.declared.places.Kind.{Kind}
 use Rattle.pm_topology.specs.declared.places.Kind.TheVariants.{Proc, Slave, Power, Unknown}
@@ -16,7 +17,10 @@ use Rattle.pm_procs.specs.Modes.{is_awake, same_mode}
 use Rattle.pm_procs.specs.Procs.{mode_at, proc_at}
 use Rattle.pm_core.specs.declared.caches.Caches.{Caches}
 use Rattle.pm_core.specs.declared.outbox.Start.{Start}
-use Rattle.pm_core.specs.State.{State}
+use Rattle.pm_notify.specs.declared.notes.Waiting.{Waiting}
+use Rattle.pm_rows.specs.Rows.{Rows}
+use Rattle.pm_core.specs.Notifications.{is_used, notes_about, used_at}
+use Rattle.pm_core.specs.State.{CoreHalf, State}
 use Rattle.pm_core.specs.Units.{units}
 use Rattle.pm_core.specs.Values.{placed, chosen, need_of, run_of, forest, value}
 
@@ -69,6 +73,33 @@ starts_by procs [] entries = []
 starts_by procs (kind ∷ kinds) [] = []
 starts_by procs (kind ∷ kinds) (e ∷ entries) = started_at procs kind (Some e) ++ starts_by procs kinds entries
 
+-- a node of this kind is a slave that was used, by what is kept of each slave
+abbrev pub used_kept : List Bool → Kind → Bool
+used_kept used (Slave s) = unwrap_or (slice_get used s) false
+used_kept used (Proc p) = false
+used_kept used (Power w) = false
+used_kept used Unknown = false
+
+-- a node of this kind was used, and by these rows is used no more
+abbrev pub freed_by : List Bool → Rows → Kind → Bool
+freed_by used rows kind = used_kept used kind && not (used_at kind rows)
+
+-- what happened to the unit of an entry, by its value before
+abbrev pub noticed_at : ℕ → Bool → Option (Unit × ℕ) → List Waiting
+noticed_at value freed None = []
+noticed_at value freed (Some e) = notes_about (not (e.1 == value)) freed e.0
+
+-- what happened to the units of a table
+abbrev pub noticed_by : (Kind → ℕ) → (Kind → Bool) → List Kind → List (Unit × ℕ) → List Waiting
+noticed_by new freed [] entries = []
+noticed_by new freed (kind ∷ kinds) [] = []
+noticed_by new freed (kind ∷ kinds) (e ∷ entries) =
+    noticed_at (new kind) (freed kind) (Some e) ++ noticed_by new freed kinds entries
+
+-- whether each slave is used, beside its entry in the table
+abbrev pub use_of : CoreHalf → ℕ → SlaveDef → Bool
+use_of core s slave = is_used s core.rows
+
 -- each unit with its value
 abbrev pub valued : State → List (Unit × ℕ)
 valued book = map (λ u. (u, value u book)) (units book)
@@ -87,6 +118,7 @@ pub record HasPlaces (t : Topology) (caches : Caches) : Type 0 where
   pub states : length caches.states.items ≡ length t.slaves
   pub needs : length caches.needs.items ≡ length t.slaves
   pub runs : length caches.runs.items ≡ length t.procs
+  pub used : length caches.used.items ≡ length t.slaves
   pub powers : caches.power.powers ≡ t.powers
   pub children : map idle caches.power.children ≡ children_of t (λ _. false)
   pub units : units_in caches.values ≡ units_of t
@@ -97,5 +129,6 @@ pub record AreKept (book : State) (caches : Caches) : Type 0 where
   pub states : caches.states.items ≡ placed (chosen book.now.core) 0 book.fixed.topology.slaves
   pub needs : caches.needs.items ≡ placed (need_of book.now.core) 0 book.fixed.topology.slaves
   pub runs : caches.runs.items ≡ placed (run_of book.now.core) 0 book.fixed.topology.procs
+  pub used : caches.used.items ≡ placed (use_of book.now.core) 0 book.fixed.topology.slaves
   pub power : caches.power ≡ forest book.fixed book.now.core
   pub values : caches.values ≡ valued book

@@ -1,17 +1,28 @@
--- What masters other than the caller are told in a step: late replies, and callbacks.
-use Rattle.std.specs.Prelude.{ℕ, ◌+◌, ◌==◌, List, [], ◌∷◌, ◌++◌, flat_map, Option, Some, None, if◌then◌else◌}
+-- What masters are told in a step: late replies, callbacks, and notes that wait for those that are asleep.
+use Rattle.std.specs.Prelude.{ℕ, ◌+◌, ◌==◌, ◌&&◌, Bool, false, List, [], ◌∷◌, ◌++◌, flat_map, map, Option, Some, None, if◌then◌else◌}
+use Rattle.pm_base.specs.declared.names.Mode.{Mode}
+use Rattle.pm_base.specs.declared.names.Mode.TheVariants.{Off, Active, Asleep, Suspending}
 use Rattle.pm_base.specs.declared.names.NodeId.{NodeId}
 use Rattle.pm_object.specs.declared.object.MasterRec.{MasterRec}
 use Rattle.pm_ipi.specs.Callbacks as ipi
 use Rattle.pm_ipi.specs.declared.calls.AckKind.{AckKind}
 use Rattle.pm_ipi.specs.declared.calls.AckKind.TheVariants.{No, Blocking, NonBlocking}
-use Rattle.pm_procs.specs.Modes.{is_awake}
+use Rattle.pm_notify.specs.declared.notes.NodeEvent.{NodeEvent}
+use Rattle.pm_notify.specs.declared.notes.NodeEvent.TheVariants as event
+use Rattle.pm_notify.specs.declared.notes.Note.{Note}
+use Rattle.pm_notify.specs.declared.notes.Note.TheVariants.{Ack, Change, ZeroUsers}
+use Rattle.pm_notify.specs.declared.notes.Waiting.{Waiting}
+use Rattle.pm_notify.specs.Mailbox.{Mail, asks_about, waiting_in}
+use Rattle.pm_notify.specs.Notes.{event_number}
+use Rattle.pm_notify.specs.Notify.{mail_of}
+use Rattle.pm_procs.specs.Modes.{is_awake, same_mode}
 use Rattle.pm_core.specs.declared.outbox.Callback.{Callback}
 use Rattle.pm_core.specs.declared.outbox.Late.{Late}
 use Rattle.pm_core.specs.declared.judgement.Asked.{Asked}
 use Rattle.pm_core.specs.declared.ended.Ended.{Ended}
 use Rattle.pm_core.specs.Members.{mode_of_master}
 use Rattle.pm_core.specs.State.{State, in_force}
+use Rattle.pm_core.specs.Talk.{Talk, take_of, wait_of}
 use Rattle.pm_core.specs.Values.{point}
 use Rattle.pm_core.specs.Views.{master_node}
 
@@ -28,45 +39,122 @@ late_of after ended = late_by ended.request.ack (master_node (in_force after).ma
 abbrev pub late_replies : List Ended → State → List Late
 late_replies ended after = flat_map (late_of after) ended
 
+-- ---- what there is to tell
+
+-- what a step has to tell: which master is asked to suspend, which requests ended, and what happened to nodes
+pub record News : Type 0 where
+  pub asked : Option Asked
+  pub ended : List Ended
+  pub notices : List Waiting
+
+-- the acknowledgement of a request that ended, where the master that asked wants one: a note about the node of the request
+abbrev pub acknowledged_by : AckKind → Ended → List Waiting
+acknowledged_by No ended = []
+acknowledged_by Blocking ended = []
+acknowledged_by NonBlocking ended = record { node = ended.request.node; note = Ack ended.status } ∷ []
+
+-- the same for the master at place k, where that asked
+abbrev pub acknowledged_to : ℕ → Ended → List Waiting
+acknowledged_to k ended = if ended.request.by == k then acknowledged_by ended.request.ack ended else []
+
+-- a master whose mail this is has asked to be told this of a node
+abbrev pub is_wanted : Mail → Waiting → Note → Bool
+is_wanted mail notice (Ack status) = false
+is_wanted mail notice Change = asks_about notice.node event.Change mail
+is_wanted mail notice ZeroUsers = asks_about notice.node event.ZeroUsers mail
+
+abbrev pub noticed_by : Mail → Waiting → List Waiting
+noticed_by mail notice = if is_wanted mail notice notice.note then notice ∷ [] else []
+
+-- the notes to the master at place k, whose mail this is: how its requests ended, in object order of the targets, and then
+-- what happened to nodes of which it asked to be told
+abbrev pub notes_to : News → ℕ → Mail → List Waiting
+notes_to news k mail = flat_map (acknowledged_to k) news.ended ++ flat_map (noticed_by mail) news.notices
+
+-- ---- the callbacks
+
 -- INIT_SUSPEND_CB (UG1200, callback 30): a master is asked to suspend since another one requests it
 abbrev pub init_suspend : NodeId → Asked → Callback
 init_suspend master asked =
     record { master = master; id = ipi.init_suspend; args = ipi.reason_master ∷ asked.latency ∷ asked.state ∷ asked.timeout ∷ [] }
-
--- ACKNOWLEDGE_CB (UG1200, callback 31): the node of the request, how it ended, and the operating point of the node now
-abbrev pub acknowledgement : NodeId → State → Ended → Callback
-acknowledgement master after ended =
-    record { master = master; id = ipi.acknowledge; args = ended.request.node.0 ∷ ended.status ∷ point ended.request.node after ∷ 0 ∷ [] }
 
 -- the callback that asks the master at place k
 abbrev pub asks_to : ℕ → NodeId → Option Asked → List Callback
 asks_to k master None = []
 asks_to k master (Some asked) = if asked.target == k then init_suspend master asked ∷ [] else []
 
-abbrev pub acknowledges_by : AckKind → NodeId → State → Ended → List Callback
-acknowledges_by No master after ended = []
-acknowledges_by Blocking master after ended = []
-acknowledges_by NonBlocking master after ended = acknowledgement master after ended ∷ []
+-- ACKNOWLEDGE_CB (UG1200, callback 31): the node, the status, and the operating point of the node
+abbrev pub acknowledgement : NodeId → NodeId → ℕ → ℕ → Callback
+acknowledgement master node status now =
+    record { master = master; id = ipi.acknowledge; args = node.0 ∷ status ∷ now ∷ 0 ∷ [] }
 
--- the callback for a request that ended, where the master at place k asked and wants one
-abbrev pub acknowledges_to : ℕ → NodeId → State → Ended → List Callback
-acknowledges_to k master after ended =
-    if ended.request.by == k then acknowledges_by ended.request.ack master after ended else []
+-- NOTIFY_CB (UG1200, callback 32): the node, the event, and the operating point of the node
+abbrev pub notification : NodeId → NodeId → NodeEvent → ℕ → Callback
+notification master node event now =
+    record { master = master; id = ipi.notify; args = node.0 ∷ event_number event ∷ now ∷ 0 ∷ [] }
 
--- what the master at place k is told: first that it is asked to suspend, then how its requests ended, in object order of the targets
-abbrev pub told_to : Option Asked → List Ended → State → ℕ → NodeId → List Callback
-told_to asked ended after k master = asks_to k master asked ++ flat_map (acknowledges_to k master after) ended
+-- a note as a callback, with the operating point of its node
+abbrev pub callback_by : NodeId → NodeId → ℕ → Note → Callback
+callback_by master node now (Ack status) = acknowledgement master node status now
+callback_by master node now Change = notification master node event.Change now
+callback_by master node now ZeroUsers = notification master node event.ZeroUsers now
+
+-- the same in the book after the step
+abbrev pub callback_of : NodeId → State → Waiting → Callback
+callback_of master after waiting = callback_by master waiting.node (point waiting.node after) waiting.note
+
+-- ---- one master
+
+-- a master that was in one mode before the step and is in another after it wakes in it: it was asleep, and is active or
+-- suspending
+abbrev pub wakes : (was is : Mode) → Bool
+wakes was is = same_mode was Asleep && is_awake is
+
+-- all that waits in this mail is told to a master that wakes
+abbrev pub told_if : (woken : Bool) → Mail → List Waiting
+told_if woken mail = if woken then waiting_in mail else []
+
+abbrev pub told_at_wake : (was is : Mode) → Mail → List Waiting
+told_at_wake was is mail = told_if (wakes was is) mail
+
+-- what the master at place k is told, whose mail this is: what waited, that it is asked to suspend, and the notes to it
+abbrev pub told_to : News → ℕ → NodeId → (was is : Mode) → Mail → State → List Callback
+told_to news k master was is mail after =
+    map (callback_of master after) (told_at_wake was is mail)
+    ++ (asks_to k master news.asked ++ map (callback_of master after) (notes_to news k mail))
 
 -- only a master that is active or suspending after the step is told
-abbrev pub called_back : Option Asked → List Ended → State → ℕ → NodeId → List Callback
-called_back asked ended after k master =
-    if is_awake (mode_of_master after.fixed after.now.core k) then told_to asked ended after k master else []
+abbrev pub called_back : News → ℕ → NodeId → (was is : Mode) → Mail → State → List Callback
+called_back news k master was is mail after = if is_awake is then told_to news k master was is mail after else []
 
--- the callbacks to these masters, in object order; the first of them has place k
-abbrev pub callbacks_from : Option Asked → List Ended → State → ℕ → List MasterRec → List Callback
-callbacks_from asked ended after k [] = []
-callbacks_from asked ended after k (master ∷ masters) =
-    called_back asked ended after k (record { 0 = master.node }) ++ callbacks_from asked ended after (k + 1) masters
+-- what this does to its mail: what waited is taken out by a master that wakes, the notes to one that is asleep wait, and those to
+-- one that is off are lost
+abbrev pub mailed : News → ℕ → (was is : Mode) → Mail → List Talk
+mailed news k was Off mail = []
+mailed news k was Active mail = map (take_of k) (told_at_wake was Active mail)
+mailed news k was Asleep mail = map (wait_of k) (notes_to news k mail)
+mailed news k was Suspending mail = map (take_of k) (told_at_wake was Suspending mail)
 
-abbrev pub callbacks : Option Asked → List Ended → State → List Callback
-callbacks asked ended after = callbacks_from asked ended after 0 (in_force after).masters
+-- ---- all masters
+
+-- the callbacks to these masters, in object order, by the modes before the step and by their mail; the first of them has place k
+abbrev pub callbacks_from : News → (ℕ → Mode) → List Mail → State → ℕ → List MasterRec → List Callback
+callbacks_from news was mail after k [] = []
+callbacks_from news was mail after k (master ∷ masters) =
+    called_back news k (record { 0 = master.node }) (was k) (mode_of_master after.fixed after.now.core k) (mail_of k mail) after
+    ++ callbacks_from news was mail after (k + 1) masters
+
+-- what becomes of their mail
+abbrev pub mails_from : News → (ℕ → Mode) → List Mail → State → ℕ → List MasterRec → List Talk
+mails_from news was mail after k [] = []
+mails_from news was mail after k (master ∷ masters) =
+    mailed news k (was k) (mode_of_master after.fixed after.now.core k) (mail_of k mail)
+    ++ mails_from news was mail after (k + 1) masters
+
+-- the callbacks of a step, by the modes of the masters before it, by the mail that they find, and by the book after it
+abbrev pub callbacks : News → (ℕ → Mode) → List Mail → State → List Callback
+callbacks news was mail after = callbacks_from news was mail after 0 (in_force after).masters
+
+-- what becomes of that mail
+abbrev pub mails : News → (ℕ → Mode) → List Mail → State → List Talk
+mails news was mail after = mails_from news was mail after 0 (in_force after).masters

@@ -1,7 +1,7 @@
 -- The requests to suspend that end in a step.
 use Rattle.std.specs.Prelude.{ℕ, ◌+◌, Bool, true, false, not, ◌&&◌, ◌||◌, List, [], ◌∷◌, ◌++◌, map, Option, Some, None, if◌then◌else◌}
 use Rattle.pm_base.specs.declared.names.Mode.{Mode}
-use Rattle.pm_base.specs.declared.names.Mode.TheVariants.{Active, Suspending}
+use Rattle.pm_base.specs.declared.names.Mode.TheVariants.{Off, Active, Suspending}
 use Rattle.pm_procs.specs.declared.pending.Pending.{Pending}
 use Rattle.pm_procs.specs.Modes.{is_awake, same_mode}
 use Rattle.pm_procs.specs.Pending.{is_due}
@@ -24,10 +24,15 @@ goes_down before after = not (is_awake after)
 abbrev pub goes_on : Mode → Mode → Bool
 goes_on before after = same_mode before Suspending && same_mode after Active
 
--- what becomes of the mode of a master along these modes, the first of which is this one: it becomes asleep or off, and it goes
--- on in place of suspending
+-- a master that changes so becomes off
+abbrev pub goes_off : Mode → Mode → Bool
+goes_off before after = same_mode after Off
+
+-- what becomes of the mode of a master along these modes, the first of which is this one: it becomes asleep or off, it goes on
+-- in place of suspending, and it becomes off
 abbrev pub turns_of : Mode → List Mode → Turns
-turns_of mode modes = record { down = ever goes_down mode modes; on = ever goes_on mode modes }
+turns_of mode modes =
+    record { down = ever goes_down mode modes; on = ever goes_on mode modes; off = ever goes_off mode modes }
 
 -- the modes of the master at place m in these books
 abbrev pub modes_along : ℕ → List State → List Mode

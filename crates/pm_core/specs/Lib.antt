@@ -8,6 +8,7 @@ pub mod Fed
 pub mod Heard
 pub mod Load
 pub mod Members
+pub mod Notifications
 pub mod Outbox
 pub mod Outcome
 pub mod Pairs

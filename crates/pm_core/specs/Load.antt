@@ -4,6 +4,7 @@ use Rattle.std.specs.Prelude.{ℕ, List, length, Option, Some, None}
 use Rattle.pm_object.specs.declared.object.Object.{Object}
 use Rattle.pm_topology.specs.declared.topology.Topology.{Topology}
 use Rattle.pm_base.specs.declared.names.Mode.TheVariants.{Active}
+use Rattle.pm_notify.specs.Notify.{loaded}
 use Rattle.pm_procs.specs.declared.procs.Proc.{Proc}
 use Rattle.pm_procs.specs.Pending.{none_pending}
 use Rattle.pm_procs.specs.Procs.{all_off}
@@ -27,6 +28,9 @@ load_of object topology = record {
       rows = loaded_rows (length object.masters) (boot_master object topology) (pairs_of object topology);
       procs = procs_with (boot_proc object topology) (all_off (length topology.procs));
     };
-    talk = record { pending = none_pending (length object.masters) };
+    talk = record {
+      pending = none_pending (length object.masters);
+      mail = loaded topology (length object.masters);
+    };
   };
 }

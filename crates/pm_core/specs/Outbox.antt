@@ -18,9 +18,18 @@ unit_count t = length t.slaves + length t.procs + length t.powers + length t.lin
 abbrev pub command_count : Topology → ℕ
 command_count t = unit_count t + length t.powers
 
--- how many callbacks a step makes at most: each master is asked to suspend, and hears of the end of each request
-abbrev pub callback_count : ℕ → ℕ
-callback_count masters = masters * (masters + 1)
+-- how many notifications a step makes at most: each node changes, and has no users any more
+abbrev pub notice_count : ℕ → ℕ
+notice_count units = 2 * units
+
+-- how many callbacks one master gets in a step at most: what waits about each unit, in three slots; that it is asked to suspend;
+-- how each request ended; and what happened to each node
+abbrev pub callbacks_to_one : (units masters : ℕ) → ℕ
+callbacks_to_one units masters = 3 * units + (1 + (masters + notice_count units))
+
+-- how many callbacks a step makes at most
+abbrev pub callback_count : (units masters : ℕ) → ℕ
+callback_count units masters = masters * callbacks_to_one units masters
 
 -- an outbox of a chip and so many masters: there is room for each unit to move, for the commands of a step, for each
 -- processor to start, for a late reply for each request that can be pending, and for the callbacks
@@ -29,7 +38,7 @@ pub record HasRoom (t : Topology) (masters : ℕ) (out : Outbox) : Type 0 where
   pub done : command_count t ≤ out.done.room
   pub starts : length t.procs ≤ out.starts.room
   pub late : masters ≤ out.late.room
-  pub calls : callback_count masters ≤ out.calls.room
+  pub calls : callback_count (unit_count t) masters ≤ out.calls.room
 
 -- the same for the chip and the masters of a book
 abbrev pub HasRoomFor : State → Outbox → Type 0

@@ -6,6 +6,7 @@ use Rattle.pm_ipi.specs.declared.responses.Response.{Response}
 use Rattle.pm_ipi.specs.Responses.{success, refusal, used_by}
 use Rattle.pm_core.specs.declared.judgement.Asked.{Asked}
 use Rattle.pm_core.specs.declared.judgement.Judgement.{Judgement}
+use Rattle.pm_core.specs.declared.judgement.Notifier.{Notifier}
 use Rattle.pm_core.specs.Prims.{Prim}
 
 -- what is judged of a call, and the stages of the step: each is a list of changes
@@ -15,35 +16,42 @@ pub record Outcome : Type 0 where
 
 -- a call that only answers its caller with this response
 abbrev pub answering : Response → Judgement
-answering response = record { response = response; asks = None; aborts = None }
+answering response = record { response = response; asks = None; aborts = None; registers = None }
 
 -- a refused call changes nothing
 abbrev pub refused : Response → Outcome
 refused response = record { judgement = answering response; stages = [] }
 
--- what a call does once its checks pass: the words that it tells, its stages, the master that it asks to suspend, and the
--- master that aborts its suspend
+-- what a call does once its checks pass: the words that it tells, its stages, the master that it asks to suspend, the master
+-- that aborts its suspend, and the notifier that it puts
 pub record Deed : Type 0 where
   pub words : List ℕ
   pub stages : List (List Prim)
   pub asks : Option Asked
   pub aborts : Option ℕ
+  pub registers : Option Notifier
 
 -- a call that only tells words
 abbrev pub told : List ℕ → Deed
-told words = record { words = words; stages = []; asks = None; aborts = None }
+told words = record { words = words; stages = []; asks = None; aborts = None; registers = None }
 
 -- a call that only changes the book, in one stage
 abbrev pub done : List Prim → Deed
-done changes = record { words = 0 ∷ 0 ∷ 0 ∷ []; stages = changes ∷ []; asks = None; aborts = None }
+done changes =
+    record { words = 0 ∷ 0 ∷ 0 ∷ []; stages = changes ∷ []; asks = None; aborts = None; registers = None }
 
 -- a call that asks a master to suspend, where there is one
 abbrev pub asking : Option Asked → Deed
-asking asked = record { words = 0 ∷ 0 ∷ 0 ∷ []; stages = []; asks = asked; aborts = None }
+asking asked = record { words = 0 ∷ 0 ∷ 0 ∷ []; stages = []; asks = asked; aborts = None; registers = None }
 
 -- a call by which the master at place m aborts its suspend, with these changes
 abbrev pub aborting : ℕ → List Prim → Deed
-aborting m changes = record { words = 0 ∷ 0 ∷ 0 ∷ []; stages = changes ∷ []; asks = None; aborts = Some m }
+aborting m changes =
+    record { words = 0 ∷ 0 ∷ 0 ∷ []; stages = changes ∷ []; asks = None; aborts = Some m; registers = None }
+
+-- a call that puts a notifier, where there is one
+abbrev pub registering : Option Notifier → Deed
+registering put = record { words = 0 ∷ 0 ∷ 0 ∷ []; stages = []; asks = None; aborts = None; registers = put }
 
 -- a check of a call: nothing where it passes, and else the response to the call
 abbrev pub Check : Type 0
@@ -61,7 +69,12 @@ must_be_free (Some rival) = Some (used_by rival)
 -- the first check that fails decides, and where all pass the call is done
 abbrev pub judged : List Check → Deed → Outcome
 judged [] deed = record {
-  judgement = record { response = success deed.words; asks = deed.asks; aborts = deed.aborts };
+  judgement = record {
+    response = success deed.words;
+    asks = deed.asks;
+    aborts = deed.aborts;
+    registers = deed.registers;
+  };
   stages = deed.stages;
 }
 judged (None ∷ checks) deed = judged checks deed

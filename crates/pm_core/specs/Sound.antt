@@ -8,13 +8,18 @@ use Rattle.pm_base.specs.declared.names.Unit.TheVariants.{Node, Line}
 use Rattle.pm_topology.specs.declared.topology.ProcDef.{ProcDef}
 use Rattle.pm_topology.specs.declared.topology.SlaveDef.{SlaveDef}
 use Rattle.pm_topology.specs.declared.topology.PowerDef.{PowerDef}
+use Rattle.pm_topology.specs.declared.topology.Topology.{Topology}
 use Rattle.pm_topology.specs.declared.places.Kind.{Kind}
 use Rattle.pm_topology.specs.declared.places.Kind.TheVariants.{Proc, Slave, Power, Unknown}
 use Rattle.pm_topology.specs.Masters.{ObeysMasterRules}
 use Rattle.pm_topology.specs.Places.{kind_of}
+use Rattle.pm_topology.specs.UnitMap.{units_in}
+use Rattle.pm_topology.specs.Units.{units_of}
 use Rattle.pm_topology.specs.WellFormed.{IsWellFormed}
 use Rattle.pm_core.specs.Choice.{StandsMet}
 use Rattle.pm_core.specs.Fed.{IsNeeded}
+use Rattle.pm_notify.specs.Mailbox.{Mail}
+use Rattle.pm_notify.specs.Notify.{mail_of}
 use Rattle.pm_procs.specs.declared.pending.Pending.{Pending}
 use Rattle.pm_procs.specs.Pending.{pending_at}
 use Rattle.pm_procs.specs.Procs.{mode_at}
@@ -69,14 +74,23 @@ pub record AreNamed (fixed : Fixed) (pending : List (Option Pending)) : Type 0 w
 abbrev pub HasPending : State → Type 0
 HasPending book = AreNamed book.fixed book.now.talk.pending
 
--- the book is sound in its rows, in the modes that they know, in its processors, in what its rows are armed with, and in
--- what is pending
+-- each master has mail about each unit of the chip
+pub record AreMails (t : Topology) (masters : ℕ) (mail : List Mail) : Type 0 where
+  pub each : length mail ≡ masters
+  pub units : (m : ℕ) → m < masters → units_in (mail_of m mail) ≡ units_of t
+
+abbrev pub HasMail : State → Type 0
+HasMail book = AreMails book.fixed.topology (length (in_force book).masters) book.now.talk.mail
+
+-- the book is sound in its rows, in the modes that they know, in its processors, in what its rows are armed with, in what is
+-- pending, and in the mail of its masters
 pub record IsSound (book : State) : Type 0 where
   pub rows : HasSoundRows book
   pub knows : KnowsModes book
   pub procs : HasProcs book
   pub armed : ArmsOwn book
   pub pending : HasPending book
+  pub mail : HasMail book
 
 -- what holds in every book: the topology has passed its check and obeys the rules on masters, and the book is sound
 pub record IsBook (book : State) : Type 0 where

@@ -1,17 +1,20 @@
 -- The step: what an event does to the book, and what it puts out.
-use Rattle.std.specs.Prelude.{ℕ, Bool, true, false, not, ◌==◌, List, [], ◌∷◌, ◌++◌, map, Option, Some, None, option_and_then, if◌then◌else◌}
+use Rattle.std.specs.Prelude.{ℕ, Bool, true, false, not, ◌==◌, List, [], ◌∷◌, ◌++◌, Option, Some, None, option_and_then, if◌then◌else◌}
 use Rattle.pm_base.specs.declared.names.NodeId.{NodeId}
+use Rattle.pm_base.specs.declared.names.Mode.{Mode}
 use Rattle.pm_base.specs.declared.events.Message.{Message}
 use Rattle.pm_base.specs.declared.events.Event.{Event}
 use Rattle.pm_base.specs.declared.events.Event.TheVariants.{Ipi, Boot, Wfi, Irq, Gic, Tick}
 use Rattle.pm_ipi.specs.declared.calls.Call.{Call}
-use Rattle.pm_ipi.specs.declared.calls.Call.TheVariants.{GetApiVersion, GetNodeStatus, RequestSuspend, SelfSuspend, AbortSuspend, RequestWakeup, SetWakeupSource, RequestNode, ReleaseNode, SetRequirement, SetMaxLatency, InitFinalize, Unknown}
+use Rattle.pm_ipi.specs.declared.calls.Call.TheVariants.{GetApiVersion, GetNodeStatus, RegisterNotifier, RequestSuspend, SelfSuspend, AbortSuspend, RequestWakeup, SetWakeupSource, RequestNode, ReleaseNode, SetRequirement, SetMaxLatency, InitFinalize, Unknown}
 use Rattle.pm_ipi.specs.declared.calls.AckKind.{AckKind}
 use Rattle.pm_ipi.specs.declared.calls.AckKind.TheVariants.{No, Blocking, NonBlocking}
 use Rattle.pm_ipi.specs.declared.responses.Response.{Response}
 use Rattle.pm_ipi.specs.Status.{no_feature}
 use Rattle.pm_ipi.specs.Calls.{call_of, ack_of, node_of}
 use Rattle.pm_ipi.specs.Responses.{refusal}
+use Rattle.pm_notify.specs.declared.notes.Waiting.{Waiting}
+use Rattle.pm_notify.specs.Mailbox.{Mail}
 use Rattle.pm_procs.specs.Modes.{is_awake}
 use Rattle.pm_core.specs.declared.replies.Answer.{Answer}
 use Rattle.pm_core.specs.declared.replies.Answer.TheVariants.{Silent, Drop, Reply, Ack}
@@ -19,24 +22,28 @@ use Rattle.pm_core.specs.declared.step.Heard.{Heard}
 use Rattle.pm_core.specs.declared.step.Heard.TheVariants.{Nothing, Dropped, Served}
 use Rattle.pm_core.specs.declared.ended.Ended.{Ended}
 use Rattle.pm_core.specs.declared.judgement.Asked.{Asked}
-use Rattle.pm_core.specs.Callbacks.{callbacks, late_replies}
+use Rattle.pm_core.specs.declared.judgement.Notifier.{Notifier}
+use Rattle.pm_core.specs.Callbacks.{News, callbacks, late_replies, mails}
 use Rattle.pm_core.specs.Ended.{ended_from, turns_along}
 use Rattle.pm_core.specs.Events.{boot, wait, interrupt, raised}
+use Rattle.pm_core.specs.Heard.{kept_of}
 use Rattle.pm_core.specs.Members.{mode_of_master}
+use Rattle.pm_core.specs.Notifications.{notifications}
 use Rattle.pm_core.specs.Outbox.{Outputs}
 use Rattle.pm_core.specs.Outcome.{Outcome, Tried, tried, done, outcome_of}
 use Rattle.pm_core.specs.Prims.{Prim}
 use Rattle.pm_core.specs.Stages.{after_stages, path_from}
 use Rattle.pm_core.specs.Starts.{starts, was_down}
-use Rattle.pm_core.specs.State.{State}
-use Rattle.pm_core.specs.Talk.{Talk, talk_of, talked}
+use Rattle.pm_core.specs.State.{State, in_force}
+use Rattle.pm_core.specs.Talk.{Talk, forgets_from, talk_of, talked, talks}
 use Rattle.pm_core.specs.Units.{moved}
 use Rattle.pm_core.specs.Values.{master_place, value, point}
-use Rattle.pm_core.specs.Views.{is_asked, row_view, status_view, suspend_view, proc_view, wake_view, master_mode}
+use Rattle.pm_core.specs.Views.{is_asked, row_view, status_view, suspend_view, proc_view, wake_view, watched, master_mode}
 use Rattle.pm_core.specs.calls.AbortSuspend.{abort_suspend}
 use Rattle.pm_core.specs.calls.GetApiVersion.{get_api_version}
 use Rattle.pm_core.specs.calls.GetNodeStatus.{get_node_status}
 use Rattle.pm_core.specs.calls.InitFinalize.{init_finalize}
+use Rattle.pm_core.specs.calls.RegisterNotifier.{register_notifier}
 use Rattle.pm_core.specs.calls.ReleaseNode.{release_node}
 use Rattle.pm_core.specs.calls.RequestNode.{request_node}
 use Rattle.pm_core.specs.calls.RequestWakeup.{request_wakeup}
@@ -50,6 +57,7 @@ use Rattle.pm_core.specs.calls.SetWakeupSource.{set_wakeup_source}
 abbrev pub tried_by : ℕ → Call → State → Tried
 tried_by m GetApiVersion book = get_api_version
 tried_by m (GetNodeStatus node) book = get_node_status (status_view m node book)
+tried_by m (RegisterNotifier node event wake enable) book = register_notifier m node event enable (watched m node book)
 tried_by m (RequestSuspend node ack latency state) book =
     request_suspend m node ack latency state (suspend_view m node book)
 tried_by m (SelfSuspend node address) book = self_suspend m address (proc_view m node book)
@@ -105,6 +113,11 @@ abbrev pub aborts_of : Option Outcome → Option ℕ
 aborts_of None = None
 aborts_of (Some outcome) = outcome.judgement.aborts
 
+-- the notifier that it puts
+abbrev pub registers_of : Option Outcome → Option Notifier
+registers_of None = None
+registers_of (Some outcome) = outcome.judgement.registers
+
 -- the same of an event: only a message does so
 abbrev pub asks : Event → State → Option Asked
 asks (Ipi master message) book = asks_of (verdict master message book)
@@ -113,6 +126,10 @@ asks _ book = None
 abbrev pub aborts : Event → State → Option ℕ
 aborts (Ipi master message) book = aborts_of (verdict master message book)
 aborts _ book = None
+
+abbrev pub registers : Event → State → Option Notifier
+registers (Ipi master message) book = registers_of (verdict master message book)
+registers _ book = None
 
 -- the time that passes with an event
 abbrev pub time_of : Event → Option ℕ
@@ -124,9 +141,49 @@ abbrev pub ended : Event → State → List Ended
 ended event book =
     ended_from (turns_along book (path event book)) (aborts event book) (time_of event) 0 book.now.talk.pending
 
--- what is told in a step
+-- the notifiers of masters that became off along a step are gone, and so is what waits for them
+abbrev pub forgets : Event → State → List Talk
+forgets event book = forgets_from (turns_along book (path event book)) 0 (in_force book).masters
+
+-- what a step does before any master is told of it
+abbrev pub opening : Event → State → List Talk
+opening event book =
+    talk_of (forgets event book) (registers event book) (asks event book) (time_of event) (ended event book)
+
+-- what happened to nodes in a step
+abbrev pub notices : Event → State → List Waiting
+notices event book = notifications book (after_stages (stages event book) book)
+
+-- what a step has to tell
+abbrev pub news : Event → State → News
+news event book = record { asked = asks event book; ended = ended event book; notices = notices event book }
+
+-- what an event came to
+abbrev pub heard_by : NodeId → Call → Option Outcome → Heard
+heard_by master call None = Dropped master
+heard_by master call (Some outcome) = Served master call outcome.judgement
+
+abbrev pub heard_of : Event → State → Heard
+heard_of (Ipi master message) book = heard_by master (call_of message) (verdict master message book)
+heard_of _ book = Nothing
+
+-- the mail that the masters find after what is done first
+abbrev pub mail_after : List Talk → State → List Mail
+mail_after first book = (talks first book.now.talk).mail
+
+-- all that is told in the book after the stages: what is done first, what telling the masters makes of their mail, and last of
+-- all what is kept for the sender of a message
+abbrev pub tellings : News → (ℕ → Mode) → List Talk → Heard → State → List Talk
+tellings news was first heard after = first ++ (mails news was (mail_after first after) after ++ kept_of heard after)
+
+-- the modes of the masters in a book
+abbrev pub modes_in : State → ℕ → Mode
+modes_in book m = mode_of_master book.fixed book.now.core m
+
+-- all that is told in a step
 abbrev pub talk : Event → State → List Talk
-talk event book = talk_of (asks event book) (time_of event) (ended event book)
+talk event book =
+    tellings (news event book) (modes_in book) (opening event book) (heard_of event book) (after_stages (stages event book) book)
 
 -- the book after an event: after its stages, and then what is told
 abbrev pub effect : Event → State → State
@@ -139,15 +196,6 @@ acknowledged No master node response after = Silent
 acknowledged Blocking master node response after = Reply master response
 acknowledged NonBlocking master node response after =
     Ack master node response.status (point node after) (is_awake (master_mode master after))
-
--- what an event came to
-abbrev pub heard_by : NodeId → Call → Option Outcome → Heard
-heard_by master call None = Dropped master
-heard_by master call (Some outcome) = Served master call outcome.judgement
-
-abbrev pub heard_of : Event → State → Heard
-heard_of (Ipi master message) book = heard_by master (call_of message) (verdict master message book)
-heard_of _ book = Nothing
 
 -- a master that asked another to suspend is answered when that ends, and any other caller now
 abbrev pub answered : Option Asked → NodeId → Call → Response → State → Answer
@@ -171,7 +219,7 @@ outputs event book = record {
   moved = moved (λ u. value u book) (effect event book);
   starts = starts (was_down (book ∷ path event book)) (effect event book);
   late = late_replies (ended event book) (effect event book);
-  calls = callbacks (asks event book) (ended event book) (effect event book);
+  calls = callbacks (news event book) (modes_in book) (mail_after (opening event book) (after_stages (stages event book) book)) (effect event book);
   answer = answer_to event book;
 }
 

@@ -1,9 +1,17 @@
 -- The changes of what the masters are told. They come after the stages of a step, and leave the core half as it is.
-use Rattle.std.specs.Prelude.{ℕ, List, [], ◌∷◌, ◌++◌, map, Option, Some, None}
+use Rattle.std.specs.Prelude.{ℕ, ◌+◌, Bool, List, [], ◌∷◌, ◌++◌, map, Option, Some, None, if◌then◌else◌}
+use Rattle.pm_base.specs.declared.names.NodeId.{NodeId}
+use Rattle.pm_notify.specs.declared.notes.NodeEvent.{NodeEvent}
+use Rattle.pm_notify.specs.declared.notes.Note.{Note}
+use Rattle.pm_notify.specs.declared.notes.Waiting.{Waiting}
+use Rattle.pm_notify.specs.Notify.{dropped, noted, registered, without_mail}
+use Rattle.pm_object.specs.declared.object.MasterRec.{MasterRec}
 use Rattle.pm_procs.specs.declared.pending.Pending.{Pending}
 use Rattle.pm_procs.specs.Pending.{asked, ended, all_lowered}
 use Rattle.pm_core.specs.declared.ended.Ended.{Ended}
+use Rattle.pm_core.specs.declared.ended.Turns.{Turns}
 use Rattle.pm_core.specs.declared.judgement.Asked.{Asked}
+use Rattle.pm_core.specs.declared.judgement.Notifier.{Notifier}
 use Rattle.pm_core.specs.State.{TalkHalf, State}
 
 pub data Talk : Type 0 where
@@ -13,11 +21,23 @@ pub data Talk : Type 0 where
   Lower : (count : ℕ) → Talk
   -- the request to the master at place m ends
   End : (m : ℕ) → Talk
+  -- the notifiers of the master at place m are gone, and so is what waits for it
+  Forget : (m : ℕ) → Talk
+  -- the notifier of the master at place m for an event of a node is on or off
+  Notify : (m : ℕ) (node : NodeId) (event : NodeEvent) (on : Bool) → Talk
+  -- a note that waited for the master at place m is taken out
+  Take : (m : ℕ) (node : NodeId) (note : Note) → Talk
+  -- a note waits for the master at place m
+  Wait : (m : ℕ) (node : NodeId) (note : Note) → Talk
 
 abbrev pub apply_talk : Talk → TalkHalf → TalkHalf
 apply_talk (Ask m request) talk = record talk { pending = asked m request talk.pending }
 apply_talk (Lower count) talk = record talk { pending = all_lowered count talk.pending }
 apply_talk (End m) talk = record talk { pending = ended m talk.pending }
+apply_talk (Forget m) talk = record talk { mail = without_mail m talk.mail }
+apply_talk (Notify m node event on) talk = record talk { mail = registered m node event on talk.mail }
+apply_talk (Take m node note) talk = record talk { mail = dropped m node note talk.mail }
+apply_talk (Wait m node note) talk = record talk { mail = noted m node note talk.mail }
 
 -- one change after another
 abbrev pub talks : List Talk → TalkHalf → TalkHalf
@@ -27,6 +47,20 @@ talks (change ∷ changes) talk = talks changes (apply_talk change talk)
 -- the book after these changes
 abbrev pub talked : List Talk → State → State
 talked changes book = record book { now = record book.now { talk = talks changes book.now.talk } }
+
+-- the master at place m forgets, if it became off
+abbrev pub forget_at : Turns → ℕ → List Talk
+forget_at turns m = if turns.off then Forget m ∷ [] else []
+
+-- each of these masters that became off forgets, in object order; the first of them has place m
+abbrev pub forgets_from : (ℕ → Turns) → ℕ → List MasterRec → List Talk
+forgets_from turns m [] = []
+forgets_from turns m (master ∷ masters) = forget_at (turns m) m ++ forgets_from turns (m + 1) masters
+
+-- a notifier is put, if one is
+abbrev pub notify_by : Option Notifier → List Talk
+notify_by None = []
+notify_by (Some put) = Notify put.master put.node put.event put.on ∷ []
 
 -- a master is asked, if one is
 abbrev pub ask_of : Option Asked → List Talk
@@ -42,6 +76,16 @@ lower_by (Some count) = Lower count ∷ []
 abbrev pub ends : List Ended → List Talk
 ends ended = map (λ (e : Ended). End e.target) ended
 
--- what is told in a step: a master is asked, time passes, and requests end
-abbrev pub talk_of : Option Asked → Option ℕ → List Ended → List Talk
-talk_of asked count ended = ask_of asked ++ lower_by count ++ ends ended
+-- what a step does before any master is told of it: masters that became off forget, a notifier is put, a master is asked, time
+-- passes, and requests end
+abbrev pub talk_of : List Talk → Option Notifier → Option Asked → Option ℕ → List Ended → List Talk
+talk_of forgets registers asked count ended =
+    forgets ++ (notify_by registers ++ (ask_of asked ++ (lower_by count ++ ends ended)))
+
+-- a note that waited for the master at place m was told to it
+abbrev pub take_of : ℕ → Waiting → Talk
+take_of m waiting = Take m waiting.node waiting.note
+
+-- a note waits for it
+abbrev pub wait_of : ℕ → Waiting → Talk
+wait_of m waiting = Wait m waiting.node waiting.note

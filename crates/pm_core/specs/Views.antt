@@ -12,6 +12,8 @@ use Rattle.pm_core.specs.declared.views.WakeView.{WakeView}
 use Rattle.pm_core.specs.declared.views.Wakeable.{Wakeable}
 use Rattle.pm_core.specs.declared.views.SuspendView.{SuspendView}
 use Rattle.pm_core.specs.declared.views.Suspendable.{Suspendable}
+use Rattle.pm_core.specs.declared.views.Watched.{Watched}
+use Rattle.pm_core.specs.declared.views.Watched.TheVariants.{Nothing, PowerNode, SlaveNode}
 use Rattle.pm_rows.specs.Rows.{entry_at, rival_of, now_of, usage_of}
 use Rattle.pm_topology.specs.declared.places.Kind.{Kind}
 use Rattle.pm_topology.specs.declared.places.Kind.TheVariants.{Proc, Slave, Power, Unknown}
@@ -21,7 +23,7 @@ use Rattle.pm_procs.specs.Procs.{mode_at, proc_at}
 use Rattle.pm_core.specs.Members.{owner_at, owns, mode_of_master}
 use Rattle.pm_object.specs.Grammar.{is_master_node}
 use Rattle.pm_perms.specs.Owner.{owner}
-use Rattle.pm_perms.specs.Permits.{may_suspend, may_wake}
+use Rattle.pm_perms.specs.Permits.{may_suspend, may_use, may_wake}
 use Rattle.pm_procs.specs.Pending.{pending_at}
 use Rattle.pm_core.specs.Values.{slave_place, master_place, point_at}
 use Rattle.pm_rows.specs.declared.row.Entry.{Entry}
@@ -142,6 +144,18 @@ suspendable m (Some k) book = if can_suspend m k book then Some (suspendable_at 
 abbrev pub suspend_view : ℕ → NodeId → State → SuspendView
 suspend_view m node book =
     record { named = names_master book.fixed node; target = suspendable m (named_master book.fixed node) book }
+
+-- what the master at place m sees of a node of this kind, of which it wants to be told: that it is a slave, and whether the master
+-- may use it; that it is a power node; or nothing
+abbrev pub watched_at : ℕ → NodeId → Kind → State → Watched
+watched_at m node (Slave s) book =
+    SlaveNode (may_use (in_force book) book.fixed.topology (master_node (in_force book).masters m) node)
+watched_at m node (Power w) book = PowerNode
+watched_at m node (Proc p) book = Nothing
+watched_at m node Unknown book = Nothing
+
+abbrev pub watched : ℕ → NodeId → State → Watched
+watched m node book = watched_at m node (kind_of book.fixed.topology node) book
 
 -- a node that isn't a slave is told with this operating point alone
 abbrev pub plain : ℕ → StatusView

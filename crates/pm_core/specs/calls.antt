@@ -2,6 +2,7 @@ pub mod AbortSuspend
 pub mod GetApiVersion
 pub mod GetNodeStatus
 pub mod InitFinalize
+pub mod RegisterNotifier
 pub mod ReleaseNode
 pub mod RequestNode
 pub mod RequestSuspend

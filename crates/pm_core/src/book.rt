@@ -23,7 +23,7 @@ use crate::telling::Telling;
 use pm_base::{Event, Mode, NoMemory, NodeId, Unit};
 use pm_object::Object;
 use pm_rows::Row;
-use pm_topology::{Topology, units_stand_in_order};
+use pm_topology::{Topology, kinds_are_exact, units_stand_in_order};
 use std::alloc::Global;
 use std::marker::Model;
 
@@ -49,7 +49,7 @@ impl Model for Book {
     ghost view = { λ book. book.inner };
 
     ghost invariant = { λ book. IsBook book.inner × AreKept book.inner book.caches
-        × HasPlaces (length (in_force book.inner).masters) book.telling };
+        × HasPlaces book.inner.fixed.topology (length (in_force book.inner).masters) book.telling };
 }
 
 impl Book {
@@ -93,10 +93,15 @@ impl Book {
         units_stand_in_order();
         values_meet();
         out.clear();
-        let telling = Telling::load(alloc, object.masters.len())?;
         let inner = Inner::load(alloc, object, topology)?;
         let mut caches = Caches::load(alloc, &inner)?;
-        caches.update(&inner, &mut out.moved, &mut out.starts);
+        let mut telling = Telling::load(alloc, caches.units(), inner.masters())?;
+        caches.update(
+            &inner,
+            &mut out.moved,
+            &mut out.starts,
+            &mut telling.notices,
+        );
         Ok(Book {
             inner,
             caches,
@@ -139,13 +144,18 @@ impl Book {
         ensures met { MeetsRequirements self.new (λ u. value u self.new) }
     {
         units_stand_in_order();
+        kinds_are_exact();
         books_stay_sound();
         values_meet();
         out.clear();
         self.telling.note_modes(&self.inner);
         let heard = self.inner.take(&self.caches, event);
-        self.caches
-            .update(&self.inner, &mut out.moved, &mut out.starts);
+        self.caches.update(
+            &self.inner,
+            &mut out.moved,
+            &mut out.starts,
+            &mut self.telling.notices,
+        );
         tell(
             &mut self.inner,
             &self.caches,

@@ -3,26 +3,30 @@
 ghost use Rattle.std.specs.Prelude.{◌≡◌, ◌+◌, ◌≤◌, ◌++◌, [], IfOk, length, map, option_map, slice_get};
 ghost use Rattle.pm_topology.specs.Units.{units_of};
 ghost use Rattle.pm_topology.specs.UnitMap.{all_at};
-ghost use Rattle.pm_core.specs.Caches.{AreKept, HasPlaces, kind_of_unit, moved_by, starts_by, value_kept};
+ghost use Rattle.pm_core.specs.Caches.{AreKept, HasPlaces, freed_by, kind_of_unit, moved_by, noticed_by, starts_by, value_kept};
+ghost use Rattle.pm_core.specs.Outbox.{notice_count};
 ghost use Rattle.pm_core.specs.Values.{value_at};
 
 use crate::inner::Inner;
 use crate::moves::{note_moves, note_starts};
+use crate::notifications::note_notices;
 use crate::outbox::Start;
 use pm_base::{BoundedList, NoMemory, Unit};
+use pm_notify::Waiting;
 use pm_power::Power;
 use pm_topology::{Kind, Topology, UnitMap, kinds_are_exact, units_of, units_stand_in_order};
 use std::alloc::Global;
 
 /// What is kept of the values of a book: the kind of each unit by its place, the chosen state of each
-/// slave and whether it needs its power node in it, whether each processor runs, the power nodes, and
-/// the value of each unit.
+/// slave and whether it needs its power node in it, whether each processor runs, whether some master uses
+/// each slave, the power nodes, and the value of each unit.
 #[derive(Drop)]
 pub(crate) struct Caches {
     kinds: Vec<Kind>,
     states: Vec<u32>,
     needs: Vec<bool>,
     runs: Vec<bool>,
+    used: Vec<bool>,
     power: Power,
     values: UnitMap<u32>,
 }
@@ -40,6 +44,7 @@ impl Caches {
             states: zeros(alloc, slaves)?,
             needs: no_needs(alloc, slaves)?,
             runs: no_needs(alloc, t.procs.len())?,
+            used: no_needs(alloc, slaves)?,
             power: Power::load(alloc, t)?,
             values: UnitMap::load(alloc, t, 0)?,
         })
@@ -67,18 +72,20 @@ impl Caches {
     }
 
     /// Brings all that is kept up to date, and puts the units whose value isn't the one before into
-    /// `moved`, and the processors that are active now and whose value was 0 before into `starts`, in the
-    /// order of the units.
+    /// `moved`, the processors that are active now and whose value was 0 before into `starts`, and what
+    /// happened to nodes into `notices`, in the order of the units.
     pub(crate) fn update(
         &mut self,
         inner: &Inner,
         moved: &mut BoundedList<Unit>,
         starts: &mut BoundedList<Start>,
+        notices: &mut BoundedList<Waiting>,
     )
         requires places { HasPlaces inner.now.fixed.topology self.old }
         requires room { length moved.old.items + length self.old.values ≤ moved.old.room }
         requires starts { starts.old.items ≡ [] }
         requires procs { length inner.now.fixed.topology.procs ≤ starts.old.room }
+        requires notices { notice_count (length self.old.values) ≤ notices.old.room }
         ensures kept { AreKept inner.now self.new }
         ensures moved { moved.new ≡ record moved.old {
           items = moved.old.items
@@ -87,6 +94,11 @@ impl Caches {
         ensures starts { starts.new ≡ record starts.old {
           items = starts_by inner.now.now.core.procs self.old.kinds.items self.old.values;
         } }
+        ensures notices { notices.new ≡ record notices.old {
+          items = noticed_by (λ kind. value_at kind inner.now.fixed inner.now.now.core)
+              (freed_by self.old.used.items inner.now.now.core.rows) self.old.kinds.items self.old.values;
+        } }
+        ensures few { length notices.new.items ≤ notice_count (length self.old.values) }
     {
         units_stand_in_order();
         kinds_are_exact();
@@ -94,6 +106,17 @@ impl Caches {
         inner.note_runs(&mut self.runs);
         self.power.recompute(&self.needs, &self.runs);
         note_starts(&self.kinds, &inner.procs, &self.values, starts);
+        notices.clear();
+        note_notices(
+            &self.kinds,
+            &self.states,
+            &inner.procs,
+            self.power.ups(),
+            &self.used,
+            &inner.rows,
+            &self.values,
+            notices,
+        );
         note_moves(
             &self.kinds,
             &self.states,
@@ -102,6 +125,7 @@ impl Caches {
             &mut self.values,
             moved,
         );
+        inner.note_uses(&mut self.used);
     }
 }
 

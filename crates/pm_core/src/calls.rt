@@ -4,6 +4,7 @@ mod abort_suspend;
 mod get_api_version;
 mod get_node_status;
 mod init_finalize;
+mod register_notifier;
 mod release_node;
 mod request_node;
 mod request_suspend;
@@ -15,4 +16,5 @@ mod set_wakeup_source;
 
 pub(crate) use get_api_version::get_api_version;
 pub(crate) use get_node_status::get_node_status;
+pub(crate) use register_notifier::register_notifier;
 pub(crate) use request_suspend::request_suspend;

@@ -16,12 +16,13 @@ pub struct Ended {
     pub status: u32,
 }
 
-/// What becomes of the mode of a master from one book to the next: it becomes asleep or off, or it goes
-/// on in place of suspending.
+/// What becomes of the mode of a master from one book to the next: it becomes asleep or off, it goes on
+/// in place of suspending, or it becomes off.
 #[derive(Clone, Copy, Debug, PartialEq, Eq)]
 pub(crate) struct Turns {
     pub(crate) down: bool,
     pub(crate) on: bool,
+    pub(crate) off: bool,
 }
 
 /// What becomes of a mode where the next one is this.
@@ -32,6 +33,7 @@ pub(crate) fn turns_between(before: Mode, after: Mode) -> Turns
     Turns {
         down: changed && !is_awake(after),
         on: changed && same_mode(before, Mode::Suspending) && same_mode(after, Mode::Active),
+        off: changed && same_mode(after, Mode::Off),
     }
 }
 

@@ -5,7 +5,7 @@ ghost use Rattle.std.specs.Option.{option_copied};
 ghost use Rattle.pm_topology.specs.WellFormed.{IsWellFormed};
 ghost use Rattle.pm_topology.specs.Places.{kind_of};
 ghost use Rattle.pm_procs.specs.Pending.{pending_at};
-ghost use Rattle.pm_core.specs.Caches.{AreKept};
+ghost use Rattle.pm_core.specs.Caches.{AreKept, use_of};
 ghost use Rattle.pm_core.specs.State.{in_force};
 ghost use Rattle.pm_core.specs.Telling.{modes_of};
 ghost use Rattle.pm_core.specs.Values.{value, slave_place, master_place, state_at, placed, chosen, need_of, run_of};
@@ -13,21 +13,24 @@ ghost use Rattle.pm_core.specs.Views.{row};
 
 use crate::caches::Caches;
 use crate::choice::chosen_state;
+use crate::notifications::is_used;
 use pm_base::{Mode, NodeId, Unit};
+use pm_notify::Notify;
 use pm_object::Object;
 use pm_procs::{Pending, Procs, is_awake};
 use pm_rows::{Row, Rows};
 use pm_topology::{Kind, SlaveDef, Topology, kinds_are_exact, needs_in, units_stand_in_order};
 use std::marker::Model;
 
-/// The object, the parts of the chip, a row for each permitted pair of a master and a slave, and the
-/// processors. A change of it owes nothing to what is kept of the book's values.
+/// The object, the parts of the chip, a row for each permitted pair of a master and a slave, the
+/// processors, and the mail of each master. A change of it owes nothing to what is kept of the book's values.
 #[derive(Drop)]
 pub(crate) struct Inner {
     pub(crate) object: Object,
     pub(crate) topology: Topology,
     pub(crate) rows: Rows,
     pub(crate) procs: Procs,
+    pub(crate) notify: Notify,
 }
 
 impl Model for Inner {
@@ -40,7 +43,7 @@ impl Model for Inner {
 
     ghost view = { λ inner. record {
       fixed = record { object = inner.object; topology = inner.topology };
-      now = record { core = record { rows = inner.rows; procs = inner.procs.procs }; talk = record { pending = inner.procs.pending } };
+      now = record { core = record { rows = inner.rows; procs = inner.procs.procs }; talk = record { pending = inner.procs.pending; mail = inner.notify } };
     } };
 
     ghost invariant = { λ inner. IsWellFormed inner.topology
@@ -158,6 +161,16 @@ impl Inner {
     {
         for m in 0..self.object.masters.len() {
             modes[m] = self.mode_of_master(m);
+        }
+    }
+
+    /// Writes whether some master uses each slave.
+    pub(crate) fn note_uses(&self, used: &mut [bool])
+        requires { length used.old ≡ length self.now.fixed.topology.slaves }
+        ensures { used.new ≡ placed (use_of self.now.now.core) 0 self.now.fixed.topology.slaves }
+    {
+        for s in 0..self.topology.slaves.len() {
+            used[s] = is_used(s, &self.rows);
         }
     }
 

@@ -4,7 +4,9 @@ ghost use Rattle.std.specs.Prelude.{◌≡◌};
 ghost use Rattle.pm_ipi.specs.Responses.{refusal, success};
 ghost use Rattle.pm_core.specs.Outcome.{answering};
 
+use pm_base::NodeId;
 use pm_ipi::Response;
+use pm_notify::NodeEvent;
 use pm_procs::Pending;
 
 /// A master is asked to suspend: its place, the request, and the words that it is told: how long it may
@@ -18,13 +20,24 @@ pub struct Asked {
     pub timeout: u32,
 }
 
-/// What a call comes to: the response, the master that it asks to suspend, and the place of the master
-/// that aborts its suspend by it.
+/// A notifier that a call puts: the place of the master, and whether it is told of the event of the node
+/// from now on.
+#[derive(Clone, Copy, Debug, PartialEq, Eq)]
+pub struct Notifier {
+    pub master: usize,
+    pub node: NodeId,
+    pub event: NodeEvent,
+    pub on: bool,
+}
+
+/// What a call comes to: the response, the master that it asks to suspend, the place of the master that
+/// aborts its suspend by it, and the notifier that it puts.
 #[derive(Clone, Copy, Debug, PartialEq, Eq)]
 pub struct Judgement {
     pub response: Response,
     pub asks: Option<Asked>,
     pub aborts: Option<usize>,
+    pub registers: Option<Notifier>,
 }
 
 impl Judgement {
@@ -36,6 +49,7 @@ impl Judgement {
             response,
             asks: None,
             aborts: None,
+            registers: None,
         }
     }
 

@@ -20,6 +20,7 @@ ghost use Rattle.pm_core.specs.Step.{effect};
 ghost use Rattle.pm_core.specs.Values.{value};
 ghost use Rattle.pm_core.specs.Views.{row};
 
+use pm_notify::mail_stands_in_order;
 use pm_power::up_where_needed;
 use pm_procs::{modes_of_masters, requests_of_masters};
 use pm_rows::{rows_stay_sound, shifts_leave_others};
@@ -38,6 +39,7 @@ pub fn books_stay_sound()
     shifts_leave_others();
     modes_of_masters();
     requests_of_masters();
+    mail_stands_in_order();
 }
 
 /// In each sound book over a chip that passes its check the values are those that the requirements ask

@@ -5,6 +5,7 @@
 
 mod book;
 mod caches;
+mod callbacks;
 mod calls;
 mod choice;
 mod ended;
@@ -15,6 +16,7 @@ mod laws;
 mod load;
 mod members;
 mod moves;
+mod notifications;
 mod outbox;
 mod pairs;
 mod replies;

@@ -13,6 +13,7 @@ use crate::laws::books_stay_sound;
 use crate::members::members_of;
 use crate::pairs::push_pairs;
 use pm_base::{Mode, NoMemory};
+use pm_notify::Notify;
 use pm_object::Object;
 use pm_procs::{Proc, Procs};
 use pm_rows::Rows;
@@ -30,6 +31,7 @@ impl Inner {
         books_stay_sound();
         let members = members_of(alloc, &object, &topology)?;
         let mut procs = Procs::load(alloc, &topology, members)?;
+        let notify = Notify::load(alloc, &topology, object.masters.len())?;
         let boot = procs.members(0).first().copied();
         let rows = load_rows(
             alloc,
@@ -43,6 +45,7 @@ impl Inner {
             topology,
             rows,
             procs,
+            notify,
         })
     }
 }

@@ -48,7 +48,7 @@ fn note_move(k: usize, value: u32, values: &mut UnitMap<u32>, moved: &mut Bounde
 
 /// The value of a unit of this kind: the state of a slave, 1 for a processor that runs and for a power
 /// node that is up, and else 0.
-fn kind_value(kind: Kind, states: &[u32], procs: &Procs, ups: &[bool]) -> u32
+pub(crate) fn kind_value(kind: Kind, states: &[u32], procs: &Procs, ups: &[bool]) -> u32
     ensures { result ≡ kind_value states.now procs.now.procs ups.now kind }
 {
     match kind {

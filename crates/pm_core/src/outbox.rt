@@ -65,12 +65,13 @@ impl Outbox {
         ensures empty { IfOk result IsEmpty }
     {
         let units = count(t);
+        let callbacks = most_callbacks(units, masters).ok_or(NoMemory)?;
         Ok(Outbox {
             moved: BoundedList::with_room(alloc, units)?,
             done: BoundedList::with_room(alloc, units + t.powers.len())?,
             starts: BoundedList::with_room(alloc, t.procs.len())?,
             late: BoundedList::with_room(alloc, masters)?,
-            calls: BoundedList::with_room(alloc, most_callbacks(masters).ok_or(NoMemory)?)?,
+            calls: BoundedList::with_room(alloc, callbacks)?,
             answer: Answer::Silent,
         })
     }
@@ -97,9 +98,13 @@ fn count(t: &Topology) -> usize
     t.slaves.len() + t.procs.len() + t.powers.len() + t.lines.len()
 }
 
-/// The number of callbacks of a step at most, of so many masters. There is none where no list is that long.
-fn most_callbacks(masters: usize) -> Option<usize>
-    ensures { IfSome result (λ count. count ≡ callback_count masters) }
+/// The number of callbacks of a step at most, of so many units and masters. There is none where no list is
+/// that long.
+fn most_callbacks(units: usize, masters: usize) -> Option<usize>
+    ensures { IfSome result (λ count. count ≡ callback_count units masters) }
 {
-    masters.checked_mul(masters.checked_add(1)?)
+    let waiting = units.checked_mul(3)?;
+    let notices = units.checked_mul(2)?;
+    let news = masters.checked_add(notices)?.checked_add(1)?;
+    masters.checked_mul(waiting.checked_add(news)?)
 }

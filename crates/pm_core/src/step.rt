@@ -6,12 +6,12 @@ ghost use Rattle.pm_ipi.specs.Calls.{ack_of, node_of};
 ghost use Rattle.pm_core.specs.Caches.{AreKept};
 ghost use Rattle.pm_core.specs.Stages.{after_stages};
 ghost use Rattle.pm_core.specs.Step.{called, stages, heard_of, answer_by, acknowledged, time_of};
-ghost use Rattle.pm_core.specs.Heard.{asks_in, aborts_in};
+ghost use Rattle.pm_core.specs.Heard.{asks_in, aborts_in, registers_in};
 
 use crate::caches::Caches;
-use crate::calls::{get_api_version, get_node_status, request_suspend};
+use crate::calls::{get_api_version, get_node_status, register_notifier, request_suspend};
 use crate::inner::Inner;
-use crate::judgement::{Asked, Judgement};
+use crate::judgement::{Asked, Judgement, Notifier};
 use crate::replies::Answer;
 use pm_base::{Event, Message, NodeId};
 use pm_ipi::status::NO_FEATURE;
@@ -50,6 +50,16 @@ impl Heard {
     {
         match self {
             Heard::Served { judgement, .. } => judgement.asks,
+            Heard::Nothing | Heard::Dropped { .. } => None,
+        }
+    }
+
+    /// The notifier that the message puts.
+    pub(crate) fn registers(&self) -> Option<Notifier>
+        ensures { result ≡ registers_in self.now }
+    {
+        match self {
+            Heard::Served { judgement, .. } => judgement.registers,
             Heard::Nothing | Heard::Dropped { .. } => None,
         }
     }
@@ -112,6 +122,15 @@ impl Inner {
             Call::GetApiVersion => get_api_version(),
             Call::GetNodeStatus { node } => {
                 get_node_status(&self.status_view(caches, master, node))
+            }
+            Call::RegisterNotifier {
+                node,
+                event,
+                enable,
+                ..
+            } => {
+                let view = self.watched(master, node);
+                register_notifier(master, &view, node, event, enable)
             }
             Call::RequestSuspend {
                 node,

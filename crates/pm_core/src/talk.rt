@@ -1,31 +1,32 @@
-//! What the masters are told in a step: who is asked to suspend, and how requests end.
+//! What changes when the masters are told of a step: what they asked for, what is pending on them, and their mail.
 
-ghost use Rattle.std.specs.Prelude.{◌≡◌, ◌+◌, ◌*◌, ◌≤◌, ◌++◌, [], length, flat_map, option_to_list};
+ghost use Rattle.std.specs.Prelude.{◌≡◌, ◌+◌, ◌≤◌, ◌++◌, ◌∷◌, [], Some, length, option_to_list};
+ghost use Rattle.pm_ipi.specs.Calls.{ack_of, node_of};
 ghost use Rattle.pm_core.specs.Caches.{AreKept};
 ghost use Rattle.pm_core.specs.Callbacks as spec;
 ghost use Rattle.pm_core.specs.Ended.{ended_from};
-ghost use Rattle.pm_core.specs.Heard.{aborts_in, asks_in};
-ghost use Rattle.pm_core.specs.Outbox.{callback_count};
+ghost use Rattle.pm_core.specs.Heard.{aborts_in, asks_in, kept_at, kept_of, own_note, registers_in};
+ghost use Rattle.pm_core.specs.Outbox.{callback_count, notice_count, unit_count};
+ghost use Rattle.pm_core.specs.Sound.{HasMail};
 ghost use Rattle.pm_core.specs.State.{in_force};
-ghost use Rattle.pm_core.specs.Step.{time_of};
-ghost use Rattle.pm_core.specs.Talk.{ends, talk_of, talked, talks};
-ghost use Rattle.pm_core.specs.Telling.{HasPlaces, turns_since};
+ghost use Rattle.pm_core.specs.Step.{mail_after, tellings, time_of};
+ghost use Rattle.pm_core.specs.Talk.{ask_of, ends, forget_at, forgets_from, lower_by, notify_by, talked, End, Wait};
+ghost use Rattle.pm_core.specs.Telling.{HasPlaces, mode_noted, news_in, opening_in, turns_since};
 
 use crate::caches::Caches;
 use crate::ended::Ended;
 use crate::inner::Inner;
-use crate::judgement::Asked;
+use crate::judgement::{Asked, Judgement, Notifier};
 use crate::outbox::{Callback, Late};
 use crate::step::{Heard, time_of};
 use crate::telling::Telling;
-use crate::views::master_node;
-use pm_base::{BoundedList, Event, NodeId};
-use pm_ipi::AckKind;
-use pm_ipi::callbacks::{ACKNOWLEDGE, INIT_SUSPEND, REASON_MASTER};
-use pm_procs::{Procs, is_awake};
+use pm_base::{BoundedList, Event, Mode};
+use pm_ipi::{AckKind, Call};
+use pm_notify::{Note, Waiting, mail_stands_in_order};
+use pm_procs::same_mode;
 
-/// What the masters are told after the stages of a step: who is asked to suspend, and which requests
-/// end, by late replies and callbacks.
+/// What the masters are told after the stages of a step: who is asked to suspend, which requests end, by
+/// late replies and callbacks, and what happened to nodes.
 pub(crate) fn tell(
     inner: &mut Inner,
     caches: &Caches,
@@ -37,198 +38,151 @@ pub(crate) fn tell(
 )
     requires kept { AreKept inner.old caches.now }
     requires each { length inner.old.now.talk.pending ≡ length (in_force inner.old).masters }
-    requires places { HasPlaces (length (in_force inner.old).masters) telling.old }
+    requires mail { HasMail inner.old }
+    requires places { HasPlaces inner.old.fixed.topology (length (in_force inner.old).masters) telling.old }
+    requires few { length telling.old.notices.items ≤ notice_count (unit_count inner.old.fixed.topology) }
     requires late { length late.old.items + length (in_force inner.old).masters ≤ late.old.room }
-    requires calls { length calls.old.items + callback_count (length (in_force inner.old).masters) ≤ calls.old.room }
-    ensures book { inner.new ≡ talked (talk_of (asks_in heard.now) (time_of event.now) telling.new.ended.items) inner.old }
+    requires calls { length calls.old.items
+        + callback_count (unit_count inner.old.fixed.topology) (length (in_force inner.old).masters) ≤ calls.old.room }
+    ensures modes { telling.new.modes ≡ telling.old.modes }
+    ensures asks { telling.new.asks ≡ asks_in heard.now }
+    ensures notices { telling.new.notices ≡ telling.old.notices }
     ensures ended { telling.new.ended.items
         ≡ ended_from (turns_since telling.old.modes.items inner.old) (aborts_in heard.now) (time_of event.now) 0 inner.old.now.talk.pending }
-    ensures places { HasPlaces (length (in_force inner.old).masters) telling.new }
+    ensures places { HasPlaces inner.old.fixed.topology (length (in_force inner.old).masters) telling.new }
+    ensures book { inner.new ≡ talked (tellings (news_in telling.new) (mode_noted telling.new.modes.items)
+        (opening_in telling.new (registers_in heard.now) (time_of event.now) inner.old) heard.now inner.old) inner.old }
     ensures late { late.new ≡ record late.old { items = late.old.items ++ spec.late_replies telling.new.ended.items inner.new } }
     ensures calls { calls.new ≡ record calls.old {
-      items = calls.old.items ++ spec.callbacks (asks_in heard.now) telling.new.ended.items inner.new;
+      items = calls.old.items ++ spec.callbacks (news_in telling.new) (mode_noted telling.new.modes.items)
+          (mail_after (opening_in telling.new (registers_in heard.now) (time_of event.now) inner.old) inner.old) inner.new;
     } }
 {
-    let asks = heard.asks();
+    mail_stands_in_order();
     let count = time_of(event);
-    telling.note_ended(inner, heard.aborts(), count);
-    let ended = telling.ended();
-    inner.talk(asks, count, ended);
-    inner.tell_late(ended, late);
-    inner.tell_calls(caches, asks, ended, calls);
+    telling.note_ended(inner, heard.asks(), heard.aborts(), count);
+    inner.open(telling, heard.registers(), count);
+    inner.tell_masters(caches, telling, calls);
+    inner.keep_own(heard);
+    inner.tell_late(telling.ended(), late);
 }
 
 impl Inner {
-    /// A master is asked, if one is, time passes, if any does, and these requests end.
-    pub(crate) fn talk(&mut self, asks: Option<Asked>, count: Option<u32>, ended: &[Ended])
-        ensures { self.new ≡ talked (talk_of asks count ended.now) self.old }
+    /// What is done before any master is told: masters that became off forget what they asked for, a
+    /// notifier is put, a master is asked, time passes, and requests end.
+    fn open(&mut self, telling: &Telling, registers: Option<Notifier>, count: Option<u32>)
+        ensures { self.new ≡ talked (opening_in telling.now registers count self.old) self.old }
+    {
+        self.forget(telling);
+        self.put_notifier(registers);
+        self.ask(telling.asks());
+        self.pass_time(count);
+        self.end_requests(telling.ended());
+    }
+
+    /// Each master that became off since the modes were noted forgets what it asked for, and what waits for
+    /// it is lost.
+    fn forget(&mut self, telling: &Telling)
+        ensures { self.new ≡ talked (forgets_from (turns_since telling.now.modes.items self.old) 0 (in_force self.old).masters) self.old }
+    {
+        for m in 0..self.masters() {
+            self.forget_master(telling, m);
+        }
+    }
+
+    fn forget_master(&mut self, telling: &Telling, m: usize)
+        ensures { self.new ≡ talked (forget_at (turns_since telling.now.modes.items self.old m) m) self.old }
+    {
+        if telling.turns(self, m).off {
+            self.notify.clear(m);
+        }
+    }
+
+    fn put_notifier(&mut self, registers: Option<Notifier>)
+        ensures { self.new ≡ talked (notify_by registers) self.old }
+    {
+        if let Some(put) = registers {
+            self.notify.put(put.master, put.node, put.event, put.on);
+        }
+    }
+
+    fn ask(&mut self, asks: Option<Asked>)
+        ensures { self.new ≡ talked (ask_of asks) self.old }
     {
         if let Some(asked) = asks {
             self.procs.ask(asked.target, asked.request);
         }
+    }
+
+    fn pass_time(&mut self, count: Option<u32>)
+        ensures { self.new ≡ talked (lower_by count) self.old }
+    {
         if let Some(count) = count {
             self.procs.tick(count);
         }
-        end_requests(&mut self.procs, ended);
     }
-}
 
-/// These requests end.
-fn end_requests(procs: &mut Procs, ended: &[Ended])
-    ensures { procs.new ≡ record procs.old { pending = (talks (ends ended.now) (record { pending = procs.old.pending })).pending } }
-{
-    for end in ended {
-        procs.end(end.target);
-    }
-}
-
-/// The late reply for a request that ended, where the master that asked wants one.
-fn late_by(ack: AckKind, master: NodeId, status: u32) -> Option<Late>
-    ensures { option_to_list result ≡ spec.late_by ack master status }
-{
-    match ack {
-        AckKind::Blocking => Some(Late { master, status }),
-        AckKind::No | AckKind::NonBlocking => None,
-    }
-}
-
-impl Inner {
-    /// Puts the late replies for these requests into `late`.
-    pub(crate) fn tell_late(&self, ended: &[Ended], late: &mut BoundedList<Late>)
-        requires room { length late.old.items + length ended.now ≤ late.old.room }
-        ensures { late.new ≡ record late.old { items = late.old.items ++ spec.late_replies ended.now self.now } }
+    /// These requests end.
+    fn end_requests(&mut self, ended: &[Ended])
+        ensures { self.new ≡ talked (ends ended.now) self.old }
     {
         for end in ended {
-            if let Some(reply) = self.late_of(end) {
-                late.push(reply);
-            }
+            self.end_request(end.target);
         }
     }
 
-    fn late_of(&self, end: &Ended) -> Option<Late>
-        ensures { option_to_list result ≡ spec.late_of self.now end.now }
+    fn end_request(&mut self, m: usize)
+        ensures { self.new ≡ talked (End m ∷ []) self.old }
     {
-        let asking = master_node(self.object.masters.as_slice(), end.request.by);
-        late_by(end.request.ack, asking, end.status)
-    }
-}
-
-/// The callback that asks a master to suspend (UG1200, callback 30).
-fn init_suspend(master: NodeId, asked: &Asked) -> Callback
-    ensures { result ≡ spec.init_suspend master asked.now }
-{
-    Callback {
-        master,
-        id: INIT_SUSPEND,
-        args: [REASON_MASTER, asked.latency, asked.state, asked.timeout],
-    }
-}
-
-impl Inner {
-    /// Puts the callbacks of a step into `calls`, master by master in object order.
-    pub(crate) fn tell_calls(
-        &self,
-        caches: &Caches,
-        asks: Option<Asked>,
-        ended: &[Ended],
-        calls: &mut BoundedList<Callback>,
-    )
-        requires kept { AreKept self.now caches.now }
-        requires few { length ended.now ≤ length (in_force self.now).masters }
-        requires room { length calls.old.items + callback_count (length (in_force self.now).masters) ≤ calls.old.room }
-        ensures { calls.new ≡ record calls.old { items = calls.old.items ++ spec.callbacks asks ended.now self.now } }
-    {
-        for (k, master) in self.object.masters.as_slice().iter().enumerate() {
-            self.tell_master(caches, k, NodeId(master.node), asks, ended, calls);
-        }
+        self.procs.end(m);
     }
 
-    /// Puts what a master is told into `calls`, where it is active or suspending.
-    fn tell_master(
-        &self,
-        caches: &Caches,
-        k: usize,
-        master: NodeId,
-        asks: Option<Asked>,
-        ended: &[Ended],
-        calls: &mut BoundedList<Callback>,
-    )
-        requires kept { AreKept self.now caches.now }
-        requires room { length calls.old.items + (length ended.now + 1) ≤ calls.old.room }
-        ensures calls { calls.new ≡ record calls.old { items = calls.old.items ++ spec.called_back asks ended.now self.now k master } }
-        ensures few { length calls.new.items ≤ length calls.old.items + (length ended.now + 1) }
+    /// A note waits for the master at a place.
+    pub(crate) fn wait_note(&mut self, m: usize, waiting: Waiting)
+        ensures { self.new ≡ talked (Wait m waiting.node waiting.note ∷ []) self.old }
     {
-        if is_awake(self.mode_of_master(k)) {
-            self.tell_awake(caches, k, master, asks, ended, calls);
-        }
+        self.notify.wait(m, waiting.node, waiting.note);
     }
 
-    /// Puts what a master is told into `calls`: that it is asked to suspend, and how its requests ended.
-    fn tell_awake(
-        &self,
-        caches: &Caches,
-        k: usize,
-        master: NodeId,
-        asks: Option<Asked>,
-        ended: &[Ended],
-        calls: &mut BoundedList<Callback>,
-    )
-        requires kept { AreKept self.now caches.now }
-        requires room { length calls.old.items + (length ended.now + 1) ≤ calls.old.room }
-        ensures calls { calls.new ≡ record calls.old { items = calls.old.items ++ spec.told_to asks ended.now self.now k master } }
-        ensures few { length calls.new.items ≤ length calls.old.items + (length ended.now + 1) }
+    /// What waits for the sender of a message that is asleep after it: the acknowledgement of its call.
+    fn keep_own(&mut self, heard: &Heard)
+        ensures { self.new ≡ talked (kept_of heard.now self.old) self.old }
     {
-        if let Some(callback) = asks_to(k, master, asks) {
-            calls.push(callback);
-        }
-        for end in ended {
-            if let Some(callback) = self.acknowledge_to(caches, k, master, end) {
-                calls.push(callback);
-            }
-        }
-    }
-
-    /// The callback for a request that ended, where this master asked and wants one.
-    fn acknowledge_to(
-        &self,
-        caches: &Caches,
-        k: usize,
-        master: NodeId,
-        end: &Ended,
-    ) -> Option<Callback>
-        requires { AreKept self.now caches.now }
-        ensures { option_to_list result ≡ spec.acknowledges_to k master self.now end.now }
-    {
-        match end.request.ack {
-            AckKind::NonBlocking if end.request.by == k => {
-                Some(self.acknowledgement(caches, master, end))
-            }
-            AckKind::No | AckKind::Blocking | AckKind::NonBlocking => None,
-        }
-    }
-
-    /// The callback that tells how a request ended (UG1200, callback 31).
-    fn acknowledgement(&self, caches: &Caches, master: NodeId, end: &Ended) -> Callback
-        requires { AreKept self.now caches.now }
-        ensures { result ≡ spec.acknowledgement master self.now end.now }
-    {
-        let node = end.request.node;
-        Callback {
+        let Heard::Served {
             master,
-            id: ACKNOWLEDGE,
-            args: [node.0, end.status, self.point(caches, node), 0],
+            call,
+            judgement,
+        } = heard
+        else {
+            return;
+        };
+        if let Some(m) = self.master_place(*master) {
+            self.keep_at(m, own_note(judgement, call));
+        }
+    }
+
+    fn keep_at(&mut self, m: usize, note: Option<Waiting>)
+        ensures { self.new ≡ talked (kept_at (Some m) (option_to_list note) self.old) self.old }
+    {
+        if let Some(waiting) = note {
+            if same_mode(self.mode_of_master(m), Mode::Asleep) {
+                self.wait_note(m, waiting);
+            }
         }
     }
 }
 
-/// The callback that asks the master at a place, where it is the one that is asked.
-fn asks_to(k: usize, master: NodeId, asks: Option<Asked>) -> Option<Callback>
-    ensures { option_to_list result ≡ spec.asks_to k master asks }
+/// The acknowledgement of a call as a note, where its caller wants the callback and is answered now.
+fn own_note(judgement: &Judgement, call: &Call) -> Option<Waiting>
+    ensures { option_to_list result ≡ own_note judgement.now.asks (ack_of call.now) (node_of call.now) judgement.now.response.status }
 {
-    let asked = asks?;
-    if asked.target == k {
-        Some(init_suspend(master, &asked))
-    } else {
-        None
+    match (judgement.asks, call.ack()) {
+        (None, AckKind::NonBlocking) => Some(Waiting {
+            node: call.node(),
+            note: Note::Ack {
+                status: judgement.response.status,
+            },
+        }),
+        _ => None,
     }
 }

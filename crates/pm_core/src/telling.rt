@@ -1,33 +1,52 @@
-//! What a step finds of the masters: their modes before it, and the requests to suspend that end in it.
+//! What is kept of a step until the masters are told of it: their modes before it, and what there is to tell.
 
 ghost use Rattle.std.specs.Prelude.{◌≡◌, ◌+◌, ◌<◌, ◌≤◌, ◌++◌, IfOk, length, slice_get};
 ghost use Rattle.pm_procs.specs.Pending.{pending_at};
+ghost use Rattle.pm_topology.specs.Units.{units_of};
 ghost use Rattle.pm_core.specs.Ended.{ended_at, ended_from};
+ghost use Rattle.pm_core.specs.Outbox.{notice_count};
 ghost use Rattle.pm_core.specs.State.{in_force};
-ghost use Rattle.pm_core.specs.Telling.{HasPlaces, mode_noted, modes_of, turns_since};
+ghost use Rattle.pm_core.specs.Telling.{mode_noted, modes_of, turns_since};
 
-use crate::ended::{Ended, ended_at, turns_between};
+use crate::ended::{Ended, Turns, ended_at, turns_between};
 use crate::inner::Inner;
+use crate::judgement::Asked;
 use pm_base::{BoundedList, Mode, NoMemory};
+use pm_notify::Waiting;
 use std::alloc::Global;
 
-/// The modes of the masters before a step, and the requests that end in it, with room for one for each
-/// master.
+/// The modes of the masters before a step, the master that is asked to suspend in it, the requests that
+/// end in it, with room for one for each master, and what happens to nodes in it, with room for two
+/// notes about each unit.
 #[derive(Drop)]
 pub(crate) struct Telling {
     modes: Vec<Mode>,
+    asks: Option<Asked>,
     ended: BoundedList<Ended>,
+    pub(crate) notices: BoundedList<Waiting>,
 }
 
 impl Telling {
-    /// Room for so many masters.
-    pub(crate) fn load(alloc: Global, masters: usize) -> Result<Telling, NoMemory>
-        ensures { IfOk result (HasPlaces masters) }
+    /// Room for so many units and masters.
+    pub(crate) fn load(alloc: Global, units: usize, masters: usize) -> Result<Telling, NoMemory>
+        ensures modes { IfOk result (λ telling. length telling.modes.items ≡ masters) }
+        ensures ended { IfOk result (λ telling. masters ≤ telling.ended.room) }
+        ensures notices { IfOk result (λ telling. notice_count units ≤ telling.notices.room) }
     {
+        let notices = units.checked_mul(2).ok_or(NoMemory)?;
         Ok(Telling {
             modes: Vec::from_elem(alloc, Mode::Off, masters).map_err(|_| NoMemory)?,
+            asks: None,
             ended: BoundedList::with_room(alloc, masters)?,
+            notices: BoundedList::with_room(alloc, notices)?,
         })
+    }
+
+    /// The master that is asked to suspend in the step.
+    pub(crate) fn asks(&self) -> Option<Asked>
+        ensures { result ≡ self.now.asks }
+    {
+        self.asks
     }
 
     /// The requests that end in the step, in object order of the masters that were asked.
@@ -37,26 +56,43 @@ impl Telling {
         self.ended.as_slice()
     }
 
+    /// What happens to nodes in the step.
+    pub(crate) fn notices(&self) -> &[Waiting]
+        ensures { result.now ≡ self.now.notices.items }
+    {
+        self.notices.as_slice()
+    }
+
     /// Notes the mode of each master.
     pub(crate) fn note_modes(&mut self, inner: &Inner)
-        requires places { HasPlaces (length (in_force inner.now).masters) self.old }
+        requires places { length self.old.modes.items ≡ length (in_force inner.now).masters }
         ensures modes { self.new.modes.items ≡ modes_of inner.now }
         ensures ended { self.new.ended ≡ self.old.ended }
+        ensures notices { self.new.notices ≡ self.old.notices }
     {
         inner.note_modes(&mut self.modes);
     }
 
-    /// Notes the requests that end: by what became of the modes since they were noted, by the master
-    /// that aborts its suspend, and by the time that passes.
-    pub(crate) fn note_ended(&mut self, inner: &Inner, aborts: Option<usize>, count: Option<u32>)
+    /// Notes the master that is asked, and the requests that end: by what became of the modes since they
+    /// were noted, by the master that aborts its suspend, and by the time that passes.
+    pub(crate) fn note_ended(
+        &mut self,
+        inner: &Inner,
+        asks: Option<Asked>,
+        aborts: Option<usize>,
+        count: Option<u32>,
+    )
         requires each { length inner.now.now.talk.pending ≡ length (in_force inner.now).masters }
         requires room { length (in_force inner.now).masters ≤ self.old.ended.room }
         ensures modes { self.new.modes ≡ self.old.modes }
+        ensures asks { self.new.asks ≡ asks }
+        ensures notices { self.new.notices ≡ self.old.notices }
         ensures ended { self.new.ended ≡ record self.old.ended {
           items = ended_from (turns_since self.old.modes.items inner.now) aborts count 0 inner.now.now.talk.pending;
         } }
         ensures few { length self.new.ended.items ≤ length (in_force inner.now).masters }
     {
+        self.asks = asks;
         self.ended.clear();
         for m in 0..inner.masters() {
             self.note_end(inner, aborts, count, m);
@@ -67,20 +103,29 @@ impl Telling {
     fn note_end(&mut self, inner: &Inner, aborts: Option<usize>, count: Option<u32>, m: usize)
         requires room { length self.old.ended.items < self.old.ended.room }
         ensures modes { self.new.modes ≡ self.old.modes }
+        ensures asks { self.new.asks ≡ self.old.asks }
+        ensures notices { self.new.notices ≡ self.old.notices }
         ensures ended { self.new.ended ≡ record self.old.ended {
           items = self.old.ended.items
               ++ ended_at (turns_since self.old.modes.items inner.now m) aborts count m (pending_at m inner.now.now.talk.pending);
         } }
     {
-        let turns = turns_between(self.mode(m), inner.mode_of_master(m));
+        let turns = self.turns(inner, m);
         if let Some(end) = ended_at(turns, aborts, count, m, inner.pending(m)) {
             self.ended.push(end);
         }
     }
 
+    /// What became of the mode of the master at a place since it was noted.
+    pub(crate) fn turns(&self, inner: &Inner, m: usize) -> Turns
+        ensures { result ≡ turns_since self.now.modes.items inner.now m }
+    {
+        turns_between(self.mode(m), inner.mode_of_master(m))
+    }
+
     /// The mode that was noted of the master at a place.
-    fn mode(&self, m: usize) -> Mode
-        ensures { result ≡ mode_noted m self.now.modes.items }
+    pub(crate) fn mode(&self, m: usize) -> Mode
+        ensures { result ≡ mode_noted self.now.modes.items m }
     {
         self.modes.get(m).copied().unwrap_or(Mode::Off)
     }

@@ -2,7 +2,9 @@
 
 ghost use Rattle.std.specs.Prelude.{◌≡◌};
 ghost use Rattle.pm_rows.specs.Rows.{now_of};
+ghost use Rattle.pm_perms.specs.Permits.{may_use};
 ghost use Rattle.pm_core.specs.Caches.{AreKept};
+ghost use Rattle.pm_core.specs.State.{in_force};
 ghost use Rattle.pm_core.specs.Values.{point};
 ghost use Rattle.pm_core.specs.Views;
 
@@ -10,7 +12,7 @@ use crate::caches::Caches;
 use crate::inner::Inner;
 use pm_base::{Caps, Mode, NodeId, Unit};
 use pm_object::{MasterRec, is_master_node};
-use pm_perms::{may_suspend, may_wake, owner_of};
+use pm_perms::{may_suspend, may_use, may_wake, owner_of};
 use pm_procs::{Proc, mode_number};
 use pm_rows::Entry;
 use pm_topology::Kind;
@@ -73,6 +75,15 @@ pub struct Suspendable {
 pub struct SuspendView {
     pub named: bool,
     pub target: Option<Suspendable>,
+}
+
+/// What a master sees of a node of which it wants to be told: a slave, and whether the master may use it, a
+/// power node, or nothing.
+#[derive(Clone, Copy, Debug, PartialEq, Eq)]
+pub enum Watched {
+    Nothing,
+    PowerNode,
+    SlaveNode { permitted: bool },
 }
 
 fn now_of(entry: Option<Entry>) -> Caps
@@ -273,6 +284,35 @@ impl Inner {
             &self.topology,
             master_node(masters, master),
             master_node(masters, target),
+        )
+    }
+}
+
+impl Inner {
+    ghost use Rattle.pm_core.specs.Views.{watched};
+
+    pub(crate) fn watched(&self, master: usize, node: NodeId) -> Watched
+        ensures { result ≡ watched master node self.now }
+    {
+        match self.kind(node) {
+            Kind::Slave(_) => Watched::SlaveNode {
+                permitted: self.may_use(master, node),
+            },
+            Kind::Power(_) => Watched::PowerNode,
+            Kind::Proc(_) | Kind::Unknown => Watched::Nothing,
+        }
+    }
+
+    /// Whether the object permits a master to use a slave.
+    fn may_use(&self, master: usize, slave: NodeId) -> bool
+        ensures { result ≡ may_use (in_force self.now) self.now.fixed.topology (Views.master_node (in_force self.now).masters master) slave }
+    {
+        let masters = self.object.masters.as_slice();
+        may_use(
+            &self.object,
+            &self.topology,
+            master_node(masters, master),
+            slave,
         )
     }
 }

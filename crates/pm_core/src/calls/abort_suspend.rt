@@ -22,12 +22,13 @@ fn is_reason(reason: u32) -> bool
 
 /// What the call comes to where its checks pass: the caller aborts its suspend.
 fn aborted(master: usize) -> Judgement
-    ensures { result ≡ record { response = success (0 ∷ 0 ∷ 0 ∷ []); asks = None; aborts = Some master } }
+    ensures { result ≡ record { response = success (0 ∷ 0 ∷ 0 ∷ []); asks = None; aborts = Some master; registers = None } }
 {
     Judgement {
         response: Response::success([0; 3]),
         asks: None,
         aborts: Some(master),
+        registers: None,
     }
 }
 

@@ -48,5 +48,6 @@ pub(crate) fn request_suspend(
             timeout: target.timeout,
         }),
         aborts: None,
+        registers: None,
     }
 }

@@ -1,3 +1,4 @@
+use Rattle.pm_notify.specs.Laws.{OrderLaws}
 use Rattle.pm_core.proofs.LoadLaw.{ModeLaws, load_sound}
 use Rattle.pm_core.proofs.PendingLaw.{RequestLaws}
 use Rattle.pm_core.proofs.Permitted.{row_permitted}
@@ -32,4 +33,9 @@ returns c =
       length_lowered = c.requests_of_masters.ensures.length_lowered;
       length_load = c.requests_of_masters.ensures.length_load;
     } in
-    record { load = load_sound rows modes requests; step = effect_sound rows requests; permitted = row_permitted rows }
+    let orders : OrderLaws = c.mail_stands_in_order.ensures in
+    record {
+      load = load_sound rows modes requests orders;
+      step = effect_sound rows requests orders;
+      permitted = row_permitted rows;
+    }

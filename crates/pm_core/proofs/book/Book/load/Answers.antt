@@ -1,6 +1,9 @@
-use Rattle.std.proofs.Common.{◌≡◌, ◌≤◌, ◌++◌, length, sym, ◌∙◌, ap, subst, arith}
+use Rattle.std.proofs.Common.{◌≡◌, ◌≤◌, ◌++◌, Result, Ok, Err, length, sym, ◌∙◌, ap, subst, arith}
+use Rattle.std.specs.Prelude.{IfErr}
 use Rattle.std.proofs.lemmas.List.{length-map}
 use Rattle.pm_base.specs.declared.names.Unit.{Unit}
+use Rattle.pm_notify.specs.declared.notes.Waiting.{Waiting}
+use Rattle.pm_topology.specs.Masters.{ObeysMasterRules}
 use Rattle.pm_topology.specs.Units.{units_of, entry_count}
 use Rattle.pm_topology.specs.WellFormed.{IsWellFormed}
 use Rattle.pm_core.specs.Caches.{moved_by}
@@ -23,6 +26,39 @@ update-requires-clause-room c =
     let few : length (units_of c.args.topology) ≤ entry_count c.args.topology = c.units_stand_in_order.ensures.few c.args.topology in
     let none = ap length c.clear.ensures.empty.moved in
     omega (arith, zeros, topology, few, none, c.requires.room.moved, c.clear.ensures.room.moved)
+
+pub update-requires-clause-notices : goal.update-requires-clause-notices
+update-requires-clause-notices c =
+    omega (arith, c.units.ensures, c.in_ok-telling.ensures.notices)
+
+-- where the room for what is told can't be had, nothing was put out since the outbox was cleared
+if_err : {T E : Type 0} {P : E → Type 0} (r : Result T E) → ((e : E) → P e) → IfErr r P
+if_err (Ok value) holds = tt
+if_err (Err e) holds = holds e
+
+pub returns-in_err-telling-clause-nothing : goal.returns-in_err-telling-clause-nothing
+returns-in_err-telling-clause-nothing c = if_err c.from_residual-in_err-telling.result (λ _. c.clear.ensures.empty)
+
+pub invariant_of-result : goal.invariant_of-result
+invariant_of-result c =
+    let book = c.in_ok-inner.inner in
+    let P : State → Type 0 = λ b. IsWellFormed b.fixed.topology in
+    let Q : State → Type 0 = λ b. ObeysMasterRules b.fixed.topology in
+    let zeros : length c.in_ok-caches.caches.values ≡ length (units_of book.fixed.topology) =
+    ap length c.in_ok-caches.ensures.zeros ∙ length-map (units_of book.fixed.topology) (λ u. (u, 0))
+    in (
+      record {
+        formed = subst P (sym c.in_ok-inner.ensures.book) c.requires.formed;
+        masters = subst Q (sym c.in_ok-inner.ensures.book) c.requires.masters;
+        sound = c.in_ok-inner.ensures.sound;
+      },
+      c.update.ensures.kept,
+      record {
+        modes = c.in_ok-telling.ensures.modes ∙ c.masters.ensures;
+        ended = omega (arith, c.masters.ensures, c.in_ok-telling.ensures.ended);
+        notices = omega (arith, zeros, c.units.ensures, c.in_ok-telling.ensures.notices, ap (λ (l : Bounded Waiting). l.room) c.update.ensures.notices);
+      },
+    )
 
 pub returns-clause-met : goal.returns-clause-met
 returns-clause-met c =

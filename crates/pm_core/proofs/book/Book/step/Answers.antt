@@ -1,24 +1,29 @@
-use Rattle.std.proofs.Common.{◌≡◌, ◌≤◌, ◌++◌, ◌∷◌, ℕ, length, sym, ◌∙◌, ap, subst, arith}
+use Rattle.std.proofs.Common.{◌≡◌, ◌≤◌, ◌++◌, ◌∷◌, ℕ, List, length, sym, ◌∙◌, ap, subst, arith}
 use Rattle.std.proofs.lemmas.List.{length-map}
+use Rattle.pm_base.specs.declared.names.Mode.{Mode}
 use Rattle.pm_base.specs.declared.names.Unit.{Unit}
+use Rattle.pm_notify.specs.declared.notes.Waiting.{Waiting}
 use Rattle.pm_topology.specs.Units.{units_of, entry_count}
-use Rattle.pm_core.specs.Caches.{AreKept, moved_by}
+use Rattle.pm_core.specs.Caches.{AreKept, freed_by, moved_by, noticed_by}
 use Rattle.pm_core.specs.Callbacks.{callbacks, late_replies}
-use Rattle.pm_core.specs.Heard.{asks_in}
 use Rattle.pm_base.specs.BoundedList.{Bounded}
-use Rattle.pm_core.specs.Sound.{IsBook}
+use Rattle.pm_core.specs.Sound.{AreMails, IsBook}
 use Rattle.pm_core.specs.declared.outbox.Callback.{Callback}
 use Rattle.pm_core.specs.declared.outbox.Late.{Late}
 use Rattle.pm_core.specs.declared.outbox.Start.{Start}
+use Rattle.pm_core.specs.Stages.{after_stages}
 use Rattle.pm_core.specs.Starts.{starts, was_down}
 use Rattle.pm_core.specs.State.{State, in_force}
-use Rattle.pm_core.specs.Step.{asks, effect, ended, path, stages, heard_of, answer_by, answer_to, time_of}
-use Rattle.pm_core.specs.Talk.{talk_of}
-use Rattle.pm_core.specs.Telling.{HasPlaces, mode_beside}
+use Rattle.pm_core.specs.Step.{effect, ended, heard_of, mail_after, modes_in, news, notices, opening, path, stages, answer_by, answer_to, tellings, time_of}
+use Rattle.pm_core.specs.Ended.{ended_from}
+use Rattle.pm_core.specs.Heard.{aborts_in, registers_in}
+use Rattle.pm_core.specs.Notifications.{notifications}
+use Rattle.pm_core.specs.Telling.{HasPlaces, mode_beside, mode_noted, news_in, opening_in, turns_since}
 use Rattle.pm_core.specs.Units.{units, moved}
 use Rattle.pm_core.specs.Values.{value, value_at}
 use Rattle.pm_core.proofs.CachesLaw.{kept_places}
-use Rattle.pm_core.proofs.EndedLaw.{IsTold, asks_heard, kept_talked, stages_talk, step_told}
+use Rattle.pm_core.proofs.EndedLaw.{IsTold, kept_talked, stages_talk, step_told}
+use Rattle.pm_core.proofs.NoticesLaw.{notices_are}
 use Rattle.pm_core.proofs.PlacedLemmas.{length-placed}
 use Rattle.pm_core.proofs.Refused.{refused_stays}
 use Rattle.pm_core.proofs.SoundSteps.{kept_by}
@@ -49,70 +54,110 @@ tell-requires-clause-each c =
     ∙ (c.self.invariant.0.sound.pending.each
     ∙ sym (ap (λ (b : State). length (in_force b).masters) c.take-heard.ensures.book)))
 
+pub update-requires-clause-notices : goal.update-requires-clause-notices
+update-requires-clause-notices c =
+    let old = c.self.inside.inner in
+    let values : length c.self.inside.caches.values ≡ length (units old) =
+    ap length c.self.invariant.1.values ∙ length-map (units old) (λ u. (u, value u old))
+    in
+    omega (arith, values, c.self.invariant.2.notices, ap (λ (l : Bounded _). l.room) c.note_modes.ensures.notices)
+
+pub tell-requires-clause-mail : goal.tell-requires-clause-mail
+tell-requires-clause-mail c =
+    let old = c.self.inside.inner in
+    let P : State → Type 0 = λ b. AreMails b.fixed.topology (length (in_force b).masters) b.now.talk.mail in
+    let Q : _ → Type 0 = λ t. AreMails old.fixed.topology (length (in_force old).masters) t.mail in
+    subst P (sym c.take-heard.ensures.book) (subst Q (sym (stages_talk (stages c.args.event.now old) old)) c.self.invariant.0.sound.mail)
+
+pub tell-requires-clause-few : goal.tell-requires-clause-few
+tell-requires-clause-few c =
+    let old = c.self.inside.inner in
+    let values : length c.self.inside.caches.values ≡ length (units old) =
+    ap length c.self.invariant.1.values ∙ length-map (units old) (λ u. (u, value u old))
+    in
+    let same : length (units c.take-heard.new.self) ≡ length (units old) = ap (λ (b : State). length (units b)) c.take-heard.ensures.book in
+    let few : length (units c.take-heard.new.self) ≤ entry_count c.take-heard.new.self.fixed.topology = c.units_stand_in_order.ensures.few c.take-heard.new.self.fixed.topology in
+    omega (arith, values, same, few, c.update.ensures.few)
+
 pub tell-requires-clause-places : goal.tell-requires-clause-places
 tell-requires-clause-places c =
     let old = c.self.inside.inner in
     let count : length (in_force c.take-heard.new.self).masters ≡ length (in_force old).masters = ap (λ (b : State). length (in_force b).masters) c.take-heard.ensures.book in
+    let all : length (units c.take-heard.new.self) ≡ length (units old) = ap (λ (b : State). length (units b)) c.take-heard.ensures.book in
     record {
       modes = ap length c.note_modes.ensures.modes ∙ (length-placed (mode_beside old) 0 (in_force old).masters ∙ sym count);
       ended = omega (arith, count, c.self.invariant.2.ended, ap (λ (l : Bounded _). l.room) c.note_modes.ensures.ended);
+      notices = omega (
+        arith,
+        all,
+        c.self.invariant.2.notices,
+        ap (λ (l : Bounded _). l.room) c.note_modes.ensures.notices,
+        ap (λ (l : Bounded Waiting). l.room) c.update.ensures.notices,
+      );
     }
+
+-- what was noted until the masters were told
+told : (c : goal.After-out-1) → IsTold c.args.event.now c.self.inside.inner c.take-heard.new.self c.tell.new.inner c.take-heard.result c.tell.new.telling
+told c =
+    let event = c.args.event.now in
+    let old = c.self.inside.inner in
+    let mid = c.take-heard.new.self in
+    let caches = c.self.inside.caches in
+    let fixed : old.fixed ≡ mid.fixed = sym (ap (λ (b : State). b.fixed) c.take-heard.ensures.book) in
+    step_told event old mid c.tell.new.inner c.take-heard.result c.tell.new.telling
+    (record {
+      mid_is = c.take-heard.ensures.book;
+      heard_is = c.take-heard.ensures.heard;
+      modes_are = ap (λ v. v.items) c.tell.ensures.modes ∙ c.note_modes.ensures.modes;
+      asks_are = c.tell.ensures.asks;
+      ended_are = c.tell.ensures.ended
+          ∙ ap (λ (ms : List Mode). ended_from (turns_since ms mid) (aborts_in c.take-heard.result) (time_of event) 0 mid.now.talk.pending)
+          (ap (λ v. v.items) (sym c.tell.ensures.modes));
+      notices_are = ap (λ (l : Bounded Waiting). l.items) (c.tell.ensures.notices ∙ c.update.ensures.notices)
+          ∙ (notices_are c.kinds_are_exact.ensures old mid caches.kinds.items caches.used.items caches.values fixed c.self.invariant.1.kinds c.self.invariant.1.used c.self.invariant.1.values
+          ∙ ap (notifications old) c.take-heard.ensures.book);
+    })
+    c.self.invariant.0.sound.pending.each c.tell.ensures.book
+
+pub answer-out-requires : goal.answer-out-requires
+answer-out-requires c =
+    let mid = c.take-heard.new.self in
+    let telling = c.tell.new.telling in
+    let changes = tellings (news_in telling) (mode_noted telling.modes.items) (opening_in telling (registers_in c.take-heard.result) (time_of c.args.event.now) mid) c.take-heard.result mid in
+    let P : State → Type 0 = λ b. AreKept b c.update.new.self in
+    subst P (sym c.tell.ensures.book) (kept_talked changes mid c.update.new.self c.update.ensures.kept)
 
 pub invariant_of-self : goal.invariant_of-self
 invariant_of-self c =
     let event = c.args.event.now in
     let old = c.self.inside.inner in
+    let mid = c.take-heard.new.self in
     let new = c.tell.new.inner in
-    let told : IsTold event old new c.tell.new.telling.ended.items =
-    step_told event old c.take-heard.new.self new c.take-heard.result c.note_modes.new.self.modes.items c.tell.new.telling.ended.items c.take-heard.ensures.book c.take-heard.ensures.heard c.note_modes.ensures.modes c.self.invariant.0.sound.pending.each c.tell.ensures.ended c.tell.ensures.book
-    in
-    let changes = talk_of (asks_in c.take-heard.result) (time_of event) c.tell.new.telling.ended.items in
+    let telling = c.tell.new.telling in
+    let changes = tellings (news_in telling) (mode_noted telling.modes.items) (opening_in telling (registers_in c.take-heard.result) (time_of event) mid) c.take-heard.result mid in
     let P : State → Type 0 = λ b. AreKept b c.update.new.self in
-    let Q : ℕ → Type 0 = λ n. HasPlaces n c.tell.new.telling in (
-      kept_by c.books_stay_sound.ensures.step event old new told.book c.self.invariant.0,
-      subst P (sym c.tell.ensures.book) (kept_talked changes c.take-heard.new.self c.update.new.self c.update.ensures.kept),
-      subst Q (sym (ap (λ (b : State). length (in_force b).masters) c.tell.ensures.book)) c.tell.ensures.places,
+    let Q : State → Type 0 = λ b. HasPlaces b.fixed.topology (length (in_force b).masters) telling in (
+      kept_by c.books_stay_sound.ensures.step event old new (told c).book c.self.invariant.0,
+      subst P (sym c.tell.ensures.book) (kept_talked changes mid c.update.new.self c.update.ensures.kept),
+      subst Q (sym c.tell.ensures.book) c.tell.ensures.places,
     )
 
 pub returns-clause-book : goal.returns-clause-book
-returns-clause-book c =
-    let event = c.args.event.now in
-    let old = c.self.inside.inner in
-    let new = c.tell.new.inner in
-    let told : IsTold event old new c.tell.new.telling.ended.items =
-    step_told event old c.take-heard.new.self new c.take-heard.result c.note_modes.new.self.modes.items c.tell.new.telling.ended.items c.take-heard.ensures.book c.take-heard.ensures.heard c.note_modes.ensures.modes c.self.invariant.0.sound.pending.each c.tell.ensures.ended c.tell.ensures.book
-    in
-    told.book ∙ ap (effect event) c.self.view_is
+returns-clause-book c = (told c).book ∙ ap (effect c.args.event.now) c.self.view_is
 
 pub returns-clause-refused : goal.returns-clause-refused
 returns-clause-refused c =
     let event = c.args.event.now in
-    let old = c.self.inside.inner in
-    let new = c.tell.new.inner in
-    let told : IsTold event old new c.tell.new.telling.ended.items =
-    step_told event old c.take-heard.new.self new c.take-heard.result c.note_modes.new.self.modes.items c.tell.new.telling.ended.items c.take-heard.ensures.book c.take-heard.ensures.heard c.note_modes.ensures.modes c.self.invariant.0.sound.pending.each c.tell.ensures.ended c.tell.ensures.book
-    in
-    λ fails. told.book ∙ (ap (effect event) c.self.view_is ∙ refused_stays event c.args.self.now fails)
+    λ fails. (told c).book ∙ (ap (effect event) c.self.view_is ∙ refused_stays event c.args.self.now fails)
 
 pub returns-clause-sound : goal.returns-clause-sound
 returns-clause-sound c =
-    let event = c.args.event.now in
-    let old = c.self.inside.inner in
-    let new = c.tell.new.inner in
-    let told : IsTold event old new c.tell.new.telling.ended.items =
-    step_told event old c.take-heard.new.self new c.take-heard.result c.note_modes.new.self.modes.items c.tell.new.telling.ended.items c.take-heard.ensures.book c.take-heard.ensures.heard c.note_modes.ensures.modes c.self.invariant.0.sound.pending.each c.tell.ensures.ended c.tell.ensures.book
-    in
-    (kept_by c.books_stay_sound.ensures.step event old new told.book c.self.invariant.0).sound
+    (kept_by c.books_stay_sound.ensures.step c.args.event.now c.self.inside.inner c.tell.new.inner (told c).book c.self.invariant.0).sound
 
 pub returns-clause-met : goal.returns-clause-met
 returns-clause-met c =
-    let event = c.args.event.now in
-    let old = c.self.inside.inner in
     let new = c.tell.new.inner in
-    let told : IsTold event old new c.tell.new.telling.ended.items =
-    step_told event old c.take-heard.new.self new c.take-heard.result c.note_modes.new.self.modes.items c.tell.new.telling.ended.items c.take-heard.ensures.book c.take-heard.ensures.heard c.note_modes.ensures.modes c.self.invariant.0.sound.pending.each c.tell.ensures.ended c.tell.ensures.book
-    in
-    let kept : IsBook new = kept_by c.books_stay_sound.ensures.step event old new told.book c.self.invariant.0 in
+    let kept : IsBook new = kept_by c.books_stay_sound.ensures.step c.args.event.now c.self.inside.inner new (told c).book c.self.invariant.0 in
     c.values_meet.ensures.met new kept.formed kept.sound
 
 pub returns-clause-out : goal.returns-clause-out
@@ -120,13 +165,11 @@ returns-clause-out c =
     let event = c.args.event.now in
     let old = c.self.inside.inner in
     let new = c.tell.new.inner in
-    let told : IsTold event old new c.tell.new.telling.ended.items =
-    step_told event old c.take-heard.new.self new c.take-heard.result c.note_modes.new.self.modes.items c.tell.new.telling.ended.items c.take-heard.ensures.book c.take-heard.ensures.heard c.note_modes.ensures.modes c.self.invariant.0.sound.pending.each c.tell.ensures.ended c.tell.ensures.book
-    in
     let mid = c.take-heard.new.self in
-    let found = c.tell.new.telling.ended.items in
+    let telling = c.tell.new.telling in
+    let found = telling.ended.items in
     let caches = c.self.inside.caches in
-    let asked : asks_in c.take-heard.result ≡ asks event old = ap asks_in c.take-heard.ensures.heard ∙ asks_heard event old in
+    let told_calls = callbacks (news_in telling) (mode_noted telling.modes.items) (mail_after (opening_in telling (registers_in c.take-heard.result) (time_of event) mid) mid) new in
     record {
       moved = ap (λ (s : Bounded Unit). s.items) c.update.ensures.moved ∙ (
           ap (λ xs. xs ++ moved_by (λ kind. value_at kind mid.fixed mid.now.core) caches.kinds.items caches.values) c.clear.ensures.empty.moved
@@ -137,16 +180,14 @@ returns-clause-out c =
           ∙ ap (λ (b : State). starts (was_down (b ∷ path event b)) (effect event b)) c.self.view_is);
       late = ap (λ (s : Bounded Late). s.items) c.tell.ensures.late
           ∙ (ap (λ xs. xs ++ late_replies found new) c.clear.ensures.empty.late
-          ∙ (ap (λ es. late_replies es new) told.ended
-          ∙ (ap (late_replies (ended event old)) told.book
+          ∙ (ap (λ es. late_replies es new) (told c).ended
+          ∙ (ap (late_replies (ended event old)) (told c).book
           ∙ ap (λ (b : State). late_replies (ended event b) (effect event b)) c.self.view_is)));
       calls = ap (λ (s : Bounded Callback). s.items) c.tell.ensures.calls
-          ∙ (ap (λ xs. xs ++ callbacks (asks_in c.take-heard.result) found new) c.clear.ensures.empty.calls
-          ∙ (ap (λ a. callbacks a found new) asked
-          ∙ (ap (λ es. callbacks (asks event old) es new) told.ended
-          ∙ (ap (callbacks (asks event old) (ended event old)) told.book
-          ∙ ap (λ (b : State). callbacks (asks event b) (ended event b) (effect event b)) c.self.view_is))));
+          ∙ (ap (λ xs. xs ++ told_calls) c.clear.ensures.empty.calls
+          ∙ ((told c).calls
+          ∙ ap (λ (b : State). callbacks (news event b) (modes_in b) (mail_after (opening event b) (after_stages (stages event b) b)) (effect event b)) c.self.view_is));
       answer = c.answer-out.ensures ∙ (ap (λ h. answer_by h new) c.take-heard.ensures.heard ∙ (
-          ap (λ b. answer_by (heard_of event old) b) told.book ∙ ap (answer_to event) c.self.view_is));
+          ap (λ b. answer_by (heard_of event old) b) (told c).book ∙ ap (answer_to event) c.self.view_is));
       done = c.clear.ensures.empty.done;
     }

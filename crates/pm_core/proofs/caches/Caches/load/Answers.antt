@@ -16,6 +16,7 @@ returns-clause-places c =
       states = c.in_ok-zeros.field-0;
       needs = c.in_ok-no_needs.field-0;
       runs = c.in_ok-no_needs-2.field-0;
+      used = c.in_ok-no_needs-3.field-0;
       power = c.in_ok-load.field-0;
       values = c.in_ok-load-2.field-0;
     } in
@@ -25,6 +26,7 @@ returns-clause-places c =
       states = c.in_ok-zeros.ensures ∙ c.len-slaves.ensures;
       needs = c.in_ok-no_needs.ensures ∙ c.len-slaves.ensures;
       runs = c.in_ok-no_needs-2.ensures ∙ c.len.ensures;
+      used = c.in_ok-no_needs-3.ensures ∙ c.len-slaves.ensures;
       powers = ap (λ (n : Needs). n.powers) c.in_ok-load.ensures;
       children = ap (λ (n : Needs). map idle n.children) c.in_ok-load.ensures ∙ idle_is t;
       units = ap units_in c.in_ok-load-2.ensures.entries ∙ zeros_units (units_of t);

@@ -1,13 +1,15 @@
-use Rattle.std.proofs.Common.{◌≡◌, ℕ, ◌≤◌, ◌++◌, length, take, drop, List, sym, ◌∙◌, ap, arith}
+use Rattle.std.proofs.Common.{◌≡◌, ℕ, ◌≤◌, ◌++◌, Bool, length, take, drop, List, sym, ◌∙◌, ap, arith}
 use Rattle.pm_base.specs.declared.names.Unit.{Unit}
 use Rattle.pm_topology.specs.declared.places.Kind.{Kind}
 use Rattle.pm_power.specs.Forest.{ups}
-use Rattle.pm_core.specs.Caches.{kind_value, moved_by, starts_by}
+use Rattle.pm_notify.specs.declared.notes.Waiting.{Waiting}
+use Rattle.pm_core.specs.Caches.{freed_by, kind_value, moved_by, noticed_by, starts_by, use_of}
 use Rattle.pm_base.specs.BoundedList.{Bounded}
 use Rattle.pm_core.specs.State.{State}
 use Rattle.pm_core.specs.Values.{placed, chosen, need_of, run_of, forest, value_at}
 use Rattle.pm_core.proofs.CachesLaw.{written_back, forest_is, valued_is, kind_value_is}
 use Rattle.pm_core.proofs.MovesLemmas.{moved_by-same}
+use Rattle.pm_core.proofs.NoticesLaw.{noticed_by-same}
 use Rattle.pm_core.proofs.PlacedLemmas.{length-placed}
 use Rattle.pm_core.proofs.StartsLaw.{starts_few}
 use Rattle.pm_core.proofs.caches.Caches.update.Goals as goal
@@ -24,7 +26,7 @@ note_starts-requires-clause-room c =
     omega (arith, none, few, c.requires.procs)
 
 -- the states are written, and the needs, and which processors run
-states_are : (c : goal.After-note_moves) → take c.args.self.now.states.len (c.choose.new.states ++ drop (length c.choose.new.states) c.args.self.now.states.items) ≡ placed (chosen c.args.inner.now.now.core) 0 c.args.inner.now.fixed.topology.slaves
+states_are : (c : goal.After-self-4-1) → take c.args.self.now.states.len (c.choose.new.states ++ drop (length c.choose.new.states) c.args.self.now.states.items) ≡ placed (chosen c.args.inner.now.now.core) 0 c.args.inner.now.fixed.topology.slaves
 states_are c =
     let places : length c.choose.new.states ≡ c.args.self.now.states.len =
     ap length c.choose.ensures.states ∙ (length-placed (chosen c.args.inner.now.now.core) 0 c.args.inner.now.fixed.topology.slaves
@@ -32,7 +34,7 @@ states_are c =
     in
     written_back c.choose.new.states c.args.self.now.states.items c.args.self.now.states.len places ∙ c.choose.ensures.states
 
-needs_are : (c : goal.After-note_moves) → take c.args.self.now.needs.len (c.choose.new.needs ++ drop (length c.choose.new.needs) c.args.self.now.needs.items) ≡ placed (need_of c.args.inner.now.now.core) 0 c.args.inner.now.fixed.topology.slaves
+needs_are : (c : goal.After-self-4-1) → take c.args.self.now.needs.len (c.choose.new.needs ++ drop (length c.choose.new.needs) c.args.self.now.needs.items) ≡ placed (need_of c.args.inner.now.now.core) 0 c.args.inner.now.fixed.topology.slaves
 needs_are c =
     let places : length c.choose.new.needs ≡ c.args.self.now.needs.len =
     ap length c.choose.ensures.needs ∙ (length-placed (need_of c.args.inner.now.now.core) 0 c.args.inner.now.fixed.topology.slaves
@@ -40,7 +42,7 @@ needs_are c =
     in
     written_back c.choose.new.needs c.args.self.now.needs.items c.args.self.now.needs.len places ∙ c.choose.ensures.needs
 
-runs_are : (c : goal.After-note_moves) → take c.args.self.now.runs.len (c.note_runs.new.runs ++ drop (length c.note_runs.new.runs) c.args.self.now.runs.items) ≡ placed (run_of c.args.inner.now.now.core) 0 c.args.inner.now.fixed.topology.procs
+runs_are : (c : goal.After-self-4-1) → take c.args.self.now.runs.len (c.note_runs.new.runs ++ drop (length c.note_runs.new.runs) c.args.self.now.runs.items) ≡ placed (run_of c.args.inner.now.now.core) 0 c.args.inner.now.fixed.topology.procs
 runs_are c =
     let places : length c.note_runs.new.runs ≡ c.args.self.now.runs.len =
     ap length c.note_runs.ensures ∙ (length-placed (run_of c.args.inner.now.now.core) 0 c.args.inner.now.fixed.topology.procs
@@ -48,8 +50,16 @@ runs_are c =
     in
     written_back c.note_runs.new.runs c.args.self.now.runs.items c.args.self.now.runs.len places ∙ c.note_runs.ensures
 
+used_is : (c : goal.After-self-4-1) → take c.args.self.now.used.len (c.note_uses.new.used ++ drop (length c.note_uses.new.used) c.args.self.now.used.items) ≡ placed (use_of c.args.inner.now.now.core) 0 c.args.inner.now.fixed.topology.slaves
+used_is c =
+    let places : length c.note_uses.new.used ≡ c.args.self.now.used.len =
+    ap length c.note_uses.ensures ∙ (length-placed (use_of c.args.inner.now.now.core) 0 c.args.inner.now.fixed.topology.slaves
+    ∙ (sym c.requires.places.used ∙ (ap length (sym c.deref_mut-4.ensures.value) ∙ c.deref_mut-4.ensures.len)))
+    in
+    written_back c.note_uses.new.used c.args.self.now.used.items c.args.self.now.used.len places ∙ c.note_uses.ensures
+
 -- and so the power nodes are those of the book
-power_is : (c : goal.After-note_moves) → c.recompute.new.self ≡ forest c.args.inner.now.fixed c.args.inner.now.now.core
+power_is : (c : goal.After-self-4-1) → c.recompute.new.self ≡ forest c.args.inner.now.fixed c.args.inner.now.now.core
 power_is c =
     c.recompute.ensures
     ∙ forest_is c.args.inner.now.fixed c.args.inner.now.now.core c.args.self.now.power c.deref.result.now c.deref-2.result.now
@@ -62,11 +72,12 @@ returns-clause-kept c =
       states = states_are c;
       needs = needs_are c;
       runs = runs_are c;
+      used = used_is c;
       power = power_is c;
       values = c.note_moves.ensures.values
-          ∙ valued_is c.args.inner.now c.deref-5.result.now c.inner.inside.procs.procs c.ups.result.now c.deref-4.result.now c.args.self.now.values
-          (c.deref-5.ensures.value ∙ states_are c) (ap (λ (b : State). b.now.core.procs) c.inner.view_is) (c.ups.ensures ∙ ap ups (power_is c))
-          c.requires.places.units (c.deref-4.ensures.value ∙ c.requires.places.kinds);
+          ∙ valued_is c.args.inner.now c.deref-8.result.now c.inner.inside.procs.procs c.ups-2.result.now c.deref-7.result.now c.args.self.now.values
+          (c.deref-8.ensures.value ∙ states_are c) (ap (λ (b : State). b.now.core.procs) c.inner.view_is) (c.ups-2.ensures ∙ ap ups (power_is c))
+          c.requires.places.units (c.deref-7.ensures.value ∙ c.requires.places.kinds);
     }
 
 pub returns-clause-moved : goal.returns-clause-moved
@@ -75,10 +86,28 @@ returns-clause-moved c =
     let old = c.args.self.now in
     let before = c.args.moved.now in
     let with : List Unit → Bounded Unit = λ items. record before { items = before.items ++ items } in
-    let new : Kind → ℕ = kind_value c.deref-5.result.now c.inner.inside.procs.procs c.ups.result.now in
+    let new : Kind → ℕ = kind_value c.deref-8.result.now c.inner.inside.procs.procs c.ups-2.result.now in
     c.note_moves.ensures.moved
-    ∙ (ap (λ ks. with (moved_by new ks old.values)) c.deref-4.ensures.value
+    ∙ (ap (λ ks. with (moved_by new ks old.values)) c.deref-7.ensures.value
     ∙ ap with (moved_by-same new (λ kind. value_at kind book.fixed book.now.core)
+    (kind_value_is book.fixed book.now.core c.deref-8.result.now c.inner.inside.procs.procs c.ups-2.result.now
+    (c.deref-8.ensures.value ∙ states_are c) (ap (λ (b : State). b.now.core.procs) c.inner.view_is) (c.ups-2.ensures ∙ ap ups (power_is c)))
+    old.kinds.items old.values))
+
+pub returns-clause-notices : goal.returns-clause-notices
+returns-clause-notices c =
+    let book = c.args.inner.now in
+    let old = c.args.self.now in
+    let before = c.args.notices.now in
+    let with : List Waiting → Bounded Waiting = λ items. record before { items = items } in
+    let new : Kind → ℕ = kind_value c.deref-5.result.now c.inner.inside.procs.procs c.ups.result.now in
+    let freed : Kind → Bool = freed_by old.used.items book.now.core.rows in
+    c.note_notices.ensures.notices
+    ∙ (ap (λ (s : Bounded Waiting). record s { items = s.items ++ noticed_by new (freed_by c.deref-6.result.now c.inner.inside.rows) c.deref-4.result.now old.values }) c.clear.ensures
+    ∙ (ap (λ us. with (noticed_by new (freed_by us c.inner.inside.rows) c.deref-4.result.now old.values)) c.deref-6.ensures.value
+    ∙ (ap (λ (b : State). with (noticed_by new (freed_by old.used.items b.now.core.rows) c.deref-4.result.now old.values)) c.inner.view_is
+    ∙ (ap (λ ks. with (noticed_by new freed ks old.values)) c.deref-4.ensures.value
+    ∙ ap with (noticed_by-same new (λ kind. value_at kind book.fixed book.now.core) freed
     (kind_value_is book.fixed book.now.core c.deref-5.result.now c.inner.inside.procs.procs c.ups.result.now
     (c.deref-5.ensures.value ∙ states_are c) (ap (λ (b : State). b.now.core.procs) c.inner.view_is) (c.ups.ensures ∙ ap ups (power_is c)))
-    old.kinds.items old.values))
+    old.kinds.items old.values)))))

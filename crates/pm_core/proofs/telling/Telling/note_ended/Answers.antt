@@ -26,6 +26,8 @@ loop-m-preserved c =
     let counted = ap length found ∙ length-append c.loop-m.self.ended.items (ended_at (turns m) aborts count m (pending_at m pending)) in
     record {
       modes = modes;
+      asks = c.note_end.ensures.asks ∙ c.loop-m.invariant.asks;
+      notices = c.note_end.ensures.notices ∙ c.loop-m.invariant.notices;
       room = ap (λ (list : Bounded Ended). list.room) c.note_end.ensures.ended ∙ c.loop-m.invariant.room;
       few = omega (arith, counted, few, c.loop-m.invariant.few);
       ended =

@@ -7,6 +7,8 @@ use Rattle.pm_core.proofs.telling.Telling.note_ended.Given as goal
 abbrev pub invariant-loop-m : goal.invariant-loop-m
 invariant-loop-m l = record {
   modes : l.self.modes ≡ l.fn.self.modes;
+  asks : l.self.asks ≡ l.fn.asks;
+  notices : l.self.notices ≡ l.fn.self.notices;
   room : l.self.ended.room ≡ l.fn.self.ended.room;
   few : length l.self.ended.items ≤ l.m;
   ended : l.self.ended.items ++ ended_from (turns_since l.fn.self.modes.items l.inner) l.aborts l.count l.m (drop l.m l.inner.now.talk.pending)

@@ -1,0 +1,66 @@
+-- What is told, one change after another, and master by master.
+use Rattle.std.proofs.Common.{◌≡◌, ℕ, ◌+◌, ◌<◌, List, [], ◌∷◌, ◌++◌, length, drop, get_or, slice_get, map, Some, refl, sym, ◌∙◌, ap}
+use Rattle.std.specs.Prelude.{flat_map}
+use Rattle.std.proofs.lemmas.List.{drop_more}
+use Rattle.pm_base.proofs.ListLemmas.{drop_found}
+use Rattle.pm_object.specs.declared.object.MasterRec.{MasterRec}
+use Rattle.pm_core.specs.declared.ended.Turns.{Turns}
+use Rattle.pm_core.specs.Members.{mode_of_master}
+use Rattle.pm_core.specs.Ended.{turns_of}
+use Rattle.pm_core.specs.State.{Fixed, CoreHalf, State, TalkHalf}
+use Rattle.pm_core.specs.Talk.{Talk, apply_talk, forget_at, forgets_from, talked, talks}
+use Rattle.pm_core.specs.Telling.{mode_noted, turns_since}
+
+pub talks_append : (first later : List Talk) (half : TalkHalf) → talks (first ++ later) half ≡ talks later (talks first half)
+talks_append [] later half = refl
+talks_append (change ∷ first) later half = talks_append first later (apply_talk change half)
+
+pub talked_append : (first later : List Talk) (book : State) → talked (first ++ later) book ≡ talked later (talked first book)
+talked_append first later book =
+    ap (λ (talk : TalkHalf). record book { now = record book.now { talk = talk } }) (talks_append first later book.now.talk)
+
+-- the changes for one element more, and those that are left
+pub each_step : {X : Type 0} (change : X → List Talk) (xs : List X) (i : ℕ) (x : X) (book next : State) → slice_get xs i ≡ Some x → next ≡ talked (change x) book
+    → talked (flat_map change (drop (i + 1) xs)) next ≡ talked (flat_map change (drop i xs)) book
+each_step change xs i x book next at is =
+    ap (talked (flat_map change (drop (i + 1) xs))) is
+    ∙ (sym (talked_append (change x) (flat_map change (drop (i + 1) xs)) book)
+    ∙ ap (λ left. talked (flat_map change left) book) (sym (drop_found xs i x at)))
+
+-- what becomes of a mode follows from what is fixed and from the core half
+pub turns_same : (modes : List _) (a b : State) (m : ℕ) → a.fixed ≡ b.fixed → a.now.core ≡ b.now.core → turns_since modes a m ≡ turns_since modes b m
+turns_same modes a b m fixed core =
+    ap (λ (f : Fixed). turns_of (mode_noted modes m) (mode_of_master f a.now.core m ∷ [])) fixed
+    ∙ ap (λ (c : CoreHalf). turns_of (mode_noted modes m) (mode_of_master b.fixed c m ∷ [])) core
+
+-- one master forgets, and those that are left
+pub forget_step : (turns : ℕ → Turns) (book next : State) (m : ℕ) (d : MasterRec) (masters : List MasterRec) → next ≡ talked (forget_at (turns m) m) book → m < length masters
+    → talked (forgets_from turns (m + 1) (drop (m + 1) masters)) next ≡ talked (forgets_from turns m (drop m masters)) book
+forget_step turns book next m d masters is within =
+    let rest : List MasterRec = drop (m + 1) masters in
+    let left : drop m masters ≡ get_or masters m d ∷ rest = drop_more masters m d within in
+    ap (talked (forgets_from turns (m + 1) rest)) is
+    ∙ (sym (talked_append (forget_at (turns m) m) (forgets_from turns (m + 1) rest) book)
+    ∙ ap (λ xs. talked (forgets_from turns m xs) book) (sym left))
+
+pub map_append : {X Y : Type 0} (f : X → Y) (xs ys : List X) → map f (xs ++ ys) ≡ map f xs ++ map f ys
+map_append f [] ys = refl
+map_append f (x ∷ xs) ys = ap (λ zs. f x ∷ zs) (map_append f xs ys)
+
+-- to make something of each part, or of all parts together
+pub map_flat : {X Y Z : Type 0} (f : Y → Z) (parts : X → List Y) (xs : List X) → map f (flat_map parts xs) ≡ flat_map (λ x. map f (parts x)) xs
+map_flat f parts [] = refl
+map_flat f parts (x ∷ xs) =
+    map_append f (parts x) (flat_map parts xs) ∙ ap (λ zs. map f (parts x) ++ zs) (map_flat f parts xs)
+
+-- changes after changes
+pub then_told : (first later : List Talk) (book mid new : State) → mid ≡ talked first book → new ≡ talked later mid → new ≡ talked (first ++ later) book
+then_told first later book mid new mid_is new_is =
+    new_is ∙ (ap (talked later) mid_is ∙ sym (talked_append first later book))
+
+-- five lists of changes, one after another
+pub opens : (f n a l e : List Talk) (book b1 b2 b3 b4 b5 : State) → b1 ≡ talked f book → b2 ≡ talked n b1 → b3 ≡ talked a b2 → b4 ≡ talked l b3 → b5 ≡ talked e b4
+    → b5 ≡ talked (f ++ (n ++ (a ++ (l ++ e)))) book
+opens f n a l e book b1 b2 b3 b4 b5 is1 is2 is3 is4 is5 =
+    then_told f (n ++ (a ++ (l ++ e))) book b1 b5 is1
+    (then_told n (a ++ (l ++ e)) b1 b2 b5 is2 (then_told a (l ++ e) b2 b3 b5 is3 (then_told l e b3 b4 b5 is4 is5)))

@@ -1,0 +1,13 @@
+use Rattle.std.proofs.Common.{◌≡◌, drop}
+use Rattle.pm_core.specs.Talk.{forgets_from, talked}
+use Rattle.pm_core.specs.Telling.{turns_since}
+use Rattle.pm_core.proofs.inner.Inner.forget.Given as goal
+
+-- the masters that are left make the whole with those that forgot
+abbrev pub invariant-loop-m : goal.invariant-loop-m
+invariant-loop-m l = record {
+  fixed : l.self.fixed ≡ l.initial.self.fixed;
+  core : l.self.now.core ≡ l.initial.self.now.core;
+  whole : talked (forgets_from (turns_since l.telling.modes.items l.initial.self) l.m (drop l.m l.initial.self.fixed.object.masters)) l.self
+      ≡ talked (forgets_from (turns_since l.telling.modes.items l.initial.self) 0 l.initial.self.fixed.object.masters) l.initial.self;
+}

@@ -1,0 +1,74 @@
+use Rattle.std.proofs.Common.{◌≡◌, ◌++◌, length, sym, ◌∙◌, ap, subst}
+use Rattle.pm_base.specs.BoundedList.{Bounded}
+use Rattle.pm_core.specs.declared.outbox.Callback.{Callback}
+use Rattle.pm_core.specs.Caches.{AreKept}
+use Rattle.pm_core.specs.Callbacks.{callbacks, mails}
+use Rattle.pm_core.specs.Heard.{kept_of, registers_in}
+use Rattle.pm_core.specs.Sound.{AreMails}
+use Rattle.pm_core.specs.State.{State, in_force}
+use Rattle.pm_core.specs.Step.{mail_after, tellings, time_of}
+use Rattle.pm_core.specs.Talk.{talked}
+use Rattle.pm_core.specs.Telling.{mode_noted, news_in, opening_in}
+use Rattle.pm_core.proofs.EndedLaw.{kept_talked}
+use Rattle.pm_core.proofs.MailLaw.{talk_mails}
+use Rattle.pm_core.proofs.TalkLemmas.{then_told}
+use Rattle.pm_core.proofs.TellLemmas.{calls_told, kept_told, mails_told}
+use Rattle.pm_core.proofs.talk.tell.Goals as goal
+
+pub tell_masters-requires-clause-kept : goal.tell_masters-requires-clause-kept
+tell_masters-requires-clause-kept c =
+    let P : State → Type 0 = λ b. AreKept b c.args.caches.now in
+    subst P (sym c.open.ensures) (kept_talked (opening_in c.note_ended.new.self c.registers.result c.time_of-count.result c.args.inner.now) c.args.inner.now c.args.caches.now c.requires.kept)
+
+pub tell_masters-requires-clause-mail : goal.tell_masters-requires-clause-mail
+tell_masters-requires-clause-mail c =
+    let old = c.args.inner.now in
+    let P : State → Type 0 = λ b. AreMails b.fixed.topology (length (in_force b).masters) b.now.talk.mail in
+    subst P (sym c.open.ensures) (talk_mails c.mail_stands_in_order.ensures old.fixed.topology (length (in_force old).masters) (opening_in c.note_ended.new.self c.registers.result c.time_of-count.result old) old.now.talk c.requires.mail)
+
+pub returns-clause-book : goal.returns-clause-book
+returns-clause-book c =
+    let old = c.args.inner.now in
+    let telling = c.note_ended.new.self in
+    let news = news_in telling in
+    let was = mode_noted telling.modes.items in
+    let heard = c.args.heard.now in
+    let first = opening_in telling (registers_in heard) (time_of c.args.event.now) old in
+    let opened : c.open.new.self ≡ talked first old =
+    c.open.ensures ∙ (ap (λ r. talked (opening_in telling r c.time_of-count.result old) old) c.registers.ensures
+    ∙ ap (λ t. talked (opening_in telling (registers_in heard) t old) old) c.time_of-count.ensures)
+    in
+    let told : c.tell_masters.new.self ≡ talked (mails news was (mail_after first old) old) c.open.new.self =
+    c.tell_masters.ensures.book
+    ∙ (ap (λ (b : State). talked (mails news was b.now.talk.mail b) c.open.new.self) opened
+    ∙ ap (λ ms. talked ms c.open.new.self) (mails_told news was (mail_after first old) first old 0 (in_force old).masters))
+    in
+    let both = then_told first (mails news was (mail_after first old) old) old c.open.new.self c.tell_masters.new.self opened told in
+    let kept : c.keep_own.new.self ≡ talked (kept_of heard old) c.tell_masters.new.self =
+    c.keep_own.ensures
+    ∙ (ap (λ (b : State). talked (kept_of heard b) c.tell_masters.new.self) both
+    ∙ ap (λ ks. talked ks c.tell_masters.new.self) (kept_told heard (first ++ mails news was (mail_after first old) old) old))
+    in
+    then_told first (mails news was (mail_after first old) old ++ kept_of heard old) old c.open.new.self c.keep_own.new.self opened
+    (then_told (mails news was (mail_after first old) old) (kept_of heard old) c.open.new.self c.tell_masters.new.self c.keep_own.new.self told kept)
+
+pub returns-clause-calls : goal.returns-clause-calls
+returns-clause-calls c =
+    let old = c.args.inner.now in
+    let telling = c.note_ended.new.self in
+    let news = news_in telling in
+    let was = mode_noted telling.modes.items in
+    let heard = c.args.heard.now in
+    let first = opening_in telling (registers_in heard) (time_of c.args.event.now) old in
+    let before = c.args.calls.now in
+    let opened : c.open.new.self ≡ talked first old =
+    c.open.ensures ∙ (ap (λ r. talked (opening_in telling r c.time_of-count.result old) old) c.registers.ensures
+    ∙ ap (λ t. talked (opening_in telling (registers_in heard) t old) old) c.time_of-count.ensures)
+    in
+    let put : _ → Bounded Callback = λ cs. record before { items = before.items ++ cs } in
+    let all = tellings news was first heard old in
+    c.tell_masters.ensures.calls
+    ∙ (ap (λ (b : State). put (callbacks news was b.now.talk.mail b)) opened
+    ∙ (ap put (calls_told news was (mail_after first old) first old 0 (in_force old).masters)
+    ∙ (ap put (sym (calls_told news was (mail_after first old) all old 0 (in_force old).masters))
+    ∙ ap (λ (b : State). put (callbacks news was (mail_after first old) b)) (sym (returns-clause-book c)))))

@@ -1,0 +1,68 @@
+//! PM_REGISTER_NOTIFIER (UG1200).
+
+ghost use Rattle.std.specs.Prelude.{◌≡◌};
+ghost use Rattle.pm_core.specs.Outcome.{outcome_of};
+ghost use Rattle.pm_core.specs.calls.RegisterNotifier.{can_happen, may_watch, register_notifier};
+
+use crate::judgement::{Judgement, Notifier};
+use crate::views::Watched;
+use pm_base::NodeId;
+use pm_ipi::Response;
+use pm_ipi::status::{INVALID_NODE, INVALID_PARAMETER, NO_ACCESS};
+use pm_notify::NodeEvent;
+
+/// Whether the event can happen to the node: any node changes, and only a slave has users.
+fn can_happen(event: NodeEvent, view: &Watched) -> bool
+    ensures { result ≡ can_happen (Some event) view.now }
+{
+    match event {
+        NodeEvent::Change => true,
+        NodeEvent::ZeroUsers => matches!(view, Watched::SlaveNode { .. }),
+    }
+}
+
+/// Whether the caller may be told of it: a slave needs a permission, and a power node none.
+fn may_watch(view: &Watched) -> bool
+    ensures { result ≡ may_watch view.now }
+{
+    match view {
+        Watched::Nothing => false,
+        Watched::PowerNode => true,
+        Watched::SlaveNode { permitted } => *permitted,
+    }
+}
+
+/// The caller is told of the event of the node from now on, or not any more.
+pub(crate) fn register_notifier(
+    master: usize,
+    view: &Watched,
+    node: NodeId,
+    event: u32,
+    enable: u32,
+) -> Judgement
+    ensures { result ≡ (outcome_of (register_notifier master node event enable view.now)).judgement }
+{
+    if matches!(view, Watched::Nothing) {
+        return Judgement::refusal(INVALID_NODE);
+    }
+    let Some(event) = NodeEvent::from_number(event) else {
+        return Judgement::refusal(INVALID_PARAMETER);
+    };
+    if !can_happen(event, view) || enable > 1 {
+        return Judgement::refusal(INVALID_PARAMETER);
+    }
+    if !may_watch(view) {
+        return Judgement::refusal(NO_ACCESS);
+    }
+    Judgement {
+        response: Response::success([0; 3]),
+        asks: None,
+        aborts: None,
+        registers: Some(Notifier {
+            master,
+            node,
+            event,
+            on: enable == 1,
+        }),
+    }
+}

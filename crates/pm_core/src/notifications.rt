@@ -1,0 +1,91 @@
+//! What happens to nodes in a step: which change, and which have no users any more.
+
+ghost use Rattle.std.specs.Prelude.{◌≡◌, ◌+◌, ◌*◌, ◌<◌, ◌≤◌, ◌++◌, false, length, slice_get, unwrap_or};
+ghost use Rattle.pm_core.specs.Caches.{freed_by, kind_value, noticed_at, noticed_by};
+ghost use Rattle.pm_core.specs.Notifications as spec;
+ghost use Rattle.pm_core.specs.Outbox.{notice_count};
+
+use crate::moves::kind_value;
+use pm_base::{BoundedList, NodeId, Unit};
+use pm_notify::{Note, Waiting};
+use pm_procs::Procs;
+use pm_rows::Rows;
+use pm_topology::{Kind, UnitMap};
+
+/// Puts what happened to each unit into `notices`, in the order of the units: that its value isn't the one
+/// before, and then that it was used and is used no more.
+pub(crate) fn note_notices(
+    kinds: &[Kind],
+    states: &[u32],
+    procs: &Procs,
+    ups: &[bool],
+    used: &[bool],
+    rows: &Rows,
+    values: &UnitMap<u32>,
+    notices: &mut BoundedList<Waiting>,
+)
+    requires places { length kinds.now ≡ length values.now }
+    requires room { length notices.old.items + notice_count (length values.now) ≤ notices.old.room }
+    ensures notices { notices.new ≡ record notices.old {
+      items = notices.old.items
+          ++ noticed_by (kind_value states.now procs.now.procs ups.now) (freed_by used.now rows.now) kinds.now values.now;
+    } }
+    ensures few { length notices.new.items ≤ length notices.old.items + notice_count (length values.now) }
+{
+    for (k, kind) in kinds.iter().enumerate() {
+        let value = kind_value(*kind, states, procs, ups);
+        let freed = freed(*kind, used, rows);
+        note_notice(values.entry(k), value, freed, notices);
+    }
+}
+
+/// Whether a node of this kind was used, and is used no more.
+fn freed(kind: Kind, used: &[bool], rows: &Rows) -> bool
+    ensures { result ≡ freed_by used.now rows.now kind }
+{
+    match kind {
+        Kind::Slave(s) => was_used(used, s) && !is_used(s, rows),
+        Kind::Proc(_) | Kind::Power(_) | Kind::Unknown => false,
+    }
+}
+
+fn was_used(used: &[bool], s: usize) -> bool
+    ensures { result ≡ unwrap_or (slice_get used.now s) false }
+{
+    used.get(s).copied().unwrap_or(false)
+}
+
+/// Whether some master uses the slave at a place.
+pub(crate) fn is_used(s: usize, rows: &Rows) -> bool
+    ensures { result ≡ spec.is_used s rows.now }
+{
+    rows.users(s) != 0
+}
+
+/// Puts what happened to the unit of an entry into `notices`, by its value before.
+fn note_notice(
+    entry: Option<(Unit, u32)>,
+    value: u32,
+    freed: bool,
+    notices: &mut BoundedList<Waiting>,
+)
+    requires { length notices.old.items + 2 ≤ notices.old.room }
+    ensures notices { notices.new ≡ record notices.old { items = notices.old.items ++ noticed_at value freed entry } }
+    ensures few { length notices.new.items ≤ length notices.old.items + 2 }
+{
+    if let Some((Unit::Node(node), before)) = entry {
+        note_if(before != value, node, Note::Change, notices);
+        note_if(freed, node, Note::ZeroUsers, notices);
+    }
+}
+
+/// Puts a note about a node into `notices`, if that happened to it.
+fn note_if(happened: bool, node: NodeId, note: Note, notices: &mut BoundedList<Waiting>)
+    requires { length notices.old.items < notices.old.room }
+    ensures notices { notices.new ≡ record notices.old { items = notices.old.items ++ spec.note_if happened node note } }
+    ensures few { length notices.new.items ≤ length notices.old.items + 1 }
+{
+    if happened {
+        notices.push(Waiting { node, note });
+    }
+}
