@@ -1,7 +1,8 @@
 -- Agreement beyond a border: of a sound book with itself, turned round, and through a third book.
-use Rattle.std.proofs.Common.{◌≡◌, ℕ, ◌+◌, Bool, true, false, true≢false, List, map, slice_get, unwrap_or, Option, Some, None, refl, sym, ◌∙◌, subst, arith}
+use Rattle.std.proofs.Common.{◌≡◌, ℕ, ◌+◌, ◌<◌, Bool, true, false, true≢false, List, [], length, map, slice_get, unwrap_or, Option, Some, None, refl, sym, ◌∙◌, ap, subst, arith}
 use Rattle.std.specs.List.{AllByRecursion as Each}
 use Rattle.std.proofs.lemmas.List.Elements.{recursion_from_All}
+use Rattle.std.proofs.lemmas.Option.{slice_get_within}
 use Rattle.pm_base.specs.declared.names.Mode.TheVariants.{Off}
 use Rattle.pm_procs.specs.declared.procs.Proc.{Proc}
 use Rattle.pm_procs.specs.Procs.{mode_at, off}
@@ -13,10 +14,15 @@ use Rattle.pm_topology.specs.declared.topology.Topology.{Topology}
 use Rattle.pm_core.specs.Load.{load_of}
 use Rattle.pm_core.specs.Members.{owner_at}
 use Rattle.pm_core.specs.Pairs.{pairs_of}
-use Rattle.pm_core.specs.Sound.{IsSound}
-use Rattle.pm_core.specs.State.{Fixed, TalkHalf, Now, State}
-use Rattle.pm_laws.specs.Agree.{SameRow, IsWithin, SameRows, SameKnown, SamePending, SameProc, SameTalk, Same, Agree}
+use Rattle.pm_core.specs.Sound.{HasMail, IsSound}
+use Rattle.pm_core.specs.State.{Fixed, TalkHalf, Now, State, in_force}
+use Rattle.pm_notify.specs.Mailbox.{Mail}
+use Rattle.pm_notify.specs.Notify.{mail_of}
+use Rattle.pm_topology.specs.UnitMap.{units_in}
+use Rattle.pm_topology.specs.Units.{UnitLaws, rises}
+use Rattle.pm_laws.specs.Agree.{SameRow, IsWithin, SameRows, SameKnown, SameMail, SamePending, SameProc, SameTalk, Same, Agree}
 use Rattle.pm_laws.specs.Border.{Border, IsBeyond, IsPairClosed, IsClosed}
+use Rattle.pm_laws.proofs.MailFacts.{entries_self, entries_sym, entries_trans}
 use Rattle.pm_laws.proofs.Places.{Both-sym, Both-trans, Both-self, BothFrom-sym, BothFrom-trans, BothFrom-self, Each-of_map}
 
 -- what is so of a test can't be otherwise
@@ -51,6 +57,7 @@ proc_sym fixed border p x y same = record {
 pub talk_sym : (border : Border) (a b : TalkHalf) → SameTalk border a b → SameTalk border b a
 talk_sym border a b same = record {
   pending = BothFrom-sym (SamePending border) (λ k x y is beyond. sym (is beyond)) 0 a.pending b.pending same.pending;
+  mail = BothFrom-sym (SameMail border) (λ k x y is beyond. entries_sym border x y (is beyond)) 0 a.mail b.mail same.mail;
 }
 
 pub same_sym : (fixed : Fixed) (border : Border) (a b : Now) → Same fixed border a b → Same fixed border b a
@@ -88,6 +95,7 @@ proc_trans fixed border p x y z first second = record {
 pub talk_trans : (border : Border) (a b c : TalkHalf) → SameTalk border a b → SameTalk border b c → SameTalk border a c
 talk_trans border a b c first second = record {
   pending = BothFrom-trans (SamePending border) (λ k x y z one two beyond. one beyond ∙ two beyond) 0 a.pending b.pending c.pending first.pending second.pending;
+  mail = BothFrom-trans (SameMail border) (λ k x y z one two beyond. entries_trans border x y z (one beyond) (two beyond)) 0 a.mail b.mail c.mail first.mail second.mail;
 }
 
 pub same_trans : (fixed : Fixed) (border : Border) (a b c : Now) → Same fixed border a b → Same fixed border b c → Same fixed border a c
@@ -122,9 +130,16 @@ proc_self fixed border procs nobodys p x is =
     let Q : Option Proc → Type 0 = λ o. (unwrap_or o off).mode ≡ Off in
     subst P same (record { beyond = λ m owner beyond. refl; nobodys = λ none. (subst Q is (nobodys p none), subst Q is (nobodys p none)) })
 
+-- in the mail of each master the units stand in order
+mail_order : UnitLaws → (book : State) → HasMail book → (m : ℕ) (mail : Mail) → slice_get book.now.talk.mail m ≡ Some mail → rises (units_in mail) ≡ true
+mail_order units book sound m mail is =
+    let there : m < length (in_force book).masters = subst (λ n. m < n) sound.each (slice_get_within book.now.talk.mail m mail is) in
+    let own : mail_of m book.now.talk.mail ≡ mail = ap (λ o. unwrap_or o []) is in
+    ap (λ x. rises (units_in x)) (sym own) ∙ (ap rises (sound.units m there) ∙ (units.are book.fixed.topology).rising)
+
 -- a sound book agrees with itself beyond a closed border
-pub agree_self : (border : Border) (book : State) → IsClosed book.fixed.object book.fixed.topology border → IsSound book → Agree border book book
-agree_self border book closed sound =
+pub agree_self : UnitLaws → (border : Border) (book : State) → IsClosed book.fixed.object book.fixed.topology border → IsSound book → Agree border book book
+agree_self units border book closed sound =
     let pairs = pairs_of book.fixed.object book.fixed.topology in
     let P : List RowSeed → Type 0 = λ seeds. Each (IsPairClosed border) seeds in
     let each : Each (IsPairClosed border) (map pair_in book.now.core.rows.entries) =
@@ -136,13 +151,16 @@ agree_self border book closed sound =
         rows = rows_self border border.some refl closed.some book.now.core.rows.entries each;
         known = BothFrom-self (SameKnown border) 0 book.now.core.rows.known (λ p x is beyond. refl);
         procs = BothFrom-self (SameProc book.fixed border) 0 book.now.core.procs (proc_self book.fixed border book.now.core.procs sound.procs.nobodys);
-        talk = record { pending = BothFrom-self (SamePending border) 0 book.now.talk.pending (λ p x is beyond. refl) };
+        talk = record {
+          pending = BothFrom-self (SamePending border) 0 book.now.talk.pending (λ p x is beyond. refl);
+          mail = BothFrom-self (SameMail border) 0 book.now.talk.mail (λ m mail is beyond. entries_self border mail (mail_order units book sound.mail m mail is));
+        };
       };
     }
 
 -- and so does the book at load
-pub load_self : ((object : Object) (t : Topology) → IsSound (load_of object t)) → (border : Border) (object : Object) (t : Topology) → IsClosed object t border → Agree border (load_of object t) (load_of object t)
-load_self sound border object t closed = agree_self border (load_of object t) closed (sound object t)
+pub load_self : UnitLaws → ((object : Object) (t : Topology) → IsSound (load_of object t)) → (border : Border) (object : Object) (t : Topology) → IsClosed object t border → Agree border (load_of object t) (load_of object t)
+load_self units sound border object t closed = agree_self units border (load_of object t) closed (sound object t)
 
 -- ---- books
 

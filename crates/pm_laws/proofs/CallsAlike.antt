@@ -5,7 +5,7 @@ use Rattle.std.proofs.lemmas.Bool.{eqb-true}
 use Rattle.pm_base.specs.declared.names.NodeId.{NodeId}
 use Rattle.pm_base.proofs.Booleans.{both, equal}
 use Rattle.pm_ipi.specs.declared.calls.Call.{Call}
-use Rattle.pm_ipi.specs.declared.calls.Call.TheVariants.{GetNodeStatus, RequestSuspend, SelfSuspend, AbortSuspend, RequestWakeup, SetWakeupSource, RequestNode, ReleaseNode, SetRequirement, SetMaxLatency}
+use Rattle.pm_ipi.specs.declared.calls.Call.TheVariants.{GetNodeStatus, RegisterNotifier, RequestSuspend, SelfSuspend, AbortSuspend, RequestWakeup, SetWakeupSource, RequestNode, ReleaseNode, SetRequirement, SetMaxLatency}
 use Rattle.pm_procs.specs.declared.procs.Proc.{Proc as Processor}
 use Rattle.pm_procs.specs.Pending.{pending_at}
 use Rattle.pm_procs.specs.Procs.{proc_at}
@@ -25,8 +25,9 @@ use Rattle.pm_core.specs.Prims.{Prim}
 use Rattle.pm_core.specs.State.{Fixed, Now, State}
 use Rattle.pm_core.specs.Step.{called, tried_by}
 use Rattle.pm_core.specs.Values.{slave_place}
-use Rattle.pm_core.specs.Views.{can_suspend, can_wake, is_asked, master_node, master_timeout, named_master, names_master, proc_view, proc_view_at, rival_node, row_view, row_view_at, suspend_view, suspendable, suspendable_at, wake_view, wake_view_at, wakeable}
+use Rattle.pm_core.specs.Views.{can_suspend, can_wake, is_asked, master_node, master_timeout, named_master, names_master, proc_view, proc_view_at, rival_node, row_view, row_view_at, suspend_view, suspendable, suspendable_at, wake_view, wake_view_at, wakeable, watched_at}
 use Rattle.pm_core.specs.calls.AbortSuspend.{abort_suspend}
+use Rattle.pm_core.specs.calls.RegisterNotifier.{register_notifier}
 use Rattle.pm_core.specs.calls.ReleaseNode.{release_node}
 use Rattle.pm_core.specs.calls.RequestNode.{request_node}
 use Rattle.pm_core.specs.calls.RequestSuspend.{request_suspend}
@@ -66,7 +67,7 @@ entry_alike border s x y beyond same there =
     ap (λ (seed : RowSeed). record { seed = seed; row = x.row }) same.seed
     ∙ ap (λ (row : Row). record { seed = y.seed; row = row }) (same.row (ap border.slave there ∙ beyond))
 
-entries_alike : (border : Border) (m s : ℕ) (a b : List Entry) → border.slave s ≡ true → Both (SameRow border) a b → find (is_at m s) a ≡ find (is_at m s) b
+pub entries_alike : (border : Border) (m s : ℕ) (a b : List Entry) → border.slave s ≡ true → Both (SameRow border) a b → find (is_at m s) a ≡ find (is_at m s) b
 entries_alike border m s a b beyond same =
     Both-find (SameRow border) (is_at m s) (λ x y each. ap (λ (seed : RowSeed). (seed.master == m) && (seed.slave == s)) each.seed)
     (λ x y each is. entry_alike border s x y beyond each (eqb-true x.seed.slave s (both (x.seed.master == m) (x.seed.slave == s) is).1)) a b same
@@ -118,7 +119,7 @@ wake_owner fixed border m p (Some k) a b owner is same =
     ap (λ (proc : Processor). if can_wake m k (book_of fixed a) then Some (record { owner = k; proc = proc }) else None)
     (proc_alike fixed border k p a b (kept (border.master k) is) own same)
 
-wake_alike : (fixed : Fixed) (border : Border) (m : ℕ) (kind : Kind) (a b : Now) → is_within border (owner_by kind (book_of fixed a)) ≡ false → Same fixed border a b → wake_view_at m kind (book_of fixed a) ≡ wake_view_at m kind (book_of fixed b)
+pub wake_alike : (fixed : Fixed) (border : Border) (m : ℕ) (kind : Kind) (a b : Now) → is_within border (owner_by kind (book_of fixed a)) ≡ false → Same fixed border a b → wake_view_at m kind (book_of fixed a) ≡ wake_view_at m kind (book_of fixed b)
 wake_alike fixed border m (Proc p) a b is same =
     ap (λ target. record { place = Some p; target = target }) (wake_owner fixed border m p (owner_at fixed.object fixed.topology p) a b refl is same)
 wake_alike fixed border m (Slave s) a b is same = refl
@@ -178,6 +179,14 @@ source_alike fixed border m node enable target (Some s) a b some same =
     arm_alike node enable target (Some s) (entry_at m s a.core.rows) (entry_at m s b.core.rows) (rival_node m s (book_of fixed a)) (rival_node m s (book_of fixed b))
     (seeds_alike border m s a.core.rows.entries b.core.rows.entries (rows_both border a.core.rows.entries b.core.rows.entries some same.rows))
 
+-- ---- the view of a node of which a master wants to be told: by what is fixed alone
+
+pub watched_same : (fixed : Fixed) (m : ℕ) (node : NodeId) (kind : Kind) (a b : Now) → watched_at m node kind (book_of fixed a) ≡ watched_at m node kind (book_of fixed b)
+watched_same fixed m node (Proc p) a b = refl
+watched_same fixed m node (Slave s) a b = refl
+watched_same fixed m node (Power w) a b = refl
+watched_same fixed m node Unknown a b = refl
+
 -- ---- calls
 
 -- a call that only tells words changes nothing
@@ -196,11 +205,18 @@ aborts_alike fixed border m reason node a b beyond same =
     ap (λ view. outcome_of (abort_suspend m reason (is_asked m (book_of fixed a)) view)) (proc_view_alike fixed border m (kind_of fixed.topology node) a b beyond same)
     ∙ ap (λ pending. outcome_of (abort_suspend m reason (is_some pending) (proc_view m node (book_of fixed b)))) (pending_alike fixed border m a b beyond same)
 
+-- a call for a notifier comes to the same, whatever it names
+pub registers_alike : (fixed : Fixed) (m event wake enable : ℕ) (node : NodeId) (a b : Now) → called m (RegisterNotifier node event wake enable) (book_of fixed a) ≡ called m (RegisterNotifier node event wake enable) (book_of fixed b)
+registers_alike fixed m event wake enable node a b =
+    ap (λ view. outcome_of (register_notifier m node event enable view)) (watched_same fixed m node (kind_of fixed.topology node) a b)
+
 called_alike : BelowLaws → (fixed : Fixed) (border : Border) (m : ℕ) (call : Call) (a b : Now) → IsBeyond border m → border.some ≡ true → changes_within border call (book_of fixed a) ≡ false → Same fixed border a b → (called m call (book_of fixed a)).stages ≡ (called m call (book_of fixed b)).stages
 called_alike laws fixed border m (GetNodeStatus node) a b beyond some plain same =
     let first = tried_by m (GetNodeStatus node) (book_of fixed a) in
     let second = tried_by m (GetNodeStatus node) (book_of fixed b) in
     told_stages first.checks first.deed.words ∙ sym (told_stages second.checks second.deed.words)
+called_alike laws fixed border m (RegisterNotifier node event wake enable) a b beyond some plain same =
+    ap (λ outcome. outcome.stages) (registers_alike fixed m event wake enable node a b)
 called_alike laws fixed border m (SelfSuspend node address) a b beyond some plain same =
     ap (λ view. (outcome_of (self_suspend m address view)).stages) (proc_view_alike fixed border m (kind_of fixed.topology node) a b beyond same)
 called_alike laws fixed border m (RequestSuspend node ack latency state) a b beyond some plain same =

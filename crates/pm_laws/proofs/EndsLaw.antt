@@ -1,5 +1,5 @@
--- The requests to suspend that end in a step, and what is told in it: of a hidden event nothing of either is seen, and of any
--- other the same in two books that agree.
+-- The requests to suspend that end in a step: of a hidden event nothing is seen of them, and of any other the same in two books
+-- that agree.
 use Rattle.std.proofs.Common.{◌≡◌, ℕ, ◌+◌, Bool, true, false, not, ◌&&◌, ◌||◌, if◌then◌else◌, List, [], ◌∷◌, ◌++◌, Option, Some, None, refl, sym, ◌∙◌, ap, inl, inr}
 use Rattle.std.specs.Prelude.{option_and_then}
 use Rattle.std.specs.List.{AllByRecursion as Each}
@@ -13,31 +13,29 @@ use Rattle.pm_ipi.specs.Calls.{call_of}
 use Rattle.pm_procs.specs.declared.pending.Pending.{Pending}
 use Rattle.pm_procs.specs.Modes.{is_awake, same_mode}
 use Rattle.pm_core.specs.declared.ended.Ended.{Ended}
-use Rattle.pm_core.specs.declared.judgement.Asked.{Asked}
 use Rattle.pm_core.specs.Ended.{due_after, ended_at, ended_from, ended_with, ends_with, ever, goes_down, goes_on, modes_along, turns_along, turns_of}
 use Rattle.pm_core.specs.Members.{is_place, mode_of_master}
 use Rattle.pm_core.specs.Outcome.{Outcome}
 use Rattle.pm_core.specs.Sound.{ArmsOwn, KnowsModes}
 use Rattle.pm_core.specs.State.{Fixed, Now, State}
-use Rattle.pm_core.specs.Step.{aborts, aborts_of, asks, asks_of, called, ended, heard_at, path, stages, talk, time_of}
-use Rattle.pm_core.specs.Talk.{Talk, Lower, End, ask_of, ends, lower_by, talk_of}
+use Rattle.pm_core.specs.Step.{aborts, aborts_of, asks, asks_of, called, ended, heard_at, path, registers, registers_of, stages, time_of}
 use Rattle.pm_core.specs.Values.{master_place}
 use Rattle.pm_laws.specs.Agree.{SamePending, Same, Agree}
 use Rattle.pm_laws.specs.Border.{Border, HasSome, IsBeyond}
 use Rattle.pm_laws.specs.Both.{Both, BothFrom}
 use Rattle.pm_laws.specs.Hidden.{is_within, changes_within, is_hidden}
-use Rattle.pm_laws.specs.SeenTalk.{seen_talk, talk_part, IsTalkUnseen, ends_beyond}
+use Rattle.pm_laws.specs.SeenTalk.{ends_beyond}
 use Rattle.pm_laws.proofs.AgreeLaw.{clash}
 use Rattle.pm_laws.proofs.CallsAlike.{book_of, kept}
 use Rattle.pm_laws.proofs.CallsHidden.{HasClosed, turned}
-use Rattle.pm_laws.proofs.CallsTold.{SaysAlike, SaysWithin, OutcomesSay, call_says, caller_says, nothing_said, target_says, unasked}
+use Rattle.pm_laws.proofs.CallsTold.{OutcomeWithin, OutcomesSay, SaysAlike, SaysWithin, call_says, caller_says, nothing_said, target_says}
 use Rattle.pm_laws.proofs.EventsLaw.{event_alike, event_hidden}
 use Rattle.pm_laws.proofs.FollowLaw.{book_mode_alike, mode_alike, stays_same}
 use Rattle.pm_laws.proofs.PathLaw.{path_alike, path_hidden}
 use Rattle.pm_laws.proofs.RowFacts.{BelowLaws}
 
 -- the mode of the master at place k in a book
-abbrev mode_in : ℕ → State → Mode
+abbrev pub mode_in : ℕ → State → Mode
 mode_in k book = mode_of_master book.fixed book.now.core k
 
 -- ---- what becomes of the mode of a master beyond
@@ -53,7 +51,7 @@ module _ (laws : BelowLaws) (border : Border) (k : ℕ) (beyond : IsBeyond borde
       ∙ (ap (λ stays. (not stays && test mode mode) || ever test mode (modes_along k books)) (stays_same mode)
       ∙ ever_still test still books each.1)
 
-  never : (test : Mode → Mode → Bool) (still now : State) (books : List State) → Agree border still now → Each (Agree border still) books → ever test (mode_in k now) (modes_along k books) ≡ false
+  pub never : (test : Mode → Mode → Bool) (still now : State) (books : List State) → Agree border still now → Each (Agree border still) books → ever test (mode_in k now) (modes_along k books) ≡ false
   never test still now books agree each =
       ap (λ mode. ever test mode (modes_along k books)) (sym (book_mode_alike laws border k still now beyond agree)) ∙ ever_still test still books each
 
@@ -66,7 +64,7 @@ module _ (laws : BelowLaws) (border : Border) (k : ℕ) (beyond : IsBeyond borde
       ∙ ap (λ modes. mode_in k y ∷ modes) (modes_alike xs ys each.1)
 
   -- along books that agree one by one the same becomes of its mode
-  turns_alike : (a b : State) (xs ys : List State) → Agree border a b → Both (Agree border) xs ys → turns_along a xs k ≡ turns_along b ys k
+  pub turns_alike : (a b : State) (xs ys : List State) → Agree border a b → Both (Agree border) xs ys → turns_along a xs k ≡ turns_along b ys k
   turns_alike a b xs ys agree each =
       ap (λ mode. turns_of mode (modes_along k xs)) (book_mode_alike laws border k a b beyond agree)
       ∙ ap (turns_of (mode_in k b)) (modes_alike xs ys each)
@@ -140,42 +138,13 @@ module _ (border : Border) (aborts count : Option ℕ) where
         ∙ (ap (λ later. ends_beyond border (end_in b ys m q) ++ later) (ends_alike (m + 1) ps qs same.1)
         ∙ sym (filter-append test (end_in b ys m q) second)))
 
-module _ (border : Border) where
-  -- ---- what is seen of what is told
-
-  -- of the ends, those of requests to masters beyond
-  one_end : (e : Ended) (is : Bool) (told : List Talk) (later : List Ended) → told ≡ ends later → (if is then End e.target ∷ told else told) ≡ ends (if is then e ∷ later else later)
-  one_end e true told later same = ap (λ changes. End e.target ∷ changes) same
-  one_end e false told later same = same
-
-  part_of_ends : (es : List Ended) → talk_part border (ends es) ≡ ends (ends_beyond border es)
-  part_of_ends [] = refl
-  part_of_ends (e ∷ es) = one_end e (border.master e.target) (talk_part border (ends es)) (ends_beyond border es) (part_of_ends es)
-
-  part_of : (asked : Option Asked) (count : Option ℕ) (es : List Ended) → talk_part border (talk_of asked count es) ≡ (talk_part border (ask_of asked) ++ talk_part border (lower_by count)) ++ ends (ends_beyond border es)
-  part_of asked count es =
-      filter-append (seen_talk border) (ask_of asked ++ lower_by count) (ends es)
-      ∙ (ap (λ first. first ++ talk_part border (ends es)) (filter-append (seen_talk border) (ask_of asked) (lower_by count))
-      ∙ ap (λ later. (talk_part border (ask_of asked) ++ talk_part border (lower_by count)) ++ later) (part_of_ends es))
-
-  told_nothing : (asked : Option Asked) (count : Option ℕ) (es : List Ended) → IsTalkUnseen border (ask_of asked) → IsTalkUnseen border (lower_by count) → ends_beyond border es ≡ [] → IsTalkUnseen border (talk_of asked count es)
-  told_nothing asked count es asks time none =
-      part_of asked count es
-      ∙ (ap (λ first. (first ++ talk_part border (lower_by count)) ++ ends (ends_beyond border es)) asks
-      ∙ (ap (λ later. later ++ ends (ends_beyond border es)) time ∙ ap ends none))
-
-  told_same : (asked : Option Asked) (count : Option ℕ) (es fs : List Ended) → ends_beyond border es ≡ ends_beyond border fs → talk_part border (talk_of asked count es) ≡ talk_part border (talk_of asked count fs)
-  told_same asked count es fs same =
-      part_of asked count es
-      ∙ (ap (λ part. (talk_part border (ask_of asked) ++ talk_part border (lower_by count)) ++ ends part) same ∙ sym (part_of asked count fs))
-
 -- ---- hidden events
 
-heard_within : (border : Border) (outcome : Outcome) (awake : Bool) → SaysWithin border outcome.judgement.asks outcome.judgement.aborts → SaysWithin border (asks_of (if awake then Some outcome else None)) (aborts_of (if awake then Some outcome else None))
+heard_within : (border : Border) (outcome : Outcome) (awake : Bool) → OutcomeWithin border outcome → SaysWithin border (asks_of (if awake then Some outcome else None)) (aborts_of (if awake then Some outcome else None)) (registers_of (if awake then Some outcome else None))
 heard_within border outcome true within = within
 heard_within border outcome false within = nothing_said border
 
-message_within : (border : Border) (message : Message) (book : State) (place : Option ℕ) → HasClosed border book → (is_within border place || changes_within border (call_of message) book) ≡ true → SaysWithin border (asks_of (option_and_then (heard_at message book) place)) (aborts_of (option_and_then (heard_at message book) place))
+message_within : (border : Border) (message : Message) (book : State) (place : Option ℕ) → HasClosed border book → (is_within border place || changes_within border (call_of message) book) ≡ true → SaysWithin border (asks_of (option_and_then (heard_at message book) place)) (aborts_of (option_and_then (heard_at message book) place)) (registers_of (option_and_then (heard_at message book) place))
 message_within border message book None closed is = nothing_said border
 message_within border message book (Some m) closed is =
     heard_within border (called m (call_of message) book) (is_awake (mode_of_master book.fixed book.now.core m))
@@ -184,19 +153,14 @@ message_within border message book (Some m) closed is =
       | inr target ↦ target_says border m (call_of message) book target
     ])
 
-pub event_within : (border : Border) (event : Event) (book : State) → HasClosed border book → is_hidden border event book ≡ true → SaysWithin border (asks event book) (aborts event book)
+pub event_within : (border : Border) (event : Event) (book : State) → HasClosed border book → is_hidden border event book ≡ true → SaysWithin border (asks event book) (aborts event book) (registers event book)
 event_within border (Ipi master message) book closed is = message_within border message book (master_place master book) closed is
 event_within border _ book closed is = nothing_said border
 
 -- where a master is beyond no time passes in a hidden event
-no_time : (border : Border) (event : Event) (book : State) → border.some ≡ true → is_hidden border event book ≡ true → time_of event ≡ None
+pub no_time : (border : Border) (event : Event) (book : State) → border.some ≡ true → is_hidden border event book ≡ true → time_of event ≡ None
 no_time border (Tick count) book some is = clash border.some some (turned border.some is)
 no_time border _ book some is = refl
-
-time_unseen : (border : Border) (event : Event) (book : State) → is_hidden border event book ≡ true → IsTalkUnseen border (lower_by (time_of event))
-time_unseen border (Tick count) book is =
-    let changes : List Talk = Lower count ∷ [] in ap (λ b. if b then changes else []) (turned border.some is)
-time_unseen border _ book is = refl
 
 module _ (laws : BelowLaws) (border : Border) where
   rests_by : (event : Event) (still now : State) → HasClosed border now → KnowsModes still → is_hidden border event now ≡ true → Agree border still now → (k : ℕ) → IsBeyond border k → Rests now (path event now) (aborts event now) (time_of event) k
@@ -217,21 +181,15 @@ module _ (laws : BelowLaws) (border : Border) where
       ends_unseen border (aborts event now) (time_of event) now (path event now)
       (rests_by event still now closed knows is agree) 0 now.now.talk.pending
 
-  -- and nothing is seen of what is told
-  pub talk_hidden : (event : Event) (still now : State) → HasClosed border now → KnowsModes still → is_hidden border event now ≡ true → Agree border still now → IsTalkUnseen border (talk event now)
-  talk_hidden event still now closed knows is agree =
-      told_nothing border (asks event now) (time_of event) (ended event now) (unasked border (asks event now) (event_within border event now closed is).asks)
-      (time_unseen border event now is) (ended_hidden event still now closed knows is agree)
-
 -- ---- all other events
 
-heard_same : (first second : Outcome) (x y : Bool) → x ≡ y → OutcomesSay first second → SaysAlike (asks_of (if x then Some first else None)) (asks_of (if y then Some second else None)) (aborts_of (if x then Some first else None)) (aborts_of (if y then Some second else None))
+heard_same : (first second : Outcome) (x y : Bool) → x ≡ y → OutcomesSay first second → SaysAlike (asks_of (if x then Some first else None)) (asks_of (if y then Some second else None)) (aborts_of (if x then Some first else None)) (aborts_of (if y then Some second else None)) (registers_of (if x then Some first else None)) (registers_of (if y then Some second else None))
 heard_same first second true true is same = same
 heard_same first second true false is same = cc
 heard_same first second false true is same = cc
-heard_same first second false false is same = record { asks = refl; aborts = refl }
+heard_same first second false false is same = record { asks = refl; aborts = refl; puts = refl }
 
-message_same : BelowLaws → (fixed : Fixed) (border : Border) (message : Message) (place : Option ℕ) (a b : Now) → (is_within border place || changes_within border (call_of message) (book_of fixed a)) ≡ false → Same fixed border a b → SaysAlike (asks_of (option_and_then (heard_at message (book_of fixed a)) place)) (asks_of (option_and_then (heard_at message (book_of fixed b)) place)) (aborts_of (option_and_then (heard_at message (book_of fixed a)) place)) (aborts_of (option_and_then (heard_at message (book_of fixed b)) place))
+message_same : BelowLaws → (fixed : Fixed) (border : Border) (message : Message) (place : Option ℕ) (a b : Now) → (is_within border place || changes_within border (call_of message) (book_of fixed a)) ≡ false → Same fixed border a b → SaysAlike (asks_of (option_and_then (heard_at message (book_of fixed a)) place)) (asks_of (option_and_then (heard_at message (book_of fixed b)) place)) (aborts_of (option_and_then (heard_at message (book_of fixed a)) place)) (aborts_of (option_and_then (heard_at message (book_of fixed b)) place)) (registers_of (option_and_then (heard_at message (book_of fixed a)) place)) (registers_of (option_and_then (heard_at message (book_of fixed b)) place))
 message_same laws fixed border message None a b is same = cc
 message_same laws fixed border message (Some m) a b is same =
     let parts = neither (not (border.master m)) (changes_within border (call_of message) (book_of fixed a)) is in
@@ -241,9 +199,9 @@ message_same laws fixed border message (Some m) a b is same =
     (ap is_awake (mode_alike laws fixed border m a b beyond same))
     (call_says laws fixed border m (call_of message) a b beyond parts.1 same)
 
-pub event_same : BelowLaws → (fixed : Fixed) (border : Border) (event : Event) (a b : Now) → is_hidden border event (book_of fixed a) ≡ false → Same fixed border a b → SaysAlike (asks event (book_of fixed a)) (asks event (book_of fixed b)) (aborts event (book_of fixed a)) (aborts event (book_of fixed b))
+pub event_same : BelowLaws → (fixed : Fixed) (border : Border) (event : Event) (a b : Now) → is_hidden border event (book_of fixed a) ≡ false → Same fixed border a b → SaysAlike (asks event (book_of fixed a)) (asks event (book_of fixed b)) (aborts event (book_of fixed a)) (aborts event (book_of fixed b)) (registers event (book_of fixed a)) (registers event (book_of fixed b))
 event_same laws fixed border (Ipi master message) a b is same = message_same laws fixed border message (master_place master (book_of fixed a)) a b is same
-event_same laws fixed border _ a b is same = record { asks = refl; aborts = refl }
+event_same laws fixed border _ a b is same = record { asks = refl; aborts = refl; puts = refl }
 
 -- the same requests to masters beyond end
 pub ended_alike : BelowLaws → (fixed : Fixed) (border : Border) (event : Event) (a b : Now) → ArmsOwn (book_of fixed a) → HasSome border → is_hidden border event (book_of fixed a) ≡ false → Same fixed border a b → ends_beyond border (ended event (book_of fixed a)) ≡ ends_beyond border (ended event (book_of fixed b))
@@ -257,10 +215,3 @@ ended_alike laws fixed border event a b armed some is same =
     ends_alike border (aborts event first) (time_of event) first second (path event first) (path event second)
     (λ k beyond. turns_alike laws border k beyond first second (path event first) (path event second) agree books) 0 a.talk.pending b.talk.pending same.talk.pending
     ∙ ap (λ own. ends_beyond border (ended_from (turns_along second (path event second)) own (time_of event) 0 b.talk.pending)) (event_same laws fixed border event a b is same).aborts
-
--- and the same is seen of what is told
-pub talk_alike : BelowLaws → (fixed : Fixed) (border : Border) (event : Event) (a b : Now) → ArmsOwn (book_of fixed a) → HasSome border → is_hidden border event (book_of fixed a) ≡ false → Same fixed border a b → talk_part border (talk event (book_of fixed a)) ≡ talk_part border (talk event (book_of fixed b))
-talk_alike laws fixed border event a b armed some is same =
-    ap (λ asked. talk_part border (talk_of asked (time_of event) (ended event (book_of fixed a)))) (event_same laws fixed border event a b is same).asks
-    ∙ told_same border (asks event (book_of fixed b)) (time_of event) (ended event (book_of fixed a)) (ended event (book_of fixed b))
-    (ended_alike laws fixed border event a b armed some is same)

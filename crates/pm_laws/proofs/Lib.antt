@@ -1,4 +1,6 @@
 pub mod AgreeLaw
+pub mod AnswersLaw
+pub mod CallbacksLaw
 pub mod CallsAlike
 pub mod CallsHidden
 pub mod CallsTold
@@ -6,13 +8,21 @@ pub mod ChangesLaw
 pub mod EndsLaw
 pub mod EventsLaw
 pub mod FollowLaw
+pub mod JudgedLaw
+pub mod MailFacts
+pub mod MailsLaw
+pub mod NamedLaw
+pub mod NoticesLaw
+pub mod OpeningLaw
 pub mod PairsLaw
 pub mod PathLaw
 pub mod Places
 pub mod PrimFacts
 pub mod ReachBorderLaw
+pub mod ReachCalls
 pub mod ReachExact
 pub mod ReachRequests
+pub mod ReachRun
 pub mod ReachStep
 pub mod Records
 pub mod RequestsLaw
@@ -20,6 +30,7 @@ pub mod RowFacts
 pub mod StartsLaw
 pub mod StepLaw
 pub mod TalkFacts
+pub mod TellingsLaw
 pub mod ValuesLaw
 pub mod WakeLaw
 pub mod WantedLaw

@@ -1,8 +1,9 @@
 -- Two lists place by place: changed in both or in one, turned round, and one after another.
-use Rattle.std.proofs.Common.{◌≡◌, ℕ, ◌+◌, Bool, true, false, cond, List, [], ◌∷◌, map, slice_get, unwrap_or, Option, Some, refl, zero, suc, ◌∙◌, ap, subst, arith}
-use Rattle.std.specs.Prelude.{slice_set, find, fold, ◌||◌}
+use Rattle.std.proofs.Common.{◌≡◌, ℕ, ◌+◌, Bool, true, false, cond, List, [], ◌∷◌, map, slice_get, unwrap_or, Option, Some, refl, zero, suc, sym, ◌∙◌, ap, subst, arith}
+use Rattle.std.specs.Prelude.{slice_set, find, fold, ◌||◌, count_by}
 use Rattle.std.specs.List.{list_any, AllByRecursion as Each}
 use Rattle.pm_base.proofs.Booleans.{first_passes, later_passes}
+use Rattle.pm_base.proofs.Counts.{count_by-cons}
 use Rattle.pm_laws.specs.Both.{Both, BothFrom}
 
 -- ---- Both
@@ -39,6 +40,15 @@ Both-any R p q each [] (y ∷ ys) same = absurd same
 Both-any R p q each (x ∷ xs) [] same = absurd same
 Both-any R p q each (x ∷ xs) (y ∷ ys) same =
     ap (λ b. b || list_any p xs) (each x y same.0) ∙ ap (λ b. q y || b) (Both-any R p q each xs ys same.1)
+
+pub Both-count : {X : Type 0} (R : X → X → Type 0) (p : X → Bool) → ((x y : X) → R x y → p x ≡ p y) → (xs ys : List X) → Both R xs ys → count_by p xs ≡ count_by p ys
+Both-count R p each [] [] same = refl
+Both-count R p each [] (y ∷ ys) same = absurd same
+Both-count R p each (x ∷ xs) [] same = absurd same
+Both-count R p each (x ∷ xs) (y ∷ ys) same =
+    count_by-cons p x xs
+    ∙ (ap (λ b. cond b 1 0 + count_by p xs) (each x y same.0)
+    ∙ (ap (λ n. cond (p y) 1 0 + n) (Both-count R p each xs ys same.1) ∙ sym (count_by-cons p y ys)))
 
 found_alike : {X : Type 0} (b : Bool) (x y : X) (first second : Option X) → (b ≡ true → x ≡ y) → first ≡ second → cond b (Some x) first ≡ cond b (Some y) second
 found_alike true x y first second here later = ap (λ z. Some z) (here refl)
@@ -115,6 +125,18 @@ BothFrom-set_left R k n zero x is here (u ∷ xs) (v ∷ ys) same =
     let at : n ≡ k = omega (arith, is) in (subst (λ i. R i x v) at (here v), same.1)
 BothFrom-set_left R k n (suc p) x is here (u ∷ xs) (v ∷ ys) same =
     (same.0, BothFrom-set_left R (k + 1) n p x (omega (arith, is)) here xs ys same.1)
+
+-- the same where what is set follows from what stood there
+pub BothFrom-set_at : {X : Type 0} (R : ℕ → X → X → Type 0) (k n p : ℕ) (x : X) → n ≡ k + p → (xs ys : List X)
+    → ((u v : X) → slice_get xs p ≡ Some u → R n u v → R n x v) → BothFrom R k xs ys → BothFrom R k (slice_set xs p x) ys
+BothFrom-set_at R k n p x is [] [] here same = tt
+BothFrom-set_at R k n p x is [] (v ∷ ys) here same = absurd same
+BothFrom-set_at R k n p x is (u ∷ xs) [] here same = absurd same
+BothFrom-set_at R k n zero x is (u ∷ xs) (v ∷ ys) here same =
+    let at : n ≡ k = omega (arith, is) in
+    (subst (λ i. R i x v) at (here u v refl (subst (λ i. R i u v) (sym at) same.0)), same.1)
+BothFrom-set_at R k n (suc p) x is (u ∷ xs) (v ∷ ys) here same =
+    (same.0, BothFrom-set_at R (k + 1) n p x (omega (arith, is)) xs ys here same.1)
 
 -- what stands at a place of both, or for both past the end
 pub BothFrom-get : {X : Type 0} (R : ℕ → X → X → Type 0) (P : X → X → Type 0) (k n p : ℕ) (d : X) → n ≡ k + p → P d d → ((x y : X) → R n x y → P x y) → (xs ys : List X) → BothFrom R k xs ys → P (unwrap_or (slice_get xs p) d) (unwrap_or (slice_get ys p) d)

@@ -32,9 +32,10 @@ use Rattle.pm_reach.specs.Leads.{forces_above, forces_proc, node_at, owns, targe
 use Rattle.pm_rows.specs.declared.row.RowSeed.{RowSeed}
 use Rattle.pm_core.specs.Members.{owner_at}
 use Rattle.pm_core.specs.Pairs.{pairs_of}
-use Rattle.pm_core.specs.Views.{master_node}
+use Rattle.pm_core.specs.Views.{master_node, named_master}
 use Rattle.pm_laws.specs.Border.{Border, IsBeyond, IsClosed, IsPairClosed, node_beyond, none_within, unit_beyond}
 use Rattle.pm_laws.specs.ReachBorder.{border_of, brings_in, entry_beyond, master_beyond, number_beyond, place_of, unit_border}
+use Rattle.pm_laws.proofs.NamedLaw.{named_beyond}
 use Rattle.pm_laws.proofs.PairsLaw.{IsPermitted, pairs_permitted, permitted_use}
 use Rattle.pm_laws.proofs.Records.{configures_there, forces_above_there, forces_there, record_place, resets_there, same_node, shuts_there, suspends_there, wakes_there}
 use Rattle.pm_laws.proofs.WithinReach.{ReachLaws, Starts, beyond_parts, lead, lead_in, lead_up, master_by, master_by_unit, unit_by}
@@ -234,6 +235,9 @@ module _ (laws : ReachLaws) (object : Object) (t : Topology) (formed : IsObject 
       let place = position (λ (master : MasterRec). master.node == node.0) object.masters in
       ap (λ b. b && none_within plain place) (unit_same (kind_of t node)) ∙ ap (λ b. unit_beyond object t border (kind_of t node) && b) (none_same place)
 
+  names : (node : NodeId) → border.node node.0 ≡ true → none_within border (named_master (record { object = object; topology = t }) node) ≡ true
+  names node beyond = named_beyond laws.kinds object t well border node (sym (nodes node) ∙ beyond)
+
   pub edge_closed : IsClosed object t border
   edge_closed = record {
     users = All-from_recursion (IsPairClosed border) (pairs_of object t) (pairs_closed (pairs_of object t) (pairs_permitted object t));
@@ -241,6 +245,7 @@ module _ (laws : ReachLaws) (object : Object) (t : Topology) (formed : IsObject 
     procs = procs;
     powers = powers;
     nodes = nodes;
+    names = names;
     suspends = suspends;
     wakes = wakes;
     forces = forces;

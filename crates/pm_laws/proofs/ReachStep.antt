@@ -31,7 +31,7 @@ pub record ApartLaws : Type 0 where
   pub own : (m : NodeId) (book : State) → is_within (border_of book.fixed.object book.fixed.topology m) (master_place m book) ≡ true
   pub both : (border : Border) (event : Event) (a b : State) → IsClosed a.fixed.object a.fixed.topology border → IsSound a → IsSound b
       → Agree border a b → Agree border (effect event a) (effect event b)
-  pub hidden : (border : Border) (event : Event) (a b : State) → IsClosed a.fixed.object a.fixed.topology border → IsSound b
+  pub hidden : (border : Border) (event : Event) (a b : State) → IsClosed a.fixed.object a.fixed.topology border → IsSound a → IsSound b
       → is_hidden border event a ≡ true → Agree border a b → Agree border (effect event a) b
   pub messages : (border : Border) (master : NodeId) (message : Message) (book : State)
       → is_within border (master_place master book) ≡ true → is_hidden border (Ipi master message) book ≡ true
@@ -53,7 +53,7 @@ event_apart laws m event a b object chip sound_a sound_b agree =
 still_agrees : ApartLaws → (border : Border) (a b : State) → IsClosed b.fixed.object b.fixed.topology border → IsSound b → Agree border a b → Agree border a (effect Pass b)
 still_agrees laws border a b closed sound agree =
     let itself : Agree border b b = laws.through border b a b (laws.turned border a b agree) agree in
-    let stays : Agree border (effect Pass b) b = laws.hidden border Pass b b closed sound refl itself in
+    let stays : Agree border (effect Pass b) b = laws.hidden border Pass b b closed sound sound refl itself in
     laws.through border a b (effect Pass b) agree (laws.turned border (effect Pass b) b stays)
 
 pub message_apart : ApartLaws → (m : NodeId) (message : Message) (a b : State) → IsObject a.fixed.object → IsWellFormed a.fixed.topology
@@ -65,7 +65,7 @@ message_apart laws m message a b object chip sound_a sound_b agree =
     let closed : IsClosed a.fixed.object a.fixed.topology border = laws.closed a.fixed.object a.fixed.topology m object chip in
     let P : Fixed → Type 0 = λ fixed. IsClosed fixed.object fixed.topology border in
     still_agrees laws border (effect (Ipi m message) a) b (subst P agree.fixed closed) sound_b
-    (laws.hidden border (Ipi m message) a b closed sound_b (laws.messages border m message a (laws.own m a)) agree)
+    (laws.hidden border (Ipi m message) a b closed sound_a sound_b (laws.messages border m message a (laws.own m a)) agree)
 
 -- ---- runs
 
@@ -76,12 +76,12 @@ module _ (laws : ApartLaws) (c : Setup) (m : NodeId) (object : IsObject c.object
   abbrev border_in : Fixed → Border
   border_in fixed = border_of fixed.object fixed.topology m
 
-  closed_at : (a : State) → IsBookOf c a → IsClosed a.fixed.object a.fixed.topology border
+  pub closed_at : (a : State) → IsBookOf c a → IsClosed a.fixed.object a.fixed.topology border
   closed_at a is =
       let P : Fixed → Type 0 = λ fixed. IsClosed fixed.object fixed.topology border in
       subst P (sym is.fixed) (laws.closed c.object c.topology m object chip)
 
-  own_at : (a : State) → IsBookOf c a → is_within border (master_place m a) ≡ true
+  pub own_at : (a : State) → IsBookOf c a → is_within border (master_place m a) ≡ true
   own_at a is =
       let P : Fixed → Type 0 = λ fixed. is_within (border_in fixed) (master_place m a) ≡ true in
       subst P is.fixed (laws.own m a)
@@ -96,7 +96,7 @@ module _ (laws : ApartLaws) (c : Setup) (m : NodeId) (object : IsObject c.object
       ap (λ (n : ℕ). is_within border (position (λ (r : MasterRec). r.node == n) a.fixed.object.masters)) is ∙ own_at a first
       in
       still_agrees laws border (effect (Ipi master message) a) b (closed_at b second) second.sound
-      (laws.hidden border (Ipi master message) a b (closed_at a first) second.sound (laws.messages border master message a within) agree)
+      (laws.hidden border (Ipi master message) a b (closed_at a first) first.sound second.sound (laws.messages border master message a within) agree)
 
   message_event : (master : NodeId) (message : Message) (a b : State) (own : Bool) → (master.0 == m.0) ≡ own
       → IsBookOf c a → IsBookOf c b → Agree border a b
@@ -104,7 +104,7 @@ module _ (laws : ApartLaws) (c : Setup) (m : NodeId) (object : IsObject c.object
   message_event master message a b true is first second agree = own_event master message a b (eqb-true master.0 m.0 is) first second agree
   message_event master message a b false is first second agree = same_event (Ipi master message) a b first second agree
 
-  quiet_alike : (event : Event) (a b : State) → IsBookOf c a → IsBookOf c b → Agree border a b → Agree border (effect event a) (effect (quiet_event m event) b)
+  pub quiet_alike : (event : Event) (a b : State) → IsBookOf c a → IsBookOf c b → Agree border a b → Agree border (effect event a) (effect (quiet_event m event) b)
   quiet_alike (Ipi master message) a b first second agree = message_event master message a b (master.0 == m.0) refl first second agree
   quiet_alike event a b first second agree = same_event event a b first second agree
 

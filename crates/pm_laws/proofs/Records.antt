@@ -61,17 +61,17 @@ record_place o formed place there = at (slice_get o.masters place) refl
         let clash : is_some (master_record o (record { 0 = 0 })) ≡ true = ap (λ (n : NodeId). is_some (master_record o n)) (sym number) ∙ there in
         absurd (cc)
 
--- the record of a number is that of the master that has it
-pub own_record : (o : Object) → IsObject o → (place : ℕ) (master : MasterRec) → slice_get o.masters place ≡ Some master → master_record o (record { 0 = master.node }) ≡ Some master
-own_record o formed place master is = at (position (λ (m : MasterRec). m.node == master.node) o.masters) refl
+-- the place of a number is that of the master that has it
+pub own_place : (o : Object) → IsObject o → (place : ℕ) (master : MasterRec) → slice_get o.masters place ≡ Some master
+    → position (λ (m : MasterRec). m.node == master.node) o.masters ≡ Some place
+own_place o formed place master is = at (position (λ (m : MasterRec). m.node == master.node) o.masters) refl
   where
-    at : (got : Option ℕ) → position (λ (m : MasterRec). m.node == master.node) o.masters ≡ got → find (λ (m : MasterRec). m.node == master.node) o.masters ≡ Some master
+    at : (got : Option ℕ) → position (λ (m : MasterRec). m.node == master.node) o.masters ≡ got → position (λ (m : MasterRec). m.node == master.node) o.masters ≡ Some place
     at None none = absurd (differs master.node master.node (position-none (λ (m : MasterRec). m.node == master.node) o.masters none place master is) refl)
     at (Some k) found =
         let p : MasterRec → Bool = λ m. m.node == master.node in
         let first = position-first p o.masters k found in
-        find-Some p o.masters k found
-        ∙ elim (cases_lt k place) [
+        elim (cases_lt k place) [
           | inl before ↦ (let masters : AreMasters o.masters = formed.sections Masters in
               let within = slice_get_within o.masters place master is in
               let apart = masters.apart k place master before within in
@@ -80,9 +80,13 @@ own_record o formed place master is = at (position (λ (m : MasterRec). m.node =
               absurd (apart.nodes (ap (λ (m : MasterRec). m.node) one ∙ (eqb-true first.element.node master.node first.passes ∙ ap (λ (m : MasterRec). m.node) (sym two)))))
           | inr past ↦ elim (cases_lt place k) [
             | inl later ↦ absurd (differs master.node master.node (first.least place master later is) refl)
-            | inr least ↦ (let same : k ≡ place = omega arith in ap (λ n. slice_get o.masters n) same ∙ is)
+            | inr least ↦ (let same : k ≡ place = omega arith in found ∙ ap (λ n. Some n) same)
           ]
         ]
+
+-- and the record of a number is that of this master
+pub own_record : (o : Object) → IsObject o → (place : ℕ) (master : MasterRec) → slice_get o.masters place ≡ Some master → master_record o (record { 0 = master.node }) ≡ Some master
+own_record o formed place master is = find-Some (λ (m : MasterRec). m.node == master.node) o.masters place (own_place o formed place master is) ∙ is
 
 -- ---- only a configured master is permitted anything
 

@@ -11,9 +11,10 @@ use Rattle.pm_laws.specs.SeenTalk.{talk_part, IsTalkUnseen, asks_beyond, ends_be
 use Rattle.pm_laws.proofs.AgreeLaw.{agree_self}
 use Rattle.pm_laws.proofs.CallsAlike.{book_of}
 use Rattle.pm_laws.proofs.CallsHidden.{HasClosed}
-use Rattle.pm_laws.proofs.EndsLaw.{ended_alike, ended_hidden, event_same, event_within, talk_alike, talk_hidden}
+use Rattle.pm_laws.proofs.EndsLaw.{ended_alike, ended_hidden, event_same, event_within}
 use Rattle.pm_laws.proofs.EventsLaw.{hidden_fixed}
 use Rattle.pm_laws.proofs.RowFacts.{BelowLaws}
+use Rattle.pm_laws.proofs.TellingsLaw.{talk_alike, talk_hidden}
 
 module _ (laws : BelowLaws) (border : Border) (event : Event) where
   -- ---- a hidden event, of one book
@@ -22,10 +23,10 @@ module _ (laws : BelowLaws) (border : Border) (event : Event) where
   asked_hidden book closed is = (event_within border event book closed is).asks
 
   pub ends_hidden : (book : State) → HasClosed border book → IsSound book → is_hidden border event book ≡ true → ends_beyond border (ended event book) ≡ []
-  ends_hidden book closed sound is = ended_hidden laws border event book book closed sound.knows is (agree_self border book closed sound)
+  ends_hidden book closed sound is = ended_hidden laws border event book book closed sound.knows is (agree_self laws.units border book closed sound)
 
   pub told_hidden : (book : State) → HasClosed border book → IsSound book → is_hidden border event book ≡ true → IsTalkUnseen border (talk event book)
-  told_hidden book closed sound is = talk_hidden laws border event book book closed sound.knows is (agree_self border book closed sound)
+  told_hidden book closed sound is = talk_hidden laws border event book.fixed closed book.now book.now sound sound.knows is (agree_self laws.units border book closed sound).now
 
   -- ---- any event, of two books
 
@@ -44,7 +45,7 @@ module _ (laws : BelowLaws) (border : Border) (event : Event) where
   told_by fixed a b true is closed sound_a sound_b same =
       told_hidden (book_of fixed a) closed sound_a is
       ∙ sym (told_hidden (book_of fixed b) closed sound_b (sym (hidden_fixed fixed border event a b) ∙ is))
-  told_by fixed a b false is closed sound_a sound_b same = talk_alike laws fixed border event a b sound_a.armed closed.some is same
+  told_by fixed a b false is closed sound_a sound_b same = talk_alike laws border event fixed closed a b sound_a sound_b is same
 
   pub asked_agree : (a b : State) → IsClosed a.fixed.object a.fixed.topology border → Agree border a b → asks_beyond border (asks event a) ≡ asks_beyond border (asks event b)
   asked_agree a b closed agree =

@@ -150,17 +150,17 @@ module _ (laws : BelowLaws) (fixed : Fixed) (border : Border) (closed : IsClosed
   Starts event now = starts_beyond fixed.object fixed.topology border (outputs event (book_of fixed now)).starts
 
   -- a hidden event starts what a step in which nothing happens does
-  hidden_starts : (event : Event) (a b : Now) → IsSound (book_of fixed b) → is_hidden border event (book_of fixed a) ≡ true
+  hidden_starts : (event : Event) (a b : Now) → IsSound (book_of fixed a) → IsSound (book_of fixed b) → is_hidden border event (book_of fixed a) ≡ true
       → Same fixed border a b → Starts event a ≡ Starts Pass b
-  hidden_starts event a b sound is same =
+  hidden_starts event a b sound_a sound is same =
       let first : State = book_of fixed a in
       let second : State = book_of fixed b in
       let agree : Agree border second first = agree_sym border first second (record { fixed = refl; now = same }) in
       let hidden = event_hidden border event first closed is in
       let books : Each (Agree border second) (path event first) = path_hidden laws border (stages event first) second first sound.knows hidden agree in
-      let after : Agree border second (effect event first) = effect_hidden laws border event second first closed sound.knows is agree in
+      let after : Agree border second (effect event first) = effect_hidden laws fixed border closed event b a sound_a sound.knows is agree.now in
       let itself : Agree border second second = agree_trans border second first second agree (agree_sym border second first agree) in
-      let rest : Agree border second (effect Pass second) = effect_hidden laws border Pass second second closed sound.knows refl itself in
+      let rest : Agree border second (effect Pass second) = effect_hidden laws fixed border closed Pass b b sound sound.knows refl itself.now in
       let end : Agree border (effect event first) (effect Pass second) =
       agree_trans border (effect event first) second (effect Pass second) (agree_sym border second (effect event first) after) rest
       in
@@ -178,7 +178,7 @@ module _ (laws : BelowLaws) (fixed : Fixed) (border : Border) (closed : IsClosed
       let agree : Agree border first second = record { fixed = refl; now = same } in
       let alike = event_alike laws fixed border event a b sound_a.armed closed.some is same in
       let books : Both (Agree border) (path event first) (path event second) = path_alike laws border (stages event first) (stages event second) first second alike agree in
-      let end : Agree border (effect event first) (effect event second) = effect_alike laws fixed border event a b closed sound_a.armed is same in
+      let end : Agree border (effect event first) (effect event second) = effect_alike laws fixed border closed event a b sound_a sound_b is same in
       starts_alike fixed border (effect event first).now (effect event second).now end.now
       (was_down (first ∷ path event first)) (was_down (second ∷ path event second))
       (λ p beyond. downs_alike fixed border p beyond (first ∷ path event first) (second ∷ path event second)
@@ -190,9 +190,9 @@ module _ (laws : BelowLaws) (fixed : Fixed) (border : Border) (closed : IsClosed
   event_starts event a b false is sound_a sound_b same = alike_starts event a b sound_a sound_b is same
   event_starts event a b true is sound_a sound_b same =
       let back : Same fixed border b a = same_sym fixed border a b same in
-      hidden_starts event a b sound_b is same
-      ∙ (sym (hidden_starts Pass a b sound_b refl same)
-      ∙ sym (hidden_starts event b a sound_a (sym (hidden_fixed fixed border event a b) ∙ is) back))
+      hidden_starts event a b sound_a sound_b is same
+      ∙ (sym (hidden_starts Pass a b sound_a sound_b refl same)
+      ∙ sym (hidden_starts event b a sound_b sound_a (sym (hidden_fixed fixed border event a b) ∙ is) back))
 
 -- the same processors beyond start in both
 pub starts_agree : BelowLaws → (border : Border) (event : Event) (a b : State) → IsClosed a.fixed.object a.fixed.topology border
@@ -209,12 +209,12 @@ starts_agree laws border event a b closed sound_a sound_b agree =
 
 -- a hidden event starts none that a step in which nothing happens doesn't
 pub starts_hidden : BelowLaws → (border : Border) (event : Event) (a b : State) → IsClosed a.fixed.object a.fixed.topology border
-    → IsSound b → is_hidden border event a ≡ true → Agree border a b
+    → IsSound a → IsSound b → is_hidden border event a ≡ true → Agree border a b
     → starts_beyond a.fixed.object a.fixed.topology border (outputs event a).starts
     ≡ starts_beyond a.fixed.object a.fixed.topology border (outputs Pass b).starts
-starts_hidden laws border event a b closed sound is agree =
+starts_hidden laws border event a b closed sound_a sound is agree =
     let P : Fixed → Type 0 = λ fixed. IsSound (book_of fixed b.now)
     → starts_beyond a.fixed.object a.fixed.topology border (outputs event a).starts
     ≡ starts_beyond a.fixed.object a.fixed.topology border (outputs Pass (book_of fixed b.now)).starts
     in
-    subst P agree.fixed (λ known. hidden_starts laws a.fixed border closed event a.now b.now known is agree.now) sound
+    subst P agree.fixed (λ known. hidden_starts laws a.fixed border closed event a.now b.now sound_a known is agree.now) sound

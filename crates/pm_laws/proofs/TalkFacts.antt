@@ -1,42 +1,104 @@
 -- The two facts of each change of what masters are told: made in both books it keeps them alike beyond the border, and unseen
 -- and made in one alone it does so too. So do lists of changes of which the same part is seen.
-use Rattle.std.proofs.Common.{◌≡◌, Bool, true, false, if◌then◌else◌, List, [], ◌∷◌, Some, None, refl, ap, subst, arith}
-use Rattle.std.specs.Prelude.{option_map}
+use Rattle.std.proofs.Common.{◌≡◌, ℕ, Bool, true, false, ◌&&◌, if◌then◌else◌, List, [], ◌∷◌, Some, None, unwrap_or, refl, sym, ap, subst, arith}
+use Rattle.std.specs.Prelude.{option_map, slice_set}
+use Rattle.pm_notify.specs.Mailbox.{Mail, forgotten, with_note, with_notifier, without_note}
+use Rattle.pm_notify.specs.Notify.{mail_of}
 use Rattle.pm_procs.specs.Pending.{lowered}
 use Rattle.pm_core.specs.State.{TalkHalf, State}
-use Rattle.pm_core.specs.Talk.{Talk, Ask, Lower, End, apply_talk, talks, talked}
-use Rattle.pm_laws.specs.Agree.{SamePending, SameTalk, Agree}
-use Rattle.pm_laws.specs.Border.{Border, HasSome}
+use Rattle.pm_core.specs.Talk.{Talk, Ask, Lower, End, Forget, Notify, Take, Wait, apply_talk, talks, talked}
+use Rattle.pm_laws.specs.Agree.{SameEntries, SameMail, SamePending, SameTalk, Agree}
+use Rattle.pm_laws.specs.Border.{Border, HasSome, IsBeyond}
+use Rattle.pm_laws.specs.Both.{BothFrom}
 use Rattle.pm_laws.specs.SeenTalk.{seen_talk, talk_part, IsTalkUnseen}
 use Rattle.pm_laws.proofs.AgreeLaw.{clash, talk_sym, talk_trans}
-use Rattle.pm_laws.proofs.Places.{BothFrom-map, BothFrom-map_left, BothFrom-set, BothFrom-set_left}
+use Rattle.pm_laws.proofs.MailFacts.{forgotten_both, mail_same, note_both, note_left, notifier_both, take_both, take_left}
+use Rattle.pm_laws.proofs.Places.{BothFrom-map, BothFrom-map_left, BothFrom-set, BothFrom-set_at, BothFrom-set_left}
 
 -- ---- one change
+
+-- the mail of one master, made in both
+mail_set : (border : Border) (m : ℕ) (make : Mail → Mail) (a b : List Mail)
+    → ((x y : Mail) → SameEntries border x y → SameEntries border (make x) (make y))
+    → BothFrom (SameMail border) 0 a b
+    → BothFrom (SameMail border) 0 (slice_set a m (make (mail_of m a))) (slice_set b m (make (mail_of m b)))
+mail_set border m make a b each same =
+    BothFrom-set (SameMail border) 0 m m (make (mail_of m a)) (make (mail_of m b)) (omega arith)
+    (λ beyond. each (mail_of m a) (mail_of m b) (mail_same border m a b beyond same)) a b same
+
+-- and made in one alone
+mail_set_left : (border : Border) (m : ℕ) (make : Mail → Mail) (a b : List Mail)
+    → (IsBeyond border m → (x y : Mail) → SameEntries border x y → SameEntries border (make x) y)
+    → BothFrom (SameMail border) 0 a b → BothFrom (SameMail border) 0 (slice_set a m (make (mail_of m a))) b
+mail_set_left border m make a b each same =
+    BothFrom-set_at (SameMail border) 0 m m (make (mail_of m a)) (omega arith) a b
+    (λ x y is was beyond.
+    let own : mail_of m a ≡ x = ap (λ o. unwrap_or o []) is in
+    let P : Mail → Type 0 = λ z. SameEntries border (make z) y in
+    subst P (sym own) (each beyond x y (was beyond)))
+    same
 
 -- made in both
 pub told_alike : (border : Border) (change : Talk) (a b : TalkHalf) → SameTalk border a b → SameTalk border (apply_talk change a) (apply_talk change b)
 told_alike border (Ask m request) a b same = record {
   pending = BothFrom-set (SamePending border) 0 m m (Some request) (Some request) (omega arith) (λ beyond. refl) a.pending b.pending same.pending;
+  mail = same.mail;
 }
 told_alike border (Lower count) a b same = record {
   pending = BothFrom-map (SamePending border) (option_map (lowered count)) (option_map (lowered count))
       (λ k x y is beyond. ap (option_map (lowered count)) (is beyond)) 0 a.pending b.pending same.pending;
+  mail = same.mail;
 }
 told_alike border (End m) a b same = record {
   pending = BothFrom-set (SamePending border) 0 m m None None (omega arith) (λ beyond. refl) a.pending b.pending same.pending;
+  mail = same.mail;
 }
+told_alike border (Forget m) a b same =
+    record { pending = same.pending; mail = mail_set border m forgotten a.mail b.mail (forgotten_both border) same.mail }
+told_alike border (Notify m node event on) a b same =
+    record { pending = same.pending; mail = mail_set border m (with_notifier node event on) a.mail b.mail (notifier_both border node event on) same.mail }
+told_alike border (Take m node note) a b same =
+    record { pending = same.pending; mail = mail_set border m (without_note node note) a.mail b.mail (take_both border node note) same.mail }
+told_alike border (Wait m node note) a b same =
+    record { pending = same.pending; mail = mail_set border m (with_note node note) a.mail b.mail (note_both border node note) same.mail }
+
+-- the second of two, where not both are so and the first is
+second_within : (a b : Bool) → (a && b) ≡ false → a ≡ true → b ≡ false
+second_within true b is first = is
+second_within false b is first = cc
 
 -- not seen, and made in one alone
 pub told_unseen : (border : Border) (change : Talk) (a b : TalkHalf) → HasSome border → seen_talk border change ≡ false → SameTalk border a b → SameTalk border (apply_talk change a) b
 told_unseen border (Ask m request) a b some is same = record {
   pending = BothFrom-set_left (SamePending border) 0 m m (Some request) (omega arith) (λ y beyond. clash (border.master m) beyond is) a.pending b.pending same.pending;
+  mail = same.mail;
 }
 told_unseen border (Lower count) a b some is same = record {
   pending = BothFrom-map_left (SamePending border) (option_map (lowered count))
       (λ k x y each beyond. clash border.some (some k beyond) is) 0 a.pending b.pending same.pending;
+  mail = same.mail;
 }
 told_unseen border (End m) a b some is same = record {
   pending = BothFrom-set_left (SamePending border) 0 m m None (omega arith) (λ y beyond. clash (border.master m) beyond is) a.pending b.pending same.pending;
+  mail = same.mail;
+}
+told_unseen border (Forget m) a b some is same = record {
+  pending = same.pending;
+  mail = mail_set_left border m forgotten a.mail b.mail (λ beyond x y each. clash (border.master m) beyond is) same.mail;
+}
+told_unseen border (Notify m node event on) a b some is same = record {
+  pending = same.pending;
+  mail = mail_set_left border m (with_notifier node event on) a.mail b.mail (λ beyond x y each. clash (border.master m) beyond is) same.mail;
+}
+told_unseen border (Take m node note) a b some is same = record {
+  pending = same.pending;
+  mail = mail_set_left border m (without_note node note) a.mail b.mail
+      (λ beyond x y each. take_left border node note x y (second_within (border.master m) (border.node node.0) is beyond) each) same.mail;
+}
+told_unseen border (Wait m node note) a b some is same = record {
+  pending = same.pending;
+  mail = mail_set_left border m (with_note node note) a.mail b.mail
+      (λ beyond x y each. note_left border node note x y (second_within (border.master m) (border.node node.0) is beyond) each) same.mail;
 }
 
 -- ---- lists of changes

@@ -203,7 +203,7 @@ module _ (fixed : Fixed) (border : Border) (closed : IsClosed fixed.object fixed
 
   -- ---- units
 
-  kind_alike : (kind : Kind) → unit_beyond fixed.object fixed.topology border kind ≡ true → value_at kind fixed a.core ≡ value_at kind fixed b.core
+  pub kind_alike : (kind : Kind) → unit_beyond fixed.object fixed.topology border kind ≡ true → value_at kind fixed a.core ≡ value_at kind fixed b.core
   kind_alike (Proc p) beyond = ap (λ t. cond t 1 0) (runs_alike fixed border a b same p beyond)
   kind_alike (Slave s) beyond = state_alike s (slice_get fixed.topology.slaves s) beyond
   kind_alike (Power w) beyond = ap (λ t. cond t 1 0) (up_alike w beyond)

@@ -3,12 +3,17 @@ use Rattle.std.specs.Prelude.{◌≡◌, ℕ, Bool, true, false, List, Option, N
 use Rattle.std.specs.List.{AllByRecursion as Each}
 use Rattle.pm_base.specs.declared.names.Mode.{Mode}
 use Rattle.pm_base.specs.declared.names.Mode.TheVariants.{Off}
+use Rattle.pm_base.specs.declared.names.Unit.{Unit}
+use Rattle.pm_notify.specs.declared.node_notes.NodeNotes.{NodeNotes}
+use Rattle.pm_notify.specs.Mailbox.{Mail}
 use Rattle.pm_procs.specs.declared.pending.Pending.{Pending}
 use Rattle.pm_procs.specs.declared.procs.Proc.{Proc}
 use Rattle.pm_rows.specs.declared.row.Entry.{Entry}
+use Rattle.pm_topology.specs.UnitMap.{units_in}
+use Rattle.pm_topology.specs.Units.{rises}
 use Rattle.pm_core.specs.Members.{owner_at}
 use Rattle.pm_core.specs.State.{Fixed, TalkHalf, Now, State}
-use Rattle.pm_laws.specs.Border.{Border, IsBeyond}
+use Rattle.pm_laws.specs.Border.{Border, IsBeyond, is_told}
 use Rattle.pm_laws.specs.Both.{Both, BothFrom}
 
 -- two rows are those of one pair, whose master is beyond where its slave is; of a master beyond they are armed and held
@@ -42,9 +47,29 @@ pub record SameProc (fixed : Fixed) (border : Border) (p : ℕ) (a b : Proc) : T
 abbrev pub SamePending : Border → ℕ → Option Pending → Option Pending → Type 0
 SamePending border m a b = IsBeyond border m → a ≡ b
 
--- what the masters beyond are told is the same: the requests to suspend that are pending on them
+-- about a node the same notifiers are on, and where notes about it are told beyond, the same notes wait
+pub record SameNotes (told : Bool) (a b : NodeNotes) : Type 0 where
+  pub notifiers : a.notifiers ≡ b.notifiers
+  pub slots : told ≡ true → a.slots ≡ b.slots
+
+-- two entries of mail are about the same unit, and alike
+pub record SameEntry (border : Border) (a b : Unit × NodeNotes) : Type 0 where
+  pub unit : a.0 ≡ b.0
+  pub notes : SameNotes (is_told border a.0) a.1 b.1
+
+-- two masters' mail is about the same units, in order, and alike entry by entry
+pub record SameEntries (border : Border) (a b : Mail) : Type 0 where
+  pub order : rises (units_in a) ≡ true
+  pub each : Both (SameEntry border) a b
+
+-- the mail of a master beyond is alike
+abbrev pub SameMail : Border → ℕ → Mail → Mail → Type 0
+SameMail border m a b = IsBeyond border m → SameEntries border a b
+
+-- what the masters beyond are told is the same: the requests to suspend that are pending on them, and their mail
 pub record SameTalk (border : Border) (a b : TalkHalf) : Type 0 where
   pub pending : BothFrom (SamePending border) 0 a.pending b.pending
+  pub mail : BothFrom (SameMail border) 0 a.mail b.mail
 
 -- what changes of two books with the same object and chip agrees beyond the border
 pub record Same (fixed : Fixed) (border : Border) (a b : Now) : Type 0 where

@@ -1,8 +1,10 @@
 -- What lies beyond the reach of a master. The laws of two worlds hold of every border that is closed.
-use Rattle.std.specs.Prelude.{◌≡◌, ℕ, Bool, true, ◌&&◌, ◌||◌, ◌==◌, slice_get, position, Option, Some, None}
+use Rattle.std.specs.Prelude.{◌≡◌, ℕ, Bool, true, false, ◌&&◌, ◌||◌, ◌==◌, slice_get, position, Option, Some, None}
 use Rattle.std.specs.List.{All}
 use Rattle.pm_base.specs.declared.names.LineId.{LineId}
 use Rattle.pm_base.specs.declared.names.NodeId.{NodeId}
+use Rattle.pm_base.specs.declared.names.Unit.{Unit}
+use Rattle.pm_base.specs.declared.names.Unit.TheVariants.{Node, Line}
 use Rattle.pm_object.specs.declared.object.MasterRec.{MasterRec}
 use Rattle.pm_object.specs.declared.object.Object.{Object}
 use Rattle.pm_rows.specs.declared.row.RowSeed.{RowSeed}
@@ -16,7 +18,7 @@ use Rattle.pm_topology.specs.declared.topology.SlaveDef.{SlaveDef}
 use Rattle.pm_topology.specs.declared.topology.Topology.{Topology}
 use Rattle.pm_core.specs.Members.{owner_at}
 use Rattle.pm_core.specs.Pairs.{pairs_of}
-use Rattle.pm_core.specs.Views.{master_node}
+use Rattle.pm_core.specs.Views.{master_node, named_master}
 use Rattle.pm_perms.specs.Permits.{may_configure, may_reset, may_shut, may_suspend, may_use, may_wake}
 use Rattle.pm_reach.specs.Leads.{forces_above, forces_proc, targets}
 
@@ -60,6 +62,11 @@ node_beyond object t border node =
     unit_beyond object t border (kind_of t node)
     && none_within border (position (λ (master : MasterRec). master.node == node.0) object.masters)
 
+-- notes about the node of a unit are told beyond where it is beyond; about a reset line there are none
+abbrev pub is_told : Border → Unit → Bool
+is_told border (Node node) = border.node node.0
+is_told border (Line line) = false
+
 -- the border is closed: nobody within can change what is beyond
 pub record IsClosed (object : Object) (t : Topology) (border : Border) : Type 0 where
   -- who may use a slave beyond is beyond
@@ -73,6 +80,9 @@ pub record IsClosed (object : Object) (t : Topology) (border : Border) : Type 0 
       → border.power v ≡ true → border.power w ≡ true
   -- a node is beyond where its unit and the master of its number are
   pub nodes : (node : NodeId) → border.node node.0 ≡ node_beyond object t border node
+  -- the master that a node beyond names is beyond, or it names none
+  pub names : (node : NodeId) → border.node node.0 ≡ true
+      → none_within border (named_master (record { object = object; topology = t }) node) ≡ true
   -- who may suspend or wake a master beyond is beyond
   pub suspends : (m k : ℕ) → may_suspend object t (master_node object.masters m) (master_node object.masters k) ≡ true
       → IsBeyond border k → IsBeyond border m

@@ -1,9 +1,12 @@
 pub mod Agree
+pub mod Answers
 pub mod Border
 pub mod Both
+pub mod Callbacks
 pub mod Hidden
 pub mod Quiet
 pub mod ReachBorder
 pub mod Seen
 pub mod SeenTalk
+pub mod Starts
 pub mod Values

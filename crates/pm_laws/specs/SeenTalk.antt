@@ -1,15 +1,22 @@
 -- What is seen from beyond a border of what masters are told, and of the requests to suspend that are made and that end.
-use Rattle.std.specs.Prelude.{◌≡◌, Bool, List, [], filter, Option, Some, None, if◌then◌else◌}
+use Rattle.std.specs.Prelude.{◌≡◌, Bool, ◌&&◌, List, [], filter, Option, Some, None, if◌then◌else◌}
+use Rattle.pm_notify.specs.declared.notes.Waiting.{Waiting}
 use Rattle.pm_core.specs.declared.ended.Ended.{Ended}
 use Rattle.pm_core.specs.declared.judgement.Asked.{Asked}
-use Rattle.pm_core.specs.Talk.{Talk, Ask, Lower, End}
+use Rattle.pm_core.specs.Talk.{Talk, Ask, Lower, End, Forget, Notify, Take, Wait}
 use Rattle.pm_laws.specs.Border.{Border}
 
--- a request, and its end, are seen where the master that is asked is beyond; and the time that passes where some master is
+-- a request, and its end, are seen where the master that is asked is beyond; and the time that passes where some master is.
+-- What a master asks to be told, and that it forgets, is seen where it is beyond; and a note that waits for it or is taken out
+-- where the node is beyond too
 abbrev pub seen_talk : Border → Talk → Bool
 seen_talk border (Ask m request) = border.master m
 seen_talk border (Lower count) = border.some
 seen_talk border (End m) = border.master m
+seen_talk border (Forget m) = border.master m
+seen_talk border (Notify m node event on) = border.master m
+seen_talk border (Take m node note) = border.master m && border.node node.0
+seen_talk border (Wait m node note) = border.master m && border.node node.0
 
 -- of these changes, those that are seen
 abbrev pub talk_part : Border → List Talk → List Talk
@@ -23,6 +30,14 @@ IsTalkUnseen border changes = talk_part border changes ≡ []
 abbrev pub asks_beyond : Border → Option Asked → Option Asked
 asks_beyond border None = None
 asks_beyond border (Some asked) = if border.master asked.target then Some asked else None
+
+-- a note is about a node beyond
+abbrev pub is_about_beyond : Border → Waiting → Bool
+is_about_beyond border waiting = border.node waiting.node.0
+
+-- of these notes, those about nodes beyond
+abbrev pub notes_beyond : Border → List Waiting → List Waiting
+notes_beyond border notes = filter (is_about_beyond border) notes
 
 -- of these ends, those of requests to masters beyond
 abbrev pub ends_beyond : Border → List Ended → List Ended

@@ -27,19 +27,23 @@ ghost use Rattle.pm_core.specs.Talk.{Talk, talked};
 ghost use Rattle.pm_core.specs.Values.{master_place, slave_place, value};
 ghost use Rattle.pm_core.specs.Views.{is_asked, named_master, proc_view, row_view, suspend_view, wake_view};
 ghost use Rattle.pm_laws.specs.Agree.{Agree};
+ghost use Rattle.pm_laws.specs.Answers.{HaveAnswersAlike, HaveDropsAlike};
 ghost use Rattle.pm_laws.specs.Border.{Border, HasSome, IsBeyond, IsClosed, unit_beyond};
 ghost use Rattle.pm_laws.specs.Both.{Both};
+ghost use Rattle.pm_laws.specs.Callbacks.{HaveCallsAlike, calls_beyond};
 ghost use Rattle.pm_laws.specs.Hidden.{is_hidden, is_slave_within, is_within, owner_by};
 ghost use Rattle.pm_laws.specs.Quiet.{AreRunsAlike, quiet, quiet_event};
 ghost use Rattle.pm_laws.specs.ReachBorder.{IsAllBeyond, IsBorderOf, border_of, place_of};
 ghost use Rattle.pm_laws.specs.Seen.{seen, seen_part, IsUnseen, AreAlike, AreHidden};
 ghost use Rattle.pm_laws.specs.SeenTalk.{seen_talk, talk_part, IsTalkUnseen, asks_beyond, ends_beyond};
+ghost use Rattle.pm_laws.specs.Starts.{HaveStartsAlike};
 ghost use Rattle.pm_laws.specs.Values.{HaveValuesAlike, is_beyond, starts_beyond};
 
+use crate::answers::{answers_agree, callbacks_agree};
 use pm_core::{books_of_a_run, books_stay_sound, members_are_owned};
 use pm_reach::{masters_within, parents_within, reach_is_decided, units_within};
 use pm_rows::shifts_leave_others;
-use pm_topology::kinds_are_exact;
+use pm_topology::{kinds_are_exact, units_stand_in_order};
 
 /// A sound book agrees with itself beyond each closed border, as the book at load does; two books that agree do so either way, and
 /// so do two that agree with a third one.
@@ -52,6 +56,7 @@ pub fn books_agree()
     ensures through { (border : Border) (a b c : State) → Agree border a b → Agree border b c → Agree border a c }
 {
     books_stay_sound();
+    units_stand_in_order();
 }
 
 /// The two facts of each change: seen and made in both books it leaves them in agreement, and unseen and
@@ -70,6 +75,7 @@ pub fn changes_agree()
 {
     shifts_leave_others();
     members_are_owned();
+    units_stand_in_order();
 }
 
 /// The two facts of each change of what masters are told: made in both books it leaves them in agreement,
@@ -103,6 +109,7 @@ pub fn rows_follow_alike()
 {
     shifts_leave_others();
     members_are_owned();
+    units_stand_in_order();
 }
 
 /// The books along a step. Where nothing in its stages is seen each of them agrees with a book that stays,
@@ -121,6 +128,7 @@ pub fn paths_agree()
 {
     shifts_leave_others();
     members_are_owned();
+    units_stand_in_order();
 }
 
 /// What a master beyond sees in two books that agree is equal: its row on a slave beyond, with the other
@@ -147,6 +155,7 @@ pub fn views_agree()
 {
     shifts_leave_others();
     members_are_owned();
+    units_stand_in_order();
 }
 
 /// A unit beyond has the same value in two books that agree: a slave, a power node, a processor of a master beyond or of
@@ -168,7 +177,7 @@ pub fn steps_agree()
         → IsClosed a.fixed.object a.fixed.topology border → IsSound a → IsSound b
         → Agree border a b → Agree border (effect event a) (effect event b) }
     ensures hidden { (border : Border) (event : Event) (a b : State)
-        → IsClosed a.fixed.object a.fixed.topology border → IsSound b
+        → IsClosed a.fixed.object a.fixed.topology border → IsSound a → IsSound b
         → is_hidden border event a ≡ true → Agree border a b → Agree border (effect event a) b }
     ensures messages { (border : Border) (master : NodeId) (message : Message) (book : State)
         → is_within border (master_place master book) ≡ true → is_hidden border (Ipi master message) book ≡ true }
@@ -178,6 +187,7 @@ pub fn steps_agree()
 {
     shifts_leave_others();
     members_are_owned();
+    units_stand_in_order();
 }
 
 /// The same is asked of masters beyond in two books that agree, and, where they are sound, the same requests
@@ -205,6 +215,7 @@ pub fn requests_agree()
 {
     shifts_leave_others();
     members_are_owned();
+    units_stand_in_order();
 }
 
 /// The same processors beyond start in two books that agree, at the same addresses, whether an event does the same in
@@ -215,13 +226,14 @@ pub fn starts_agree()
         → starts_beyond a.fixed.object a.fixed.topology border (outputs event a).starts
         ≡ starts_beyond a.fixed.object a.fixed.topology border (outputs event b).starts }
     ensures hidden { (border : Border) (event : Event) (a b : State)
-        → IsClosed a.fixed.object a.fixed.topology border → IsSound b
+        → IsClosed a.fixed.object a.fixed.topology border → IsSound a → IsSound b
         → is_hidden border event a ≡ true → Agree border a b
         → starts_beyond a.fixed.object a.fixed.topology border (outputs event a).starts
         ≡ starts_beyond a.fixed.object a.fixed.topology border (outputs Pass b).starts }
 {
     shifts_leave_others();
     members_are_owned();
+    units_stand_in_order();
 }
 
 /// Over a well-formed object and a chip that passes its check the border of the reach of a master is closed, and it is
@@ -245,8 +257,11 @@ pub fn reach_is_closed()
 
 /// Nothing that a master sends changes what is beyond its reach: two books that agree there agree after an event in both,
 /// and after a message of the master in the one and nothing in the other; and in both ways the same is asked of masters
-/// beyond, and the same requests to them end. So a run, and the run without the messages of the master, have books that
-/// agree beyond its reach after each step, and each unit beyond has the same value in both.
+/// beyond, the same requests to them end, and of nodes beyond they are told the same. So a run, and the run without the
+/// messages of the master, have books that agree beyond its reach after each step, and each unit beyond has the same value
+/// in both. Step by step the same processors beyond start, the same messages of masters beyond are dropped, those that name
+/// nothing within are answered the same, and the same callbacks are made to masters beyond, but for those about nodes
+/// within.
 pub fn reach_keeps_apart()
     ensures event { (m : NodeId) (event : Event) (a b : State) → IsObject a.fixed.object → IsWellFormed a.fixed.topology
         → IsSound a → IsSound b
@@ -265,15 +280,31 @@ pub fn reach_keeps_apart()
         → Agree (border_of a.fixed.object a.fixed.topology m) a b
         → ends_beyond (border_of a.fixed.object a.fixed.topology m) (ended event a)
         ≡ ends_beyond (border_of a.fixed.object a.fixed.topology m) (ended (quiet_event m event) b) }
+    ensures calls { (m : NodeId) (event : Event) (a b : State) → IsObject a.fixed.object → IsWellFormed a.fixed.topology
+        → IsSound a → IsSound b
+        → Agree (border_of a.fixed.object a.fixed.topology m) a b
+        → calls_beyond a.fixed.object (border_of a.fixed.object a.fixed.topology m) (outputs event a).calls
+        ≡ calls_beyond a.fixed.object (border_of a.fixed.object a.fixed.topology m) (outputs (quiet_event m event) b).calls }
     ensures books { (c : Setup) (m : NodeId) (events : List Event) → IsObject c.object → IsWellFormed c.topology
         → AreRunsAlike (border_of c.object c.topology m) (run c events) (run c (quiet m events)) }
     ensures values { (c : Setup) (m : NodeId) (events : List Event) → IsObject c.object → IsWellFormed c.topology
         → HaveValuesAlike c.object c.topology (border_of c.object c.topology m) (run c events) (run c (quiet m events)) }
+    ensures starts { (c : Setup) (m : NodeId) (events : List Event) → IsObject c.object → IsWellFormed c.topology
+        → HaveStartsAlike c.object c.topology (border_of c.object c.topology m) (run c events) (run c (quiet m events)) }
+    ensures drops { (c : Setup) (m : NodeId) (events : List Event) → IsObject c.object → IsWellFormed c.topology
+        → HaveDropsAlike c.object (border_of c.object c.topology m) (run c events) (run c (quiet m events)) }
+    ensures answers { (c : Setup) (m : NodeId) (events : List Event) → IsObject c.object → IsWellFormed c.topology
+        → HaveAnswersAlike c.object (border_of c.object c.topology m) (run c events) (run c (quiet m events)) }
+    ensures callbacks { (c : Setup) (m : NodeId) (events : List Event) → IsObject c.object → IsWellFormed c.topology
+        → HaveCallsAlike c.object (border_of c.object c.topology m) (run c events) (run c (quiet m events)) }
 {
     reach_is_closed();
     steps_agree();
     requests_agree();
     values_agree();
+    starts_agree();
+    answers_agree();
+    callbacks_agree();
     books_agree();
     books_of_a_run();
 }

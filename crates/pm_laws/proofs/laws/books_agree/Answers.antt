@@ -2,4 +2,9 @@ use Rattle.pm_laws.proofs.AgreeLaw.{agree_self, agree_sym, agree_trans, load_sel
 use Rattle.pm_laws.proofs.laws.books_agree.Goals as goal
 
 pub returns : goal.returns
-returns c = record { itself = agree_self; load = load_self c.books_stay_sound.ensures.load; turned = agree_sym; through = agree_trans }
+returns c = record {
+  itself = agree_self c.units_stand_in_order.ensures;
+  load = load_self c.units_stand_in_order.ensures c.books_stay_sound.ensures.load;
+  turned = agree_sym;
+  through = agree_trans;
+}

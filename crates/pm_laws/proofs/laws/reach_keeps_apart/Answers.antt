@@ -1,4 +1,6 @@
 use Rattle.pm_laws.proofs.ReachRequests.{RequestLaws, asked_apart, ended_apart}
+use Rattle.pm_laws.proofs.ReachCalls.{CallLaws, calls_apart, callbacks_apart_of}
+use Rattle.pm_laws.proofs.ReachRun.{OutputLaws, answers_apart_of, drops_apart_of, starts_apart_of}
 use Rattle.pm_laws.proofs.ReachStep.{ApartLaws, RunLaws, event_apart, message_apart, runs_apart, values_apart}
 use Rattle.pm_laws.proofs.laws.reach_keeps_apart.Goals as goal
 
@@ -25,11 +27,23 @@ returns c =
       load = c.books_of_a_run.ensures.load;
       agrees = c.books_agree.ensures.load;
     } in
+    let calls : CallLaws = record { same_calls = c.callbacks_agree.ensures.both; no_calls = c.callbacks_agree.ensures.hidden } in
+    let outs : OutputLaws = record {
+      same_starts = c.starts_agree.ensures.both;
+      quiet_starts = c.starts_agree.ensures.hidden;
+      drops = c.answers_agree.ensures.drops;
+      answers = c.answers_agree.ensures.answers;
+    } in
     record {
       event = event_apart laws;
       message = message_apart laws;
       asked = asked_apart laws requests;
       ended = ended_apart laws requests;
+      calls = calls_apart laws calls;
       books = runs_apart laws runs;
       values = values_apart laws runs;
+      starts = starts_apart_of laws runs outs;
+      drops = drops_apart_of laws runs outs;
+      answers = answers_apart_of laws runs outs;
+      callbacks = callbacks_apart_of laws runs calls;
     }

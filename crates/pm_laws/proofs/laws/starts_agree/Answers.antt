@@ -8,5 +8,6 @@ returns c =
       armed = c.shifts_leave_others.ensures.armed;
       owned = c.members_are_owned.ensures;
       hold = c.shifts_leave_others.ensures.hold;
+      units = c.units_stand_in_order.ensures;
     } in
     record { both = starts_agree laws; hidden = starts_hidden laws }

@@ -9,5 +9,6 @@ returns c =
       armed = c.shifts_leave_others.ensures.armed;
       owned = c.members_are_owned.ensures;
       hold = c.shifts_leave_others.ensures.hold;
+      units = c.units_stand_in_order.ensures;
     } in
     record { both = steps_agree laws; hidden = step_hidden laws; messages = message_within; stages = event_hidden }

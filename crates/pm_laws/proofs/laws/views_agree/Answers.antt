@@ -9,6 +9,7 @@ returns c =
       armed = c.shifts_leave_others.ensures.armed;
       owned = c.members_are_owned.ensures;
       hold = c.shifts_leave_others.ensures.hold;
+      units = c.units_stand_in_order.ensures;
     } in
     record {
       row = row_views_agree;

@@ -1,0 +1,162 @@
+-- What masters beyond are answered in two books that agree: a message is dropped in both or in neither, and one that names
+-- nothing within is answered the same.
+use Rattle.std.proofs.Common.{◌≡◌, ℕ, Bool, true, false, not, if◌then◌else◌, Option, Some, None, refl, sym, ◌∙◌, ap, subst}
+use Rattle.std.specs.Prelude.{is_some, option_and_then}
+use Rattle.pm_base.specs.declared.events.Event.{Event}
+use Rattle.pm_base.specs.declared.events.Event.TheVariants.{Ipi}
+use Rattle.pm_base.specs.declared.events.Message.{Message}
+use Rattle.pm_base.specs.declared.names.NodeId.{NodeId}
+use Rattle.pm_base.proofs.Booleans.{both}
+use Rattle.pm_ipi.specs.declared.calls.AckKind.{AckKind}
+use Rattle.pm_ipi.specs.declared.calls.AckKind.TheVariants.{No, Blocking, NonBlocking}
+use Rattle.pm_ipi.specs.declared.calls.Call.{Call}
+use Rattle.pm_ipi.specs.declared.calls.Call.TheVariants.{RequestSuspend, RequestWakeup, RequestNode, SetRequirement}
+use Rattle.pm_ipi.specs.declared.responses.Response.{Response}
+use Rattle.pm_ipi.specs.Calls.{ack_of, call_of, node_of}
+use Rattle.pm_procs.specs.Modes.{is_awake}
+use Rattle.pm_topology.specs.Places.{KindLaws, kind_of}
+use Rattle.pm_topology.specs.WellFormed.{IsWellFormed}
+use Rattle.pm_core.specs.declared.judgement.Asked.{Asked}
+use Rattle.pm_core.specs.declared.replies.Answer.TheVariants.{Ack}
+use Rattle.pm_core.specs.Members.{mode_of_master}
+use Rattle.pm_core.specs.Outcome.{Outcome, outcome_of}
+use Rattle.pm_core.specs.Sound.{IsSound}
+use Rattle.pm_core.specs.State.{Fixed, Now, State}
+use Rattle.pm_core.specs.Step.{acknowledged, answer_by, answered, called, effect, heard_at, heard_by, outputs, verdict}
+use Rattle.pm_core.specs.Values.{point_at}
+use Rattle.pm_core.specs.Views.{master_mode_at}
+use Rattle.pm_laws.specs.Agree.{Agree, Same}
+use Rattle.pm_laws.specs.Answers.{is_dropped, message_beyond, names_beyond, sender_beyond}
+use Rattle.pm_laws.specs.Border.{Border, IsClosed, none_within}
+use Rattle.pm_laws.specs.ReachBorder.{place_of}
+use Rattle.pm_laws.proofs.CallsAlike.{book_of}
+use Rattle.pm_laws.proofs.FollowLaw.{mode_alike}
+use Rattle.pm_laws.proofs.JudgedLaw.{call_same, point_alike}
+use Rattle.pm_laws.proofs.RowFacts.{BelowLaws}
+use Rattle.pm_laws.proofs.StepLaw as steps
+
+-- ---- drops
+
+acknowledged_is : (kind : AckKind) (master node : NodeId) (response : Response) (after : State) → is_dropped (acknowledged kind master node response after) ≡ false
+acknowledged_is No master node response after = refl
+acknowledged_is Blocking master node response after = refl
+acknowledged_is NonBlocking master node response after = refl
+
+answered_is : (asked : Option Asked) (master : NodeId) (call : Call) (response : Response) (after : State) → is_dropped (answered asked master call response after) ≡ false
+answered_is None master call response after = acknowledged_is (ack_of call) master (node_of call) response after
+answered_is (Some asked) master call response after = refl
+
+-- what is dropped is what isn't heard
+dropped_is : (master : NodeId) (call : Call) (heard : Option Outcome) (after : State) → is_dropped (answer_by (heard_by master call heard) after) ≡ not (is_some heard)
+dropped_is master call None after = refl
+dropped_is master call (Some outcome) after = answered_is outcome.judgement.asks master call outcome.judgement.response after
+
+heard_if : (x y : Bool) (o p : Outcome) → x ≡ y → is_some (if x then Some o else None) ≡ is_some (if y then Some p else None)
+heard_if true true o p is = refl
+heard_if true false o p is = cc
+heard_if false true o p is = cc
+heard_if false false o p is = refl
+
+module _ (laws : BelowLaws) (fixed : Fixed) (border : Border) (a b : Now) (same : Same fixed border a b) where
+  abbrev first : State
+  first = book_of fixed a
+
+  abbrev second : State
+  second = book_of fixed b
+
+  heard_alike : (message : Message) (place : Option ℕ) → none_within border place ≡ true
+      → is_some (option_and_then (heard_at message first) place) ≡ is_some (option_and_then (heard_at message second) place)
+  heard_alike message None beyond = refl
+  heard_alike message (Some m) beyond =
+      heard_if (is_awake (mode_of_master fixed a.core m)) (is_awake (mode_of_master fixed b.core m)) (called m (call_of message) first) (called m (call_of message) second)
+      (ap is_awake (mode_alike laws fixed border m a b beyond same))
+
+  drops_by : (event : Event) → sender_beyond fixed.object border event ≡ true → is_dropped (outputs event first).answer ≡ is_dropped (outputs event second).answer
+  drops_by (Ipi master message) beyond =
+      dropped_is master (call_of message) (verdict master message first) (effect (Ipi master message) first)
+      ∙ (ap not (heard_alike message (place_of fixed.object master) beyond)
+      ∙ sym (dropped_is master (call_of message) (verdict master message second) (effect (Ipi master message) second)))
+  drops_by _ beyond = refl
+
+  -- ---- answers
+
+  module _ (kinds : KindLaws) (closed : IsClosed fixed.object fixed.topology border) (chip : IsWellFormed fixed.topology) where
+    -- the same is heard of a message
+    heard_same : (message : Message) (place : Option ℕ) → none_within border place ≡ true → names_beyond border (call_of message) ≡ true
+        → option_and_then (heard_at message first) place ≡ option_and_then (heard_at message second) place
+    heard_same message None beyond is = refl
+    heard_same message (Some m) beyond is =
+        ap (λ mode. if is_awake mode then Some (called m (call_of message) first) else None) (mode_alike laws fixed border m a b beyond same)
+        ∙ ap (λ tried. if is_awake (mode_of_master fixed b.core m) then Some (outcome_of tried) else None)
+        (call_same laws kinds fixed border closed chip a b same m (call_of message) beyond is)
+
+    -- the same is answered in two books after it that agree
+    shown_same : (place : Option ℕ) → none_within border place ≡ true → master_mode_at place first ≡ master_mode_at place second
+    shown_same None beyond = refl
+    shown_same (Some m) beyond = mode_alike laws fixed border m a b beyond same
+
+    -- a call that wants an acknowledgement names its node
+    node_beyond : (call : Call) → ack_of call ≡ NonBlocking → names_beyond border call ≡ true → border.node (node_of call).0 ≡ true
+    node_beyond (RequestSuspend node ack latency state) wants is = is
+    node_beyond (RequestWakeup node address ack) wants is = is
+    node_beyond (RequestNode node caps ack) wants is = is
+    node_beyond (SetRequirement node caps ack) wants is = is
+    node_beyond _ wants is = cc
+
+    acknowledged_same : (kind : AckKind) (master node : NodeId) (response : Response) → none_within border (place_of fixed.object master) ≡ true
+        → (kind ≡ NonBlocking → border.node node.0 ≡ true)
+        → acknowledged kind master node response first ≡ acknowledged kind master node response second
+    acknowledged_same No master node response beyond is = refl
+    acknowledged_same Blocking master node response beyond is = refl
+    acknowledged_same NonBlocking master node response beyond is =
+        ap (λ point. Ack master node response.status point (is_awake (master_mode_at (place_of fixed.object master) first)))
+        (point_alike fixed border closed a b same node (is refl))
+        ∙ ap (λ mode. Ack master node response.status (point_at (kind_of fixed.topology node) fixed b.core) (is_awake mode)) (shown_same (place_of fixed.object master) beyond)
+
+    answered_same : (asked : Option Asked) (master : NodeId) (call : Call) (response : Response) → none_within border (place_of fixed.object master) ≡ true
+        → names_beyond border call ≡ true
+        → answered asked master call response first ≡ answered asked master call response second
+    answered_same None master call response beyond is =
+        acknowledged_same (ack_of call) master (node_of call) response beyond (λ wants. node_beyond call wants is)
+    answered_same (Some asked) master call response beyond is = refl
+
+    after_same : (master : NodeId) (call : Call) (heard : Option Outcome) → none_within border (place_of fixed.object master) ≡ true
+        → names_beyond border call ≡ true
+        → answer_by (heard_by master call heard) first ≡ answer_by (heard_by master call heard) second
+    after_same master call None beyond is = refl
+    after_same master call (Some outcome) beyond is =
+        answered_same outcome.judgement.asks master call outcome.judgement.response beyond is
+
+module _ (laws : BelowLaws) (kinds : KindLaws) (fixed : Fixed) (border : Border) (closed : IsClosed fixed.object fixed.topology border)
+    (chip : IsWellFormed fixed.topology) (a b : Now) (same : Same fixed border a b) where
+  answers_by : (event : Event) → IsSound (book_of fixed a) → IsSound (book_of fixed b) → message_beyond fixed.object border event ≡ true
+      → (outputs event (book_of fixed a)).answer ≡ (outputs event (book_of fixed b)).answer
+  answers_by (Ipi master message) sound_a sound_b is =
+      let event : Event = Ipi master message in
+      let parts = both (none_within border (place_of fixed.object master)) (names_beyond border (call_of message)) is in
+      let after : Agree border (effect event (book_of fixed a)) (effect event (book_of fixed b)) =
+      steps.steps_agree laws border event (book_of fixed a) (book_of fixed b) closed sound_a sound_b (record { fixed = refl; now = same })
+      in
+      ap (λ heard. answer_by (heard_by master (call_of message) heard) (effect event (book_of fixed a)))
+      (heard_same laws fixed border a b same kinds closed chip message (place_of fixed.object master) parts.0 parts.1)
+      ∙ after_same laws fixed border (effect event (book_of fixed a)).now (effect event (book_of fixed b)).now after.now kinds closed chip
+      master (call_of message) (verdict master message (book_of fixed b)) parts.0 parts.1
+  answers_by _ sound_a sound_b is = refl
+
+-- ---- books
+
+pub drops_agree : BelowLaws → (border : Border) (event : Event) (a b : State) → Agree border a b → sender_beyond a.fixed.object border event ≡ true
+    → is_dropped (outputs event a).answer ≡ is_dropped (outputs event b).answer
+drops_agree laws border event a b agree beyond =
+    let P : Fixed → Type 0 = λ fixed. is_dropped (outputs event a).answer ≡ is_dropped (outputs event (book_of fixed b.now)).answer in
+    subst P agree.fixed (drops_by laws a.fixed border a.now b.now agree.now event beyond)
+
+pub answers_agree : BelowLaws → KindLaws → (border : Border) (event : Event) (a b : State) → IsWellFormed a.fixed.topology
+    → IsClosed a.fixed.object a.fixed.topology border → IsSound a → IsSound b → Agree border a b
+    → message_beyond a.fixed.object border event ≡ true
+    → (outputs event a).answer ≡ (outputs event b).answer
+answers_agree laws kinds border event a b chip closed sound_a sound_b agree is =
+    let P : Fixed → Type 0 = λ fixed. IsSound (book_of fixed b.now)
+    → (outputs event a).answer ≡ (outputs event (book_of fixed b.now)).answer
+    in
+    subst P agree.fixed (λ sound. answers_by laws kinds a.fixed border closed chip a.now b.now agree.now event sound_a sound is) sound_b

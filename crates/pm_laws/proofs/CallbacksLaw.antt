@@ -1,0 +1,287 @@
+-- The callbacks to masters beyond are the same in two books that agree, but for those about nodes within.
+use Rattle.std.proofs.Common.{◌≡◌, ℕ, ◌+◌, Bool, true, false, not, ◌&&◌, ◌==◌, cond, if◌then◌else◌, List, [], ◌∷◌, ◌++◌, Option, Some, None, refl, sym, ◌∙◌, ap, subst}
+use Rattle.std.specs.Prelude.{filter, map}
+use Rattle.std.proofs.lemmas.Bool.{eqb-true}
+use Rattle.std.proofs.lemmas.List.Elements.{filter-append}
+use Rattle.pm_base.specs.declared.events.Event.{Event}
+use Rattle.pm_base.specs.declared.names.Mode.{Mode}
+use Rattle.pm_base.specs.declared.names.Mode.TheVariants.{Off, Active, Asleep, Suspending}
+use Rattle.pm_base.specs.declared.names.NodeId.{NodeId}
+use Rattle.pm_notify.specs.declared.notes.Note.{Note}
+use Rattle.pm_notify.specs.declared.notes.Note.TheVariants.{Ack, Change, ZeroUsers}
+use Rattle.pm_notify.specs.declared.notes.Waiting.{Waiting}
+use Rattle.pm_notify.specs.Mailbox.{Mail}
+use Rattle.pm_notify.specs.Notify.{mail_of}
+use Rattle.pm_object.specs.declared.object.MasterRec.{MasterRec}
+use Rattle.pm_object.specs.declared.object.Object.{Object}
+use Rattle.pm_object.specs.Grammar.{IsObject}
+use Rattle.pm_procs.specs.Modes.{is_awake}
+use Rattle.pm_core.specs.declared.judgement.Asked.{Asked}
+use Rattle.pm_core.specs.declared.outbox.Callback.{Callback}
+use Rattle.pm_core.specs.Callbacks.{News, asks_to, callback_by, callback_of, called_back, callbacks_from, init_suspend, notes_to, told_at_wake, told_to}
+use Rattle.pm_core.specs.Members.{mode_of_master}
+use Rattle.pm_core.specs.Sound.{IsSound, KnowsModes}
+use Rattle.pm_core.specs.State.{Fixed, Now, State}
+use Rattle.pm_core.specs.Step.{effect, mail_after, modes_in, news, opening, outputs}
+use Rattle.pm_core.specs.Values.{point}
+use Rattle.pm_laws.specs.Agree.{Agree, Same, SameEntry, SameMail}
+use Rattle.pm_laws.specs.Border.{Border, IsBeyond, IsClosed}
+use Rattle.pm_laws.specs.Both.{Both, BothFrom}
+use Rattle.pm_laws.specs.Callbacks.{calls_beyond, is_call_beyond}
+use Rattle.pm_laws.specs.Hidden.{is_hidden, is_within}
+use Rattle.pm_laws.specs.ReachBorder.{place_of}
+use Rattle.pm_laws.specs.SeenTalk.{asks_beyond, is_about_beyond, notes_beyond}
+use Rattle.pm_laws.proofs.AgreeLaw.{agree_self, same_sym}
+use Rattle.pm_laws.proofs.CallsAlike.{book_of}
+use Rattle.pm_laws.proofs.CallsHidden.{within_by}
+use Rattle.pm_laws.proofs.EventsLaw.{hidden_fixed}
+use Rattle.pm_laws.proofs.FollowLaw.{mode_alike}
+use Rattle.pm_laws.proofs.JudgedLaw.{point_alike}
+use Rattle.pm_laws.proofs.MailFacts.{mail_same}
+use Rattle.pm_laws.proofs.MailsLaw.{NewsAlike, no_news, notes_alike, wakes_alike}
+use Rattle.pm_laws.proofs.Places.{StandsFrom, stands_first, stands_from_start, stands_later}
+use Rattle.pm_laws.proofs.Records.{own_place}
+use Rattle.pm_laws.proofs.RowFacts.{BelowLaws}
+use Rattle.pm_laws.proofs.StepLaw.{effect_alike, effect_hidden}
+use Rattle.pm_laws.proofs.TellingsLaw.{after_alike, found_alike, found_hidden, later, news_alike, news_hidden}
+
+-- ---- lists
+
+-- what is made of elements passes a test where they pass another one
+filter_map : {X Y : Type 0} (test : Y → Bool) (p : X → Bool) (f : X → Y) → ((x : X) → test (f x) ≡ p x) → (xs : List X)
+    → filter test (map f xs) ≡ map f (filter p xs)
+filter_map test p f same [] = refl
+filter_map {X} {Y} test p f same (x ∷ xs) =
+    ap (λ b. cond b (f x ∷ filter test (map f xs)) (filter test (map f xs))) (same x) ∙ at (p x) (filter_map test p f same xs)
+  where
+    at : (b : Bool) → filter test (map f xs) ≡ map f (filter p xs)
+        → cond b (f x ∷ filter test (map f xs)) (filter test (map f xs)) ≡ map f (cond b (x ∷ filter p xs) (filter p xs))
+    at true later = ap (λ ys. f x ∷ ys) later
+    at false later = later
+
+-- what is made of those that pass a test by two functions that are the same there
+map_filter : {X Y : Type 0} (p : X → Bool) (f g : X → Y) → ((x : X) → p x ≡ true → f x ≡ g x) → (xs : List X) → map f (filter p xs) ≡ map g (filter p xs)
+map_filter p f g same [] = refl
+map_filter {X} {Y} p f g same (x ∷ xs) = at (p x) refl (map_filter p f g same xs)
+  where
+    at : (b : Bool) → p x ≡ b → map f (filter p xs) ≡ map g (filter p xs)
+        → map f (cond b (x ∷ filter p xs) (filter p xs)) ≡ map g (cond b (x ∷ filter p xs) (filter p xs))
+    at true is later = ap (λ y. y ∷ map f (filter p xs)) (same x is) ∙ ap (λ ys. g x ∷ ys) later
+    at false is later = later
+
+none_pass : {X Y : Type 0} (test : Y → Bool) (f : X → Y) → ((x : X) → test (f x) ≡ false) → (xs : List X) → filter test (map f xs) ≡ []
+none_pass test f fails [] = refl
+none_pass test f fails (x ∷ xs) = ap (λ b. cond b (f x ∷ filter test (map f xs)) (filter test (map f xs))) (fails x) ∙ none_pass test f fails xs
+
+twice : (b : Bool) → not (not b) ≡ b
+twice true = refl
+twice false = refl
+
+module _ (object : Object) (border : Border) where
+  abbrev test : Callback → Bool
+  test call = is_call_beyond object border call
+
+  beyond_append : (a b c d : List Callback) → calls_beyond object border a ≡ calls_beyond object border c → calls_beyond object border b ≡ calls_beyond object border d
+      → calls_beyond object border (a ++ b) ≡ calls_beyond object border (c ++ d)
+  beyond_append a b c d first second =
+      filter-append test a b
+      ∙ (ap (λ calls. calls ++ calls_beyond object border b) first
+      ∙ (ap (λ calls. calls_beyond object border c ++ calls) second ∙ sym (filter-append test c d)))
+
+  module _ (k : ℕ) (master : NodeId) (place : place_of object master ≡ Some k) where
+    -- ---- one callback to the master at place k
+
+    note_test : (node : NodeId) (now : ℕ) (note : Note) → test (callback_by master node now note) ≡ (border.master k && border.node node.0)
+    note_test node now (Ack status) = ap (λ at. not (is_within border at) && border.node node.0) place ∙ ap (λ b. b && border.node node.0) (twice (border.master k))
+    note_test node now Change = ap (λ at. not (is_within border at) && border.node node.0) place ∙ ap (λ b. b && border.node node.0) (twice (border.master k))
+    note_test node now ZeroUsers = ap (λ at. not (is_within border at) && border.node node.0) place ∙ ap (λ b. b && border.node node.0) (twice (border.master k))
+
+    all : (b : Bool) → (b && true) ≡ b
+    all true = refl
+    all false = refl
+
+    asked_test : (asked : Asked) → test (init_suspend master asked) ≡ border.master k
+    asked_test asked = ap (λ at. not (is_within border at) && true) place ∙ (ap (λ b. b && true) (twice (border.master k)) ∙ all (border.master k))
+
+    -- ---- a master within
+
+    asks_within : (asked : Option Asked) → border.master k ≡ false → calls_beyond object border (asks_to k master asked) ≡ []
+    asks_within None within = refl
+    asks_within (Some asked) within = at (asked.target == k)
+      where
+        at : (own : Bool) → calls_beyond object border (if own then init_suspend master asked ∷ [] else []) ≡ []
+        at true = ap (λ b. cond b (init_suspend master asked ∷ []) []) (asked_test asked ∙ within)
+        at false = refl
+
+    notes_within : (after : State) (notes : List Waiting) → border.master k ≡ false → calls_beyond object border (map (callback_of master after) notes) ≡ []
+    notes_within after notes within =
+        none_pass test (callback_of master after) (λ w. note_test w.node (point w.node after) w.note ∙ ap (λ b. b && border.node w.node.0) within) notes
+
+    called_within : (a : News) (was is : Mode) (mail : Mail) (after : State) → border.master k ≡ false → calls_beyond object border (called_back a k master was is mail after) ≡ []
+    called_within a was is mail after within = at (is_awake is)
+      where
+        at : (awake : Bool) → calls_beyond object border (if awake then told_to a k master was is mail after else []) ≡ []
+        at true =
+            beyond_append (map (callback_of master after) (told_at_wake was is mail)) (asks_to k master a.asked ++ map (callback_of master after) (notes_to a k mail)) [] []
+            (notes_within after (told_at_wake was is mail) within)
+            (beyond_append (asks_to k master a.asked) (map (callback_of master after) (notes_to a k mail)) [] []
+            (asks_within a.asked within) (notes_within after (notes_to a k mail) within))
+        at false = refl
+
+    -- ---- a master beyond
+
+    -- it is asked where it is so of masters beyond alone
+    asked_alone : (asked : Option Asked) → IsBeyond border k → asks_to k master asked ≡ asks_to k master (asks_beyond border asked)
+    asked_alone None beyond = refl
+    asked_alone (Some asked) beyond = at (border.master asked.target) refl
+      where
+        at : (is : Bool) → border.master asked.target ≡ is → asks_to k master (Some asked) ≡ asks_to k master (if is then Some asked else None)
+        at true is = refl
+        at false is =
+            ap (λ own. if own then init_suspend master asked ∷ [] else [])
+            (within_by (asked.target == k) (border.master asked.target) (λ same. ap border.master (eqb-true asked.target k same) ∙ beyond) is)
+
+    notes_calls : (first second : State) (ns os : List Waiting) → IsBeyond border k → ((node : NodeId) → border.node node.0 ≡ true → point node first ≡ point node second)
+        → notes_beyond border ns ≡ notes_beyond border os
+        → calls_beyond object border (map (callback_of master first) ns) ≡ calls_beyond object border (map (callback_of master second) os)
+    notes_calls first second ns os beyond points same =
+        filter_map test (is_about_beyond border) (callback_of master first)
+        (λ w. note_test w.node (point w.node first) w.note ∙ ap (λ b. b && border.node w.node.0) beyond) ns
+        ∙ (ap (map (callback_of master first)) same
+        ∙ (map_filter (is_about_beyond border) (callback_of master first) (callback_of master second)
+        (λ w told. ap (λ now. callback_by master w.node now w.note) (points w.node told)) os
+        ∙ sym (filter_map test (is_about_beyond border) (callback_of master second)
+        (λ w. note_test w.node (point w.node second) w.note ∙ ap (λ b. b && border.node w.node.0) beyond) os)))
+
+    called_alike : (a b : News) (was is : Mode) (x y : Mail) (first second : State) → IsBeyond border k → NewsAlike border a b → Both (SameEntry border) x y
+        → ((node : NodeId) → border.node node.0 ≡ true → point node first ≡ point node second)
+        → calls_beyond object border (called_back a k master was is x first) ≡ calls_beyond object border (called_back b k master was is y second)
+    called_alike a b was is x y first second beyond news mail points = at (is_awake is)
+      where
+        at : (awake : Bool)
+            → calls_beyond object border (if awake then told_to a k master was is x first else [])
+            ≡ calls_beyond object border (if awake then told_to b k master was is y second else [])
+        at true =
+            beyond_append (map (callback_of master first) (told_at_wake was is x)) (asks_to k master a.asked ++ map (callback_of master first) (notes_to a k x))
+            (map (callback_of master second) (told_at_wake was is y)) (asks_to k master b.asked ++ map (callback_of master second) (notes_to b k y))
+            (notes_calls first second (told_at_wake was is x) (told_at_wake was is y) beyond points (wakes_alike border was is x y mail))
+            (beyond_append (asks_to k master a.asked) (map (callback_of master first) (notes_to a k x)) (asks_to k master b.asked) (map (callback_of master second) (notes_to b k y))
+            (ap (calls_beyond object border)
+            (asked_alone a.asked beyond ∙ (ap (asks_to k master) news.asked ∙ sym (asked_alone b.asked beyond))))
+            (notes_calls first second (notes_to a k x) (notes_to b k y) beyond points (notes_alike border a b k x y news mail)))
+        at false = refl
+
+-- ---- all masters
+
+module _ (object : Object) (formed : IsObject object) (border : Border) (a b : News) (news : (k : ℕ) → IsBeyond border k → NewsAlike border a b)
+    (was were : ℕ → Mode) (first second : State) (xs ys : List Mail)
+    (before : (k : ℕ) → IsBeyond border k → was k ≡ were k)
+    (now : (k : ℕ) → IsBeyond border k → mode_of_master first.fixed first.now.core k ≡ mode_of_master second.fixed second.now.core k)
+    (mail : BothFrom (SameMail border) 0 xs ys)
+    (points : (node : NodeId) → border.node node.0 ≡ true → point node first ≡ point node second) where
+  abbrev mode_first : ℕ → Mode
+  mode_first k = mode_of_master first.fixed first.now.core k
+
+  abbrev mode_second : ℕ → Mode
+  mode_second k = mode_of_master second.fixed second.now.core k
+
+  at_alike : (k : ℕ) (master : NodeId) (is : Bool) → place_of object master ≡ Some k → border.master k ≡ is
+      → calls_beyond object border (called_back a k master (was k) (mode_first k) (mail_of k xs) first)
+      ≡ calls_beyond object border (called_back b k master (were k) (mode_second k) (mail_of k ys) second)
+  at_alike k master true place is =
+      ap (λ mode. calls_beyond object border (called_back a k master mode (mode_first k) (mail_of k xs) first)) (before k is)
+      ∙ (ap (λ mode. calls_beyond object border (called_back a k master (were k) mode (mail_of k xs) first)) (now k is)
+      ∙ called_alike object border k master place a b (were k) (mode_second k) (mail_of k xs) (mail_of k ys) first second is (news k is) (mail_same border k xs ys is mail).each points)
+  at_alike k master false place is =
+      called_within object border k master place a (was k) (mode_first k) (mail_of k xs) first is
+      ∙ sym (called_within object border k master place b (were k) (mode_second k) (mail_of k ys) second is)
+
+  calls_alike : (k : ℕ) (masters : List MasterRec) → StandsFrom object.masters k masters
+      → calls_beyond object border (callbacks_from a was xs first k masters) ≡ calls_beyond object border (callbacks_from b were ys second k masters)
+  calls_alike k [] stands = refl
+  calls_alike k (master ∷ masters) stands =
+      beyond_append object border (called_back a k (record { 0 = master.node }) (was k) (mode_first k) (mail_of k xs) first) (callbacks_from a was xs first (k + 1) masters)
+      (called_back b k (record { 0 = master.node }) (were k) (mode_second k) (mail_of k ys) second) (callbacks_from b were ys second (k + 1) masters)
+      (at_alike k (record { 0 = master.node }) (border.master k) (own_place object formed k master (stands_first object.masters k master masters stands)) refl)
+      (calls_alike (k + 1) masters (stands_later object.masters k master masters stands))
+
+-- ---- where nothing is told and no mode changes
+
+rests_at : (k : ℕ) (master : NodeId) (mode : Mode) (x : Mail) (after : State) → called_back no_news k master mode mode x after ≡ []
+rests_at k master Off x after = refl
+rests_at k master Active x after = refl
+rests_at k master Asleep x after = refl
+rests_at k master Suspending x after = refl
+
+calls_rest : (xs : List Mail) (still : State) (k : ℕ) (masters : List MasterRec)
+    → callbacks_from no_news (mode_of_master still.fixed still.now.core) xs still k masters ≡ []
+calls_rest xs still k [] = refl
+calls_rest xs still k (master ∷ masters) =
+    ap (λ calls. calls ++ callbacks_from no_news (mode_of_master still.fixed still.now.core) xs still (k + 1) masters)
+    (rests_at k (record { 0 = master.node }) (mode_of_master still.fixed still.now.core k) (mail_of k xs) still)
+    ∙ calls_rest xs still (k + 1) masters
+
+-- ---- events
+
+module _ (laws : BelowLaws) (border : Border) (event : Event) (fixed : Fixed) (closed : IsClosed fixed.object fixed.topology border) (formed : IsObject fixed.object) where
+  abbrev Calls : Now → List Callback
+  Calls now = calls_beyond fixed.object border (outputs event (book_of fixed now)).calls
+
+  alike : (a b : Now) → IsSound (book_of fixed a) → IsSound (book_of fixed b) → is_hidden border event (book_of fixed a) ≡ false → Same fixed border a b → Calls a ≡ Calls b
+  alike a b sound_a sound_b is same =
+      let first : State = book_of fixed a in
+      let second : State = book_of fixed b in
+      let after = after_alike laws border event fixed closed a b sound_a is same in
+      let ends : Same fixed border (effect event first).now (effect event second).now = (effect_alike laws fixed border closed event a b sound_a sound_b is same).now in
+      calls_alike fixed.object formed border (news event first) (news event second)
+      (λ k beyond. news_alike laws border event fixed closed a b (closed.some k beyond) sound_a sound_b is same after)
+      (modes_in first) (modes_in second) (effect event first) (effect event second)
+      (mail_after (opening event first) (later event fixed a)) (mail_after (opening event second) (later event fixed b))
+      (λ k beyond. mode_alike laws fixed border k a b beyond same)
+      (λ k beyond. mode_alike laws fixed border k (effect event first).now (effect event second).now beyond ends)
+      (found_alike laws border event fixed closed a b sound_a is same after)
+      (λ node told. point_alike fixed border closed (effect event first).now (effect event second).now ends node told)
+      0 fixed.object.masters (stands_from_start fixed.object.masters)
+
+  -- a hidden event makes none
+  hidden : (still now : Now) → IsSound (book_of fixed now) → KnowsModes (book_of fixed still) → is_hidden border event (book_of fixed now) ≡ true → Same fixed border still now
+      → Calls now ≡ []
+  hidden still now sound knows is same =
+      let first : State = book_of fixed now in
+      let second : State = book_of fixed still in
+      let ends : Same fixed border (effect event first).now still =
+      same_sym fixed border still (effect event first).now (effect_hidden laws fixed border closed event still now sound knows is same).now
+      in
+      calls_alike fixed.object formed border (news event first) no_news
+      (λ k beyond. news_hidden laws border event fixed closed still now (closed.some k beyond) sound knows is same)
+      (modes_in first) (modes_in second) (effect event first) second
+      (mail_after (opening event first) (later event fixed now)) still.talk.mail
+      (λ k beyond. sym (mode_alike laws fixed border k still now beyond same))
+      (λ k beyond. mode_alike laws fixed border k (effect event first).now still beyond ends)
+      (found_hidden laws border event fixed closed still now knows is same)
+      (λ node told. point_alike fixed border closed (effect event first).now still ends node told)
+      0 fixed.object.masters (stands_from_start fixed.object.masters)
+      ∙ ap (calls_beyond fixed.object border) (calls_rest still.talk.mail second 0 fixed.object.masters)
+
+  by_shape : (a b : Now) (shape : Bool) → is_hidden border event (book_of fixed a) ≡ shape → IsSound (book_of fixed a) → IsSound (book_of fixed b) → Same fixed border a b → Calls a ≡ Calls b
+  by_shape a b false is sound_a sound_b same = alike a b sound_a sound_b is same
+  by_shape a b true is sound_a sound_b same =
+      hidden b a sound_a sound_b.knows is (same_sym fixed border a b same)
+      ∙ sym (hidden a b sound_b sound_a.knows (sym (hidden_fixed fixed border event a b) ∙ is) same)
+
+-- the same callbacks are made in both
+pub callbacks_agree : BelowLaws → (border : Border) (event : Event) (a b : State) → IsObject a.fixed.object → IsClosed a.fixed.object a.fixed.topology border
+    → IsSound a → IsSound b → Agree border a b
+    → calls_beyond a.fixed.object border (outputs event a).calls ≡ calls_beyond a.fixed.object border (outputs event b).calls
+callbacks_agree laws border event a b formed closed sound_a sound_b agree =
+    let P : Fixed → Type 0 = λ fixed. IsSound (book_of fixed b.now)
+    → calls_beyond a.fixed.object border (outputs event a).calls ≡ calls_beyond a.fixed.object border (outputs event (book_of fixed b.now)).calls
+    in
+    subst P agree.fixed (λ sound. by_shape laws border event a.fixed closed formed a.now b.now (is_hidden border event a) refl sound_a sound agree.now) sound_b
+
+-- and a hidden event makes none
+pub callbacks_hidden : BelowLaws → (border : Border) (event : Event) (book : State) → IsObject book.fixed.object → IsClosed book.fixed.object book.fixed.topology border
+    → IsSound book → is_hidden border event book ≡ true
+    → calls_beyond book.fixed.object border (outputs event book).calls ≡ []
+callbacks_hidden laws border event book formed closed sound is =
+    hidden laws border event book.fixed closed formed book.now book.now sound sound.knows is (agree_self laws.units border book closed sound).now

@@ -1,0 +1,214 @@
+-- A call of a master beyond that names nothing within comes to the same in two books that agree.
+use Rattle.std.proofs.Common.{◌≡◌, ℕ, ◌+◌, Bool, true, false, not, ◌&&◌, ◌==◌, if◌then◌else◌, position, Option, Some, None, refl, sym, ◌∙◌, ap}
+use Rattle.std.proofs.lemmas.Bool.{eqb-true}
+use Rattle.pm_base.specs.declared.names.NodeId.{NodeId}
+use Rattle.pm_base.proofs.Booleans.{both, equal}
+use Rattle.pm_base.proofs.Searches.{position-first}
+use Rattle.pm_ipi.specs.declared.calls.Call.{Call}
+use Rattle.pm_ipi.specs.declared.calls.Call.TheVariants.{GetApiVersion, GetNodeStatus, RegisterNotifier, RequestSuspend, SelfSuspend, AbortSuspend, RequestWakeup, SetWakeupSource, RequestNode, ReleaseNode, SetRequirement, SetMaxLatency, InitFinalize, Unknown}
+use Rattle.pm_object.specs.declared.object.MasterRec.{MasterRec}
+use Rattle.pm_topology.specs.declared.places.Kind.{Kind}
+use Rattle.pm_topology.specs.declared.places.Kind.TheVariants.{Proc, Slave, Power, Unknown as NoNode}
+use Rattle.pm_topology.specs.declared.topology.SlaveDef.{SlaveDef}
+use Rattle.pm_topology.specs.Places.{KindLaws, kind_of, slave_place}
+use Rattle.pm_topology.specs.WellFormed.{IsWellFormed}
+use Rattle.pm_procs.specs.declared.procs.Proc.{Proc as Processor}
+use Rattle.pm_procs.specs.Modes.{mode_number}
+use Rattle.pm_rows.specs.declared.row.Entry.{Entry}
+use Rattle.pm_rows.specs.declared.row.RowSeed.{RowSeed}
+use Rattle.pm_rows.specs.Rows.{is_at, is_of_other, is_used_by, is_used_by_others, entry_at, now_of}
+use Rattle.pm_core.specs.Members.{is_place, mode_of_master, owner_at, owns}
+use Rattle.pm_core.specs.State.{Fixed, Now, State}
+use Rattle.pm_core.specs.Step.{tried_by}
+use Rattle.pm_core.specs.Values.{point_at}
+use Rattle.pm_core.specs.Views.{can_wake, is_asked, named_master, names_master, proc_view, row_view, status_view, status_view_at, suspend_view, suspendable, wake_view_at, wakeable}
+use Rattle.pm_core.specs.calls.AbortSuspend.{abort_suspend}
+use Rattle.pm_core.specs.calls.GetNodeStatus.{get_node_status}
+use Rattle.pm_core.specs.calls.RegisterNotifier.{register_notifier}
+use Rattle.pm_core.specs.calls.ReleaseNode.{release_node}
+use Rattle.pm_core.specs.calls.RequestNode.{request_node}
+use Rattle.pm_core.specs.calls.RequestSuspend.{request_suspend}
+use Rattle.pm_core.specs.calls.RequestWakeup.{request_wakeup}
+use Rattle.pm_core.specs.calls.SelfSuspend.{self_suspend}
+use Rattle.pm_core.specs.calls.SetMaxLatency.{set_max_latency}
+use Rattle.pm_core.specs.calls.SetRequirement.{set_requirement}
+use Rattle.pm_core.specs.calls.SetWakeupSource.{set_wakeup_source}
+use Rattle.pm_laws.specs.Agree.{Agree, Same, SameRow}
+use Rattle.pm_laws.specs.Answers.{names_beyond}
+use Rattle.pm_laws.specs.Border.{Border, IsBeyond, IsClosed, none_within, unit_beyond}
+use Rattle.pm_laws.specs.Hidden.{is_slave_within, is_within}
+use Rattle.pm_laws.proofs.CallsAlike.{asked_agrees, book_of, entries_alike, entry_alike, proc_views_agree, row_views_agree, rows_both, suspend_views_agree, watched_same}
+use Rattle.pm_laws.proofs.FollowLaw.{mode_alike, proc_alike}
+use Rattle.pm_laws.proofs.Places.{Both-any}
+use Rattle.pm_laws.proofs.RowFacts.{BelowLaws}
+use Rattle.pm_laws.proofs.ValuesLaw.{kind_alike, mode_same}
+
+-- ---- a test of the rows on a slave beyond
+
+never : (a b : Bool) → ((a && false) && b) ≡ false
+never true b = refl
+never false b = refl
+
+-- it says the same of two rows that are alike, if it passes none on another slave
+pub on_slave : (border : Border) (test : Entry → Bool) (s : ℕ) (x y : Entry) → border.slave s ≡ true
+    → ((z : Entry) → (z.seed.slave == s) ≡ false → test z ≡ false)
+    → SameRow border x y → test x ≡ test y
+on_slave border test s x y beyond elsewhere same = at (x.seed.slave == s) refl
+  where
+    at : (here : Bool) → (x.seed.slave == s) ≡ here → test x ≡ test y
+    at true is = ap test (entry_alike border s x y beyond same (eqb-true x.seed.slave s is))
+    at false is = elsewhere x is ∙ sym (elsewhere y (ap (λ (seed : RowSeed). seed.slave == s) (sym same.seed) ∙ is))
+
+own_elsewhere : (m s : ℕ) (z : Entry) → (z.seed.slave == s) ≡ false → (is_at m s z && z.row.used) ≡ false
+own_elsewhere m s z is = ap (λ t. ((z.seed.master == m) && t) && z.row.used) is ∙ never (z.seed.master == m) z.row.used
+
+others_elsewhere : (m s : ℕ) (z : Entry) → (z.seed.slave == s) ≡ false → (is_of_other m s z && z.row.used) ≡ false
+others_elsewhere m s z is = ap (λ t. (not (z.seed.master == m) && t) && z.row.used) is ∙ never (not (z.seed.master == m)) z.row.used
+
+-- ---- the unit and the master of a node beyond
+
+pub unit_named : (fixed : Fixed) (border : Border) → IsClosed fixed.object fixed.topology border → (node : NodeId) → border.node node.0 ≡ true
+    → unit_beyond fixed.object fixed.topology border (kind_of fixed.topology node) ≡ true
+unit_named fixed border closed node is =
+    (both (unit_beyond fixed.object fixed.topology border (kind_of fixed.topology node))
+    (none_within border (position (λ (master : MasterRec). master.node == node.0) fixed.object.masters)) (sym (closed.nodes node) ∙ is)).0
+
+-- ---- the operating point of a node beyond
+
+module _ (fixed : Fixed) (border : Border) (closed : IsClosed fixed.object fixed.topology border) (a b : Now) (same : Same fixed border a b) where
+  kind_point : (kind : Kind) → unit_beyond fixed.object fixed.topology border kind ≡ true → point_at kind fixed a.core ≡ point_at kind fixed b.core
+  kind_point (Proc p) beyond = ap mode_number (mode_same fixed border a b same p (owner_at fixed.object fixed.topology p) refl beyond)
+  kind_point (Slave s) beyond = kind_alike fixed border closed a b same (Slave s) beyond
+  kind_point (Power w) beyond = kind_alike fixed border closed a b same (Power w) beyond
+  kind_point NoNode beyond = refl
+
+  pub point_alike : (node : NodeId) → border.node node.0 ≡ true
+      → point_at (kind_of fixed.topology node) fixed a.core ≡ point_at (kind_of fixed.topology node) fixed b.core
+  point_alike node is = kind_point (kind_of fixed.topology node) (unit_named fixed border closed node is)
+
+module _ (laws : BelowLaws) (kinds : KindLaws) (fixed : Fixed) (border : Border) (closed : IsClosed fixed.object fixed.topology border)
+    (chip : IsWellFormed fixed.topology) (a b : Now) (same : Same fixed border a b) where
+  abbrev first : State
+  first = book_of fixed a
+
+  abbrev second : State
+  second = book_of fixed b
+
+  agree : Agree border first second
+  agree = record { fixed = refl; now = same }
+
+  abbrev Names : NodeId → Type 0
+  Names node = border.node node.0 ≡ true
+
+  unit_of : (node : NodeId) → Names node → unit_beyond fixed.object fixed.topology border (kind_of fixed.topology node) ≡ true
+  unit_of node is = unit_named fixed border closed node is
+
+  slave_beyond : (node : NodeId) → Names node → is_slave_within border (slave_place fixed.topology.slaves node.0) ≡ false
+  slave_beyond node is = at (slave_place fixed.topology.slaves node.0) refl
+    where
+      at : (got : Option ℕ) → slave_place fixed.topology.slaves node.0 ≡ got → is_slave_within border got ≡ false
+      at None found = refl
+      at (Some s) found =
+          let here = position-first (λ (d : SlaveDef). d.node.0 == node.0) fixed.topology.slaves s found in
+          let kind : Slave s ≡ kind_of fixed.topology node =
+          kinds.alone fixed.topology node (Slave s) chip (here.element, here.here, eqb-true here.element.node.0 node.0 here.passes)
+          in
+          ap not (ap (unit_beyond fixed.object fixed.topology border) kind ∙ unit_of node is)
+
+  -- ---- what is read
+
+  status_alike : (m : ℕ) (kind : Kind) (value : ℕ) → border.some ≡ true → unit_beyond fixed.object fixed.topology border kind ≡ true
+      → status_view_at m kind value first ≡ status_view_at m kind value second
+  status_alike m NoNode value some beyond = refl
+  status_alike m (Proc p) value some beyond = refl
+  status_alike m (Power w) value some beyond = refl
+  status_alike m (Slave s) value some beyond =
+      let xs = a.core.rows.entries in
+      let ys = b.core.rows.entries in
+      let rows = rows_both border xs ys some same.rows in
+      let own : is_used_by m s a.core.rows ≡ is_used_by m s b.core.rows =
+      Both-any (SameRow border) (λ (z : Entry). is_at m s z && z.row.used) (λ (z : Entry). is_at m s z && z.row.used)
+      (λ x y is. on_slave border (λ (z : Entry). is_at m s z && z.row.used) s x y beyond (own_elsewhere m s) is) xs ys rows
+      in
+      let others : is_used_by_others m s a.core.rows ≡ is_used_by_others m s b.core.rows =
+      Both-any (SameRow border) (λ (z : Entry). is_of_other m s z && z.row.used) (λ (z : Entry). is_of_other m s z && z.row.used)
+      (λ x y is. on_slave border (λ (z : Entry). is_of_other m s z && z.row.used) s x y beyond (others_elsewhere m s) is) xs ys rows
+      in
+      ap (λ entry. record {
+        state = Some value;
+        requested = now_of entry;
+        usage = (if is_used_by m s a.core.rows then 1 else 0) + (if is_used_by_others m s a.core.rows then 2 else 0);
+      }) (entries_alike border m s xs ys beyond rows)
+      ∙ (ap (λ (t : Bool). record {
+        state = Some value;
+        requested = now_of (entry_at m s b.core.rows);
+        usage = (if t then 1 else 0) + (if is_used_by_others m s a.core.rows then 2 else 0);
+      }) own
+      ∙ ap (λ (t : Bool). record {
+        state = Some value;
+        requested = now_of (entry_at m s b.core.rows);
+        usage = (if is_used_by m s b.core.rows then 1 else 0) + (if t then 2 else 0);
+      }) others)
+
+  status_same : (m : ℕ) (node : NodeId) → border.some ≡ true → Names node → status_view m node first ≡ status_view m node second
+  status_same m node some is =
+      let kind : Kind = kind_of fixed.topology node in
+      ap (λ value. status_view_at m kind value first) (point_alike fixed border closed a b same node is)
+      ∙ status_alike m kind (point_at kind fixed b.core) some (unit_of node is)
+
+  wake_owned : (m p : ℕ) (owner : Option ℕ) → owner_at fixed.object fixed.topology p ≡ owner → none_within border owner ≡ true
+      → wakeable m p owner first ≡ wakeable m p owner second
+  wake_owned m p None is beyond = refl
+  wake_owned m p (Some k) is beyond =
+      let own : owns fixed.object fixed.topology k p ≡ true = ap (is_place k) is ∙ equal k k refl in
+      ap (λ (proc : Processor). if can_wake m k first then Some (record { owner = k; proc = proc }) else None)
+      (proc_alike fixed border k p a b beyond own same)
+
+  wake_kind : (m : ℕ) (kind : Kind) → unit_beyond fixed.object fixed.topology border kind ≡ true → wake_view_at m kind first ≡ wake_view_at m kind second
+  wake_kind m (Proc p) beyond =
+      ap (λ target. record { place = Some p; target = target }) (wake_owned m p (owner_at fixed.object fixed.topology p) refl beyond)
+  wake_kind m (Slave s) beyond = refl
+  wake_kind m (Power w) beyond = refl
+  wake_kind m NoNode beyond = refl
+
+  suspend_same : (m : ℕ) (node : NodeId) → Names node → suspend_view m node first ≡ suspend_view m node second
+  suspend_same m node is = at (named_master fixed node) refl (closed.names node is)
+    where
+      at : (named : Option ℕ) → named_master fixed node ≡ named → none_within border named ≡ true → suspend_view m node first ≡ suspend_view m node second
+      at None none beyond =
+          ap (λ target. record { named = names_master fixed node; target = target })
+          (ap (λ named. suspendable m named first) none ∙ sym (ap (λ named. suspendable m named second) none))
+      at (Some k) named beyond = suspend_views_agree laws border m node first second (ap (is_within border) named ∙ ap not beyond) agree
+
+  row_same : (m : ℕ) (node : NodeId) → IsBeyond border m → Names node → row_view m node first ≡ row_view m node second
+  row_same m node beyond is = row_views_agree border m node first second closed beyond (slave_beyond node is) agree
+
+  own_same : (m : ℕ) (node : NodeId) → IsBeyond border m → proc_view m node first ≡ proc_view m node second
+  own_same m node beyond = proc_views_agree border m node first second beyond agree
+
+  -- ---- calls
+
+  pub call_same : (m : ℕ) (call : Call) → IsBeyond border m → names_beyond border call ≡ true → tried_by m call first ≡ tried_by m call second
+  call_same m GetApiVersion beyond is = refl
+  call_same m (GetNodeStatus node) beyond is = ap get_node_status (status_same m node (closed.some m beyond) is)
+  call_same m (RegisterNotifier node event wake enable) beyond is =
+      ap (register_notifier m node event enable) (watched_same fixed m node (kind_of fixed.topology node) a b)
+  call_same m (RequestSuspend node ack latency state) beyond is = ap (request_suspend m node ack latency state) (suspend_same m node is)
+  call_same m (SelfSuspend node address) beyond is = ap (self_suspend m address) (own_same m node beyond)
+  call_same m (AbortSuspend node reason) beyond is =
+      ap (λ view. abort_suspend m reason (is_asked m first) view) (own_same m node beyond)
+      ∙ ap (λ pending. abort_suspend m reason pending (proc_view m node second)) (asked_agrees border m first second beyond agree)
+  call_same m (RequestWakeup node address ack) beyond is =
+      ap (request_wakeup address ack) (wake_kind m (kind_of fixed.topology node) (unit_of node is))
+  call_same m (SetWakeupSource target source enable) beyond is =
+      ap (λ view. set_wakeup_source target enable view (row_view m source first)) (own_same m target beyond)
+      ∙ ap (set_wakeup_source target enable (proc_view m target second))
+      (row_same m source beyond (both (border.node target.0) (border.node source.0) is).1)
+  call_same m (RequestNode node caps ack) beyond is = ap (request_node caps ack) (row_same m node beyond is)
+  call_same m (ReleaseNode node) beyond is = ap release_node (row_same m node beyond is)
+  call_same m (SetRequirement node caps ack) beyond is =
+      ap (λ mode. set_requirement mode caps ack (row_view m node first)) (mode_alike laws fixed border m a b beyond same)
+      ∙ ap (set_requirement (mode_of_master fixed b.core m) caps ack) (row_same m node beyond is)
+  call_same m (SetMaxLatency node latency) beyond is = ap (set_max_latency latency) (row_same m node beyond is)
+  call_same m InitFinalize beyond is = refl
+  call_same m Unknown beyond is = refl

@@ -1,0 +1,133 @@
+-- What a step does before any master is told of it: of a hidden event nothing of it is seen, and of any other the same in two
+-- books that agree.
+use Rattle.std.proofs.Common.{◌≡◌, ℕ, ◌+◌, Bool, true, false, if◌then◌else◌, List, [], ◌∷◌, ◌++◌, Option, None, refl, sym, ◌∙◌, ap}
+use Rattle.std.specs.List.{AllByRecursion as Each}
+use Rattle.std.proofs.lemmas.List.Elements.{filter-append}
+use Rattle.pm_base.specs.declared.events.Event.{Event}
+use Rattle.pm_base.specs.declared.events.Event.TheVariants.{Tick}
+use Rattle.pm_object.specs.declared.object.MasterRec.{MasterRec}
+use Rattle.pm_core.specs.declared.ended.Ended.{Ended}
+use Rattle.pm_core.specs.declared.judgement.Asked.{Asked}
+use Rattle.pm_core.specs.declared.judgement.Notifier.{Notifier}
+use Rattle.pm_core.specs.Ended.{goes_off, turns_along}
+use Rattle.pm_core.specs.Sound.{ArmsOwn, KnowsModes}
+use Rattle.pm_core.specs.State.{Fixed, Now, State}
+use Rattle.pm_core.specs.Step.{asks, ended, forgets, opening, path, registers, stages, time_of}
+use Rattle.pm_core.specs.Talk.{End, Forget, Lower, Talk, ask_of, ends, forget_at, forgets_from, lower_by, notify_by, talk_of}
+use Rattle.pm_laws.specs.Agree.{Agree, Same}
+use Rattle.pm_laws.specs.Border.{Border, HasSome, IsBeyond}
+use Rattle.pm_laws.specs.Both.{Both}
+use Rattle.pm_laws.specs.Hidden.{is_hidden}
+use Rattle.pm_laws.specs.SeenTalk.{IsTalkUnseen, ends_beyond, seen_talk, talk_part}
+use Rattle.pm_laws.proofs.CallsAlike.{book_of}
+use Rattle.pm_laws.proofs.CallsHidden.{HasClosed, turned}
+use Rattle.pm_laws.proofs.CallsTold.{unasked}
+use Rattle.pm_laws.proofs.EndsLaw.{ended_alike, ended_hidden, event_same, event_within, never, turns_alike}
+use Rattle.pm_laws.proofs.EventsLaw.{event_alike, event_hidden}
+use Rattle.pm_laws.proofs.PathLaw.{path_alike, path_hidden}
+use Rattle.pm_laws.proofs.RowFacts.{BelowLaws}
+
+module _ (border : Border) where
+  -- ---- lists
+
+  pub part_append : (ps qs : List Talk) → talk_part border (ps ++ qs) ≡ talk_part border ps ++ talk_part border qs
+  part_append ps qs = filter-append (seen_talk border) ps qs
+
+  -- two lists after one another of which the same parts are seen
+  pub parts_alike : (ps qs rs ss : List Talk) → talk_part border ps ≡ talk_part border rs → talk_part border qs ≡ talk_part border ss
+      → talk_part border (ps ++ qs) ≡ talk_part border (rs ++ ss)
+  parts_alike ps qs rs ss first second =
+      part_append ps qs
+      ∙ (ap (λ part. part ++ talk_part border qs) first ∙ (ap (λ part. talk_part border rs ++ part) second ∙ sym (part_append rs ss)))
+
+  -- ---- ends
+
+  -- of the ends, those of requests to masters beyond
+  one_end : (e : Ended) (is : Bool) (told : List Talk) (later : List Ended) → told ≡ ends later → (if is then End e.target ∷ told else told) ≡ ends (if is then e ∷ later else later)
+  one_end e true told later same = ap (λ changes. End e.target ∷ changes) same
+  one_end e false told later same = same
+
+  part_of_ends : (es : List Ended) → talk_part border (ends es) ≡ ends (ends_beyond border es)
+  part_of_ends [] = refl
+  part_of_ends (e ∷ es) = one_end e (border.master e.target) (talk_part border (ends es)) (ends_beyond border es) (part_of_ends es)
+
+  ends_seen : (es fs : List Ended) → ends_beyond border es ≡ ends_beyond border fs → talk_part border (ends es) ≡ talk_part border (ends fs)
+  ends_seen es fs same = part_of_ends es ∙ (ap ends same ∙ sym (part_of_ends fs))
+
+  -- ---- masters that forget
+
+  forget_unseen : (m : ℕ) (off : Bool) → border.master m ≡ false → talk_part border (if off then Forget m ∷ [] else []) ≡ []
+  forget_unseen m true within = let changes : List Talk = Forget m ∷ [] in ap (λ b. if b then changes else []) within
+  forget_unseen m false within = refl
+
+  forgets_hidden : (book : State) (books : List State) → ((k : ℕ) → IsBeyond border k → (turns_along book books k).off ≡ false) → (m : ℕ) (masters : List MasterRec)
+      → talk_part border (forgets_from (turns_along book books) m masters) ≡ []
+  forgets_hidden book books stays m [] = refl
+  forgets_hidden book books stays m (master ∷ masters) =
+      parts_alike (forget_at (turns_along book books m) m) (forgets_from (turns_along book books) (m + 1) masters) [] []
+      (at (border.master m) refl) (forgets_hidden book books stays (m + 1) masters)
+    where
+      at : (is : Bool) → border.master m ≡ is → talk_part border (forget_at (turns_along book books m) m) ≡ []
+      at true is = ap (λ off. talk_part border (if off then Forget m ∷ [] else [])) (stays m is)
+      at false is = forget_unseen m (turns_along book books m).off is
+
+  forgets_alike : (a b : State) (xs ys : List State) → ((k : ℕ) → IsBeyond border k → turns_along a xs k ≡ turns_along b ys k) → (m : ℕ) (masters : List MasterRec)
+      → talk_part border (forgets_from (turns_along a xs) m masters) ≡ talk_part border (forgets_from (turns_along b ys) m masters)
+  forgets_alike a b xs ys same m [] = refl
+  forgets_alike a b xs ys same m (master ∷ masters) =
+      parts_alike (forget_at (turns_along a xs m) m) (forgets_from (turns_along a xs) (m + 1) masters) (forget_at (turns_along b ys m) m) (forgets_from (turns_along b ys) (m + 1) masters)
+      (at (border.master m) refl) (forgets_alike a b xs ys same (m + 1) masters)
+    where
+      at : (is : Bool) → border.master m ≡ is → talk_part border (forget_at (turns_along a xs m) m) ≡ talk_part border (forget_at (turns_along b ys m) m)
+      at true is = ap (λ t. talk_part border (forget_at t m)) (same m is)
+      at false is = forget_unseen m (turns_along a xs m).off is ∙ sym (forget_unseen m (turns_along b ys m).off is)
+
+  -- ---- all of it
+
+  opening_same : (fs gs : List Talk) (put : Option Notifier) (asked : Option Asked) (count : Option ℕ) (es : List Ended) (other : Option Notifier) (also : Option Asked) (time : Option ℕ) (ends_too : List Ended)
+      → talk_part border fs ≡ talk_part border gs
+      → talk_part border (notify_by put) ≡ talk_part border (notify_by other)
+      → talk_part border (ask_of asked) ≡ talk_part border (ask_of also)
+      → talk_part border (lower_by count) ≡ talk_part border (lower_by time)
+      → ends_beyond border es ≡ ends_beyond border ends_too
+      → talk_part border (talk_of fs put asked count es) ≡ talk_part border (talk_of gs other also time ends_too)
+  opening_same fs gs put asked count es other also time ends_too forgets puts asks passes end =
+      parts_alike fs (notify_by put ++ (ask_of asked ++ (lower_by count ++ ends es))) gs (notify_by other ++ (ask_of also ++ (lower_by time ++ ends ends_too))) forgets
+      (parts_alike (notify_by put) (ask_of asked ++ (lower_by count ++ ends es)) (notify_by other) (ask_of also ++ (lower_by time ++ ends ends_too)) puts
+      (parts_alike (ask_of asked) (lower_by count ++ ends es) (ask_of also) (lower_by time ++ ends ends_too) asks
+      (parts_alike (lower_by count) (ends es) (lower_by time) (ends ends_too) passes (ends_seen es ends_too end))))
+
+  time_unseen : (event : Event) (book : State) → is_hidden border event book ≡ true → IsTalkUnseen border (lower_by (time_of event))
+  time_unseen (Tick count) book is =
+      let changes : List Talk = Lower count ∷ [] in ap (λ b. if b then changes else []) (turned border.some is)
+  time_unseen _ book is = refl
+
+module _ (laws : BelowLaws) (border : Border) where
+  -- of a hidden event nothing is seen
+  pub opening_hidden : (event : Event) (still now : State) → HasClosed border now → KnowsModes still → is_hidden border event now ≡ true → Agree border still now → IsTalkUnseen border (opening event now)
+  opening_hidden event still now closed knows is agree =
+      let books : Each (Agree border still) (path event now) =
+      path_hidden laws border (stages event now) still now knows (event_hidden border event now closed is) agree
+      in
+      let says = event_within border event now closed is in
+      opening_same border (forgets event now) [] (registers event now) (asks event now) (time_of event) (ended event now) None None None []
+      (forgets_hidden border now (path event now) (λ k beyond. never laws border k beyond goes_off still now (path event now) agree books) 0 now.fixed.object.masters)
+      says.puts (unasked border (asks event now) says.asks) (time_unseen border event now is)
+      (ended_hidden laws border event still now closed knows is agree)
+
+  pub opening_alike : (fixed : Fixed) (event : Event) (a b : Now) → ArmsOwn (book_of fixed a) → HasSome border → is_hidden border event (book_of fixed a) ≡ false → Same fixed border a b
+      → talk_part border (opening event (book_of fixed a)) ≡ talk_part border (opening event (book_of fixed b))
+  opening_alike fixed event a b armed some is same =
+      let first : State = book_of fixed a in
+      let second : State = book_of fixed b in
+      let agree : Agree border first second = record { fixed = refl; now = same } in
+      let books : Both (Agree border) (path event first) (path event second) =
+      path_alike laws border (stages event first) (stages event second) first second (event_alike laws fixed border event a b armed some is same) agree
+      in
+      let says = event_same laws fixed border event a b is same in
+      opening_same border (forgets event first) (forgets event second) (registers event first) (asks event first) (time_of event) (ended event first)
+      (registers event second) (asks event second) (time_of event) (ended event second)
+      (forgets_alike border first second (path event first) (path event second)
+      (λ k beyond. turns_alike laws border k beyond first second (path event first) (path event second) agree books) 0 fixed.object.masters)
+      (ap (λ put. talk_part border (notify_by put)) says.puts) (ap (λ asked. talk_part border (ask_of asked)) says.asks) refl
+      (ended_alike laws fixed border event a b armed some is same)
