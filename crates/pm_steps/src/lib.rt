@@ -16,6 +16,8 @@ mod modes;
 #[cfg(test)]
 mod notices;
 #[cfg(test)]
+mod notifying;
+#[cfg(test)]
 mod permitted;
 #[cfg(test)]
 mod rows;

@@ -41,9 +41,9 @@ pub(crate) fn have_called(out: &Outbox, callbacks: &[Call]) -> bool {
 }
 
 /// What happens, and the late replies and the callbacks of the step, each in order.
-type Notice = (Trigger, &'static [Reply], &'static [Call]);
+pub(crate) type Notice = (Trigger, &'static [Reply], &'static [Call]);
 
-fn wrong_notice(desk: &mut Desk, notices: &[Notice]) -> Option<usize> {
+pub(crate) fn wrong_notice(desk: &mut Desk, notices: &[Notice]) -> Option<usize> {
     for (place, (trigger, late, calls)) in notices.iter().enumerate() {
         desk.take(&event_of(*trigger));
         if !have_replied(&desk.out, late) || !have_called(&desk.out, calls) {

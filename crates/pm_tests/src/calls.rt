@@ -11,13 +11,24 @@ const ACK: u32 = 3;
 
 /// The number of a call, the call that it makes with the arguments 22, 7, 5, 3 and 2, and how it is
 /// acknowledged.
-static CALLS: [(u32, Call, AckKind, NodeId); 18] = [
+static CALLS: [(u32, Call, AckKind, NodeId); 19] = [
     (0, Call::Unknown, AckKind::Blocking, NodeId(0)),
     (1, Call::GetApiVersion, AckKind::Blocking, NodeId(0)),
     (2, Call::Unknown, AckKind::Blocking, NodeId(0)),
     (
         3,
         Call::GetNodeStatus { node: NODE },
+        AckKind::Blocking,
+        NodeId(0),
+    ),
+    (
+        5,
+        Call::RegisterNotifier {
+            node: NODE,
+            event: 7,
+            wake: 5,
+            enable: ACK,
+        },
         AckKind::Blocking,
         NodeId(0),
     ),
