@@ -1,10 +1,11 @@
 -- The calls by their words (UG1200, API calls), and how each is acknowledged.
 use Rattle.std.specs.Prelude.{ℕ, ◌+◌, ◌-◌, ◌*◌, ◌^◌, ◌%◌, ◌==◌, if◌then◌else◌, slice_index, Option, Some, None}
 use Rattle.pm_base.specs.declared.caps.Caps.{Caps}
+use Rattle.pm_base.specs.declared.names.LineId.{LineId}
 use Rattle.pm_base.specs.declared.names.NodeId.{NodeId}
 use Rattle.pm_base.specs.declared.events.Message.{Message}
 use Rattle.pm_ipi.specs.declared.calls.Call.{Call}
-use Rattle.pm_ipi.specs.declared.calls.Call.TheVariants.{GetApiVersion, GetNodeStatus, RegisterNotifier, RequestSuspend, SelfSuspend, AbortSuspend, RequestWakeup, SetWakeupSource, RequestNode, ReleaseNode, SetRequirement, SetMaxLatency, InitFinalize, Unknown}
+use Rattle.pm_ipi.specs.declared.calls.Call.TheVariants.{GetApiVersion, GetNodeStatus, GetOpCharacteristic, RegisterNotifier, RequestSuspend, SelfSuspend, ForcePowerdown, AbortSuspend, RequestWakeup, SetWakeupSource, SystemShutdown, RequestNode, ReleaseNode, SetRequirement, SetMaxLatency, ResetAssert, ResetGetStatus, InitFinalize, Unknown}
 use Rattle.pm_ipi.specs.declared.calls.AckKind.{AckKind}
 use Rattle.pm_ipi.specs.declared.calls.AckKind.TheVariants.{No, Blocking, NonBlocking}
 
@@ -15,6 +16,10 @@ argument message k = slice_index message.args k
 -- an argument that is the number of a node
 abbrev pub node_word : Message → ℕ → NodeId
 node_word message k = record { 0 = argument message k }
+
+-- an argument that is the number of a reset line
+abbrev pub line_word : Message → ℕ → LineId
+line_word message k = record { 0 = argument message k }
 
 -- an argument that is a set of capabilities
 abbrev pub caps_word : Message → ℕ → Caps
@@ -37,6 +42,10 @@ get_node_status message = GetNodeStatus (node_word message 0)
 abbrev pub register_notifier : Message → Call
 register_notifier message = RegisterNotifier (node_word message 0) (argument message 1) (argument message 2) (argument message 3)
 
+-- GET_OP_CHARACTERISTIC: the node, and which characteristic
+abbrev pub get_op_characteristic : Message → Call
+get_op_characteristic message = GetOpCharacteristic (node_word message 0) (argument message 1)
+
 -- REQUEST_SUSPEND: the node that names the master that is asked, the acknowledge kind, and the latency and the state that the
 -- master is told
 abbrev pub request_suspend : Message → Call
@@ -46,6 +55,10 @@ request_suspend message = RequestSuspend (node_word message 0) (argument message
 -- address at which it resumes
 abbrev pub self_suspend : Message → Call
 self_suspend message = SelfSuspend (node_word message 0) (address_of (argument message 3) (argument message 4))
+
+-- FORCE_POWERDOWN: the processor or power node, and the acknowledge kind
+abbrev pub force_powerdown : Message → Call
+force_powerdown message = ForcePowerdown (node_word message 0) (argument message 1)
 
 -- ABORT_SUSPEND: the reason, and then the processor
 abbrev pub abort_suspend : Message → Call
@@ -64,6 +77,10 @@ request_wakeup message =
 abbrev pub set_wakeup_source : Message → Call
 set_wakeup_source message = SetWakeupSource (node_word message 0) (node_word message 1) (argument message 2)
 
+-- SYSTEM_SHUTDOWN: the type, and the subtype that says how much is shut down
+abbrev pub system_shutdown : Message → Call
+system_shutdown message = SystemShutdown (argument message 0) (argument message 1)
+
 -- REQUEST_NODE: the slave, the capabilities, the quality of service, which nothing depends on, and the acknowledge kind
 abbrev pub request_node : Message → Call
 request_node message = RequestNode (node_word message 0) (caps_word message 1) (argument message 3)
@@ -80,6 +97,14 @@ set_requirement message = SetRequirement (node_word message 0) (caps_word messag
 abbrev pub set_max_latency : Message → Call
 set_max_latency message = SetMaxLatency (node_word message 0) (argument message 1)
 
+-- RESET_ASSERT: the reset line and the action
+abbrev pub reset_assert : Message → Call
+reset_assert message = ResetAssert (line_word message 0) (argument message 1)
+
+-- RESET_GET_STATUS: the reset line
+abbrev pub reset_get_status : Message → Call
+reset_get_status message = ResetGetStatus (line_word message 0)
+
 -- INIT_FINALIZE: no argument
 abbrev pub init_finalize : Message → Call
 init_finalize message = InitFinalize
@@ -90,15 +115,20 @@ call_of message =
     if message.api == 1 then get_api_version message
     else if message.api == 3 then get_node_status message
     else if message.api == 5 then register_notifier message
+    else if message.api == 4 then get_op_characteristic message
     else if message.api == 6 then request_suspend message
     else if message.api == 7 then self_suspend message
+    else if message.api == 8 then force_powerdown message
     else if message.api == 9 then abort_suspend message
     else if message.api == 10 then request_wakeup message
     else if message.api == 11 then set_wakeup_source message
+    else if message.api == 12 then system_shutdown message
     else if message.api == 13 then request_node message
     else if message.api == 14 then release_node message
     else if message.api == 15 then set_requirement message
     else if message.api == 16 then set_max_latency message
+    else if message.api == 17 then reset_assert message
+    else if message.api == 18 then reset_get_status message
     else if message.api == 21 then init_finalize message
     else Unknown
 
@@ -117,6 +147,7 @@ kind_or_reply (Some kind) = kind
 
 abbrev pub ack_of : Call → AckKind
 ack_of (RequestSuspend node ack latency state) = kind_or_reply (ack_kind ack)
+ack_of (ForcePowerdown node ack) = kind_or_reply (ack_kind ack)
 ack_of (RequestWakeup node address ack) = kind_or_reply (ack_kind ack)
 ack_of (RequestNode node caps ack) = kind_or_reply (ack_kind ack)
 ack_of (SetRequirement node caps ack) = kind_or_reply (ack_kind ack)
@@ -125,6 +156,7 @@ ack_of _ = Blocking
 -- the node that the acknowledgement of a call names, for the calls that have an acknowledge kind
 abbrev pub node_of : Call → NodeId
 node_of (RequestSuspend node ack latency state) = node
+node_of (ForcePowerdown node ack) = node
 node_of (RequestWakeup node address ack) = node
 node_of (RequestNode node caps ack) = node
 node_of (SetRequirement node caps ack) = node

@@ -3,7 +3,7 @@
 ghost use Rattle.std.specs.Prelude.{◌≡◌};
 ghost use Rattle.pm_ipi.specs.Calls.{call_of, address_of, wake_address, ack_kind, ack_of, node_of};
 
-use pm_base::{Caps, Message, NodeId};
+use pm_base::{Caps, LineId, Message, NodeId};
 
 /// How the caller wants a call to be acknowledged (UG1200, acknowledge kinds): not at all, by a
 /// reply, or by the acknowledge callback.
@@ -20,6 +20,11 @@ pub enum Call {
     GetApiVersion,
     GetNodeStatus {
         node: NodeId,
+    },
+    /// The power figure (1) or the latency (3) of a node as it stands; of a temperature (2) nothing is known.
+    GetOpCharacteristic {
+        node: NodeId,
+        characteristic: u32,
     },
     /// The caller is told of the event of the node from now on, or not any more. Nothing depends on whether
     /// the event is to wake it.
@@ -41,6 +46,11 @@ pub enum Call {
         node: NodeId,
         address: u64,
     },
+    /// The processor, or all that is below the power node, goes off.
+    ForcePowerdown {
+        node: NodeId,
+        ack: u32,
+    },
     /// The processor goes on in place of suspending.
     AbortSuspend {
         node: NodeId,
@@ -57,6 +67,12 @@ pub enum Call {
         target: NodeId,
         source: NodeId,
         enable: u32,
+    },
+    /// The caller (subtype 0) or the whole system (subtypes 1 and 2) is shut down (type 0) or restarted
+    /// (type 1). Type 2 only says what a later shutdown is to mean.
+    SystemShutdown {
+        shutdown_type: u32,
+        subtype: u32,
     },
     RequestNode {
         node: NodeId,
@@ -76,6 +92,14 @@ pub enum Call {
         node: NodeId,
         latency: u32,
     },
+    /// The reset line is released (0), asserted (1), or asserted for a moment (2).
+    ResetAssert {
+        line: LineId,
+        action: u32,
+    },
+    ResetGetStatus {
+        line: LineId,
+    },
     /// The master has requested all that it needs.
     InitFinalize,
     /// Any other number of a call.
@@ -93,6 +117,10 @@ pub fn decode_call(message: &Message) -> Call
     match message.api {
         1 => Call::GetApiVersion,
         3 => Call::GetNodeStatus { node },
+        4 => Call::GetOpCharacteristic {
+            node,
+            characteristic: args[1],
+        },
         5 => Call::RegisterNotifier {
             node,
             event: args[1],
@@ -109,6 +137,7 @@ pub fn decode_call(message: &Message) -> Call
             node,
             address: address(args[3], args[4]),
         },
+        8 => Call::ForcePowerdown { node, ack: args[1] },
         9 => Call::AbortSuspend {
             node: NodeId(args[1]),
             reason: args[0],
@@ -123,12 +152,23 @@ pub fn decode_call(message: &Message) -> Call
             source: NodeId(args[1]),
             enable: args[2],
         },
+        12 => Call::SystemShutdown {
+            shutdown_type: args[0],
+            subtype: args[1],
+        },
         13 => Call::RequestNode { node, caps, ack },
         14 => Call::ReleaseNode { node },
         15 => Call::SetRequirement { node, caps, ack },
         16 => Call::SetMaxLatency {
             node,
             latency: args[1],
+        },
+        17 => Call::ResetAssert {
+            line: LineId(args[0]),
+            action: args[1],
+        },
+        18 => Call::ResetGetStatus {
+            line: LineId(args[0]),
         },
         21 => Call::InitFinalize,
         _ => Call::Unknown,
@@ -172,6 +212,7 @@ impl Call {
     {
         match self {
             Call::RequestSuspend { ack, .. }
+            | Call::ForcePowerdown { ack, .. }
             | Call::RequestWakeup { ack, .. }
             | Call::RequestNode { ack, .. }
             | Call::SetRequirement { ack, .. } => { ack_kind(*ack).unwrap_or(AckKind::Blocking) }
@@ -186,6 +227,7 @@ impl Call {
     {
         match self {
             Call::RequestSuspend { node, .. }
+            | Call::ForcePowerdown { node, .. }
             | Call::RequestWakeup { node, .. }
             | Call::RequestNode { node, .. }
             | Call::SetRequirement { node, .. } => *node,

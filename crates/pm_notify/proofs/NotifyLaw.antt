@@ -13,6 +13,7 @@ use Rattle.pm_notify.specs.Mailbox.{Mail, asks_about, forgotten, notes_at, nothi
 use Rattle.pm_notify.specs.NodeNotes.{asks, emptied, filled, no_notes, note_like, with_asked}
 use Rattle.pm_notify.specs.Notes.{same_event, same_kind}
 use Rattle.pm_notify.proofs.MailLemmas.{mail_cleared, mail_kept, mail_put, notes_forgotten, notes_kept, notes_loaded, notes_put, order_loaded, other_mail, units_kept, units_loaded}
+use Rattle.pm_notify.proofs.RestartLemmas.{all_units, as_loaded}
 use Rattle.pm_notify.proofs.NodeLemmas.{asked_after, emptied_after, filled_after, none_waits, unasked}
 
 -- what is kept about a node once a notifier was put, a note waits, or one was taken out
@@ -81,6 +82,8 @@ module _ (tables : TableLaws NodeNotes) (units : UnitLaws) where
     takes = λ m n note notify k.
         units_kept (without_note n note) refl (λ mail. tables.set_units (Node n) (empty note (notes_at n mail)) mail) m k notify;
     clears = λ m notify k. units_kept forgotten refl (λ mail. tables.made_units nothing_more mail) m k notify;
+    restarts = all_units tables;
+    as_loaded = as_loaded;
   }
 
 pub other_mail_laws : OtherMailLaws

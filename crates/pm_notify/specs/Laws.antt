@@ -10,7 +10,7 @@ use Rattle.pm_notify.specs.declared.notes.Note.{Note}
 use Rattle.pm_notify.specs.declared.notes.Waiting.{Waiting}
 use Rattle.pm_notify.specs.Mailbox.{Mail}
 use Rattle.pm_notify.specs.Notes.{is_told_before, same_event, same_kind}
-use Rattle.pm_notify.specs.Notify.{IsInOrder, asks_of, dropped, first_for, has_slots, loaded, mail_of, note_of, noted, registered, taken, taken_out, waiting_for, without_mail}
+use Rattle.pm_notify.specs.Notify.{IsInOrder, all_forgotten, asks_of, dropped, first_for, has_slots, loaded, mail_of, note_of, noted, registered, taken, taken_out, waiting_for, without_mail}
 
 -- the master at place k and the node o are the master at place m and the node n, and these are there
 abbrev pub is_at : ℕ → NodeId → List Mail → ℕ → NodeId → Bool
@@ -76,6 +76,11 @@ pub record OrderLaws : Type 0 where
   pub takes : (m : ℕ) (n : NodeId) (note : Note) (notify : List Mail) (k : ℕ)
       → units_in (mail_of k (dropped m n note notify)) ≡ units_in (mail_of k notify)
   pub clears : (m : ℕ) (notify : List Mail) (k : ℕ) → units_in (mail_of k (without_mail m notify)) ≡ units_in (mail_of k notify)
+  pub restarts : (notify : List Mail) (k : ℕ) → units_in (mail_of k (all_forgotten notify)) ≡ units_in (mail_of k notify)
+  -- where all masters forget, all is as at load
+  pub as_loaded : (t : Topology) (notify : List Mail)
+      → ((m : ℕ) → m < length notify → units_in (mail_of m notify) ≡ units_of t)
+      → all_forgotten notify ≡ loaded t (length notify)
 
 -- of the order in which notes are taken
 pub record TakeLaws : Type 0 where

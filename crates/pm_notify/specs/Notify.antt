@@ -1,5 +1,5 @@
 -- What all masters have asked for and what waits for each of them: the mail of each master, by its place in the object.
-use Rattle.std.specs.Prelude.{◌≡◌, ℕ, Bool, true, [], List, replicate, slice_get, slice_set, unwrap_or, is_some, Option, Some, None, zero, suc}
+use Rattle.std.specs.Prelude.{◌≡◌, ℕ, Bool, true, [], List, map, replicate, slice_get, slice_set, unwrap_or, is_some, Option, Some, None, zero, suc}
 use Rattle.pm_base.specs.declared.names.NodeId.{NodeId}
 use Rattle.pm_base.specs.declared.names.Unit.TheVariants.{Node}
 use Rattle.pm_topology.specs.declared.topology.Topology.{Topology}
@@ -74,3 +74,7 @@ taken (suc times) m notify = taken times m (taken_out m (first_for m notify) not
 -- a master has asked for nothing, and nothing waits for it
 abbrev pub without_mail : ℕ → List Mail → List Mail
 without_mail m notify = slice_set notify m (forgotten (mail_of m notify))
+
+-- no master has asked for anything, and nothing waits
+abbrev pub all_forgotten : List Mail → List Mail
+all_forgotten notify = map forgotten notify

@@ -1,7 +1,8 @@
 //! What all masters have asked for and what waits for each of them.
 
-ghost use Rattle.std.specs.Prelude.{◌≡◌, IfOk};
-ghost use Rattle.pm_notify.specs.Notify.{IsInOrder, asks_of, dropped, first_for, loaded, noted, registered, taken_out, without_mail};
+ghost use Rattle.std.specs.Prelude.{◌≡◌, IfOk, map};
+ghost use Rattle.pm_notify.specs.Mailbox.{forgotten};
+ghost use Rattle.pm_notify.specs.Notify.{IsInOrder, all_forgotten, asks_of, dropped, first_for, loaded, noted, registered, taken_out, without_mail};
 
 use crate::mailbox::Mailbox;
 use crate::notes::{NodeEvent, Note, Waiting};
@@ -110,6 +111,13 @@ impl Notify {
         }
     }
 
+    /// Each master forgets what it asked for, and what waits for it is lost: all is as at load.
+    pub fn restart(&mut self)
+        ensures { self.new ≡ all_forgotten self.old }
+    {
+        clear_mail(&mut self.mail);
+    }
+
     /// A master forgets what it asked for, and what waits for it is lost.
     pub fn clear(&mut self, m: usize)
         ensures { self.new ≡ without_mail m self.old }
@@ -130,4 +138,13 @@ fn mailboxes(alloc: Global, t: &Topology, masters: usize) -> Result<Vec<Mailbox>
         mail.push(mailbox).map_err(|_| NoMemory)?;
     }
     Ok(mail)
+}
+
+/// Each of these masters has asked for nothing, and nothing waits for it.
+fn clear_mail(mail: &mut [Mailbox])
+    ensures { mail.new ≡ map forgotten mail.old }
+{
+    for mailbox in mail.iter_mut() {
+        mailbox.clear();
+    }
 }

@@ -6,12 +6,13 @@ use Rattle.std.proofs.lemmas.List.{get_or-replicate, get_or_past, length-replica
 use Rattle.std.proofs.lemmas.Bool.{cases_lt}
 use Rattle.std.proofs.lemmas.Bool.Decides.{nat_tests}
 use Rattle.std.proofs.lemmas.Option.{unwrap_or-slice_get}
+use Rattle.std.proofs.lemmas.Simd.{splat_is_map}
 use Rattle.pm_base.specs.declared.names.Mode.{Mode}
 use Rattle.pm_base.specs.declared.names.Mode.TheVariants.{Off, Active, Asleep, Suspending}
 use Rattle.pm_base.proofs.Booleans.{differs}
 use Rattle.pm_procs.specs.declared.procs.Proc.{Proc}
 use Rattle.pm_procs.specs.Modes.{mode_among}
-use Rattle.pm_procs.specs.Procs.{all_off, gone, has_member, master_mode_in, members_at, mode_at, off, proc_at, with_address, with_mode}
+use Rattle.pm_procs.specs.Procs.{all_off, all_turned_off, gone, has_member, master_mode_in, members_at, mode_at, off, proc_at, with_address, with_mode}
 use Rattle.pm_procs.proofs.ModeLemmas.{active_among, modes_alike, off_among}
 use Rattle.pm_procs.proofs.Places as place
 
@@ -70,3 +71,7 @@ off_at_load p count =
 
 pub load : (m count : ℕ) (members : List (List ℕ)) → master_mode_in m members (all_off count) ≡ Off
 load m count members = all_members_off m members (all_off count) (λ p is. ap (λ (proc : Proc). proc.mode) (off_at_load p count))
+
+-- after all of them went off the processors are as at load
+pub restart : (procs : List Proc) → all_turned_off procs ≡ all_off (length procs)
+restart procs = sym (splat_is_map procs (length procs) off refl)

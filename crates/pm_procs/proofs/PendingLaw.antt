@@ -1,12 +1,13 @@
 -- What is pending on one master where a request is made or ends, and where time passes.
-use Rattle.std.proofs.Common.{◌≡◌, ◌≢◌, ℕ, ◌+◌, ◌-◌, ◌<◌, ◌≤◌, nat_le, List, [], ◌∷◌, length, map, Option, Some, None, refl, ap, ◌∙◌, arith, ⊎_elim, slice_get, unwrap_or}
+use Rattle.std.proofs.Common.{◌≡◌, ◌≢◌, ℕ, ◌+◌, ◌-◌, ◌<◌, ◌≤◌, nat_le, List, [], ◌∷◌, length, map, Option, Some, None, refl, sym, ap, ◌∙◌, arith, ⊎_elim, slice_get, unwrap_or}
 use Rattle.std.specs.Prelude.{option_map, replicate}
 use Rattle.std.proofs.lemmas.List.{get_or-replicate, length-replicate, set_past}
 use Rattle.std.proofs.lemmas.Bool.{cases_lt}
 use Rattle.std.proofs.lemmas.Bool.Decides.{nat_tests}
+use Rattle.std.proofs.lemmas.Simd.{splat_is_map}
 use Rattle.std.proofs.lemmas.Option.{slice_get-map, unwrap_or-slice_get}
 use Rattle.pm_procs.specs.declared.pending.Pending.{Pending}
-use Rattle.pm_procs.specs.Pending.{all_lowered, asked, ended, is_due, is_within, lowered, none_pending, pending_at}
+use Rattle.pm_procs.specs.Pending.{all_ended, all_lowered, asked, ended, is_due, is_within, lowered, none_pending, pending_at}
 use Rattle.pm_procs.proofs.Places.{past_end, set_here, set_there}
 
 -- ---- a request is made or ends
@@ -33,6 +34,10 @@ load m masters =
     (λ within. unwrap_or-slice_get (none_pending masters) m nothing ∙ get_or-replicate masters m nothing nothing within)
     (λ past. past_end m nothing (none_pending masters) (rw (length-replicate masters nothing) past))
     (cases_lt m masters)
+
+-- once all requests ended nothing is pending, as at load
+pub renew : (pending : List (Option Pending)) → all_ended pending ≡ none_pending (length pending)
+renew pending = sym (splat_is_map pending (length pending) None refl)
 
 -- ---- time passes
 

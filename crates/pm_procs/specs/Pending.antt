@@ -48,3 +48,11 @@ ended m pending = slice_set pending m None
 -- each request after this much time
 abbrev pub all_lowered : ℕ → List (Option Pending) → List (Option Pending)
 all_lowered count pending = map (option_map (lowered count)) pending
+
+-- what is pending on a master once all requests ended: nothing
+abbrev pub dropped : Option Pending → Option Pending
+dropped request = None
+
+-- nothing is pending any more on any master
+abbrev pub all_ended : List (Option Pending) → List (Option Pending)
+all_ended pending = map dropped pending

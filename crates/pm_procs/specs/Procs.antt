@@ -54,6 +54,14 @@ master_mode_in m members procs = mode_among (map (λ p. mode_at p procs) (member
 abbrev pub master_mode : ℕ → Procs → Mode
 master_mode m procs = master_mode_in m procs.members procs.procs
 
+-- a processor after it went off, whatever it was
+abbrev pub turned_off : Proc → Proc
+turned_off proc = off
+
+-- the processors after all of them went off, place by place
+abbrev pub all_turned_off : List Proc → List Proc
+all_turned_off procs = map turned_off procs
+
 -- the processors at load: all are off
 abbrev pub all_off : ℕ → List Proc
 all_off count = replicate count off

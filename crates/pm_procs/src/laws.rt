@@ -5,12 +5,12 @@ ghost use Rattle.pm_base.specs.declared.names.Mode.{Mode};
 ghost use Rattle.pm_base.specs.declared.names.Mode.TheVariants.{Active, Off};
 ghost use Rattle.pm_procs.specs.declared.pending.Pending.{Pending};
 ghost use Rattle.pm_procs.specs.declared.procs.Proc.{Proc};
-ghost use Rattle.pm_procs.specs.Pending.{all_lowered, asked, ended, is_due, lowered, none_pending, pending_at};
-ghost use Rattle.pm_procs.specs.Procs.{all_off, has_member, master_mode_in, members_at, mode_at, proc_at, with_address, with_mode};
+ghost use Rattle.pm_procs.specs.Pending.{all_ended, all_lowered, asked, ended, is_due, lowered, none_pending, pending_at};
+ghost use Rattle.pm_procs.specs.Procs.{all_off, all_turned_off, has_member, master_mode_in, members_at, mode_at, proc_at, with_address, with_mode};
 
 /// A processor that goes to a mode has it then, and no other processor and no master that doesn't have
 /// it notices; nor does any when a resume address is set. A master is active where one of its
-/// processors is, off where all are, and all are off at load.
+/// processors is, off where all are, and all are off at load, and after all of them went off.
 pub fn modes_of_masters()
     ensures goes { (p : ℕ) (to : Mode) (procs : List Proc) → p < length procs → mode_at p (with_mode p to procs) ≡ to }
     ensures others { (p q : ℕ) (to : Mode) (procs : List Proc) → q ≢ p → proc_at q (with_mode p to procs) ≡ proc_at q procs }
@@ -23,13 +23,15 @@ pub fn modes_of_masters()
     ensures off { (m : ℕ) (members : List (List ℕ)) (procs : List Proc)
         → ((p : ℕ) → has_member m p members ≡ true → mode_at p procs ≡ Off) → master_mode_in m members procs ≡ Off }
     ensures load { (m count : ℕ) (members : List (List ℕ)) → master_mode_in m members (all_off count) ≡ Off }
+    ensures restart { (procs : List Proc) → all_turned_off procs ≡ all_off (length procs) }
     ensures length_mode { (p : ℕ) (to : Mode) (procs : List Proc) → length (with_mode p to procs) ≡ length procs }
     ensures length_address { (p a : ℕ) (procs : List Proc) → length (with_address p a procs) ≡ length procs }
 {}
 
 /// A request that is made is pending on the master that it asks, one that ended is not, and what is pending
 /// on the other masters stays. Time passes for each request alike, and in parts as at once: a request is
-/// due where its time is no more than all the time that passed. Nothing is pending at load.
+/// due where its time is no more than all the time that passed. Nothing is pending at load, nor after all
+/// requests ended.
 pub fn requests_of_masters()
     ensures asks { (m : ℕ) (request : Pending) (pending : List (Option Pending))
         → m < length pending → pending_at m (asked m request pending) ≡ Some request }
@@ -43,6 +45,7 @@ pub fn requests_of_masters()
         → all_lowered second (all_lowered first pending) ≡ all_lowered (first + second) pending }
     ensures due { (first second : ℕ) (request : Pending) → is_due second (lowered first request) ≡ is_due (first + second) request }
     ensures load { (m masters : ℕ) → pending_at m (none_pending masters) ≡ None }
+    ensures renew { (pending : List (Option Pending)) → all_ended pending ≡ none_pending (length pending) }
     ensures length_asked { (m : ℕ) (request : Pending) (pending : List (Option Pending)) → length (asked m request pending) ≡ length pending }
     ensures length_ended { (m : ℕ) (pending : List (Option Pending)) → length (ended m pending) ≡ length pending }
     ensures length_lowered { (count : ℕ) (pending : List (Option Pending)) → length (all_lowered count pending) ≡ length pending }

@@ -2,7 +2,7 @@
 
 ghost use Rattle.std.specs.Prelude.{◌≡◌, IfOk, option_map, slice_set};
 ghost use Rattle.pm_procs.specs.Pending as spec;
-ghost use Rattle.pm_procs.specs.Pending.{all_lowered, none_pending, request_of, pending_at};
+ghost use Rattle.pm_procs.specs.Pending.{all_ended, all_lowered, none_pending, request_of, pending_at};
 
 use pm_base::{NoMemory, NodeId};
 use pm_ipi::AckKind;
@@ -98,6 +98,15 @@ pub(crate) fn lower_all(pending: &mut [Option<Pending>], count: u32)
 {
     for request in pending.iter_mut() {
         *request = lowered_request(*request, count);
+    }
+}
+
+/// Nothing is pending on any master any more.
+pub(crate) fn end_all(pending: &mut [Option<Pending>])
+    ensures { pending.new ≡ all_ended pending.old }
+{
+    for request in pending.iter_mut() {
+        *request = None;
     }
 }
 

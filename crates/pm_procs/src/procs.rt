@@ -3,8 +3,8 @@
 ghost use Rattle.std.specs.Prelude.{◌≡◌, IfOk, length, map, slice_set};
 ghost use Rattle.std.specs.List.{list_any};
 ghost use Rattle.pm_procs.specs.Modes.{has_mode, same_mode as is_same};
-ghost use Rattle.pm_procs.specs.Pending.{all_lowered, asked, ended, none_pending, pending_at};
-ghost use Rattle.pm_procs.specs.Procs.{all_off, gone, master_mode, members_at, mode_at, off, proc_at, with_address, with_mode};
+ghost use Rattle.pm_procs.specs.Pending.{all_ended, all_lowered, asked, ended, none_pending, pending_at};
+ghost use Rattle.pm_procs.specs.Procs.{all_off, all_turned_off, gone, master_mode, members_at, mode_at, off, proc_at, turned_off, with_address, with_mode};
 
 use crate::modes::same_mode;
 use crate::pending::{self, Pending};
@@ -135,6 +135,13 @@ impl Procs {
         }
     }
 
+    /// All processors go off, and forget their resume addresses.
+    pub fn put_all_off(&mut self)
+        ensures { self.new ≡ record self.old { procs = all_turned_off self.old.procs } }
+    {
+        turn_off(&mut self.procs);
+    }
+
     /// The places of a master's processors, its first one first.
     pub fn members(&self, m: usize) -> &[usize]
         ensures { result.now ≡ members_at m self.now.members }
@@ -184,6 +191,13 @@ impl Procs {
         pending::set_pending(&mut self.pending, m, None);
     }
 
+    /// Nothing is pending on any master any more.
+    pub fn end_all(&mut self)
+        ensures { self.new ≡ record self.old { pending = all_ended self.old.pending } }
+    {
+        pending::end_all(&mut self.pending);
+    }
+
     /// So many units of time pass: of each pending request that is due some time, what is left of its
     /// time is less by that, or 0 where it was no more.
     pub fn tick(&mut self, count: u32)
@@ -213,4 +227,13 @@ fn all_off(alloc: Global, count: usize) -> Result<Vec<Proc>, NoMemory>
 {
     let procs = vec![in alloc; Proc::off(); count].map_err(|_| NoMemory)?;
     Ok(procs)
+}
+
+/// All of these processors go off.
+fn turn_off(procs: &mut [Proc])
+    ensures { procs.new ≡ map turned_off procs.old }
+{
+    for proc in procs.iter_mut() {
+        *proc = Proc::off();
+    }
 }

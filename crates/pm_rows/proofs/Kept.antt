@@ -8,7 +8,7 @@ use Rattle.pm_rows.specs.declared.row.RowSeed.{RowSeed}
 use Rattle.pm_rows.specs.declared.row.Entry.{Entry}
 use Rattle.pm_rows.specs.declared.row.Row.{Row}
 use Rattle.pm_rows.specs.Modes.{mode_in}
-use Rattle.pm_rows.specs.Rows.{Rows, has_all, cleared, settled_at, settled, dropped_at, slave_dropped}
+use Rattle.pm_rows.specs.Rows.{Rows, has_all, cleared, settled_at, settled, dropped_at, slave_dropped, cleared_entry, all_cleared}
 use Rattle.pm_rows.specs.Sound.{is_plain_in, is_idle_in, is_sole_user, AreSound}
 use Rattle.pm_rows.proofs.Bits.{has_all_nothing}
 use Rattle.pm_rows.proofs.Lists.{count_kept, each_trivial}
@@ -95,3 +95,11 @@ drop_keeps permitted rows s sound =
     (each_trivial rows.entries)
     (λ x here right. clear_right rows.known x (x.seed.slave == s) right)
     (fewer_used permitted rows (dropped_at s) sound (λ t x is. clear_sole t x (x.seed.slave == s) is))
+
+pub clear_keeps : (permitted : List RowSeed) (rows : Rows) → AreSound permitted rows → AreSound permitted (all_cleared rows)
+clear_keeps permitted rows sound =
+    mapped_sound permitted rows (λ (x : Entry). Unit {0}) cleared_entry rows.known sound
+    (λ x. refl)
+    (each_trivial rows.entries)
+    (λ x here right. clear_right rows.known x true right)
+    (fewer_used permitted rows cleared_entry sound (λ t x is. clear_sole t x true is))

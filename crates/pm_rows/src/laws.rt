@@ -10,13 +10,13 @@ ghost use Rattle.pm_rows.specs.declared.row.Row.{Row};
 ghost use Rattle.pm_rows.specs.declared.row.Entry.{Entry};
 ghost use Rattle.pm_rows.specs.declared.row.Change.{Change};
 ghost use Rattle.pm_rows.specs.Rows as spec;
-ghost use Rattle.pm_rows.specs.Rows.{has_all, mode_of, entry_at, loaded_rows, restarted, row_changed, settled, slave_dropped};
+ghost use Rattle.pm_rows.specs.Rows.{has_all, mode_of, entry_at, loaded_rows, restarted, row_changed, settled, slave_dropped, all_cleared};
 ghost use Rattle.pm_rows.specs.Shift.{shifted_row, shift_at, shifted};
 ghost use Rattle.pm_rows.specs.Sound.{AreOnce, AreSound, IsFit, IsLoadable, is_pair, pair_in};
 ghost use Rattle.pm_rows.specs.Wanted.{wanted_of};
 
 /// Rows at load are sound, and each operation keeps them so: a change of a row that fits, a change of a
-/// master's mode, dropped holds, and rows on a slave that are cleared; and after a restart they are as at
+/// master's mode, dropped holds, and rows that are cleared, on one slave or all; and after a restart they are as at
 /// load. In sound rows a pair has a row exactly where it is permitted, and what is wanted of a slave is
 /// within its capabilities.
 pub fn rows_stay_sound()
@@ -32,6 +32,8 @@ pub fn rows_stay_sound()
         → AreSound permitted rows → AreSound permitted (settled m rows) }
     ensures drop_slave { (permitted : List RowSeed) (rows : spec.Rows) (s : ℕ)
         → AreSound permitted rows → AreSound permitted (slave_dropped s rows) }
+    ensures clear { (permitted : List RowSeed) (rows : spec.Rows)
+        → AreSound permitted rows → AreSound permitted (all_cleared rows) }
     ensures restart { (permitted : List RowSeed) (rows : spec.Rows)
         → AreOnce permitted → All (IsLoadable (length rows.known) rows.boot) permitted
         → AreSound permitted rows → AreSound permitted (restarted rows) }

@@ -207,6 +207,16 @@ impl Entry {
         }
     }
 
+    /// The row with nothing but its preset.
+    pub(crate) fn cleared(self) -> Entry
+        ensures { result ≡ spec.cleared_entry self }
+    {
+        Entry {
+            seed: self.seed,
+            row: self.row.cleared(),
+        }
+    }
+
     /// Whether this is a row of another master on the slave.
     pub(crate) fn is_of_other(&self, master: usize, slave: usize) -> bool
         ensures { result ≡ is_of_other master slave self.now }

@@ -3,7 +3,7 @@
 ghost use Rattle.std.specs.Prelude.{◌≡◌, ◌-◌, ◌<◌, ◌^◌, min, map, length, slice_get, Some, IfOk};
 ghost use Rattle.pm_rows.specs.declared.row.Change.TheVariants.{Request, Release, Set, Limit, Arm};
 ghost use Rattle.pm_rows.specs.Rows as spec;
-ghost use Rattle.pm_rows.specs.Rows.{mode_of, loaded_entry, loaded_rows, reloaded, restarted, change_at, row_changed, settled_at, settled, dropped_at, slave_dropped, entry_at, row_at, rival_of, users_of, usage_of};
+ghost use Rattle.pm_rows.specs.Rows.{mode_of, loaded_entry, loaded_rows, reloaded, restarted, change_at, row_changed, settled_at, settled, dropped_at, slave_dropped, cleared_entry, all_cleared, entry_at, row_at, rival_of, users_of, usage_of};
 ghost use Rattle.pm_rows.specs.Shift.{shifted};
 ghost use Rattle.pm_rows.specs.Wanted.{wanted_of};
 
@@ -37,6 +37,14 @@ fn drop_rows(entries: &mut [Entry], slave: usize)
 {
     for entry in entries.iter_mut() {
         *entry = entry.dropped_at(slave);
+    }
+}
+
+fn clear_rows(entries: &mut [Entry])
+    ensures { entries.new ≡ map cleared_entry entries.old }
+{
+    for entry in entries.iter_mut() {
+        *entry = entry.cleared();
     }
 }
 
@@ -222,6 +230,13 @@ impl Rows {
         ensures { self.new ≡ slave_dropped slave self.old }
     {
         drop_rows(&mut self.entries, slave);
+    }
+
+    /// Clears all rows but for their presets.
+    pub fn clear(&mut self)
+        ensures { self.new ≡ all_cleared self.old }
+    {
+        clear_rows(&mut self.entries);
     }
 
     /// Each row, and the mode of each master, is as it was at load.

@@ -6,6 +6,7 @@ use Rattle.pm_base.specs.declared.names.NodeId.{NodeId}
 use Rattle.pm_topology.specs.declared.topology.SlaveDef.{SlaveDef}
 use Rattle.pm_topology.specs.declared.topology.ProcDef.{ProcDef}
 use Rattle.pm_topology.specs.declared.topology.PowerDef.{PowerDef}
+use Rattle.pm_topology.specs.declared.topology.LineDef.{LineDef}
 use Rattle.pm_topology.specs.declared.topology.Topology.{Topology}
 use Rattle.pm_topology.specs.declared.places.Kind.{Kind}
 use Rattle.pm_topology.specs.declared.places.Kind.TheVariants.{Proc, Slave, Power, Unknown}
@@ -20,6 +21,9 @@ slave_place slaves number = position (λ s. s.node.0 == number) slaves
 
 abbrev pub power_place : List PowerDef → ℕ → Option ℕ
 power_place powers number = position (λ p. p.node.0 == number) powers
+
+abbrev pub line_place : List LineDef → ℕ → Option ℕ
+line_place lines number = position (λ l. l.line.0 == number) lines
 
 -- the kind of a node, given its place in the three lists
 abbrev pub kind_at : Option ℕ → Option ℕ → Option ℕ → Kind

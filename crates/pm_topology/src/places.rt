@@ -2,11 +2,11 @@
 
 ghost use Rattle.std.specs.Prelude.{◌≡◌, ◌<◌, ◌↔◌, ◌==◌, IsTrue, length, position};
 ghost use Rattle.std.specs.List.{list_any};
-ghost use Rattle.pm_topology.specs.Places.{IsBelow, IsKind, is_below, kind_of, parent_at, power_parent, power_place, proc_place, slave_place, upwards};
+ghost use Rattle.pm_topology.specs.Places.{IsBelow, IsKind, is_below, kind_of, line_place, parent_at, power_parent, power_place, proc_place, slave_place, upwards};
 ghost use Rattle.pm_topology.specs.WellFormed.{IsWellFormed};
 
 use crate::topology::{PowerDef, ProcDef, SlaveDef, Topology};
-use pm_base::NodeId;
+use pm_base::{LineId, NodeId};
 
 /// What a node number names: a place in one of the lists.
 #[derive(Clone, Copy, Debug, PartialEq, Eq)]
@@ -26,6 +26,16 @@ impl Topology {
         ensures only { IsWellFormed self.now → (kind : Kind) → IsKind self.now n kind → kind ≡ result }
     {
         self.search(n)
+    }
+
+    /// The place of the reset line that has this number.
+    pub fn line_place(&self, line: LineId) -> Option<usize>
+        ensures { result ≡ line_place self.now.lines line.0 }
+    {
+        self.lines
+            .as_slice()
+            .iter()
+            .position(|def| def.line.0 == line.0)
     }
 
     /// The first of processors, slaves and power nodes that has this number.

@@ -28,3 +28,6 @@ returns-clause-length_mode c p to procs = length-set procs p _
 
 pub returns-clause-length_address : goal.returns-clause-length_address
 returns-clause-length_address c p a procs = length-set procs p _
+
+pub returns-clause-restart : goal.returns-clause-restart
+returns-clause-restart c = law.restart

@@ -37,3 +37,6 @@ returns-clause-length_lowered c count pending = length-map pending _
 
 pub returns-clause-length_load : goal.returns-clause-length_load
 returns-clause-length_load c masters = length-replicate masters _
+
+pub returns-clause-renew : goal.returns-clause-renew
+returns-clause-renew c = law.renew

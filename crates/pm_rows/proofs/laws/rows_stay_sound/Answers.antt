@@ -2,7 +2,7 @@ use Rattle.std.proofs.Common.{length}
 use Rattle.std.proofs.lemmas.List.Elements.{recursion_from_All}
 use Rattle.pm_rows.specs.Sound.{IsLoadable}
 use Rattle.pm_rows.proofs.Changed.{change_keeps}
-use Rattle.pm_rows.proofs.Kept.{settle_keeps, drop_keeps}
+use Rattle.pm_rows.proofs.Kept.{settle_keeps, drop_keeps, clear_keeps}
 use Rattle.pm_rows.proofs.Loaded.{load_sound, restart_sound}
 use Rattle.pm_rows.proofs.Shifted.{shift_keeps}
 use Rattle.pm_rows.proofs.There.{there_exactly}
@@ -24,6 +24,9 @@ returns-clause-settle c = settle_keeps
 
 pub returns-clause-drop_slave : goal.returns-clause-drop_slave
 returns-clause-drop_slave c = drop_keeps
+
+pub returns-clause-clear : goal.returns-clause-clear
+returns-clause-clear c = clear_keeps
 
 pub returns-clause-restart : goal.returns-clause-restart
 returns-clause-restart c permitted rows distinct each sound =
