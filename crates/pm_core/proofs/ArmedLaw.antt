@@ -14,7 +14,7 @@ use Rattle.pm_rows.specs.declared.row.Row.{Row}
 use Rattle.pm_rows.specs.declared.row.RowSeed.{RowSeed}
 use Rattle.pm_rows.specs.declared.row.Change.{Change}
 use Rattle.pm_rows.specs.declared.row.Change.TheVariants.{Request, Release, Set, Limit, Arm}
-use Rattle.pm_rows.specs.Rows.{applied, change_at, is_at, loaded_entry, settled_at}
+use Rattle.pm_rows.specs.Rows.{applied, change_at, cleared, cleared_entry, dropped_at, is_at, loaded_entry, settled_at}
 use Rattle.pm_rows.specs.Shift.{is_taken, shift_at, shifted_row}
 use Rattle.pm_topology.specs.declared.places.Kind.{Kind}
 use Rattle.pm_topology.specs.declared.places.Kind.TheVariants.{Proc, Slave, Power, Unknown}
@@ -87,6 +87,18 @@ settle_by fixed e false own = own
 pub settle_arms : (fixed : Fixed) (m : ℕ) (es : List Entry) → list_all (is_armed_own fixed) es ≡ true → list_all (is_armed_own fixed) (map (settled_at m) es) ≡ true
 settle_arms fixed m es all =
     mapped (is_armed_own fixed) (settled_at m) (λ e own. settle_by fixed e (e.seed.master == m) own) es all
+
+clear_by : (fixed : Fixed) (e : Entry) (there : Bool) → is_armed_own fixed e ≡ true → is_armed_own fixed (if there then record e { row = cleared e.row } else e) ≡ true
+clear_by fixed e true own = refl
+clear_by fixed e false own = own
+
+-- rows that are cleared, those on one slave and all
+pub drop_arms : (fixed : Fixed) (s : ℕ) (es : List Entry) → list_all (is_armed_own fixed) es ≡ true → list_all (is_armed_own fixed) (map (dropped_at s) es) ≡ true
+drop_arms fixed s es all =
+    mapped (is_armed_own fixed) (dropped_at s) (λ e own. clear_by fixed e (e.seed.slave == s) own) es all
+
+pub clear_arms : (fixed : Fixed) (es : List Entry) → list_all (is_armed_own fixed) es ≡ true → list_all (is_armed_own fixed) (map cleared_entry es) ≡ true
+clear_arms fixed es all = mapped (is_armed_own fixed) cleared_entry (λ e own. refl) es all
 
 pub load_arms : (fixed : Fixed) (seeds : List RowSeed) → list_all (is_armed_own fixed) (map loaded_entry seeds) ≡ true
 load_arms fixed [] = refl

@@ -4,30 +4,34 @@ use Rattle.std.specs.Prelude.{option_map}
 use Rattle.std.specs.List.{list_any}
 use Rattle.std.proofs.Math.Seq.{take-append_seam}
 use Rattle.pm_base.proofs.Booleans.{neither, equal}
+use Rattle.pm_base.proofs.Searches.{position-first}
 use Rattle.pm_base.proofs.Tests.{present_from}
 use Rattle.pm_base.specs.declared.names.NodeId.{NodeId}
 use Rattle.pm_base.specs.declared.names.Unit.{Unit}
 use Rattle.pm_base.specs.declared.names.Unit.TheVariants.{Node, Line}
+use Rattle.pm_topology.specs.declared.topology.LineDef.{LineDef}
 use Rattle.pm_topology.specs.declared.topology.PowerDef.{PowerDef}
 use Rattle.pm_topology.specs.declared.topology.ProcDef.{ProcDef}
 use Rattle.pm_topology.specs.declared.topology.SlaveDef.{SlaveDef}
 use Rattle.pm_topology.specs.declared.topology.Topology.{Topology}
 use Rattle.pm_topology.specs.declared.places.Kind.{Kind}
 use Rattle.pm_topology.specs.declared.places.Kind.TheVariants.{Proc, Slave, Power, Unknown}
-use Rattle.pm_topology.specs.Places.{KindLaws, kind_of, IsKind}
-use Rattle.pm_topology.specs.Units.{UnitLaws, same_unit, has_in, has_unit}
+use Rattle.pm_topology.specs.Places.{KindLaws, kind_of, line_place, IsKind}
+use Rattle.pm_topology.specs.Units.{UnitLaws, same_unit, has_in, has_line, has_unit}
 use Rattle.pm_topology.specs.UnitMap.{units_in, value_of, all_at}
 use Rattle.pm_power.specs.declared.child.Child.{Child}
 use Rattle.pm_power.specs.Forest.{Needs, ups}
 use Rattle.pm_power.specs.Needs.{child, children_of, with_needs}
 use Rattle.pm_core.specs.declared.caches.Caches.{Caches}
-use Rattle.pm_core.specs.Caches.{AreKept, HasPlaces, idle, kind_of_unit, kind_value, moved_by, revalued, use_of, valued, value_kept}
+use Rattle.pm_core.specs.declared.caches.UnitKind.{UnitKind}
+use Rattle.pm_core.specs.declared.caches.UnitKind.TheVariants.{Entry, Reset}
+use Rattle.pm_core.specs.Caches.{AreKept, HasPlaces, idle, kind_of_unit, kind_value, moved_by, revalued, use_of, unit_value, valued, value_by, value_kept}
 use Rattle.pm_core.specs.State.{Fixed, CoreHalf, State}
 use Rattle.pm_procs.specs.declared.procs.Proc.{Proc as Processor}
 use Rattle.pm_procs.specs.Modes.{is_awake}
 use Rattle.pm_procs.specs.Procs.{mode_at}
 use Rattle.pm_core.specs.Units.{units, moved}
-use Rattle.pm_core.specs.Values.{placed, chosen, need_of, run_of, slave_child, proc_child, forest, state_at, value_at, value}
+use Rattle.pm_core.specs.Values.{placed, chosen, need_of, run_of, slave_child, proc_child, forest, line_at, state_at, value_at, value}
 use Rattle.pm_core.proofs.MovesLemmas.{revalued_all, valued_same, moved_all}
 use Rattle.pm_core.proofs.PlacedLemmas.{slice_get-placed, length-placed}
 
@@ -37,8 +41,8 @@ chosen_or_0 : (core : CoreHalf) (s : ℕ) (slave : Option SlaveDef) → unwrap_o
 chosen_or_0 core s None = refl
 chosen_or_0 core s (Some slave) = refl
 
--- the value of a unit by its kind, from what is kept of slaves and power nodes
-pub kind_value_is : (fixed : Fixed) (core : CoreHalf) (states : List ℕ) (procs : List Processor) (up : List Bool) → states ≡ placed (chosen core) 0 fixed.topology.slaves → procs ≡ core.procs → up ≡ ups (forest fixed core) → (kind : Kind) → kind_value states procs up kind ≡ value_at kind fixed core
+-- the value of a node by its kind, from what is kept of slaves and power nodes
+kind_value_is : (fixed : Fixed) (core : CoreHalf) (states : List ℕ) (procs : List Processor) (up : List Bool) → states ≡ placed (chosen core) 0 fixed.topology.slaves → procs ≡ core.procs → up ≡ ups (forest fixed core) → (kind : Kind) → kind_value states procs up kind ≡ value_at kind fixed core
 kind_value_is fixed core states procs up states_are procs_are ups_are (Slave s) =
     ap (λ xs. unwrap_or (slice_get xs s) 0) states_are
     ∙ (ap (λ o. unwrap_or o 0) (slice_get-placed (chosen core) 0 fixed.topology.slaves s s (omega arith))
@@ -47,9 +51,13 @@ kind_value_is fixed core states procs up states_are procs_are ups_are (Power w) 
 kind_value_is fixed core states procs up states_are procs_are ups_are (Proc p) = ap (λ ps. cond (is_awake (mode_at p ps)) 1 0) procs_are
 kind_value_is fixed core states procs up states_are procs_are ups_are Unknown = refl
 
-pub unit_value_is : (book : State) (u : Unit) → value_at (kind_of_unit book.fixed.topology u) book.fixed book.now.core ≡ value u book
-unit_value_is book (Node node) = refl
-unit_value_is book (Line line) = refl
+pub unit_value_is : (fixed : Fixed) (core : CoreHalf) (states : List ℕ) (procs : List Processor) (up lines : List Bool) → states ≡ placed (chosen core) 0 fixed.topology.slaves → procs ≡ core.procs → up ≡ ups (forest fixed core) → lines ≡ core.lines → (kind : UnitKind) → unit_value states procs up lines kind ≡ value_by fixed core kind
+unit_value_is fixed core states procs up lines states_are procs_are ups_are lines_are (Entry kind) = kind_value_is fixed core states procs up states_are procs_are ups_are kind
+unit_value_is fixed core states procs up lines states_are procs_are ups_are lines_are (Reset place) = ap (line_at place) lines_are
+
+pub value_by_is : (book : State) (u : Unit) → value_by book.fixed book.now.core (kind_of_unit book.fixed.topology u) ≡ value u book
+value_by_is book (Node node) = refl
+value_by_is book (Line line) = refl
 
 entry_at : UnitLaws → (b : Bool) (u unit : Unit) (value_by : Unit → ℕ) (later : List (Unit × ℕ)) (rest : Bool) → same_unit u unit ≡ b → unwrap_or (value_of later unit) 0 ≡ (if rest then value_by unit else 0) → unwrap_or (if b then Some (value_by u) else value_of later unit) 0 ≡ (if (b || rest) then value_by unit else 0)
 entry_at laws true u unit value_by later rest is kept = ap value_by (laws.same u unit is)
@@ -91,9 +99,17 @@ or_none : (b : Bool) (n : ℕ) → (b ≡ false → n ≡ 0) → (if b then n el
 or_none true n none = refl
 or_none false n none = sym (none refl)
 
+-- a line that isn't there has no place
+no_place : (number : ℕ) (lines : List LineDef) (place : Option ℕ) → line_place lines number ≡ place → has_line number lines ≡ false → place ≡ None
+no_place number lines None is none = refl
+no_place number lines (Some l) is none =
+    let first = position-first (λ (line : LineDef). line.line.0 == number) lines l is in
+    let there : has_line number lines ≡ true = present_from (λ (line : LineDef). line.line.0 == number) lines l first.element first.here first.passes in
+    cc
+
 none_there : KindLaws → (book : State) (u : Unit) → has_unit book.fixed.topology u ≡ false → value u book ≡ 0
 none_there laws book (Node node) none = none_at book node (kind_of book.fixed.topology node) (laws.is book.fixed.topology node) none
-none_there laws book (Line line) none = refl
+none_there laws book (Line line) none = ap (λ place. line_at place book.now.core.lines) (no_place line.0 book.fixed.topology.lines (line_place book.fixed.topology.lines line.0) refl none)
 
 -- the value of a unit is what is kept of it
 pub kept_value : UnitLaws → KindLaws → (book : State) (caches : Caches) (unit : Unit) → AreKept book caches → value_kept unit caches.values ≡ value unit book
@@ -189,15 +205,15 @@ kept_places book caches t same kept =
     })
 
 -- each unit with its value, once the values are written by the kinds
-pub valued_is : (book : State) (states : List ℕ) (procs : List Processor) (up : List Bool) (kinds : List Kind) (es : List (Unit × ℕ)) → states ≡ placed (chosen book.now.core) 0 book.fixed.topology.slaves → procs ≡ book.now.core.procs → up ≡ ups (forest book.fixed book.now.core) → units_in es ≡ units book → kinds ≡ map (kind_of_unit book.fixed.topology) (units book) → revalued (kind_value states procs up) kinds es ≡ valued book
-valued_is book states procs up kinds es states_are procs_are ups_are units_are kinds_are =
-    let kind_in : Unit → Kind = kind_of_unit book.fixed.topology in
-    let new : Kind → ℕ = kind_value states procs up in
+pub valued_is : (book : State) (states : List ℕ) (procs : List Processor) (up lines : List Bool) (kinds : List UnitKind) (es : List (Unit × ℕ)) → states ≡ placed (chosen book.now.core) 0 book.fixed.topology.slaves → procs ≡ book.now.core.procs → up ≡ ups (forest book.fixed book.now.core) → lines ≡ book.now.core.lines → units_in es ≡ units book → kinds ≡ map (kind_of_unit book.fixed.topology) (units book) → revalued (unit_value states procs up lines) kinds es ≡ valued book
+valued_is book states procs up lines kinds es states_are procs_are ups_are lines_are units_are kinds_are =
+    let kind_in : Unit → UnitKind = kind_of_unit book.fixed.topology in
+    let new : UnitKind → ℕ = unit_value states procs up lines in
     let kinds_in : kinds ≡ map kind_in (units_in es) = kinds_are ∙ ap (map kind_in) (sym units_are) in
     ap (λ ks. revalued new ks es) kinds_in
     ∙ (revalued_all new kind_in es
     ∙ (valued_same (λ u. new (kind_in u)) (λ u. value u book)
-    (λ u. kind_value_is book.fixed book.now.core states procs up states_are procs_are ups_are (kind_in u) ∙ unit_value_is book u) (units_in es)
+    (λ u. unit_value_is book.fixed book.now.core states procs up lines states_are procs_are ups_are lines_are (kind_in u) ∙ value_by_is book u) (units_in es)
     ∙ ap (map (λ u. (u, value u book))) units_are))
 
 -- a slice of all of a list that was written is what was written
@@ -208,9 +224,9 @@ written_back new old n places =
 -- ---- what moves
 
 -- the units that move from these values before to those of the book
-pub moves_are : (book : State) (before : Unit → ℕ) (kinds : List Kind) (values : List (Unit × ℕ)) → kinds ≡ map (kind_of_unit book.fixed.topology) (units book) → values ≡ map (λ u. (u, before u)) (units book) → moved_by (λ kind. value_at kind book.fixed book.now.core) kinds values ≡ moved before book
+pub moves_are : (book : State) (before : Unit → ℕ) (kinds : List UnitKind) (values : List (Unit × ℕ)) → kinds ≡ map (kind_of_unit book.fixed.topology) (units book) → values ≡ map (λ u. (u, before u)) (units book) → moved_by (value_by book.fixed book.now.core) kinds values ≡ moved before book
 moves_are book before kinds values kinds_are values_are =
-    let new : Kind → ℕ = λ kind. value_at kind book.fixed book.now.core in
+    let new : UnitKind → ℕ = value_by book.fixed book.now.core in
     ap (λ ks. moved_by new ks values) kinds_are
     ∙ (ap (moved_by new (map (kind_of_unit book.fixed.topology) (units book))) values_are
-    ∙ moved_all new (kind_of_unit book.fixed.topology) before (λ u. value u book) (unit_value_is book) (units book))
+    ∙ moved_all new (kind_of_unit book.fixed.topology) before (λ u. value u book) (value_by_is book) (units book))

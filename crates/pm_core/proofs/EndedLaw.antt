@@ -1,5 +1,4 @@
--- The requests that end in a step follow from the modes of the masters before it and from the book after it, since a step has
--- one stage at most.
+-- The requests that end in a step follow from what is noted of the modes along it, and what is told from these.
 use Rattle.std.proofs.Common.{◌≡◌, ℕ, ◌+◌, ◌<◌, List, [], ◌∷◌, ◌++◌, length, Option, Some, None, refl, ap, ◌∙◌, inl, inr, arith}
 use Rattle.std.specs.Prelude.{option_map, unwrap_or}
 use Rattle.std.proofs.lemmas.Option.{slice_get_cases}
@@ -21,20 +20,20 @@ use Rattle.pm_core.specs.declared.judgement.Asked.{Asked}
 use Rattle.pm_core.specs.declared.step.Heard.{Heard}
 use Rattle.pm_core.specs.declared.telling.Telling.{Telling}
 use Rattle.pm_core.specs.Callbacks.{News, called_back, callbacks, callbacks_from, mailed, mails_from}
-use Rattle.pm_core.specs.Ended.{ended_at, ended_from, turns_along, turns_of}
-use Rattle.pm_core.specs.Heard.{aborts_in, asks_in, kept_of, registers_in}
+use Rattle.pm_core.specs.Ended.{ended_at, ended_from, turns_along}
+use Rattle.pm_core.specs.Heard.{aborts_in, asks_in, kept_of, registers_in, pulse_in, renews_in}
 use Rattle.pm_core.specs.Members.{mode_of_master}
+use Rattle.pm_core.specs.Along.{Trail, IsTrail, mode_noted, modes_of, turns_noted}
 use Rattle.pm_core.specs.Outcome.{Outcome}
 use Rattle.pm_core.specs.Prims.{Prim, applies, changed}
 use Rattle.pm_core.specs.Stages.{after_stage, after_stages, follow, last_of, path_from}
 use Rattle.pm_core.specs.State.{Fixed, Now, State, in_force}
-use Rattle.pm_core.specs.Step.{aborts, aborts_of, asks, asks_of, effect, ended, forgets, heard_by, heard_of, mail_after, modes_in, news, notices, opening, path, registers, registers_of, stages, talk, tellings, time_of, verdict}
+use Rattle.pm_core.specs.Step.{aborts, aborts_of, asks, asks_of, effect, ended, forgets, heard_by, heard_of, mail_after, modes_in, news, notices, opening, path, registers, registers_of, pulse, pulse_of, renews, renews_of, stages, talk, tellings, time_of, verdict}
 use Rattle.pm_core.specs.Caches.{AreKept}
 use Rattle.pm_core.specs.declared.caches.Caches.{Caches}
 use Rattle.pm_core.specs.Talk.{Talk, forget_at, forgets_from, talk_of, talked}
-use Rattle.pm_core.specs.Telling.{mode_beside, mode_noted, modes_of, news_in, opening_in, turns_since}
-use Rattle.pm_core.proofs.PlacedLemmas.{slice_get-placed}
-use Rattle.pm_core.proofs.StepLaw.{HasOneAtMost, stages_once}
+use Rattle.pm_core.specs.Telling.{news_in, opening_in, turns_in}
+use Rattle.pm_core.proofs.AlongLaw.{mode_is}
 
 -- ---- the stages leave what the masters are told
 
@@ -53,37 +52,6 @@ path_talk (stage ∷ stages) book = path_talk stages (after_stage stage book) �
 pub stages_talk : (stages : List (List Prim)) (book : State) → (after_stages stages book).now.talk ≡ book.now.talk
 stages_talk stages book = path_talk stages book
 
--- ---- what becomes of the modes
-
--- a mode that stays turns into nothing
-same_turns : (mode : Mode) → turns_of mode (mode ∷ []) ≡ turns_of mode []
-same_turns Off = refl
-same_turns Active = refl
-same_turns Asleep = refl
-same_turns Suspending = refl
-
-turns_once : (stages : List (List Prim)) (book : State) (m : ℕ) → HasOneAtMost stages
-    → turns_of (mode_of_master book.fixed book.now.core m) (mode_of_master book.fixed (last_of book (path_from stages book)).now.core m ∷ [])
-    ≡ turns_along book (path_from stages book) m
-turns_once [] book m once = same_turns (mode_of_master book.fixed book.now.core m)
-turns_once (stage ∷ []) book m once = refl
-turns_once (stage ∷ (next ∷ later)) book m once = cc
-
-noted : (book : State) (m : ℕ) → m < length (in_force book).masters → mode_noted (modes_of book) m ≡ mode_of_master book.fixed book.now.core m
-noted book m within = elim ((slice_get_cases (in_force book).masters m).1) [
-  | inl here ↦
-      ap (λ o. unwrap_or o Off)
-      (slice_get-placed (mode_beside book) 0 (in_force book).masters m m (omega arith) ∙ ap (option_map (mode_beside book m)) here.2)
-  | inr past ↦ absurd (omega (arith, within, past.0))
-]
-
-turns_noted : (event : Event) (old new : State) (modes : List Mode) (m : ℕ) → new ≡ after_stages (stages event old) old → modes ≡ modes_of old → m < length (in_force old).masters → turns_since modes new m ≡ turns_along old (path event old) m
-turns_noted event old new modes m is modes_are within =
-    ap (λ ms. turns_since ms new m) modes_are
-    ∙ (ap (λ (b : State). turns_since (modes_of old) b m) is
-    ∙ (ap (λ mode. turns_of mode (mode_of_master old.fixed (after_stages (stages event old) old).now.core m ∷ [])) (noted old m within)
-    ∙ turns_once (stages event old) old m (stages_once event old)))
-
 -- ---- the ends
 
 ended_alike : (f g : ℕ → Turns) (aborts count : Option ℕ) (m : ℕ) (pending : List (Option Pending)) → ((k : ℕ) → k < m + length pending → f k ≡ g k) → ended_from f aborts count m pending ≡ ended_from g aborts count m pending
@@ -92,14 +60,15 @@ ended_alike f g aborts count m (request ∷ pending) alike =
     ap (λ turns. ended_at turns aborts count m request ++ ended_from f aborts count (m + 1) pending) (alike m (omega arith))
     ∙ ap (λ later. ended_at (g m) aborts count m request ++ later) (ended_alike f g aborts count (m + 1) pending (λ k below. alike k (omega (arith, below))))
 
--- the requests that end in a step, by what was noted of the modes before it
-pub ended_noted : (event : Event) (old new : State) (modes : List Mode) → new ≡ after_stages (stages event old) old → modes ≡ modes_of old → length old.now.talk.pending ≡ length (in_force old).masters
-    → ended_from (turns_since modes new) (aborts event old) (time_of event) 0 new.now.talk.pending ≡ ended event old
-ended_noted event old new modes is modes_are each =
+-- the requests that end in a step, by what was noted along it
+pub ended_noted : (event : Event) (old new : State) (along : Trail) → new ≡ after_stages (stages event old) old → IsTrail old (path event old) along → length old.now.talk.pending ≡ length (in_force old).masters
+    → ended_from (λ m. turns_noted m along.turns) (aborts event old) (time_of event old) 0 new.now.talk.pending ≡ ended event old
+ended_noted event old new along is trailed each =
+    let turns : ℕ → Turns = λ m. turns_noted m along.turns in
     let talk : new.now.talk.pending ≡ old.now.talk.pending = ap (λ (b : State). b.now.talk.pending) is ∙ ap (λ t. t.pending) (stages_talk (stages event old) old) in
-    ap (λ pending. ended_from (turns_since modes new) (aborts event old) (time_of event) 0 pending) talk
-    ∙ ended_alike (turns_since modes new) (turns_along old (path event old)) (aborts event old) (time_of event) 0 old.now.talk.pending
-    (λ k below. turns_noted event old new modes k is modes_are (omega (arith, below, each)))
+    ap (λ pending. ended_from turns (aborts event old) (time_of event old) 0 pending) talk
+    ∙ ended_alike turns (turns_along old (path event old)) (aborts event old) (time_of event old) 0 old.now.talk.pending
+    (λ k below. trailed.turns k (omega (arith, below, each)))
 
 -- the masters that forget
 forgets_alike : (f g : ℕ → Turns) (m : ℕ) (masters : List MasterRec) → ((k : ℕ) → k < m + length masters → f k ≡ g k) → forgets_from f m masters ≡ forgets_from g m masters
@@ -108,11 +77,11 @@ forgets_alike f g m (x ∷ masters) alike =
     ap (λ turns. forget_at turns m ++ forgets_from f (m + 1) masters) (alike m (omega arith))
     ∙ ap (λ later. forget_at (g m) m ++ later) (forgets_alike f g (m + 1) masters (λ k below. alike k (omega (arith, below))))
 
-forgets_noted : (event : Event) (old : State) (modes : List Mode) → modes ≡ modes_of old
-    → forgets_from (turns_since modes (after_stages (stages event old) old)) 0 (in_force old).masters ≡ forgets event old
-forgets_noted event old modes modes_are =
-    forgets_alike (turns_since modes (after_stages (stages event old) old)) (turns_along old (path event old)) 0 (in_force old).masters
-    (λ k below. turns_noted event old (after_stages (stages event old) old) modes k refl modes_are (omega (arith, below)))
+forgets_noted : (event : Event) (old : State) (along : Trail) → IsTrail old (path event old) along
+    → forgets_from (λ m. turns_noted m along.turns) 0 (in_force old).masters ≡ forgets event old
+forgets_noted event old along trailed =
+    forgets_alike (λ m. turns_noted m along.turns) (turns_along old (path event old)) 0 (in_force old).masters
+    (λ k below. trailed.turns k (omega (arith, below)))
 
 -- ---- what is told in a step
 
@@ -127,6 +96,10 @@ aborts_by master call (Some outcome) = refl
 registers_by : (master : NodeId) (call : Call) (outcome : Option Outcome) → registers_in (heard_by master call outcome) ≡ registers_of outcome
 registers_by master call None = refl
 registers_by master call (Some outcome) = refl
+
+pulse_by : (master : NodeId) (call : Call) (outcome : Option Outcome) → pulse_in (heard_by master call outcome) ≡ pulse_of outcome
+pulse_by master call None = refl
+pulse_by master call (Some outcome) = refl
 
 asks_heard : (event : Event) (book : State) → asks_in (heard_of event book) ≡ asks event book
 asks_heard (Ipi master message) book = asks_by master (call_of message) (verdict master message book)
@@ -157,32 +130,51 @@ calls_alike news f g mail after k (x ∷ masters) alike =
     (calls_alike news f g mail after (k + 1) masters (λ j below. alike j (omega (arith, below))))
 
 was_noted : (book : State) (modes : List Mode) → modes ≡ modes_of book → (k : ℕ) → k < 0 + length (in_force book).masters → mode_noted modes k ≡ modes_in book k
-was_noted book modes are k below = ap (λ ms. mode_noted ms k) are ∙ noted book k (omega (arith, below))
+was_noted book modes are k below = ap (λ ms. mode_noted ms k) are ∙ mode_is book k (omega (arith, below))
+
+pub pulse_heard : (event : Event) (book : State) → pulse_in (heard_of event book) ≡ pulse event book
+pulse_heard (Ipi master message) book = pulse_by master (call_of message) (verdict master message book)
+pulse_heard _ book = refl
+
+renews_by : (master : NodeId) (call : Call) (outcome : Option Outcome) → renews_in (heard_by master call outcome) ≡ renews_of outcome
+renews_by master call None = refl
+renews_by master call (Some outcome) = refl
+
+renews_heard : (event : Event) (book : State) → renews_in (heard_of event book) ≡ renews event book
+renews_heard (Ipi master message) book = renews_by master (call_of message) (verdict master message book)
+renews_heard _ book = refl
 
 -- what is kept of a step until the masters are told of it
-pub record IsNoted (event : Event) (old mid : State) (heard : Heard) (telling : Telling) : Type 0 where
+pub record IsNoted (event : Event) (old mid : State) (heard : Heard) (count : Option ℕ) (telling : Telling) : Type 0 where
   pub mid_is : mid ≡ after_stages (stages event old) old
   pub heard_is : heard ≡ heard_of event old
+  pub count_is : count ≡ time_of event old
   pub modes_are : telling.modes.items ≡ modes_of old
+  pub along_is : IsTrail old (path event old) telling.along
   pub asks_are : telling.asks ≡ asks_in heard
-  pub ended_are : telling.ended.items ≡ ended_from (turns_since telling.modes.items mid) (aborts_in heard) (time_of event) 0 mid.now.talk.pending
+  pub ended_are : telling.ended.items ≡ ended_from (turns_in telling) (aborts_in heard) count 0 mid.now.talk.pending
   pub notices_are : telling.notices.items ≡ notices event old
 
 abbrev news_of : Option Asked → List Ended → List Waiting → News
 news_of asked ended notices = record { asked = asked; ended = ended; notices = notices }
 
-module _ (event : Event) (old mid : State) (heard : Heard) (telling : Telling) (is : IsNoted event old mid heard telling) (each : length old.now.talk.pending ≡ length (in_force old).masters) where
+module _ (event : Event) (old mid : State) (heard : Heard) (count : Option ℕ) (telling : Telling) (is : IsNoted event old mid heard count telling) (each : length old.now.talk.pending ≡ length (in_force old).masters) where
   abbrev pub after : State
   after = after_stages (stages event old) old
 
   abbrev pub modes : List Mode
   modes = telling.modes.items
 
+  -- what is done first, as it was noted
+  abbrev pub first_noted : List Talk
+  first_noted = opening_in telling (renews_in heard) (registers_in heard) count mid
+
   ended_is : telling.ended.items ≡ ended event old
   ended_is =
       is.ended_are
-      ∙ (ap (λ a. ended_from (turns_since modes mid) a (time_of event) 0 mid.now.talk.pending) (ap aborts_in is.heard_is ∙ aborts_heard event old)
-      ∙ ended_noted event old mid modes is.mid_is is.modes_are each)
+      ∙ (ap (λ a. ended_from (turns_in telling) a count 0 mid.now.talk.pending) (ap aborts_in is.heard_is ∙ aborts_heard event old)
+      ∙ (ap (λ n. ended_from (turns_in telling) (aborts event old) n 0 mid.now.talk.pending) is.count_is
+      ∙ ended_noted event old mid telling.along is.mid_is is.along_is each))
 
   asks_is : telling.asks ≡ asks event old
   asks_is = is.asks_are ∙ (ap asks_in is.heard_is ∙ asks_heard event old)
@@ -193,50 +185,56 @@ module _ (event : Event) (old mid : State) (heard : Heard) (telling : Telling) (
       ∙ (ap (λ es. news_of (asks event old) es telling.notices.items) ended_is
       ∙ ap (λ ns. news_of (asks event old) (ended event old) ns) is.notices_are)
 
-  first_is : opening_in telling (registers_in heard) (time_of event) mid ≡ opening event old
+  first_is : first_noted ≡ opening event old
   first_is =
-      ap (λ (b : State). opening_in telling (registers_in heard) (time_of event) b) is.mid_is
-      ∙ (ap (λ fs. talk_of fs (registers_in heard) telling.asks (time_of event) telling.ended.items) (forgets_noted event old modes is.modes_are)
-      ∙ (ap (λ r. talk_of (forgets event old) r telling.asks (time_of event) telling.ended.items) (ap registers_in is.heard_is ∙ registers_heard event old)
-      ∙ (ap (λ a. talk_of (forgets event old) (registers event old) a (time_of event) telling.ended.items) asks_is
-      ∙ ap (λ es. talk_of (forgets event old) (registers event old) (asks event old) (time_of event) es) ended_is)))
+      ap (λ (b : State). opening_in telling (renews_in heard) (registers_in heard) count b) is.mid_is
+      ∙ (ap (λ all. talk_of all (forgets_from (turns_in telling) 0 (in_force old).masters) (registers_in heard) telling.asks count telling.ended.items) (ap renews_in is.heard_is ∙ renews_heard event old)
+      ∙ (ap (λ fs. talk_of (renews event old) fs (registers_in heard) telling.asks count telling.ended.items) (forgets_noted event old telling.along is.along_is)
+      ∙ (ap (λ r. talk_of (renews event old) (forgets event old) r telling.asks count telling.ended.items) (ap registers_in is.heard_is ∙ registers_heard event old)
+      ∙ (ap (λ a. talk_of (renews event old) (forgets event old) (registers event old) a count telling.ended.items) asks_is
+      ∙ (ap (λ n. talk_of (renews event old) (forgets event old) (registers event old) (asks event old) n telling.ended.items) is.count_is
+      ∙ ap (λ es. talk_of (renews event old) (forgets event old) (registers event old) (asks event old) (time_of event old) es) ended_is)))))
 
   -- all that is told, as it was noted
-  pub talk_is : tellings (news_in telling) (mode_noted modes) (opening_in telling (registers_in heard) (time_of event) mid) heard mid ≡ talk event old
+  pub talk_is : tellings (news_in telling) (mode_noted modes) first_noted heard mid ≡ talk event old
   talk_is =
-      ap (λ n. tellings n (mode_noted modes) (opening_in telling (registers_in heard) (time_of event) mid) heard mid) news_is
+      ap (λ n. tellings n (mode_noted modes) first_noted heard mid) news_is
       ∙ (ap (λ first. tellings (news event old) (mode_noted modes) first heard mid) first_is
       ∙ (ap (λ h. tellings (news event old) (mode_noted modes) (opening event old) h mid) is.heard_is
       ∙ (ap (λ (b : State). tellings (news event old) (mode_noted modes) (opening event old) (heard_of event old) b) is.mid_is
       ∙ ap (λ told. opening event old ++ (told ++ kept_of (heard_of event old) after))
       (mails_alike (news event old) (mode_noted modes) (modes_in old) (mail_after (opening event old) after) after 0 (in_force old).masters (was_noted old modes is.modes_are)))))
 
-  pub book_is : (new : State) → new ≡ talked (tellings (news_in telling) (mode_noted modes) (opening_in telling (registers_in heard) (time_of event) mid) heard mid) mid → new ≡ effect event old
+  pub book_is : (new : State) → new ≡ talked (tellings (news_in telling) (mode_noted modes) first_noted heard mid) mid → new ≡ effect event old
   book_is new new_is =
       new_is ∙ (ap (λ told. talked told mid) talk_is ∙ ap (λ b. talked (talk event old) b) is.mid_is)
 
   -- the callbacks, as they were noted
-  pub calls_are : (new : State) → new ≡ effect event old → callbacks (news_in telling) (mode_noted modes) (mail_after (opening_in telling (registers_in heard) (time_of event) mid) mid) new ≡ callbacks (news event old) (modes_in old) (mail_after (opening event old) after) (effect event old)
+  pub calls_are : (new : State) → new ≡ effect event old → callbacks (news_in telling) (mode_noted modes) (mail_after first_noted mid) new ≡ callbacks (news event old) (modes_in old) (mail_after (opening event old) after) (effect event old)
   calls_are new new_is =
-      ap (λ n. callbacks n (mode_noted modes) (mail_after (opening_in telling (registers_in heard) (time_of event) mid) mid) new) news_is
+      ap (λ n. callbacks n (mode_noted modes) (mail_after first_noted mid) new) news_is
       ∙ (ap (λ first. callbacks (news event old) (mode_noted modes) (mail_after first mid) new) first_is
       ∙ (ap (λ b. callbacks (news event old) (mode_noted modes) (mail_after (opening event old) b) new) is.mid_is
       ∙ (ap (λ b. callbacks (news event old) (mode_noted modes) (mail_after (opening event old) after) b) new_is
       ∙ calls_alike (news event old) (mode_noted modes) (modes_in old) (mail_after (opening event old) after) (effect event old) 0 (in_force old).masters (was_noted old modes is.modes_are))))
 
 -- the requests that end, the book after a step and the callbacks of it, as they were noted
-pub record IsTold (event : Event) (old mid new : State) (heard : Heard) (telling : Telling) : Type 0 where
+pub record IsTold (event : Event) (old mid new : State) (heard : Heard) (count : Option ℕ) (telling : Telling) : Type 0 where
   pub ended : telling.ended.items ≡ ended event old
   pub book : new ≡ effect event old
-  pub calls : callbacks (news_in telling) (mode_noted telling.modes.items) (mail_after (opening_in telling (registers_in heard) (time_of event) mid) mid) new
+  pub calls : callbacks (news_in telling) (mode_noted telling.modes.items) (mail_after (opening_in telling (renews_in heard) (registers_in heard) count mid) mid) new
       ≡ callbacks (news event old) (modes_in old) (mail_after (opening event old) (after_stages (stages event old) old)) (effect event old)
 
-pub step_told : (event : Event) (old mid new : State) (heard : Heard) (telling : Telling) → IsNoted event old mid heard telling → length old.now.talk.pending ≡ length (in_force old).masters
-    → new ≡ talked (tellings (news_in telling) (mode_noted telling.modes.items) (opening_in telling (registers_in heard) (time_of event) mid) heard mid) mid
-    → IsTold event old mid new heard telling
-step_told event old mid new heard telling is each new_is =
-    let book : new ≡ effect event old = book_is event old mid heard telling is each new new_is in
-    record { ended = ended_is event old mid heard telling is each; book = book; calls = calls_are event old mid heard telling is each new book }
+pub step_told : (event : Event) (old mid new : State) (heard : Heard) (count : Option ℕ) (telling : Telling) → IsNoted event old mid heard count telling → length old.now.talk.pending ≡ length (in_force old).masters
+    → new ≡ talked (tellings (news_in telling) (mode_noted telling.modes.items) (opening_in telling (renews_in heard) (registers_in heard) count mid) heard mid) mid
+    → IsTold event old mid new heard count telling
+step_told event old mid new heard count telling is each new_is =
+    let book : new ≡ effect event old = book_is event old mid heard count telling is each new new_is in
+    record {
+      ended = ended_is event old mid heard count telling is each;
+      book = book;
+      calls = calls_are event old mid heard count telling is each new book;
+    }
 
 -- what is kept of the values stays right, whatever is told
 pub kept_talked : (changes : List Talk) (book : State) (caches : Caches) → AreKept book caches → AreKept (talked changes book) caches

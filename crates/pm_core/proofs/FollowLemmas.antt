@@ -19,6 +19,10 @@ pub applies_append : (fixed : Fixed) (first later : List Prim) (now : Now) → a
 applies_append fixed [] later now = refl
 applies_append fixed (prim ∷ first) later now = applies_append fixed first later (apply fixed prim now)
 
+pub changed_step : (prims rest : List Prim) (book next : State) → next ≡ changed prims book → changed rest next ≡ changed (prims ++ rest) book
+changed_step prims rest book next is =
+    ap (changed rest) is ∙ ap (λ (now : Now). record book { now = now }) (sym (applies_append book.fixed prims rest book.now))
+
 -- another master's mode stays where one is set
 pub other_mode : (modes : List Mode) (m k : ℕ) (to : Mode) → k ≢ m → mode_in k (slice_set modes m to) ≡ mode_in k modes
 other_mode modes m k to other =

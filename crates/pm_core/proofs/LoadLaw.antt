@@ -19,7 +19,8 @@ use Rattle.pm_topology.specs.declared.topology.SlaveDef.{SlaveDef}
 use Rattle.pm_topology.specs.declared.topology.Topology.{Topology}
 use Rattle.pm_perms.specs.Permits.{mask_has, slave_record}
 use Rattle.pm_procs.specs.declared.procs.Proc.{Proc}
-use Rattle.pm_procs.specs.Procs.{all_off, has_member, master_mode_in, members_at, mode_at, off}
+use Rattle.pm_procs.specs.Procs.{all_off, all_turned_off, has_member, master_mode_in, members_at, mode_at, off}
+use Rattle.pm_resets.specs.Resets.{all_released, is_asserted}
 use Rattle.pm_rows.specs.Modes.{mode_in, loaded_modes}
 use Rattle.pm_rows.specs.Rows.{has_all}
 use Rattle.pm_rows.specs.Sound.{IsLoadable}
@@ -27,9 +28,10 @@ use Rattle.pm_base.proofs.Bits.{has_none}
 use Rattle.pm_base.proofs.Booleans.{first_passes}
 use Rattle.pm_core.specs.Boot.{active_at_load, boot_master, boot_proc}
 use Rattle.pm_core.specs.Choice.{all_of}
-use Rattle.pm_core.specs.Load.{load_of, procs_with}
+use Rattle.pm_core.specs.Load.{load_of}
 use Rattle.pm_core.specs.Members.{is_place, members_of, owner_at}
 use Rattle.pm_core.specs.Pairs.{cut_to, has_use_flag, pairs_from, pairs_of, pairs_of_masters, pairs_on, preallocation, preset_by, seed_of, current_by}
+use Rattle.pm_core.specs.Prims.{procs_with}
 use Rattle.pm_core.specs.Sound.{IsSound}
 use Rattle.pm_core.proofs.Each.{Each-append}
 use Rattle.pm_core.proofs.MembersLaw.{Owns, members_owned, one_owner}
@@ -114,9 +116,10 @@ pub record ModeLaws : Type 0 where
   pub off : (m : ℕ) (members : List (List ℕ)) (procs : List Proc)
       → ((p : ℕ) → has_member m p members ≡ true → mode_at p procs ≡ Off) → master_mode_in m members procs ≡ Off
   pub load : (m count : ℕ) (members : List (List ℕ)) → master_mode_in m members (all_off count) ≡ Off
+  pub restart : (procs : List Proc) → all_turned_off procs ≡ all_off (length procs)
 
 -- each of these is the same, and so is what stands for one past the end
-get_or-replicate_any : {X : Type 0} (x : X) (count k : ℕ) → get_or (replicate count x) k x ≡ x
+pub get_or-replicate_any : {X : Type 0} (x : X) (count k : ℕ) → get_or (replicate count x) k x ≡ x
 get_or-replicate_any x zero k = refl
 get_or-replicate_any x (suc count) zero = refl
 get_or-replicate_any x (suc count) (suc k) = get_or-replicate_any x count k
@@ -189,6 +192,9 @@ nobody_up object t (Some p) is q nobody =
     let boot : Owns object t 0 p = members_owned object t 0 p (first_member p (members_at 0 (members_of object t)) is) in
     boot_down (length t.procs) p q (λ same. unowned (owner_at object t p) (rw (← same) nobody) boot.own)
 
+none_asserted : (count l : ℕ) → is_asserted l (all_released count) ≡ false
+none_asserted count l = unwrap_or-slice_get (all_released count) l false ∙ get_or-replicate_any false count l
+
 -- the book at load
 pub load_sound : RowLaws → ModeLaws → RequestLaws → OrderLaws → (object : Object) (topology : Topology) → IsSound (load_of object topology)
 load_sound rows modes requests orders object topology =
@@ -197,6 +203,7 @@ load_sound rows modes requests orders object topology =
     record {
       rows = rows.load masters boot (pairs_of object topology) (λ m s. pairs_once m s object topology) (pairs_loadable object topology);
       knows = record {
+        boot = refl;
         each = length-set (replicate masters Off) boot Active ∙ length-replicate masters Off;
         right = modes_right modes object topology (boot_proc object topology) refl;
       };
@@ -204,6 +211,7 @@ load_sound rows modes requests orders object topology =
         each = counted (boot_proc object topology) (length topology.procs);
         nobodys = nobody_up object topology (boot_proc object topology) refl;
       };
+      lines = record { each = length-replicate (length topology.lines) false; nobodys = λ l line is none. none_asserted (length topology.lines) l };
       armed = load_arms (record { object = object; topology = topology }) (pairs_of object topology);
       pending = none_named requests (record { object = object; topology = topology });
       mail = load_mails orders topology masters;

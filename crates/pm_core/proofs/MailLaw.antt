@@ -1,7 +1,7 @@
 -- What is told to one master leaves the mail of all others, and what it asked for; and all mail is about the units of the chip.
-use Rattle.std.proofs.Common.{◌≡◌, ◌≢◌, ℕ, ◌<◌, ◌+◌, ◌++◌, Bool, true, false, if◌then◌else◌, List, [], ◌∷◌, length, map, refl, sym, ◌∙◌, ap}
+use Rattle.std.proofs.Common.{◌≡◌, ◌≢◌, ℕ, ◌++◌, if◌then◌else◌, List, [], ◌∷◌, map, refl, ◌∙◌, ap}
 use Rattle.std.specs.Prelude.{flat_map}
-use Rattle.std.proofs.lemmas.List.{length-set, length-replicate}
+use Rattle.std.proofs.lemmas.List.{length-map, length-set, length-replicate}
 use Rattle.pm_base.specs.declared.names.Mode.{Mode}
 use Rattle.pm_base.specs.declared.names.Mode.TheVariants.{Off, Active, Asleep, Suspending}
 use Rattle.pm_base.specs.declared.names.NodeId.{NodeId}
@@ -20,7 +20,7 @@ use Rattle.pm_topology.specs.Units.{units_of}
 use Rattle.pm_core.specs.Callbacks.{News, acknowledged_to, is_wanted, mailed, noticed_by, notes_to, told_at_wake}
 use Rattle.pm_core.specs.Sound.{AreMails}
 use Rattle.pm_core.specs.State.{TalkHalf}
-use Rattle.pm_core.specs.Talk.{Talk, Ask, Lower, End, Forget, Notify, Take, Wait, apply_talk, take_of, talks, wait_of}
+use Rattle.pm_core.specs.Talk.{Talk, Ask, Lower, End, Forget, Notify, Take, Wait, Renew, apply_talk, take_of, talks, wait_of}
 
 -- ---- the mail of each master is about the units of the chip
 
@@ -43,6 +43,10 @@ change_mails laws t masters (Take m node note) half mails = record {
 change_mails laws t masters (Wait m node note) half mails = record {
   each = length-set half.mail m (with_note node note (mail_of m half.mail)) ∙ mails.each;
   units = λ k within. laws.waits m node note half.mail k ∙ mails.units k within;
+}
+change_mails laws t masters Renew half mails = record {
+  each = length-map half.mail forgotten ∙ mails.each;
+  units = λ k within. laws.restarts half.mail k ∙ mails.units k within;
 }
 
 pub talk_mails : OrderLaws → (t : Topology) (masters : ℕ) (changes : List Talk) (half : TalkHalf) → AreMails t masters half.mail → AreMails t masters (talks changes half).mail

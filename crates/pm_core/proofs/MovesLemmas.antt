@@ -4,8 +4,8 @@ use Rattle.std.specs.Prelude.{filter}
 use Rattle.std.proofs.lemmas.Option.{slice_get_cases}
 use Rattle.pm_base.proofs.ListLemmas.{drop_found}
 use Rattle.pm_base.specs.declared.names.Unit.{Unit}
-use Rattle.pm_topology.specs.declared.places.Kind.{Kind}
 use Rattle.pm_topology.specs.UnitMap.{with_value_at, units_in}
+use Rattle.pm_core.specs.declared.caches.UnitKind.{UnitKind}
 use Rattle.pm_core.specs.Caches.{revalued, moved_at, moved_by}
 
 take_written : {T : Type 0} (k : ℕ) (value : T) (es : List (Unit × T)) (e : Unit × T) → slice_get es k ≡ Some e → take (suc k) (with_value_at k value es) ≡ take k es ++ (e.0, value) ∷ []
@@ -39,7 +39,7 @@ length-moved_at value e items new is =
     omega arith
 
 -- what the turn of the loop at place k does to the values, where this entry stands
-values_at : (new : Kind → ℕ) (kinds : List Kind) (k : ℕ) (kind : Kind) (es : List (Unit × ℕ)) (e : Unit × ℕ) → slice_get kinds k ≡ Some kind → slice_get es k ≡ Some e → take (suc k) (with_value_at k (new kind) es) ++ revalued new (drop (suc k) kinds) (drop (suc k) (with_value_at k (new kind) es)) ≡ take k es ++ revalued new (drop k kinds) (drop k es)
+values_at : (new : UnitKind → ℕ) (kinds : List UnitKind) (k : ℕ) (kind : UnitKind) (es : List (Unit × ℕ)) (e : Unit × ℕ) → slice_get kinds k ≡ Some kind → slice_get es k ≡ Some e → take (suc k) (with_value_at k (new kind) es) ++ revalued new (drop (suc k) kinds) (drop (suc k) (with_value_at k (new kind) es)) ≡ take k es ++ revalued new (drop k kinds) (drop k es)
 values_at new kinds k kind es e at here =
     let next : k + 1 ≡ suc k = omega arith in
     let front : take (suc k) (with_value_at k (new kind) es) ≡ take k es ++ (e.0, new kind) ∷ [] = take_written k (new kind) es e here in
@@ -52,7 +52,7 @@ values_at new kinds k kind es e at here =
     ∙ (ap (λ ys. take k es ++ revalued new (kind ∷ drop (suc k) kinds) ys) (sym left)
     ∙ ap (λ ks. take k es ++ revalued new ks (drop k es)) (sym kinds_left))))
 
-pub values_step : (new : Kind → ℕ) (kinds : List Kind) (k : ℕ) (kind : Kind) (es : List (Unit × ℕ)) (whole : List (Unit × ℕ)) → slice_get kinds k ≡ Some kind → k < length es → take k es ++ revalued new (drop k kinds) (drop k es) ≡ whole → take (k + 1) (with_value_at k (new kind) es) ++ revalued new (drop (k + 1) kinds) (drop (k + 1) (with_value_at k (new kind) es)) ≡ whole
+pub values_step : (new : UnitKind → ℕ) (kinds : List UnitKind) (k : ℕ) (kind : UnitKind) (es : List (Unit × ℕ)) (whole : List (Unit × ℕ)) → slice_get kinds k ≡ Some kind → k < length es → take k es ++ revalued new (drop k kinds) (drop k es) ≡ whole → take (k + 1) (with_value_at k (new kind) es) ++ revalued new (drop (k + 1) kinds) (drop (k + 1) (with_value_at k (new kind) es)) ≡ whole
 values_step new kinds k kind es whole at within before =
     let next : suc k ≡ k + 1 = omega arith in
     let P : ℕ → Type 0 = λ n. take n (with_value_at k (new kind) es) ++ revalued new (drop n kinds) (drop n (with_value_at k (new kind) es)) ≡ whole in
@@ -62,7 +62,7 @@ values_step new kinds k kind es whole at within before =
     ]
 
 -- what it does to the units that moved
-moves_at : (new : Kind → ℕ) (kinds : List Kind) (k : ℕ) (kind : Kind) (es : List (Unit × ℕ)) (e : Unit × ℕ) (items : List Unit) → slice_get kinds k ≡ Some kind → slice_get es k ≡ Some e → (items ++ moved_at (new kind) (slice_get es k)) ++ moved_by new (drop (suc k) kinds) (drop (suc k) (with_value_at k (new kind) es)) ≡ items ++ moved_by new (drop k kinds) (drop k es)
+moves_at : (new : UnitKind → ℕ) (kinds : List UnitKind) (k : ℕ) (kind : UnitKind) (es : List (Unit × ℕ)) (e : Unit × ℕ) (items : List Unit) → slice_get kinds k ≡ Some kind → slice_get es k ≡ Some e → (items ++ moved_at (new kind) (slice_get es k)) ++ moved_by new (drop (suc k) kinds) (drop (suc k) (with_value_at k (new kind) es)) ≡ items ++ moved_by new (drop k kinds) (drop k es)
 moves_at new kinds k kind es e items at here =
     let next : k + 1 ≡ suc k = omega arith in
     let back : drop (suc k) (with_value_at k (new kind) es) ≡ drop (suc k) es = drop_written k (new kind) es in
@@ -74,7 +74,7 @@ moves_at new kinds k kind es e items at here =
     ∙ (ap (λ ys. items ++ moved_by new (kind ∷ drop (suc k) kinds) ys) (sym left)
     ∙ ap (λ ks. items ++ moved_by new ks (drop k es)) (sym kinds_left))))
 
-pub moves_step : (new : Kind → ℕ) (kinds : List Kind) (k : ℕ) (kind : Kind) (es : List (Unit × ℕ)) (items whole : List Unit) → slice_get kinds k ≡ Some kind → k < length es → items ++ moved_by new (drop k kinds) (drop k es) ≡ whole → (items ++ moved_at (new kind) (slice_get es k)) ++ moved_by new (drop (k + 1) kinds) (drop (k + 1) (with_value_at k (new kind) es)) ≡ whole
+pub moves_step : (new : UnitKind → ℕ) (kinds : List UnitKind) (k : ℕ) (kind : UnitKind) (es : List (Unit × ℕ)) (items whole : List Unit) → slice_get kinds k ≡ Some kind → k < length es → items ++ moved_by new (drop k kinds) (drop k es) ≡ whole → (items ++ moved_at (new kind) (slice_get es k)) ++ moved_by new (drop (k + 1) kinds) (drop (k + 1) (with_value_at k (new kind) es)) ≡ whole
 moves_step new kinds k kind es items whole at within before =
     let next : suc k ≡ k + 1 = omega arith in
     let P : ℕ → Type 0 = λ n. (items ++ moved_at (new kind) (slice_get es k)) ++ moved_by new (drop n kinds) (drop n (with_value_at k (new kind) es)) ≡ whole in
@@ -84,7 +84,7 @@ moves_step new kinds k kind es items whole at within before =
     ]
 
 -- all of a table
-pub revalued_all : (new : Kind → ℕ) (kind_in : Unit → Kind) (es : List (Unit × ℕ)) → revalued new (map kind_in (units_in es)) es ≡ map (λ u. (u, new (kind_in u))) (units_in es)
+pub revalued_all : (new : UnitKind → ℕ) (kind_in : Unit → UnitKind) (es : List (Unit × ℕ)) → revalued new (map kind_in (units_in es)) es ≡ map (λ u. (u, new (kind_in u))) (units_in es)
 revalued_all new kind_in [] = refl
 revalued_all new kind_in (e ∷ es) = ap (λ xs. (e.0, new (kind_in e.0)) ∷ xs) (revalued_all new kind_in es)
 
@@ -93,7 +93,7 @@ one_moves true u later = refl
 one_moves false u later = refl
 
 -- the units that move, where the values before are those by a function of the unit
-pub moved_all : (new : Kind → ℕ) (kind_in : Unit → Kind) (before now : Unit → ℕ) → ((u : Unit) → new (kind_in u) ≡ now u) → (us : List Unit) → moved_by new (map kind_in us) (map (λ u. (u, before u)) us) ≡ filter (λ u. not (before u == now u)) us
+pub moved_all : (new : UnitKind → ℕ) (kind_in : Unit → UnitKind) (before now : Unit → ℕ) → ((u : Unit) → new (kind_in u) ≡ now u) → (us : List Unit) → moved_by new (map kind_in us) (map (λ u. (u, before u)) us) ≡ filter (λ u. not (before u == now u)) us
 moved_all new kind_in before now are [] = refl
 moved_all new kind_in before now are (u ∷ us) =
     let later : moved_by new (map kind_in us) (map (λ u. (u, before u)) us) ≡ filter (λ u. not (before u == now u)) us = moved_all new kind_in before now are us in
@@ -107,7 +107,7 @@ valued_same f g same (u ∷ us) =
     ap (λ n. (u, n) ∷ map {B = Unit × ℕ} (λ u. (u, f u)) us) (same u)
     ∙ ap (λ xs. (u, g u) ∷ xs) (valued_same f g same us)
 
-pub moved_by-same : (f g : Kind → ℕ) → ((kind : Kind) → f kind ≡ g kind) → (kinds : List Kind) (es : List (Unit × ℕ)) → moved_by f kinds es ≡ moved_by g kinds es
+pub moved_by-same : (f g : UnitKind → ℕ) → ((kind : UnitKind) → f kind ≡ g kind) → (kinds : List UnitKind) (es : List (Unit × ℕ)) → moved_by f kinds es ≡ moved_by g kinds es
 moved_by-same f g same [] es = refl
 moved_by-same f g same (kind ∷ kinds) [] = refl
 moved_by-same f g same (kind ∷ kinds) (e ∷ es) =

@@ -18,28 +18,27 @@ use Rattle.pm_ipi.specs.declared.calls.Call.{Call}
 use Rattle.pm_ipi.specs.declared.calls.Call.TheVariants.{RequestSuspend}
 use Rattle.pm_procs.specs.declared.pending.Pending.{Pending}
 use Rattle.pm_procs.specs.Modes.{is_awake, same_mode}
-use Rattle.pm_procs.specs.Pending.{all_lowered, asked, ended, lowered, none_pending, pending_at}
+use Rattle.pm_procs.specs.Pending.{all_ended, all_lowered, asked, ended, lowered, none_pending, pending_at}
 use Rattle.pm_core.specs.declared.ended.Ended.{Ended}
 use Rattle.pm_core.specs.declared.ended.Turns.{Turns}
 use Rattle.pm_core.specs.declared.judgement.Asked.{Asked}
 use Rattle.pm_core.specs.declared.judgement.Notifier.{Notifier}
 use Rattle.pm_core.specs.declared.step.Heard.{Heard}
 use Rattle.pm_core.specs.declared.step.Heard.TheVariants.{Nothing, Dropped, Served}
-use Rattle.pm_core.specs.declared.views.Suspendable.{Suspendable}
-use Rattle.pm_core.specs.calls.RequestSuspend.{asked_of, request_suspend_checks}
+use Rattle.pm_core.specs.calls.RequestSuspend.{asked_of}
 use Rattle.pm_core.specs.Callbacks.{News, mailed, mails, mails_from, notes_to, told_at_wake}
 use Rattle.pm_core.specs.Ended.{turns_along}
 use Rattle.pm_core.specs.Heard.{kept_at, kept_of, own_note}
 use Rattle.pm_core.specs.Members.{mode_of_master}
-use Rattle.pm_core.specs.Outcome.{Check, Deed, Outcome, judged}
+use Rattle.pm_core.specs.Outcome.{Check, Deed, judged}
 use Rattle.pm_core.specs.Sound.{AreNamed}
 use Rattle.pm_core.specs.State.{Fixed, State, TalkHalf, in_force}
 use Rattle.pm_core.specs.Stages.{after_stages}
-use Rattle.pm_core.specs.Step.{asks, asks_of, called, heard_at, heard_of, mail_after, modes_in, news, opening, path, registers, stages, talk, time_of, tried_by}
+use Rattle.pm_core.specs.Step.{asks, asks_of, called, heard_at, heard_of, mail_after, modes_in, news, opening, path, registers, stages, is_heard, renews, talk, time_of, tried_by}
 use Rattle.pm_core.specs.Step as step
-use Rattle.pm_core.specs.Talk.{Talk, Ask, Lower, End, Forget, Notify, Take, Wait, apply_talk, ask_of, ends, forget_at, forgets_from, lower_by, notify_by, take_of, talks, wait_of}
+use Rattle.pm_core.specs.Talk.{Talk, Ask, Lower, End, Forget, Notify, Take, Wait, apply_talk, Renew, ask_of, ends, forget_at, forgets_from, lower_by, notify_by, take_of, renew_if, talks, wait_of}
 use Rattle.pm_core.specs.Values.{master_place}
-use Rattle.pm_core.specs.Views.{can_suspend, named_master, suspendable, suspendable_at, suspend_view}
+use Rattle.pm_core.specs.Views.{can_suspend, named_master, suspendable, suspendable_at}
 use Rattle.pm_core.proofs.Each.{Each-append}
 
 -- the laws of what is pending on the masters
@@ -50,6 +49,7 @@ pub record RequestLaws : Type 0 where
   pub ends_one : (m n : ℕ) (pending : List (Option Pending)) → n ≢ m → pending_at n (ended m pending) ≡ pending_at n pending
   pub passes : (m count : ℕ) (pending : List (Option Pending)) → pending_at m (all_lowered count pending) ≡ option_map (lowered count) (pending_at m pending)
   pub load : (m masters : ℕ) → pending_at m (none_pending masters) ≡ None
+  pub renew : (pending : List (Option Pending)) → all_ended pending ≡ none_pending (length pending)
   pub length_asked : (m : ℕ) (request : Pending) (pending : List (Option Pending)) → length (asked m request pending) ≡ length pending
   pub length_ended : (m : ℕ) (pending : List (Option Pending)) → length (ended m pending) ≡ length pending
   pub length_lowered : (count : ℕ) (pending : List (Option Pending)) → length (all_lowered count pending) ≡ length pending
@@ -79,6 +79,7 @@ NamesTarget fixed (Forget m) = ⊤
 NamesTarget fixed (Notify m node event on) = ⊤
 NamesTarget fixed (Take m node note) = ⊤
 NamesTarget fixed (Wait m node note) = ⊤
+NamesTarget fixed Renew = ⊤
 
 one_request : {X : Type 0} (x y : X) → Some x ≡ Some y → x ≡ y
 one_request x y is = cc
@@ -121,6 +122,10 @@ end_keeps laws fixed m pending named = record {
   ];
 }
 
+renew_keeps : RequestLaws → (fixed : Fixed) (pending : List (Option Pending)) → AreNamed fixed pending → AreNamed fixed (all_ended pending)
+renew_keeps laws fixed pending named =
+    subst (λ p. AreNamed fixed p) (sym (laws.renew pending ∙ ap none_pending named.each)) (none_named laws fixed)
+
 -- what is told in a step keeps what is pending sound
 pub talk_keeps : RequestLaws → (fixed : Fixed) (changes : List Talk) (half : TalkHalf) → Each (NamesTarget fixed) changes → AreNamed fixed half.pending → AreNamed fixed (talks changes half).pending
 talk_keeps laws fixed [] half names named = named
@@ -138,6 +143,8 @@ talk_keeps laws fixed (Take m node note ∷ changes) half names named =
     talk_keeps laws fixed changes (apply_talk (Take m node note) half) names.1 named
 talk_keeps laws fixed (Wait m node note ∷ changes) half names named =
     talk_keeps laws fixed changes (apply_talk (Wait m node note) half) names.1 named
+talk_keeps laws fixed (Renew ∷ changes) half names named =
+    talk_keeps laws fixed changes (apply_talk Renew half) names.1 (renew_keeps laws fixed half.pending named)
 
 -- ---- who is asked in a step
 
@@ -171,7 +178,7 @@ heard_means message book m false asked is = cc
 message_means : (message : Message) (book : State) (place : Option ℕ) (asked : Asked) → asks_of (option_and_then (heard_at message book) place) ≡ Some asked → named_master book.fixed asked.request.node ≡ Some asked.target
 message_means message book None asked is = cc
 message_means message book (Some m) asked is =
-    heard_means message book m (is_awake (mode_of_master book.fixed book.now.core m)) asked is
+    heard_means message book m (is_heard m book) asked is
 
 -- the master that is asked is the one that the node of the request names
 pub asks_named : (event : Event) (book : State) (asked : Asked) → asks event book ≡ Some asked → named_master book.fixed asked.request.node ≡ Some asked.target
@@ -243,16 +250,21 @@ kept_names fixed (Served master call judgement) after =
 
 -- ---- the whole step
 
+renew_names : (fixed : Fixed) (renews : Bool) (later : List Talk) → Each (NamesTarget fixed) later → Each (NamesTarget fixed) (renew_if renews ++ later)
+renew_names fixed true later each = (tt, each)
+renew_names fixed false later each = each
+
 opening_named : (event : Event) (book : State) → Each (NamesTarget book.fixed) (opening event book)
 opening_named event book =
     let fixed : Fixed = book.fixed in
-    let rest : List Talk = lower_by (time_of event) ++ ends (step.ended event book) in
-    Each-append (NamesTarget fixed) (step.forgets event book) (notify_by (registers event book) ++ (ask_of (asks event book) ++ rest))
+    let rest : List Talk = lower_by (time_of event book) ++ ends (step.ended event book) in
+    renew_names fixed (renews event book) (step.forgets event book ++ (notify_by (registers event book) ++ (ask_of (asks event book) ++ rest)))
+    (Each-append (NamesTarget fixed) (step.forgets event book) (notify_by (registers event book) ++ (ask_of (asks event book) ++ rest))
     (forgets_name fixed (turns_along book (path event book)) 0 (in_force book).masters)
     (Each-append (NamesTarget fixed) (notify_by (registers event book)) (ask_of (asks event book) ++ rest)
     (notify_names fixed (registers event book))
     (ask_names fixed (asks event book) (asks_named event book) rest
-    (lower_names fixed (time_of event) (ends (step.ended event book)) (ends_name fixed (step.ended event book)))))
+    (lower_names fixed (time_of event book) (ends (step.ended event book)) (ends_name fixed (step.ended event book))))))
 
 -- what is told in a step asks only a master that is named
 pub talk_named : (event : Event) (book : State) → Each (NamesTarget book.fixed) (talk event book)

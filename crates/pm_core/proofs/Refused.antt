@@ -19,6 +19,7 @@ use Rattle.pm_notify.specs.Notify.{mail_of}
 use Rattle.pm_object.specs.declared.object.MasterRec.{MasterRec}
 use Rattle.pm_procs.specs.Modes.{is_awake, same_mode}
 use Rattle.pm_procs.specs.declared.pending.Pending.{Pending}
+use Rattle.pm_base.proofs.Booleans.{both}
 use Rattle.pm_core.specs.declared.ended.Ended.{Ended}
 use Rattle.pm_core.specs.declared.judgement.Asked.{Asked}
 use Rattle.pm_core.specs.declared.judgement.Notifier.{Notifier}
@@ -32,7 +33,7 @@ use Rattle.pm_core.specs.Outcome.{Check, Deed, Outcome, judged}
 use Rattle.pm_core.specs.Prims.{Prim}
 use Rattle.pm_core.specs.Stages.{after_stages, path_from}
 use Rattle.pm_core.specs.State.{State, in_force}
-use Rattle.pm_core.specs.Step.{called, tried_by, heard_at, heard_by, verdict, stages_of, asks_of, aborts_of, registers_of, effect, is_refusal, is_refused, modes_in, tellings}
+use Rattle.pm_core.specs.Step.{called, tried_by, heard_at, heard_by, verdict, stages_of, asks_of, aborts_of, registers_of, renews_of, effect, is_heard, is_refusal, is_refused, modes_in, tellings}
 use Rattle.pm_core.specs.Talk.{Talk, forgets_from, talk_of, talked, wait_of}
 use Rattle.pm_core.specs.Units.{units}
 use Rattle.pm_core.specs.Values.{master_place, value}
@@ -43,21 +44,22 @@ record DoesNothing (outcome : Option Outcome) : Type 0 where
   pub asks : asks_of outcome ≡ None
   pub aborts : aborts_of outcome ≡ None
   pub registers : registers_of outcome ≡ None
+  pub renews : renews_of outcome ≡ false
 
 -- a status other than 0 comes from a check that fails
 judged_refused : (checks : List Check) (deed : Deed) → IsTrue (not ((judged checks deed).judgement.response.status == 0)) → DoesNothing (Some (judged checks deed))
 judged_refused [] deed fails = cc
 judged_refused (None ∷ checks) deed fails = judged_refused checks deed fails
-judged_refused (Some response ∷ checks) deed fails = record { stages = refl; asks = refl; aborts = refl; registers = refl }
+judged_refused (Some response ∷ checks) deed fails = record { stages = refl; asks = refl; aborts = refl; registers = refl; renews = refl }
 
 heard_refused : (message : Message) (book : State) (m : ℕ) (awake : Bool) → IsTrue (is_refusal (if awake then Some (called m (call_of message) book) else None)) → DoesNothing (if awake then Some (called m (call_of message) book) else None)
 heard_refused message book m true fails =
     judged_refused (tried_by m (call_of message) book).checks (tried_by m (call_of message) book).deed fails
-heard_refused message book m false fails = record { stages = refl; asks = refl; aborts = refl; registers = refl }
+heard_refused message book m false fails = record { stages = refl; asks = refl; aborts = refl; registers = refl; renews = refl }
 
 refused_at : (message : Message) (book : State) (place : Option ℕ) → IsTrue (is_refusal (option_and_then (heard_at message book) place)) → DoesNothing (option_and_then (heard_at message book) place)
-refused_at message book None fails = record { stages = refl; asks = refl; aborts = refl; registers = refl }
-refused_at message book (Some m) fails = heard_refused message book m (is_awake (mode_of_master book.fixed book.now.core m)) fails
+refused_at message book None fails = record { stages = refl; asks = refl; aborts = refl; registers = refl; renews = refl }
+refused_at message book (Some m) fails = heard_refused message book m (is_heard m book) fails
 
 -- where no mode changes, nobody aborts and no time passes, no request ends
 none_aborts : (m : ℕ) (request : Option Pending) (before : State) → ended_at (turns_along before [] m) None None m request ≡ []
@@ -118,56 +120,58 @@ kept_awake m Active notes awake = refl
 kept_awake m Asleep notes awake = cc
 kept_awake m Suspending notes awake = refl
 
-kept_heard : (master : NodeId) (call : Call) (book : State) (m : ℕ) (awake : Bool) (outcome : Outcome) → master_place master book ≡ Some m → is_awake (mode_of_master book.fixed book.now.core m) ≡ awake → kept_of (heard_by master call (if awake then Some outcome else None)) book ≡ []
+kept_heard : (master : NodeId) (call : Call) (book : State) (m : ℕ) (awake : Bool) (outcome : Outcome) → master_place master book ≡ Some m → is_heard m book ≡ awake → kept_of (heard_by master call (if awake then Some outcome else None)) book ≡ []
 kept_heard master call book m false outcome place awake = refl
 kept_heard master call book m true outcome place awake =
     let notes : List Waiting = own_note outcome.judgement.asks (ack_of call) (node_of call) outcome.judgement.response.status in
-    ap (λ p. kept_at p notes book) place ∙ kept_awake m (mode_of_master book.fixed book.now.core m) notes awake
+    ap (λ p. kept_at p notes book) place ∙ kept_awake m (mode_of_master book.fixed book.now.core m) notes
+    (both (not book.now.core.halted) (is_awake (mode_of_master book.fixed book.now.core m)) awake).1
 
 none_kept : (master : NodeId) (message : Message) (book : State) (place : Option ℕ) → master_place master book ≡ place → kept_of (heard_by master (call_of message) (option_and_then (heard_at message book) place)) book ≡ []
 none_kept master message book None is = refl
 none_kept master message book (Some m) is =
-    kept_heard master (call_of message) book m (is_awake (mode_of_master book.fixed book.now.core m)) (called m (call_of message) book) is refl
+    kept_heard master (call_of message) book m (is_heard m book) (called m (call_of message) book) is refl
 
 -- all that is told where nothing comes of a message
-abbrev tells : (book : State) (heard : Heard) (stages : List (List Prim)) (asks : Option Asked) (aborts : Option ℕ) (registers : Option Notifier) (ended : List Ended) (notices : List Waiting) → List Talk
-tells book heard stages asks aborts registers ended notices =
+abbrev tells : (book : State) (heard : Heard) (stages : List (List Prim)) (asks : Option Asked) (aborts : Option ℕ) (registers : Option Notifier) (renews : Bool) (ended : List Ended) (notices : List Waiting) → List Talk
+tells book heard stages asks aborts registers renews ended notices =
     tellings (record { asked = asks; ended = ended; notices = notices }) (modes_in book)
-    (talk_of (forgets_from (turns_along book (path_from stages book)) 0 (in_force book).masters) registers asks None ended)
+    (talk_of renews (forgets_from (turns_along book (path_from stages book)) 0 (in_force book).masters) registers asks None ended)
     heard (after_stages stages book)
 
-tells_nothing : (book : State) (heard : Heard) (ended : List Ended) (notices : List Waiting) → ended ≡ [] → notices ≡ [] → kept_of heard book ≡ [] → tells book heard [] None None None ended notices ≡ []
+tells_nothing : (book : State) (heard : Heard) (ended : List Ended) (notices : List Waiting) → ended ≡ [] → notices ≡ [] → kept_of heard book ≡ [] → tells book heard [] None None None false ended notices ≡ []
 tells_nothing book heard ended notices none_ended none_noticed kept =
     let masters : List MasterRec = (in_force book).masters in
     let forgets : List Talk = forgets_from (turns_along book []) 0 masters in
-    ap (λ es. tells book heard [] None None None es notices) none_ended
-    ∙ (ap (λ ns. tells book heard [] None None None [] ns) none_noticed
-    ∙ (ap (λ fs. tellings no_news (modes_in book) (talk_of fs None None None []) heard book) (none_forgets 0 masters book)
+    ap (λ es. tells book heard [] None None None false es notices) none_ended
+    ∙ (ap (λ ns. tells book heard [] None None None false [] ns) none_noticed
+    ∙ (ap (λ fs. tellings no_news (modes_in book) (talk_of false fs None None None []) heard book) (none_forgets 0 masters book)
     ∙ (ap (λ ms. ms ++ kept_of heard book) (none_mailed book book.now.talk.mail 0 masters) ∙ kept)))
 
 -- the book after an outcome of which nothing comes
-abbrev after_with : (book : State) (heard : Heard) (stages : List (List Prim)) (asks : Option Asked) (aborts : Option ℕ) (registers : Option Notifier) → State
-after_with book heard stages asks aborts registers =
-    talked (tells book heard stages asks aborts registers
+abbrev after_with : (book : State) (heard : Heard) (stages : List (List Prim)) (asks : Option Asked) (aborts : Option ℕ) (registers : Option Notifier) (renews : Bool) → State
+after_with book heard stages asks aborts registers renews =
+    talked (tells book heard stages asks aborts registers renews
     (ended_from (turns_along book (path_from stages book)) aborts None 0 book.now.talk.pending)
     (notifications book (after_stages stages book))) (after_stages stages book)
 
-stays : (book : State) (heard : Heard) (stages : List (List Prim)) (asks : Option Asked) (aborts : Option ℕ) (registers : Option Notifier) → stages ≡ [] → asks ≡ None → aborts ≡ None → registers ≡ None → kept_of heard book ≡ []
-    → after_with book heard stages asks aborts registers ≡ book
-stays book heard stages asks aborts registers none no_ask no_abort no_put kept =
-    ap (λ s. after_with book heard s asks aborts registers) none
-    ∙ (ap (λ a. after_with book heard [] a aborts registers) no_ask
-    ∙ (ap (λ a. after_with book heard [] None a registers) no_abort
-    ∙ (ap (λ r. after_with book heard [] None None r) no_put
+stays : (book : State) (heard : Heard) (stages : List (List Prim)) (asks : Option Asked) (aborts : Option ℕ) (registers : Option Notifier) (renews : Bool) → stages ≡ [] → asks ≡ None → aborts ≡ None → registers ≡ None → renews ≡ false → kept_of heard book ≡ []
+    → after_with book heard stages asks aborts registers renews ≡ book
+stays book heard stages asks aborts registers renews none no_ask no_abort no_put no_renewal kept =
+    ap (λ s. after_with book heard s asks aborts registers renews) none
+    ∙ (ap (λ a. after_with book heard [] a aborts registers renews) no_ask
+    ∙ (ap (λ a. after_with book heard [] None a registers renews) no_abort
+    ∙ (ap (λ r. after_with book heard [] None None r renews) no_put
+    ∙ (ap (λ all. after_with book heard [] None None None all) no_renewal
     ∙ ap (λ told. talked told book)
     (tells_nothing book heard (ended_from (turns_along book []) None None 0 book.now.talk.pending) (notifications book book)
-    (none_end 0 book.now.talk.pending book) (none_among book (units book)) kept))))
+    (none_end 0 book.now.talk.pending book) (none_among book (units book)) kept)))))
 
 -- a refused message changes nothing
 pub refused_stays : (event : Event) (book : State) → IsTrue (is_refused event book) → effect event book ≡ book
 refused_stays (Ipi master message) book fails =
     let nothing : DoesNothing (verdict master message book) = refused_at message book (master_place master book) fails in
     let outcome : Option Outcome = verdict master message book in
-    stays book (heard_by master (call_of message) outcome) (stages_of outcome) (asks_of outcome) (aborts_of outcome) (registers_of outcome) nothing.stages nothing.asks nothing.aborts nothing.registers
+    stays book (heard_by master (call_of message) outcome) (stages_of outcome) (asks_of outcome) (aborts_of outcome) (registers_of outcome) (renews_of outcome) nothing.stages nothing.asks nothing.aborts nothing.registers nothing.renews
     (none_kept master message book (master_place master book) refl)
 refused_stays _ book fails = cc

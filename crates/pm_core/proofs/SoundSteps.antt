@@ -10,7 +10,7 @@ use Rattle.pm_base.specs.declared.events.Message.{Message}
 use Rattle.pm_base.specs.declared.names.Mode.{Mode}
 use Rattle.pm_base.specs.declared.names.Mode.TheVariants.{Off, Active, Asleep, Suspending}
 use Rattle.pm_ipi.specs.declared.calls.Call.{Call}
-use Rattle.pm_ipi.specs.declared.calls.Call.TheVariants.{SelfSuspend, AbortSuspend, RequestWakeup, SetWakeupSource, RequestNode, ReleaseNode, SetRequirement, SetMaxLatency, InitFinalize, Unknown as Other}
+use Rattle.pm_ipi.specs.declared.calls.Call.TheVariants.{SelfSuspend, ForcePowerdown, AbortSuspend, RequestWakeup, SetWakeupSource, SystemShutdown, RequestNode, ReleaseNode, SetRequirement, SetMaxLatency, ResetAssert, InitFinalize, Unknown as Other}
 use Rattle.pm_ipi.specs.Calls.{call_of, ack_kind}
 use Rattle.pm_ipi.specs.Status.{invalid_parameter, invalid_node, no_access, no_feature, double_request}
 use Rattle.pm_notify.specs.Laws.{OrderLaws}
@@ -30,7 +30,8 @@ use Rattle.pm_topology.specs.Places.{kind_of}
 use Rattle.pm_core.specs.declared.views.ProcView.{ProcView}
 use Rattle.pm_core.specs.declared.views.RowView.{RowView}
 use Rattle.pm_core.specs.declared.views.WakeView.{WakeView}
-use Rattle.pm_core.specs.Events.{boot_at, boot_by, booted, wait_at, wait_by, waits}
+use Rattle.pm_core.specs.Events.{boot, boot_at, boot_by, booted, interrupt, raised, wait, wait_at, wait_by, waits}
+use Rattle.pm_core.specs.Lines.{line_view}
 use Rattle.pm_core.specs.Members.{mode_of_master, owner_at}
 use Rattle.pm_core.specs.Outcome.{Deed, Check, Tried, judged, outcome_of, done, must, must_be_free}
 use Rattle.pm_core.specs.Prims.{Prim, At_row, Settle, Put_proc}
@@ -39,28 +40,36 @@ use Rattle.pm_core.specs.RowCalls.{changes_of, row_changes, can_have, is_in_use}
 use Rattle.pm_core.specs.Sound.{IsSound, IsBook}
 use Rattle.pm_core.specs.Stages.{after_stage, after_stages}
 use Rattle.pm_core.specs.State.{State, in_force}
-use Rattle.pm_core.specs.Step.{called, tried_by, heard_at, stages_of, stages, talk, effect}
+use Rattle.pm_core.specs.Step.{called, tried_by, heard_at, is_heard, stages_of, stages, talk, effect}
 use Rattle.pm_core.specs.Values.{master_place, slave_place}
 use Rattle.pm_core.specs.Views.{is_asked, row_view_at, proc_view, wake_view, rival_node, master_node}
 use Rattle.pm_core.specs.calls.AbortSuspend.{abort_suspend}
+use Rattle.pm_core.specs.declared.scope.Scope.TheVariants.{Under}
+use Rattle.pm_core.specs.calls.ForcePowerdown.{force_powerdown, force_stages}
 use Rattle.pm_core.specs.calls.InitFinalize.{init_finalize}
 use Rattle.pm_core.specs.calls.ReleaseNode.{release_node}
 use Rattle.pm_core.specs.calls.RequestNode.{request_checks, request_node}
 use Rattle.pm_core.specs.calls.RequestWakeup.{request_wakeup}
+use Rattle.pm_core.specs.calls.ResetAssert.{reset_assert}
 use Rattle.pm_core.specs.calls.SelfSuspend.{self_suspend}
 use Rattle.pm_core.specs.calls.SetMaxLatency.{set_max_latency}
 use Rattle.pm_core.specs.calls.SetRequirement.{set_requirement, set_requirement_checks}
 use Rattle.pm_core.specs.calls.SetWakeupSource.{arming, is_switch, set_wakeup_source, set_wakeup_source_checks}
+use Rattle.pm_core.specs.calls.SystemShutdown.{all_stages, own_stages, system_shutdown}
 use Rattle.std.proofs.lemmas.Bool.{eqb-true}
 use Rattle.pm_base.proofs.Booleans.{both}
 use Rattle.pm_base.proofs.Counts.{split}
 use Rattle.pm_base.specs.declared.names.NodeId.{NodeId}
 use Rattle.pm_core.proofs.ArmedLaw.{MayArm, arming_may}
 use Rattle.pm_core.proofs.Judged.{judged_either, passes, must_passes, free_passes}
+use Rattle.pm_core.proofs.LoadLaw.{ModeLaws}
 use Rattle.pm_core.proofs.RowLaws.{RowLaws}
 use Rattle.pm_core.proofs.MailLaw.{talk_mails}
+use Rattle.pm_core.proofs.ScopeSound.{KeepLaws, all_free, clears_free, offs_free, own_free, stages_kept}
+use Rattle.pm_core.proofs.ShutdownCases.{each_shutdown}
 use Rattle.pm_core.proofs.PendingLaw.{RequestLaws, talk_keeps, talk_named}
 use Rattle.pm_core.proofs.StageLaw.{row, settle, put, stage_keeps, empty_keeps}
+use Rattle.pm_core.proofs.ResetSound.{reset_keeps}
 use Rattle.pm_core.proofs.WakeSound.{raised_keeps, interrupt_keeps, request_keeps}
 
 -- ---- calls
@@ -186,42 +195,52 @@ on_keeps : RowLaws → (m : ℕ) (view : ProcView) (suspending : Bool) (book : S
 on_keeps laws m view true book sound = put_keeps laws m view.place Active (address_in view) book sound
 on_keeps laws m view false book sound = empty_keeps laws book sound
 
-called_keeps : RowLaws → (m : ℕ) (call : Call) (book : State) → IsSound book → IsHeard book m → IsSound (after_stages (called m call book).stages book)
+called_keeps : KeepLaws → (m : ℕ) (call : Call) (book : State) → IsSound book → IsHeard book m → IsSound (after_stages (called m call book).stages book)
 called_keeps laws m (SelfSuspend node address) book sound heard =
     let view : ProcView = proc_view m node book in
-    tried_keeps (self_suspend m address view) book sound (λ passing. put_keeps laws m view.place Suspending address book sound)
+    tried_keeps (self_suspend m address view) book sound (λ passing. put_keeps laws.rows m view.place Suspending address book sound)
+called_keeps laws m (ForcePowerdown node ack) book sound heard =
+    tried_keeps (force_powerdown book.fixed m node ack) book sound
+    (λ passing. stages_kept laws (force_stages book.fixed node) book (offs_free book.fixed (Under node), (clears_free book.fixed node, tt)) sound)
 called_keeps laws m (AbortSuspend node reason) book sound heard =
     let view : ProcView = proc_view m node book in
-    tried_keeps (abort_suspend m reason (is_asked m book) view) book sound (λ passing. on_keeps laws m view (is_in Suspending view) book sound)
+    tried_keeps (abort_suspend m reason (is_asked m book) view) book sound (λ passing. on_keeps laws.rows m view (is_in Suspending view) book sound)
 called_keeps laws m (RequestWakeup node address ack) book sound heard =
     let view : WakeView = wake_view m node book in
-    tried_keeps (request_wakeup address ack view) book sound (λ passing. request_keeps laws address view.place view.target book sound)
+    tried_keeps (request_wakeup address ack view) book sound (λ passing. request_keeps laws.rows address view.place view.target book sound)
 called_keeps laws m (SetWakeupSource target source enable) book sound heard =
-    row_call_keeps laws m (arming target enable) (set_wakeup_source target enable (proc_view m target book)) book (slave_place source book) sound (λ view. refl) (arming_fits m target enable book)
+    row_call_keeps laws.rows m (arming target enable) (set_wakeup_source target enable (proc_view m target book)) book (slave_place source book) sound (λ view. refl) (arming_fits m target enable book)
+called_keeps laws m (SystemShutdown shutdown_type subtype) book sound heard =
+    tried_keeps (system_shutdown book.fixed m shutdown_type subtype) book sound
+    (λ passing. each_shutdown (λ stages. IsSound (after_stages stages book)) book.fixed m sound
+    (λ restarts. stages_kept laws (own_stages book.fixed m restarts) book (own_free book.fixed m restarts) sound)
+    (λ restarts. stages_kept laws (all_stages book.fixed restarts) book (all_free book.fixed restarts) sound) shutdown_type subtype)
 called_keeps laws m (RequestNode node caps ack) book sound heard =
-    row_call_keeps laws m (Request caps) (request_node caps ack) book (slave_place node book) sound (λ view. refl) (λ s passing e is. (request_fits m caps ack book sound heard s passing e is, tt))
+    row_call_keeps laws.rows m (Request caps) (request_node caps ack) book (slave_place node book) sound (λ view. refl) (λ s passing e is. (request_fits m caps ack book sound heard s passing e is, tt))
 called_keeps laws m (ReleaseNode node) book sound heard =
-    row_call_keeps laws m Release release_node book (slave_place node book) sound (λ view. refl) (λ s passing e is. (tt, tt))
+    row_call_keeps laws.rows m Release release_node book (slave_place node book) sound (λ view. refl) (λ s passing e is. (tt, tt))
 called_keeps laws m (SetRequirement node caps ack) book sound heard =
     let mode : Mode = mode_of_master book.fixed book.now.core m in
-    row_call_keeps laws m (Set mode caps) (set_requirement mode caps ack) book (slave_place node book) sound (λ view. refl) (λ s passing e is. (set_fits m caps ack book sound heard s passing e is, tt))
+    row_call_keeps laws.rows m (Set mode caps) (set_requirement mode caps ack) book (slave_place node book) sound (λ view. refl) (λ s passing e is. (set_fits m caps ack book sound heard s passing e is, tt))
 called_keeps laws m (SetMaxLatency node latency) book sound heard =
-    row_call_keeps laws m (Limit latency) (set_max_latency latency) book (slave_place node book) sound (λ view. refl) (λ s passing e is. (tt, tt))
+    row_call_keeps laws.rows m (Limit latency) (set_max_latency latency) book (slave_place node book) sound (λ view. refl) (λ s passing e is. (tt, tt))
+called_keeps laws m (ResetAssert line action) book sound heard =
+    tried_keeps (reset_assert line action (line_view m line book)) book sound (λ passing. reset_keeps laws.rows m line action book sound passing)
 called_keeps laws m InitFinalize book sound heard =
-    tried_keeps (init_finalize m) book sound (λ passing. stage_keeps laws book (Settle m) sound (settle m))
+    tried_keeps (init_finalize m) book sound (λ passing. stage_keeps laws.rows book (Settle m) sound (settle m))
 called_keeps laws m Other book sound heard = sound
 called_keeps laws m call book sound heard = tried_keeps (tried_by m call book) book sound (λ passing. sound)
 
 -- ---- events
 
-heard_keeps : RowLaws → (message : Message) (book : State) (m : ℕ) (awake : Bool) → IsSound book → m < length (in_force book).masters → awake ≡ is_awake (mode_of_master book.fixed book.now.core m) → IsSound (after_stages (stages_of (if awake then Some (called m (call_of message) book) else None)) book)
-heard_keeps laws message book m true sound there is = called_keeps laws m (call_of message) book sound (record { there = there; awake = sym is })
+heard_keeps : KeepLaws → (message : Message) (book : State) (m : ℕ) (awake : Bool) → IsSound book → m < length (in_force book).masters → awake ≡ is_heard m book → IsSound (after_stages (stages_of (if awake then Some (called m (call_of message) book) else None)) book)
+heard_keeps laws message book m true sound there is = called_keeps laws m (call_of message) book sound (record { there = there; awake = (both (not book.now.core.halted) (is_awake (mode_of_master book.fixed book.now.core m)) (sym is)).1 })
 heard_keeps laws message book m false sound there is = sound
 
-message_keeps : RowLaws → (message : Message) (book : State) (place : Option ℕ) → IsSound book → ((m : ℕ) → place ≡ Some m → m < length (in_force book).masters) → IsSound (after_stages (stages_of (option_and_then (heard_at message book) place)) book)
+message_keeps : KeepLaws → (message : Message) (book : State) (place : Option ℕ) → IsSound book → ((m : ℕ) → place ≡ Some m → m < length (in_force book).masters) → IsSound (after_stages (stages_of (option_and_then (heard_at message book) place)) book)
 message_keeps laws message book None sound there = sound
 message_keeps laws message book (Some m) sound there =
-    heard_keeps laws message book m (is_awake (mode_of_master book.fixed book.now.core m)) sound (there m refl) refl
+    heard_keeps laws message book m (is_heard m book) sound (there m refl) refl
 
 booted_keeps : RowLaws → (m p address : ℕ) (mode : Mode) (book : State) → IsSound book → IsSound (after_stages (booted m p address mode) book)
 booted_keeps laws m p address Off book sound = stage_keeps laws book (Put_proc m p Active address) sound (put m p Active address)
@@ -257,25 +276,34 @@ wait_keeps laws (Slave s) book sound = sound
 wait_keeps laws (Power w) book sound = sound
 wait_keeps laws Unknown book sound = sound
 
+halted_keeps : (halted : Bool) (stages : List (List Prim)) (book : State) → IsSound book → IsSound (after_stages stages book) → IsSound (after_stages (if halted then [] else stages) book)
+halted_keeps true stages book sound after = sound
+halted_keeps false stages book sound after = after
+
 -- the stages of each step keep the book sound
-stages_keep : RowLaws → (event : Event) (book : State) → IsSound book → IsSound (after_stages (stages event book) book)
+stages_keep : KeepLaws → (event : Event) (book : State) → IsSound book → IsSound (after_stages (stages event book) book)
 stages_keep laws (Ipi master message) book sound =
     message_keeps laws message book (master_place master book) sound
     (λ m is. (position-Some (λ (x : MasterRec). x.node == master.0) (in_force book).masters m (record { node = 0; mask = 0; timeout = 0; suspend = 0; wake = 0 }) is).0)
-stages_keep laws (Boot proc address) book sound = boot_keeps laws (kind_of book.fixed.topology proc) address book sound
-stages_keep laws (Wfi proc) book sound = wait_keeps laws (kind_of book.fixed.topology proc) book sound
-stages_keep laws (Irq slave) book sound = raised_keeps laws (kind_of book.fixed.topology slave) book sound
-stages_keep laws (Gic proc) book sound = interrupt_keeps laws (kind_of book.fixed.topology proc) book sound
+stages_keep laws (Boot proc address) book sound =
+    halted_keeps book.now.core.halted (boot proc address book) book sound (boot_keeps laws.rows (kind_of book.fixed.topology proc) address book sound)
+stages_keep laws (Wfi proc) book sound =
+    halted_keeps book.now.core.halted (wait proc book) book sound (wait_keeps laws.rows (kind_of book.fixed.topology proc) book sound)
+stages_keep laws (Irq slave) book sound =
+    halted_keeps book.now.core.halted (raised slave book) book sound (raised_keeps laws.rows (kind_of book.fixed.topology slave) book sound)
+stages_keep laws (Gic proc) book sound =
+    halted_keeps book.now.core.halted (interrupt proc book) book sound (interrupt_keeps laws.rows (kind_of book.fixed.topology proc) book sound)
 stages_keep laws _ book sound = sound
 
 -- each step keeps the book sound: what is told after its stages changes nothing but what is pending and the mail
-pub effect_sound : RowLaws → RequestLaws → OrderLaws → (event : Event) (book : State) → IsSound book → IsSound (effect event book)
-effect_sound laws requests orders event book sound =
-    let after : IsSound (after_stages (stages event book) book) = stages_keep laws event book sound in
+pub effect_sound : RowLaws → ModeLaws → RequestLaws → OrderLaws → (event : Event) (book : State) → IsSound book → IsSound (effect event book)
+effect_sound laws modes requests orders event book sound =
+    let after : IsSound (after_stages (stages event book) book) = stages_keep (record { rows = laws; modes = modes; requests = requests; orders = orders }) event book sound in
     record {
       rows = after.rows;
-      knows = record { each = after.knows.each; right = after.knows.right };
+      knows = record { boot = after.knows.boot; each = after.knows.each; right = after.knows.right };
       procs = record { each = after.procs.each; nobodys = after.procs.nobodys };
+      lines = after.lines;
       armed = after.armed;
       pending = talk_keeps requests book.fixed (talk event book) (after_stages (stages event book) book).now.talk (talk_named event book) after.pending;
       mail = talk_mails orders book.fixed.topology (length (in_force book).masters) (talk event book) (after_stages (stages event book) book).now.talk after.mail;

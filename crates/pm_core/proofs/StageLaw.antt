@@ -15,10 +15,11 @@ use Rattle.pm_rows.specs.declared.row.Change.{Change}
 use Rattle.pm_rows.specs.Modes.{mode_in}
 use Rattle.pm_rows.specs.Rows.{mode_of, entry_at}
 use Rattle.pm_rows.specs.Sound.{IsFit}
+use Rattle.pm_core.specs.Boot.{boot_master}
 use Rattle.pm_core.specs.Members.{mode_of_master, owner_at, owns, is_place}
 use Rattle.pm_core.specs.Pairs.{pairs_of}
 use Rattle.pm_core.specs.Prims.{Prim, At_row, Settle, Put_proc, Shift, applies, changed, proc_put}
-use Rattle.pm_core.specs.Sound.{AreMails, AreNamed, ArmsOwn, HasProcs, HasSoundRows, IsSound}
+use Rattle.pm_core.specs.Sound.{AreLines, AreMails, AreNamed, ArmsOwn, HasProcs, HasSoundRows, IsSound}
 use Rattle.pm_core.specs.Stages.{after_stage, follow_at, follow_from, followed}
 use Rattle.pm_core.specs.State.{Fixed, Now, State, in_force}
 use Rattle.pm_core.proofs.ArmedLaw.{MayArm, change_arms, settle_arms, shift_arms}
@@ -29,14 +30,16 @@ use Rattle.pm_core.proofs.RowLaws.{RowLaws}
 -- what holds of a book within a stage: all but what the rows know of the modes
 pub record IsWithin (fixed : Fixed) (now : Now) : Type 0 where
   pub rows : HasSoundRows (record { fixed = fixed; now = now })
+  pub boot : now.core.rows.boot ≡ boot_master fixed.object fixed.topology
   pub each : length now.core.rows.known ≡ length fixed.object.masters
   pub procs : HasProcs (record { fixed = fixed; now = now })
+  pub lines : AreLines fixed now.core.lines
   pub armed : ArmsOwn (record { fixed = fixed; now = now })
   pub pending : AreNamed fixed now.talk.pending
   pub mail : AreMails fixed.topology (length fixed.object.masters) now.talk.mail
 
 pub within : (book : State) → IsSound book → IsWithin book.fixed book.now
-within book sound = record { rows = sound.rows; each = sound.knows.each; procs = sound.procs; armed = sound.armed; pending = sound.pending; mail = sound.mail }
+within book sound = record { rows = sound.rows; boot = sound.knows.boot; each = sound.knows.each; procs = sound.procs; lines = sound.lines; armed = sound.armed; pending = sound.pending; mail = sound.mail }
 
 -- ---- the rows follow
 
@@ -71,8 +74,10 @@ follows_by laws fixed now m to true is there of = record { all = of; knows = sam
 follows_by laws fixed now m to false is there of = record {
   all = record {
     rows = laws.shift (pairs_of fixed.object fixed.topology) now.core.rows m to (λ m s. pairs_once m s fixed.object fixed.topology) of.rows;
+    boot = of.boot;
     each = length-set now.core.rows.known m to ∙ of.each;
     procs = record { each = of.procs.each; nobodys = of.procs.nobodys };
+    lines = of.lines;
     armed = shift_arms laws fixed m (mode_of m now.core.rows) to now.core.rows.entries of.armed;
     pending = of.pending;
     mail = of.mail;
@@ -107,7 +112,7 @@ knows_more fixed now next m k is before here procs below =
 -- all masters from place m on follow
 follow_keeps : RowLaws → (fixed : Fixed) (m : ℕ) (masters : List MasterRec) (now : Now) → m + length masters ≡ length fixed.object.masters → IsWithin fixed now → KnowsBefore m fixed now → IsSound (record { fixed = fixed; now = applies fixed (follow_from fixed now.core m masters) now })
 follow_keeps laws fixed m [] now count of before =
-    record { rows = of.rows; knows = record { each = of.each; right = λ k there. before k (omega (arith, count, there)) }; procs = of.procs; armed = of.armed; pending = of.pending; mail = of.mail }
+    record { rows = of.rows; knows = record { boot = of.boot; each = of.each; right = λ k there. before k (omega (arith, count, there)) }; procs = of.procs; lines = of.lines; armed = of.armed; pending = of.pending; mail = of.mail }
 follow_keeps laws fixed m (x ∷ xs) now count of before =
     let first = follow_at fixed now.core m in
     let next : Now = applies fixed first now in
@@ -149,6 +154,7 @@ pub put_keeps : (fixed : Fixed) (now : Now) (m p : ℕ) (mode : Mode) (address :
 put_keeps fixed now m p mode address false is of = of
 put_keeps fixed now m p mode address true is of = record {
   rows = of.rows;
+  boot = of.boot;
   each = of.each;
   procs = record {
     each = length-set now.core.procs p (gone mode (record { mode = mode; address = address })) ∙ of.procs.each;
@@ -157,6 +163,7 @@ put_keeps fixed now m p mode address true is of = record {
       | inr other ↦ put_other now.core.procs p q (gone mode (record { mode = mode; address = address })) other ∙ of.procs.nobodys q nobody
     ];
   };
+  lines = of.lines;
   armed = of.armed;
   pending = of.pending;
   mail = of.mail;
@@ -166,16 +173,20 @@ pub change_within : RowLaws → (book : State) (prim : Prim) → IsSound book �
 change_within laws book _ sound (row m s by entry found fit may) = record {
   armed = change_arms book.fixed entry.seed.master entry.seed.slave by book.now.core.rows.entries may sound.armed;
   rows = laws.change (pairs_of book.fixed.object book.fixed.topology) book.now.core.rows m s by entry (λ m s. pairs_once m s book.fixed.object book.fixed.topology) sound.rows found fit;
+  boot = sound.knows.boot;
   each = sound.knows.each;
   procs = record { each = sound.procs.each; nobodys = sound.procs.nobodys };
+  lines = sound.lines;
   pending = sound.pending;
   mail = sound.mail;
 }
 change_within laws book _ sound (settle m) = record {
   armed = settle_arms book.fixed m book.now.core.rows.entries sound.armed;
   rows = laws.settle (pairs_of book.fixed.object book.fixed.topology) book.now.core.rows m sound.rows;
+  boot = sound.knows.boot;
   each = sound.knows.each;
   procs = record { each = sound.procs.each; nobodys = sound.procs.nobodys };
+  lines = sound.lines;
   pending = sound.pending;
   mail = sound.mail;
 }

@@ -21,37 +21,40 @@ use Rattle.pm_topology.specs.Units.{UnitLaws, same_unit, is_before, rises, units
 use Rattle.pm_procs.specs.declared.procs.Proc.{Proc as Processor}
 use Rattle.pm_procs.specs.Modes.{same_mode}
 use Rattle.pm_procs.specs.Procs.{mode_at, proc_at}
+use Rattle.pm_core.specs.declared.caches.UnitKind.{UnitKind}
+use Rattle.pm_core.specs.declared.caches.UnitKind.TheVariants.{Entry, Reset}
 use Rattle.pm_core.specs.declared.outbox.Start.{Start}
-use Rattle.pm_core.specs.Caches.{kind_of_unit, start_if, started_at, starts_by}
+use Rattle.pm_core.specs.Caches.{kind_of_unit, start_if, start_in, started_at, starts_by}
+use Rattle.pm_core.specs.Along.{down_noted}
 use Rattle.pm_core.specs.Starts.{start_of, start_by, starts_among}
 use Rattle.pm_core.specs.State.{State}
 
 -- ---- the turn of the loop at place k
 
-starts_left : (procs : List Processor) (kinds : List Kind) (k : ℕ) (kind : Kind) (es : List (Unit × ℕ)) → slice_get kinds k ≡ Some kind → k < length es → starts_by procs (drop k kinds) (drop k es) ≡ started_at procs kind (slice_get es k) ++ starts_by procs (drop (k + 1) kinds) (drop (k + 1) es)
-starts_left procs kinds k kind es at within =
+starts_left : (downs : List Bool) (procs : List Processor) (kinds : List UnitKind) (k : ℕ) (kind : UnitKind) (es : List (Unit × ℕ)) → slice_get kinds k ≡ Some kind → k < length es → starts_by downs procs (drop k kinds) (drop k es) ≡ started_at downs procs kind (slice_get es k) ++ starts_by downs procs (drop (k + 1) kinds) (drop (k + 1) es)
+starts_left downs procs kinds k kind es at within =
     elim ((slice_get_cases es k).1) [
       | inl here ↦
-          ap (λ ks. starts_by procs ks (drop k es)) (drop_found kinds k kind at)
-          ∙ (ap (starts_by procs (kind ∷ drop (k + 1) kinds)) (drop_found es k here.0 here.2)
-          ∙ ap (λ o. started_at procs kind o ++ starts_by procs (drop (k + 1) kinds) (drop (k + 1) es)) (sym here.2))
+          ap (λ ks. starts_by downs procs ks (drop k es)) (drop_found kinds k kind at)
+          ∙ (ap (starts_by downs procs (kind ∷ drop (k + 1) kinds)) (drop_found es k here.0 here.2)
+          ∙ ap (λ o. started_at downs procs kind o ++ starts_by downs procs (drop (k + 1) kinds) (drop (k + 1) es)) (sym here.2))
       | inr past ↦ absurd (omega (arith, past.0))
     ]
 
-pub starts_step : (procs : List Processor) (kinds : List Kind) (k : ℕ) (kind : Kind) (es : List (Unit × ℕ)) (items new whole : List Start) → slice_get kinds k ≡ Some kind → k < length es → new ≡ items ++ started_at procs kind (slice_get es k) → items ++ starts_by procs (drop k kinds) (drop k es) ≡ whole → new ++ starts_by procs (drop (k + 1) kinds) (drop (k + 1) es) ≡ whole
-starts_step procs kinds k kind es items new whole at within is before =
-    ap (λ xs. xs ++ starts_by procs (drop (k + 1) kinds) (drop (k + 1) es)) is
-    ∙ (append_assoc items (started_at procs kind (slice_get es k)) (starts_by procs (drop (k + 1) kinds) (drop (k + 1) es))
-    ∙ (ap (λ xs. items ++ xs) (sym (starts_left procs kinds k kind es at within)) ∙ before))
+pub starts_step : (downs : List Bool) (procs : List Processor) (kinds : List UnitKind) (k : ℕ) (kind : UnitKind) (es : List (Unit × ℕ)) (items new whole : List Start) → slice_get kinds k ≡ Some kind → k < length es → new ≡ items ++ started_at downs procs kind (slice_get es k) → items ++ starts_by downs procs (drop k kinds) (drop k es) ≡ whole → new ++ starts_by downs procs (drop (k + 1) kinds) (drop (k + 1) es) ≡ whole
+starts_step downs procs kinds k kind es items new whole at within is before =
+    ap (λ xs. xs ++ starts_by downs procs (drop (k + 1) kinds) (drop (k + 1) es)) is
+    ∙ (append_assoc items (started_at downs procs kind (slice_get es k)) (starts_by downs procs (drop (k + 1) kinds) (drop (k + 1) es))
+    ∙ (ap (λ xs. items ++ xs) (sym (starts_left downs procs kinds k kind es at within)) ∙ before))
 
 -- there is room for one more start where all of them have room
-pub start_fits : (procs : List Processor) (kinds : List Kind) (k : ℕ) (kind : Kind) (es : List (Unit × ℕ)) (items first : List Start) (start : Start) (room : ℕ) → slice_get kinds k ≡ Some kind → k < length es → started_at procs kind (slice_get es k) ≡ start ∷ [] → items ++ starts_by procs (drop k kinds) (drop k es) ≡ first ++ starts_by procs kinds es → length first + length (starts_by procs kinds es) ≤ room → length items < room
-start_fits procs kinds k kind es items first start room at within one before fits =
-    let later : List Start = starts_by procs (drop (k + 1) kinds) (drop (k + 1) es) in
-    let left : starts_by procs (drop k kinds) (drop k es) ≡ start ∷ later = starts_left procs kinds k kind es at within ∙ ap (λ xs. xs ++ later) one in
-    let all : length items + length (start ∷ later) ≡ length first + length (starts_by procs kinds es) =
+pub start_fits : (downs : List Bool) (procs : List Processor) (kinds : List UnitKind) (k : ℕ) (kind : UnitKind) (es : List (Unit × ℕ)) (items first : List Start) (start : Start) (room : ℕ) → slice_get kinds k ≡ Some kind → k < length es → started_at downs procs kind (slice_get es k) ≡ start ∷ [] → items ++ starts_by downs procs (drop k kinds) (drop k es) ≡ first ++ starts_by downs procs kinds es → length first + length (starts_by downs procs kinds es) ≤ room → length items < room
+start_fits downs procs kinds k kind es items first start room at within one before fits =
+    let later : List Start = starts_by downs procs (drop (k + 1) kinds) (drop (k + 1) es) in
+    let left : starts_by downs procs (drop k kinds) (drop k es) ≡ start ∷ later = starts_left downs procs kinds k kind es at within ∙ ap (λ xs. xs ++ later) one in
+    let all : length items + length (start ∷ later) ≡ length first + length (starts_by downs procs kinds es) =
     sym (length-append items (start ∷ later))
-    ∙ (ap (λ xs. length (items ++ xs)) (sym left) ∙ (ap length before ∙ length-append first (starts_by procs kinds es)))
+    ∙ (ap (λ xs. length (items ++ xs)) (sym left) ∙ (ap length before ∙ length-append first (starts_by downs procs kinds es)))
     in
     omega arith
 
@@ -62,6 +65,10 @@ is_proc (Proc p) = true
 is_proc (Slave s) = false
 is_proc (Power w) = false
 is_proc Unknown = false
+
+abbrev is_proc_unit : UnitKind → Bool
+is_proc_unit (Entry kind) = is_proc kind
+is_proc_unit (Reset place) = false
 
 -- one of these processors is the unit
 abbrev is_among : List ProcDef → Unit → Bool
@@ -76,20 +83,24 @@ few_by : (down : Bool) (u : Unit) (proc : Processor) → length (start_if down u
 few_by down (Node node) proc = few_if (down && same_mode proc.mode Active) (record { proc = node; address = proc.address })
 few_by down (Line line) proc = omega arith
 
-few_started : (procs : List Processor) (kind : Kind) (e : Unit × ℕ) → length (started_at procs kind (Some e)) ≤ cond (is_proc kind) 1 0
-few_started procs (Proc p) e = few_by (e.1 == 0) e.0 (proc_at p procs)
-few_started procs (Slave s) e = omega arith
-few_started procs (Power w) e = omega arith
-few_started procs Unknown e = omega arith
+few_in : (downs : List Bool) (procs : List Processor) (kind : Kind) (e : Unit × ℕ) → length (start_in downs procs kind e) ≤ cond (is_proc kind) 1 0
+few_in downs procs (Proc p) e = few_by (down_noted p downs) e.0 (proc_at p procs)
+few_in downs procs (Slave s) e = omega arith
+few_in downs procs (Power w) e = omega arith
+few_in downs procs Unknown e = omega arith
 
-few_starts : (procs : List Processor) (kind_in : Unit → Kind) (us : List Unit) (es : List (Unit × ℕ)) → length (starts_by procs (map kind_in us) es) ≤ count_by (λ u. is_proc (kind_in u)) us
-few_starts procs kind_in [] es = omega arith
-few_starts procs kind_in (u ∷ us) [] = omega arith
-few_starts procs kind_in (u ∷ us) (e ∷ es) =
-    let later : length (starts_by procs (map kind_in us) es) ≤ count_by (λ u. is_proc (kind_in u)) us = few_starts procs kind_in us es in
-    let here : length (started_at procs (kind_in u) (Some e)) ≤ cond (is_proc (kind_in u)) 1 0 = few_started procs (kind_in u) e in
-    let both : length (started_at procs (kind_in u) (Some e) ++ starts_by procs (map kind_in us) es) ≡ length (started_at procs (kind_in u) (Some e)) + length (starts_by procs (map kind_in us) es) = length-append (started_at procs (kind_in u) (Some e)) (starts_by procs (map kind_in us) es) in
-    let counted : count_by (λ u. is_proc (kind_in u)) (u ∷ us) ≡ cond (is_proc (kind_in u)) 1 0 + count_by (λ u. is_proc (kind_in u)) us = count_by-cons (λ u. is_proc (kind_in u)) u us in
+few_started : (downs : List Bool) (procs : List Processor) (kind : UnitKind) (e : Unit × ℕ) → length (started_at downs procs kind (Some e)) ≤ cond (is_proc_unit kind) 1 0
+few_started downs procs (Entry kind) e = few_in downs procs kind e
+few_started downs procs (Reset place) e = omega arith
+
+few_starts : (downs : List Bool) (procs : List Processor) (kind_in : Unit → UnitKind) (us : List Unit) (es : List (Unit × ℕ)) → length (starts_by downs procs (map kind_in us) es) ≤ count_by (λ u. is_proc_unit (kind_in u)) us
+few_starts downs procs kind_in [] es = omega arith
+few_starts downs procs kind_in (u ∷ us) [] = omega arith
+few_starts downs procs kind_in (u ∷ us) (e ∷ es) =
+    let later : length (starts_by downs procs (map kind_in us) es) ≤ count_by (λ u. is_proc_unit (kind_in u)) us = few_starts downs procs kind_in us es in
+    let here : length (started_at downs procs (kind_in u) (Some e)) ≤ cond (is_proc_unit (kind_in u)) 1 0 = few_started downs procs (kind_in u) e in
+    let both : length (started_at downs procs (kind_in u) (Some e) ++ starts_by downs procs (map kind_in us) es) ≡ length (started_at downs procs (kind_in u) (Some e)) + length (starts_by downs procs (map kind_in us) es) = length-append (started_at downs procs (kind_in u) (Some e)) (starts_by downs procs (map kind_in us) es) in
+    let counted : count_by (λ u. is_proc_unit (kind_in u)) (u ∷ us) ≡ cond (is_proc_unit (kind_in u)) 1 0 + count_by (λ u. is_proc_unit (kind_in u)) us = count_by-cons (λ u. is_proc_unit (kind_in u)) u us in
     omega arith
 
 later_is : (a b : Unit) → is_before a b ≡ true → same_unit b a ≡ false
@@ -161,7 +172,7 @@ kind_among t node (Slave s) is one = cc
 kind_among t node (Power w) is one = cc
 kind_among t node Unknown is one = cc
 
-proc_among : KindLaws → (t : Topology) (u : Unit) → is_proc (kind_of_unit t u) ≡ true → is_among t.procs u ≡ true
+proc_among : KindLaws → (t : Topology) (u : Unit) → is_proc_unit (kind_of_unit t u) ≡ true → is_among t.procs u ≡ true
 proc_among laws t (Node node) is = kind_among t node (kind_of t node) (laws.is t node) is
 proc_among laws t (Line line) is = cc
 
@@ -180,35 +191,33 @@ fewer p q implies (u ∷ us) =
     omega arith
 
 -- a step starts no more processors than the chip has
-pub starts_few : UnitLaws → KindLaws → (t : Topology) (procs : List Processor) (kinds : List Kind) (es : List (Unit × ℕ)) → kinds ≡ map (kind_of_unit t) (units_of t) → length (starts_by procs kinds es) ≤ length t.procs
-starts_few units_hold kinds_hold t procs kinds es are =
-    let same : length (starts_by procs kinds es) ≡ length (starts_by procs (map (kind_of_unit t) (units_of t)) es) = ap (λ ks. length (starts_by procs ks es)) are in
-    let few : length (starts_by procs (map (kind_of_unit t) (units_of t)) es) ≤ count_by (λ u. is_proc (kind_of_unit t u)) (units_of t) = few_starts procs (kind_of_unit t) (units_of t) es in
-    let less : count_by (λ u. is_proc (kind_of_unit t u)) (units_of t) ≤ count_by (is_among t.procs) (units_of t) = fewer (λ u. is_proc (kind_of_unit t u)) (is_among t.procs) (proc_among kinds_hold t) (units_of t) in
+pub starts_few : UnitLaws → KindLaws → (t : Topology) (downs : List Bool) (procs : List Processor) (kinds : List UnitKind) (es : List (Unit × ℕ)) → kinds ≡ map (kind_of_unit t) (units_of t) → length (starts_by downs procs kinds es) ≤ length t.procs
+starts_few units_hold kinds_hold t downs procs kinds es are =
+    let same : length (starts_by downs procs kinds es) ≡ length (starts_by downs procs (map (kind_of_unit t) (units_of t)) es) = ap (λ ks. length (starts_by downs procs ks es)) are in
+    let few : length (starts_by downs procs (map (kind_of_unit t) (units_of t)) es) ≤ count_by (λ u. is_proc_unit (kind_of_unit t u)) (units_of t) = few_starts downs procs (kind_of_unit t) (units_of t) es in
+    let less : count_by (λ u. is_proc_unit (kind_of_unit t u)) (units_of t) ≤ count_by (is_among t.procs) (units_of t) = fewer (λ u. is_proc_unit (kind_of_unit t u)) (is_among t.procs) (proc_among kinds_hold t) (units_of t) in
     let most : count_by (is_among t.procs) (units_of t) ≤ length t.procs = few_among units_hold t.procs (units_of t) (units_hold.are t).rising in
     omega arith
 
--- ---- by the values before, and by the modes along the step
+-- ---- by what is noted, and by the modes along the step
 
--- the value of a processor before tells as much of it as whether it was down, where it is active now
-abbrev pub TellsDown : (Unit → ℕ) → (ℕ → Bool) → State → Type 0
-TellsDown before down after =
-    (node : NodeId) (p : ℕ) → kind_of after.fixed.topology node ≡ Proc p
-    → ((before (Node node) == 0) && same_mode (mode_at p after.now.core.procs) Active) ≡ (down p && same_mode (mode_at p after.now.core.procs) Active)
+-- what is noted of each processor of the chip is whether it was down
+abbrev pub TellsDown : List Bool → (ℕ → Bool) → State → Type 0
+TellsDown downs down after = (node : NodeId) (p : ℕ) → kind_of after.fixed.topology node ≡ Proc p → down_noted p downs ≡ down p
 
-start_is : (before : Unit → ℕ) (down : ℕ → Bool) (after : State) (node : NodeId) (kind : Kind) → kind_of after.fixed.topology node ≡ kind → TellsDown before down after → started_at after.now.core.procs kind (Some (Node node, before (Node node))) ≡ start_by down after node kind
-start_is before down after node (Proc p) is tells =
-    ap (λ b. if b then record { proc = node; address = (proc_at p after.now.core.procs).address } ∷ [] else []) (tells node p is)
-start_is before down after node (Slave s) is tells = refl
-start_is before down after node (Power w) is tells = refl
-start_is before down after node Unknown is tells = refl
+start_is : (downs : List Bool) (value : ℕ) (down : ℕ → Bool) (after : State) (node : NodeId) (kind : Kind) → kind_of after.fixed.topology node ≡ kind → TellsDown downs down after → start_in downs after.now.core.procs kind (Node node, value) ≡ start_by down after node kind
+start_is downs value down after node (Proc p) is tells =
+    ap (λ b. if b && same_mode (mode_at p after.now.core.procs) Active then record { proc = node; address = (proc_at p after.now.core.procs).address } ∷ [] else []) (tells node p is)
+start_is downs value down after node (Slave s) is tells = refl
+start_is downs value down after node (Power w) is tells = refl
+start_is downs value down after node Unknown is tells = refl
 
-unit_start : (before : Unit → ℕ) (down : ℕ → Bool) (after : State) (u : Unit) → TellsDown before down after → started_at after.now.core.procs (kind_of_unit after.fixed.topology u) (Some (u, before u)) ≡ start_of down after u
-unit_start before down after (Node node) tells = start_is before down after node (kind_of after.fixed.topology node) refl tells
-unit_start before down after (Line line) tells = refl
+unit_start : (downs : List Bool) (value : ℕ) (down : ℕ → Bool) (after : State) (u : Unit) → TellsDown downs down after → started_at downs after.now.core.procs (kind_of_unit after.fixed.topology u) (Some (u, value)) ≡ start_of down after u
+unit_start downs value down after (Node node) tells = start_is downs value down after node (kind_of after.fixed.topology node) refl tells
+unit_start downs value down after (Line line) tells = refl
 
-pub starts_are : (before : Unit → ℕ) (down : ℕ → Bool) (after : State) (us : List Unit) → TellsDown before down after → starts_by after.now.core.procs (map (kind_of_unit after.fixed.topology) us) (map (λ u. (u, before u)) us) ≡ starts_among down after us
-starts_are before down after [] tells = refl
-starts_are before down after (u ∷ us) tells =
-    ap (λ xs. xs ++ starts_by after.now.core.procs (map (kind_of_unit after.fixed.topology) us) (map (λ u. (u, before u)) us)) (unit_start before down after u tells)
-    ∙ ap (λ xs. start_of down after u ++ xs) (starts_are before down after us tells)
+pub starts_are : (downs : List Bool) (before : Unit → ℕ) (down : ℕ → Bool) (after : State) (us : List Unit) → TellsDown downs down after → starts_by downs after.now.core.procs (map (kind_of_unit after.fixed.topology) us) (map (λ u. (u, before u)) us) ≡ starts_among down after us
+starts_are downs before down after [] tells = refl
+starts_are downs before down after (u ∷ us) tells =
+    ap (λ xs. xs ++ starts_by downs after.now.core.procs (map (kind_of_unit after.fixed.topology) us) (map (λ u. (u, before u)) us)) (unit_start downs (before u) down after u tells)
+    ∙ ap (λ xs. start_of down after u ++ xs) (starts_are downs before down after us tells)

@@ -1,6 +1,8 @@
--- A step has one stage at most, and so what it puts out follows from the values before it and the book after it.
-use Rattle.std.proofs.Common.{◌≡◌, ℕ, ◌==◌, ◌&&◌, ◌||◌, if◌then◌else◌, Bool, true, false, not, cond, List, [], ◌∷◌, map, Option, Some, None, option_and_then, refl, ap, ◌∙◌}
-use Rattle.std.specs.Prelude.{⊤}
+-- Most steps have one stage at most. What a step puts out follows from the values before it, what is noted along it, and the
+-- book after it.
+use Rattle.std.proofs.Common.{◌≡◌, ℕ, ◌<◌, if◌then◌else◌, Bool, true, false, List, [], ◌∷◌, length, map, Option, Some, None, refl, sym, subst, ap, ◌∙◌, inl, inr}
+use Rattle.std.specs.Prelude.{⊤, replicate}
+use Rattle.std.proofs.lemmas.Option.{slice_get_cases, unwrap_or-slice_get}
 use Rattle.pm_base.specs.declared.names.NodeId.{NodeId}
 use Rattle.pm_base.specs.declared.names.Mode.{Mode}
 use Rattle.pm_base.specs.declared.names.Mode.TheVariants.{Off, Active, Asleep, Suspending}
@@ -8,68 +10,96 @@ use Rattle.pm_base.specs.declared.names.Unit.{Unit}
 use Rattle.pm_base.specs.declared.events.Event.{Event}
 use Rattle.pm_base.specs.declared.events.Event.TheVariants.{Ipi, Boot, Wfi, Irq, Gic}
 use Rattle.pm_base.specs.declared.events.Message.{Message}
-use Rattle.pm_ipi.specs.Calls.{call_of}
 use Rattle.pm_ipi.specs.declared.calls.Call.{Call}
-use Rattle.pm_ipi.specs.declared.calls.Call.TheVariants.{GetApiVersion, GetNodeStatus, RegisterNotifier, RequestSuspend, SelfSuspend, AbortSuspend, RequestWakeup, SetWakeupSource, RequestNode, ReleaseNode, SetRequirement, SetMaxLatency, InitFinalize, Unknown}
+use Rattle.pm_ipi.specs.declared.calls.Call.TheVariants.{GetApiVersion, GetNodeStatus, RegisterNotifier, GetOpCharacteristic, RequestSuspend, SelfSuspend, ForcePowerdown, AbortSuspend, RequestWakeup, SetWakeupSource, SystemShutdown, RequestNode, ReleaseNode, SetRequirement, SetMaxLatency, ResetAssert, ResetGetStatus, InitFinalize, Unknown}
 use Rattle.pm_topology.specs.declared.places.Kind.{Kind}
 use Rattle.pm_topology.specs.declared.places.Kind.TheVariants.{Proc, Slave, Power, Unknown as NoNode}
-use Rattle.pm_topology.specs.Places.{kind_of}
+use Rattle.pm_topology.specs.declared.topology.Topology.{Topology}
+use Rattle.pm_topology.specs.Places.{IsKind, KindLaws, kind_of}
 use Rattle.pm_procs.specs.declared.procs.Proc.{Proc as Processor}
-use Rattle.pm_procs.specs.Modes.{is_awake, same_mode}
-use Rattle.pm_procs.specs.Procs.{mode_at, proc_at}
-use Rattle.pm_core.specs.Caches.{kind_of_unit, moved_by, starts_by, valued}
-use Rattle.pm_core.specs.Events.{boot_at, boot_by, booted, wait_at, wait_by, waits, interrupt_at, interrupt_by, raised_at}
-use Rattle.pm_core.specs.Members.{owner_at, mode_of_master}
-use Rattle.pm_core.specs.Outcome.{Outcome, Deed, Check, judged}
+use Rattle.pm_procs.specs.Procs.{proc_at}
+use Rattle.pm_core.specs.declared.caches.UnitKind.{UnitKind}
+use Rattle.pm_core.specs.Caches.{kind_of_unit, moved_by, starts_by, value_by, valued}
+use Rattle.pm_core.specs.Events.{boot, boot_at, boot_by, booted, wait, wait_at, wait_by, waits, interrupt, interrupt_at, interrupt_by, raised, raised_at}
+use Rattle.pm_core.specs.Members.{owner_at}
+use Rattle.pm_core.specs.Along.{Trail, IsTrail, trail_at_load}
+use Rattle.pm_core.specs.Outcome.{Deed, Check, judged, outcome_of}
 use Rattle.pm_core.specs.Prims.{Prim}
-use Rattle.pm_core.specs.Stages.{after_stage, after_stages, path_from, last_of}
+use Rattle.pm_core.specs.Stages.{after_stages}
 use Rattle.pm_core.specs.Starts.{starts, was_down}
 use Rattle.pm_core.specs.State.{State}
-use Rattle.pm_core.specs.Step.{called, heard_at, stages_of, stages, path, effect, tried_by}
+use Rattle.pm_core.specs.declared.step.Heard.TheVariants.{Nothing}
+use Rattle.pm_core.specs.Step.{called, heard_of, is_ipi, is_once, stages, path, effect, tried_by}
 use Rattle.pm_core.specs.Units.{units, moved}
-use Rattle.pm_core.specs.Values.{master_place, runs, value, value_at}
+use Rattle.pm_core.specs.declared.views.ProcView.{ProcView}
+use Rattle.pm_core.specs.declared.views.RowView.{RowView}
+use Rattle.pm_core.specs.Views.{proc_view, row_view}
+use Rattle.pm_core.specs.calls.SetWakeupSource.{set_wakeup_source}
+use Rattle.pm_core.specs.Values.{value, value_at}
 use Rattle.pm_core.proofs.CachesLaw.{moves_are}
+use Rattle.pm_core.proofs.LoadLaw.{get_or-replicate_any}
+use Rattle.pm_core.proofs.AlongLaw.{HasOneAtMost}
 use Rattle.pm_core.proofs.StartsLaw.{TellsDown, starts_are}
 
 -- ---- one stage at most
-
--- there is no element, or one alone
-abbrev pub HasOneAtMost : {X : Type 0} → List X → Type 0
-HasOneAtMost [] = ⊤
-HasOneAtMost (x ∷ xs) = xs ≡ []
 
 judged_once : (checks : List Check) (deed : Deed) → HasOneAtMost deed.stages → HasOneAtMost (judged checks deed).stages
 judged_once [] deed once = once
 judged_once (None ∷ checks) deed once = judged_once checks deed once
 judged_once (Some response ∷ checks) deed once = tt
 
-deed_once : (m : ℕ) (call : Call) (book : State) → HasOneAtMost (tried_by m call book).deed.stages
-deed_once m GetApiVersion book = tt
-deed_once m (GetNodeStatus node) book = tt
-deed_once m (RegisterNotifier node event wake enable) book = tt
-deed_once m (RequestSuspend node ack latency state) book = tt
-deed_once m (SelfSuspend node address) book = refl
-deed_once m (AbortSuspend node reason) book = refl
-deed_once m (RequestWakeup node address ack) book = refl
-deed_once m (SetWakeupSource target source enable) book = refl
-deed_once m (RequestNode node caps ack) book = refl
-deed_once m (ReleaseNode node) book = refl
-deed_once m (SetRequirement node caps ack) book = refl
-deed_once m (SetMaxLatency node latency) book = refl
-deed_once m InitFinalize book = refl
-deed_once m Unknown book = refl
+deed_once : (m : ℕ) (call : Call) (book : State) → is_once call ≡ true → HasOneAtMost (tried_by m call book).deed.stages
+deed_once m GetApiVersion book is = tt
+deed_once m (GetNodeStatus node) book is = tt
+deed_once m (RegisterNotifier node event wake enable) book is = tt
+deed_once m (GetOpCharacteristic node characteristic) book is = tt
+deed_once m (RequestSuspend node ack latency state) book is = tt
+deed_once m (SelfSuspend node address) book is = refl
+deed_once m (ForcePowerdown node ack) book is = cc
+deed_once m (AbortSuspend node reason) book is = refl
+deed_once m (RequestWakeup node address ack) book is = refl
+deed_once m (SetWakeupSource target source enable) book is = refl
+deed_once m (SystemShutdown shutdown_type subtype) book is = cc
+deed_once m (RequestNode node caps ack) book is = refl
+deed_once m (ReleaseNode node) book is = refl
+deed_once m (SetRequirement node caps ack) book is = refl
+deed_once m (SetMaxLatency node latency) book is = refl
+deed_once m (ResetAssert line action) book is = refl
+deed_once m (ResetGetStatus line) book is = tt
+deed_once m InitFinalize book is = refl
+deed_once m Unknown book is = refl
 
-called_once : (m : ℕ) (call : Call) (book : State) → HasOneAtMost (called m call book).stages
-called_once m call book = judged_once (tried_by m call book).checks (tried_by m call book).deed (deed_once m call book)
+-- a call that takes nothing down
+pub called_once : (m : ℕ) (call : Call) (book : State) → is_once call ≡ true → HasOneAtMost (called m call book).stages
+called_once m call book is = judged_once (tried_by m call book).checks (tried_by m call book).deed (deed_once m call book is)
 
-heard_once : (awake : Bool) (outcome : Outcome) → HasOneAtMost outcome.stages → HasOneAtMost (stages_of (if awake then Some outcome else None))
-heard_once true outcome once = once
-heard_once false outcome once = tt
+-- a call that is neither a force nor a shutdown
+pub once_of : (call : Call) → ((node : NodeId) (ack : ℕ) → call ≡ ForcePowerdown node ack → ⊥) → ((shutdown_type subtype : ℕ) → call ≡ SystemShutdown shutdown_type subtype → ⊥) → is_once call ≡ true
+once_of (ForcePowerdown node ack) force shutdown = absurd (force node ack refl)
+once_of (SystemShutdown shutdown_type subtype) force shutdown = absurd (shutdown shutdown_type subtype refl)
+once_of _ force shutdown = refl
 
-message_once : (message : Message) (book : State) (place : Option ℕ) → HasOneAtMost (stages_of (option_and_then (heard_at message book) place))
-message_once message book None = tt
-message_once message book (Some m) =
-    heard_once (is_awake (mode_of_master book.fixed book.now.core m)) (called m (call_of message) book) (called_once m (call_of message) book)
+-- an event that is no message, and what it comes to
+pub no_message : (event : Event) → ((master : NodeId) (message : Message) → event ≡ Ipi master message → ⊥) → is_ipi event ≡ false
+no_message (Ipi master message) isnt = absurd (isnt master message refl)
+no_message _ isnt = refl
+
+pub none_heard : (event : Event) (book : State) → is_ipi event ≡ false → heard_of event book ≡ Nothing
+none_heard (Ipi master message) book is = cc
+none_heard _ book is = refl
+
+-- a place that is none
+pub nowhere : (place : Option ℕ) → ((k : ℕ) → place ≡ Some k → ⊥) → place ≡ None
+nowhere None isnt = refl
+nowhere (Some k) isnt = absurd (isnt k refl)
+
+-- a wake-up source is armed, over what is read of the book
+pub armed_by : (book new : State) (m : ℕ) (target source : NodeId) (enable : ℕ) (proc : ProcView) (row : RowView) → proc ≡ proc_view m target book → row ≡ row_view m source book → new ≡ after_stages (outcome_of (set_wakeup_source target enable proc row)).stages book
+    → new ≡ after_stages (called m (SetWakeupSource target source enable) book).stages book
+armed_by book new m target source enable proc row proc_is row_is is =
+    is
+    ∙ (ap (λ v. after_stages (outcome_of (set_wakeup_source target enable v row)).stages book) proc_is
+    ∙ ap (λ v. after_stages (outcome_of (set_wakeup_source target enable (proc_view m target book) v)).stages book) row_is)
 
 booted_once : (m p address : ℕ) (mode : Mode) → HasOneAtMost (booted m p address mode)
 booted_once m p address Off = refl
@@ -119,73 +149,54 @@ interrupt_once (Slave s) book = tt
 interrupt_once (Power w) book = tt
 interrupt_once NoNode book = tt
 
--- a step has one stage at most
-pub stages_once : (event : Event) (book : State) → HasOneAtMost (stages event book)
-stages_once (Ipi master message) book = message_once message book (master_place master book)
-stages_once (Boot proc address) book = boot_once (kind_of book.fixed.topology proc) address book
-stages_once (Wfi proc) book = wait_once (kind_of book.fixed.topology proc) book
-stages_once (Irq slave) book = raised_once (kind_of book.fixed.topology slave) book
-stages_once (Gic proc) book = interrupt_once (kind_of book.fixed.topology proc) book
-stages_once _ book = tt
+halted_once : (halted : Bool) (stages : List (List Prim)) → HasOneAtMost stages → HasOneAtMost (if halted then [] else stages)
+halted_once true stages once = tt
+halted_once false stages once = once
 
--- ---- what was down before and is active now
-
--- the value of a processor is 0 where it was down
-value_down : (b : Bool) → (cond b 1 0 == 0) ≡ not b
-value_down true = refl
-value_down false = refl
-
-proc_down : (book : State) (node : NodeId) (p : ℕ) (kind : Kind) → kind ≡ Proc p → (value_at kind book.fixed book.now.core == 0) ≡ not (runs book.now.core p)
-proc_down book node p kind is = ap (λ k. value_at k book.fixed book.now.core == 0) is ∙ value_down (runs book.now.core p)
-
-no_later : (down active : Bool) → (down && active) ≡ ((down || false) && active)
-no_later true active = refl
-no_later false active = refl
-
--- a processor that is active wasn't down just then
-one_later : (down : Bool) (mode : Mode) → (down && same_mode mode Active) ≡ ((down || (not (is_awake mode) || false)) && same_mode mode Active)
-one_later true Off = refl
-one_later true Active = refl
-one_later true Asleep = refl
-one_later true Suspending = refl
-one_later false Off = refl
-one_later false Active = refl
-one_later false Asleep = refl
-one_later false Suspending = refl
-
-down_once : (stages : List (List Prim)) (book : State) (p : ℕ) → HasOneAtMost stages
-    → (not (runs book.now.core p) && same_mode (mode_at p (last_of book (path_from stages book)).now.core.procs) Active)
-    ≡ (was_down (book ∷ path_from stages book) p && same_mode (mode_at p (last_of book (path_from stages book)).now.core.procs) Active)
-down_once [] book p once = no_later (not (runs book.now.core p)) (same_mode (mode_at p book.now.core.procs) Active)
-down_once (stage ∷ []) book p once = one_later (not (runs book.now.core p)) (mode_at p (after_stage stage book).now.core.procs)
-down_once (stage ∷ (next ∷ later)) book p once = cc
-
--- the values before a step tell which of the processors that are active after it were down
-step_tells : (event : Event) (book : State) → TellsDown (λ u. value u book) (was_down (book ∷ path event book)) (effect event book)
-step_tells event book = λ node p is.
-    ap (λ b. b && same_mode (mode_at p (effect event book).now.core.procs) Active) (proc_down book node p (kind_of book.fixed.topology node) is)
-    ∙ down_once (stages event book) book p (stages_once event book)
+-- an event that is no message
+pub stages_once : (event : Event) (book : State) → is_ipi event ≡ false → HasOneAtMost (stages event book)
+stages_once (Ipi master message) book is = cc
+stages_once (Boot proc address) book is =
+    halted_once book.now.core.halted (boot proc address book) (boot_once (kind_of book.fixed.topology proc) address book)
+stages_once (Wfi proc) book is =
+    halted_once book.now.core.halted (wait proc book) (wait_once (kind_of book.fixed.topology proc) book)
+stages_once (Irq slave) book is =
+    halted_once book.now.core.halted (raised slave book) (raised_once (kind_of book.fixed.topology slave) book)
+stages_once (Gic proc) book is =
+    halted_once book.now.core.halted (interrupt proc book) (interrupt_once (kind_of book.fixed.topology proc) book)
+stages_once _ book is = tt
 
 -- ---- what a step puts out
 
 -- the units that move
-pub step_moves : (event : Event) (old new : State) (kinds : List Kind) (values : List (Unit × ℕ)) → new ≡ after_stages (stages event old) old → kinds ≡ map (kind_of_unit old.fixed.topology) (units old) → values ≡ valued old → moved_by (λ kind. value_at kind new.fixed new.now.core) kinds values ≡ moved (λ u. value u old) (effect event old)
+pub step_moves : (event : Event) (old new : State) (kinds : List UnitKind) (values : List (Unit × ℕ)) → new ≡ after_stages (stages event old) old → kinds ≡ map (kind_of_unit old.fixed.topology) (units old) → values ≡ valued old → moved_by (value_by new.fixed new.now.core) kinds values ≡ moved (λ u. value u old) (effect event old)
 step_moves event old new kinds values is kinds_are values_are =
-    ap (λ (b : State). moved_by (λ kind. value_at kind b.fixed b.now.core) kinds values) is
+    ap (λ (b : State). moved_by (value_by b.fixed b.now.core) kinds values) is
     ∙ moves_are (effect event old) (λ u. value u old) kinds values kinds_are values_are
 
 -- the processors that start
-starts_all : (before : Unit → ℕ) (down : ℕ → Bool) (after : State) (kinds : List Kind) (values : List (Unit × ℕ)) → kinds ≡ map (kind_of_unit after.fixed.topology) (units after) → values ≡ map (λ u. (u, before u)) (units after) → TellsDown before down after → starts_by after.now.core.procs kinds values ≡ starts down after
-starts_all before down after kinds values kinds_are values_are tells =
-    ap (λ ks. starts_by after.now.core.procs ks values) kinds_are
-    ∙ (ap (starts_by after.now.core.procs (map (kind_of_unit after.fixed.topology) (units after))) values_are
-    ∙ starts_are before down after (units after) tells)
+starts_all : (downs : List Bool) (before : Unit → ℕ) (down : ℕ → Bool) (after : State) (kinds : List UnitKind) (values : List (Unit × ℕ)) → kinds ≡ map (kind_of_unit after.fixed.topology) (units after) → values ≡ map (λ u. (u, before u)) (units after) → TellsDown downs down after → starts_by downs after.now.core.procs kinds values ≡ starts down after
+starts_all downs before down after kinds values kinds_are values_are tells =
+    ap (λ ks. starts_by downs after.now.core.procs ks values) kinds_are
+    ∙ (ap (starts_by downs after.now.core.procs (map (kind_of_unit after.fixed.topology) (units after))) values_are
+    ∙ starts_are downs before down after (units after) tells)
 
-pub step_starts : (event : Event) (old new : State) (kinds : List Kind) (values : List (Unit × ℕ)) → new ≡ after_stages (stages event old) old → kinds ≡ map (kind_of_unit old.fixed.topology) (units old) → values ≡ valued old → starts_by new.now.core.procs kinds values ≡ starts (was_down (old ∷ path event old)) (effect event old)
-step_starts event old new kinds values is kinds_are values_are =
-    ap (λ (b : State). starts_by b.now.core.procs kinds values) is
-    ∙ starts_all (λ u. value u old) (was_down (old ∷ path event old)) (effect event old) kinds values kinds_are values_are (step_tells event old)
+there : (t : Topology) (node : NodeId) (p : ℕ) → IsKind t node (Proc p) → p < length t.procs
+there t node p is = elim ((slice_get_cases t.procs p).1) [
+  | inl here ↦ here.1
+  | inr past ↦ let none : None ≡ Some is.0 = sym past.1 ∙ is.1 in cc
+]
 
--- the processors that start with the load, before which all values are 0
-pub load_starts : (book : State) (kinds : List Kind) (values : List (Unit × ℕ)) → kinds ≡ map (kind_of_unit book.fixed.topology) (units book) → values ≡ map (λ u. (u, 0)) (units book) → starts_by book.now.core.procs kinds values ≡ starts (λ p. true) book
-load_starts book kinds values kinds_are values_are = starts_all (λ _. 0) (λ p. true) book kinds values kinds_are values_are (λ node p is. refl)
+pub step_starts : KindLaws → (event : Event) (old new : State) (along : Trail) (kinds : List UnitKind) (values : List (Unit × ℕ)) → new ≡ after_stages (stages event old) old → IsTrail old (path event old) along → kinds ≡ map (kind_of_unit old.fixed.topology) (units old) → values ≡ valued old → starts_by along.downs new.now.core.procs kinds values ≡ starts (was_down (old ∷ path event old)) (effect event old)
+step_starts laws event old new along kinds values is trailed kinds_are values_are =
+    let t : Topology = old.fixed.topology in
+    ap (λ (b : State). starts_by along.downs b.now.core.procs kinds values) is
+    ∙ starts_all along.downs (λ u. value u old) (was_down (old ∷ path event old)) (effect event old) kinds values kinds_are values_are
+    (λ node p kind. trailed.downs p (there t node p (subst (IsKind t node) kind (laws.is t node))))
+
+-- the processors that start with the load, before which all were down
+pub load_starts : (book : State) (masters procs : ℕ) (along : Trail) (kinds : List UnitKind) (values : List (Unit × ℕ)) → along ≡ trail_at_load masters procs → kinds ≡ map (kind_of_unit book.fixed.topology) (units book) → values ≡ map (λ u. (u, 0)) (units book) → starts_by along.downs book.now.core.procs kinds values ≡ starts (λ p. true) book
+load_starts book masters procs along kinds values are kinds_are values_are =
+    ap (λ (n : Trail). starts_by n.downs book.now.core.procs kinds values) are
+    ∙ starts_all (replicate procs true) (λ _. 0) (λ p. true) book kinds values kinds_are values_are
+    (λ node p is. unwrap_or-slice_get (replicate procs true) p true ∙ get_or-replicate_any true procs p)

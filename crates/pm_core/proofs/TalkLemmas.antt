@@ -5,11 +5,8 @@ use Rattle.std.proofs.lemmas.List.{drop_more}
 use Rattle.pm_base.proofs.ListLemmas.{drop_found}
 use Rattle.pm_object.specs.declared.object.MasterRec.{MasterRec}
 use Rattle.pm_core.specs.declared.ended.Turns.{Turns}
-use Rattle.pm_core.specs.Members.{mode_of_master}
-use Rattle.pm_core.specs.Ended.{turns_of}
-use Rattle.pm_core.specs.State.{Fixed, CoreHalf, State, TalkHalf}
+use Rattle.pm_core.specs.State.{State, TalkHalf}
 use Rattle.pm_core.specs.Talk.{Talk, apply_talk, forget_at, forgets_from, talked, talks}
-use Rattle.pm_core.specs.Telling.{mode_noted, turns_since}
 
 pub talks_append : (first later : List Talk) (half : TalkHalf) → talks (first ++ later) half ≡ talks later (talks first half)
 talks_append [] later half = refl
@@ -26,12 +23,6 @@ each_step change xs i x book next at is =
     ap (talked (flat_map change (drop (i + 1) xs))) is
     ∙ (sym (talked_append (change x) (flat_map change (drop (i + 1) xs)) book)
     ∙ ap (λ left. talked (flat_map change left) book) (sym (drop_found xs i x at)))
-
--- what becomes of a mode follows from what is fixed and from the core half
-pub turns_same : (modes : List _) (a b : State) (m : ℕ) → a.fixed ≡ b.fixed → a.now.core ≡ b.now.core → turns_since modes a m ≡ turns_since modes b m
-turns_same modes a b m fixed core =
-    ap (λ (f : Fixed). turns_of (mode_noted modes m) (mode_of_master f a.now.core m ∷ [])) fixed
-    ∙ ap (λ (c : CoreHalf). turns_of (mode_noted modes m) (mode_of_master b.fixed c m ∷ [])) core
 
 -- one master forgets, and those that are left
 pub forget_step : (turns : ℕ → Turns) (book next : State) (m : ℕ) (d : MasterRec) (masters : List MasterRec) → next ≡ talked (forget_at (turns m) m) book → m < length masters
@@ -58,9 +49,10 @@ pub then_told : (first later : List Talk) (book mid new : State) → mid ≡ tal
 then_told first later book mid new mid_is new_is =
     new_is ∙ (ap (talked later) mid_is ∙ sym (talked_append first later book))
 
--- five lists of changes, one after another
-pub opens : (f n a l e : List Talk) (book b1 b2 b3 b4 b5 : State) → b1 ≡ talked f book → b2 ≡ talked n b1 → b3 ≡ talked a b2 → b4 ≡ talked l b3 → b5 ≡ talked e b4
-    → b5 ≡ talked (f ++ (n ++ (a ++ (l ++ e)))) book
-opens f n a l e book b1 b2 b3 b4 b5 is1 is2 is3 is4 is5 =
-    then_told f (n ++ (a ++ (l ++ e))) book b1 b5 is1
-    (then_told n (a ++ (l ++ e)) b1 b2 b5 is2 (then_told a (l ++ e) b2 b3 b5 is3 (then_told l e b3 b4 b5 is4 is5)))
+-- six lists of changes, one after another
+pub opens : (r f n a l e : List Talk) (book b0 b1 b2 b3 b4 b5 : State) → b0 ≡ talked r book → b1 ≡ talked f b0 → b2 ≡ talked n b1 → b3 ≡ talked a b2 → b4 ≡ talked l b3 → b5 ≡ talked e b4
+    → b5 ≡ talked (r ++ (f ++ (n ++ (a ++ (l ++ e))))) book
+opens r f n a l e book b0 b1 b2 b3 b4 b5 is0 is1 is2 is3 is4 is5 =
+    then_told r (f ++ (n ++ (a ++ (l ++ e)))) book b0 b5 is0
+    (then_told f (n ++ (a ++ (l ++ e))) b0 b1 b5 is1
+    (then_told n (a ++ (l ++ e)) b1 b2 b5 is2 (then_told a (l ++ e) b2 b3 b5 is3 (then_told l e b3 b4 b5 is4 is5))))

@@ -6,7 +6,7 @@ use Rattle.pm_topology.specs.declared.topology.SlaveDef.{SlaveDef}
 use Rattle.pm_topology.specs.declared.topology.Topology.{Topology}
 use Rattle.pm_topology.specs.declared.places.Kind.{Kind}
 use Rattle.pm_topology.specs.declared.places.Kind.TheVariants.{Proc, Slave, Power, Unknown}
-use Rattle.pm_topology.specs.Places.{kind_of}
+use Rattle.pm_topology.specs.Places.{kind_of, line_place}
 use Rattle.pm_topology.specs.Units.{units_of}
 use Rattle.pm_topology.specs.UnitMap.{units_in, value_of}
 use Rattle.pm_power.specs.declared.child.Child.{Child}
@@ -16,28 +16,41 @@ use Rattle.pm_procs.specs.declared.procs.Proc.{Proc as Processor}
 use Rattle.pm_procs.specs.Modes.{is_awake, same_mode}
 use Rattle.pm_procs.specs.Procs.{mode_at, proc_at}
 use Rattle.pm_core.specs.declared.caches.Caches.{Caches}
+use Rattle.pm_core.specs.declared.caches.UnitKind.{UnitKind}
+use Rattle.pm_core.specs.declared.caches.UnitKind.TheVariants.{Entry, Reset}
 use Rattle.pm_core.specs.declared.outbox.Start.{Start}
 use Rattle.pm_notify.specs.declared.notes.Waiting.{Waiting}
 use Rattle.pm_rows.specs.Rows.{Rows}
 use Rattle.pm_core.specs.Notifications.{is_used, notes_about, used_at}
-use Rattle.pm_core.specs.State.{CoreHalf, State}
+use Rattle.pm_core.specs.Along.{down_noted}
+use Rattle.pm_core.specs.State.{Fixed, CoreHalf, State}
 use Rattle.pm_core.specs.Units.{units}
-use Rattle.pm_core.specs.Values.{placed, chosen, need_of, run_of, forest, value}
+use Rattle.pm_core.specs.Values.{placed, chosen, need_of, run_of, forest, line_at, value, value_at}
 
--- the kind of a unit; a reset line has none
-abbrev pub kind_of_unit : Topology → Unit → Kind
-kind_of_unit t (Node node) = kind_of t node
-kind_of_unit t (Line line) = Unknown
+-- what the value of a unit is found by: the kind of a node, and the place of a reset line
+abbrev pub kind_of_unit : Topology → Unit → UnitKind
+kind_of_unit t (Node node) = Entry (kind_of t node)
+kind_of_unit t (Line line) = Reset (line_place t.lines line.0)
 
--- the value of a unit of this kind, by the states of the slaves, the processors, and which power nodes are up
+-- the value of a node of this kind, by the states of the slaves, the processors, and which power nodes are up
 abbrev pub kind_value : List ℕ → List Processor → List Bool → Kind → ℕ
 kind_value states procs ups (Slave s) = unwrap_or (slice_get states s) 0
 kind_value states procs ups (Power w) = cond (unwrap_or (slice_get ups w) false) 1 0
 kind_value states procs ups (Proc p) = cond (is_awake (mode_at p procs)) 1 0
 kind_value states procs ups Unknown = 0
 
+-- the same of a unit, by the reset lines too
+abbrev pub unit_value : List ℕ → List Processor → List Bool → List Bool → UnitKind → ℕ
+unit_value states procs ups lines (Entry kind) = kind_value states procs ups kind
+unit_value states procs ups lines (Reset place) = line_at place lines
+
+-- the value of a unit of this kind in a book
+abbrev pub value_by : Fixed → CoreHalf → UnitKind → ℕ
+value_by fixed core (Entry kind) = value_at kind fixed core
+value_by fixed core (Reset place) = line_at place core.lines
+
 -- a table of units with new values, by the kinds of its units
-abbrev pub revalued : (Kind → ℕ) → List Kind → List (Unit × ℕ) → List (Unit × ℕ)
+abbrev pub revalued : (UnitKind → ℕ) → List UnitKind → List (Unit × ℕ) → List (Unit × ℕ)
 revalued new [] entries = entries
 revalued new (kind ∷ kinds) [] = []
 revalued new (kind ∷ kinds) (e ∷ entries) = (e.0, new kind) ∷ revalued new kinds entries
@@ -48,30 +61,36 @@ moved_at value None = []
 moved_at value (Some e) = if e.1 == value then [] else e.0 ∷ []
 
 -- the units of a table whose value isn't the new one
-abbrev pub moved_by : (Kind → ℕ) → List Kind → List (Unit × ℕ) → List Unit
+abbrev pub moved_by : (UnitKind → ℕ) → List UnitKind → List (Unit × ℕ) → List Unit
 moved_by new [] entries = []
 moved_by new (kind ∷ kinds) [] = []
 moved_by new (kind ∷ kinds) (e ∷ entries) = moved_at (new kind) (Some e) ++ moved_by new kinds entries
 
--- the start of this unit, whose value was 0 before, where the processor is active now
+-- the start of this unit, where the processor was down and is active now
 abbrev pub start_if : Bool → Unit → Processor → List Start
 start_if down (Node node) proc =
     if down && same_mode proc.mode Active then record { proc = node; address = proc.address } ∷ [] else []
 start_if down (Line line) proc = []
 
--- the start of the unit of an entry, if it is a processor that starts
-abbrev pub started_at : List Processor → Kind → Option (Unit × ℕ) → List Start
-started_at procs kind None = []
-started_at procs (Proc p) (Some e) = start_if (e.1 == 0) e.0 (proc_at p procs)
-started_at procs (Slave s) (Some e) = []
-started_at procs (Power w) (Some e) = []
-started_at procs Unknown (Some e) = []
+-- the start of an entry's node of this kind, if it is a processor that starts
+abbrev pub start_in : List Bool → List Processor → Kind → Unit × ℕ → List Start
+start_in downs procs (Proc p) e = start_if (down_noted p downs) e.0 (proc_at p procs)
+start_in downs procs (Slave s) e = []
+start_in downs procs (Power w) e = []
+start_in downs procs Unknown e = []
 
--- the starts of the units of a table, by the values before
-abbrev pub starts_by : List Processor → List Kind → List (Unit × ℕ) → List Start
-starts_by procs [] entries = []
-starts_by procs (kind ∷ kinds) [] = []
-starts_by procs (kind ∷ kinds) (e ∷ entries) = started_at procs kind (Some e) ++ starts_by procs kinds entries
+-- the start of the unit of an entry
+abbrev pub started_at : List Bool → List Processor → UnitKind → Option (Unit × ℕ) → List Start
+started_at downs procs kind None = []
+started_at downs procs (Entry kind) (Some e) = start_in downs procs kind e
+started_at downs procs (Reset place) (Some e) = []
+
+-- the starts of the units of a table, by the processors that were down
+abbrev pub starts_by : List Bool → List Processor → List UnitKind → List (Unit × ℕ) → List Start
+starts_by downs procs [] entries = []
+starts_by downs procs (kind ∷ kinds) [] = []
+starts_by downs procs (kind ∷ kinds) (e ∷ entries) =
+    started_at downs procs kind (Some e) ++ starts_by downs procs kinds entries
 
 -- a node of this kind is a slave that was used, by what is kept of each slave
 abbrev pub used_kept : List Bool → Kind → Bool
@@ -80,9 +99,10 @@ used_kept used (Proc p) = false
 used_kept used (Power w) = false
 used_kept used Unknown = false
 
--- a node of this kind was used, and by these rows is used no more
-abbrev pub freed_by : List Bool → Rows → Kind → Bool
-freed_by used rows kind = used_kept used kind && not (used_at kind rows)
+-- a unit of this kind was used, and by these rows is used no more
+abbrev pub freed_by : List Bool → Rows → UnitKind → Bool
+freed_by used rows (Entry kind) = used_kept used kind && not (used_at kind rows)
+freed_by used rows (Reset place) = false
 
 -- what happened to the unit of an entry, by its value before
 abbrev pub noticed_at : ℕ → Bool → Option (Unit × ℕ) → List Waiting
@@ -90,7 +110,7 @@ noticed_at value freed None = []
 noticed_at value freed (Some e) = notes_about (not (e.1 == value)) freed e.0
 
 -- what happened to the units of a table
-abbrev pub noticed_by : (Kind → ℕ) → (Kind → Bool) → List Kind → List (Unit × ℕ) → List Waiting
+abbrev pub noticed_by : (UnitKind → ℕ) → (UnitKind → Bool) → List UnitKind → List (Unit × ℕ) → List Waiting
 noticed_by new freed [] entries = []
 noticed_by new freed (kind ∷ kinds) [] = []
 noticed_by new freed (kind ∷ kinds) (e ∷ entries) =

@@ -1,5 +1,7 @@
--- What a message does besides its changes of the core half: to requests to suspend, to notifiers, and to the mail of its sender.
-use Rattle.std.specs.Prelude.{ℕ, List, [], ◌∷◌, map, Option, Some, None, if◌then◌else◌}
+-- What a message does besides its changes of the core half: to requests to suspend, to notifiers, to reset lines, to the mail of
+-- its sender, and to all that the masters are told.
+use Rattle.std.specs.Prelude.{ℕ, Bool, false, List, [], ◌∷◌, map, Option, Some, None, if◌then◌else◌}
+use Rattle.pm_base.specs.declared.names.LineId.{LineId}
 use Rattle.pm_base.specs.declared.names.Mode.TheVariants.{Asleep}
 use Rattle.pm_base.specs.declared.names.NodeId.{NodeId}
 use Rattle.pm_ipi.specs.Calls.{ack_of, node_of}
@@ -57,3 +59,15 @@ kept_of Nothing after = []
 kept_of (Dropped master) after = []
 kept_of (Served master call judgement) after =
     kept_at (master_place master after) (own_note judgement.asks (ack_of call) (node_of call) judgement.response.status) after
+
+-- the reset line that it pulses
+abbrev pub pulse_in : Heard → Option LineId
+pulse_in Nothing = None
+pulse_in (Dropped master) = None
+pulse_in (Served master call judgement) = judgement.pulse
+
+-- whether all is restarted by it
+abbrev pub renews_in : Heard → Bool
+renews_in Nothing = false
+renews_in (Dropped master) = false
+renews_in (Served master call judgement) = judgement.renews

@@ -1,11 +1,14 @@
+pub mod Along
 pub mod Boot
 pub mod Caches
 pub mod Callbacks
+pub mod Characteristics
 pub mod Choice
 pub mod Ended
 pub mod Events
 pub mod Fed
 pub mod Heard
+pub mod Lines
 pub mod Load
 pub mod Members
 pub mod Notifications
@@ -16,6 +19,7 @@ pub mod Prims
 pub mod ProcCalls
 pub mod RowCalls
 pub mod Run
+pub mod Scope
 pub mod Sound
 pub mod Stages
 pub mod Starts

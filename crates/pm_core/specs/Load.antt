@@ -1,23 +1,17 @@
 -- The book at load: a row for each permitted pair, with what the object preallocates for it. The first processor of the
--- first master is active, and all others are off.
-use Rattle.std.specs.Prelude.{ℕ, List, length, Option, Some, None}
+-- first master is active, and all others are off. All reset lines are released.
+use Rattle.std.specs.Prelude.{false, length}
 use Rattle.pm_object.specs.declared.object.Object.{Object}
 use Rattle.pm_topology.specs.declared.topology.Topology.{Topology}
-use Rattle.pm_base.specs.declared.names.Mode.TheVariants.{Active}
 use Rattle.pm_notify.specs.Notify.{loaded}
-use Rattle.pm_procs.specs.declared.procs.Proc.{Proc}
 use Rattle.pm_procs.specs.Pending.{none_pending}
 use Rattle.pm_procs.specs.Procs.{all_off}
+use Rattle.pm_resets.specs.Resets.{all_released}
 use Rattle.pm_rows.specs.Rows.{loaded_rows}
 use Rattle.pm_core.specs.Boot.{boot_master, boot_proc}
 use Rattle.pm_core.specs.Pairs.{pairs_of}
-use Rattle.pm_core.specs.Prims.{proc_put}
+use Rattle.pm_core.specs.Prims.{procs_with}
 use Rattle.pm_core.specs.State.{State}
-
--- these processors, where the one at this place, if there is one, is active with resume address 0
-abbrev pub procs_with : Option ℕ → List Proc → List Proc
-procs_with None procs = procs
-procs_with (Some p) procs = proc_put p Active 0 procs
 
 -- the book at load
 abbrev pub load_of : Object → Topology → State
@@ -27,6 +21,8 @@ load_of object topology = record {
     core = record {
       rows = loaded_rows (length object.masters) (boot_master object topology) (pairs_of object topology);
       procs = procs_with (boot_proc object topology) (all_off (length topology.procs));
+      lines = all_released (length topology.lines);
+      halted = false;
     };
     talk = record {
       pending = none_pending (length object.masters);

@@ -1,5 +1,6 @@
 -- The outbox: the room that it has, and what a step puts into it.
-use Rattle.std.specs.Prelude.{◌≡◌, ℕ, ◌+◌, ◌*◌, ◌≤◌, List, [], length}
+use Rattle.std.specs.Prelude.{◌≡◌, ℕ, ◌+◌, ◌*◌, ◌≤◌, List, [], length, Option, None}
+use Rattle.pm_base.specs.declared.names.LineId.{LineId}
 use Rattle.pm_base.specs.declared.names.Unit.{Unit}
 use Rattle.pm_topology.specs.declared.topology.Topology.{Topology}
 use Rattle.pm_core.specs.declared.replies.Answer.{Answer}
@@ -14,9 +15,9 @@ use Rattle.pm_core.specs.State.{State, in_force}
 abbrev pub unit_count : Topology → ℕ
 unit_count t = length t.slaves + length t.procs + length t.powers + length t.lines
 
--- how many commands a step does at most: each unit has one turn, and each power node one more
+-- how many commands a step does at most: each unit has one turn, each power node one more, and so has one reset line
 abbrev pub command_count : Topology → ℕ
-command_count t = unit_count t + length t.powers
+command_count t = unit_count t + length t.powers + 1
 
 -- how many notifications a step makes at most: each node changes, and has no users any more
 abbrev pub notice_count : ℕ → ℕ
@@ -54,16 +55,18 @@ pub record KeepsRoom (before after : Outbox) : Type 0 where
 
 pub record IsEmpty (out : Outbox) : Type 0 where
   pub moved : out.moved.items ≡ []
+  pub pulse : out.pulse ≡ None
   pub done : out.done.items ≡ []
   pub starts : out.starts.items ≡ []
   pub late : out.late.items ≡ []
   pub calls : out.calls.items ≡ []
   pub answer : out.answer ≡ Silent
 
--- what a step puts out: the units that move, the processors that start, the late replies and the callbacks to masters that
+-- what a step puts out: the units that move, the reset line that is pulsed, the processors that start, the late replies and the callbacks to masters that
 -- wait for them, and the answer
 pub record Outputs : Type 0 where
   pub moved : List Unit
+  pub pulse : Option LineId
   pub starts : List Start
   pub late : List Late
   pub calls : List Callback
@@ -72,6 +75,7 @@ pub record Outputs : Type 0 where
 -- an outbox holds these outputs, and no command is done yet
 pub record Holds (outputs : Outputs) (out : Outbox) : Type 0 where
   pub moved : out.moved.items ≡ outputs.moved
+  pub pulse : out.pulse ≡ outputs.pulse
   pub starts : out.starts.items ≡ outputs.starts
   pub late : out.late.items ≡ outputs.late
   pub calls : out.calls.items ≡ outputs.calls

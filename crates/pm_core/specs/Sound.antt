@@ -5,6 +5,7 @@ use Rattle.std.specs.List.{list_all}
 use Rattle.pm_base.specs.declared.names.NodeId.{NodeId}
 use Rattle.pm_base.specs.declared.names.Unit.{Unit}
 use Rattle.pm_base.specs.declared.names.Unit.TheVariants.{Node, Line}
+use Rattle.pm_topology.specs.declared.topology.LineDef.{LineDef}
 use Rattle.pm_topology.specs.declared.topology.ProcDef.{ProcDef}
 use Rattle.pm_topology.specs.declared.topology.SlaveDef.{SlaveDef}
 use Rattle.pm_topology.specs.declared.topology.PowerDef.{PowerDef}
@@ -23,22 +24,26 @@ use Rattle.pm_notify.specs.Notify.{mail_of}
 use Rattle.pm_procs.specs.declared.pending.Pending.{Pending}
 use Rattle.pm_procs.specs.Pending.{pending_at}
 use Rattle.pm_procs.specs.Procs.{mode_at}
+use Rattle.pm_perms.specs.Permits.{may_reset}
+use Rattle.pm_resets.specs.Resets.{is_asserted}
 use Rattle.pm_rows.specs.Rows.{mode_of}
 use Rattle.pm_rows.specs.Sound.{AreSound}
 use Rattle.pm_rows.specs.Wanted.{wanted_of}
 use Rattle.pm_rows.specs.declared.row.Entry.{Entry}
+use Rattle.pm_core.specs.Boot.{boot_master}
 use Rattle.pm_core.specs.Members.{owner_at, owns, mode_of_master}
 use Rattle.pm_core.specs.Pairs.{pairs_of}
 use Rattle.pm_core.specs.State.{Fixed, State, in_force}
-use Rattle.pm_core.specs.Views.{named_master}
+use Rattle.pm_core.specs.Views.{master_node, named_master}
 
 -- the rows are those of the permitted pairs, a slave that can't be shared has one user at most, each row wants only what its
 -- slave has, while a master is active nothing is scheduled in its rows, and one that is off uses nothing
 abbrev pub HasSoundRows : State → Type 0
 HasSoundRows book = AreSound (pairs_of (in_force book) book.fixed.topology) book.now.core.rows
 
--- the rows know the mode of each master, as its processors give it
+-- the rows know the mode of each master, as its processors give it, and which master is active at load
 pub record KnowsModes (book : State) : Type 0 where
+  pub boot : book.now.core.rows.boot ≡ boot_master (in_force book) book.fixed.topology
   pub each : length book.now.core.rows.known ≡ length (in_force book).masters
   pub right : (m : ℕ) → m < length (in_force book).masters → mode_of m book.now.core.rows ≡ mode_of_master book.fixed book.now.core m
 
@@ -82,12 +87,23 @@ pub record AreMails (t : Topology) (masters : ℕ) (mail : List Mail) : Type 0 w
 abbrev pub HasMail : State → Type 0
 HasMail book = AreMails book.fixed.topology (length (in_force book).masters) book.now.talk.mail
 
--- the book is sound in its rows, in the modes that they know, in its processors, in what its rows are armed with, in what is
--- pending, and in the mail of its masters
+-- each reset line is asserted or released, and one that no master may reset is released
+pub record AreLines (fixed : Fixed) (lines : List Bool) : Type 0 where
+  pub each : length lines ≡ length fixed.topology.lines
+  pub nobodys : (l : ℕ) (line : LineDef) → slice_get fixed.topology.lines l ≡ Some line
+      → ((m : ℕ) → may_reset fixed.object fixed.topology (master_node fixed.object.masters m) line.line ≡ false)
+      → is_asserted l lines ≡ false
+
+abbrev pub HasLines : State → Type 0
+HasLines book = AreLines book.fixed book.now.core.lines
+
+-- the book is sound in its rows, in the modes that they know, in its processors, in its reset lines, in what its rows are armed
+-- with, in what is pending, and in the mail of its masters
 pub record IsSound (book : State) : Type 0 where
   pub rows : HasSoundRows book
   pub knows : KnowsModes book
   pub procs : HasProcs book
+  pub lines : HasLines book
   pub armed : ArmsOwn book
   pub pending : HasPending book
   pub mail : HasMail book

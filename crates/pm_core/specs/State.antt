@@ -1,6 +1,6 @@
 -- The book: what is fixed from the load on, and what changes. It keeps no state of a slave and no state
 -- of a power node.
-use Rattle.std.specs.Prelude.{List, Option}
+use Rattle.std.specs.Prelude.{Bool, List, Option}
 use Rattle.pm_object.specs.declared.object.Object.{Object}
 use Rattle.pm_topology.specs.declared.topology.Topology.{Topology}
 use Rattle.pm_notify.specs.Mailbox.{Mail}
@@ -13,10 +13,14 @@ pub record Fixed : Type 0 where
   pub object : Object
   pub topology : Topology
 
--- what the values of the units follow from: the rows of the permitted pairs, and each processor's mode and resume address
+-- what the values of the units follow from: the rows of the permitted pairs, each processor's mode and resume address, and
+-- whether each reset line is asserted;
+-- and whether the book is halted, so that it hears nothing
 pub record CoreHalf : Type 0 where
   pub rows : Rows
   pub procs : List Proc
+  pub lines : List Bool
+  pub halted : Bool
 
 -- what the masters are told, from which no value follows: for each master the request that it suspends, where one is pending,
 -- and its mail: the events of which it asked to be told, and the notes that wait for it

@@ -1,12 +1,13 @@
 -- The step: what an event does to the book, and what it puts out.
-use Rattle.std.specs.Prelude.{ℕ, Bool, true, false, not, ◌==◌, List, [], ◌∷◌, ◌++◌, Option, Some, None, option_and_then, if◌then◌else◌}
+use Rattle.std.specs.Prelude.{ℕ, Bool, true, false, not, ◌==◌, ◌&&◌, List, [], ◌∷◌, ◌++◌, Option, Some, None, option_and_then, if◌then◌else◌}
+use Rattle.pm_base.specs.declared.names.LineId.{LineId}
 use Rattle.pm_base.specs.declared.names.NodeId.{NodeId}
 use Rattle.pm_base.specs.declared.names.Mode.{Mode}
 use Rattle.pm_base.specs.declared.events.Message.{Message}
 use Rattle.pm_base.specs.declared.events.Event.{Event}
 use Rattle.pm_base.specs.declared.events.Event.TheVariants.{Ipi, Boot, Wfi, Irq, Gic, Tick}
 use Rattle.pm_ipi.specs.declared.calls.Call.{Call}
-use Rattle.pm_ipi.specs.declared.calls.Call.TheVariants.{GetApiVersion, GetNodeStatus, RegisterNotifier, RequestSuspend, SelfSuspend, AbortSuspend, RequestWakeup, SetWakeupSource, RequestNode, ReleaseNode, SetRequirement, SetMaxLatency, InitFinalize, Unknown}
+use Rattle.pm_ipi.specs.declared.calls.Call.TheVariants.{GetApiVersion, GetNodeStatus, GetOpCharacteristic, RegisterNotifier, RequestSuspend, SelfSuspend, ForcePowerdown, AbortSuspend, RequestWakeup, SetWakeupSource, SystemShutdown, RequestNode, ReleaseNode, SetRequirement, SetMaxLatency, ResetAssert, ResetGetStatus, InitFinalize, Unknown}
 use Rattle.pm_ipi.specs.declared.calls.AckKind.{AckKind}
 use Rattle.pm_ipi.specs.declared.calls.AckKind.TheVariants.{No, Blocking, NonBlocking}
 use Rattle.pm_ipi.specs.declared.responses.Response.{Response}
@@ -24,9 +25,11 @@ use Rattle.pm_core.specs.declared.ended.Ended.{Ended}
 use Rattle.pm_core.specs.declared.judgement.Asked.{Asked}
 use Rattle.pm_core.specs.declared.judgement.Notifier.{Notifier}
 use Rattle.pm_core.specs.Callbacks.{News, callbacks, late_replies, mails}
+use Rattle.pm_core.specs.Characteristics.{characteristics}
 use Rattle.pm_core.specs.Ended.{ended_from, turns_along}
 use Rattle.pm_core.specs.Events.{boot, wait, interrupt, raised}
 use Rattle.pm_core.specs.Heard.{kept_of}
+use Rattle.pm_core.specs.Lines.{line_view, line_status}
 use Rattle.pm_core.specs.Members.{mode_of_master}
 use Rattle.pm_core.specs.Notifications.{notifications}
 use Rattle.pm_core.specs.Outbox.{Outputs}
@@ -40,49 +43,69 @@ use Rattle.pm_core.specs.Units.{moved}
 use Rattle.pm_core.specs.Values.{master_place, value, point}
 use Rattle.pm_core.specs.Views.{is_asked, row_view, status_view, suspend_view, proc_view, wake_view, watched, master_mode}
 use Rattle.pm_core.specs.calls.AbortSuspend.{abort_suspend}
+use Rattle.pm_core.specs.calls.ForcePowerdown.{force_powerdown}
 use Rattle.pm_core.specs.calls.GetApiVersion.{get_api_version}
 use Rattle.pm_core.specs.calls.GetNodeStatus.{get_node_status}
+use Rattle.pm_core.specs.calls.GetOpCharacteristic.{get_op_characteristic}
 use Rattle.pm_core.specs.calls.InitFinalize.{init_finalize}
 use Rattle.pm_core.specs.calls.RegisterNotifier.{register_notifier}
 use Rattle.pm_core.specs.calls.ReleaseNode.{release_node}
 use Rattle.pm_core.specs.calls.RequestNode.{request_node}
 use Rattle.pm_core.specs.calls.RequestWakeup.{request_wakeup}
 use Rattle.pm_core.specs.calls.RequestSuspend.{request_suspend}
+use Rattle.pm_core.specs.calls.ResetAssert.{reset_assert}
+use Rattle.pm_core.specs.calls.ResetGetStatus.{reset_get_status}
 use Rattle.pm_core.specs.calls.SelfSuspend.{self_suspend}
 use Rattle.pm_core.specs.calls.SetMaxLatency.{set_max_latency}
 use Rattle.pm_core.specs.calls.SetRequirement.{set_requirement}
 use Rattle.pm_core.specs.calls.SetWakeupSource.{set_wakeup_source}
+use Rattle.pm_core.specs.calls.SystemShutdown.{system_shutdown}
 
 -- a call of the configured master at place m, over what it reads of the book: its checks, and what it does
 abbrev pub tried_by : ℕ → Call → State → Tried
 tried_by m GetApiVersion book = get_api_version
 tried_by m (GetNodeStatus node) book = get_node_status (status_view m node book)
+tried_by m (GetOpCharacteristic node characteristic) book =
+    get_op_characteristic characteristic (characteristics node book)
 tried_by m (RegisterNotifier node event wake enable) book = register_notifier m node event enable (watched m node book)
 tried_by m (RequestSuspend node ack latency state) book =
     request_suspend m node ack latency state (suspend_view m node book)
 tried_by m (SelfSuspend node address) book = self_suspend m address (proc_view m node book)
+tried_by m (ForcePowerdown node ack) book = force_powerdown book.fixed m node ack
 tried_by m (AbortSuspend node reason) book = abort_suspend m reason (is_asked m book) (proc_view m node book)
 tried_by m (RequestWakeup node address ack) book = request_wakeup address ack (wake_view m node book)
 tried_by m (SetWakeupSource target source enable) book =
     set_wakeup_source target enable (proc_view m target book) (row_view m source book)
+tried_by m (SystemShutdown shutdown_type subtype) book = system_shutdown book.fixed m shutdown_type subtype
 tried_by m (RequestNode node caps ack) book = request_node caps ack (row_view m node book)
 tried_by m (ReleaseNode node) book = release_node (row_view m node book)
 tried_by m (SetRequirement node caps ack) book =
     set_requirement (mode_of_master book.fixed book.now.core m) caps ack (row_view m node book)
 tried_by m (SetMaxLatency node latency) book = set_max_latency latency (row_view m node book)
+tried_by m (ResetAssert line action) book = reset_assert line action (line_view m line book)
+tried_by m (ResetGetStatus line) book = reset_get_status (line_status line book)
 tried_by m InitFinalize book = init_finalize m
 tried_by m Unknown book = tried (Some (refusal no_feature) ∷ []) (done [])
+
+-- a call of one stage at most: any but those that take processors down
+abbrev pub is_once : Call → Bool
+is_once (ForcePowerdown node ack) = false
+is_once (SystemShutdown shutdown_type subtype) = false
+is_once _ = true
 
 -- what it comes to
 abbrev pub called : ℕ → Call → State → Outcome
 called m call book = outcome_of (tried_by m call book)
 
--- only a master that is active or suspending is heard
-abbrev pub heard_at : Message → State → ℕ → Option Outcome
-heard_at message book m =
-    if is_awake (mode_of_master book.fixed book.now.core m) then Some (called m (call_of message) book) else None
+-- only a master that is active or suspending is heard, and only while the book isn't halted
+abbrev pub is_heard : ℕ → State → Bool
+is_heard m book = not book.now.core.halted && is_awake (mode_of_master book.fixed book.now.core m)
 
--- what a message comes to: nothing where its sender is no configured master, and where that is asleep or off
+abbrev pub heard_at : Message → State → ℕ → Option Outcome
+heard_at message book m = if is_heard m book then Some (called m (call_of message) book) else None
+
+-- what a message comes to: nothing where its sender is no configured master, where that is asleep or off, and where the book is
+-- halted
 abbrev pub verdict : NodeId → Message → State → Option Outcome
 verdict master message book = option_and_then (heard_at message book) (master_place master book)
 
@@ -91,13 +114,22 @@ abbrev pub stages_of : Option Outcome → List (List Prim)
 stages_of None = []
 stages_of (Some outcome) = outcome.stages
 
+-- the event is a message
+abbrev pub is_ipi : Event → Bool
+is_ipi (Ipi master message) = true
+is_ipi _ = false
+
+-- these stages, and none while the book is halted
+abbrev pub unless_halted : State → List (List Prim) → List (List Prim)
+unless_halted book stages = if book.now.core.halted then [] else stages
+
 -- the stages of a step: none for a message that is dropped or refused, or that only tells words, and for any other event
 abbrev pub stages : Event → State → List (List Prim)
 stages (Ipi master message) book = stages_of (verdict master message book)
-stages (Boot proc address) book = boot proc address book
-stages (Wfi proc) book = wait proc book
-stages (Irq slave) book = raised slave book
-stages (Gic proc) book = interrupt proc book
+stages (Boot proc address) book = unless_halted book (boot proc address book)
+stages (Wfi proc) book = unless_halted book (wait proc book)
+stages (Irq slave) book = unless_halted book (raised slave book)
+stages (Gic proc) book = unless_halted book (interrupt proc book)
 stages _ book = []
 
 -- the books along a step
@@ -118,6 +150,11 @@ abbrev pub registers_of : Option Outcome → Option Notifier
 registers_of None = None
 registers_of (Some outcome) = outcome.judgement.registers
 
+-- the reset line that a message pulses
+abbrev pub pulse_of : Option Outcome → Option LineId
+pulse_of None = None
+pulse_of (Some outcome) = outcome.judgement.pulse
+
 -- the same of an event: only a message does so
 abbrev pub asks : Event → State → Option Asked
 asks (Ipi master message) book = asks_of (verdict master message book)
@@ -131,15 +168,28 @@ abbrev pub registers : Event → State → Option Notifier
 registers (Ipi master message) book = registers_of (verdict master message book)
 registers _ book = None
 
--- the time that passes with an event
-abbrev pub time_of : Event → Option ℕ
-time_of (Tick count) = Some count
-time_of _ = None
+abbrev pub pulse : Event → State → Option LineId
+pulse (Ipi master message) book = pulse_of (verdict master message book)
+pulse _ book = None
+
+-- whether all is restarted by a message
+abbrev pub renews_of : Option Outcome → Bool
+renews_of None = false
+renews_of (Some outcome) = outcome.judgement.renews
+
+abbrev pub renews : Event → State → Bool
+renews (Ipi master message) book = renews_of (verdict master message book)
+renews _ book = false
+
+-- the time that passes with an event: none while the book is halted
+abbrev pub time_of : Event → State → Option ℕ
+time_of (Tick count) book = if book.now.core.halted then None else Some count
+time_of _ book = None
 
 -- the requests that were pending before a step and end in it, in object order of the masters that were asked
 abbrev pub ended : Event → State → List Ended
 ended event book =
-    ended_from (turns_along book (path event book)) (aborts event book) (time_of event) 0 book.now.talk.pending
+    ended_from (turns_along book (path event book)) (aborts event book) (time_of event book) 0 book.now.talk.pending
 
 -- the notifiers of masters that became off along a step are gone, and so is what waits for them
 abbrev pub forgets : Event → State → List Talk
@@ -148,7 +198,7 @@ forgets event book = forgets_from (turns_along book (path event book)) 0 (in_for
 -- what a step does before any master is told of it
 abbrev pub opening : Event → State → List Talk
 opening event book =
-    talk_of (forgets event book) (registers event book) (asks event book) (time_of event) (ended event book)
+    talk_of (renews event book) (forgets event book) (registers event book) (asks event book) (time_of event book) (ended event book)
 
 -- what happened to nodes in a step
 abbrev pub notices : Event → State → List Waiting
@@ -212,11 +262,12 @@ answer_by (Served master call judgement) after = answered judgement.asks master 
 abbrev pub answer_to : Event → State → Answer
 answer_to event book = answer_by (heard_of event book) (effect event book)
 
--- what a step puts out: the units whose value it changes, the processors that it starts, what other masters are told, and the
--- answer
+-- what a step puts out: the units whose value it changes, the reset line that it pulses, the processors that it starts, what
+-- other masters are told, and the answer
 abbrev pub outputs : Event → State → Outputs
 outputs event book = record {
   moved = moved (λ u. value u book) (effect event book);
+  pulse = pulse event book;
   starts = starts (was_down (book ∷ path event book)) (effect event book);
   late = late_replies (ended event book) (effect event book);
   calls = callbacks (news event book) (modes_in book) (mail_after (opening event book) (after_stages (stages event book) book)) (effect event book);
@@ -227,6 +278,7 @@ outputs event book = record {
 abbrev pub outputs_at_load : State → Outputs
 outputs_at_load book = record {
   moved = moved (λ u. 0) book;
+  pulse = None;
   starts = starts (λ p. true) book;
   late = [];
   calls = [];

@@ -1,13 +1,13 @@
 -- The changes of what the masters are told. They come after the stages of a step, and leave the core half as it is.
-use Rattle.std.specs.Prelude.{ℕ, ◌+◌, Bool, List, [], ◌∷◌, ◌++◌, map, Option, Some, None, if◌then◌else◌}
+use Rattle.std.specs.Prelude.{ℕ, ◌+◌, Bool, true, false, List, [], ◌∷◌, ◌++◌, map, Option, Some, None, if◌then◌else◌}
 use Rattle.pm_base.specs.declared.names.NodeId.{NodeId}
 use Rattle.pm_notify.specs.declared.notes.NodeEvent.{NodeEvent}
 use Rattle.pm_notify.specs.declared.notes.Note.{Note}
 use Rattle.pm_notify.specs.declared.notes.Waiting.{Waiting}
-use Rattle.pm_notify.specs.Notify.{dropped, noted, registered, without_mail}
+use Rattle.pm_notify.specs.Notify.{all_forgotten, dropped, noted, registered, without_mail}
 use Rattle.pm_object.specs.declared.object.MasterRec.{MasterRec}
 use Rattle.pm_procs.specs.declared.pending.Pending.{Pending}
-use Rattle.pm_procs.specs.Pending.{asked, ended, all_lowered}
+use Rattle.pm_procs.specs.Pending.{asked, ended, all_ended, all_lowered}
 use Rattle.pm_core.specs.declared.ended.Ended.{Ended}
 use Rattle.pm_core.specs.declared.ended.Turns.{Turns}
 use Rattle.pm_core.specs.declared.judgement.Asked.{Asked}
@@ -29,6 +29,8 @@ pub data Talk : Type 0 where
   Take : (m : ℕ) (node : NodeId) (note : Note) → Talk
   -- a note waits for the master at place m
   Wait : (m : ℕ) (node : NodeId) (note : Note) → Talk
+  -- no request is pending any more on any master, no master has asked to be told of anything, and nothing waits
+  Renew : Talk
 
 abbrev pub apply_talk : Talk → TalkHalf → TalkHalf
 apply_talk (Ask m request) talk = record talk { pending = asked m request talk.pending }
@@ -38,6 +40,7 @@ apply_talk (Forget m) talk = record talk { mail = without_mail m talk.mail }
 apply_talk (Notify m node event on) talk = record talk { mail = registered m node event on talk.mail }
 apply_talk (Take m node note) talk = record talk { mail = dropped m node note talk.mail }
 apply_talk (Wait m node note) talk = record talk { mail = noted m node note talk.mail }
+apply_talk Renew talk = record talk { pending = all_ended talk.pending; mail = all_forgotten talk.mail }
 
 -- one change after another
 abbrev pub talks : List Talk → TalkHalf → TalkHalf
@@ -76,11 +79,16 @@ lower_by (Some count) = Lower count ∷ []
 abbrev pub ends : List Ended → List Talk
 ends ended = map (λ (e : Ended). End e.target) ended
 
--- what a step does before any master is told of it: masters that became off forget, a notifier is put, a master is asked, time
--- passes, and requests end
-abbrev pub talk_of : List Talk → Option Notifier → Option Asked → Option ℕ → List Ended → List Talk
-talk_of forgets registers asked count ended =
-    forgets ++ (notify_by registers ++ (ask_of asked ++ (lower_by count ++ ends ended)))
+-- what the masters are told is as at load, if all was restarted
+abbrev pub renew_if : Bool → List Talk
+renew_if true = Renew ∷ []
+renew_if false = []
+
+-- what a step does before any master is told of it: all is as at load, if all was restarted, masters that became off forget, a
+-- notifier is put, a master is asked, time passes, and requests end
+abbrev pub talk_of : Bool → List Talk → Option Notifier → Option Asked → Option ℕ → List Ended → List Talk
+talk_of renews forgets registers asked count ended =
+    renew_if renews ++ (forgets ++ (notify_by registers ++ (ask_of asked ++ (lower_by count ++ ends ended))))
 
 -- a note that waited for the master at place m was told to it
 abbrev pub take_of : ℕ → Waiting → Talk

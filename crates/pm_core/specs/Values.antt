@@ -1,5 +1,6 @@
 -- The values of the units, by the rows and the processors as they are now.
 use Rattle.std.specs.Prelude.{ℕ, ◌+◌, ◌==◌, Bool, cond, List, [], ◌∷◌, ◌++◌, position, slice_get, Option, Some, None}
+use Rattle.pm_base.specs.declared.names.LineId.{LineId}
 use Rattle.pm_base.specs.declared.names.NodeId.{NodeId}
 use Rattle.pm_base.specs.declared.names.Unit.{Unit}
 use Rattle.pm_base.specs.declared.names.Unit.TheVariants.{Node, Line}
@@ -16,6 +17,7 @@ use Rattle.pm_power.specs.Forest.{Needs, is_up}
 use Rattle.pm_power.specs.Needs.{child}
 use Rattle.pm_procs.specs.Modes.{is_awake, mode_number}
 use Rattle.pm_procs.specs.Procs.{mode_at}
+use Rattle.pm_resets.specs.Resets.{value_of}
 use Rattle.pm_rows.specs.Wanted.{wanted_of}
 use Rattle.pm_core.specs.Choice.{state_for}
 use Rattle.pm_core.specs.State.{Fixed, CoreHalf, State, in_force}
@@ -74,11 +76,19 @@ value_at (Power w) fixed core = cond (is_up (forest fixed core) w) 1 0
 value_at (Proc p) fixed core = cond (runs core p) 1 0
 value_at Unknown fixed core = 0
 
--- the value of a unit by what is fixed and the core half, and 0 for a reset line and for a unit that isn't
--- there
+-- the place of a reset line in the table of the chip
+abbrev pub line_place : LineId → Fixed → Option ℕ
+line_place line fixed = places.line_place fixed.topology.lines line.0
+
+-- the value of the reset line at a place: 1 while it is asserted, and 0 where there is none
+abbrev pub line_at : Option ℕ → List Bool → ℕ
+line_at None lines = 0
+line_at (Some l) lines = value_of l lines
+
+-- the value of a unit by what is fixed and the core half, and 0 for a unit that isn't there
 abbrev pub value_in : Fixed → CoreHalf → Unit → ℕ
 value_in fixed core (Node node) = value_at (kind_of fixed.topology node) fixed core
-value_in fixed core (Line line) = 0
+value_in fixed core (Line line) = line_at (line_place line fixed) core.lines
 
 abbrev pub value : Unit → State → ℕ
 value unit book = value_in book.fixed book.now.core unit

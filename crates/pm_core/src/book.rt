@@ -28,8 +28,10 @@ use std::alloc::Global;
 use std::marker::Model;
 
 /// The book of requirements. It keeps the object, the parts of the chip, a row for each permitted pair
-/// of a master and a slave, the mode and resume address of each processor, and the request to suspend
-/// that is pending on each master, which contracts see, and what is found of the values.
+/// of a master and a slave, the mode and resume address of each processor, whether each reset line is
+/// asserted, whether all is halted, and for each master the request to suspend that is pending on it and
+/// its mail about each unit of the chip. These contracts see. It also keeps what is found of the values,
+/// and what is noted of a step until the masters are told of it.
 #[derive(Drop)]
 pub struct Book {
     inner: Inner,
@@ -81,8 +83,9 @@ impl Book {
 
         // Exactly the permitted pairs have a row, a slave that can't be shared has one user at most, the rows
         // know the modes of the masters, nothing is scheduled while a master is active, one that is off uses
-        // nothing, a processor that no configured master has is off, a row that is armed names a processor of
-        // its own master, and the node of a request to suspend names the master on which it is pending.
+        // nothing, a processor that no configured master has is off, a reset line that no master may reset is
+        // released, a row that is armed names a processor of its own master, the node of a request to suspend
+        // names the master on which it is pending, and each master has mail about each unit of the chip.
         ensures sound { IfOk result IsSound }
 
         // Each slave stands in the first of its states that meets all that is required of it, each processor
@@ -95,9 +98,11 @@ impl Book {
         out.clear();
         let inner = Inner::load(alloc, object, topology)?;
         let mut caches = Caches::load(alloc, &inner)?;
-        let mut telling = Telling::load(alloc, caches.units(), inner.masters())?;
+        let procs = inner.topology().procs.len();
+        let mut telling = Telling::load(alloc, caches.units(), inner.masters(), procs)?;
         caches.update(
             &inner,
+            &telling.along,
             &mut out.moved,
             &mut out.starts,
             &mut telling.notices,
@@ -134,8 +139,9 @@ impl Book {
 
         // Exactly the permitted pairs have a row, a slave that can't be shared has one user at most, the rows
         // know the modes of the masters, nothing is scheduled while a master is active, one that is off uses
-        // nothing, a processor that no configured master has is off, a row that is armed names a processor of
-        // its own master, and the node of a request to suspend names the master on which it is pending.
+        // nothing, a processor that no configured master has is off, a reset line that no master may reset is
+        // released, a row that is armed names a processor of its own master, the node of a request to suspend
+        // names the master on which it is pending, and each master has mail about each unit of the chip.
         ensures sound { IsSound self.new }
 
         // Each slave stands in the first of its states that meets all that is required of it, each processor
@@ -148,10 +154,16 @@ impl Book {
         books_stay_sound();
         values_meet();
         out.clear();
+        let count = self.inner.time_of(event);
         self.telling.note_modes(&self.inner);
-        let heard = self.inner.take(&self.caches, event);
+        self.telling.along.start(&self.inner);
+        let heard = self
+            .inner
+            .take(&self.caches, event, &mut self.telling.along);
+        self.telling.along.note(&self.inner);
         self.caches.update(
             &self.inner,
+            &self.telling.along,
             &mut out.moved,
             &mut out.starts,
             &mut self.telling.notices,
@@ -160,11 +172,12 @@ impl Book {
             &mut self.inner,
             &self.caches,
             &mut self.telling,
-            event,
+            count,
             &heard,
             &mut out.late,
             &mut out.calls,
         );
+        out.pulse = heard.pulse();
         out.answer = self.inner.answer(&self.caches, heard);
     }
 
@@ -208,7 +221,7 @@ impl Book {
     }
 
     /// The value of a unit: the state of a slave, 1 for a processor that is active or suspending and for a
-    /// power node that is up, and else 0, as for a reset line and a unit that isn't there. The state of a
+    /// power node that is up, and else 0, as for a unit that isn't there; of a reset line 1 while it is asserted. The state of a
     /// slave is its first one that has what is wanted of it.
     pub fn value(&self, unit: Unit) -> u32
         ensures value { result ≡ value unit self.now }

@@ -3,10 +3,10 @@
 ghost use Rattle.std.specs.Prelude.{◌≡◌, ◌+◌, ◌≤◌, ◌++◌, [], IfOk, length, map, option_map, slice_get};
 ghost use Rattle.pm_topology.specs.Units.{units_of};
 ghost use Rattle.pm_topology.specs.UnitMap.{all_at};
-ghost use Rattle.pm_core.specs.Caches.{AreKept, HasPlaces, freed_by, kind_of_unit, moved_by, noticed_by, starts_by, value_kept};
+ghost use Rattle.pm_core.specs.Caches.{AreKept, HasPlaces, freed_by, kind_of_unit, moved_by, noticed_by, starts_by, value_by, value_kept};
 ghost use Rattle.pm_core.specs.Outbox.{notice_count};
-ghost use Rattle.pm_core.specs.Values.{value_at};
 
+use crate::along::Along;
 use crate::inner::Inner;
 use crate::moves::{note_moves, note_starts};
 use crate::notifications::note_notices;
@@ -17,12 +17,19 @@ use pm_power::Power;
 use pm_topology::{Kind, Topology, UnitMap, kinds_are_exact, units_of, units_stand_in_order};
 use std::alloc::Global;
 
+/// What the value of a unit is found by: the kind of a node, or the place of a reset line.
+#[derive(Clone, Copy, Debug, PartialEq, Eq)]
+pub(crate) enum UnitKind {
+    Entry(Kind),
+    Reset(Option<usize>),
+}
+
 /// What is kept of the values of a book: the kind of each unit by its place, the chosen state of each
 /// slave and whether it needs its power node in it, whether each processor runs, whether some master uses
 /// each slave, the power nodes, and the value of each unit.
 #[derive(Drop)]
 pub(crate) struct Caches {
-    kinds: Vec<Kind>,
+    kinds: Vec<UnitKind>,
     states: Vec<u32>,
     needs: Vec<bool>,
     runs: Vec<bool>,
@@ -71,12 +78,13 @@ impl Caches {
         self.values.get(unit).unwrap_or(0)
     }
 
-    /// Brings all that is kept up to date, and puts the units whose value isn't the one before into
-    /// `moved`, the processors that are active now and whose value was 0 before into `starts`, and what
+    /// Brings all that is kept up to date, and puts the units whose value isn't the one before into `moved`, the
+    /// processors that are active now and were down by what is kept along the step into `starts`, and what
     /// happened to nodes into `notices`, in the order of the units.
     pub(crate) fn update(
         &mut self,
         inner: &Inner,
+        along: &Along,
         moved: &mut BoundedList<Unit>,
         starts: &mut BoundedList<Start>,
         notices: &mut BoundedList<Waiting>,
@@ -89,13 +97,13 @@ impl Caches {
         ensures kept { AreKept inner.now self.new }
         ensures moved { moved.new ≡ record moved.old {
           items = moved.old.items
-              ++ moved_by (λ kind. value_at kind inner.now.fixed inner.now.now.core) self.old.kinds.items self.old.values;
+              ++ moved_by (value_by inner.now.fixed inner.now.now.core) self.old.kinds.items self.old.values;
         } }
         ensures starts { starts.new ≡ record starts.old {
-          items = starts_by inner.now.now.core.procs self.old.kinds.items self.old.values;
+          items = starts_by along.now.downs inner.now.now.core.procs self.old.kinds.items self.old.values;
         } }
         ensures notices { notices.new ≡ record notices.old {
-          items = noticed_by (λ kind. value_at kind inner.now.fixed inner.now.now.core)
+          items = noticed_by (value_by inner.now.fixed inner.now.now.core)
               (freed_by self.old.used.items inner.now.now.core.rows) self.old.kinds.items self.old.values;
         } }
         ensures few { length notices.new.items ≤ notice_count (length self.old.values) }
@@ -105,13 +113,14 @@ impl Caches {
         inner.choose(&mut self.states, &mut self.needs);
         inner.note_runs(&mut self.runs);
         self.power.recompute(&self.needs, &self.runs);
-        note_starts(&self.kinds, &inner.procs, &self.values, starts);
+        note_starts(along, &self.kinds, &inner.procs, &self.values, starts);
         notices.clear();
         note_notices(
             &self.kinds,
             &self.states,
             &inner.procs,
             self.power.ups(),
+            &inner.resets,
             &self.used,
             &inner.rows,
             &self.values,
@@ -122,6 +131,7 @@ impl Caches {
             &self.states,
             &inner.procs,
             self.power.ups(),
+            &inner.resets,
             &mut self.values,
             moved,
         );
@@ -130,7 +140,7 @@ impl Caches {
 }
 
 /// The kind of each of these units.
-fn kinds_of(alloc: Global, t: &Topology, units: &[Unit]) -> Result<Vec<Kind>, NoMemory>
+fn kinds_of(alloc: Global, t: &Topology, units: &[Unit]) -> Result<Vec<UnitKind>, NoMemory>
     ensures { IfOk result (λ kinds. kinds.items ≡ map (kind_of_unit t.now) units.now) }
 {
     let mut kinds = Vec::new(alloc);
@@ -140,12 +150,12 @@ fn kinds_of(alloc: Global, t: &Topology, units: &[Unit]) -> Result<Vec<Kind>, No
     Ok(kinds)
 }
 
-fn kind_of_unit(t: &Topology, unit: Unit) -> Kind
+fn kind_of_unit(t: &Topology, unit: Unit) -> UnitKind
     ensures { result ≡ kind_of_unit t.now unit }
 {
     match unit {
-        Unit::Node(node) => t.kind(node),
-        Unit::Line(_) => Kind::Unknown,
+        Unit::Node(node) => UnitKind::Entry(t.kind(node)),
+        Unit::Line(line) => UnitKind::Reset(t.line_place(line)),
     }
 }
 

@@ -13,7 +13,8 @@ ghost use Rattle.pm_core.specs.Outbox.{callback_count, callbacks_to_one, notice_
 ghost use Rattle.pm_core.specs.Sound.{HasMail};
 ghost use Rattle.pm_core.specs.State.{in_force};
 ghost use Rattle.pm_core.specs.Talk.{take_of, talked, wait_of};
-ghost use Rattle.pm_core.specs.Telling.{mode_noted, news_in};
+ghost use Rattle.pm_core.specs.Along.{mode_noted};
+ghost use Rattle.pm_core.specs.Telling.{news_in};
 
 use crate::caches::Caches;
 use crate::ended::Ended;

@@ -2,6 +2,7 @@
 
 ghost use Rattle.std.specs.Prelude.{◌≡◌, ◌∷◌, [], option_to_list};
 ghost use Rattle.pm_core.specs.Ended as spec;
+ghost use Rattle.pm_core.specs.Along.{both_turns, no_turns};
 
 use pm_base::Mode;
 use pm_ipi::status::{ABORT_SUSPEND, SUCCESS, TIMEOUT};
@@ -23,6 +24,30 @@ pub(crate) struct Turns {
     pub(crate) down: bool,
     pub(crate) on: bool,
     pub(crate) off: bool,
+}
+
+impl Turns {
+    /// Nothing becomes of the mode.
+    pub(crate) fn none() -> Turns
+        ensures { result ≡ no_turns }
+    {
+        Turns {
+            down: false,
+            on: false,
+            off: false,
+        }
+    }
+
+    /// What becomes of a mode by one change and by a later one.
+    pub(crate) fn and(self, later: Turns) -> Turns
+        ensures { result ≡ both_turns self later }
+    {
+        Turns {
+            down: self.down || later.down,
+            on: self.on || later.on,
+            off: self.off || later.off,
+        }
+    }
 }
 
 /// What becomes of a mode where the next one is this.

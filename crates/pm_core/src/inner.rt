@@ -7,23 +7,24 @@ ghost use Rattle.pm_topology.specs.Places.{kind_of};
 ghost use Rattle.pm_procs.specs.Pending.{pending_at};
 ghost use Rattle.pm_core.specs.Caches.{AreKept, use_of};
 ghost use Rattle.pm_core.specs.State.{in_force};
-ghost use Rattle.pm_core.specs.Telling.{modes_of};
 ghost use Rattle.pm_core.specs.Values.{value, slave_place, master_place, state_at, placed, chosen, need_of, run_of};
 ghost use Rattle.pm_core.specs.Views.{row};
 
 use crate::caches::Caches;
 use crate::choice::chosen_state;
 use crate::notifications::is_used;
-use pm_base::{Mode, NodeId, Unit};
+use pm_base::{NodeId, Unit};
 use pm_notify::Notify;
 use pm_object::Object;
 use pm_procs::{Pending, Procs, is_awake};
+use pm_resets::Resets;
 use pm_rows::{Row, Rows};
 use pm_topology::{Kind, SlaveDef, Topology, kinds_are_exact, needs_in, units_stand_in_order};
 use std::marker::Model;
 
 /// The object, the parts of the chip, a row for each permitted pair of a master and a slave, the
-/// processors, and the mail of each master. A change of it owes nothing to what is kept of the book's values.
+/// processors, the reset lines, whether the book is halted, and the mail of each master. A change of it owes
+/// nothing to what is kept of the book's values.
 #[derive(Drop)]
 pub(crate) struct Inner {
     pub(crate) object: Object,
@@ -31,6 +32,8 @@ pub(crate) struct Inner {
     pub(crate) rows: Rows,
     pub(crate) procs: Procs,
     pub(crate) notify: Notify,
+    pub(crate) resets: Resets,
+    pub(crate) halted: bool,
 }
 
 impl Model for Inner {
@@ -43,7 +46,7 @@ impl Model for Inner {
 
     ghost view = { λ inner. record {
       fixed = record { object = inner.object; topology = inner.topology };
-      now = record { core = record { rows = inner.rows; procs = inner.procs.procs }; talk = record { pending = inner.procs.pending; mail = inner.notify } };
+      now = record { core = record { rows = inner.rows; procs = inner.procs.procs; lines = inner.resets; halted = inner.halted }; talk = record { pending = inner.procs.pending; mail = inner.notify } };
     } };
 
     ghost invariant = { λ inner. IsWellFormed inner.topology
@@ -151,16 +154,6 @@ impl Inner {
             let state = self.state_of(s);
             states[s] = state;
             needs[s] = needs_in(self.topology.slaves.get(s), state);
-        }
-    }
-
-    /// Writes the mode of each master.
-    pub(crate) fn note_modes(&self, modes: &mut [Mode])
-        requires { length modes.old ≡ length (in_force self.now).masters }
-        ensures { modes.new ≡ modes_of self.now }
-    {
-        for m in 0..self.object.masters.len() {
-            modes[m] = self.mode_of_master(m);
         }
     }
 

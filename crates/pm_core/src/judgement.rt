@@ -1,10 +1,10 @@
 //! What a call comes to, besides the changes of the book.
 
-ghost use Rattle.std.specs.Prelude.{◌≡◌};
+ghost use Rattle.std.specs.Prelude.{◌≡◌, ◌∷◌, [], true};
 ghost use Rattle.pm_ipi.specs.Responses.{refusal, success};
 ghost use Rattle.pm_core.specs.Outcome.{answering};
 
-use pm_base::NodeId;
+use pm_base::{LineId, NodeId};
 use pm_ipi::Response;
 use pm_notify::NodeEvent;
 use pm_procs::Pending;
@@ -31,13 +31,16 @@ pub struct Notifier {
 }
 
 /// What a call comes to: the response, the master that it asks to suspend, the place of the master that
-/// aborts its suspend by it, and the notifier that it puts.
+/// aborts its suspend by it, the notifier that it puts, whether all is restarted, and the reset line that
+/// it pulses.
 #[derive(Clone, Copy, Debug, PartialEq, Eq)]
 pub struct Judgement {
     pub response: Response,
     pub asks: Option<Asked>,
     pub aborts: Option<usize>,
     pub registers: Option<Notifier>,
+    pub renews: bool,
+    pub pulse: Option<LineId>,
 }
 
 impl Judgement {
@@ -50,6 +53,8 @@ impl Judgement {
             asks: None,
             aborts: None,
             registers: None,
+            renews: false,
+            pulse: None,
         }
     }
 
@@ -65,5 +70,15 @@ impl Judgement {
         ensures { result ≡ answering (success words) }
     {
         Judgement::of(Response::success(words))
+    }
+
+    /// All is restarted.
+    pub(crate) fn renewal() -> Judgement
+        ensures { result ≡ record (answering (success (0 ∷ 0 ∷ 0 ∷ []))) { renews = true } }
+    {
+        Judgement {
+            renews: true,
+            ..Judgement::success([0; 3])
+        }
     }
 }

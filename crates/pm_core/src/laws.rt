@@ -16,14 +16,14 @@ ghost use Rattle.pm_core.specs.Members.{members_of, owns};
 ghost use Rattle.pm_core.specs.Run.{Setup, Stand, Core, IsBookOf, loaded, last_stand, run};
 ghost use Rattle.pm_core.specs.Sound.{IsSound, MeetsRequirements, StandsAsWanted};
 ghost use Rattle.pm_core.specs.State.{State, in_force};
-ghost use Rattle.pm_core.specs.Step.{effect};
+ghost use Rattle.pm_core.specs.Step.{effect, renews};
 ghost use Rattle.pm_core.specs.Values.{value};
 ghost use Rattle.pm_core.specs.Views.{row};
 
 use pm_notify::mail_stands_in_order;
 use pm_power::up_where_needed;
 use pm_procs::{modes_of_masters, requests_of_masters};
-use pm_rows::{rows_stay_sound, shifts_leave_others};
+use pm_rows::{rows_know_modes, rows_stay_sound, shifts_leave_others};
 use pm_slaves::first_state_meets;
 use pm_topology::kinds_are_exact;
 
@@ -36,6 +36,20 @@ pub fn books_stay_sound()
         → is_some (row master slave book) ≡ may_use (in_force book) book.fixed.topology master slave }
 {
     rows_stay_sound();
+    rows_know_modes();
+    shifts_leave_others();
+    modes_of_masters();
+    requests_of_masters();
+    mail_stands_in_order();
+}
+
+/// After a restart of all a sound book is the book at load.
+pub fn restarts_load()
+    ensures { (event : Event) (book : State) → IsSound book → renews event book ≡ true
+        → effect event book ≡ load_of (in_force book) book.fixed.topology }
+{
+    rows_stay_sound();
+    rows_know_modes();
     shifts_leave_others();
     modes_of_masters();
     requests_of_masters();

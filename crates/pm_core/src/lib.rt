@@ -3,16 +3,19 @@
 //! (UG1200, power management API).
 #![tactic(auto)]
 
+mod along;
 mod book;
 mod caches;
 mod callbacks;
 mod calls;
+mod characteristics;
 mod choice;
 mod ended;
 mod events;
 mod inner;
 mod judgement;
 mod laws;
+mod lines;
 mod load;
 mod members;
 mod moves;
@@ -20,6 +23,7 @@ mod notifications;
 mod outbox;
 mod pairs;
 mod replies;
+mod scope;
 mod stages;
 mod step;
 mod talk;
@@ -27,6 +31,8 @@ mod telling;
 mod views;
 
 pub use book::Book;
-pub use laws::{books_of_a_run, books_stay_sound, members_are_owned, values_are_fed, values_meet};
+pub use laws::{
+    books_of_a_run, books_stay_sound, members_are_owned, restarts_load, values_are_fed, values_meet,
+};
 pub use outbox::{Callback, Done, Late, Outbox, Start};
 pub use replies::Answer;

@@ -4,8 +4,9 @@ ghost use Rattle.std.specs.Prelude.{◌≡◌, IfOk, length};
 ghost use Rattle.pm_topology.specs.WellFormed.{IsWellFormed};
 ghost use Rattle.pm_rows.specs.Rows.{loaded_rows};
 ghost use Rattle.pm_core.specs.Boot.{active_at_load};
-ghost use Rattle.pm_core.specs.Load.{load_of, procs_with};
+ghost use Rattle.pm_core.specs.Load.{load_of};
 ghost use Rattle.pm_core.specs.Pairs.{pairs_from};
+ghost use Rattle.pm_core.specs.Prims.{procs_with};
 ghost use Rattle.pm_core.specs.Sound.{IsSound};
 
 use crate::inner::Inner;
@@ -16,13 +17,14 @@ use pm_base::{Mode, NoMemory};
 use pm_notify::Notify;
 use pm_object::Object;
 use pm_procs::{Proc, Procs};
+use pm_resets::Resets;
 use pm_rows::Rows;
 use pm_topology::Topology;
 use std::alloc::Global;
 
 impl Inner {
     /// A row for each permitted pair, with what the object preallocates for it. The first processor of
-    /// the first master is active, and all others are off.
+    /// the first master is active, and all others are off. All reset lines are released.
     pub(crate) fn load(alloc: Global, object: Object, topology: Topology) -> Result<Inner, NoMemory>
         requires { IsWellFormed topology }
         ensures book { IfOk result (λ inner. inner ≡ load_of object topology) }
@@ -39,6 +41,7 @@ impl Inner {
             &topology,
             active_at_load(boot, object.masters.len()),
         )?;
+        let resets = Resets::load(alloc, topology.lines.len())?;
         start(&mut procs, boot);
         Ok(Inner {
             object,
@@ -46,6 +49,8 @@ impl Inner {
             rows,
             procs,
             notify,
+            resets,
+            halted: false,
         })
     }
 }
@@ -70,7 +75,7 @@ fn active_at_load(boot: Option<usize>, masters: usize) -> usize
 }
 
 /// The processor at this place is active from now on, if there is one.
-fn start(procs: &mut Procs, boot: Option<usize>)
+pub(crate) fn start(procs: &mut Procs, boot: Option<usize>)
     ensures { procs.new ≡ record procs.old { procs = procs_with boot procs.old.procs } }
 {
     if let Some(p) = boot {

@@ -1,24 +1,27 @@
 //! What happens to nodes in a step: which change, and which have no users any more.
 
 ghost use Rattle.std.specs.Prelude.{◌≡◌, ◌+◌, ◌*◌, ◌<◌, ◌≤◌, ◌++◌, false, length, slice_get, unwrap_or};
-ghost use Rattle.pm_core.specs.Caches.{freed_by, kind_value, noticed_at, noticed_by};
+ghost use Rattle.pm_core.specs.Caches.{freed_by, noticed_at, noticed_by, unit_value};
 ghost use Rattle.pm_core.specs.Notifications as spec;
 ghost use Rattle.pm_core.specs.Outbox.{notice_count};
 
-use crate::moves::kind_value;
+use crate::caches::UnitKind;
+use crate::moves::unit_value;
 use pm_base::{BoundedList, NodeId, Unit};
 use pm_notify::{Note, Waiting};
 use pm_procs::Procs;
+use pm_resets::Resets;
 use pm_rows::Rows;
 use pm_topology::{Kind, UnitMap};
 
 /// Puts what happened to each unit into `notices`, in the order of the units: that its value isn't the one
 /// before, and then that it was used and is used no more.
 pub(crate) fn note_notices(
-    kinds: &[Kind],
+    kinds: &[UnitKind],
     states: &[u32],
     procs: &Procs,
     ups: &[bool],
+    resets: &Resets,
     used: &[bool],
     rows: &Rows,
     values: &UnitMap<u32>,
@@ -28,24 +31,25 @@ pub(crate) fn note_notices(
     requires room { length notices.old.items + notice_count (length values.now) ≤ notices.old.room }
     ensures notices { notices.new ≡ record notices.old {
       items = notices.old.items
-          ++ noticed_by (kind_value states.now procs.now.procs ups.now) (freed_by used.now rows.now) kinds.now values.now;
+          ++ noticed_by (unit_value states.now procs.now.procs ups.now resets.now) (freed_by used.now rows.now) kinds.now values.now;
     } }
     ensures few { length notices.new.items ≤ length notices.old.items + notice_count (length values.now) }
 {
     for (k, kind) in kinds.iter().enumerate() {
-        let value = kind_value(*kind, states, procs, ups);
+        let value = unit_value(*kind, states, procs, ups, resets);
         let freed = freed(*kind, used, rows);
         note_notice(values.entry(k), value, freed, notices);
     }
 }
 
-/// Whether a node of this kind was used, and is used no more.
-fn freed(kind: Kind, used: &[bool], rows: &Rows) -> bool
+/// Whether a unit of this kind was used, and is used no more.
+fn freed(kind: UnitKind, used: &[bool], rows: &Rows) -> bool
     ensures { result ≡ freed_by used.now rows.now kind }
 {
     match kind {
-        Kind::Slave(s) => was_used(used, s) && !is_used(s, rows),
-        Kind::Proc(_) | Kind::Power(_) | Kind::Unknown => false,
+        UnitKind::Entry(Kind::Slave(s)) => was_used(used, s) && !is_used(s, rows),
+        UnitKind::Entry(Kind::Proc(_) | Kind::Power(_) | Kind::Unknown) => false,
+        UnitKind::Reset(_) => false,
     }
 }
 

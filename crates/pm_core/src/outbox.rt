@@ -5,7 +5,7 @@ ghost use Rattle.pm_core.specs.Outbox.{HasRoom, IsEmpty, KeepsRoom, callback_cou
 ghost use Rattle.pm_topology.specs.WellFormed.{IsWellFormed};
 
 use crate::replies::Answer;
-use pm_base::{BoundedList, Command, NoMemory, NodeId, Unit};
+use pm_base::{BoundedList, Command, LineId, NoMemory, NodeId, Unit};
 use pm_topology::Topology;
 use std::alloc::Global;
 
@@ -39,12 +39,13 @@ pub struct Callback {
     pub args: [u32; 4],
 }
 
-/// What a step puts out: the units whose value it changed, in the order of the units, the processors
-/// that it started, by number, the late replies and the callbacks to masters that wait for them, and the
+/// What a step puts out: the units whose value it changed, in the order of the units, the reset line that
+/// it pulses, the processors that it started, by number, the late replies and the callbacks to masters that wait for them, and the
 /// answer. The commands that are done for it are put in by whoever drives the device.
 #[derive(Drop)]
 pub struct Outbox {
     pub moved: BoundedList<Unit>,
+    pub pulse: Option<LineId>,
     pub done: BoundedList<Done>,
     pub starts: BoundedList<Start>,
     pub late: BoundedList<Late>,
@@ -68,7 +69,8 @@ impl Outbox {
         let callbacks = most_callbacks(units, masters).ok_or(NoMemory)?;
         Ok(Outbox {
             moved: BoundedList::with_room(alloc, units)?,
-            done: BoundedList::with_room(alloc, units + t.powers.len())?,
+            pulse: None,
+            done: BoundedList::with_room(alloc, units + t.powers.len() + 1)?,
             starts: BoundedList::with_room(alloc, t.procs.len())?,
             late: BoundedList::with_room(alloc, masters)?,
             calls: BoundedList::with_room(alloc, callbacks)?,
@@ -82,6 +84,7 @@ impl Outbox {
         ensures room { KeepsRoom self.old self.new }
     {
         self.moved.clear();
+        self.pulse = None;
         self.done.clear();
         self.starts.clear();
         self.late.clear();

@@ -2,10 +2,12 @@
 
 ghost use Rattle.std.specs.Prelude.{◌≡◌, ◌∷◌, []};
 ghost use Rattle.pm_core.specs.Members.{mode_of_master, owner_at, owns};
-ghost use Rattle.pm_core.specs.Prims.{changed, At_row, Settle, Put_proc, Shift};
+ghost use Rattle.pm_core.specs.Prims.{changed, At_row, Halt, Put_proc, Reload, Settle, Shift};
 ghost use Rattle.pm_core.specs.Stages.{after_stage, follow_at, followed};
+ghost use Rattle.pm_core.specs.calls.SystemShutdown.{first_own};
 
 use crate::inner::Inner;
+use crate::load::start;
 use crate::members::owner_at;
 use pm_base::Mode;
 use pm_procs::{Proc, same_mode};
@@ -76,6 +78,33 @@ impl Inner {
     {
         self.rows.settle(master);
         self.follow();
+    }
+
+    /// The book is halted, and each of its rows is cleared but for its preset.
+    pub(crate) fn halt(&mut self)
+        ensures { self.new ≡ changed (Halt ∷ []) self.old }
+    {
+        self.rows.clear();
+        self.halted = true;
+    }
+
+    /// The rows, the processors and the reset lines are as at load, and the book isn't halted.
+    pub(crate) fn reload(&mut self)
+        ensures { self.new ≡ changed (Reload ∷ []) self.old }
+    {
+        self.rows.restart();
+        self.procs.put_all_off();
+        let boot = self.first_proc(0);
+        start(&mut self.procs, boot);
+        self.resets.restart();
+        self.halted = false;
+    }
+
+    /// The place of the first processor of the master at a place.
+    pub(crate) fn first_proc(&self, m: usize) -> Option<usize>
+        ensures { result ≡ first_own self.now.fixed m }
+    {
+        self.procs.members(m).first().copied()
     }
 
     /// The stage in which a processor of a master goes to a mode, with a resume address.

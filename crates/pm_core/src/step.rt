@@ -1,19 +1,24 @@
 //! What one event does to the book, and how it is answered.
 
-ghost use Rattle.std.specs.Prelude.{◌≡◌};
+ghost use Rattle.std.specs.Prelude.{◌≡◌, true, false};
 ghost use Rattle.pm_base.specs.declared.events.Event.TheVariants.{Ipi};
 ghost use Rattle.pm_ipi.specs.Calls.{ack_of, node_of};
 ghost use Rattle.pm_core.specs.Caches.{AreKept};
-ghost use Rattle.pm_core.specs.Stages.{after_stages};
-ghost use Rattle.pm_core.specs.Step.{called, stages, heard_of, answer_by, acknowledged, time_of};
-ghost use Rattle.pm_core.specs.Heard.{asks_in, aborts_in, registers_in};
+ghost use Rattle.pm_core.specs.Stages.{after_stages, path_from};
+ghost use Rattle.pm_core.specs.Step.{called, stages, path, heard_of, is_heard, is_ipi, is_once, answer_by, acknowledged, time_of};
+ghost use Rattle.pm_core.specs.Heard.{asks_in, aborts_in, registers_in, pulse_in, renews_in};
+ghost use Rattle.pm_core.specs.Along.{Completes, trail_from};
 
+use crate::along::Along;
 use crate::caches::Caches;
-use crate::calls::{get_api_version, get_node_status, register_notifier, request_suspend};
+use crate::calls::{
+    get_api_version, get_node_status, get_op_characteristic, register_notifier, request_suspend,
+    reset_get_status,
+};
 use crate::inner::Inner;
 use crate::judgement::{Asked, Judgement, Notifier};
 use crate::replies::Answer;
-use pm_base::{Event, Message, NodeId};
+use pm_base::{Event, LineId, Message, NodeId};
 use pm_ipi::status::NO_FEATURE;
 use pm_ipi::{AckKind, Call, Response, decode_call};
 use pm_procs::is_awake;
@@ -31,16 +36,6 @@ pub(crate) enum Heard {
         call: Call,
         judgement: Judgement,
     },
-}
-
-/// The time that passes with an event.
-pub(crate) fn time_of(event: &Event) -> Option<u32>
-    ensures { result ≡ time_of event.now }
-{
-    match event {
-        Event::Tick { count } => Some(*count),
-        _ => None,
-    }
 }
 
 impl Heard {
@@ -64,6 +59,16 @@ impl Heard {
         }
     }
 
+    /// Whether all is restarted by the message.
+    pub(crate) fn renews(&self) -> bool
+        ensures { result ≡ renews_in self.now }
+    {
+        match self {
+            Heard::Served { judgement, .. } => judgement.renews,
+            Heard::Nothing | Heard::Dropped { .. } => false,
+        }
+    }
+
     /// The master that aborts its suspend by the message.
     pub(crate) fn aborts(&self) -> Option<usize>
         ensures { result ≡ aborts_in self.now }
@@ -73,39 +78,83 @@ impl Heard {
             Heard::Nothing | Heard::Dropped { .. } => None,
         }
     }
+
+    /// The reset line that the message pulses.
+    pub(crate) fn pulse(&self) -> Option<LineId>
+        ensures { result ≡ pulse_in self.now }
+    {
+        match self {
+            Heard::Served { judgement, .. } => judgement.pulse,
+            Heard::Nothing | Heard::Dropped { .. } => None,
+        }
+    }
 }
 
 impl Inner {
-    /// One event: the book after its stages, and what it came to.
-    pub(crate) fn take(&mut self, caches: &Caches, event: &Event) -> Heard
-        requires { AreKept self.old caches.now }
-        ensures book { self.new ≡ after_stages (stages event.now self.old) self.old }
-        ensures heard { result ≡ heard_of event.now self.old }
+    /// The time that passes with an event: none while the book is halted.
+    pub(crate) fn time_of(&self, event: &Event) -> Option<u32>
+        ensures { result ≡ time_of event.now self.now }
     {
         match event {
-            Event::Ipi { master, message } => return self.hear(caches, *master, message),
+            Event::Tick { count } => { if self.halted { None } else { Some(*count) } }
+            _ => None,
+        }
+    }
+
+    /// One event: the book after its stages, and what it came to. Noting the modes after it completes what
+    /// was noted along the step.
+    pub(crate) fn take(&mut self, caches: &Caches, event: &Event, along: &mut Along) -> Heard
+        requires kept { AreKept self.old caches.now }
+        requires along { along.old ≡ trail_from self.old }
+        ensures book { self.new ≡ after_stages (stages event.now self.old) self.old }
+        ensures heard { result ≡ heard_of event.now self.old }
+        ensures along { Completes self.old (path event.now self.old) self.new along.new }
+    {
+        if let Event::Ipi { master, message } = event {
+            return self.hear(caches, *master, message, along);
+        }
+        self.happen(event);
+        Heard::Nothing
+    }
+
+    /// An event that is no message. Nothing happens while the book is halted.
+    fn happen(&mut self, event: &Event)
+        requires { is_ipi event.now ≡ false }
+        ensures { self.new ≡ after_stages (stages event.now self.old) self.old }
+    {
+        if self.halted {
+            return;
+        }
+        match event {
             Event::Boot { proc, address } => self.boot(*proc, *address),
             Event::Wfi { proc } => self.wait(*proc),
             Event::Irq { slave } => self.raise(*slave),
             Event::Gic { proc } => self.interrupt(*proc),
             _ => {}
         }
-        Heard::Nothing
     }
 
-    fn hear(&mut self, caches: &Caches, master: NodeId, message: &Message) -> Heard
-        requires { AreKept self.old caches.now }
+    fn hear(
+        &mut self,
+        caches: &Caches,
+        master: NodeId,
+        message: &Message,
+        along: &mut Along,
+    ) -> Heard
+        requires kept { AreKept self.old caches.now }
+        requires along { along.old ≡ trail_from self.old }
         ensures book { self.new ≡ after_stages (stages (Ipi master message.now) self.old) self.old }
         ensures heard { result ≡ heard_of (Ipi master message.now) self.old }
+        ensures along { Completes self.old (path (Ipi master message.now) self.old) self.new along.new }
     {
         let Some(place) = self.master_place(master) else {
             return Heard::Dropped { master };
         };
-        if !is_awake(self.mode_of_master(place)) {
+        if !self.is_heard(place) {
             return Heard::Dropped { master };
         }
         let call = decode_call(message);
-        let judgement = self.serve(caches, place, call);
+        let judgement = self.serve(caches, place, call, along);
         Heard::Served {
             master,
             call,
@@ -113,8 +162,35 @@ impl Inner {
         }
     }
 
-    fn serve(&mut self, caches: &Caches, master: usize, call: Call) -> Judgement
-        requires { AreKept self.old caches.now }
+    /// Whether a master is heard: it is active or suspending, and the book isn't halted.
+    fn is_heard(&self, m: usize) -> bool
+        ensures { result ≡ is_heard m self.now }
+    {
+        !self.halted && is_awake(self.mode_of_master(m))
+    }
+
+    /// One call. The modes are noted between its stages.
+    fn serve(&mut self, caches: &Caches, master: usize, call: Call, along: &mut Along) -> Judgement
+        requires kept { AreKept self.old caches.now }
+        requires along { along.old ≡ trail_from self.old }
+        ensures judgement { result ≡ (called master call self.old).judgement }
+        ensures book { self.new ≡ after_stages (called master call self.old).stages self.old }
+        ensures along { Completes self.old (path_from (called master call self.old).stages self.old) self.new along.new }
+    {
+        match call {
+            Call::ForcePowerdown { node, ack } => self.force_powerdown(master, node, ack, along),
+            Call::SystemShutdown {
+                shutdown_type,
+                subtype,
+            } => self.system_shutdown(master, shutdown_type, subtype, along),
+            _ => self.serve_once(caches, master, call),
+        }
+    }
+
+    /// A call of one stage at most.
+    fn serve_once(&mut self, caches: &Caches, master: usize, call: Call) -> Judgement
+        requires kept { AreKept self.old caches.now }
+        requires once { is_once call ≡ true }
         ensures judgement { result ≡ (called master call self.old).judgement }
         ensures book { self.new ≡ after_stages (called master call self.old).stages self.old }
     {
@@ -122,6 +198,13 @@ impl Inner {
             Call::GetApiVersion => get_api_version(),
             Call::GetNodeStatus { node } => {
                 get_node_status(&self.status_view(caches, master, node))
+            }
+            Call::GetOpCharacteristic {
+                node,
+                characteristic,
+            } => {
+                let view = self.characteristics(caches, node);
+                get_op_characteristic(characteristic, view)
             }
             Call::RegisterNotifier {
                 node,
@@ -179,8 +262,15 @@ impl Inner {
                 let view = self.row_view(master, node);
                 self.set_max_latency(&view, latency)
             }
+            Call::ResetAssert { line, action } => {
+                let view = self.line_view(master, line);
+                self.reset_assert(&view, line, action)
+            }
+            Call::ResetGetStatus { line } => reset_get_status(self.line_status(line)),
             Call::InitFinalize => self.init_finalize(master),
-            Call::Unknown => Judgement::refusal(NO_FEATURE),
+            Call::ForcePowerdown { .. } | Call::SystemShutdown { .. } | Call::Unknown => {
+                Judgement::refusal(NO_FEATURE)
+            }
         }
     }
 

@@ -5,22 +5,23 @@ ghost use Rattle.pm_ipi.specs.Calls.{ack_of, node_of};
 ghost use Rattle.pm_core.specs.Caches.{AreKept};
 ghost use Rattle.pm_core.specs.Callbacks as spec;
 ghost use Rattle.pm_core.specs.Ended.{ended_from};
-ghost use Rattle.pm_core.specs.Heard.{aborts_in, asks_in, kept_at, kept_of, own_note, registers_in};
+ghost use Rattle.pm_core.specs.Heard.{aborts_in, asks_in, kept_at, kept_of, own_note, registers_in, renews_in};
+ghost use Rattle.pm_core.specs.Along.{mode_noted};
 ghost use Rattle.pm_core.specs.Outbox.{callback_count, notice_count, unit_count};
 ghost use Rattle.pm_core.specs.Sound.{HasMail};
 ghost use Rattle.pm_core.specs.State.{in_force};
-ghost use Rattle.pm_core.specs.Step.{mail_after, tellings, time_of};
-ghost use Rattle.pm_core.specs.Talk.{ask_of, ends, forget_at, forgets_from, lower_by, notify_by, talked, End, Wait};
-ghost use Rattle.pm_core.specs.Telling.{HasPlaces, mode_noted, news_in, opening_in, turns_since};
+ghost use Rattle.pm_core.specs.Step.{mail_after, tellings};
+ghost use Rattle.pm_core.specs.Talk.{ask_of, ends, forget_at, forgets_from, lower_by, notify_by, renew_if, talked, End, Wait};
+ghost use Rattle.pm_core.specs.Telling.{HasPlaces, news_in, opening_in, turns_in};
 
 use crate::caches::Caches;
 use crate::ended::Ended;
 use crate::inner::Inner;
 use crate::judgement::{Asked, Judgement, Notifier};
 use crate::outbox::{Callback, Late};
-use crate::step::{Heard, time_of};
+use crate::step::Heard;
 use crate::telling::Telling;
-use pm_base::{BoundedList, Event, Mode};
+use pm_base::{BoundedList, Mode};
 use pm_ipi::{AckKind, Call};
 use pm_notify::{Note, Waiting, mail_stands_in_order};
 use pm_procs::same_mode;
@@ -31,7 +32,7 @@ pub(crate) fn tell(
     inner: &mut Inner,
     caches: &Caches,
     telling: &mut Telling,
-    event: &Event,
+    count: Option<u32>,
     heard: &Heard,
     late: &mut BoundedList<Late>,
     calls: &mut BoundedList<Callback>,
@@ -45,34 +46,41 @@ pub(crate) fn tell(
     requires calls { length calls.old.items
         + callback_count (unit_count inner.old.fixed.topology) (length (in_force inner.old).masters) ≤ calls.old.room }
     ensures modes { telling.new.modes ≡ telling.old.modes }
+    ensures along { telling.new.along ≡ telling.old.along }
     ensures asks { telling.new.asks ≡ asks_in heard.now }
     ensures notices { telling.new.notices ≡ telling.old.notices }
     ensures ended { telling.new.ended.items
-        ≡ ended_from (turns_since telling.old.modes.items inner.old) (aborts_in heard.now) (time_of event.now) 0 inner.old.now.talk.pending }
+        ≡ ended_from (turns_in telling.old) (aborts_in heard.now) count 0 inner.old.now.talk.pending }
     ensures places { HasPlaces inner.old.fixed.topology (length (in_force inner.old).masters) telling.new }
     ensures book { inner.new ≡ talked (tellings (news_in telling.new) (mode_noted telling.new.modes.items)
-        (opening_in telling.new (registers_in heard.now) (time_of event.now) inner.old) heard.now inner.old) inner.old }
+        (opening_in telling.new (renews_in heard.now) (registers_in heard.now) count inner.old) heard.now inner.old) inner.old }
     ensures late { late.new ≡ record late.old { items = late.old.items ++ spec.late_replies telling.new.ended.items inner.new } }
     ensures calls { calls.new ≡ record calls.old {
       items = calls.old.items ++ spec.callbacks (news_in telling.new) (mode_noted telling.new.modes.items)
-          (mail_after (opening_in telling.new (registers_in heard.now) (time_of event.now) inner.old) inner.old) inner.new;
+          (mail_after (opening_in telling.new (renews_in heard.now) (registers_in heard.now) count inner.old) inner.old) inner.new;
     } }
 {
     mail_stands_in_order();
-    let count = time_of(event);
     telling.note_ended(inner, heard.asks(), heard.aborts(), count);
-    inner.open(telling, heard.registers(), count);
+    inner.open(telling, heard.renews(), heard.registers(), count);
     inner.tell_masters(caches, telling, calls);
     inner.keep_own(heard);
     inner.tell_late(telling.ended(), late);
 }
 
 impl Inner {
-    /// What is done before any master is told: masters that became off forget what they asked for, a
-    /// notifier is put, a master is asked, time passes, and requests end.
-    fn open(&mut self, telling: &Telling, registers: Option<Notifier>, count: Option<u32>)
-        ensures { self.new ≡ talked (opening_in telling.now registers count self.old) self.old }
+    /// What is done before any master is told: all is as at load, if all was restarted, masters that became
+    /// off forget what they asked for, a notifier is put, a master is asked, time passes, and requests end.
+    fn open(
+        &mut self,
+        telling: &Telling,
+        renews: bool,
+        registers: Option<Notifier>,
+        count: Option<u32>,
+    )
+        ensures { self.new ≡ talked (opening_in telling.now renews registers count self.old) self.old }
     {
+        self.renew(renews);
         self.forget(telling);
         self.put_notifier(registers);
         self.ask(telling.asks());
@@ -80,10 +88,19 @@ impl Inner {
         self.end_requests(telling.ended());
     }
 
-    /// Each master that became off since the modes were noted forgets what it asked for, and what waits for
-    /// it is lost.
+    /// What the masters are told is as at load, if all was restarted.
+    fn renew(&mut self, renews: bool)
+        ensures { self.new ≡ talked (renew_if renews) self.old }
+    {
+        if renews {
+            self.procs.end_all();
+            self.notify.restart();
+        }
+    }
+
+    /// Each master that became off along the step forgets what it asked for, and what waits for it is lost.
     fn forget(&mut self, telling: &Telling)
-        ensures { self.new ≡ talked (forgets_from (turns_since telling.now.modes.items self.old) 0 (in_force self.old).masters) self.old }
+        ensures { self.new ≡ talked (forgets_from (turns_in telling.now) 0 (in_force self.old).masters) self.old }
     {
         for m in 0..self.masters() {
             self.forget_master(telling, m);
@@ -91,9 +108,9 @@ impl Inner {
     }
 
     fn forget_master(&mut self, telling: &Telling, m: usize)
-        ensures { self.new ≡ talked (forget_at (turns_since telling.now.modes.items self.old m) m) self.old }
+        ensures { self.new ≡ talked (forget_at (turns_in telling.now m) m) self.old }
     {
-        if telling.turns(self, m).off {
+        if telling.turns(m).off {
             self.notify.clear(m);
         }
     }

@@ -1,41 +1,52 @@
-//! What is kept of a step until the masters are told of it: their modes before it, and what there is to tell.
+//! What is kept of a step until the masters are told of it: their modes before it, what is noted along it, and
+//! what there is to tell.
 
-ghost use Rattle.std.specs.Prelude.{◌≡◌, ◌+◌, ◌<◌, ◌≤◌, ◌++◌, IfOk, length, slice_get};
+ghost use Rattle.std.specs.Prelude.{◌≡◌, ◌+◌, ◌<◌, ◌≤◌, ◌++◌, IfOk, length};
 ghost use Rattle.pm_procs.specs.Pending.{pending_at};
 ghost use Rattle.pm_topology.specs.Units.{units_of};
+ghost use Rattle.pm_core.specs.Along.{mode_noted, modes_of, trail_at_load, turns_noted};
 ghost use Rattle.pm_core.specs.Ended.{ended_at, ended_from};
 ghost use Rattle.pm_core.specs.Outbox.{notice_count};
 ghost use Rattle.pm_core.specs.State.{in_force};
-ghost use Rattle.pm_core.specs.Telling.{mode_noted, modes_of, turns_since};
+ghost use Rattle.pm_core.specs.Telling.{turns_in};
 
-use crate::ended::{Ended, Turns, ended_at, turns_between};
+use crate::along::{Along, mode_noted};
+use crate::ended::{Ended, Turns, ended_at};
 use crate::inner::Inner;
 use crate::judgement::Asked;
 use pm_base::{BoundedList, Mode, NoMemory};
 use pm_notify::Waiting;
 use std::alloc::Global;
 
-/// The modes of the masters before a step, the master that is asked to suspend in it, the requests that
-/// end in it, with room for one for each master, and what happens to nodes in it, with room for two
-/// notes about each unit.
+/// The modes of the masters before a step, what is noted along it, the master that is asked to suspend in
+/// it, the requests that end in it, with room for one for each master, and what happens to nodes in it,
+/// with room for two notes about each unit.
 #[derive(Drop)]
 pub(crate) struct Telling {
     modes: Vec<Mode>,
+    pub(crate) along: Along,
     asks: Option<Asked>,
     ended: BoundedList<Ended>,
     pub(crate) notices: BoundedList<Waiting>,
 }
 
 impl Telling {
-    /// Room for so many units and masters.
-    pub(crate) fn load(alloc: Global, units: usize, masters: usize) -> Result<Telling, NoMemory>
+    /// Room for so many units, masters and processors.
+    pub(crate) fn load(
+        alloc: Global,
+        units: usize,
+        masters: usize,
+        procs: usize,
+    ) -> Result<Telling, NoMemory>
         ensures modes { IfOk result (λ telling. length telling.modes.items ≡ masters) }
+        ensures along { IfOk result (λ telling. telling.along ≡ trail_at_load masters procs) }
         ensures ended { IfOk result (λ telling. masters ≤ telling.ended.room) }
         ensures notices { IfOk result (λ telling. notice_count units ≤ telling.notices.room) }
     {
         let notices = units.checked_mul(2).ok_or(NoMemory)?;
         Ok(Telling {
             modes: Vec::from_elem(alloc, Mode::Off, masters).map_err(|_| NoMemory)?,
+            along: Along::load(alloc, masters, procs)?,
             asks: None,
             ended: BoundedList::with_room(alloc, masters)?,
             notices: BoundedList::with_room(alloc, notices)?,
@@ -63,18 +74,19 @@ impl Telling {
         self.notices.as_slice()
     }
 
-    /// Notes the mode of each master.
+    /// Notes the mode of each master before the step.
     pub(crate) fn note_modes(&mut self, inner: &Inner)
         requires places { length self.old.modes.items ≡ length (in_force inner.now).masters }
         ensures modes { self.new.modes.items ≡ modes_of inner.now }
+        ensures along { self.new.along ≡ self.old.along }
         ensures ended { self.new.ended ≡ self.old.ended }
         ensures notices { self.new.notices ≡ self.old.notices }
     {
         inner.note_modes(&mut self.modes);
     }
 
-    /// Notes the master that is asked, and the requests that end: by what became of the modes since they
-    /// were noted, by the master that aborts its suspend, and by the time that passes.
+    /// Notes the master that is asked, and the requests that end: by what became of the modes along the
+    /// step, by the master that aborts its suspend, and by the time that passes.
     pub(crate) fn note_ended(
         &mut self,
         inner: &Inner,
@@ -85,10 +97,11 @@ impl Telling {
         requires each { length inner.now.now.talk.pending ≡ length (in_force inner.now).masters }
         requires room { length (in_force inner.now).masters ≤ self.old.ended.room }
         ensures modes { self.new.modes ≡ self.old.modes }
+        ensures along { self.new.along ≡ self.old.along }
         ensures asks { self.new.asks ≡ asks }
         ensures notices { self.new.notices ≡ self.old.notices }
         ensures ended { self.new.ended ≡ record self.old.ended {
-          items = ended_from (turns_since self.old.modes.items inner.now) aborts count 0 inner.now.now.talk.pending;
+          items = ended_from (turns_in self.old) aborts count 0 inner.now.now.talk.pending;
         } }
         ensures few { length self.new.ended.items ≤ length (in_force inner.now).masters }
     {
@@ -103,30 +116,31 @@ impl Telling {
     fn note_end(&mut self, inner: &Inner, aborts: Option<usize>, count: Option<u32>, m: usize)
         requires room { length self.old.ended.items < self.old.ended.room }
         ensures modes { self.new.modes ≡ self.old.modes }
+        ensures along { self.new.along ≡ self.old.along }
         ensures asks { self.new.asks ≡ self.old.asks }
         ensures notices { self.new.notices ≡ self.old.notices }
         ensures ended { self.new.ended ≡ record self.old.ended {
           items = self.old.ended.items
-              ++ ended_at (turns_since self.old.modes.items inner.now m) aborts count m (pending_at m inner.now.now.talk.pending);
+              ++ ended_at (turns_in self.old m) aborts count m (pending_at m inner.now.now.talk.pending);
         } }
     {
-        let turns = self.turns(inner, m);
+        let turns = self.turns(m);
         if let Some(end) = ended_at(turns, aborts, count, m, inner.pending(m)) {
             self.ended.push(end);
         }
     }
 
-    /// What became of the mode of the master at a place since it was noted.
-    pub(crate) fn turns(&self, inner: &Inner, m: usize) -> Turns
-        ensures { result ≡ turns_since self.now.modes.items inner.now m }
+    /// What became of the mode of the master at a place along the step.
+    pub(crate) fn turns(&self, m: usize) -> Turns
+        ensures { result ≡ turns_in self.now m }
     {
-        turns_between(self.mode(m), inner.mode_of_master(m))
+        self.along.turns(m)
     }
 
-    /// The mode that was noted of the master at a place.
+    /// The mode of the master at a place before the step.
     pub(crate) fn mode(&self, m: usize) -> Mode
         ensures { result ≡ mode_noted self.now.modes.items m }
     {
-        self.modes.get(m).copied().unwrap_or(Mode::Off)
+        mode_noted(&self.modes, m)
     }
 }

@@ -2,7 +2,7 @@
 
 ghost use Rattle.std.specs.Prelude.{◌≡◌, ◌∷◌, [], None, Some};
 ghost use Rattle.pm_ipi.specs.Responses.{success};
-ghost use Rattle.pm_core.specs.Outcome.{outcome_of};
+ghost use Rattle.pm_core.specs.Outcome.{answering, outcome_of};
 ghost use Rattle.pm_core.specs.Stages.{after_stages};
 ghost use Rattle.pm_core.specs.calls.AbortSuspend.{abort_suspend, is_reason};
 
@@ -10,7 +10,6 @@ use crate::inner::Inner;
 use crate::judgement::Judgement;
 use crate::views::ProcView;
 use pm_base::Mode;
-use pm_ipi::Response;
 use pm_ipi::status::{FAILURE, INVALID_NODE, INVALID_PARAMETER, NO_ACCESS};
 
 /// Whether a word is a reason for which a suspend is aborted.
@@ -22,13 +21,11 @@ fn is_reason(reason: u32) -> bool
 
 /// What the call comes to where its checks pass: the caller aborts its suspend.
 fn aborted(master: usize) -> Judgement
-    ensures { result ≡ record { response = success (0 ∷ 0 ∷ 0 ∷ []); asks = None; aborts = Some master; registers = None } }
+    ensures { result ≡ record (answering (success (0 ∷ 0 ∷ 0 ∷ []))) { aborts = Some master } }
 {
     Judgement {
-        response: Response::success([0; 3]),
-        asks: None,
         aborts: Some(master),
-        registers: None,
+        ..Judgement::success([0; 3])
     }
 }
 

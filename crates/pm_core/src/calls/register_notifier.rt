@@ -7,7 +7,6 @@ ghost use Rattle.pm_core.specs.calls.RegisterNotifier.{can_happen, may_watch, re
 use crate::judgement::{Judgement, Notifier};
 use crate::views::Watched;
 use pm_base::NodeId;
-use pm_ipi::Response;
 use pm_ipi::status::{INVALID_NODE, INVALID_PARAMETER, NO_ACCESS};
 use pm_notify::NodeEvent;
 
@@ -55,14 +54,12 @@ pub(crate) fn register_notifier(
         return Judgement::refusal(NO_ACCESS);
     }
     Judgement {
-        response: Response::success([0; 3]),
-        asks: None,
-        aborts: None,
         registers: Some(Notifier {
             master,
             node,
             event,
             on: enable == 1,
         }),
+        ..Judgement::success([0; 3])
     }
 }

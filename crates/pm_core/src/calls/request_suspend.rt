@@ -7,8 +7,8 @@ ghost use Rattle.pm_core.specs.calls.RequestSuspend.{request_suspend};
 use crate::judgement::{Asked, Judgement};
 use crate::views::SuspendView;
 use pm_base::{Mode, NodeId};
+use pm_ipi::ack_kind;
 use pm_ipi::status::{DOUBLE_REQUEST, FAILURE, INVALID_NODE, INVALID_PARAMETER, NO_ACCESS};
-use pm_ipi::{Response, ack_kind};
 use pm_procs::{Pending, same_mode};
 
 /// The target is asked to suspend. The caller is answered when the request ends. The target hears how long
@@ -39,7 +39,6 @@ pub(crate) fn request_suspend(
         return Judgement::refusal(FAILURE);
     }
     Judgement {
-        response: Response::success([0; 3]),
         asks: Some(Asked {
             target: target.master,
             request: Pending::new(master, ack, node, target.timeout),
@@ -47,7 +46,6 @@ pub(crate) fn request_suspend(
             state,
             timeout: target.timeout,
         }),
-        aborts: None,
-        registers: None,
+        ..Judgement::success([0; 3])
     }
 }

@@ -13,6 +13,9 @@ returns c =
       change = c.rows_stay_sound.ensures.change;
       shift = c.rows_stay_sound.ensures.shift;
       settle = c.rows_stay_sound.ensures.settle;
+      drop_slave = c.rows_stay_sound.ensures.drop_slave;
+      clear = c.rows_stay_sound.ensures.clear;
+      restart = c.rows_know_modes.ensures.restart;
       there = c.rows_stay_sound.ensures.there;
       armed = c.shifts_leave_others.ensures.kept;
     } in
@@ -20,6 +23,7 @@ returns c =
       active = c.modes_of_masters.ensures.active;
       off = c.modes_of_masters.ensures.off;
       load = c.modes_of_masters.ensures.load;
+      restart = c.modes_of_masters.ensures.restart;
     } in
     let requests : RequestLaws = record {
       asks = c.requests_of_masters.ensures.asks;
@@ -28,6 +32,7 @@ returns c =
       ends_one = c.requests_of_masters.ensures.ends_one;
       passes = c.requests_of_masters.ensures.passes;
       load = c.requests_of_masters.ensures.load;
+      renew = c.requests_of_masters.ensures.renew;
       length_asked = c.requests_of_masters.ensures.length_asked;
       length_ended = c.requests_of_masters.ensures.length_ended;
       length_lowered = c.requests_of_masters.ensures.length_lowered;
@@ -36,6 +41,6 @@ returns c =
     let orders : OrderLaws = c.mail_stands_in_order.ensures in
     record {
       load = load_sound rows modes requests orders;
-      step = effect_sound rows requests orders;
+      step = effect_sound rows modes requests orders;
       permitted = row_permitted rows;
     }

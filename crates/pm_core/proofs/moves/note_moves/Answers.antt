@@ -2,10 +2,11 @@ use Rattle.std.proofs.Common.{◌≡◌, ℕ, ◌+◌, ◌<◌, ◌≤◌, ◌++
 use Rattle.std.proofs.lemmas.List.{length-drop}
 use Rattle.std.proofs.lemmas.Option.{slice_get-get_or}
 use Rattle.pm_base.specs.declared.names.Unit.{Unit}
-use Rattle.pm_topology.specs.declared.places.Kind.{Kind}
+use Rattle.pm_core.specs.declared.caches.UnitKind.{UnitKind}
+use Rattle.pm_core.specs.declared.caches.UnitKind.TheVariants.{Entry}
 use Rattle.pm_topology.specs.declared.places.Kind.TheVariants.{Proc}
 use Rattle.pm_topology.specs.UnitMap.{with_value_at}
-use Rattle.pm_core.specs.Caches.{kind_value, revalued, moved_at, moved_by}
+use Rattle.pm_core.specs.Caches.{revalued, moved_at, moved_by, unit_value}
 use Rattle.pm_base.specs.BoundedList.{Bounded}
 use Rattle.pm_core.proofs.MovesLemmas.{length-written, length-moved_at, values_step, moves_step}
 use Rattle.pm_core.proofs.moves.note_moves.Goals as goal
@@ -14,15 +15,15 @@ pub loop-k-preserved : goal.loop-k-preserved
 loop-k-preserved c =
     let kinds = c.args.kinds.now in
     let k = c.loop-k.k in
-    let kind : Kind = get_or kinds k (Proc 0) in
-    let new : Kind → ℕ = kind_value c.args.states.now c.args.procs.now.procs c.args.ups.now in
-    let at : slice_get kinds k ≡ Some kind = slice_get-get_or kinds k (Proc 0) c.loop-k-test.true in
+    let kind : UnitKind = get_or kinds k (Entry (Proc 0)) in
+    let new : UnitKind → ℕ = unit_value c.args.states.now c.args.procs.now.procs c.args.ups.now c.args.resets.now in
+    let at : slice_get kinds k ≡ Some kind = slice_get-get_or kinds k (Entry (Proc 0)) c.loop-k-test.true in
     let written : c.note_move.new.values ≡ with_value_at k (new kind) c.loop-k.values =
-    c.note_move.ensures.values ∙ ap (λ v. with_value_at k v c.loop-k.values) c.kind_value.ensures
+    c.note_move.ensures.values ∙ ap (λ v. with_value_at k v c.loop-k.values) c.unit_value.ensures
     in
     let moved : c.note_move.new.moved.items ≡ c.loop-k.moved.items ++ moved_at (new kind) (slice_get c.loop-k.values k) =
     ap (λ (s : Bounded Unit). s.items) c.note_move.ensures.moved
-    ∙ ap (λ v. c.loop-k.moved.items ++ moved_at v (slice_get c.loop-k.values k)) c.kind_value.ensures
+    ∙ ap (λ v. c.loop-k.moved.items ++ moved_at v (slice_get c.loop-k.values k)) c.unit_value.ensures
     in
     let places : length c.note_move.new.values ≡ length c.loop-k.values = ap length written ∙ length-written k (new kind) c.loop-k.values in
     let within : k < length c.loop-k.values = omega arith in

@@ -1,5 +1,5 @@
 use Rattle.std.proofs.Common.{◌≡◌, ◌+◌, ◌≤◌, ◌++◌, length, take, drop}
-use Rattle.pm_core.specs.Caches.{kind_value, moved_by, revalued}
+use Rattle.pm_core.specs.Caches.{moved_by, revalued, unit_value}
 use Rattle.pm_core.proofs.moves.note_moves.Given as goal
 
 -- the values before place k are written, and the values and the units that moved so far and those that are left make the
@@ -9,6 +9,6 @@ invariant-loop-k l = record {
   places : length l.values ≡ length l.kinds;
   room : l.moved.room ≡ l.fn.moved.room;
   count : length l.moved.items + length (drop l.k l.kinds) ≤ l.moved.room;
-  written : take l.k l.values ++ revalued (kind_value l.states l.procs.procs l.ups) (drop l.k l.kinds) (drop l.k l.values) ≡ revalued (kind_value l.states l.procs.procs l.ups) l.kinds l.fn.values;
-  moved : l.moved.items ++ moved_by (kind_value l.states l.procs.procs l.ups) (drop l.k l.kinds) (drop l.k l.values) ≡ l.fn.moved.items ++ moved_by (kind_value l.states l.procs.procs l.ups) l.kinds l.fn.values;
+  written : take l.k l.values ++ revalued (unit_value l.states l.procs.procs l.ups l.resets) (drop l.k l.kinds) (drop l.k l.values) ≡ revalued (unit_value l.states l.procs.procs l.ups l.resets) l.kinds l.fn.values;
+  moved : l.moved.items ++ moved_by (unit_value l.states l.procs.procs l.ups l.resets) (drop l.k l.kinds) (drop l.k l.values) ≡ l.fn.moved.items ++ moved_by (unit_value l.states l.procs.procs l.ups l.resets) l.kinds l.fn.values;
 }

@@ -6,5 +6,5 @@ use Rattle.pm_core.proofs.moves.note_starts.Given as goal
 abbrev pub invariant-loop-k : goal.invariant-loop-k
 invariant-loop-k l = record {
   room : l.starts.room ≡ l.fn.starts.room;
-  starts : l.starts.items ++ starts_by l.procs.procs (drop l.k l.kinds) (drop l.k l.values) ≡ l.fn.starts.items ++ starts_by l.procs.procs l.kinds l.values;
+  starts : l.starts.items ++ starts_by l.along.downs l.procs.procs (drop l.k l.kinds) (drop l.k l.values) ≡ l.fn.starts.items ++ starts_by l.along.downs l.procs.procs l.kinds l.values;
 }

@@ -1,5 +1,5 @@
 use Rattle.std.proofs.Common.{◌≡◌, ◌+◌, ◌*◌, ◌≤◌, ◌++◌, length, drop}
-use Rattle.pm_core.specs.Caches.{freed_by, kind_value, noticed_by}
+use Rattle.pm_core.specs.Caches.{freed_by, noticed_by, unit_value}
 use Rattle.pm_core.proofs.notifications.note_notices.Given as goal
 
 -- what happened to the units before place k and what is left make the whole
@@ -7,6 +7,6 @@ abbrev pub invariant-loop-k : goal.invariant-loop-k
 invariant-loop-k l = record {
   room : l.notices.room ≡ l.fn.notices.room;
   few : length l.notices.items ≤ length l.fn.notices.items + 2 * l.k;
-  whole : l.notices.items ++ noticed_by (kind_value l.states l.procs.procs l.ups) (freed_by l.used l.rows) (drop l.k l.kinds) (drop l.k l.values)
-      ≡ l.fn.notices.items ++ noticed_by (kind_value l.states l.procs.procs l.ups) (freed_by l.used l.rows) l.kinds l.values;
+  whole : l.notices.items ++ noticed_by (unit_value l.states l.procs.procs l.ups l.resets) (freed_by l.used l.rows) (drop l.k l.kinds) (drop l.k l.values)
+      ≡ l.fn.notices.items ++ noticed_by (unit_value l.states l.procs.procs l.ups l.resets) (freed_by l.used l.rows) l.kinds l.values;
 }

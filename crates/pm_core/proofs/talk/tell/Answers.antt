@@ -3,12 +3,13 @@ use Rattle.pm_base.specs.BoundedList.{Bounded}
 use Rattle.pm_core.specs.declared.outbox.Callback.{Callback}
 use Rattle.pm_core.specs.Caches.{AreKept}
 use Rattle.pm_core.specs.Callbacks.{callbacks, mails}
-use Rattle.pm_core.specs.Heard.{kept_of, registers_in}
+use Rattle.pm_core.specs.Heard.{kept_of, registers_in, renews_in}
 use Rattle.pm_core.specs.Sound.{AreMails}
 use Rattle.pm_core.specs.State.{State, in_force}
-use Rattle.pm_core.specs.Step.{mail_after, tellings, time_of}
+use Rattle.pm_core.specs.Step.{mail_after, tellings}
 use Rattle.pm_core.specs.Talk.{talked}
-use Rattle.pm_core.specs.Telling.{mode_noted, news_in, opening_in}
+use Rattle.pm_core.specs.Along.{mode_noted}
+use Rattle.pm_core.specs.Telling.{news_in, opening_in}
 use Rattle.pm_core.proofs.EndedLaw.{kept_talked}
 use Rattle.pm_core.proofs.MailLaw.{talk_mails}
 use Rattle.pm_core.proofs.TalkLemmas.{then_told}
@@ -18,13 +19,13 @@ use Rattle.pm_core.proofs.talk.tell.Goals as goal
 pub tell_masters-requires-clause-kept : goal.tell_masters-requires-clause-kept
 tell_masters-requires-clause-kept c =
     let P : State → Type 0 = λ b. AreKept b c.args.caches.now in
-    subst P (sym c.open.ensures) (kept_talked (opening_in c.note_ended.new.self c.registers.result c.time_of-count.result c.args.inner.now) c.args.inner.now c.args.caches.now c.requires.kept)
+    subst P (sym c.open.ensures) (kept_talked (opening_in c.note_ended.new.self c.renews.result c.registers.result c.args.count c.args.inner.now) c.args.inner.now c.args.caches.now c.requires.kept)
 
 pub tell_masters-requires-clause-mail : goal.tell_masters-requires-clause-mail
 tell_masters-requires-clause-mail c =
     let old = c.args.inner.now in
     let P : State → Type 0 = λ b. AreMails b.fixed.topology (length (in_force b).masters) b.now.talk.mail in
-    subst P (sym c.open.ensures) (talk_mails c.mail_stands_in_order.ensures old.fixed.topology (length (in_force old).masters) (opening_in c.note_ended.new.self c.registers.result c.time_of-count.result old) old.now.talk c.requires.mail)
+    subst P (sym c.open.ensures) (talk_mails c.mail_stands_in_order.ensures old.fixed.topology (length (in_force old).masters) (opening_in c.note_ended.new.self c.renews.result c.registers.result c.args.count old) old.now.talk c.requires.mail)
 
 pub returns-clause-book : goal.returns-clause-book
 returns-clause-book c =
@@ -33,10 +34,10 @@ returns-clause-book c =
     let news = news_in telling in
     let was = mode_noted telling.modes.items in
     let heard = c.args.heard.now in
-    let first = opening_in telling (registers_in heard) (time_of c.args.event.now) old in
+    let first = opening_in telling (renews_in heard) (registers_in heard) c.args.count old in
     let opened : c.open.new.self ≡ talked first old =
-    c.open.ensures ∙ (ap (λ r. talked (opening_in telling r c.time_of-count.result old) old) c.registers.ensures
-    ∙ ap (λ t. talked (opening_in telling (registers_in heard) t old) old) c.time_of-count.ensures)
+    c.open.ensures ∙ (ap (λ r. talked (opening_in telling c.renews.result r c.args.count old) old) c.registers.ensures
+    ∙ ap (λ all. talked (opening_in telling all (registers_in heard) c.args.count old) old) c.renews.ensures)
     in
     let told : c.tell_masters.new.self ≡ talked (mails news was (mail_after first old) old) c.open.new.self =
     c.tell_masters.ensures.book
@@ -59,11 +60,11 @@ returns-clause-calls c =
     let news = news_in telling in
     let was = mode_noted telling.modes.items in
     let heard = c.args.heard.now in
-    let first = opening_in telling (registers_in heard) (time_of c.args.event.now) old in
+    let first = opening_in telling (renews_in heard) (registers_in heard) c.args.count old in
     let before = c.args.calls.now in
     let opened : c.open.new.self ≡ talked first old =
-    c.open.ensures ∙ (ap (λ r. talked (opening_in telling r c.time_of-count.result old) old) c.registers.ensures
-    ∙ ap (λ t. talked (opening_in telling (registers_in heard) t old) old) c.time_of-count.ensures)
+    c.open.ensures ∙ (ap (λ r. talked (opening_in telling c.renews.result r c.args.count old) old) c.registers.ensures
+    ∙ ap (λ all. talked (opening_in telling all (registers_in heard) c.args.count old) old) c.renews.ensures)
     in
     let put : _ → Bounded Callback = λ cs. record before { items = before.items ++ cs } in
     let all = tellings news was first heard old in

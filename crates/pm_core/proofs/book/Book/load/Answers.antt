@@ -3,14 +3,15 @@ use Rattle.std.specs.Prelude.{IfErr}
 use Rattle.std.proofs.lemmas.List.{length-map}
 use Rattle.pm_base.specs.declared.names.Unit.{Unit}
 use Rattle.pm_notify.specs.declared.notes.Waiting.{Waiting}
+use Rattle.pm_topology.specs.declared.topology.Topology.{Topology}
 use Rattle.pm_topology.specs.Masters.{ObeysMasterRules}
 use Rattle.pm_topology.specs.Units.{units_of, entry_count}
 use Rattle.pm_topology.specs.WellFormed.{IsWellFormed}
-use Rattle.pm_core.specs.Caches.{moved_by}
+use Rattle.pm_core.specs.Caches.{moved_by, value_by}
 use Rattle.pm_base.specs.BoundedList.{Bounded}
 use Rattle.pm_core.specs.State.{State}
-use Rattle.pm_core.specs.Values.{value_at}
 use Rattle.pm_core.specs.declared.outbox.Start.{Start}
+use Rattle.pm_core.proofs.AlongLaw.{load_places}
 use Rattle.pm_core.proofs.CachesLaw.{moves_are}
 use Rattle.pm_core.proofs.StepLaw.{load_starts}
 use Rattle.pm_core.proofs.book.Book.load.Goals as goal
@@ -55,6 +56,8 @@ invariant_of-result c =
       c.update.ensures.kept,
       record {
         modes = c.in_ok-telling.ensures.modes ∙ c.masters.ensures;
+        along = load_places _ _ _ _ c.in_ok-telling.telling.along c.in_ok-telling.ensures.along c.masters.ensures
+            (c.len-procs.ensures ∙ ap (λ (t : Topology). length t.procs) c.topology.ensures.topology);
         ended = omega (arith, c.masters.ensures, c.in_ok-telling.ensures.ended);
         notices = omega (arith, zeros, c.units.ensures, c.in_ok-telling.ensures.notices, ap (λ (l : Bounded Waiting). l.room) c.update.ensures.notices);
       },
@@ -71,10 +74,11 @@ returns-clause-out c =
     let caches = c.in_ok-caches.caches in
     record {
       moved = ap (λ (s : Bounded Unit). s.items) c.update.ensures.moved ∙ (
-          ap (λ xs. xs ++ moved_by (λ kind. value_at kind book.fixed book.now.core) caches.kinds.items caches.values) c.clear.ensures.empty.moved
+          ap (λ xs. xs ++ moved_by (value_by book.fixed book.now.core) caches.kinds.items caches.values) c.clear.ensures.empty.moved
           ∙ moves_are book (λ _. 0) caches.kinds.items caches.values c.in_ok-caches.ensures.places.kinds c.in_ok-caches.ensures.zeros);
       starts = ap (λ (s : Bounded Start). s.items) c.update.ensures.starts
-          ∙ load_starts book caches.kinds.items caches.values c.in_ok-caches.ensures.places.kinds c.in_ok-caches.ensures.zeros;
+          ∙ load_starts book _ _ c.in_ok-telling.telling.along caches.kinds.items caches.values c.in_ok-telling.ensures.along c.in_ok-caches.ensures.places.kinds c.in_ok-caches.ensures.zeros;
+      pulse = c.clear.ensures.empty.pulse;
       late = c.clear.ensures.empty.late;
       calls = c.clear.ensures.empty.calls;
       answer = c.clear.ensures.empty.answer;

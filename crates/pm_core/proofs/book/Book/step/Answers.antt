@@ -1,11 +1,13 @@
-use Rattle.std.proofs.Common.{◌≡◌, ◌≤◌, ◌++◌, ◌∷◌, ℕ, List, length, sym, ◌∙◌, ap, subst, arith}
+use Rattle.std.proofs.Common.{◌≡◌, ◌≤◌, ◌++◌, ◌∷◌, List, length, sym, ◌∙◌, ap, subst, arith}
 use Rattle.std.proofs.lemmas.List.{length-map}
 use Rattle.pm_base.specs.declared.names.Mode.{Mode}
 use Rattle.pm_base.specs.declared.names.Unit.{Unit}
 use Rattle.pm_notify.specs.declared.notes.Waiting.{Waiting}
 use Rattle.pm_topology.specs.Units.{units_of, entry_count}
-use Rattle.pm_core.specs.Caches.{AreKept, freed_by, moved_by, noticed_by}
+use Rattle.pm_core.specs.Caches.{AreKept, moved_by, value_by}
 use Rattle.pm_core.specs.Callbacks.{callbacks, late_replies}
+use Rattle.pm_core.specs.Along.{HasPlaces as HasTrail, IsTrail, Trail, mode_beside, mode_noted, turns_noted}
+use Rattle.pm_core.specs.Heard.{pulse_in}
 use Rattle.pm_base.specs.BoundedList.{Bounded}
 use Rattle.pm_core.specs.Sound.{AreMails, IsBook}
 use Rattle.pm_core.specs.declared.outbox.Callback.{Callback}
@@ -13,16 +15,17 @@ use Rattle.pm_core.specs.declared.outbox.Late.{Late}
 use Rattle.pm_core.specs.declared.outbox.Start.{Start}
 use Rattle.pm_core.specs.Stages.{after_stages}
 use Rattle.pm_core.specs.Starts.{starts, was_down}
-use Rattle.pm_core.specs.State.{State, in_force}
-use Rattle.pm_core.specs.Step.{effect, ended, heard_of, mail_after, modes_in, news, notices, opening, path, stages, answer_by, answer_to, tellings, time_of}
+use Rattle.pm_core.specs.State.{Fixed, State, in_force}
+use Rattle.pm_core.specs.Step.{effect, ended, heard_of, mail_after, modes_in, news, opening, path, pulse, stages, answer_by, answer_to, tellings}
 use Rattle.pm_core.specs.Ended.{ended_from}
-use Rattle.pm_core.specs.Heard.{aborts_in, registers_in}
+use Rattle.pm_core.specs.Heard.{aborts_in, registers_in, renews_in}
 use Rattle.pm_core.specs.Notifications.{notifications}
-use Rattle.pm_core.specs.Telling.{HasPlaces, mode_beside, mode_noted, news_in, opening_in, turns_since}
+use Rattle.pm_core.specs.Telling.{HasPlaces, news_in, opening_in, turns_in}
 use Rattle.pm_core.specs.Units.{units, moved}
-use Rattle.pm_core.specs.Values.{value, value_at}
+use Rattle.pm_core.specs.Values.{value}
 use Rattle.pm_core.proofs.CachesLaw.{kept_places}
-use Rattle.pm_core.proofs.EndedLaw.{IsTold, kept_talked, stages_talk, step_told}
+use Rattle.pm_core.proofs.AlongLaw.{completed, trailed_places}
+use Rattle.pm_core.proofs.EndedLaw.{IsTold, kept_talked, pulse_heard, stages_talk, step_told}
 use Rattle.pm_core.proofs.NoticesLaw.{notices_are}
 use Rattle.pm_core.proofs.PlacedLemmas.{length-placed}
 use Rattle.pm_core.proofs.Refused.{refused_stays}
@@ -45,6 +48,12 @@ update-requires-clause-room c =
     let few : length (units_of c.args.self.now.fixed.topology) ≤ entry_count c.args.self.now.fixed.topology = c.units_stand_in_order.ensures.few c.args.self.now.fixed.topology in
     let none = ap length c.clear.ensures.empty.moved in
     omega (arith, values, same, few, none, c.requires.room.moved, c.clear.ensures.room.moved)
+
+-- the places of the trail stay while it is noted
+pub note-requires : goal.note-requires
+note-requires c =
+    let Q : Fixed → Type 0 = λ f. HasTrail (length f.object.masters) (length f.topology.procs) c.take-heard.new.along in
+    subst Q (sym (ap (λ (b : State). b.fixed) c.take-heard.ensures.book)) c.take-heard.ensures.along.places
 
 pub tell-requires-clause-each : goal.tell-requires-clause-each
 tell-requires-clause-each c =
@@ -84,7 +93,10 @@ tell-requires-clause-places c =
     let old = c.self.inside.inner in
     let count : length (in_force c.take-heard.new.self).masters ≡ length (in_force old).masters = ap (λ (b : State). length (in_force b).masters) c.take-heard.ensures.book in
     let all : length (units c.take-heard.new.self) ≡ length (units old) = ap (λ (b : State). length (units b)) c.take-heard.ensures.book in
+    let mid = c.take-heard.new.self in
+    let Q : Trail → Type 0 = λ n. HasTrail (length (in_force mid).masters) (length mid.fixed.topology.procs) n in
     record {
+      along = subst Q (sym c.note.ensures) (trailed_places mid c.take-heard.new.along);
       modes = ap length c.note_modes.ensures.modes ∙ (length-placed (mode_beside old) 0 (in_force old).masters ∙ sym count);
       ended = omega (arith, count, c.self.invariant.2.ended, ap (λ (l : Bounded _). l.room) c.note_modes.ensures.ended);
       notices = omega (
@@ -97,22 +109,28 @@ tell-requires-clause-places c =
     }
 
 -- what was noted until the masters were told
-told : (c : goal.After-out-1) → IsTold c.args.event.now c.self.inside.inner c.take-heard.new.self c.tell.new.inner c.take-heard.result c.tell.new.telling
+told : (c : goal.After-out-2-1) → IsTold c.args.event.now c.self.inside.inner c.take-heard.new.self c.tell.new.inner c.take-heard.result c.time_of-count.result c.tell.new.telling
 told c =
     let event = c.args.event.now in
     let old = c.self.inside.inner in
     let mid = c.take-heard.new.self in
     let caches = c.self.inside.caches in
     let fixed : old.fixed ≡ mid.fixed = sym (ap (λ (b : State). b.fixed) c.take-heard.ensures.book) in
-    step_told event old mid c.tell.new.inner c.take-heard.result c.tell.new.telling
+    let trail : IsTrail old (path event old) c.note.new.self =
+    completed old (path event old) mid c.take-heard.new.along c.note.new.self c.take-heard.ensures.along c.note.ensures
+    in
+    let Along : Trail → Type 0 = λ n. IsTrail old (path event old) n in
+    step_told event old mid c.tell.new.inner c.take-heard.result c.time_of-count.result c.tell.new.telling
     (record {
       mid_is = c.take-heard.ensures.book;
       heard_is = c.take-heard.ensures.heard;
+      count_is = c.time_of-count.ensures;
+      along_is = subst Along (sym c.tell.ensures.along) trail;
       modes_are = ap (λ v. v.items) c.tell.ensures.modes ∙ c.note_modes.ensures.modes;
       asks_are = c.tell.ensures.asks;
       ended_are = c.tell.ensures.ended
-          ∙ ap (λ (ms : List Mode). ended_from (turns_since ms mid) (aborts_in c.take-heard.result) (time_of event) 0 mid.now.talk.pending)
-          (ap (λ v. v.items) (sym c.tell.ensures.modes));
+          ∙ ap (λ (n : Trail). ended_from (λ m. turns_noted m n.turns) (aborts_in c.take-heard.result) c.time_of-count.result 0 mid.now.talk.pending)
+          (sym c.tell.ensures.along);
       notices_are = ap (λ (l : Bounded Waiting). l.items) (c.tell.ensures.notices ∙ c.update.ensures.notices)
           ∙ (notices_are c.kinds_are_exact.ensures old mid caches.kinds.items caches.used.items caches.values fixed c.self.invariant.1.kinds c.self.invariant.1.used c.self.invariant.1.values
           ∙ ap (notifications old) c.take-heard.ensures.book);
@@ -123,7 +141,7 @@ pub answer-out-requires : goal.answer-out-requires
 answer-out-requires c =
     let mid = c.take-heard.new.self in
     let telling = c.tell.new.telling in
-    let changes = tellings (news_in telling) (mode_noted telling.modes.items) (opening_in telling (registers_in c.take-heard.result) (time_of c.args.event.now) mid) c.take-heard.result mid in
+    let changes = tellings (news_in telling) (mode_noted telling.modes.items) (opening_in telling (renews_in c.take-heard.result) (registers_in c.take-heard.result) c.time_of-count.result mid) c.take-heard.result mid in
     let P : State → Type 0 = λ b. AreKept b c.update.new.self in
     subst P (sym c.tell.ensures.book) (kept_talked changes mid c.update.new.self c.update.ensures.kept)
 
@@ -134,7 +152,7 @@ invariant_of-self c =
     let mid = c.take-heard.new.self in
     let new = c.tell.new.inner in
     let telling = c.tell.new.telling in
-    let changes = tellings (news_in telling) (mode_noted telling.modes.items) (opening_in telling (registers_in c.take-heard.result) (time_of event) mid) c.take-heard.result mid in
+    let changes = tellings (news_in telling) (mode_noted telling.modes.items) (opening_in telling (renews_in c.take-heard.result) (registers_in c.take-heard.result) c.time_of-count.result mid) c.take-heard.result mid in
     let P : State → Type 0 = λ b. AreKept b c.update.new.self in
     let Q : State → Type 0 = λ b. HasPlaces b.fixed.topology (length (in_force b).masters) telling in (
       kept_by c.books_stay_sound.ensures.step event old new (told c).book c.self.invariant.0,
@@ -169,14 +187,15 @@ returns-clause-out c =
     let telling = c.tell.new.telling in
     let found = telling.ended.items in
     let caches = c.self.inside.caches in
-    let told_calls = callbacks (news_in telling) (mode_noted telling.modes.items) (mail_after (opening_in telling (registers_in c.take-heard.result) (time_of event) mid) mid) new in
+    let told_calls = callbacks (news_in telling) (mode_noted telling.modes.items) (mail_after (opening_in telling (renews_in c.take-heard.result) (registers_in c.take-heard.result) c.time_of-count.result mid) mid) new in
     record {
       moved = ap (λ (s : Bounded Unit). s.items) c.update.ensures.moved ∙ (
-          ap (λ xs. xs ++ moved_by (λ kind. value_at kind mid.fixed mid.now.core) caches.kinds.items caches.values) c.clear.ensures.empty.moved
+          ap (λ xs. xs ++ moved_by (value_by mid.fixed mid.now.core) caches.kinds.items caches.values) c.clear.ensures.empty.moved
           ∙ (step_moves event old mid caches.kinds.items caches.values c.take-heard.ensures.book c.self.invariant.1.kinds c.self.invariant.1.values
           ∙ ap (λ (b : State). moved (λ u. value u b) (effect event b)) c.self.view_is));
+      pulse = c.pulse-out.ensures ∙ (ap pulse_in c.take-heard.ensures.heard ∙ (pulse_heard event old ∙ ap (pulse event) c.self.view_is));
       starts = ap (λ (s : Bounded Start). s.items) c.update.ensures.starts
-          ∙ (step_starts event old mid caches.kinds.items caches.values c.take-heard.ensures.book c.self.invariant.1.kinds c.self.invariant.1.values
+          ∙ (step_starts c.kinds_are_exact.ensures event old mid c.note.new.self caches.kinds.items caches.values c.take-heard.ensures.book (completed old (path event old) mid c.take-heard.new.along c.note.new.self c.take-heard.ensures.along c.note.ensures) c.self.invariant.1.kinds c.self.invariant.1.values
           ∙ ap (λ (b : State). starts (was_down (b ∷ path event b)) (effect event b)) c.self.view_is);
       late = ap (λ (s : Bounded Late). s.items) c.tell.ensures.late
           ∙ (ap (λ xs. xs ++ late_replies found new) c.clear.ensures.empty.late

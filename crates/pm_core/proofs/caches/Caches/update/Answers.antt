@@ -1,13 +1,13 @@
 use Rattle.std.proofs.Common.{◌≡◌, ℕ, ◌≤◌, ◌++◌, Bool, length, take, drop, List, sym, ◌∙◌, ap, arith}
 use Rattle.pm_base.specs.declared.names.Unit.{Unit}
-use Rattle.pm_topology.specs.declared.places.Kind.{Kind}
+use Rattle.pm_core.specs.declared.caches.UnitKind.{UnitKind}
 use Rattle.pm_power.specs.Forest.{ups}
 use Rattle.pm_notify.specs.declared.notes.Waiting.{Waiting}
-use Rattle.pm_core.specs.Caches.{freed_by, kind_value, moved_by, noticed_by, starts_by, use_of}
+use Rattle.pm_core.specs.Caches.{freed_by, moved_by, noticed_by, starts_by, unit_value, use_of, value_by}
 use Rattle.pm_base.specs.BoundedList.{Bounded}
 use Rattle.pm_core.specs.State.{State}
-use Rattle.pm_core.specs.Values.{placed, chosen, need_of, run_of, forest, value_at}
-use Rattle.pm_core.proofs.CachesLaw.{written_back, forest_is, valued_is, kind_value_is}
+use Rattle.pm_core.specs.Values.{placed, chosen, need_of, run_of, forest}
+use Rattle.pm_core.proofs.CachesLaw.{written_back, forest_is, valued_is, unit_value_is}
 use Rattle.pm_core.proofs.MovesLemmas.{moved_by-same}
 use Rattle.pm_core.proofs.NoticesLaw.{noticed_by-same}
 use Rattle.pm_core.proofs.PlacedLemmas.{length-placed}
@@ -19,8 +19,9 @@ note_starts-requires-clause-room c =
     let t = c.args.inner.now.fixed.topology in
     let procs = c.inner.inside.procs.procs in
     let none = ap length c.requires.starts in
-    let few : length (starts_by procs c.deref-3.result.now c.args.self.now.values) ≤ length t.procs =
-    starts_few c.units_stand_in_order.ensures c.kinds_are_exact.ensures t procs c.deref-3.result.now c.args.self.now.values
+    let downs = c.args.along.now.downs in
+    let few : length (starts_by downs procs c.deref-3.result.now c.args.self.now.values) ≤ length t.procs =
+    starts_few c.units_stand_in_order.ensures c.kinds_are_exact.ensures t downs procs c.deref-3.result.now c.args.self.now.values
     (c.deref-3.ensures.value ∙ c.requires.places.kinds)
     in
     omega (arith, none, few, c.requires.procs)
@@ -75,8 +76,8 @@ returns-clause-kept c =
       used = used_is c;
       power = power_is c;
       values = c.note_moves.ensures.values
-          ∙ valued_is c.args.inner.now c.deref-8.result.now c.inner.inside.procs.procs c.ups-2.result.now c.deref-7.result.now c.args.self.now.values
-          (c.deref-8.ensures.value ∙ states_are c) (ap (λ (b : State). b.now.core.procs) c.inner.view_is) (c.ups-2.ensures ∙ ap ups (power_is c))
+          ∙ valued_is c.args.inner.now c.deref-8.result.now c.inner.inside.procs.procs c.ups-2.result.now c.inner.inside.resets c.deref-7.result.now c.args.self.now.values
+          (c.deref-8.ensures.value ∙ states_are c) (ap (λ (b : State). b.now.core.procs) c.inner.view_is) (c.ups-2.ensures ∙ ap ups (power_is c)) (ap (λ (b : State). b.now.core.lines) c.inner.view_is)
           c.requires.places.units (c.deref-7.ensures.value ∙ c.requires.places.kinds);
     }
 
@@ -86,12 +87,12 @@ returns-clause-moved c =
     let old = c.args.self.now in
     let before = c.args.moved.now in
     let with : List Unit → Bounded Unit = λ items. record before { items = before.items ++ items } in
-    let new : Kind → ℕ = kind_value c.deref-8.result.now c.inner.inside.procs.procs c.ups-2.result.now in
+    let new : UnitKind → ℕ = unit_value c.deref-8.result.now c.inner.inside.procs.procs c.ups-2.result.now c.inner.inside.resets in
     c.note_moves.ensures.moved
     ∙ (ap (λ ks. with (moved_by new ks old.values)) c.deref-7.ensures.value
-    ∙ ap with (moved_by-same new (λ kind. value_at kind book.fixed book.now.core)
-    (kind_value_is book.fixed book.now.core c.deref-8.result.now c.inner.inside.procs.procs c.ups-2.result.now
-    (c.deref-8.ensures.value ∙ states_are c) (ap (λ (b : State). b.now.core.procs) c.inner.view_is) (c.ups-2.ensures ∙ ap ups (power_is c)))
+    ∙ ap with (moved_by-same new (value_by book.fixed book.now.core)
+    (unit_value_is book.fixed book.now.core c.deref-8.result.now c.inner.inside.procs.procs c.ups-2.result.now c.inner.inside.resets
+    (c.deref-8.ensures.value ∙ states_are c) (ap (λ (b : State). b.now.core.procs) c.inner.view_is) (c.ups-2.ensures ∙ ap ups (power_is c)) (ap (λ (b : State). b.now.core.lines) c.inner.view_is))
     old.kinds.items old.values))
 
 pub returns-clause-notices : goal.returns-clause-notices
@@ -100,14 +101,14 @@ returns-clause-notices c =
     let old = c.args.self.now in
     let before = c.args.notices.now in
     let with : List Waiting → Bounded Waiting = λ items. record before { items = items } in
-    let new : Kind → ℕ = kind_value c.deref-5.result.now c.inner.inside.procs.procs c.ups.result.now in
-    let freed : Kind → Bool = freed_by old.used.items book.now.core.rows in
+    let new : UnitKind → ℕ = unit_value c.deref-5.result.now c.inner.inside.procs.procs c.ups.result.now c.inner.inside.resets in
+    let freed : UnitKind → Bool = freed_by old.used.items book.now.core.rows in
     c.note_notices.ensures.notices
     ∙ (ap (λ (s : Bounded Waiting). record s { items = s.items ++ noticed_by new (freed_by c.deref-6.result.now c.inner.inside.rows) c.deref-4.result.now old.values }) c.clear.ensures
     ∙ (ap (λ us. with (noticed_by new (freed_by us c.inner.inside.rows) c.deref-4.result.now old.values)) c.deref-6.ensures.value
     ∙ (ap (λ (b : State). with (noticed_by new (freed_by old.used.items b.now.core.rows) c.deref-4.result.now old.values)) c.inner.view_is
     ∙ (ap (λ ks. with (noticed_by new freed ks old.values)) c.deref-4.ensures.value
-    ∙ ap with (noticed_by-same new (λ kind. value_at kind book.fixed book.now.core) freed
-    (kind_value_is book.fixed book.now.core c.deref-5.result.now c.inner.inside.procs.procs c.ups.result.now
-    (c.deref-5.ensures.value ∙ states_are c) (ap (λ (b : State). b.now.core.procs) c.inner.view_is) (c.ups.ensures ∙ ap ups (power_is c)))
+    ∙ ap with (noticed_by-same new (value_by book.fixed book.now.core) freed
+    (unit_value_is book.fixed book.now.core c.deref-5.result.now c.inner.inside.procs.procs c.ups.result.now c.inner.inside.resets
+    (c.deref-5.ensures.value ∙ states_are c) (ap (λ (b : State). b.now.core.procs) c.inner.view_is) (c.ups.ensures ∙ ap ups (power_is c)) (ap (λ (b : State). b.now.core.lines) c.inner.view_is))
     old.kinds.items old.values)))))

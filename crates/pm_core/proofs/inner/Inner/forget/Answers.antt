@@ -2,9 +2,9 @@ use Rattle.std.proofs.Common.{◌≡◌, List, [], drop, refl, sym, ◌∙◌, a
 use Rattle.std.proofs.lemmas.List.{drop_all}
 use Rattle.pm_object.specs.declared.object.MasterRec.{MasterRec}
 use Rattle.pm_core.specs.State.{State}
-use Rattle.pm_core.specs.Talk.{forget_at, forgets_from, talked}
-use Rattle.pm_core.specs.Telling.{turns_since}
-use Rattle.pm_core.proofs.TalkLemmas.{forget_step, turns_same}
+use Rattle.pm_core.specs.Talk.{forgets_from, talked}
+use Rattle.pm_core.specs.Telling.{turns_in}
+use Rattle.pm_core.proofs.TalkLemmas.{forget_step}
 use Rattle.pm_core.proofs.inner.Inner.forget.Goals as goal
 
 nobody : MasterRec
@@ -17,22 +17,17 @@ pub loop-m-preserved : goal.loop-m-preserved
 loop-m-preserved c =
     let masters = c.args.self.now.fixed.object.masters in
     let m = c.loop-m.m in
-    let modes = c.args.telling.now.modes.items in
-    let turns = turns_since modes c.args.self.now in
-    let same : turns_since modes c.loop-m.self m ≡ turns m = turns_same modes c.loop-m.self c.args.self.now m c.loop-m.invariant.fixed c.loop-m.invariant.core in
-    let is : c.forget_master.new.self ≡ talked (forget_at (turns m) m) c.loop-m.self =
-    c.forget_master.ensures ∙ ap (λ t. talked (forget_at t m) c.loop-m.self) same
-    in
+    let turns = turns_in c.args.telling.now in
     record {
       fixed = ap (λ (b : State). b.fixed) c.forget_master.ensures ∙ c.loop-m.invariant.fixed;
       core = ap (λ (b : State). b.now.core) c.forget_master.ensures ∙ c.loop-m.invariant.core;
-      whole = forget_step turns c.loop-m.self c.forget_master.new.self m nobody masters is (omega (arith, c.masters-m-end.ensures, c.loop-m-test.true))
+      whole = forget_step turns c.loop-m.self c.forget_master.new.self m nobody masters c.forget_master.ensures (omega (arith, c.masters-m-end.ensures, c.loop-m-test.true))
           ∙ c.loop-m.invariant.whole;
     }
 
 pub returns : goal.returns
 returns c =
     let masters = c.args.self.now.fixed.object.masters in
-    let turns = turns_since c.args.telling.now.modes.items c.args.self.now in
+    let turns = turns_in c.args.telling.now in
     let none : drop c.loop-m.m masters ≡ [] = drop_all c.loop-m.m masters (omega (arith, c.masters-m-end.ensures, c.loop-m-test.false)) in
     sym (ap (λ (left : List MasterRec). talked (forgets_from turns c.loop-m.m left) c.loop-m.self) none) ∙ c.loop-m.invariant.whole

@@ -3,7 +3,7 @@ use Rattle.std.proofs.lemmas.List.{length-set}
 use Rattle.std.proofs.lemmas.Option.{slice_get_cases}
 use Rattle.pm_core.specs.Members.{mode_of_master}
 use Rattle.pm_core.specs.State.{State, in_force}
-use Rattle.pm_core.specs.Telling.{mode_beside}
+use Rattle.pm_core.specs.Along.{mode_beside}
 use Rattle.pm_core.proofs.PlacedLemmas.{placed_step}
 use Rattle.pm_core.proofs.inner.Inner.note_modes.Goals as goal
 

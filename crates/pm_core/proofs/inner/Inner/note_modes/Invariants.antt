@@ -1,6 +1,6 @@
 use Rattle.std.proofs.Common.{◌≡◌, ◌++◌, length, take, drop}
 use Rattle.pm_core.specs.State.{in_force}
-use Rattle.pm_core.specs.Telling.{mode_beside, modes_of}
+use Rattle.pm_core.specs.Along.{mode_beside, modes_of}
 use Rattle.pm_core.specs.Values.{placed}
 use Rattle.pm_core.proofs.inner.Inner.note_modes.Given as goal
 

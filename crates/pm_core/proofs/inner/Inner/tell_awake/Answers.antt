@@ -8,7 +8,8 @@ use Rattle.pm_core.specs.Caches.{AreKept}
 use Rattle.pm_core.specs.Callbacks.{asks_to, callback_of, notes_to, told_if}
 use Rattle.pm_core.specs.State.{State}
 use Rattle.pm_core.specs.Talk.{take_of, talked}
-use Rattle.pm_core.specs.Telling.{mode_noted, news_in}
+use Rattle.pm_core.specs.Along.{mode_noted}
+use Rattle.pm_core.specs.Telling.{news_in}
 use Rattle.pm_core.proofs.EndedLaw.{kept_talked}
 use Rattle.pm_core.proofs.MailLaw.{notes_alike, takes_ask}
 use Rattle.pm_core.proofs.TellLemmas.{callbacks_same, length-calls}

@@ -13,7 +13,8 @@ use Rattle.pm_core.specs.Outbox.{callbacks_to_one, unit_count}
 use Rattle.pm_core.specs.Sound.{HasMail}
 use Rattle.pm_core.specs.State.{Fixed, State}
 use Rattle.pm_core.specs.Talk.{talked}
-use Rattle.pm_core.specs.Telling.{mode_noted, news_in}
+use Rattle.pm_core.specs.Along.{mode_noted}
+use Rattle.pm_core.specs.Telling.{news_in}
 use Rattle.pm_core.specs.Views.{master_node}
 use Rattle.pm_core.proofs.MailLaw.{mailed_others}
 use Rattle.pm_core.proofs.TellLemmas.{called_same, calls_step, few_called, mails_step, mode_same, part_fits}

@@ -3,7 +3,8 @@ use Rattle.pm_notify.specs.Notify.{mail_of}
 use Rattle.pm_core.specs.Callbacks.{callbacks, callbacks_from, mails, mails_from}
 use Rattle.pm_core.specs.Outbox.{callbacks_to_one, unit_count}
 use Rattle.pm_core.specs.Talk.{talked}
-use Rattle.pm_core.specs.Telling.{mode_noted, news_in}
+use Rattle.pm_core.specs.Along.{mode_noted}
+use Rattle.pm_core.specs.Telling.{news_in}
 use Rattle.pm_core.proofs.inner.Inner.tell_masters.Given as goal
 
 -- what the masters that are left are told makes the whole with what was told, and their mail is as it was found

@@ -1,10 +1,12 @@
-use Rattle.std.proofs.Common.{◌≡◌, ◌+◌, ◌++◌, ◌<◌, ◌≤◌, length, drop, sym, ◌∙◌, ap, append_assoc, arith}
+use Rattle.std.proofs.Common.{◌≡◌, ℕ, ◌+◌, ◌++◌, ◌<◌, ◌≤◌, length, drop, sym, ◌∙◌, ap, append_assoc, arith}
 use Rattle.std.proofs.lemmas.List.{length-append}
 use Rattle.pm_procs.specs.Pending.{pending_at}
 use Rattle.pm_base.specs.BoundedList.{Bounded}
 use Rattle.pm_core.specs.declared.ended.Ended.{Ended}
+use Rattle.pm_core.specs.declared.ended.Turns.{Turns}
 use Rattle.pm_core.specs.Ended.{ended_at, ended_from}
-use Rattle.pm_core.specs.Telling.{turns_since}
+use Rattle.pm_core.specs.Along.{Trail, turns_noted}
+use Rattle.pm_core.specs.Telling.{turns_in}
 use Rattle.pm_core.proofs.EndedLemmas.{ended_few, ended_step}
 use Rattle.pm_core.proofs.telling.Telling.note_ended.Goals as goal
 
@@ -13,19 +15,20 @@ loop-m-preserved c =
     let after = c.args.inner.now in
     let pending = after.now.talk.pending in
     let m = c.loop-m.m in
-    let turns = turns_since c.args.self.now.modes.items after in
+    let turns : ℕ → Turns = turns_in c.args.self.now in
     let aborts = c.args.aborts in
     let count = c.args.count in
     let within : m < length pending = omega (arith, c.requires.each, c.masters-m-end.ensures, c.loop-m-test.true) in
-    let modes : c.note_end.new.self.modes ≡ c.args.self.now.modes = c.note_end.ensures.modes ∙ c.loop-m.invariant.modes in
+    let along : c.note_end.new.self.along ≡ c.args.self.now.along = c.note_end.ensures.along ∙ c.loop-m.invariant.along in
     let found : c.note_end.new.self.ended.items ≡ c.loop-m.self.ended.items ++ ended_at (turns m) aborts count m (pending_at m pending) =
     ap (λ (list : Bounded Ended). list.items) c.note_end.ensures.ended
-    ∙ ap (λ (ms : _). c.loop-m.self.ended.items ++ ended_at (turns_since ms after m) aborts count m (pending_at m pending)) (ap (λ v. v.items) c.loop-m.invariant.modes)
+    ∙ ap (λ (n : Trail). c.loop-m.self.ended.items ++ ended_at (turns_noted m n.turns) aborts count m (pending_at m pending)) c.loop-m.invariant.along
     in
     let few : length (ended_at (turns m) aborts count m (pending_at m pending)) ≤ 1 = ended_few (turns m) aborts count m (pending_at m pending) in
     let counted = ap length found ∙ length-append c.loop-m.self.ended.items (ended_at (turns m) aborts count m (pending_at m pending)) in
     record {
-      modes = modes;
+      modes = c.note_end.ensures.modes ∙ c.loop-m.invariant.modes;
+      along = along;
       asks = c.note_end.ensures.asks ∙ c.loop-m.invariant.asks;
       notices = c.note_end.ensures.notices ∙ c.loop-m.invariant.notices;
       room = ap (λ (list : Bounded Ended). list.room) c.note_end.ensures.ended ∙ c.loop-m.invariant.room;

@@ -1,0 +1,105 @@
+-- The reset of a line keeps the book sound: only a line that a master may reset is asserted.
+use Rattle.std.proofs.Common.{◌≡◌, ◌≢◌, ℕ, ◌&&◌, ◌==◌, Bool, true, false, true≢false, if◌then◌else◌, IsTrue, List, [], ◌∷◌, ◌++◌, length, slice_get, is_some, Option, Some, None, refl, sym, ◌∙◌, ap, subst, inl, inr}
+use Rattle.std.specs.Prelude.{slice_set, unwrap_or}
+use Rattle.std.specs.List.{list_all}
+use Rattle.std.proofs.lemmas.Bool.{cases_eq, eqb-true}
+use Rattle.std.proofs.lemmas.List.{get_or-set_other, length-set}
+use Rattle.std.proofs.lemmas.Option.{unwrap_or-slice_get}
+use Rattle.pm_base.proofs.Searches.{IsFirst, position-first}
+use Rattle.pm_base.specs.declared.names.LineId.{LineId}
+use Rattle.pm_base.specs.declared.names.Mode.TheVariants.{Off}
+use Rattle.pm_topology.specs.declared.topology.LineDef.{LineDef}
+use Rattle.pm_topology.specs.declared.topology.Topology.{Topology}
+use Rattle.pm_ipi.specs.Status.{invalid_node, invalid_parameter, no_access}
+use Rattle.pm_perms.specs.Permits.{may_reset}
+use Rattle.pm_resets.specs.Resets.{is_asserted, with_line}
+use Rattle.pm_core.specs.declared.lines.LineView.{LineView}
+use Rattle.pm_core.specs.declared.lines.OwnedProc.{OwnedProc}
+use Rattle.pm_core.specs.Lines.{line_view, reset_at}
+use Rattle.pm_core.specs.Members.{owns}
+use Rattle.pm_core.specs.Outcome.{must}
+use Rattle.pm_core.specs.Prims.{Prim, Put_line, applies, apply, changed}
+use Rattle.pm_core.specs.Sound.{AreLines, IsSound}
+use Rattle.pm_core.specs.Stages.{after_stage}
+use Rattle.pm_core.specs.State.{Fixed, Now, State, in_force}
+use Rattle.pm_core.specs.Values.{line_place}
+use Rattle.pm_core.specs.Views.{master_node}
+use Rattle.pm_core.specs.calls.ResetAssert.{is_action, line_put, reset_changes, reset_checks, stopped, stopped_by}
+use Rattle.pm_core.proofs.Judged.{passes, must_passes}
+use Rattle.pm_core.proofs.RowLaws.{RowLaws}
+use Rattle.pm_core.proofs.StageLaw.{IsWithin, within, put_keeps, followed_sound}
+
+-- the master at place m may reset the line with this entry
+abbrev MayReset : Fixed → ℕ → LineDef → Type 0
+MayReset fixed m line = may_reset fixed.object fixed.topology (master_node fixed.object.masters m) line.line ≡ true
+
+other_line : (lines : List Bool) (l k : ℕ) (asserted : Bool) → k ≢ l → is_asserted k (with_line l asserted lines) ≡ is_asserted k lines
+other_line lines l k asserted other =
+    unwrap_or-slice_get (slice_set lines l asserted) k false ∙ (get_or-set_other lines l k asserted false other ∙ sym (unwrap_or-slice_get lines k false))
+
+-- a line that a master may reset may be asserted
+pub put_line_keeps : (fixed : Fixed) (now : Now) (m l : ℕ) (asserted : Bool) → ((line : LineDef) → slice_get fixed.topology.lines l ≡ Some line → MayReset fixed m line) → IsWithin fixed now → IsWithin fixed (apply fixed (Put_line l asserted) now)
+put_line_keeps fixed now m l asserted may of = record {
+  rows = of.rows;
+  boot = of.boot;
+  each = of.each;
+  procs = record { each = of.procs.each; nobodys = of.procs.nobodys };
+  lines = record {
+    each = length-set now.core.lines l asserted ∙ of.lines.each;
+    nobodys = λ k line is nobody. elim (cases_eq k l) [
+      | inl own ↦ absurd (true≢false (sym (may line (ap (slice_get fixed.topology.lines) (sym own) ∙ is)) ∙ nobody m))
+      | inr other ↦ other_line now.core.lines l k asserted other ∙ of.lines.nobodys k line is nobody
+    ];
+  };
+  armed = of.armed;
+  pending = of.pending;
+  mail = of.mail;
+}
+
+-- a processor that is stopped keeps it so too
+stopped_keeps : (fixed : Fixed) (target : Option OwnedProc) (now : Now) → IsWithin fixed now → IsWithin fixed (applies fixed (stopped target) now)
+stopped_keeps fixed None now of = of
+stopped_keeps fixed (Some target) now of =
+    put_keeps fixed now target.owner target.proc Off 0 (owns fixed.object fixed.topology target.owner target.proc) refl of
+
+stops_keep : (fixed : Fixed) (release : Bool) (target : Option OwnedProc) (now : Now) → IsWithin fixed now → IsWithin fixed (applies fixed (if release then [] else stopped target) now)
+stops_keep fixed true target now of = of
+stops_keep fixed false target now of = stopped_keeps fixed target now of
+
+-- of the checks of a reset: the caller may reset the line
+reset_part : (a b c : Bool) → IsTrue (a && (b && (c && true))) → IsTrue c
+reset_part true true true is = refl
+reset_part true true false is = cc
+reset_part true false c is = cc
+reset_part false b c is = cc
+
+permitted : (action : ℕ) (view : LineView) → IsTrue (list_all passes (reset_checks action view)) → IsTrue view.permitted
+permitted action view passing =
+    must_passes view.permitted no_access
+    (reset_part (passes (must (is_some view.place) invalid_node)) (passes (must (is_action action) invalid_parameter)) (passes (must view.permitted no_access)) passing)
+
+-- the entry at the place of a line has its number
+line_is : (number : ℕ) (lines : List LineDef) (l : ℕ) (line : LineDef) (first : IsFirst (λ (x : LineDef). x.line.0 == number) lines l) → slice_get lines l ≡ Some line → line.line ≡ record { 0 = number }
+line_is number lines l line first is =
+    let same : first.element ≡ line = cc in
+    let id : ℕ → LineId = λ n. record { 0 = n } in
+    ap id (eqb-true line.line.0 number (ap (λ (x : LineDef). x.line.0 == number) (sym same) ∙ first.passes))
+
+placed_may : (m : ℕ) (line : LineId) (book : State) (l : ℕ) → line_place line book.fixed ≡ Some l → IsTrue (line_view m line book).permitted → (def : LineDef) → slice_get book.fixed.topology.lines l ≡ Some def → MayReset book.fixed m def
+placed_may m line book l at may def is =
+    let first = position-first (λ (x : LineDef). x.line.0 == line.0) book.fixed.topology.lines l at in
+    let same : def.line ≡ line = line_is line.0 book.fixed.topology.lines l def first is in
+    ap (λ (id : LineId). may_reset book.fixed.object book.fixed.topology (master_node book.fixed.object.masters m) id) same ∙ may
+
+reset_within : (m : ℕ) (line : LineId) (action : ℕ) (book : State) (place : Option ℕ) (target : Option OwnedProc) → line_place line book.fixed ≡ place → IsTrue (line_view m line book).permitted → IsSound book → IsWithin book.fixed (applies book.fixed (line_put place (action == 1) ++ stopped_by action target) book.now)
+reset_within m line action book None target at may sound = stops_keep book.fixed (action == 0) target book.now (within book sound)
+reset_within m line action book (Some l) target at may sound =
+    stops_keep book.fixed (action == 0) target (apply book.fixed (Put_line l (action == 1)) book.now)
+    (put_line_keeps book.fixed book.now m l (action == 1) (placed_may m line book l at may) (within book sound))
+
+-- the call that resets a line
+pub reset_keeps : RowLaws → (m : ℕ) (line : LineId) (action : ℕ) (book : State) → IsSound book → IsTrue (list_all passes (reset_checks action (line_view m line book))) → IsSound (after_stage (reset_changes action (line_view m line book)) book)
+reset_keeps laws m line action book sound passing =
+    let view : LineView = line_view m line book in
+    followed_sound laws (changed (reset_changes action view) book)
+    (reset_within m line action book (line_place line book.fixed) (reset_at (line_place line book.fixed) book.fixed) refl (permitted action view passing) sound)

@@ -1,0 +1,42 @@
+use Rattle.std.proofs.Common.{◌≡◌, true, false, List, [], ◌∷◌, refl, sym, ◌∙◌, ap, subst, Bool}
+use Rattle.pm_core.specs.declared.scope.Scope.TheVariants.{Own}
+use Rattle.pm_core.specs.Along.{Completes, trailed}
+use Rattle.pm_core.specs.Prims.{Prim, changed}
+use Rattle.pm_core.specs.Scope.{offs}
+use Rattle.pm_core.specs.Stages.{after_stage, followed, path_from}
+use Rattle.pm_core.specs.State.{State}
+use Rattle.pm_core.specs.calls.SystemShutdown.{first_own, own_stages, starting}
+use Rattle.pm_core.proofs.AlongLaw.{next_places, once_trailed, twice_trailed}
+use Rattle.pm_core.proofs.inner.Inner.shut_own.Goals as goal
+
+pub note-requires : goal.note-requires
+note-requires c =
+    let mid : c.follow.new.self ≡ after_stage (offs c.args.self.now.fixed (Own c.args.m)) c.args.self.now =
+    c.follow.ensures ∙ ap followed c.take_off.ensures
+    in
+    next_places c.args.self.now c.follow.new.self c.args.along.now c.requires (ap (λ (b : State). b.fixed) mid)
+
+pub returns-then-restarts-clause-along : goal.returns-then-restarts-clause-along
+returns-then-restarts-clause-along c =
+    let book = c.args.self.now in
+    let m = c.args.m in
+    let first = offs book.fixed (Own m) in
+    let later = starting m (first_own book.fixed m) in
+    let new = c.follow-then-restarts.new.self in
+    let mid : c.follow.new.self ≡ after_stage first book = c.follow.ensures ∙ ap followed c.take_off.ensures in
+    let P : Bool → Type 0 = λ restarts. Completes book (path_from (own_stages book.fixed m restarts) book) new c.note.new.self in
+    subst P (sym c.if-restarts.true)
+    (twice_trailed first later book c.follow.new.self new c.note.new.self mid
+    (c.note.ensures ∙ ap (trailed c.follow.new.self) c.requires)
+    (c.follow-then-restarts.ensures
+    ∙ (ap followed c.start_own.ensures ∙ ap (λ (b : State). followed (changed (starting m (first_own b.fixed m)) b)) mid)))
+
+pub returns-else-restarts-clause-along : goal.returns-else-restarts-clause-along
+returns-else-restarts-clause-along c =
+    let book = c.args.self.now in
+    let m = c.args.m in
+    let first = offs book.fixed (Own m) in
+    let mid : c.follow.new.self ≡ after_stage first book = c.follow.ensures ∙ ap followed c.take_off.ensures in
+    let P : Bool → Type 0 = λ restarts. Completes book (path_from (own_stages book.fixed m restarts) book) c.follow.new.self c.args.along.now in
+    subst P (sym c.if-restarts.false)
+    (once_trailed (first ∷ []) book c.follow.new.self c.args.along.now refl c.requires mid)

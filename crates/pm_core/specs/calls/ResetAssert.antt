@@ -1,0 +1,47 @@
+-- PM_RESET_ASSERT (UG1200).
+use Rattle.std.specs.Prelude.{ℕ, Bool, ◌==◌, ◌||◌, if◌then◌else◌, is_some, List, [], ◌∷◌, ◌++◌, Option, Some, None}
+use Rattle.pm_base.specs.declared.names.LineId.{LineId}
+use Rattle.pm_base.specs.declared.names.Mode.TheVariants.{Off}
+use Rattle.pm_ipi.specs.Status.{invalid_parameter, invalid_node, no_access}
+use Rattle.pm_core.specs.declared.lines.LineView.{LineView}
+use Rattle.pm_core.specs.declared.lines.OwnedProc.{OwnedProc}
+use Rattle.pm_core.specs.Outcome.{Tried, tried, Check, must, resetting}
+use Rattle.pm_core.specs.Prims.{Prim, Put_line, Put_proc}
+
+-- 0 releases, 1 asserts, and 2 pulses
+abbrev pub is_action : ℕ → Bool
+is_action action = (action == 0) || ((action == 1) || (action == 2))
+
+-- the chip has the line, the action is known, and the caller may reset the line
+abbrev pub reset_checks : ℕ → LineView → List Check
+reset_checks action view =
+    must (is_some view.place) invalid_node
+    ∷ must (is_action action) invalid_parameter
+    ∷ must view.permitted no_access
+    ∷ []
+
+-- the line at this place is asserted or released
+abbrev pub line_put : Option ℕ → Bool → List Prim
+line_put None asserted = []
+line_put (Some l) asserted = Put_line l asserted ∷ []
+
+-- the processor that the line resets, if it resets one, goes off
+abbrev pub stopped : Option OwnedProc → List Prim
+stopped None = []
+stopped (Some target) = Put_proc target.owner target.proc Off 0 ∷ []
+
+-- a line that is released stops nothing
+abbrev pub stopped_by : ℕ → Option OwnedProc → List Prim
+stopped_by action target = if action == 0 then [] else stopped target
+
+-- asserted, the line is at 1, and else at 0; asserted or pulsed, it stops its processor
+abbrev pub reset_changes : ℕ → LineView → List Prim
+reset_changes action view = line_put view.place (action == 1) ++ stopped_by action view.target
+
+-- the line that is pulsed
+abbrev pub pulsed : ℕ → LineId → Option LineId
+pulsed action line = if action == 2 then Some line else None
+
+abbrev pub reset_assert : LineId → ℕ → LineView → Tried
+reset_assert line action view =
+    tried (reset_checks action view) (resetting (pulsed action line) (reset_changes action view))

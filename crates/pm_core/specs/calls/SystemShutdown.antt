@@ -1,0 +1,64 @@
+-- PM_SYSTEM_SHUTDOWN (UG1200).
+use Rattle.std.specs.Prelude.{ℕ, ◌==◌, ◌&&◌, ◌||◌, nat_le, Bool, true, false, not, if◌then◌else◌, List, [], ◌∷◌, slice_get, Option, Some, None}
+use Rattle.pm_base.specs.declared.names.Mode.TheVariants.{Active}
+use Rattle.pm_ipi.specs.Status.{invalid_parameter, no_access}
+use Rattle.pm_perms.specs.Permits.{may_shut}
+use Rattle.pm_procs.specs.Procs.{members_at}
+use Rattle.pm_core.specs.declared.scope.Scope.TheVariants.{Own, All}
+use Rattle.pm_core.specs.Members.{members_of}
+use Rattle.pm_core.specs.Outcome.{Deed, Tried, tried, Check, must, staged}
+use Rattle.pm_core.specs.Prims.{Prim, Put_proc, Halt, Reload}
+use Rattle.pm_core.specs.Scope.{offs}
+use Rattle.pm_core.specs.State.{Fixed}
+use Rattle.pm_core.specs.Views.{master_node}
+
+-- the type and the subtype are known, and the caller may shut that much down; a scope (type 2) needs no permission
+abbrev pub system_shutdown_checks : Fixed → (m shutdown_type subtype : ℕ) → List Check
+system_shutdown_checks fixed m shutdown_type subtype =
+    must (nat_le shutdown_type 2 && nat_le subtype 2) invalid_parameter
+    ∷ must ((shutdown_type == 2) || may_shut fixed.object fixed.topology (master_node fixed.object.masters m) subtype) no_access
+    ∷ []
+
+-- the place of the first processor of the master at place m
+abbrev pub first_own : Fixed → ℕ → Option ℕ
+first_own fixed m = slice_get (members_at m (members_of fixed.object fixed.topology)) 0
+
+-- this processor of the master starts at address 0, if there is one
+abbrev pub starting : ℕ → Option ℕ → List Prim
+starting m None = []
+starting m (Some p) = Put_proc m p Active 0 ∷ []
+
+-- the caller's processors go off; and then its first one starts, where it restarts
+abbrev pub own_stages : Fixed → ℕ → (restarts : Bool) → List (List Prim)
+own_stages fixed m false = offs fixed (Own m) ∷ []
+own_stages fixed m true = offs fixed (Own m) ∷ starting m (first_own fixed m) ∷ []
+
+-- all processors go off, and then the book is halted, or is as at load
+abbrev pub stop_all : Fixed → List (List Prim)
+stop_all fixed = offs fixed All ∷ (Halt ∷ []) ∷ []
+
+abbrev pub restart_all : Fixed → List (List Prim)
+restart_all fixed = offs fixed All ∷ (Reload ∷ []) ∷ []
+
+abbrev pub all_stages : Fixed → (restarts : Bool) → List (List Prim)
+all_stages fixed false = stop_all fixed
+all_stages fixed true = restart_all fixed
+
+-- what the call does, by its type (0 shutdown, 1 restart, 2 scope) and subtype (0 the caller, 1 and 2 all)
+abbrev pub shutdown_stages : Fixed → (m shutdown_type subtype : ℕ) → List (List Prim)
+shutdown_stages fixed m shutdown_type subtype =
+    if shutdown_type == 2 then []
+    else if subtype == 0 then own_stages fixed m (shutdown_type == 1)
+    else all_stages fixed (shutdown_type == 1)
+
+-- whether it restarts all
+abbrev pub restarts_all : (shutdown_type subtype : ℕ) → Bool
+restarts_all shutdown_type subtype = (shutdown_type == 1) && not (subtype == 0)
+
+abbrev pub system_shutdown_deed : Fixed → (m shutdown_type subtype : ℕ) → Deed
+system_shutdown_deed fixed m shutdown_type subtype =
+    record (staged (shutdown_stages fixed m shutdown_type subtype)) { renews = restarts_all shutdown_type subtype }
+
+abbrev pub system_shutdown : Fixed → (m shutdown_type subtype : ℕ) → Tried
+system_shutdown fixed m shutdown_type subtype =
+    tried (system_shutdown_checks fixed m shutdown_type subtype) (system_shutdown_deed fixed m shutdown_type subtype)
