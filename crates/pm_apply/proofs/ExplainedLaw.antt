@@ -1,10 +1,11 @@
 -- A unit lags after a step only where a command failed in it: on the unit, above it or below it.
-use Rattle.std.proofs.Common.{◌≡◌, ◌≢◌, ℕ, ◌+◌, Bool, Some, List, [], ◌∷◌, ◌++◌, length, map, reverse, refl, ap, sym, ◌∙◌, subst, arith, inl, inr, zero, suc}
+use Rattle.std.proofs.Common.{◌≡◌, ◌≢◌, ℕ, ◌+◌, Bool, Option, Some, List, [], ◌∷◌, ◌++◌, length, map, reverse, refl, ap, sym, ◌∙◌, subst, arith, inl, inr, zero, suc}
 use Rattle.std.specs.Prelude.{slice_get}
 use Rattle.std.specs.List.{range_with_len}
 use Rattle.std.proofs.lemmas.Bool.{cases_Bool, cases_lt, both_ways}
 use Rattle.std.proofs.lemmas.List.{reverse-append}
 use Rattle.std.proofs.lemmas.Option.{slice_get_within}
+use Rattle.pm_base.specs.declared.names.LineId.{LineId}
 use Rattle.pm_base.specs.declared.names.Unit.{Unit}
 use Rattle.pm_base.specs.declared.names.Unit.TheVariants.{Node, Line}
 use Rattle.pm_topology.specs.declared.topology.Topology.{Topology}
@@ -15,7 +16,8 @@ use Rattle.pm_core.specs.declared.outbox.Done.{Done}
 use Rattle.pm_core.specs.Fed.{IsFed}
 use Rattle.pm_topology.specs.Units.{units_of}
 use Rattle.pm_apply.proofs.Below.{ChipLaws}
-use Rattle.pm_apply.specs.declared.turns.Turn.TheVariants.{PowerOn, Apply, PowerOff}
+use Rattle.pm_apply.specs.declared.turns.Turn.{Turn}
+use Rattle.pm_apply.specs.declared.turns.Turn.TheVariants.{PowerOn, PowerOff}
 use Rattle.pm_apply.specs.Record.{Kept, kept_value, IsRecordOf}
 use Rattle.pm_apply.specs.Plan.{plan, turns_of, power_places, is_power}
 use Rattle.pm_apply.specs.Order.{IsOnPath, IsExplained, LagsAreExplained}
@@ -24,6 +26,7 @@ use Rattle.pm_apply.proofs.OrdersUnits.{is_listed, listed-is, IsPowerAt, power_k
 use Rattle.pm_apply.proofs.OrdersFailed.{FailsAtOrAbove}
 use Rattle.pm_apply.proofs.OrdersPowerOn.{Raised, raise_from}
 use Rattle.pm_apply.proofs.OrdersApply.{IsStarved, Lags, Settled, settle_all}
+use Rattle.pm_apply.proofs.PulseLemmas.{settle_pulses, turns_are}
 use Rattle.pm_apply.proofs.OrdersPowerOff.{FailsAtOrBelow, Lowered, downs, lower_all}
 
 -- ---- the places, from the last one down
@@ -68,19 +71,21 @@ module _ (laws : ChipLaws) (t : Topology) (values : Unit → ℕ) (well : IsWell
   raises_lead kept front answers record_of =
       from_raised _ _ (raise_from laws t values well fed n 0 n (omega arith) kept front answers (record { record_of = record_of; explained = λ v p below. absurd (omega arith) }))
 
-  settles_lead : Leads t values (Settled t values (units_of t)) (map Apply (units_of t)) (Lowered laws t values well fed n)
-  settles_lead kept front answers s = from_settled _ _ (settle_all laws t values well fed (units_of t) kept front answers s)
+  settles_lead : (pulse : Option LineId) → Leads t values (Settled t values (units_of t)) (settle_pulses t pulse) (Lowered laws t values well fed n)
+  settles_lead pulse kept front answers s = from_settled _ _ (settle_all laws t values well fed pulse (units_of t) kept front answers s)
 
   lowers_lead : Leads t values (Lowered laws t values well fed n) (map PowerOff (reverse (power_places t))) (Lowered laws t values well fed 0)
   lowers_lead =
       subst (λ places. Leads t values (Lowered laws t values well fed n) (map PowerOff places) (Lowered laws t values well fed 0)) (sym (reversed n)) (lower_all laws t values well fed n)
 
-  step_leads : Leads t values Begins (turns_of t) (Lowered laws t values well fed 0)
-  step_leads =
-      leads_append t values Begins (Settled t values (units_of t)) (Lowered laws t values well fed 0) (map PowerOn (power_places t)) (map Apply (units_of t) ++ map PowerOff (reverse (power_places t)))
+  step_leads : (pulse : Option LineId) → Leads t values Begins (turns_of t pulse) (Lowered laws t values well fed 0)
+  step_leads pulse =
+      let P : List Turn → Type 0 = λ turns. Leads t values Begins turns (Lowered laws t values well fed 0) in
+      subst P (sym (turns_are t pulse))
+      (leads_append t values Begins (Settled t values (units_of t)) (Lowered laws t values well fed 0) (map PowerOn (power_places t)) (settle_pulses t pulse ++ map PowerOff (reverse (power_places t)))
       raises_lead
-      (leads_append t values (Settled t values (units_of t)) (Lowered laws t values well fed n) (Lowered laws t values well fed 0) (map Apply (units_of t)) (map PowerOff (reverse (power_places t)))
-      settles_lead lowers_lead)
+      (leads_append t values (Settled t values (units_of t)) (Lowered laws t values well fed n) (Lowered laws t values well fed 0) (settle_pulses t pulse) (map PowerOff (reverse (power_places t)))
+      (settles_lead pulse) lowers_lead))
 
   -- ---- the paths
 
@@ -145,5 +150,5 @@ module _ (laws : ChipLaws) (t : Topology) (values : Unit → ℕ) (well : IsWell
         ]
 
   -- for any record and any answers
-  pub explained : (kept : Kept) (answers : List Bool) → IsRecordOf t kept → LagsAreExplained t values (plan t values (turns_of t) kept answers).kept (plan t values (turns_of t) kept answers).done
-  explained kept answers record_of = each_explained _ _ (step_leads kept [] answers record_of)
+  pub explained : (pulse : Option LineId) (kept : Kept) (answers : List Bool) → IsRecordOf t kept → LagsAreExplained t values (plan t values (turns_of t pulse) kept answers).kept (plan t values (turns_of t pulse) kept answers).done
+  explained pulse kept answers record_of = each_explained _ _ (step_leads pulse kept [] answers record_of)

@@ -12,6 +12,7 @@ pub mod OrdersApply
 pub mod OrdersUnits
 pub mod PlanLeads
 pub mod PlanLemmas
+pub mod PulseLemmas
 pub mod RecordLaw
 pub mod RecordLemmas
 pub mod StepLaw

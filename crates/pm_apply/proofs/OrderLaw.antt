@@ -5,8 +5,9 @@ use Rattle.std.specs.List.{list_all, list_any}
 use Rattle.std.specs.Option.{option_map_or}
 use Rattle.std.proofs.lemmas.Bool.{and_cases, not-true, eqb-false, eq-eqb, both_ways}
 use Rattle.pm_base.proofs.Booleans.{both}
+use Rattle.pm_base.specs.declared.names.LineId.{LineId}
 use Rattle.pm_base.specs.declared.names.Unit.{Unit}
-use Rattle.pm_base.specs.declared.names.Unit.TheVariants.{Node}
+use Rattle.pm_base.specs.declared.names.Unit.TheVariants.{Node, Line}
 use Rattle.pm_base.specs.declared.names.Command.{Command}
 use Rattle.pm_topology.specs.declared.topology.Topology.{Topology}
 use Rattle.pm_topology.specs.declared.topology.PowerDef.{PowerDef}
@@ -20,16 +21,16 @@ use Rattle.pm_core.specs.declared.outbox.Done.{Done}
 use Rattle.pm_topology.specs.Units.{units_of}
 use Rattle.pm_apply.proofs.Below.{ChipLaws}
 use Rattle.pm_apply.specs.declared.turns.Turn.{Turn}
-use Rattle.pm_apply.specs.declared.turns.Turn.TheVariants.{PowerOn, Apply, PowerOff}
+use Rattle.pm_apply.specs.declared.turns.Turn.TheVariants.{PowerOn, Pulse, Apply, PowerOff}
 use Rattle.pm_apply.specs.Record.{Kept, IsRecordOf, kept_value}
-use Rattle.pm_apply.specs.Plan.{after_answer, plan, due, is_fed, power_value, is_place, is_power}
+use Rattle.pm_apply.specs.Plan.{after_answer, command, plan, due, is_fed, power_value, is_place, is_power}
 use Rattle.pm_apply.specs.Order.{IsOrderly, IsOrdered}
 use Rattle.pm_apply.specs.Part.{order_of, orders_of}
 use Rattle.pm_apply.proofs.PlanLemmas.{Along, along_plan}
 use Rattle.pm_apply.proofs.RecordLaw.{is_turn_of, plan_is_on}
 use Rattle.pm_apply.proofs.RecordLemmas.{are_on, has_cell_of, kept_after, units_in-after_answer}
 use Rattle.pm_apply.proofs.OrdersUnits.{listed_below, power_kind, parent_of_power, power_is_power, power_needs, passes_none}
-use Rattle.pm_apply.proofs.OrdersDue.{Raises, raises, Settles, settles, Lowers, lowers}
+use Rattle.pm_apply.proofs.OrdersDue.{Raises, raises, pulses, Settles, settles, Lowers, lowers}
 
 -- ---- acts behind acts, and values that are the same
 
@@ -92,6 +93,17 @@ module _ (laws : ChipLaws) (t : Topology) (values : Unit → ℕ) (well : IsWell
         absurd (omega arith);
   }
 
+  -- a reset line has no power node above it, and is none
+  pulse_orderly : (line : LineId) (kept : Kept) (c : Command) → c ≡ command (Line line) 1 → IsOrderly t (kept_value kept) c
+  pulse_orderly line kept c is = record {
+    fed = λ node v power on above here needs.
+        let clash : Line line ≡ Node node = sym (ap (λ (c : Command). c.unit) is) ∙ on in
+        cc;
+    unused = λ node v power here on zero above.
+        let clash : Line line ≡ Node power.node = sym (ap (λ (c : Command). c.unit) is) ∙ on in
+        cc;
+  }
+
   settle_orderly : (unit : Unit) (kept : Kept) (c : Command) (ok : Bool) → Settles t values kept unit c → IsOrderly t (kept_value kept) c
   settle_orderly unit kept c ok s = record {
     fed = λ node v power on above here needs.
@@ -129,6 +141,7 @@ module _ (laws : ChipLaws) (t : Topology) (values : Unit → ℕ) (well : IsWell
 
   orderly : (turn : Turn) (kept : Kept) (c : Command) (ok : Bool) → is_turn_of t turn ≡ true → due t values kept turn ≡ Some c → IsOrderly t (kept_value kept) c
   orderly (PowerOn w) kept c ok of is = raise_orderly w kept c ok (raises t values kept w c is)
+  orderly (Pulse line) kept c ok of is = pulse_orderly line kept c (pulses t values kept line c is)
   orderly (Apply unit) kept c ok of is = settle_orderly unit kept c ok (settles t values kept unit c is)
   orderly (PowerOff w) kept c ok of is = lower_orderly w kept c ok (lowers t values kept w c is)
 

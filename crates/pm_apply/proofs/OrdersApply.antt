@@ -1,9 +1,10 @@
 -- The other units take their values: one that isn't at its value has a failed command on it, or waits for a power node
 -- on or above which a command failed.
-use Rattle.std.proofs.Common.{◌≡◌, ◌≢◌, ℕ, Bool, true, false, Some, None, List, [], ◌∷◌, ◌++◌, map, refl, ap, sym, ◌∙◌, ◌⊎◌, inl, inr}
-use Rattle.std.specs.Prelude.{slice_get}
+use Rattle.std.proofs.Common.{◌≡◌, ◌≢◌, ℕ, Bool, true, false, ◌||◌, if◌then◌else◌, Option, Some, None, List, [], ◌∷◌, ◌++◌, map, refl, ap, sym, ◌∙◌, ◌⊎◌, inl, inr}
+use Rattle.std.specs.Prelude.{flat_map, slice_get}
 use Rattle.std.specs.List.{list_any}
 use Rattle.std.proofs.lemmas.Bool.{or_right, or_from, both_ways}
+use Rattle.pm_base.specs.declared.names.LineId.{LineId}
 use Rattle.pm_base.specs.declared.names.NodeId.{NodeId}
 use Rattle.pm_base.specs.declared.names.Unit.{Unit}
 use Rattle.pm_base.specs.declared.names.Unit.TheVariants.{Node, Line}
@@ -16,15 +17,15 @@ use Rattle.pm_topology.specs.Units.{needs_power, parent_of_unit, same_unit}
 use Rattle.pm_core.specs.declared.outbox.Done.{Done}
 use Rattle.pm_core.specs.Fed.{IsFed}
 use Rattle.pm_apply.proofs.Below.{ChipLaws}
-use Rattle.pm_apply.specs.declared.turns.Turn.TheVariants.{Apply}
+use Rattle.pm_apply.specs.declared.turns.Turn.TheVariants.{Pulse, Apply}
 use Rattle.pm_apply.specs.Record.{Kept, kept_value, IsRecordOf}
-use Rattle.pm_apply.specs.Plan.{due, done_as, after_answer, is_fed, is_power}
+use Rattle.pm_apply.specs.Plan.{due, done_as, after_answer, is_fed, is_power, pulse_turn, with_pulse}
 use Rattle.pm_apply.specs.Order.{FailedOn}
-use Rattle.pm_apply.proofs.PlanLeads.{Leads, leads_none, leads_turn}
+use Rattle.pm_apply.proofs.PlanLeads.{Leads, leads_append, leads_none, leads_turn}
 use Rattle.pm_apply.proofs.RecordLemmas.{kept_stays, was_refused}
 use Rattle.pm_apply.proofs.RecordLaw.{has_cell_in, turn_keeps}
 use Rattle.pm_apply.proofs.OrdersUnits.{is_listed, power_is_power}
-use Rattle.pm_apply.proofs.OrdersDue.{settles, waits}
+use Rattle.pm_apply.proofs.OrdersDue.{pulses, settles, waits}
 use Rattle.pm_apply.proofs.OrdersFailed.{FailsAtOrAbove, fails_before, failed_before, failed_last, waits_for}
 
 module _ (t : Topology) (values : Unit → ℕ) where
@@ -128,8 +129,50 @@ module _ (laws : ChipLaws) (t : Topology) (values : Unit → ℕ) (well : IsWell
             let fails = was_refused laws c ok kept cell (λ same. lags (ap (kept_value (after_answer c ok kept)) (sym at) ∙ same ∙ wants)) in
             inl (failed_last front (done_as c kept ok) x at fails)
 
-  pub settle_all : (units : List Unit) → Leads t values (Settled t values units) (map Apply units) (Settled t values [])
-  settle_all [] = leads_none t values (Settled t values []) (Settled t values []) (λ kept front s. s)
-  settle_all (u ∷ units) =
-      leads_turn t values (Settled t values (u ∷ units)) (Settled t values units) (Settled t values []) (Apply u) (map Apply units)
-      (settled_none u units) (settled_some u units) (settle_all units)
+    -- the pulse of a line that has its turn yet to come changes nothing of this
+    pulsed_some : (line : LineId) → same_unit (Line line) u ≡ true → (c : Command) (ok : Bool) → due t values kept (Pulse line) ≡ Some c → Settled t values (u ∷ rest) (after_answer c ok kept) (front ++ done_as c kept ok ∷ [])
+    pulsed_some line same c ok is = record {
+      record_of = turn_keeps laws t values well (Pulse line) kept c ok s.record_of is;
+      among = s.among;
+      raised = λ v p here value down.
+          fails_before t front (done_as c kept ok ∷ []) v
+          (s.raised v p here value (sym (kept_stays laws c ok kept (Node p.node) (no_node p.node)) ∙ down));
+      settled = λ x has other lags off.
+          let none : same_unit u x ≡ false = or_first (same_unit u x) (list_any (λ u. same_unit u x) rest) off in
+          let apart : c.unit ≡ x → ⊥ = λ at. both_ways (same_unit u x) none (ap (same_unit u) (sym (sym (unit ∙ laws.units.same (Line line) u same) ∙ at)) ∙ laws.units.itself u) in
+          lags_before t values front (done_as c kept ok ∷ []) x (s.settled x has other (λ at. lags (kept_stays laws c ok kept x apart ∙ at)) off);
+    }
+      where
+        unit : c.unit ≡ Line line
+        unit = ap (λ (c : Command). c.unit) (pulses t values kept line c is)
+
+        no_node : (node : NodeId) → c.unit ≡ Node node → ⊥
+        no_node node at = let clash : Line line ≡ Node node = sym unit ∙ at in cc
+
+        or_first : (a b : Bool) → (a || b) ≡ false → a ≡ false
+        or_first true b off = cc
+        or_first false b off = refl
+
+  one_pulse : (line : LineId) (u : Unit) (rest : List Unit) (is : Bool) → same_unit (Line line) u ≡ is → Leads t values (Settled t values (u ∷ rest)) (if is then Pulse line ∷ [] else []) (Settled t values (u ∷ rest))
+  one_pulse line u rest true same =
+      let I = Settled t values (u ∷ rest) in
+      leads_turn t values I I I (Pulse line) [] (λ kept front s none. s) (λ kept front s. pulsed_some u rest kept front s line same)
+      (leads_none t values I I (λ kept front s. s))
+  one_pulse line u rest false same =
+      let I = Settled t values (u ∷ rest) in leads_none t values I I (λ kept front s. s)
+
+  pulse_leads : (pulse : Option LineId) (u : Unit) (rest : List Unit) → Leads t values (Settled t values (u ∷ rest)) (pulse_turn pulse u) (Settled t values (u ∷ rest))
+  pulse_leads None u rest = leads_none t values (Settled t values (u ∷ rest)) (Settled t values (u ∷ rest)) (λ kept front s. s)
+  pulse_leads (Some line) u rest = one_pulse line u rest (same_unit (Line line) u) refl
+
+  own_leads : (u : Unit) (units : List Unit) → Leads t values (Settled t values (u ∷ units)) (Apply u ∷ []) (Settled t values units)
+  own_leads u units =
+      leads_turn t values (Settled t values (u ∷ units)) (Settled t values units) (Settled t values units) (Apply u) []
+      (settled_none u units) (settled_some u units) (leads_none t values (Settled t values units) (Settled t values units) (λ kept front s. s))
+
+  pub settle_all : (pulse : Option LineId) (units : List Unit) → Leads t values (Settled t values units) (flat_map (with_pulse pulse) (map Apply units)) (Settled t values [])
+  settle_all pulse [] = leads_none t values (Settled t values []) (Settled t values []) (λ kept front s. s)
+  settle_all pulse (u ∷ units) =
+      leads_append t values (Settled t values (u ∷ units)) (Settled t values units) (Settled t values []) (pulse_turn pulse u ++ Apply u ∷ []) (flat_map (with_pulse pulse) (map Apply units))
+      (leads_append t values (Settled t values (u ∷ units)) (Settled t values (u ∷ units)) (Settled t values units) (pulse_turn pulse u) (Apply u ∷ []) (pulse_leads pulse u units) (own_leads u units))
+      (settle_all pulse units)

@@ -3,12 +3,13 @@ use Rattle.std.proofs.Common.{◌≡◌, ◌≢◌, ℕ, ◌==◌, Bool, true, f
 use Rattle.std.specs.Prelude.{slice_get}
 use Rattle.std.proofs.lemmas.Bool.{and_parts, eqb-true, eq-eqb, ne_eqb, not-true, not_from_false, not-false}
 use Rattle.pm_topology.specs.Units.{needs_power, parent_of_unit}
+use Rattle.pm_base.specs.declared.names.LineId.{LineId}
 use Rattle.pm_base.specs.declared.names.Unit.{Unit}
-use Rattle.pm_base.specs.declared.names.Unit.TheVariants.{Node}
+use Rattle.pm_base.specs.declared.names.Unit.TheVariants.{Node, Line}
 use Rattle.pm_base.specs.declared.names.Command.{Command}
 use Rattle.pm_topology.specs.declared.topology.Topology.{Topology}
 use Rattle.pm_topology.specs.declared.topology.PowerDef.{PowerDef}
-use Rattle.pm_apply.specs.declared.turns.Turn.TheVariants.{PowerOn, Apply, PowerOff}
+use Rattle.pm_apply.specs.declared.turns.Turn.TheVariants.{PowerOn, Pulse, Apply, PowerOff}
 use Rattle.pm_apply.specs.Record.{Kept, kept_value}
 use Rattle.pm_apply.specs.Plan.{due, power_on, power_off, where_due, command, is_fed, is_used, is_power}
 
@@ -75,6 +76,11 @@ module _ (t : Topology) (values : Unit → ℕ) (kept : Kept) where
       third_fails (values (Node p.node) == 1) (kept_value kept (Node p.node) == 0) (is_fed t kept p.parent)
       (due_nowhere _ (command (Node p.node) 1) stays)
       (eq-eqb (values (Node p.node)) 1 value) (eq-eqb (kept_value kept (Node p.node)) 0 kept_is)
+
+  -- ---- a reset line is pulsed
+
+  pub pulses : (line : LineId) (c : Command) → due t values kept (Pulse line) ≡ Some c → c ≡ command (Line line) 1
+  pulses line c is = (due_where (not (kept_value kept (Line line) == 1)) (command (Line line) 1) c is).1
 
   -- ---- another unit takes its value
 

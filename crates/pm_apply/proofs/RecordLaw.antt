@@ -1,10 +1,12 @@
 -- A step keeps the record one of the chip, and a device that stands as the record still does after the step.
-use Rattle.std.proofs.Common.{◌≡◌, ℕ, ◌≤◌, Bool, true, false, Some, List, [], ◌∷◌, ◌++◌, map, reverse, refl, ap, sym, ◌∙◌, arith, inl, inr}
+use Rattle.std.proofs.Common.{◌≡◌, ℕ, ◌≤◌, Bool, true, false, if◌then◌else◌, Option, Some, None, List, [], ◌∷◌, ◌++◌, map, reverse, refl, ap, sym, ◌∙◌, arith, inl, inr}
+use Rattle.std.specs.Prelude.{flat_map}
 use Rattle.std.specs.List.{list_any, list_all}
 use Rattle.std.proofs.lemmas.Bool.{and_from, both_ways, or_left, or_right}
 use Rattle.std.proofs.lemmas.List.Folds.{list_all-append}
+use Rattle.pm_base.specs.declared.names.LineId.{LineId}
 use Rattle.pm_base.specs.declared.names.Unit.{Unit}
-use Rattle.pm_base.specs.declared.names.Unit.TheVariants.{Node}
+use Rattle.pm_base.specs.declared.names.Unit.TheVariants.{Node, Line}
 use Rattle.pm_base.specs.declared.names.Command.{Command}
 use Rattle.pm_topology.specs.declared.topology.Topology.{Topology}
 use Rattle.pm_topology.specs.WellFormed.{IsWellFormed}
@@ -15,15 +17,16 @@ use Rattle.pm_core.specs.declared.outbox.Done.{Done}
 use Rattle.pm_topology.specs.Units.{units_of}
 use Rattle.pm_apply.proofs.Below.{ChipLaws}
 use Rattle.pm_apply.specs.declared.turns.Turn.{Turn}
-use Rattle.pm_apply.specs.declared.turns.Turn.TheVariants.{PowerOn, Apply, PowerOff}
+use Rattle.pm_apply.specs.declared.turns.Turn.TheVariants.{PowerOn, Pulse, Apply, PowerOff}
 use Rattle.pm_apply.specs.Record.{Kept, kept_value, marked, IsRecordOf}
-use Rattle.pm_apply.specs.Plan.{plan, due, turns_of, power_places, after_answer, is_power}
+use Rattle.pm_apply.specs.Plan.{plan, due, turns_of, power_places, pulse_turn, with_pulse, after_answer, is_power}
 use Rattle.pm_apply.specs.Part.{orders_of}
 use Rattle.pm_apply.proofs.PlanLemmas.{Along, along_plan, plan-recorded}
 use Rattle.pm_apply.proofs.PlanLeads.{Leads, leads_none, leads_turn}
 use Rattle.pm_apply.proofs.RecordLemmas.{units_in-after_answer, units_in-marked, has_cell_of, kept_by, kept_stays, kept_value-marked, are_on, values_after-recorded}
 use Rattle.pm_apply.proofs.OrdersUnits.{is_listed, power_is_power, power_is_listed}
-use Rattle.pm_apply.proofs.OrdersDue.{raises, settles, lowers}
+use Rattle.pm_apply.proofs.OrdersDue.{raises, pulses, settles, lowers}
+use Rattle.pm_apply.proofs.PulseLemmas.{settle_pulses, turns_are}
 
 -- ---- the record of a chip
 
@@ -61,6 +64,8 @@ module _ (laws : ChipLaws) (t : Topology) (values : Unit → ℕ) (well : IsWell
       let unit : c.unit ≡ Node r.power.node = ap (λ (c : Command). c.unit) r.is in
       let value : c.value ≡ 1 = ap (λ (c : Command). c.value) r.is in
       switch_keeps kept c ok record_of (ap (is_listed t) unit ∙ power_is_listed laws t well w r.power r.here) (omega arith)
+  turn_keeps (Pulse line) kept c ok record_of is =
+      settle_keeps kept c ok record_of (ap (λ (c : Command). is_power t c.unit) (pulses t values kept line c is))
   turn_keeps (Apply unit) kept c ok record_of is =
       let s = settles t values kept unit c is in
       settle_keeps kept c ok record_of (ap (λ (c : Command). is_power t c.unit) s.is ∙ s.other)
@@ -92,6 +97,7 @@ marked_record laws t values kept record_of = record {
 -- a turn on a unit of the chip
 abbrev pub is_turn_of : Topology → Turn → Bool
 is_turn_of t (PowerOn w) = true
+is_turn_of t (Pulse line) = is_listed t (Line line)
 is_turn_of t (Apply unit) = is_listed t unit
 is_turn_of t (PowerOff w) = true
 
@@ -104,17 +110,33 @@ module _ (laws : ChipLaws) (t : Topology) where
   all_lower [] = refl
   all_lower (w ∷ places) = all_lower places
 
-  all_settle : (units : List Unit) → ((x : Unit) → list_any (λ u. same_unit u x) units ≡ true → is_listed t x ≡ true) → list_all (is_turn_of t) (map Apply units) ≡ true
-  all_settle [] among = refl
-  all_settle (u ∷ units) among =
-      and_from (is_listed t u) _ (among u (or_left _ _ (laws.units.itself u))) (all_settle units (λ x is. among x (or_right (same_unit u x) _ is)))
+  -- a unit that is pulsed is one of the chip
+  pulse_by : (line : LineId) (u : Unit) (is : Bool) → same_unit (Line line) u ≡ is → is_listed t u ≡ true → list_all (is_turn_of t) (if is then Pulse line ∷ [] else []) ≡ true
+  pulse_by line u true same has =
+      and_from (is_listed t (Line line)) true (ap (is_listed t) (laws.units.same (Line line) u same) ∙ has) refl
+  pulse_by line u false same has = refl
 
-  pub turns_are_of : list_all (is_turn_of t) (turns_of t) ≡ true
-  turns_are_of =
-      list_all-append (is_turn_of t) (map PowerOn (power_places t)) (map Apply (units_of t) ++ map PowerOff (reverse (power_places t)))
+  all_pulse : (pulse : Option LineId) (u : Unit) → is_listed t u ≡ true → list_all (is_turn_of t) (pulse_turn pulse u) ≡ true
+  all_pulse None u has = refl
+  all_pulse (Some line) u has = pulse_by line u (same_unit (Line line) u) refl has
+
+  all_settle : (pulse : Option LineId) (units : List Unit) → ((x : Unit) → list_any (λ u. same_unit u x) units ≡ true → is_listed t x ≡ true) → list_all (is_turn_of t) (flat_map (with_pulse pulse) (map Apply units)) ≡ true
+  all_settle pulse [] among = refl
+  all_settle pulse (u ∷ units) among =
+      let has : is_listed t u ≡ true = among u (or_left _ _ (laws.units.itself u)) in
+      let own : list_all (is_turn_of t) (Apply u ∷ []) ≡ true = and_from (is_listed t u) true has refl in
+      let later = all_settle pulse units (λ x is. among x (or_right (same_unit u x) _ is)) in
+      list_all-append (is_turn_of t) (pulse_turn pulse u ++ Apply u ∷ []) (flat_map (with_pulse pulse) (map Apply units))
+      ∙ and_from _ _
+      (list_all-append (is_turn_of t) (pulse_turn pulse u) (Apply u ∷ []) ∙ and_from _ _ (all_pulse pulse u has) own) later
+
+  pub turns_are_of : (pulse : Option LineId) → list_all (is_turn_of t) (turns_of t pulse) ≡ true
+  turns_are_of pulse =
+      ap (list_all (is_turn_of t)) (turns_are t pulse)
+      ∙ (list_all-append (is_turn_of t) (map PowerOn (power_places t)) (settle_pulses t pulse ++ map PowerOff (reverse (power_places t)))
       ∙ and_from _ _ (all_raise (power_places t))
-      (list_all-append (is_turn_of t) (map Apply (units_of t)) (map PowerOff (reverse (power_places t)))
-      ∙ and_from _ _ (all_settle (units_of t) (λ x is. is)) (all_lower (reverse (power_places t))))
+      (list_all-append (is_turn_of t) (settle_pulses t pulse) (map PowerOff (reverse (power_places t)))
+      ∙ and_from _ _ (all_settle pulse (units_of t) (λ x is. is)) (all_lower (reverse (power_places t)))))
 
 module _ (laws : ChipLaws) (t : Topology) (values : Unit → ℕ) (well : IsWellFormed t) where
   -- the command of a turn is on a unit of the chip
@@ -122,6 +144,7 @@ module _ (laws : ChipLaws) (t : Topology) (values : Unit → ℕ) (well : IsWell
   on_unit (PowerOn w) kept c of is =
       let r = raises t values kept w c is in
       ap (λ (c : Command). is_listed t c.unit) r.is ∙ power_is_listed laws t well w r.power r.here
+  on_unit (Pulse line) kept c of is = ap (λ (c : Command). is_listed t c.unit) (pulses t values kept line c is) ∙ of
   on_unit (Apply unit) kept c of is = ap (λ (c : Command). is_listed t c.unit) (settles t values kept unit c is).is ∙ of
   on_unit (PowerOff w) kept c of is =
       let l = lowers t values kept w c is in

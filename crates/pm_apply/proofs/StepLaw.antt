@@ -48,30 +48,30 @@ values_of book u = value u book
 
 module _ (laws : ChipLaws) (kept : Kept) (answers : List Bool) (book : State) (outputs : Outputs) (well : IsWellFormed book.fixed.topology) where
   pub part_known : AreHarmless (chip_of book) (orders_of (part_of kept answers book outputs).commands)
-  part_known = on_harmless laws (chip_of book) _ (plan_is_on laws (chip_of book) (values_of book) well (turns_of (chip_of book)) kept answers (turns_are_of laws (chip_of book)))
+  part_known = on_harmless laws (chip_of book) _ (plan_is_on laws (chip_of book) (values_of book) well (turns_of (chip_of book) outputs.pulse) kept answers (turns_are_of laws (chip_of book) outputs.pulse))
 
   module _ (record_of : IsRecordOf (chip_of book) kept) where
     pub part_ordered : IsOrdered (chip_of book) (kept_value kept) (orders_of (part_of kept answers book outputs).commands)
-    part_ordered = ordered laws (chip_of book) (values_of book) well (turns_of (chip_of book)) kept answers (turns_are_of laws (chip_of book)) record_of
+    part_ordered = ordered laws (chip_of book) (values_of book) well (turns_of (chip_of book) outputs.pulse) kept answers (turns_are_of laws (chip_of book) outputs.pulse) record_of
 
     pub part_explained : IsFed (chip_of book) (values_of book) → LagsAreExplained (chip_of book) (values_of book) (part_of kept answers book outputs).kept (part_of kept answers book outputs).commands
     part_explained fed unit has lags =
-        explained laws (chip_of book) (values_of book) well fed kept answers record_of unit has
-        (λ same. lags (kept_value-marked laws (values_of book) (plan (chip_of book) (values_of book) (turns_of (chip_of book)) kept answers).kept unit ∙ same))
+        explained laws (chip_of book) (values_of book) well fed outputs.pulse kept answers record_of unit has
+        (λ same. lags (kept_value-marked laws (values_of book) (plan (chip_of book) (values_of book) (turns_of (chip_of book) outputs.pulse) kept answers).kept unit ∙ same))
 
     pub part_record : IsRecordOf (chip_of book) (part_of kept answers book outputs).kept
-    part_record = marked_record laws (chip_of book) (values_of book) _ (record_after laws (chip_of book) (values_of book) well (turns_of (chip_of book)) kept answers record_of)
+    part_record = marked_record laws (chip_of book) (values_of book) _ (record_after laws (chip_of book) (values_of book) well (turns_of (chip_of book) outputs.pulse) kept answers record_of)
 
     pub part_follows : (unit : Unit) → kept_value (part_of kept answers book outputs).kept unit ≡ values_after (orders_of (part_of kept answers book outputs).commands) (kept_value kept) unit
     part_follows unit =
-        kept_value-marked laws (values_of book) (plan (chip_of book) (values_of book) (turns_of (chip_of book)) kept answers).kept unit
-        ∙ sym (follows laws (chip_of book) (values_of book) well (turns_of (chip_of book)) kept answers (turns_are_of laws (chip_of book)) record_of unit)
+        kept_value-marked laws (values_of book) (plan (chip_of book) (values_of book) (turns_of (chip_of book) outputs.pulse) kept answers).kept unit
+        ∙ sym (follows laws (chip_of book) (values_of book) well (turns_of (chip_of book) outputs.pulse) kept answers (turns_are_of laws (chip_of book) outputs.pulse) record_of unit)
 
     pub part_marks : AreMarked (chip_of book) (values_of book) (part_of kept answers book outputs).kept
     part_marks unit has =
-        let left = (plan (chip_of book) (values_of book) (turns_of (chip_of book)) kept answers).kept in
+        let left = (plan (chip_of book) (values_of book) (turns_of (chip_of book) outputs.pulse) kept answers).kept in
         lags_in-marked laws (values_of book) left unit
-        (has_cell_in (chip_of book) left unit (record_after laws (chip_of book) (values_of book) well (turns_of (chip_of book)) kept answers record_of) (listed-is laws (chip_of book) unit ∙ has))
+        (has_cell_in (chip_of book) left unit (record_after laws (chip_of book) (values_of book) well (turns_of (chip_of book) outputs.pulse) kept answers record_of) (listed-is laws (chip_of book) unit ∙ has))
         ∙ ap (λ n. not (n == (values_of book) unit)) (sym (kept_value-marked laws (values_of book) left unit))
 
 -- ---- where nothing fails
@@ -144,10 +144,10 @@ module _ (kept : Kept) (answers : List Bool) (book : State) (outputs : Outputs) 
   part_taken all =
       let values : Unit → ℕ = λ u. value u book in
       ap (λ (c : Carried). record { commands = c.done; kept = marked values c.kept; answer = outputs.answer })
-      (plan_taken book.fixed.topology values (turns_of book.fixed.topology) kept answers all)
+      (plan_taken book.fixed.topology values (turns_of book.fixed.topology outputs.pulse) kept answers all)
 
   pub part_succeeds : AllYes answers → AllSucceed (part_of kept answers book outputs).commands
-  part_succeeds agreed = plan_succeeds book.fixed.topology (λ u. value u book) (turns_of book.fixed.topology) kept answers agreed
+  part_succeeds agreed = plan_succeeds book.fixed.topology (λ u. value u book) (turns_of book.fixed.topology outputs.pulse) kept answers agreed
 
   pub part_agreed : AllYes answers → part_of kept answers book outputs ≡ part_of kept [] book outputs
   part_agreed agreed = part_taken (part_succeeds agreed)
@@ -159,7 +159,7 @@ module _ (kept : Kept) (answers : List Bool) (book : State) (outputs : Outputs) 
   part_used =
       let values : Unit → ℕ = λ u. value u book in
       ap (λ (c : Carried). record { commands = c.done; kept = marked values c.kept; answer = outputs.answer })
-      (plan-used book.fixed.topology values (turns_of book.fixed.topology) kept answers)
+      (plan-used book.fixed.topology values (turns_of book.fixed.topology outputs.pulse) kept answers)
 
   pub part_reaches : ChipLaws → IsWellFormed book.fixed.topology → IsFed book.fixed.topology (λ u. value u book) → IsRecordOf book.fixed.topology kept
       → refusals (orders_of (part_of kept answers book outputs).commands) ≡ 0

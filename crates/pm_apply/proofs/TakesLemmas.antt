@@ -1,8 +1,9 @@
 -- Turns one after another, and how many commands they have.
-use Rattle.std.proofs.Common.{◌≡◌, ℕ, ◌+◌, ◌<◌, ◌≤◌, Bool, Option, Some, None, List, [], ◌∷◌, ◌++◌, length, take, slice_get, refl, sym, ap, subst, ◌∙◌, append_assoc, arith, length-append}
-use Rattle.std.specs.Prelude.{IfSome}
+use Rattle.std.proofs.Common.{◌≡◌, ℕ, ◌+◌, ◌<◌, ◌≤◌, Bool, Option, Some, None, List, [], ◌∷◌, ◌++◌, length, take, slice_get, refl, sym, ap, subst, ◌∙◌, append_assoc, arith, length-append, zero, suc}
+use Rattle.std.specs.Prelude.{IfSome, flat_map}
+use Rattle.std.proofs.lemmas.Grind.{flat_map-append}
 use Rattle.std.proofs.lemmas.List.{map-append, take_more, take_all}
-use Rattle.std.proofs.lemmas.List.Sums.{sum_by_more_le}
+use Rattle.std.proofs.lemmas.List.Sums.{sum_by-append, sum_by-cons}
 use Rattle.std.proofs.lemmas.Option.{slice_get_within, get_or_from_slice_get}
 use Rattle.pm_base.specs.declared.names.Unit.{Unit}
 use Rattle.pm_base.specs.declared.names.Command.{Command}
@@ -16,7 +17,8 @@ use Rattle.pm_apply.specs.declared.turns.Turn.{Turn}
 use Rattle.pm_apply.specs.Plan.{plan, due, take_turn, done_as, after_answer, answers_of, Carried}
 use Rattle.pm_apply.specs.Carried.{Takes, KeepsRest}
 use Rattle.pm_apply.specs.Part.{order_of, orders_of}
-use Rattle.pm_apply.proofs.CountLemmas.{due_most, most, most_of, plan-length}
+use Rattle.pm_apply.specs.Room.{most, most_of}
+use Rattle.pm_apply.proofs.CountLemmas.{due_most, plan-length}
 use Rattle.pm_apply.proofs.PlanLemmas.{plan-append}
 
 -- ---- the rest of an outbox
@@ -25,6 +27,7 @@ pub KeepsRest-trans : (before middle after : Outbox) → KeepsRest before middle
 KeepsRest-trans before middle after one two = record {
   room = two.room ∙ one.room;
   moved = two.moved ∙ one.moved;
+  pulse = two.pulse ∙ one.pulse;
   starts = two.starts ∙ one.starts;
   late = two.late ∙ one.late;
   calls = two.calls ∙ one.calls;
@@ -101,37 +104,66 @@ module _ {D : Type 0} (Does : Act → D → D → Type 0) (t : Topology) (values
   room_for None n count room one fits = tt
   room_for (Some c) n count room one fits = let is : n ≡ 1 = one c refl in omega arith
 
-  -- the turns up to one of them leave room for it
-  pub Takes-room : (turns : List Turn) (i : ℕ) (turn : Turn) (kept kept₁ : Kept) (done done₁ : List Done) (m₀ m₁ : D) (room : ℕ)
-      → slice_get turns i ≡ Some turn
-      → length done + most_of t values turns ≤ room
-      → Takes Does t values (take i turns) kept kept₁ done done₁ m₀ m₁
+  -- turns that were taken leave room for one more, where that has room behind their most
+  pub Takes-room : (turns : List Turn) (turn : Turn) (kept kept₁ : Kept) (done done₁ : List Done) (m₀ m₁ : D) (room : ℕ)
+      → length done + most_of t values (turns ++ turn ∷ []) ≤ room
+      → Takes Does t values turns kept kept₁ done done₁ m₀ m₁
       → IfSome (due t values kept₁ turn) (λ _. length done₁ < room)
-  Takes-room turns i turn kept kept₁ done done₁ m₀ m₁ room here fits takes =
-      let so_far : length done₁ ≤ length done + most_of t values (take i turns) = Takes-length (take i turns) kept kept₁ done done₁ m₀ m₁ takes in
-      let part = sum_by_more_le (most t values) turns i turn (slice_get_within turns i turn here) in
-      let this = ap (most t values) (get_or_from_slice_get turns i turn turn here) in
-      room_for (due t values kept₁ turn) (most t values turn) (length done₁) room (due_most t values turn kept₁) (omega (arith, part, this))
+  Takes-room turns turn kept kept₁ done done₁ m₀ m₁ room fits takes =
+      let so_far : length done₁ ≤ length done + most_of t values turns = Takes-length turns kept kept₁ done done₁ m₀ m₁ takes in
+      let parts = sum_by-append (most t values) turns (turn ∷ []) in
+      let one = sum_by-cons (most t values) turn [] in
+      room_for (due t values kept₁ turn) (most t values turn) (length done₁) room (due_most t values turn kept₁) (omega (arith, so_far, parts, one, fits))
 
-  -- a turn behind those before it
-  pub Takes-next : (turns : List Turn) (i : ℕ) (turn : Turn) (kept₀ kept₁ kept₂ : Kept) (done₀ done₁ done₂ : List Done) (m₀ m₁ m₂ : D)
+  -- the turns that are made of one of these have their room beside those of the ones before it
+  part_fits : (f : Turn → List Turn) (turns : List Turn) (i : ℕ) (turn : Turn) → slice_get turns i ≡ Some turn
+      → most_of t values (flat_map f (take i turns)) + most_of t values (f turn) ≤ most_of t values (flat_map f turns)
+  part_fits f [] i turn here = cc
+  part_fits f (x ∷ turns) zero turn here =
+      let same : x ≡ turn = cc in
+      let first : most_of t values (f x) ≡ most_of t values (f turn) = ap (λ x. most_of t values (f x)) same in
+      let all = sum_by-append (most t values) (f x) (flat_map f turns) in
+      omega (arith, first, all)
+  part_fits f (x ∷ turns) (suc i) turn here =
+      let later = part_fits f turns i turn here in
+      let all = sum_by-append (most t values) (f x) (flat_map f turns) in
+      let front = sum_by-append (most t values) (f x) (flat_map f (take i turns)) in
+      omega (arith, later, all, front)
+
+  pub Takes-fits : (f : Turn → List Turn) (turns : List Turn) (i : ℕ) (turn : Turn) (kept kept₁ : Kept) (done done₁ : List Done) (m₀ m₁ : D) (room : ℕ)
       → slice_get turns i ≡ Some turn
-      → Takes Does t values (take i turns) kept₀ kept₁ done₀ done₁ m₀ m₁
-      → Takes Does t values (turn ∷ []) kept₁ kept₂ done₁ done₂ m₁ m₂
-      → Takes Does t values (take (i + 1) turns) kept₀ kept₂ done₀ done₂ m₀ m₂
-  Takes-next turns i turn kept₀ kept₁ kept₂ done₀ done₁ done₂ m₀ m₁ m₂ here one two =
+      → length done + most_of t values (flat_map f turns) ≤ room
+      → Takes Does t values (flat_map f (take i turns)) kept kept₁ done done₁ m₀ m₁
+      → length done₁ + most_of t values (f turn) ≤ room
+  Takes-fits f turns i turn kept kept₁ done done₁ m₀ m₁ room here fits takes =
+      let so_far : length done₁ ≤ length done + most_of t values (flat_map f (take i turns)) = Takes-length (flat_map f (take i turns)) kept kept₁ done done₁ m₀ m₁ takes in
+      let part = part_fits f turns i turn here in
+      omega (arith, so_far, part, fits)
+
+  -- the turns that are made of one behind those that are made of the ones before it
+  pub Takes-next : (f : Turn → List Turn) (turns : List Turn) (i : ℕ) (turn : Turn) (kept₀ kept₁ kept₂ : Kept) (done₀ done₁ done₂ : List Done) (m₀ m₁ m₂ : D)
+      → slice_get turns i ≡ Some turn
+      → Takes Does t values (flat_map f (take i turns)) kept₀ kept₁ done₀ done₁ m₀ m₁
+      → Takes Does t values (f turn) kept₁ kept₂ done₁ done₂ m₁ m₂
+      → Takes Does t values (flat_map f (take (i + 1) turns)) kept₀ kept₂ done₀ done₂ m₀ m₂
+  Takes-next f turns i turn kept₀ kept₁ kept₂ done₀ done₁ done₂ m₀ m₁ m₂ here one two =
       let more : take (i + 1) turns ≡ take i turns ++ turn ∷ [] =
       take_more turns i turn (slice_get_within turns i turn here)
       ∙ ap (λ turn. take i turns ++ turn ∷ []) (get_or_from_slice_get turns i turn turn here)
       in
+      let made : flat_map f (take (i + 1) turns) ≡ flat_map f (take i turns) ++ f turn =
+      ap (flat_map f) more
+      ∙ (flat_map-append f (take i turns) (turn ∷ [])
+      ∙ ap (λ ys. flat_map f (take i turns) ++ ys) (sym (append-nil (f turn))))
+      in
       let P : List Turn → Type 0 = λ turns. Takes Does t values turns kept₀ kept₂ done₀ done₂ m₀ m₂ in
-      subst P (sym more) (Takes-trans (take i turns) (turn ∷ []) kept₀ kept₁ kept₂ done₀ done₁ done₂ m₀ m₁ m₂ one two)
+      subst P (sym made) (Takes-trans (flat_map f (take i turns)) (f turn) kept₀ kept₁ kept₂ done₀ done₁ done₂ m₀ m₁ m₂ one two)
 
   -- all of them at the end
-  pub Takes-all : (turns : List Turn) (i : ℕ) (kept kept₁ : Kept) (done done₁ : List Done) (m₀ m₁ : D)
+  pub Takes-all : (f : Turn → List Turn) (turns : List Turn) (i : ℕ) (kept kept₁ : Kept) (done done₁ : List Done) (m₀ m₁ : D)
       → length turns ≤ i
-      → Takes Does t values (take i turns) kept kept₁ done done₁ m₀ m₁
-      → Takes Does t values turns kept kept₁ done done₁ m₀ m₁
-  Takes-all turns i kept kept₁ done done₁ m₀ m₁ end takes =
-      let P : List Turn → Type 0 = λ turns. Takes Does t values turns kept kept₁ done done₁ m₀ m₁ in
+      → Takes Does t values (flat_map f (take i turns)) kept kept₁ done done₁ m₀ m₁
+      → Takes Does t values (flat_map f turns) kept kept₁ done done₁ m₀ m₁
+  Takes-all f turns i kept kept₁ done done₁ m₀ m₁ end takes =
+      let P : List Turn → Type 0 = λ turns. Takes Does t values (flat_map f turns) kept kept₁ done done₁ m₀ m₁ in
       subst P (take_all i turns end) takes

@@ -13,7 +13,7 @@ use Rattle.pm_topology.specs.WellFormed.{IsWellFormed}
 use Rattle.pm_topology.specs.Units.{UnitLaws, entry_count, units_of}
 use Rattle.pm_apply.specs.declared.turns.Turn.{Turn}
 use Rattle.pm_apply.specs.declared.turns.Turn.TheVariants.{PowerOn, Apply, PowerOff}
-use Rattle.pm_apply.specs.Plan.{power_places, turns_of}
+use Rattle.pm_apply.specs.Plan.{power_places, unit_turns}
 
 -- ---- the three parts
 
@@ -65,32 +65,32 @@ length-settles t = length-map (units_of t) Apply
 length-lowers : (t : Topology) → length (lowers t) ≡ length t.powers
 length-lowers t = length-map (reverse (power_places t)) PowerOff ∙ length-reverse (power_places t) ∙ length-range_with_len 0 (length t.powers)
 
-pub length-turns_of : (t : Topology) → length (turns_of t) ≡ length t.powers + (length (units_of t) + length t.powers)
-length-turns_of t =
+pub length-unit_turns : (t : Topology) → length (unit_turns t) ≡ length t.powers + (length (units_of t) + length t.powers)
+length-unit_turns t =
     let all = length-append (raises t) (settles t ++ lowers t) in
     let later = length-append (settles t) (lowers t) in
     omega (arith, all, later, length-raises t, length-settles t, length-lowers t)
 
 -- the turns of a well-formed chip are few
-pub few_turns : UnitLaws → (t : Topology) → IsWellFormed t → length (turns_of t) ≤ 1000
+pub few_turns : UnitLaws → (t : Topology) → IsWellFormed t → length (unit_turns t) ≤ 1000
 few_turns units t well =
     let few : length (units_of t) ≤ entry_count t = units.few t in
-    omega (arith, few, length-turns_of t, well.few_powers, well.few_procs, well.few_slaves, well.few_lines)
+    omega (arith, few, length-unit_turns t, well.few_powers, well.few_procs, well.few_slaves, well.few_lines)
 
-pub turn_up : (t : Topology) (k : ℕ) → k < length t.powers → slice_get (turns_of t) k ≡ Some (PowerOn k)
+pub turn_up : (t : Topology) (k : ℕ) → k < length t.powers → slice_get (unit_turns t) k ≡ Some (PowerOn k)
 turn_up t k within = slice_get-append_left (raises t) (settles t ++ lowers t) k (PowerOn k) (raise_at t k within)
 
-pub turn_between : (t : Topology) (k i : ℕ) (unit : Unit) → k ≡ length t.powers + i → slice_get (units_of t) i ≡ Some unit → slice_get (turns_of t) k ≡ Some (Apply unit)
+pub turn_between : (t : Topology) (k i : ℕ) (unit : Unit) → k ≡ length t.powers + i → slice_get (units_of t) i ≡ Some unit → slice_get (unit_turns t) k ≡ Some (Apply unit)
 turn_between t k i unit at here =
     let place : k ≡ length (raises t) + i = omega (arith, length-raises t) in
-    ap (slice_get (turns_of t)) place
+    ap (slice_get (unit_turns t)) place
     ∙ slice_get-append_right (raises t) (settles t ++ lowers t) i
     ∙ slice_get-append_left (settles t) (lowers t) i (Apply unit) (settle_at t i unit here)
 
-pub turn_down : (t : Topology) (k i w : ℕ) → k ≡ length t.powers + (length (units_of t) + i) → i + (w + 1) ≡ length t.powers → slice_get (turns_of t) k ≡ Some (PowerOff w)
+pub turn_down : (t : Topology) (k i w : ℕ) → k ≡ length t.powers + (length (units_of t) + i) → i + (w + 1) ≡ length t.powers → slice_get (unit_turns t) k ≡ Some (PowerOff w)
 turn_down t k i w at is =
     let place : k ≡ length (raises t) + (length (settles t) + i) = omega (arith, length-raises t, length-settles t) in
-    ap (slice_get (turns_of t)) place
+    ap (slice_get (unit_turns t)) place
     ∙ slice_get-append_right (raises t) (settles t ++ lowers t) (length (settles t) + i)
     ∙ slice_get-append_right (settles t) (lowers t) i
     ∙ lower_at t i w is

@@ -24,6 +24,7 @@ pub record Takes {D : Type 0} (Does : Act → D → D → Type 0) (t : Topology)
 pub record KeepsRest (before after : Outbox) : Type 0 where
   pub room : after.done.room ≡ before.done.room
   pub moved : after.moved ≡ before.moved
+  pub pulse : after.pulse ≡ before.pulse
   pub starts : after.starts ≡ before.starts
   pub late : after.late ≡ before.late
   pub calls : after.calls ≡ before.calls

@@ -3,3 +3,4 @@ pub mod Order
 pub mod Part
 pub mod Plan
 pub mod Record
+pub mod Room

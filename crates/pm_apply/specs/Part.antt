@@ -21,7 +21,7 @@ pub record Part : Type 0 where
 -- the book's answer
 abbrev pub part_of : Kept → List Bool → State → Outputs → Part
 part_of kept answers book outputs =
-    let carried = plan book.fixed.topology (λ u. value u book) (turns_of book.fixed.topology) kept answers in
+    let carried = plan book.fixed.topology (λ u. value u book) (turns_of book.fixed.topology outputs.pulse) kept answers in
     record { commands = carried.done; kept = marked (λ u. value u book) carried.kept; answer = outputs.answer }
 
 -- commands with their answers, as the device has them
@@ -50,6 +50,7 @@ orders_in out = orders_of out.done.items
 abbrev pub outputs_in : Outbox → Outputs
 outputs_in out = record {
   moved = out.moved.items;
+  pulse = out.pulse;
   starts = out.starts.items;
   late = out.late.items;
   calls = out.calls.items;

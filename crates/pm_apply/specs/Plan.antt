@@ -1,7 +1,8 @@
 -- The commands of a step: what makes a device follow the book, under its answers, and the record that they leave.
-use Rattle.std.specs.Prelude.{ℕ, ◌==◌, Bool, true, false, not, ◌&&◌, ◌||◌, if◌then◌else◌, Option, Some, None, List, [], ◌∷◌, ◌++◌, length, map, reverse, slice_get}
+use Rattle.std.specs.Prelude.{ℕ, ◌==◌, Bool, true, false, not, ◌&&◌, ◌||◌, if◌then◌else◌, Option, Some, None, List, [], ◌∷◌, ◌++◌, flat_map, length, map, reverse, slice_get}
 use Rattle.std.specs.List.{list_any, range_with_len}
 use Rattle.std.specs.Option.{option_map_or}
+use Rattle.pm_base.specs.declared.names.LineId.{LineId}
 use Rattle.pm_base.specs.declared.names.Unit.{Unit}
 use Rattle.pm_base.specs.declared.names.Unit.TheVariants.{Node, Line}
 use Rattle.pm_base.specs.declared.names.Command.{Command}
@@ -10,11 +11,11 @@ use Rattle.pm_topology.specs.declared.topology.PowerDef.{PowerDef}
 use Rattle.pm_topology.specs.declared.places.Kind.{Kind}
 use Rattle.pm_topology.specs.declared.places.Kind.TheVariants.{Power}
 use Rattle.pm_topology.specs.Places.{kind_of}
-use Rattle.pm_topology.specs.Units.{needs_power, parent_of_unit}
+use Rattle.pm_topology.specs.Units.{needs_power, parent_of_unit, same_unit}
 use Rattle.pm_core.specs.declared.outbox.Done.{Done}
 use Rattle.pm_topology.specs.Units.{units_of}
 use Rattle.pm_apply.specs.declared.turns.Turn.{Turn}
-use Rattle.pm_apply.specs.declared.turns.Turn.TheVariants.{PowerOn, Apply, PowerOff}
+use Rattle.pm_apply.specs.declared.turns.Turn.TheVariants.{PowerOn, Pulse, Apply, PowerOff}
 use Rattle.pm_apply.specs.Record.{Kept, keep, kept_value}
 
 -- ---- the order
@@ -23,10 +24,29 @@ use Rattle.pm_apply.specs.Record.{Kept, keep, kept_value}
 abbrev pub power_places : Topology → List ℕ
 power_places t = range_with_len 0 (length t.powers)
 
--- the turns of a step: power nodes go up, parents first; then the other units take their values; then power nodes go
+-- the turns of the units: power nodes go up, parents first; then the other units take their values; then power nodes go
 -- down, parents last
-abbrev pub turns_of : Topology → List Turn
-turns_of t = map PowerOn (power_places t) ++ (map Apply (units_of t) ++ map PowerOff (reverse (power_places t)))
+abbrev pub unit_turns : Topology → List Turn
+unit_turns t = map PowerOn (power_places t) ++ (map Apply (units_of t) ++ map PowerOff (reverse (power_places t)))
+
+-- the pulse of a unit: it is the reset line that is pulsed
+abbrev pub pulse_turn : Option LineId → Unit → List Turn
+pulse_turn None unit = []
+pulse_turn (Some line) unit = if same_unit (Line line) unit then Pulse line ∷ [] else []
+
+-- the pulse that stands before a turn: before that of a unit its own
+abbrev pub pulse_before : Option LineId → Turn → List Turn
+pulse_before pulse (Apply unit) = pulse_turn pulse unit
+pulse_before pulse (PowerOn w) = []
+pulse_before pulse (Pulse line) = []
+pulse_before pulse (PowerOff w) = []
+
+abbrev pub with_pulse : Option LineId → Turn → List Turn
+with_pulse pulse turn = pulse_before pulse turn ++ turn ∷ []
+
+-- the turns of a step, in which this reset line is pulsed, if one is
+abbrev pub turns_of : Topology → Option LineId → List Turn
+turns_of t pulse = flat_map (with_pulse pulse) (unit_turns t)
 
 -- ---- one turn
 
@@ -67,6 +87,10 @@ abbrev pub power_on : Topology → (Unit → ℕ) → Kept → Option PowerDef �
 power_on t values kept None = None
 power_on t values kept (Some p) = where_due ((values (Node p.node) == 1) && ((kept_value kept (Node p.node) == 0) && is_fed t kept p.parent)) (command (Node p.node) 1)
 
+-- a reset line that is pulsed goes to 1, unless it is there in the record
+abbrev pub pulse : Kept → LineId → Option Command
+pulse kept line = where_due (not (kept_value kept (Line line) == 1)) (command (Line line) 1)
+
 -- a unit that is no power node takes the book's value where the record differs, unless that value needs power and the
 -- parent is down in the record
 abbrev pub apply : Topology → (Unit → ℕ) → Kept → Unit → Option Command
@@ -81,6 +105,7 @@ power_off t values kept w (Some p) = where_due ((values (Node p.node) == 0) && (
 -- the command of a turn, if there is one: from the book's values and the record
 abbrev pub due : Topology → (Unit → ℕ) → Kept → Turn → Option Command
 due t values kept (PowerOn w) = power_on t values kept (slice_get t.powers w)
+due t values kept (Pulse line) = pulse kept line
 due t values kept (Apply unit) = apply t values kept unit
 due t values kept (PowerOff w) = power_off t values kept w (slice_get t.powers w)
 

@@ -1,6 +1,6 @@
 //! A device is made to follow the book.
 
-ghost use Rattle.std.specs.Prelude.{◌≡◌, ◌<◌, ◌∷◌, [], IfSome, length};
+ghost use Rattle.std.specs.Prelude.{◌≡◌, ◌+◌, ◌<◌, ◌≤◌, ◌∷◌, [], IfSome, length, option_to_list};
 ghost use Rattle.pm_topology.specs.WellFormed.{IsWellFormed};
 ghost use Rattle.pm_core.specs.Fed.{IsFed};
 ghost use Rattle.pm_core.specs.Outbox.{HasRoomFor, KeepsRoom};
@@ -9,19 +9,21 @@ ghost use Rattle.pm_device.specs.Act.{AreHarmless, Chain, ShowsAll};
 ghost use Rattle.pm_apply.specs.Carried.{AreMarked, KeepsRest, Takes};
 ghost use Rattle.pm_apply.specs.Order.{IsOrdered, LagsAreExplained};
 ghost use Rattle.pm_apply.specs.Part.{answers_in, orders_in, outputs_in, part_in, part_of};
-ghost use Rattle.pm_apply.specs.Plan.{due, turns_of};
+ghost use Rattle.pm_apply.specs.Plan.{due, turns_of, with_pulse};
 ghost use Rattle.pm_apply.specs.Record.{IsRecordOf, StandsAs, kept_value};
+ghost use Rattle.pm_apply.specs.Room.{most_of};
 
 use crate::kept::Kept;
 use crate::laws::each_part_is_safe;
-use crate::turns::{Turn, due, turn_at, turn_count};
+use crate::turns::{Turn, due, pulse_before, turn_at, turn_count};
 use pm_core::{Book, Done, Outbox};
 use pm_device::{Device, chain_shows};
 use pm_topology::units_stand_in_order;
 
 /// Issues the commands that make the device follow the book, in order, and puts each into `out.done`
 /// with the value before it and its answer. Power nodes go up first, parents before children; then
-/// the other units take their values; then power nodes go down, children before parents. A command is
+/// the other units take their values, a reset line that the step pulses after it went to 1; then power
+/// nodes go down, children before parents. A command is
 /// skipped where its unit would stand without power, or others below it would; a unit that differs is
 /// tried again at the next call. No memory is taken.
 ///
@@ -53,6 +55,7 @@ pub fn carry<D: Device>(dev: &mut D, kept: &mut Kept, book: &Book, out: &mut Out
     ensures room { KeepsRoom out.old out.new }
     ensures ready { HasRoomFor book.now out.new }
     ensures moved { out.new.moved ≡ out.old.moved }
+    ensures pulse { out.new.pulse ≡ out.old.pulse }
     ensures starts { out.new.starts ≡ out.old.starts }
     ensures late { out.new.late ≡ out.old.late }
     ensures calls { out.new.calls ≡ out.old.calls }
@@ -80,17 +83,51 @@ fn take_turn<D: Device>(dev: &mut D, kept: &mut Kept, book: &Book, out: &mut Out
     out.done.push(Done { command, from, ok });
 }
 
+/// Takes a turn, where there is one.
+fn take_pulse<D: Device>(
+    dev: &mut D,
+    kept: &mut Kept,
+    book: &Book,
+    out: &mut Outbox,
+    turn: Option<Turn>,
+)
+    requires room { IfSome turn (λ _. length out.old.done.items < out.old.done.room) }
+    ensures takes { Takes D.Does book.now.fixed.topology (λ u. value u book.now) (option_to_list turn) kept.old kept.new out.old.done.items out.new.done.items dev.old dev.new }
+    ensures rest { KeepsRest out.old out.new }
+{
+    if let Some(turn) = turn {
+        take_turn(dev, kept, book, out, turn);
+    }
+}
+
+/// Takes the turn of a unit, and before it that in which the unit is pulsed, if it is.
+fn take_unit_turn<D: Device>(
+    dev: &mut D,
+    kept: &mut Kept,
+    book: &Book,
+    out: &mut Outbox,
+    turn: Turn,
+)
+    requires room { length out.old.done.items + most_of book.now.fixed.topology (λ u. value u book.now) (with_pulse out.old.pulse turn) ≤ out.old.done.room }
+    ensures takes { Takes D.Does book.now.fixed.topology (λ u. value u book.now) (with_pulse out.old.pulse turn) kept.old kept.new out.old.done.items out.new.done.items dev.old dev.new }
+    ensures rest { KeepsRest out.old out.new }
+{
+    let pulse = pulse_before(out.pulse, turn);
+    take_pulse(dev, kept, book, out, pulse);
+    take_turn(dev, kept, book, out, turn);
+}
+
 /// Takes the turns of a step, one after another.
 fn take_turns<D: Device>(dev: &mut D, kept: &mut Kept, book: &Book, out: &mut Outbox)
     requires room { HasRoomFor book.now out.old }
     requires fresh { out.old.done.items ≡ [] }
     ensures formed { IsWellFormed book.now.fixed.topology }
     ensures fed { IsFed book.now.fixed.topology (λ u. value u book.now) }
-    ensures takes { Takes D.Does book.now.fixed.topology (λ u. value u book.now) (turns_of book.now.fixed.topology) kept.old kept.new out.old.done.items out.new.done.items dev.old dev.new }
+    ensures takes { Takes D.Does book.now.fixed.topology (λ u. value u book.now) (turns_of book.now.fixed.topology out.old.pulse) kept.old kept.new out.old.done.items out.new.done.items dev.old dev.new }
     ensures rest { KeepsRest out.old out.new }
 {
     units_stand_in_order();
     for k in 0..turn_count(book) {
-        take_turn(dev, kept, book, out, turn_at(k, book));
+        take_unit_turn(dev, kept, book, out, turn_at(k, book));
     }
 }

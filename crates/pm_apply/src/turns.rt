@@ -1,31 +1,34 @@
 //! The turns of a step: each may issue one command.
 
-ghost use Rattle.std.specs.Prelude.{◌≡◌, ◌<◌, ◌==◌, ◌&&◌, ◌||◌, not, length, slice_get, Some};
+ghost use Rattle.std.specs.Prelude.{◌≡◌, ◌<◌, ◌==◌, ◌&&◌, ◌||◌, not, length, option_to_list, slice_get, Some};
 ghost use Rattle.pm_base.specs.declared.names.Unit.TheVariants.{Node};
 ghost use Rattle.pm_topology.specs.WellFormed.{IsWellFormed};
 ghost use Rattle.pm_topology.specs.Units.{needs_power, parent_of_unit};
 ghost use Rattle.pm_core.specs.Fed.{IsFed};
 ghost use Rattle.pm_core.specs.Values.{value};
-ghost use Rattle.pm_apply.specs.Plan.{due, is_fed, is_place, is_power, is_power_kind, is_used, power_off, power_value, power_on, apply, turns_of, where_due};
+ghost use Rattle.pm_apply.specs.Plan.{due, is_fed, is_place, is_power, is_power_kind, is_used, power_off, power_value, power_on, apply, pulse, pulse_before, pulse_turn, unit_turns, where_due};
 ghost use Rattle.pm_apply.specs.Record.{kept_value};
 
 use crate::kept::Kept;
-use pm_base::{Command, Unit};
+use pm_base::{Command, LineId, Unit};
 use pm_core::Book;
-use pm_topology::{Kind, PowerDef, Topology, needs_power, parent_of_unit, units_stand_in_order};
+use pm_topology::{
+    Kind, PowerDef, Topology, needs_power, parent_of_unit, same_unit, units_stand_in_order,
+};
 
-/// A turn of a step: the power node at a place goes up, a unit that is no power node takes its value,
-/// or the power node at a place goes down.
+/// A turn of a step: the power node at a place goes up, a reset line is pulsed, a unit that is no power
+/// node takes its value, or the power node at a place goes down.
 #[derive(Clone, Copy, Debug, PartialEq, Eq)]
 pub enum Turn {
     PowerOn(usize),
+    Pulse(LineId),
     Apply(Unit),
     PowerOff(usize),
 }
 
-/// The number of turns of a step.
+/// The number of turns of the units of a step.
 pub(crate) fn turn_count(book: &Book) -> usize
-    ensures count { result ≡ length (turns_of book.now.fixed.topology) }
+    ensures count { result ≡ length (unit_turns book.now.fixed.topology) }
     ensures formed { IsWellFormed book.now.fixed.topology }
     ensures fed { IsFed book.now.fixed.topology (λ u. value u book.now) }
 {
@@ -34,11 +37,11 @@ pub(crate) fn turn_count(book: &Book) -> usize
     powers + book.units() + powers
 }
 
-/// The turn at a place, counted from 0: power nodes go up, parents first; then the other units take
+/// The turn of a unit at a place, counted from 0: power nodes go up, parents first; then the other units take
 /// their values; then power nodes go down, parents last.
 pub(crate) fn turn_at(k: usize, book: &Book) -> Turn
-    requires { k < length (turns_of book.now.fixed.topology) }
-    ensures { slice_get (turns_of book.now.fixed.topology) k ≡ Some result }
+    requires { k < length (unit_turns book.now.fixed.topology) }
+    ensures { slice_get (unit_turns book.now.fixed.topology) k ≡ Some result }
 {
     let powers = book.topology().powers.len();
     let units = book.units();
@@ -51,12 +54,35 @@ pub(crate) fn turn_at(k: usize, book: &Book) -> Turn
     }
 }
 
+/// The pulse that stands before a turn: before that of a reset line that is pulsed.
+pub(crate) fn pulse_before(pulse: Option<LineId>, turn: Turn) -> Option<Turn>
+    ensures { option_to_list result ≡ pulse_before pulse turn }
+{
+    match turn {
+        Turn::Apply(unit) => pulse_turn(pulse, unit),
+        Turn::PowerOn(_) | Turn::Pulse(_) | Turn::PowerOff(_) => None,
+    }
+}
+
+/// The turn in which a unit is pulsed, where it is the reset line that is pulsed.
+fn pulse_turn(pulse: Option<LineId>, unit: Unit) -> Option<Turn>
+    ensures { option_to_list result ≡ pulse_turn pulse unit }
+{
+    let line = pulse?;
+    if same_unit(Unit::Line(line), unit) {
+        Some(Turn::Pulse(line))
+    } else {
+        None
+    }
+}
+
 /// The command of a turn, if there is one: from the book's values and the record.
 pub(crate) fn due(turn: Turn, book: &Book, kept: &Kept) -> Option<Command>
     ensures { result ≡ due book.now.fixed.topology (λ u. value u book.now) kept.now turn }
 {
     match turn {
         Turn::PowerOn(place) => power_on(place, book, kept),
+        Turn::Pulse(line) => pulse(line, kept),
         Turn::Apply(unit) => apply(unit, book, kept),
         Turn::PowerOff(place) => power_off(place, book, kept),
     }
@@ -108,6 +134,15 @@ fn power_value(t: &Topology, kept: &Kept, place: usize) -> u32
         Some(power) => kept.value(Unit::Node(power.node)),
         None => 0,
     }
+}
+
+// ---- a reset line is pulsed
+
+fn pulse(line: LineId, kept: &Kept) -> Option<Command>
+    ensures { result ≡ pulse kept.now line }
+{
+    let unit = Unit::Line(line);
+    where_due(kept.value(unit) != 1, Command { unit, value: 1 })
 }
 
 // ---- a unit that is no power node takes its value

@@ -30,7 +30,7 @@ use Rattle.pm_trace.specs.Report.{Reports, pieces, refusal, report_of}
 use Rattle.pm_replay.specs.Drive.{acts, driven}
 use Rattle.pm_replay.specs.Drove.{Drove}
 use Rattle.pm_replay.specs.Replay.{Touched, closing_after, closing_where, fault_at, replay_report, texts, until}
-use Rattle.pm_replay.specs.Replayed.{IsReadFault, Holds, IsRun, IsScriptOf, Replayed, script_exit, script_in, script_or_fault}
+use Rattle.pm_replay.specs.Replayed.{IsHeldWhole, IsReadFault, IsRun, IsScriptOf, Replayed, script_exit, script_in, script_or_fault}
 use Rattle.pm_replay.specs.Safe.{IsSafe}
 use Rattle.pm_replay.specs.Within.{RanScript}
 use Rattle.pm_replay.specs.World.{World}
@@ -43,10 +43,10 @@ end_is_bad fault e = cc
 failed_is_bad : (fault : LineFault) → Bad fault ≡ Failed → ⊥
 failed_is_bad fault e = cc
 
-script_none : (p : Prefix) → p.stop ≡ reason.Unbegun → script_or_fault (script_of p) ≡ Err Read
+pub script_none : (p : Prefix) → p.stop ≡ reason.Unbegun → script_or_fault (script_of p) ≡ Err Read
 script_none p is = ap (λ (r : StopReason). script_or_fault (script_where r p)) is
 
-script_some : (p : Prefix) → (p.stop ≡ reason.Unbegun → ⊥) → script_or_fault (script_of p) ≡ Ok (script_from (script_lines p) (stop_of p.stop))
+pub script_some : (p : Prefix) → (p.stop ≡ reason.Unbegun → ⊥) → script_or_fault (script_of p) ≡ Ok (script_from (script_lines p) (stop_of p.stop))
 script_some p begun = by p.stop refl
   where
     by : (r : StopReason) → p.stop ≡ r → script_or_fault (script_where r p) ≡ Ok (script_from (script_lines p) (stop_of p.stop))
@@ -60,12 +60,12 @@ fails_by (Ok event) s stop later fails = later fails
 fails_by (Err fault) s stop later fails = absurd (failed_is_bad fault fails)
 
 -- the script of lines can't be read on only where no more lines follow for that
-stays_failed : (lines : List (List ℕ)) (stop : Stop) → (script_from lines stop).stop ≡ Failed → stop ≡ Failed
+pub stays_failed : (lines : List (List ℕ)) (stop : Stop) → (script_from lines stop).stop ≡ Failed → stop ≡ Failed
 unfolding script_from
 stays_failed [] stop fails = fails
 stays_failed (line ∷ lines) stop fails = fails_by (meaning line) (script_from lines stop) stop (stays_failed lines stop) fails
 
-unread : (r : StopReason) → stop_of r ≡ Failed → IsUnread r
+pub unread : (r : StopReason) → stop_of r ≡ Failed → IsUnread r
 unread reason.End is = cc
 unread reason.Limit is = cc
 unread reason.Failure is = tt
@@ -130,16 +130,11 @@ memory_is_read e = cc
 same_in_ok : {X Y : Type 0} {x y : X} → ◌≡◌ {A = Result X Y} (Ok x) (Ok y) → x ≡ y
 same_in_ok e = cc
 
--- a script that was read whole
-pub record ReadWhole (m : Moment) (name : List ℕ) (s : Script) : Type 0 where
-  pub bytes : List ℕ
-  pub held : Holds m name bytes
-  pub means : map meaning (lines_of bytes) ≡ map (λ event. Ok event) s.events
-
-read_whole : (m : Moment) (name : List ℕ) (s : Script) → Ok s ≡ script_in m name → s.stop ≡ End → ReadWhole m name s
+-- a script that was read whole was held whole
+pub read_whole : (m : Moment) (name : List ℕ) (s : Script) → Ok s ≡ script_in m name → s.stop ≡ End → IsHeldWhole m name s.events
 read_whole m name s is ends = by_prefix (prefix_of script_limit (m.file name) m.room) refl is
   where
-    begun : (p : Prefix) → p ≡ prefix_of script_limit (m.file name) m.room → Ok s ≡ script_or_fault (script_of p) → (p.stop ≡ reason.Unbegun → ⊥) → ReadWhole m name s
+    begun : (p : Prefix) → p ≡ prefix_of script_limit (m.file name) m.room → Ok s ≡ script_or_fault (script_of p) → (p.stop ≡ reason.Unbegun → ⊥) → IsHeldWhole m name s.events
     begun p at is can =
         let same : s ≡ script_from (script_lines p) (stop_of p.stop) = same_in_ok (is ∙ script_some p can) in
         let whole : Whole (script_lines p) (stop_of p.stop) = script_whole (script_lines p) (stop_of p.stop) (ap (λ (s : Script). s.stop) (sym same) ∙ ends) in
@@ -150,13 +145,13 @@ read_whole m name s is ends = by_prefix (prefix_of script_limit (m.file name) m.
           means = ap (map meaning) (sym (lines_whole p end)) ∙ whole.means ∙ ap (λ (s : Script). map (λ event. Ok event) s.events) (sym same);
         }
 
-    by : (p : Prefix) → p ≡ prefix_of script_limit (m.file name) m.room → Ok s ≡ script_or_fault (script_of p) → (r : StopReason) → p.stop ≡ r → ReadWhole m name s
+    by : (p : Prefix) → p ≡ prefix_of script_limit (m.file name) m.room → Ok s ≡ script_or_fault (script_of p) → (r : StopReason) → p.stop ≡ r → IsHeldWhole m name s.events
     by p of is reason.End at = begun p of is (λ not. let clash : reason.End ≡ reason.Unbegun = sym at ∙ not in cc)
     by p of is reason.Limit at = begun p of is (λ not. let clash : reason.Limit ≡ reason.Unbegun = sym at ∙ not in cc)
     by p of is reason.Failure at = begun p of is (λ not. let clash : reason.Failure ≡ reason.Unbegun = sym at ∙ not in cc)
     by p of is reason.Unbegun at = absurd (err_is_ok (sym (is ∙ script_none p at)))
 
-    by_prefix : (p : Prefix) → p ≡ prefix_of script_limit (m.file name) m.room → Ok s ≡ script_or_fault (script_of p) → ReadWhole m name s
+    by_prefix : (p : Prefix) → p ≡ prefix_of script_limit (m.file name) m.room → Ok s ≡ script_or_fault (script_of p) → IsHeldWhole m name s.events
     by_prefix p of is = by p of is p.stop refl
 
 -- ---- the fault at which a script stops
@@ -180,7 +175,7 @@ never_memory n Past is = cc
 never_memory n Failed is = cc
 
 -- a script that can't be read is one whose input can't be begun or has a failing byte within the limit
-script_cause : (m : Moment) (name : List ℕ) → IsReadFault (script_in m name) → MayFail name script_limit m
+pub script_cause : (m : Moment) (name : List ℕ) → IsReadFault (script_in m name) → MayFail name script_limit m
 script_cause m name fails =
     let p : Prefix = prefix_of script_limit (m.file name) m.room in
     prefix_fails script_limit (m.file name) m.room p refl (script_unread p fails)
@@ -201,7 +196,7 @@ module _ {I O D : Type 0} (i : Inputs.Ghosts I) (o : Sink.Ghosts O) (d : Device.
             let all : (replay_report c s did.answers).body ≡ texts 0 steps ++ closing_after c steps ∷ [] =
             ap (λ (stop : Stop). texts 0 steps ++ closing_where stop (closing_after c steps)) stop
             in
-            let read : ReadWhole (i.state w.inputs) name s = read_whole (i.state w.inputs) name s (elim (asked.shown seen) [ inl memory ↦ absurd (err_is_ok (sym memory)) | inr script ↦ script ]) stop in
+            let read : IsHeldWhole (i.state w.inputs) name s.events = read_whole (i.state w.inputs) name s (elim (asked.shown seen) [ inl memory ↦ absurd (err_is_ok (sym memory)) | inr script ↦ script ]) stop in
             record {
               script_bytes = read.bytes;
               events = s.events;

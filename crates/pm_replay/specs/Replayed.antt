@@ -67,6 +67,12 @@ run_text c answers events = concat (texts 0 (driven c answers events) ++ closing
 abbrev pub Holds : Moment → List ℕ → List ℕ → Type 0
 Holds m name bytes = IsSomeAnd (m.file name) (λ file. file.bytes ≡ bytes)
 
+-- a script was held whole under a name: each of its lines has a meaning, and these are its events
+pub record IsHeldWhole (m : Moment) (name : List ℕ) (events : List Event) : Type 0 where
+  pub bytes : List ℕ
+  pub held : Holds m name bytes
+  pub means : map meaning (lines_of bytes) ≡ map (λ event. Ok event) events
+
 module _ {I O D : Type 0} (i : Inputs.Ghosts I) (o : Sink.Ghosts O) (d : Device.Ghosts D) where
   -- a script was held under the name, the whole text of its run was written under the device's answers, and the device was
   -- driven through that run

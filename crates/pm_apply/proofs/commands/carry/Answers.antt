@@ -37,6 +37,7 @@ returns g c =
       room = search rules;
       ready = search rules;
       moved = search rules;
+      pulse = search rules;
       starts = search rules;
       late = search rules;
       calls = search rules;
