@@ -1,8 +1,8 @@
 -- Agreement beyond a border: of a sound book with itself, turned round, and through a third book.
-use Rattle.std.proofs.Common.{◌≡◌, ℕ, ◌+◌, ◌<◌, Bool, true, false, true≢false, List, [], length, map, slice_get, unwrap_or, Option, Some, None, refl, sym, ◌∙◌, ap, subst, arith}
+use Rattle.std.proofs.Common.{◌≡◌, ℕ, ◌+◌, ◌<◌, Bool, true, false, true≢false, List, [], ◌∷◌, length, map, slice_get, unwrap_or, Option, Some, None, refl, sym, ◌∙◌, ap, subst, arith, inl, inr}
 use Rattle.std.specs.List.{AllByRecursion as Each}
 use Rattle.std.proofs.lemmas.List.Elements.{recursion_from_All}
-use Rattle.std.proofs.lemmas.Option.{slice_get_within}
+use Rattle.std.proofs.lemmas.Option.{slice_get_cases, slice_get_within}
 use Rattle.pm_base.specs.declared.names.Mode.TheVariants.{Off}
 use Rattle.pm_procs.specs.declared.procs.Proc.{Proc}
 use Rattle.pm_procs.specs.Procs.{mode_at, off}
@@ -10,7 +10,9 @@ use Rattle.pm_rows.specs.declared.row.RowSeed.{RowSeed}
 use Rattle.pm_rows.specs.declared.row.Entry.{Entry}
 use Rattle.pm_rows.specs.Sound.{pair_in}
 use Rattle.pm_object.specs.declared.object.Object.{Object}
+use Rattle.pm_topology.specs.declared.topology.LineDef.{LineDef}
 use Rattle.pm_topology.specs.declared.topology.Topology.{Topology}
+use Rattle.pm_perms.specs.Permits.{may_reset}
 use Rattle.pm_core.specs.Load.{load_of}
 use Rattle.pm_core.specs.Members.{owner_at}
 use Rattle.pm_core.specs.Pairs.{pairs_of}
@@ -20,8 +22,9 @@ use Rattle.pm_notify.specs.Mailbox.{Mail}
 use Rattle.pm_notify.specs.Notify.{mail_of}
 use Rattle.pm_topology.specs.UnitMap.{units_in}
 use Rattle.pm_topology.specs.Units.{UnitLaws, rises}
-use Rattle.pm_laws.specs.Agree.{SameRow, IsWithin, SameRows, SameKnown, SameMail, SamePending, SameProc, SameTalk, Same, Agree}
-use Rattle.pm_laws.specs.Border.{Border, IsBeyond, IsPairClosed, IsClosed}
+use Rattle.pm_core.specs.Views.{master_node}
+use Rattle.pm_laws.specs.Agree.{SameRow, IsWithin, SameRows, SameKnown, SameLine, SameMail, SamePending, SameProc, SameTalk, Same, Agree}
+use Rattle.pm_laws.specs.Border.{Border, IsBeyond, IsPairClosed, IsUserKnown, IsClosed}
 use Rattle.pm_laws.proofs.MailFacts.{entries_self, entries_sym, entries_trans}
 use Rattle.pm_laws.proofs.Places.{Both-sym, Both-trans, Both-self, BothFrom-sym, BothFrom-trans, BothFrom-self, Each-of_map}
 
@@ -34,11 +37,13 @@ clash b is not = absurd (true≢false (sym is ∙ not))
 row_sym : (border : Border) (x y : Entry) → SameRow border x y → SameRow border y x
 row_sym border x y same =
     let P : RowSeed → Type 0 = λ seed. border.slave seed.slave ≡ true → IsBeyond border seed.master in
+    let U : RowSeed → Type 0 = λ seed. border.used seed.slave ≡ false → border.master seed.master ≡ false in
     let Q : RowSeed → Type 0 = λ seed. IsBeyond border seed.master in
     let S : RowSeed → Type 0 = λ seed. border.slave seed.slave ≡ true in
     record {
       seed = sym same.seed;
       closed = subst P same.seed same.closed;
+      users = subst U same.seed same.users;
       armed = λ is. sym (same.armed (subst Q (sym same.seed) is));
       hold = λ is. sym (same.hold (subst Q (sym same.seed) is));
       row = λ is. sym (same.row (subst S (sym same.seed) is));
@@ -54,6 +59,12 @@ proc_sym fixed border p x y same = record {
   nobodys = λ none. ((same.nobodys none).1, (same.nobodys none).0);
 }
 
+line_sym : (border : Border) (l : ℕ) (x y : Bool) → SameLine border l x y → SameLine border l y x
+line_sym border l x y same = record {
+  beyond = λ is. sym (same.beyond is);
+  released = λ none is. ((same.released none is).1, (same.released none is).0);
+}
+
 pub talk_sym : (border : Border) (a b : TalkHalf) → SameTalk border a b → SameTalk border b a
 talk_sym border a b same = record {
   pending = BothFrom-sym (SamePending border) (λ k x y is beyond. sym (is beyond)) 0 a.pending b.pending same.pending;
@@ -62,9 +73,13 @@ talk_sym border a b same = record {
 
 pub same_sym : (fixed : Fixed) (border : Border) (a b : Now) → Same fixed border a b → Same fixed border b a
 same_sym fixed border a b same = record {
+  some = same.some;
+  boot = sym same.boot;
+  halted = λ is. sym (same.halted is);
   rows = rows_sym border border.some a.core.rows.entries b.core.rows.entries same.rows;
   known = BothFrom-sym (SameKnown border) (λ k x y is beyond. sym (is beyond)) 0 a.core.rows.known b.core.rows.known same.known;
   procs = BothFrom-sym (SameProc fixed border) (proc_sym fixed border) 0 a.core.procs b.core.procs same.procs;
+  lines = BothFrom-sym (SameLine border) (line_sym border) 0 a.core.lines b.core.lines same.lines;
   talk = talk_sym border a.talk b.talk same.talk;
 }
 
@@ -77,6 +92,7 @@ row_trans border x y z first second =
     record {
       seed = first.seed ∙ second.seed;
       closed = first.closed;
+      users = first.users;
       armed = λ is. first.armed is ∙ second.armed (subst Q first.seed is);
       hold = λ is. first.hold is ∙ second.hold (subst Q first.seed is);
       row = λ is. first.row is ∙ second.row (subst S first.seed is);
@@ -92,6 +108,12 @@ proc_trans fixed border p x y z first second = record {
   nobodys = λ none. ((first.nobodys none).0, (second.nobodys none).1);
 }
 
+line_trans : (border : Border) (l : ℕ) (x y z : Bool) → SameLine border l x y → SameLine border l y z → SameLine border l x z
+line_trans border l x y z first second = record {
+  beyond = λ is. first.beyond is ∙ second.beyond is;
+  released = λ none is. ((first.released none is).0, (second.released none is).1);
+}
+
 pub talk_trans : (border : Border) (a b c : TalkHalf) → SameTalk border a b → SameTalk border b c → SameTalk border a c
 talk_trans border a b c first second = record {
   pending = BothFrom-trans (SamePending border) (λ k x y z one two beyond. one beyond ∙ two beyond) 0 a.pending b.pending c.pending first.pending second.pending;
@@ -100,26 +122,38 @@ talk_trans border a b c first second = record {
 
 pub same_trans : (fixed : Fixed) (border : Border) (a b c : Now) → Same fixed border a b → Same fixed border b c → Same fixed border a c
 same_trans fixed border a b c first second = record {
+  some = first.some;
+  boot = first.boot ∙ second.boot;
+  halted = λ is. first.halted is ∙ second.halted is;
   rows = rows_trans border border.some a.core.rows.entries b.core.rows.entries c.core.rows.entries first.rows second.rows;
   known = BothFrom-trans (SameKnown border) (λ k x y z one two beyond. one beyond ∙ two beyond) 0 a.core.rows.known b.core.rows.known c.core.rows.known first.known second.known;
   procs = BothFrom-trans (SameProc fixed border) (proc_trans fixed border) 0 a.core.procs b.core.procs c.core.procs first.procs second.procs;
+  lines = BothFrom-trans (SameLine border) (line_trans border) 0 a.core.lines b.core.lines c.core.lines first.lines second.lines;
   talk = talk_trans border a.talk b.talk c.talk first.talk second.talk;
 }
 
 -- ---- with itself
 
-row_self : (border : Border) (x : Entry) → IsPairClosed border (pair_in x) → SameRow border x x
-row_self border x closed = record { seed = refl; closed = closed; armed = λ is. refl; hold = λ is. refl; row = λ is. refl }
+-- what is so of the pair of each row beyond a closed border
+abbrev IsPairFit : Border → RowSeed → Type 0
+IsPairFit border pair = IsPairClosed border pair × IsUserKnown border pair
+
+fit_pairs : (border : Border) (pairs : List RowSeed) → Each (IsPairClosed border) pairs → Each (IsUserKnown border) pairs → Each (IsPairFit border) pairs
+fit_pairs border [] closed known = tt
+fit_pairs border (pair ∷ pairs) closed known = ((closed.0, known.0), fit_pairs border pairs closed.1 known.1)
+
+row_self : (border : Border) (x : Entry) → IsPairFit border (pair_in x) → SameRow border x x
+row_self border x fit = record { seed = refl; closed = fit.0; users = fit.1; armed = λ is. refl; hold = λ is. refl; row = λ is. refl }
 
 slave_within : (border : Border) (x : Entry) (slave : Bool) → ((m : ℕ) → IsBeyond border m → border.some ≡ true) → border.some ≡ false → border.slave x.seed.slave ≡ slave → IsPairClosed border (pair_in x) → slave ≡ false
 slave_within border x false some none is closed = refl
 slave_within border x true some none is closed = clash border.some (some x.seed.master (closed is)) none
 
-rows_self : (border : Border) (some : Bool) → border.some ≡ some → ((m : ℕ) → IsBeyond border m → border.some ≡ true) → (xs : List Entry) → Each (IsPairClosed border) (map pair_in xs) → SameRows border some xs xs
-rows_self border true is some xs each = Both-self (SameRow border) (IsPairClosed border) pair_in (row_self border) xs each
+rows_self : (border : Border) (some : Bool) → border.some ≡ some → ((m : ℕ) → IsBeyond border m → border.some ≡ true) → (xs : List Entry) → Each (IsPairFit border) (map pair_in xs) → SameRows border some xs xs
+rows_self border true is some xs each = Both-self (SameRow border) (IsPairFit border) pair_in (row_self border) xs each
 rows_self border false is some xs each =
     let within : Each (IsWithin border) xs =
-    Each-of_map (IsWithin border) (IsPairClosed border) pair_in (λ x closed. slave_within border x (border.slave x.seed.slave) some is refl closed) xs each
+    Each-of_map (IsWithin border) (IsPairFit border) pair_in (λ x fit. slave_within border x (border.slave x.seed.slave) some is refl fit.0) xs each
     in
     (within, within)
 
@@ -137,20 +171,49 @@ mail_order units book sound m mail is =
     let own : mail_of m book.now.talk.mail ≡ mail = ap (λ o. unwrap_or o []) is in
     ap (λ x. rises (units_in x)) (sym own) ∙ (ap rises (sound.units m there) ∙ (units.are book.fixed.topology).rising)
 
+module _ (border : Border) (book : State) (closed : IsClosed book.fixed.object book.fixed.topology border) (sound : IsSound book) where
+  -- where no master is beyond nobody may reset a line beyond
+  unreset : (m l : ℕ) (line : LineDef) (may : Bool) → may_reset book.fixed.object book.fixed.topology (master_node book.fixed.object.masters m) line.line ≡ may
+      → slice_get book.fixed.topology.lines l ≡ Some line → border.some ≡ false → border.line l ≡ true → may ≡ false
+  unreset m l line false is here none beyond = refl
+  unreset m l line true is here none beyond = clash border.some (closed.some m (closed.lines m l line here is beyond)) none
+
+  line_released : (l : ℕ) (x : Bool) → slice_get book.now.core.lines l ≡ Some x → border.some ≡ false → border.line l ≡ true → x ≡ false
+  line_released l x is none beyond =
+      elim ((slice_get_cases book.fixed.topology.lines l).1) [
+        | inl here ↦
+            let Q : Option Bool → Type 0 = λ o. unwrap_or o false ≡ false in
+            subst Q is (sound.lines.nobodys l here.0 here.2 (λ m. unreset m l here.0 (may_reset book.fixed.object book.fixed.topology (master_node book.fixed.object.masters m) here.0.line) refl here.2 none beyond))
+        | inr past ↦ absurd (omega (arith, past.0, sound.lines.each, slice_get_within book.now.core.lines l x is))
+      ]
+
+  line_self : (l : ℕ) (x : Bool) → slice_get book.now.core.lines l ≡ Some x → SameLine border (0 + l) x x
+  line_self l x is =
+      let same : l ≡ 0 + l = omega arith in
+      let P : ℕ → Type 0 = λ k. SameLine border k x x in
+      subst P same (record {
+        beyond = λ beyond. refl;
+        released = λ none beyond. (line_released l x is none beyond, line_released l x is none beyond);
+      })
+
 -- a sound book agrees with itself beyond a closed border
 pub agree_self : UnitLaws → (border : Border) (book : State) → IsClosed book.fixed.object book.fixed.topology border → IsSound book → Agree border book book
 agree_self units border book closed sound =
     let pairs = pairs_of book.fixed.object book.fixed.topology in
-    let P : List RowSeed → Type 0 = λ seeds. Each (IsPairClosed border) seeds in
-    let each : Each (IsPairClosed border) (map pair_in book.now.core.rows.entries) =
-    subst P (sym sound.rows.pairs) (recursion_from_All (IsPairClosed border) pairs closed.users)
+    let P : List RowSeed → Type 0 = λ seeds. Each (IsPairFit border) seeds in
+    let each : Each (IsPairFit border) (map pair_in book.now.core.rows.entries) =
+    subst P (sym sound.rows.pairs) (fit_pairs border pairs (recursion_from_All (IsPairClosed border) pairs closed.users) (recursion_from_All (IsUserKnown border) pairs closed.known))
     in
     record {
       fixed = refl;
       now = record {
+        some = closed.some;
+        boot = refl;
+        halted = λ is. refl;
         rows = rows_self border border.some refl closed.some book.now.core.rows.entries each;
         known = BothFrom-self (SameKnown border) 0 book.now.core.rows.known (λ p x is beyond. refl);
         procs = BothFrom-self (SameProc book.fixed border) 0 book.now.core.procs (proc_self book.fixed border book.now.core.procs sound.procs.nobodys);
+        lines = BothFrom-self (SameLine border) 0 book.now.core.lines (line_self border book closed sound);
         talk = record {
           pending = BothFrom-self (SamePending border) 0 book.now.talk.pending (λ p x is beyond. refl);
           mail = BothFrom-self (SameMail border) 0 book.now.talk.mail (λ m mail is beyond. entries_self border mail (mail_order units book sound.mail m mail is));

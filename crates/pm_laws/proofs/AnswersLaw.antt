@@ -10,7 +10,7 @@ use Rattle.pm_base.proofs.Booleans.{both}
 use Rattle.pm_ipi.specs.declared.calls.AckKind.{AckKind}
 use Rattle.pm_ipi.specs.declared.calls.AckKind.TheVariants.{No, Blocking, NonBlocking}
 use Rattle.pm_ipi.specs.declared.calls.Call.{Call}
-use Rattle.pm_ipi.specs.declared.calls.Call.TheVariants.{RequestSuspend, RequestWakeup, RequestNode, SetRequirement}
+use Rattle.pm_ipi.specs.declared.calls.Call.TheVariants.{ForcePowerdown, RequestSuspend, RequestWakeup, RequestNode, SetRequirement}
 use Rattle.pm_ipi.specs.declared.responses.Response.{Response}
 use Rattle.pm_ipi.specs.Calls.{ack_of, call_of, node_of}
 use Rattle.pm_procs.specs.Modes.{is_awake}
@@ -18,11 +18,10 @@ use Rattle.pm_topology.specs.Places.{KindLaws, kind_of}
 use Rattle.pm_topology.specs.WellFormed.{IsWellFormed}
 use Rattle.pm_core.specs.declared.judgement.Asked.{Asked}
 use Rattle.pm_core.specs.declared.replies.Answer.TheVariants.{Ack}
-use Rattle.pm_core.specs.Members.{mode_of_master}
 use Rattle.pm_core.specs.Outcome.{Outcome, outcome_of}
 use Rattle.pm_core.specs.Sound.{IsSound}
 use Rattle.pm_core.specs.State.{Fixed, Now, State}
-use Rattle.pm_core.specs.Step.{acknowledged, answer_by, answered, called, effect, heard_at, heard_by, outputs, verdict}
+use Rattle.pm_core.specs.Step.{acknowledged, answer_by, answered, called, effect, heard_at, heard_by, outputs, verdict, is_heard}
 use Rattle.pm_core.specs.Values.{point_at}
 use Rattle.pm_core.specs.Views.{master_mode_at}
 use Rattle.pm_laws.specs.Agree.{Agree, Same}
@@ -31,6 +30,7 @@ use Rattle.pm_laws.specs.Border.{Border, IsClosed, none_within}
 use Rattle.pm_laws.specs.ReachBorder.{place_of}
 use Rattle.pm_laws.proofs.CallsAlike.{book_of}
 use Rattle.pm_laws.proofs.FollowLaw.{mode_alike}
+use Rattle.pm_laws.proofs.HeardLaw.{heard_same as heard_both}
 use Rattle.pm_laws.proofs.JudgedLaw.{call_same, point_alike}
 use Rattle.pm_laws.proofs.RowFacts.{BelowLaws}
 use Rattle.pm_laws.proofs.StepLaw as steps
@@ -68,8 +68,8 @@ module _ (laws : BelowLaws) (fixed : Fixed) (border : Border) (a b : Now) (same 
       → is_some (option_and_then (heard_at message first) place) ≡ is_some (option_and_then (heard_at message second) place)
   heard_alike message None beyond = refl
   heard_alike message (Some m) beyond =
-      heard_if (is_awake (mode_of_master fixed a.core m)) (is_awake (mode_of_master fixed b.core m)) (called m (call_of message) first) (called m (call_of message) second)
-      (ap is_awake (mode_alike laws fixed border m a b beyond same))
+      heard_if (is_heard m first) (is_heard m second) (called m (call_of message) first) (called m (call_of message) second)
+      (heard_both laws fixed border m a b beyond same)
 
   drops_by : (event : Event) → sender_beyond fixed.object border event ≡ true → is_dropped (outputs event first).answer ≡ is_dropped (outputs event second).answer
   drops_by (Ipi master message) beyond =
@@ -82,12 +82,12 @@ module _ (laws : BelowLaws) (fixed : Fixed) (border : Border) (a b : Now) (same 
 
   module _ (kinds : KindLaws) (closed : IsClosed fixed.object fixed.topology border) (chip : IsWellFormed fixed.topology) where
     -- the same is heard of a message
-    heard_same : (message : Message) (place : Option ℕ) → none_within border place ≡ true → names_beyond border (call_of message) ≡ true
+    heard_same : (message : Message) (place : Option ℕ) → none_within border place ≡ true → names_beyond fixed.topology border (call_of message) ≡ true
         → option_and_then (heard_at message first) place ≡ option_and_then (heard_at message second) place
     heard_same message None beyond is = refl
     heard_same message (Some m) beyond is =
-        ap (λ mode. if is_awake mode then Some (called m (call_of message) first) else None) (mode_alike laws fixed border m a b beyond same)
-        ∙ ap (λ tried. if is_awake (mode_of_master fixed b.core m) then Some (outcome_of tried) else None)
+        ap (λ heard. if heard then Some (called m (call_of message) first) else None) (heard_both laws fixed border m a b beyond same)
+        ∙ ap (λ tried. if is_heard m second then Some (outcome_of tried) else None)
         (call_same laws kinds fixed border closed chip a b same m (call_of message) beyond is)
 
     -- the same is answered in two books after it that agree
@@ -96,8 +96,9 @@ module _ (laws : BelowLaws) (fixed : Fixed) (border : Border) (a b : Now) (same 
     shown_same (Some m) beyond = mode_alike laws fixed border m a b beyond same
 
     -- a call that wants an acknowledgement names its node
-    node_beyond : (call : Call) → ack_of call ≡ NonBlocking → names_beyond border call ≡ true → border.node (node_of call).0 ≡ true
+    node_beyond : (call : Call) → ack_of call ≡ NonBlocking → names_beyond fixed.topology border call ≡ true → border.node (node_of call).0 ≡ true
     node_beyond (RequestSuspend node ack latency state) wants is = is
+    node_beyond (ForcePowerdown node ack) wants is = is
     node_beyond (RequestWakeup node address ack) wants is = is
     node_beyond (RequestNode node caps ack) wants is = is
     node_beyond (SetRequirement node caps ack) wants is = is
@@ -114,14 +115,14 @@ module _ (laws : BelowLaws) (fixed : Fixed) (border : Border) (a b : Now) (same 
         ∙ ap (λ mode. Ack master node response.status (point_at (kind_of fixed.topology node) fixed b.core) (is_awake mode)) (shown_same (place_of fixed.object master) beyond)
 
     answered_same : (asked : Option Asked) (master : NodeId) (call : Call) (response : Response) → none_within border (place_of fixed.object master) ≡ true
-        → names_beyond border call ≡ true
+        → names_beyond fixed.topology border call ≡ true
         → answered asked master call response first ≡ answered asked master call response second
     answered_same None master call response beyond is =
         acknowledged_same (ack_of call) master (node_of call) response beyond (λ wants. node_beyond call wants is)
     answered_same (Some asked) master call response beyond is = refl
 
     after_same : (master : NodeId) (call : Call) (heard : Option Outcome) → none_within border (place_of fixed.object master) ≡ true
-        → names_beyond border call ≡ true
+        → names_beyond fixed.topology border call ≡ true
         → answer_by (heard_by master call heard) first ≡ answer_by (heard_by master call heard) second
     after_same master call None beyond is = refl
     after_same master call (Some outcome) beyond is =
@@ -129,11 +130,11 @@ module _ (laws : BelowLaws) (fixed : Fixed) (border : Border) (a b : Now) (same 
 
 module _ (laws : BelowLaws) (kinds : KindLaws) (fixed : Fixed) (border : Border) (closed : IsClosed fixed.object fixed.topology border)
     (chip : IsWellFormed fixed.topology) (a b : Now) (same : Same fixed border a b) where
-  answers_by : (event : Event) → IsSound (book_of fixed a) → IsSound (book_of fixed b) → message_beyond fixed.object border event ≡ true
+  answers_by : (event : Event) → IsSound (book_of fixed a) → IsSound (book_of fixed b) → message_beyond fixed.object fixed.topology border event ≡ true
       → (outputs event (book_of fixed a)).answer ≡ (outputs event (book_of fixed b)).answer
   answers_by (Ipi master message) sound_a sound_b is =
       let event : Event = Ipi master message in
-      let parts = both (none_within border (place_of fixed.object master)) (names_beyond border (call_of message)) is in
+      let parts = both (none_within border (place_of fixed.object master)) (names_beyond fixed.topology border (call_of message)) is in
       let after : Agree border (effect event (book_of fixed a)) (effect event (book_of fixed b)) =
       steps.steps_agree laws border event (book_of fixed a) (book_of fixed b) closed sound_a sound_b (record { fixed = refl; now = same })
       in
@@ -153,7 +154,7 @@ drops_agree laws border event a b agree beyond =
 
 pub answers_agree : BelowLaws → KindLaws → (border : Border) (event : Event) (a b : State) → IsWellFormed a.fixed.topology
     → IsClosed a.fixed.object a.fixed.topology border → IsSound a → IsSound b → Agree border a b
-    → message_beyond a.fixed.object border event ≡ true
+    → message_beyond a.fixed.object a.fixed.topology border event ≡ true
     → (outputs event a).answer ≡ (outputs event b).answer
 answers_agree laws kinds border event a b chip closed sound_a sound_b agree is =
     let P : Fixed → Type 0 = λ fixed. IsSound (book_of fixed b.now)

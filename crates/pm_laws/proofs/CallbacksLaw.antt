@@ -33,7 +33,7 @@ use Rattle.pm_laws.specs.ReachBorder.{place_of}
 use Rattle.pm_laws.specs.SeenTalk.{asks_beyond, is_about_beyond, notes_beyond}
 use Rattle.pm_laws.proofs.AgreeLaw.{agree_self, same_sym}
 use Rattle.pm_laws.proofs.CallsAlike.{book_of}
-use Rattle.pm_laws.proofs.CallsHidden.{within_by}
+use Rattle.pm_laws.proofs.HiddenLemmas.{within_by}
 use Rattle.pm_laws.proofs.EventsLaw.{hidden_fixed}
 use Rattle.pm_laws.proofs.FollowLaw.{mode_alike}
 use Rattle.pm_laws.proofs.JudgedLaw.{point_alike}

@@ -5,7 +5,7 @@ use Rattle.std.proofs.lemmas.Bool.{eqb-true}
 use Rattle.pm_base.specs.declared.names.NodeId.{NodeId}
 use Rattle.pm_base.proofs.Booleans.{both, equal}
 use Rattle.pm_ipi.specs.declared.calls.Call.{Call}
-use Rattle.pm_ipi.specs.declared.calls.Call.TheVariants.{GetNodeStatus, RegisterNotifier, RequestSuspend, SelfSuspend, AbortSuspend, RequestWakeup, SetWakeupSource, RequestNode, ReleaseNode, SetRequirement, SetMaxLatency}
+use Rattle.pm_ipi.specs.declared.calls.Call.TheVariants.{GetNodeStatus, RegisterNotifier, GetOpCharacteristic, ResetGetStatus, RequestSuspend, SelfSuspend, AbortSuspend, RequestWakeup, SetWakeupSource, RequestNode, ReleaseNode, SetRequirement, SetMaxLatency}
 use Rattle.pm_procs.specs.declared.procs.Proc.{Proc as Processor}
 use Rattle.pm_procs.specs.Pending.{pending_at}
 use Rattle.pm_procs.specs.Procs.{proc_at}
@@ -217,6 +217,14 @@ called_alike laws fixed border m (GetNodeStatus node) a b beyond some plain same
     told_stages first.checks first.deed.words ∙ sym (told_stages second.checks second.deed.words)
 called_alike laws fixed border m (RegisterNotifier node event wake enable) a b beyond some plain same =
     ap (λ outcome. outcome.stages) (registers_alike fixed m event wake enable node a b)
+called_alike laws fixed border m (GetOpCharacteristic node characteristic) a b beyond some plain same =
+    let first = tried_by m (GetOpCharacteristic node characteristic) (book_of fixed a) in
+    let second = tried_by m (GetOpCharacteristic node characteristic) (book_of fixed b) in
+    told_stages first.checks first.deed.words ∙ sym (told_stages second.checks second.deed.words)
+called_alike laws fixed border m (ResetGetStatus line) a b beyond some plain same =
+    let first = tried_by m (ResetGetStatus line) (book_of fixed a) in
+    let second = tried_by m (ResetGetStatus line) (book_of fixed b) in
+    told_stages first.checks first.deed.words ∙ sym (told_stages second.checks second.deed.words)
 called_alike laws fixed border m (SelfSuspend node address) a b beyond some plain same =
     ap (λ view. (outcome_of (self_suspend m address view)).stages) (proc_view_alike fixed border m (kind_of fixed.topology node) a b beyond same)
 called_alike laws fixed border m (RequestSuspend node ack latency state) a b beyond some plain same =

@@ -8,13 +8,13 @@ use Rattle.pm_base.specs.declared.names.Mode.TheVariants.{Active, Suspending}
 use Rattle.pm_base.proofs.Booleans.{both, either}
 use Rattle.pm_topology.specs.declared.places.Kind.{Kind}
 use Rattle.pm_topology.specs.declared.places.Kind.TheVariants.{Proc, Slave, Power, Unknown as NoNode}
-use Rattle.pm_topology.specs.Places.{kind_of}
+use Rattle.pm_topology.specs.Places.{KindLaws, kind_of}
 use Rattle.pm_procs.specs.declared.procs.Proc.{Proc as Processor}
 use Rattle.pm_procs.specs.Procs.{proc_at}
 use Rattle.pm_perms.specs.Permits.{may_wake}
 use Rattle.pm_base.proofs.Counts.{split}
 use Rattle.pm_ipi.specs.declared.calls.Call.{Call}
-use Rattle.pm_ipi.specs.declared.calls.Call.TheVariants.{RequestSuspend, SelfSuspend, AbortSuspend, RequestWakeup, SetWakeupSource, RequestNode, ReleaseNode, SetRequirement, SetMaxLatency, InitFinalize, Unknown}
+use Rattle.pm_ipi.specs.declared.calls.Call.TheVariants.{RequestSuspend, SelfSuspend, ForcePowerdown, AbortSuspend, RequestWakeup, SetWakeupSource, SystemShutdown, RequestNode, ReleaseNode, SetRequirement, SetMaxLatency, ResetAssert, InitFinalize, Unknown}
 use Rattle.pm_rows.specs.declared.row.Change.{Change}
 use Rattle.pm_rows.specs.declared.row.Change.TheVariants.{Request, Release, Set, Limit}
 use Rattle.pm_rows.specs.declared.row.Entry.{Entry}
@@ -23,7 +23,7 @@ use Rattle.pm_core.specs.declared.views.ProcView.{ProcView}
 use Rattle.pm_core.specs.declared.views.RowView.{RowView}
 use Rattle.pm_core.specs.Members.{mode_of_master, owner_at}
 use Rattle.pm_core.specs.Outcome.{Deed, Check, Tried, judged, outcome_of, done}
-use Rattle.pm_core.specs.Prims.{Prim, At_row, Settle, Put_proc}
+use Rattle.pm_core.specs.Prims.{At_row, Settle, Put_proc}
 use Rattle.pm_core.specs.ProcCalls.{address_in, is_in, proc_changes, put_at}
 use Rattle.pm_core.specs.RowCalls.{changes_of, row_changes}
 use Rattle.pm_core.specs.State.{State, in_force}
@@ -40,14 +40,12 @@ use Rattle.pm_core.specs.calls.SelfSuspend.{self_suspend}
 use Rattle.pm_core.specs.calls.SetMaxLatency.{set_max_latency}
 use Rattle.pm_core.specs.calls.SetRequirement.{set_requirement}
 use Rattle.pm_core.specs.calls.SetWakeupSource.{arming, set_wakeup_source}
-use Rattle.pm_laws.specs.Border.{Border, IsClosed}
+use Rattle.pm_laws.specs.Border.{Border}
 use Rattle.pm_laws.specs.Hidden.{is_slave_within, is_within, owner_by, changes_within}
-use Rattle.pm_laws.specs.Seen.{is_arming, seen, IsUnseen, AreHidden}
-
--- ---- one change
-
-pub one_hidden : (border : Border) (prim : Prim) → seen border prim ≡ false → IsUnseen border (prim ∷ [])
-one_hidden border prim is = let prims : List Prim = prim ∷ [] in ap (λ b. if b then prims else []) is
+use Rattle.pm_laws.proofs.ResetLaw.{reset_hidden}
+use Rattle.pm_laws.specs.Seen.{is_arming, IsUnseen, AreHidden}
+use Rattle.pm_laws.proofs.DownHidden.{force_hidden, shutdown_hidden}
+use Rattle.pm_laws.proofs.HiddenLemmas.{HasClosed, one_hidden, within_by}
 
 -- a call hides where its changes do
 judged_hidden : (border : Border) (checks : List Check) (deed : Deed) → AreHidden border deed.stages → AreHidden border (judged checks deed).stages
@@ -100,14 +98,6 @@ wake_hidden : (border : Border) (k p : ℕ) (address : Option ℕ) (proc : Proce
 wake_hidden border k p address proc true within = one_hidden border (Put_proc k p Active (unwrap_or address proc.address)) within
 wake_hidden border k p address proc false within = refl
 
--- what gives only what isn't there isn't there
-pub within_by : (b c : Bool) → (b ≡ true → c ≡ true) → c ≡ false → b ≡ false
-within_by false c gives none = refl
-within_by true c gives none = let e : true ≡ false = sym (gives refl) ∙ none in cc
-
-abbrev pub HasClosed : Border → State → Type 0
-HasClosed border book = IsClosed book.fixed.object book.fixed.topology border
-
 -- whom a master within may wake is within
 woken_within : (border : Border) (m k : ℕ) (book : State) → HasClosed border book → border.master m ≡ false → can_wake m k book ≡ true → border.master k ≡ false
 woken_within border m k book closed within can =
@@ -148,30 +138,34 @@ slave_hides border m s by plain within =
     ∙ (ap (λ b. border.master m && (false || b)) plain ∙ none_seen (border.master m))
 
 -- a call of a master within
-pub caller_hidden : (border : Border) (m : ℕ) (call : Call) (book : State) → HasClosed border book → border.master m ≡ false → AreHidden border (called m call book).stages
-caller_hidden border m (SelfSuspend node address) book closed within =
+pub caller_hidden : KindLaws → (border : Border) (m : ℕ) (call : Call) (book : State) → HasClosed border book → border.master m ≡ false → AreHidden border (called m call book).stages
+caller_hidden laws border m (SelfSuspend node address) book closed within =
     let view = proc_view m node book in
     tried_hidden border (self_suspend m address view) (put_hidden border m view.place Suspending address within, tt)
-caller_hidden border m (AbortSuspend node reason) book closed within =
+caller_hidden laws border m (ForcePowerdown node ack) book closed within = force_hidden laws border m ack node book closed within
+caller_hidden laws border m (AbortSuspend node reason) book closed within =
     let view = proc_view m node book in
     tried_hidden border (abort_suspend m reason (is_asked m book) view) (going_hidden border m view (is_in Suspending view) within, tt)
-caller_hidden border m (RequestWakeup node address ack) book closed within =
+caller_hidden laws border m (RequestWakeup node address ack) book closed within =
     tried_hidden border (request_wakeup address ack (wake_view m node book)) (caller_kind border m (kind_of book.fixed.topology node) address book closed within, tt)
-caller_hidden border m (SetWakeupSource target source enable) book closed within =
+caller_hidden laws border m (SetWakeupSource target source enable) book closed within =
     row_call_hidden border m (arming target enable) (set_wakeup_source target enable (proc_view m target book)) book (slave_place source book) (λ view. refl) (λ s is. master_hides border m s (arming target enable) within)
-caller_hidden border m (RequestNode node caps ack) book closed within =
+caller_hidden laws border m (SystemShutdown shutdown_type subtype) book closed within =
+    shutdown_hidden border m shutdown_type subtype book closed within
+caller_hidden laws border m (RequestNode node caps ack) book closed within =
     row_call_hidden border m (Request caps) (request_node caps ack) book (slave_place node book) (λ view. refl) (λ s is. master_hides border m s (Request caps) within)
-caller_hidden border m (ReleaseNode node) book closed within =
+caller_hidden laws border m (ReleaseNode node) book closed within =
     row_call_hidden border m Release release_node book (slave_place node book) (λ view. refl) (λ s is. master_hides border m s Release within)
-caller_hidden border m (SetRequirement node caps ack) book closed within =
+caller_hidden laws border m (SetRequirement node caps ack) book closed within =
     let mode : Mode = mode_of_master book.fixed book.now.core m in
     row_call_hidden border m (Set mode caps) (set_requirement mode caps ack) book (slave_place node book) (λ view. refl) (λ s is. master_hides border m s (Set mode caps) within)
-caller_hidden border m (SetMaxLatency node latency) book closed within =
+caller_hidden laws border m (SetMaxLatency node latency) book closed within =
     row_call_hidden border m (Limit latency) (set_max_latency latency) book (slave_place node book) (λ view. refl) (λ s is. master_hides border m s (Limit latency) within)
-caller_hidden border m InitFinalize book closed within =
+caller_hidden laws border m (ResetAssert line action) book closed within = reset_hidden border m line action book closed within
+caller_hidden laws border m InitFinalize book closed within =
     tried_hidden border (init_finalize m) (one_hidden border (Settle m) within, tt)
-caller_hidden border m Unknown book closed within = tt
-caller_hidden border m call book closed within = tried_hidden border (tried_by m call book) tt
+caller_hidden laws border m Unknown book closed within = tt
+caller_hidden laws border m call book closed within = tried_hidden border (tried_by m call book) tt
 
 pub turned : (b : Bool) → not b ≡ true → b ≡ false
 turned true is = cc

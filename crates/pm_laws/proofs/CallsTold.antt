@@ -24,7 +24,8 @@ use Rattle.pm_laws.specs.Border.{Border, IsBeyond}
 use Rattle.pm_laws.specs.Hidden.{is_within, changes_within}
 use Rattle.pm_laws.specs.SeenTalk.{IsTalkUnseen, asks_beyond}
 use Rattle.pm_laws.proofs.CallsAlike.{book_of, asks_alike, aborts_alike, registers_alike}
-use Rattle.pm_laws.proofs.CallsHidden.{HasClosed, turned, within_by}
+use Rattle.pm_laws.proofs.CallsHidden.{turned}
+use Rattle.pm_laws.proofs.HiddenLemmas.{HasClosed, within_by}
 use Rattle.pm_laws.proofs.RowFacts.{BelowLaws}
 
 -- ---- hidden

@@ -1,5 +1,5 @@
 -- Nothing is seen of the stages of a hidden event, and those of any other are alike in two books that agree.
-use Rattle.std.proofs.Common.{◌≡◌, ℕ, Bool, true, false, not, ◌||◌, if◌then◌else◌, Option, Some, None, refl, ◌∙◌, ap, inl, inr}
+use Rattle.std.proofs.Common.{◌≡◌, ℕ, Bool, true, false, not, ◌||◌, if◌then◌else◌, List, [], Option, Some, None, refl, ◌∙◌, ap, inl, inr}
 use Rattle.std.specs.Prelude.{option_and_then}
 use Rattle.pm_base.specs.declared.events.Event.{Event}
 use Rattle.pm_base.specs.declared.events.Event.TheVariants.{Ipi, Boot, Wfi, Irq, Gic, Tick}
@@ -11,27 +11,28 @@ use Rattle.pm_ipi.specs.declared.calls.Call.{Call}
 use Rattle.pm_ipi.specs.declared.calls.Call.TheVariants.{RequestSuspend, RequestWakeup, RequestNode, ReleaseNode, SetRequirement, SetMaxLatency}
 use Rattle.pm_ipi.specs.Calls.{call_of}
 use Rattle.pm_procs.specs.declared.procs.Proc.{Proc as Processor}
-use Rattle.pm_procs.specs.Modes.{is_awake}
 use Rattle.pm_procs.specs.Procs.{proc_at}
 use Rattle.pm_topology.specs.declared.places.Kind.{Kind}
 use Rattle.pm_topology.specs.declared.places.Kind.TheVariants.{Proc, Slave, Power, Unknown}
-use Rattle.pm_topology.specs.Places.{kind_of}
-use Rattle.pm_core.specs.Events.{boot_at, boot_by, booted, wait_at, wait_by, waits, interrupt_at, interrupt_by}
-use Rattle.pm_core.specs.Members.{is_place, mode_of_master, owner_at, owns}
+use Rattle.pm_topology.specs.Places.{KindLaws, kind_of}
+use Rattle.pm_core.specs.Events.{boot, boot_at, boot_by, booted, wait, wait_at, wait_by, waits, interrupt, interrupt_at, interrupt_by, raised}
+use Rattle.pm_core.specs.Members.{is_place, owner_at, owns}
 use Rattle.pm_core.specs.Outcome.{Outcome}
 use Rattle.pm_core.specs.Prims.{Prim, Put_proc}
 use Rattle.pm_core.specs.Sound.{ArmsOwn}
 use Rattle.pm_core.specs.State.{Fixed, Now, State}
-use Rattle.pm_core.specs.Step.{called, heard_at, stages_of, stages}
+use Rattle.pm_core.specs.Step.{called, heard_at, is_heard, stages_of, stages}
 use Rattle.pm_core.specs.Values.{master_place}
 use Rattle.pm_laws.specs.Agree.{Same}
 use Rattle.pm_laws.specs.Border.{Border, HasSome, IsBeyond}
 use Rattle.pm_laws.specs.Hidden.{is_within, changes_within, owner_by, is_hidden}
 use Rattle.pm_laws.specs.Seen.{AreAlike, AreHidden}
 use Rattle.pm_laws.proofs.CallsAlike.{alike_of, book_of, call_alike, kept}
-use Rattle.pm_laws.proofs.CallsHidden.{HasClosed, caller_hidden, one_hidden, slave_hidden, turned}
+use Rattle.pm_laws.proofs.CallsHidden.{caller_hidden, slave_hidden, turned}
+use Rattle.pm_laws.proofs.HeardLaw.{heard_same}
+use Rattle.pm_laws.proofs.HiddenLemmas.{HasClosed, one_hidden}
 use Rattle.pm_laws.proofs.WakeLaw.{raised_alike, raised_hidden, woken_unseen}
-use Rattle.pm_laws.proofs.FollowLaw.{mode_alike, proc_alike}
+use Rattle.pm_laws.proofs.FollowLaw.{proc_alike}
 use Rattle.pm_laws.proofs.RowFacts.{BelowLaws}
 
 -- ---- hidden events
@@ -40,12 +41,12 @@ heard_hidden : (border : Border) (outcome : Outcome) (awake : Bool) → AreHidde
 heard_hidden border outcome true hidden = hidden
 heard_hidden border outcome false hidden = tt
 
-message_hidden : (border : Border) (message : Message) (book : State) (place : Option ℕ) → HasClosed border book → (is_within border place || changes_within border (call_of message) book) ≡ true → AreHidden border (stages_of (option_and_then (heard_at message book) place))
-message_hidden border message book None closed is = tt
-message_hidden border message book (Some m) closed is =
-    heard_hidden border (called m (call_of message) book) (is_awake (mode_of_master book.fixed book.now.core m))
+message_hidden : KindLaws → (border : Border) (message : Message) (book : State) (place : Option ℕ) → HasClosed border book → (is_within border place || changes_within border (call_of message) book) ≡ true → AreHidden border (stages_of (option_and_then (heard_at message book) place))
+message_hidden laws border message book None closed is = tt
+message_hidden laws border message book (Some m) closed is =
+    heard_hidden border (called m (call_of message) book) (is_heard m book)
     (elim (either (not (border.master m)) (changes_within border (call_of message) book) is) [
-      | inl within ↦ caller_hidden border m (call_of message) book closed (turned (border.master m) within)
+      | inl within ↦ caller_hidden laws border m (call_of message) book closed (turned (border.master m) within)
       | inr slave ↦ slave_hidden border m (call_of message) book slave
     ])
 
@@ -94,16 +95,40 @@ interrupt_hidden border (Slave s) book is = tt
 interrupt_hidden border (Power w) book is = tt
 interrupt_hidden border Unknown book is = tt
 
+halted_hidden : (border : Border) (halted : Bool) (stages : List (List Prim)) → AreHidden border stages → AreHidden border (if halted then [] else stages)
+halted_hidden border true stages hidden = tt
+halted_hidden border false stages hidden = hidden
+
 -- nothing is seen of the stages of a hidden event
-pub event_hidden : (border : Border) (event : Event) (book : State) → HasClosed border book → is_hidden border event book ≡ true → AreHidden border (stages event book)
-event_hidden border (Ipi master message) book closed is = message_hidden border message book (master_place master book) closed is
-event_hidden border (Boot proc address) book closed is = boot_hidden border (kind_of book.fixed.topology proc) address book is
-event_hidden border (Wfi proc) book closed is = wait_hidden border (kind_of book.fixed.topology proc) book is
-event_hidden border (Irq slave) book closed is = raised_hidden border (kind_of book.fixed.topology slave) book closed.some is
-event_hidden border (Gic proc) book closed is = interrupt_hidden border (kind_of book.fixed.topology proc) book is
-event_hidden border _ book closed is = tt
+pub event_hidden : KindLaws → (border : Border) (event : Event) (book : State) → HasClosed border book → is_hidden border event book ≡ true → AreHidden border (stages event book)
+event_hidden laws border (Ipi master message) book closed is = message_hidden laws border message book (master_place master book) closed is
+event_hidden laws border (Boot proc address) book closed is =
+    halted_hidden border book.now.core.halted (boot proc address book) (boot_hidden border (kind_of book.fixed.topology proc) address book is)
+event_hidden laws border (Wfi proc) book closed is =
+    halted_hidden border book.now.core.halted (wait proc book) (wait_hidden border (kind_of book.fixed.topology proc) book is)
+event_hidden laws border (Irq slave) book closed is =
+    halted_hidden border book.now.core.halted (raised slave book) (raised_hidden border (kind_of book.fixed.topology slave) book closed.some is)
+event_hidden laws border (Gic proc) book closed is =
+    halted_hidden border book.now.core.halted (interrupt proc book) (interrupt_hidden border (kind_of book.fixed.topology proc) book is)
+event_hidden laws border _ book closed is = tt
 
 -- ---- all other events
+
+-- where a master at a place is beyond, some is
+some_place : (border : Border) (place : Option ℕ) → HasSome border → is_within border place ≡ false → border.some ≡ true
+some_place border None some is = cc
+some_place border (Some m) some is = some m (kept (border.master m) is)
+
+-- so some is where an event isn't hidden
+pub some_beyond : (border : Border) (event : Event) (book : State) → HasSome border → is_hidden border event book ≡ false → border.some ≡ true
+some_beyond border (Ipi master message) book some is =
+    some_place border (master_place master book) some (neither (is_within border (master_place master book)) (changes_within border (call_of message) book) is).0
+some_beyond border (Boot proc address) book some is = some_place border (owner_by (kind_of book.fixed.topology proc) book) some is
+some_beyond border (Wfi proc) book some is = some_place border (owner_by (kind_of book.fixed.topology proc) book) some is
+some_beyond border (Gic proc) book some is = some_place border (owner_by (kind_of book.fixed.topology proc) book) some is
+some_beyond border (Irq slave) book some is = kept border.some is
+some_beyond border (Tick count) book some is = kept border.some is
+some_beyond border _ book some is = cc
 
 heard_alike : (border : Border) (first second : Outcome) (a b : Bool) → a ≡ b → AreAlike border first.stages second.stages → AreAlike border (stages_of (if a then Some first else None)) (stages_of (if b then Some second else None))
 heard_alike border first second true true is alike = alike
@@ -117,8 +142,7 @@ message_alike laws fixed border message (Some m) a b some is same =
     let parts = neither (not (border.master m)) (changes_within border (call_of message) (book_of fixed a)) is in
     let beyond : IsBeyond border m = kept (border.master m) parts.0 in
     heard_alike border (called m (call_of message) (book_of fixed a)) (called m (call_of message) (book_of fixed b))
-    (is_awake (mode_of_master fixed a.core m)) (is_awake (mode_of_master fixed b.core m))
-    (ap is_awake (mode_alike laws fixed border m a b beyond same))
+    (is_heard m (book_of fixed a)) (is_heard m (book_of fixed b)) (heard_same laws fixed border m a b beyond same)
     (call_alike laws fixed border m (call_of message) a b beyond (some m beyond) parts.1 same)
 
 -- the processor of a master beyond is the same in both
@@ -160,20 +184,40 @@ waits_alike fixed border (Slave s) a b is same = refl
 waits_alike fixed border (Power w) a b is same = refl
 waits_alike fixed border Unknown a b is same = refl
 
+halted_alike : (border : Border) (x y : Bool) (first second : List (List Prim)) → x ≡ y → AreAlike border first second → AreAlike border (if x then [] else first) (if y then [] else second)
+halted_alike border true true first second is alike = tt
+halted_alike border true false first second is alike = cc
+halted_alike border false true first second is alike = cc
+halted_alike border false false first second is alike = alike
+
+-- where the owner of a processor is beyond, some master is
+owner_some : (border : Border) (owner : Option ℕ) → HasSome border → is_within border owner ≡ false → border.some ≡ true
+owner_some border None some is = cc
+owner_some border (Some m) some is = some m (kept (border.master m) is)
+
+module _ (fixed : Fixed) (border : Border) (a b : Now) (same : Same fixed border a b) where
+  -- stages that are alike, unless the books are halted
+  running_alike : (first second : List (List Prim)) → border.some ≡ true → AreAlike border first second → AreAlike border (if a.core.halted then [] else first) (if b.core.halted then [] else second)
+  running_alike first second some alike = halted_alike border a.core.halted b.core.halted first second (same.halted some) alike
+
 pub event_alike : BelowLaws → (fixed : Fixed) (border : Border) (event : Event) (a b : Now) → ArmsOwn (book_of fixed a) → HasSome border → is_hidden border event (book_of fixed a) ≡ false → Same fixed border a b → AreAlike border (stages event (book_of fixed a)) (stages event (book_of fixed b))
 event_alike laws fixed border (Ipi master message) a b armed some is same =
     message_alike laws fixed border message (master_place master (book_of fixed a)) a b some is same
 event_alike laws fixed border (Boot proc address) a b armed some is same =
     let kind : Kind = kind_of fixed.topology proc in
-    alike_of border (boot_at kind address (book_of fixed a)) (boot_at kind address (book_of fixed b)) (boots_alike fixed border kind address a b is same)
+    running_alike fixed border a b same (boot_at kind address (book_of fixed a)) (boot_at kind address (book_of fixed b)) (owner_some border (owner_by kind (book_of fixed a)) some is)
+    (alike_of border (boot_at kind address (book_of fixed a)) (boot_at kind address (book_of fixed b)) (boots_alike fixed border kind address a b is same))
 event_alike laws fixed border (Wfi proc) a b armed some is same =
     let kind : Kind = kind_of fixed.topology proc in
-    alike_of border (wait_at kind (book_of fixed a)) (wait_at kind (book_of fixed b)) (waits_alike fixed border kind a b is same)
+    running_alike fixed border a b same (wait_at kind (book_of fixed a)) (wait_at kind (book_of fixed b)) (owner_some border (owner_by kind (book_of fixed a)) some is)
+    (alike_of border (wait_at kind (book_of fixed a)) (wait_at kind (book_of fixed b)) (waits_alike fixed border kind a b is same))
 event_alike laws fixed border (Irq slave) a b armed some is same =
-    raised_alike fixed border (kind_of fixed.topology slave) a b armed (kept border.some is) same
+    running_alike fixed border a b same (raised slave (book_of fixed a)) (raised slave (book_of fixed b)) (kept border.some is)
+    (raised_alike fixed border (kind_of fixed.topology slave) a b armed (kept border.some is) same)
 event_alike laws fixed border (Gic proc) a b armed some is same =
     let kind : Kind = kind_of fixed.topology proc in
-    alike_of border (interrupt_at kind (book_of fixed a)) (interrupt_at kind (book_of fixed b)) (interrupts_alike fixed border kind a b is same)
+    running_alike fixed border a b same (interrupt_at kind (book_of fixed a)) (interrupt_at kind (book_of fixed b)) (owner_some border (owner_by kind (book_of fixed a)) some is)
+    (alike_of border (interrupt_at kind (book_of fixed a)) (interrupt_at kind (book_of fixed b)) (interrupts_alike fixed border kind a b is same))
 event_alike laws fixed border (Tick count) a b armed some is same = tt
 event_alike laws fixed border _ a b armed some is same = cc
 

@@ -103,11 +103,11 @@ follow_rests book knows =
 
 -- ---- stages
 
--- two stages with the same seen part
-pub stage_agrees : BelowLaws → (border : Border) (ps qs : List Prim) (a b : State) → seen_part border ps ≡ seen_part border qs → Agree border a b → Agree border (after_stage ps a) (after_stage qs b)
-stage_agrees laws border ps qs a b is agree =
-    let after : Agree border (changed ps a) (changed qs b) = changes_agree laws border ps qs a b is agree in
-    changes_agree laws border (follow (changed ps a)) (follow (changed qs b)) (changed ps a) (changed qs b)
+-- two stages with the same seen part, where some master is beyond
+pub stage_agrees : BelowLaws → (border : Border) (ps qs : List Prim) (a b : State) → border.some ≡ true → seen_part border ps ≡ seen_part border qs → Agree border a b → Agree border (after_stage ps a) (after_stage qs b)
+stage_agrees laws border ps qs a b some is agree =
+    let after : Agree border (changed ps a) (changed qs b) = changes_agree laws border ps qs a b some is agree in
+    changes_agree laws border (follow (changed ps a)) (follow (changed qs b)) (changed ps a) (changed qs b) some
     (follow_alike laws border (changed ps a) (changed qs b) after) after
 
 -- a stage of which nothing is seen, beside a book that stays and whose rows know the modes

@@ -1,16 +1,17 @@
 -- A call of a master beyond that names nothing within comes to the same in two books that agree.
 use Rattle.std.proofs.Common.{◌≡◌, ℕ, ◌+◌, Bool, true, false, not, ◌&&◌, ◌==◌, if◌then◌else◌, position, Option, Some, None, refl, sym, ◌∙◌, ap}
+use Rattle.std.specs.Prelude.{option_map}
 use Rattle.std.proofs.lemmas.Bool.{eqb-true}
 use Rattle.pm_base.specs.declared.names.NodeId.{NodeId}
 use Rattle.pm_base.proofs.Booleans.{both, equal}
 use Rattle.pm_base.proofs.Searches.{position-first}
 use Rattle.pm_ipi.specs.declared.calls.Call.{Call}
-use Rattle.pm_ipi.specs.declared.calls.Call.TheVariants.{GetApiVersion, GetNodeStatus, RegisterNotifier, RequestSuspend, SelfSuspend, AbortSuspend, RequestWakeup, SetWakeupSource, RequestNode, ReleaseNode, SetRequirement, SetMaxLatency, InitFinalize, Unknown}
+use Rattle.pm_ipi.specs.declared.calls.Call.TheVariants.{GetApiVersion, GetNodeStatus, GetOpCharacteristic, RegisterNotifier, RequestSuspend, SelfSuspend, ForcePowerdown, AbortSuspend, RequestWakeup, SetWakeupSource, SystemShutdown, RequestNode, ReleaseNode, SetRequirement, SetMaxLatency, ResetAssert, ResetGetStatus, InitFinalize, Unknown}
 use Rattle.pm_object.specs.declared.object.MasterRec.{MasterRec}
 use Rattle.pm_topology.specs.declared.places.Kind.{Kind}
 use Rattle.pm_topology.specs.declared.places.Kind.TheVariants.{Proc, Slave, Power, Unknown as NoNode}
 use Rattle.pm_topology.specs.declared.topology.SlaveDef.{SlaveDef}
-use Rattle.pm_topology.specs.Places.{KindLaws, kind_of, slave_place}
+use Rattle.pm_topology.specs.Places.{KindLaws, kind_of, line_place, slave_place}
 use Rattle.pm_topology.specs.WellFormed.{IsWellFormed}
 use Rattle.pm_procs.specs.declared.procs.Proc.{Proc as Processor}
 use Rattle.pm_procs.specs.Modes.{mode_number}
@@ -24,7 +25,11 @@ use Rattle.pm_core.specs.Values.{point_at}
 use Rattle.pm_core.specs.Views.{can_wake, is_asked, named_master, names_master, proc_view, row_view, status_view, status_view_at, suspend_view, suspendable, wake_view_at, wakeable}
 use Rattle.pm_core.specs.calls.AbortSuspend.{abort_suspend}
 use Rattle.pm_core.specs.calls.GetNodeStatus.{get_node_status}
+use Rattle.pm_core.specs.calls.GetOpCharacteristic.{get_op_characteristic}
 use Rattle.pm_core.specs.calls.RegisterNotifier.{register_notifier}
+use Rattle.pm_core.specs.calls.ResetGetStatus.{reset_get_status}
+use Rattle.pm_core.specs.Characteristics.{characteristics_at}
+use Rattle.pm_resets.specs.Resets.{value_of}
 use Rattle.pm_core.specs.calls.ReleaseNode.{release_node}
 use Rattle.pm_core.specs.calls.RequestNode.{request_node}
 use Rattle.pm_core.specs.calls.RequestSuspend.{request_suspend}
@@ -35,13 +40,13 @@ use Rattle.pm_core.specs.calls.SetRequirement.{set_requirement}
 use Rattle.pm_core.specs.calls.SetWakeupSource.{set_wakeup_source}
 use Rattle.pm_laws.specs.Agree.{Agree, Same, SameRow}
 use Rattle.pm_laws.specs.Answers.{names_beyond}
-use Rattle.pm_laws.specs.Border.{Border, IsBeyond, IsClosed, none_within, unit_beyond}
+use Rattle.pm_laws.specs.Border.{Border, IsBeyond, IsClosed, line_beyond, none_within, unit_beyond}
 use Rattle.pm_laws.specs.Hidden.{is_slave_within, is_within}
 use Rattle.pm_laws.proofs.CallsAlike.{asked_agrees, book_of, entries_alike, entry_alike, proc_views_agree, row_views_agree, rows_both, suspend_views_agree, watched_same}
 use Rattle.pm_laws.proofs.FollowLaw.{mode_alike, proc_alike}
 use Rattle.pm_laws.proofs.Places.{Both-any}
 use Rattle.pm_laws.proofs.RowFacts.{BelowLaws}
-use Rattle.pm_laws.proofs.ValuesLaw.{kind_alike, mode_same}
+use Rattle.pm_laws.proofs.ValuesLaw.{kind_alike, line_alike, mode_same}
 
 -- ---- a test of the rows on a slave beyond
 
@@ -186,15 +191,24 @@ module _ (laws : BelowLaws) (kinds : KindLaws) (fixed : Fixed) (border : Border)
   own_same : (m : ℕ) (node : NodeId) → IsBeyond border m → proc_view m node first ≡ proc_view m node second
   own_same m node beyond = proc_views_agree border m node first second beyond agree
 
+  -- the value of a reset line beyond
+  status_of_line : (place : Option ℕ) → line_beyond border place ≡ true → option_map (λ l. value_of l a.core.lines) place ≡ option_map (λ l. value_of l b.core.lines) place
+  status_of_line None beyond = refl
+  status_of_line (Some l) beyond = ap Some (line_alike fixed border closed a b same (Some l) beyond)
+
   -- ---- calls
 
-  pub call_same : (m : ℕ) (call : Call) → IsBeyond border m → names_beyond border call ≡ true → tried_by m call first ≡ tried_by m call second
+  pub call_same : (m : ℕ) (call : Call) → IsBeyond border m → names_beyond fixed.topology border call ≡ true → tried_by m call first ≡ tried_by m call second
   call_same m GetApiVersion beyond is = refl
   call_same m (GetNodeStatus node) beyond is = ap get_node_status (status_same m node (closed.some m beyond) is)
+  call_same m (GetOpCharacteristic node characteristic) beyond is =
+      ap (λ value. get_op_characteristic characteristic (characteristics_at (kind_of fixed.topology node) value fixed.topology))
+      (kind_alike fixed border closed a b same (kind_of fixed.topology node) (unit_of node is))
   call_same m (RegisterNotifier node event wake enable) beyond is =
       ap (register_notifier m node event enable) (watched_same fixed m node (kind_of fixed.topology node) a b)
   call_same m (RequestSuspend node ack latency state) beyond is = ap (request_suspend m node ack latency state) (suspend_same m node is)
   call_same m (SelfSuspend node address) beyond is = ap (self_suspend m address) (own_same m node beyond)
+  call_same m (ForcePowerdown node ack) beyond is = refl
   call_same m (AbortSuspend node reason) beyond is =
       ap (λ view. abort_suspend m reason (is_asked m first) view) (own_same m node beyond)
       ∙ ap (λ pending. abort_suspend m reason pending (proc_view m node second)) (asked_agrees border m first second beyond agree)
@@ -204,11 +218,14 @@ module _ (laws : BelowLaws) (kinds : KindLaws) (fixed : Fixed) (border : Border)
       ap (λ view. set_wakeup_source target enable view (row_view m source first)) (own_same m target beyond)
       ∙ ap (set_wakeup_source target enable (proc_view m target second))
       (row_same m source beyond (both (border.node target.0) (border.node source.0) is).1)
+  call_same m (SystemShutdown shutdown_type subtype) beyond is = refl
   call_same m (RequestNode node caps ack) beyond is = ap (request_node caps ack) (row_same m node beyond is)
   call_same m (ReleaseNode node) beyond is = ap release_node (row_same m node beyond is)
   call_same m (SetRequirement node caps ack) beyond is =
       ap (λ mode. set_requirement mode caps ack (row_view m node first)) (mode_alike laws fixed border m a b beyond same)
       ∙ ap (set_requirement (mode_of_master fixed b.core m) caps ack) (row_same m node beyond is)
   call_same m (SetMaxLatency node latency) beyond is = ap (set_max_latency latency) (row_same m node beyond is)
+  call_same m (ResetAssert line action) beyond is = refl
+  call_same m (ResetGetStatus line) beyond is = ap reset_get_status (status_of_line (line_place fixed.topology.lines line.0) is)
   call_same m InitFinalize beyond is = refl
   call_same m Unknown beyond is = refl

@@ -1,5 +1,5 @@
 -- The books along a step: in the hidden shape all agree with the book before, and in the alike shape they agree one by one.
-use Rattle.std.proofs.Common.{◌≡◌, List, [], ◌∷◌, refl, subst}
+use Rattle.std.proofs.Common.{◌≡◌, true, List, [], ◌∷◌, refl, subst}
 use Rattle.std.specs.List.{AllByRecursion as Each}
 use Rattle.pm_core.specs.Prims.{Prim}
 use Rattle.pm_core.specs.Sound.{KnowsModes}
@@ -31,15 +31,15 @@ stages_hidden laws border stages still now knows hidden agree =
     in
     record { fixed = agree.fixed; now = last.now }
 
--- ---- alike
+-- ---- alike, where some master is beyond
 
-pub path_alike : BelowLaws → (border : Border) (first second : List (List Prim)) (a b : State) → AreAlike border first second → Agree border a b → Both (Agree border) (path_from first a) (path_from second b)
-path_alike laws border [] [] a b alike agree = tt
-path_alike laws border [] (q ∷ qs) a b alike agree = absurd alike
-path_alike laws border (p ∷ ps) [] a b alike agree = absurd alike
-path_alike laws border (p ∷ ps) (q ∷ qs) a b alike agree =
-    let next : Agree border (after_stage p a) (after_stage q b) = stage_agrees laws border p q a b alike.0 agree in
-    (next, path_alike laws border ps qs (after_stage p a) (after_stage q b) alike.1 next)
+pub path_alike : BelowLaws → (border : Border) (first second : List (List Prim)) (a b : State) → border.some ≡ true → AreAlike border first second → Agree border a b → Both (Agree border) (path_from first a) (path_from second b)
+path_alike laws border [] [] a b some alike agree = tt
+path_alike laws border [] (q ∷ qs) a b some alike agree = absurd alike
+path_alike laws border (p ∷ ps) [] a b some alike agree = absurd alike
+path_alike laws border (p ∷ ps) (q ∷ qs) a b some alike agree =
+    let next : Agree border (after_stage p a) (after_stage q b) = stage_agrees laws border p q a b some alike.0 agree in
+    (next, path_alike laws border ps qs (after_stage p a) (after_stage q b) some alike.1 next)
 
 last_alike : (border : Border) (a b : State) (first second : List State) → Agree border a b → Both (Agree border) first second → Agree border (last_of a first) (last_of b second)
 last_alike border a b [] [] agree each = agree
@@ -52,10 +52,10 @@ last_fixed : (stages : List (List Prim)) (book : State) → (last_of book (path_
 last_fixed [] book = refl
 last_fixed (stage ∷ later) book = last_fixed later (after_stage stage book)
 
-pub stages_alike : BelowLaws → (border : Border) (first second : List (List Prim)) (a b : State) → AreAlike border first second → Agree border a b → Agree border (after_stages first a) (after_stages second b)
-stages_alike laws border first second a b alike agree =
+pub stages_alike : BelowLaws → (border : Border) (first second : List (List Prim)) (a b : State) → border.some ≡ true → AreAlike border first second → Agree border a b → Agree border (after_stages first a) (after_stages second b)
+stages_alike laws border first second a b some alike agree =
     let last : Agree border (last_of a (path_from first a)) (last_of b (path_from second b)) =
-    last_alike border a b (path_from first a) (path_from second b) agree (path_alike laws border first second a b alike agree)
+    last_alike border a b (path_from first a) (path_from second b) agree (path_alike laws border first second a b some alike agree)
     in
     let P : Fixed → Type 0 = λ fixed. Same fixed border (last_of a (path_from first a)).now (last_of b (path_from second b)).now in
     record { fixed = agree.fixed; now = subst P (last_fixed first a) last.now }

@@ -1,5 +1,5 @@
 -- Two lists place by place: changed in both or in one, turned round, and one after another.
-use Rattle.std.proofs.Common.{◌≡◌, ℕ, ◌+◌, Bool, true, false, cond, List, [], ◌∷◌, map, slice_get, unwrap_or, Option, Some, refl, zero, suc, sym, ◌∙◌, ap, subst, arith}
+use Rattle.std.proofs.Common.{◌≡◌, ℕ, ◌+◌, Bool, true, false, cond, List, [], ◌∷◌, length, map, slice_get, unwrap_or, Option, Some, refl, zero, suc, sym, ◌∙◌, ap, subst, arith}
 use Rattle.std.specs.Prelude.{slice_set, find, fold, ◌||◌, count_by}
 use Rattle.std.specs.List.{list_any, AllByRecursion as Each}
 use Rattle.pm_base.proofs.Booleans.{first_passes, later_passes}
@@ -192,3 +192,26 @@ stands_later whole k x part stands i y is =
 
 pub stands_from_start : {X : Type 0} (whole : List X) → StandsFrom whole 0 whole
 stands_from_start whole i x is = let at : 0 + i ≡ i = omega arith in ap (λ n. slice_get whole n) at ∙ is
+
+-- one entry stands at a place
+pub same_entry : {X : Type 0} (x y : X) (o : Option X) → o ≡ Some x → o ≡ Some y → x ≡ y
+same_entry x y o first second = cc
+
+-- ---- lists that are equally long
+
+pub BothFrom-length : {X : Type 0} (R : ℕ → X → X → Type 0) (k : ℕ) (xs ys : List X) → BothFrom R k xs ys → length xs ≡ length ys
+BothFrom-length R k [] [] same = refl
+BothFrom-length R k [] (y ∷ ys) same = absurd same
+BothFrom-length R k (x ∷ xs) [] same = absurd same
+BothFrom-length R k (x ∷ xs) (y ∷ ys) same = let later : length xs ≡ length ys = BothFrom-length R (k + 1) xs ys same.1 in omega (arith, later)
+
+pub BothFrom-any : {X : Type 0} (R : ℕ → X → X → Type 0) → ((k : ℕ) (x y : X) → R k x y) → (k : ℕ) (xs ys : List X) → length xs ≡ length ys → BothFrom R k xs ys
+BothFrom-any R each k [] [] same = tt
+BothFrom-any R each k [] (y ∷ ys) same = absurd (omega (arith, same))
+BothFrom-any R each k (x ∷ xs) [] same = absurd (omega (arith, same))
+BothFrom-any R each k (x ∷ xs) (y ∷ ys) same = (each k x y, BothFrom-any R each (k + 1) xs ys (omega (arith, same)))
+
+pub BothFrom-equal : {X : Type 0} (R : ℕ → X → X → Type 0) → ((k : ℕ) (x : X) → R k x x) → (k : ℕ) (xs ys : List X) → xs ≡ ys → BothFrom R k xs ys
+BothFrom-equal {X} R each k xs ys same =
+    let P : List X → Type 0 = λ zs. BothFrom R k xs zs in
+    subst P same (BothFrom-self R k xs (λ p x is. each (k + p) x))

@@ -1,26 +1,34 @@
 -- The two facts of each change of a book: seen and made in both it keeps them alike beyond the border, and unseen and made in
 -- one alone it does so too.
-use Rattle.std.proofs.Common.{◌≡◌, ℕ, Bool, true, false, if◌then◌else◌, map, Option, Some, None, refl, sym, ◌∙◌, ap, subst, arith}
+use Rattle.std.proofs.Common.{◌≡◌, ◌==◌, ℕ, ◌+◌, Bool, true, false, if◌then◌else◌, List, [], ◌∷◌, length, map, Option, Some, None, refl, sym, ◌∙◌, ap, subst, arith}
+use Rattle.std.specs.Prelude.{replicate}
 use Rattle.std.proofs.lemmas.Bool.{eqb-true}
+use Rattle.std.proofs.lemmas.List.{length-replicate, length-set}
+use Rattle.pm_base.proofs.Booleans.{equal}
+use Rattle.pm_base.proofs.Tests.{present_from}
 use Rattle.pm_base.specs.declared.names.Mode.{Mode}
-use Rattle.pm_base.specs.declared.names.Mode.TheVariants.{Off}
+use Rattle.pm_base.specs.declared.names.Mode.TheVariants.{Off, Active}
 use Rattle.pm_procs.specs.declared.procs.Proc.{Proc}
-use Rattle.pm_procs.specs.Procs.{gone}
-use Rattle.pm_rows.specs.Rows.{mode_of}
+use Rattle.pm_procs.specs.Procs.{all_turned_off, gone, members_at, turned_off}
+use Rattle.pm_resets.specs.Resets.{all_released}
+use Rattle.pm_rows.specs.Modes.{loaded_modes}
+use Rattle.pm_rows.specs.Rows.{cleared_entry, mode_of, reloaded}
 use Rattle.pm_rows.specs.Shift.{shift_at}
-use Rattle.pm_core.specs.Members.{is_place, owner_at, owns}
-use Rattle.pm_core.specs.Prims.{Prim, At_row, Settle, Put_proc, Shift, apply, proc_put}
+use Rattle.pm_core.specs.Boot.{boot_proc}
+use Rattle.pm_core.specs.Members.{is_place, members_of, owner_at, owns}
+use Rattle.pm_core.specs.Prims.{Prim, At_row, Settle, Put_proc, Put_line, Shift, Clear, Halt, Reload, apply, proc_put, procs_with}
 use Rattle.pm_core.specs.State.{Fixed, Now}
-use Rattle.pm_laws.specs.Agree.{SameKnown, SameProc, SameRows, Same}
-use Rattle.pm_laws.specs.Border.{Border, IsBeyond}
+use Rattle.pm_laws.specs.Agree.{SameKnown, SameLine, SameProc, SameRows, Same}
+use Rattle.pm_laws.specs.Border.{Border, HasSome, IsBeyond}
+use Rattle.pm_laws.specs.Both.{BothFrom}
 use Rattle.pm_laws.specs.Seen.{seen}
 use Rattle.pm_laws.proofs.AgreeLaw.{clash}
-use Rattle.pm_laws.proofs.Places.{BothFrom-get, BothFrom-set, BothFrom-set_left}
-use Rattle.pm_laws.proofs.RowFacts.{BelowLaws, rows_changed_alike, rows_changed_unseen, rows_settled_alike, rows_settled_unseen, rows_shifted_alike, rows_shifted_unseen}
+use Rattle.pm_laws.proofs.Places.{BothFrom-any, BothFrom-equal, BothFrom-get, BothFrom-length, BothFrom-map, BothFrom-map_left, BothFrom-set, BothFrom-set_left}
+use Rattle.pm_laws.proofs.RowFacts.{BelowLaws, rows_alone, rows_changed_alike, rows_changed_unseen, rows_cleared_alike, rows_dropped_alike, rows_dropped_unseen, rows_reloaded_alike, rows_settled_alike, rows_settled_unseen, rows_shifted_alike, rows_shifted_unseen}
 
 -- ---- a processor is put
 
-placed_by : (m k : ℕ) (owner : Option ℕ) → is_place m owner ≡ true → owner ≡ Some k → k ≡ m
+pub placed_by : (m k : ℕ) (owner : Option ℕ) → is_place m owner ≡ true → owner ≡ Some k → k ≡ m
 placed_by m k None is found = cc
 placed_by m k (Some j) is found = let same : j ≡ k = cc in sym same ∙ eqb-true j m is
 
@@ -49,9 +57,13 @@ puts_alike fixed border m p mode address a b false is same = same
 puts_alike fixed border m p mode address a b true is same =
     let proc : Proc = gone mode (record { mode = mode; address = address }) in
     record {
+      some = same.some;
+      boot = same.boot;
+      halted = same.halted;
       rows = same.rows;
       known = same.known;
       procs = BothFrom-set (SameProc fixed border) 0 p p proc proc (omega arith) (put_alike fixed border m p proc is) a.core.procs b.core.procs same.procs;
+      lines = same.lines;
       talk = same.talk;
     }
 
@@ -60,11 +72,82 @@ puts_unseen fixed border m p mode address a b false is within same = same
 puts_unseen fixed border m p mode address a b true is within same =
     let proc : Proc = gone mode (record { mode = mode; address = address }) in
     record {
+      some = same.some;
+      boot = same.boot;
+      halted = same.halted;
       rows = same.rows;
       known = same.known;
       procs = BothFrom-set_left (SameProc fixed border) 0 p p proc (omega arith) (λ y. put_unseen fixed border m p proc y is within) a.core.procs b.core.procs same.procs;
+      lines = same.lines;
       talk = same.talk;
     }
+
+-- ---- the processors are as at load
+
+-- the first processor of the first master is its own
+first_owned : BelowLaws → (fixed : Fixed) (p : ℕ) → boot_proc fixed.object fixed.topology ≡ Some p → owns fixed.object fixed.topology 0 p ≡ true
+first_owned laws fixed p is =
+    let members = members_of fixed.object fixed.topology in
+    laws.owned fixed.object fixed.topology 0 p (present_from (λ q. q == p) (members_at 0 members) 0 p is (equal p p refl))
+
+all_off_alike : (fixed : Fixed) (border : Border) (p : ℕ) (x y : Proc) → SameProc fixed border p x y → SameProc fixed border p (turned_off x) (turned_off y)
+all_off_alike fixed border p x y same = record { beyond = λ m owner beyond. refl; nobodys = λ none. (refl, refl) }
+
+started_alike : BelowLaws → (fixed : Fixed) (border : Border) (boot : Option ℕ) (a b : List Proc) → boot_proc fixed.object fixed.topology ≡ boot → BothFrom (SameProc fixed border) 0 a b → BothFrom (SameProc fixed border) 0 (procs_with boot a) (procs_with boot b)
+started_alike laws fixed border None a b is same = same
+started_alike laws fixed border (Some p) a b is same =
+    let proc : Proc = record { mode = Active; address = 0 } in
+    BothFrom-set (SameProc fixed border) 0 p p proc proc (omega arith) (put_alike fixed border 0 p proc (first_owned laws fixed p is)) a b same
+
+reloads_alike : BelowLaws → (fixed : Fixed) (border : Border) (a b : List Proc) → BothFrom (SameProc fixed border) 0 a b → BothFrom (SameProc fixed border) 0 (procs_with (boot_proc fixed.object fixed.topology) (all_turned_off a)) (procs_with (boot_proc fixed.object fixed.topology) (all_turned_off b))
+reloads_alike laws fixed border a b same =
+    started_alike laws fixed border (boot_proc fixed.object fixed.topology) (all_turned_off a) (all_turned_off b) refl
+    (BothFrom-map (SameProc fixed border) turned_off turned_off (all_off_alike fixed border) 0 a b same)
+
+-- in one book alone, where no master is beyond
+alone_off : (fixed : Fixed) (border : Border) → HasSome border → border.some ≡ false → (p : ℕ) (x y : Proc) → SameProc fixed border p x y → SameProc fixed border p (turned_off x) y
+alone_off fixed border some none p x y same = record {
+  beyond = λ m owner beyond. clash border.some (some m beyond) none;
+  nobodys = λ nobody. (refl, (same.nobodys nobody).1);
+}
+
+alone_put : (fixed : Fixed) (border : Border) → HasSome border → border.some ≡ false → (m p : ℕ) (proc y : Proc) → owns fixed.object fixed.topology m p ≡ true → SameProc fixed border p proc y
+alone_put fixed border some none m p proc y own = record {
+  beyond = λ k owner beyond. clash border.some (some k beyond) none;
+  nobodys = λ nobody. placed_one m (owner_at fixed.object fixed.topology p) own nobody;
+}
+
+started_unseen : BelowLaws → (fixed : Fixed) (border : Border) → HasSome border → border.some ≡ false → (boot : Option ℕ) (a b : List Proc) → boot_proc fixed.object fixed.topology ≡ boot → BothFrom (SameProc fixed border) 0 a b → BothFrom (SameProc fixed border) 0 (procs_with boot a) b
+started_unseen laws fixed border some none None a b is same = same
+started_unseen laws fixed border some none (Some p) a b is same =
+    let proc : Proc = record { mode = Active; address = 0 } in
+    BothFrom-set_left (SameProc fixed border) 0 p p proc (omega arith) (λ y. alone_put fixed border some none 0 p proc y (first_owned laws fixed p is)) a b same
+
+reloads_unseen : BelowLaws → (fixed : Fixed) (border : Border) → HasSome border → border.some ≡ false → (a b : List Proc) → BothFrom (SameProc fixed border) 0 a b → BothFrom (SameProc fixed border) 0 (procs_with (boot_proc fixed.object fixed.topology) (all_turned_off a)) b
+reloads_unseen laws fixed border some none a b same =
+    started_unseen laws fixed border some none (boot_proc fixed.object fixed.topology) (all_turned_off a) b refl
+    (BothFrom-map_left (SameProc fixed border) turned_off (alone_off fixed border some none) 0 a b same)
+
+-- ---- the reset lines are as at load
+
+-- where some master is beyond, in both books
+lines_loaded_alike : (border : Border) → border.some ≡ true → (a b : List Bool) → BothFrom (SameLine border) 0 a b → BothFrom (SameLine border) 0 (all_released (length a)) (all_released (length b))
+lines_loaded_alike border some a b same =
+    BothFrom-equal (SameLine border) (λ k x. record { beyond = λ is. refl; released = λ none is. clash border.some some none }) 0
+    (all_released (length a)) (all_released (length b)) (ap all_released (BothFrom-length (SameLine border) 0 a b same))
+
+-- where none is, in one of them: each line beyond is released in the other
+lines_loaded_unseen : (border : Border) → border.some ≡ false → (k : ℕ) (a b : List Bool) → BothFrom (SameLine border) k a b → BothFrom (SameLine border) k (all_released (length a)) b
+lines_loaded_unseen border none k [] [] same = tt
+lines_loaded_unseen border none k [] (y ∷ ys) same = absurd same
+lines_loaded_unseen border none k (x ∷ xs) [] same = absurd same
+lines_loaded_unseen border none k (x ∷ xs) (y ∷ ys) same = (
+  record {
+    beyond = λ is. sym (same.0.released none is).1;
+    released = λ left is. (refl, (same.0.released left is).1);
+  },
+  lines_loaded_unseen border none (k + 1) xs ys same.1,
+)
 
 -- ---- each change
 
@@ -73,50 +156,162 @@ pub known_alike : (fixed : Fixed) (border : Border) (m : ℕ) (a b : Now) → Is
 known_alike fixed border m a b beyond same =
     BothFrom-get (SameKnown border) (λ x y. x ≡ y) 0 m m Off (omega arith) refl (λ x y is. is beyond) a.core.rows.known b.core.rows.known same.known
 
--- a change that is seen, made in both
-pub prim_alike : BelowLaws → (fixed : Fixed) (border : Border) (prim : Prim) (a b : Now) → seen border prim ≡ true → Same fixed border a b → Same fixed border (apply fixed prim a) (apply fixed prim b)
-prim_alike laws fixed border (At_row m s by) a b is same = record {
+-- a change that is seen, made in both, where some master is beyond
+pub prim_alike : BelowLaws → (fixed : Fixed) (border : Border) (prim : Prim) (a b : Now) → border.some ≡ true → seen border prim ≡ true → Same fixed border a b → Same fixed border (apply fixed prim a) (apply fixed prim b)
+prim_alike laws fixed border (At_row m s by) a b some is same = record {
+  some = same.some;
+  boot = same.boot;
+  halted = same.halted;
   rows = rows_changed_alike border m s by a.core.rows.entries b.core.rows.entries same.rows;
   known = same.known;
   procs = same.procs;
+  lines = same.lines;
   talk = same.talk;
 }
-prim_alike laws fixed border (Settle m) a b is same = record {
+prim_alike laws fixed border (Settle m) a b some is same = record {
+  some = same.some;
+  boot = same.boot;
+  halted = same.halted;
   rows = rows_settled_alike border m a.core.rows.entries b.core.rows.entries same.rows;
   known = same.known;
   procs = same.procs;
+  lines = same.lines;
   talk = same.talk;
 }
-prim_alike laws fixed border (Put_proc m p mode address) a b is same =
+prim_alike laws fixed border (Put_proc m p mode address) a b some is same =
     puts_alike fixed border m p mode address a b (owns fixed.object fixed.topology m p) refl same
-prim_alike laws fixed border (Shift m to) a b is same =
+prim_alike laws fixed border (Put_line l asserted) a b some is same = record {
+  some = same.some;
+  boot = same.boot;
+  halted = same.halted;
+  rows = same.rows;
+  known = same.known;
+  procs = same.procs;
+  lines = BothFrom-set (SameLine border) 0 l l asserted asserted (omega arith)
+      (record { beyond = λ beyond. refl; released = λ none beyond. clash border.some some none }) a.core.lines b.core.lines same.lines;
+  talk = same.talk;
+}
+prim_alike laws fixed border (Shift m to) a b some is same =
     let P : Mode → Type 0 = λ from. SameRows border border.some (map (shift_at a.core.rows.entries m (mode_of m a.core.rows) to) a.core.rows.entries) (map (shift_at b.core.rows.entries m from to) b.core.rows.entries) in
     record {
+      some = same.some;
+      boot = same.boot;
+      halted = same.halted;
       rows = subst P (known_alike fixed border m a b is same) (rows_shifted_alike laws border m (mode_of m a.core.rows) to a.core.rows.entries b.core.rows.entries same.rows);
       known = BothFrom-set (SameKnown border) 0 m m to to (omega arith) (λ beyond. refl) a.core.rows.known b.core.rows.known same.known;
       procs = same.procs;
+      lines = same.lines;
       talk = same.talk;
     }
+prim_alike laws fixed border (Clear s) a b some is same = record {
+  some = same.some;
+  boot = same.boot;
+  halted = same.halted;
+  rows = rows_dropped_alike border s a.core.rows.entries b.core.rows.entries same.rows;
+  known = same.known;
+  procs = same.procs;
+  lines = same.lines;
+  talk = same.talk;
+}
+prim_alike laws fixed border Halt a b some is same = record {
+  some = same.some;
+  boot = same.boot;
+  halted = λ some. refl;
+  rows = rows_cleared_alike border a.core.rows.entries b.core.rows.entries same.rows;
+  known = same.known;
+  procs = same.procs;
+  lines = same.lines;
+  talk = same.talk;
+}
+prim_alike laws fixed border Reload a b some is same = record {
+  some = same.some;
+  boot = same.boot;
+  halted = λ some. refl;
+  rows = rows_reloaded_alike border a.core.rows.entries b.core.rows.entries same.rows;
+  known = BothFrom-equal (SameKnown border) (λ k x beyond. refl) 0
+      (loaded_modes (length a.core.rows.known) a.core.rows.boot) (loaded_modes (length b.core.rows.known) b.core.rows.boot)
+      (ap (λ n. loaded_modes n a.core.rows.boot) (BothFrom-length (SameKnown border) 0 a.core.rows.known b.core.rows.known same.known)
+      ∙ ap (loaded_modes (length b.core.rows.known)) same.boot);
+  procs = reloads_alike laws fixed border a.core.procs b.core.procs same.procs;
+  lines = lines_loaded_alike border some a.core.lines b.core.lines same.lines;
+  talk = same.talk;
+}
 
 -- a change that isn't seen, made in one alone
-pub prim_unseen : (fixed : Fixed) (border : Border) (prim : Prim) (a b : Now) → seen border prim ≡ false → Same fixed border a b → Same fixed border (apply fixed prim a) b
-prim_unseen fixed border (At_row m s by) a b is same = record {
+pub prim_unseen : BelowLaws → (fixed : Fixed) (border : Border) (prim : Prim) (a b : Now) → seen border prim ≡ false → Same fixed border a b → Same fixed border (apply fixed prim a) b
+prim_unseen laws fixed border (At_row m s by) a b is same = record {
+  some = same.some;
+  boot = same.boot;
+  halted = same.halted;
   rows = rows_changed_unseen border m s by a.core.rows.entries b.core.rows.entries is same.rows;
   known = same.known;
   procs = same.procs;
+  lines = same.lines;
   talk = same.talk;
 }
-prim_unseen fixed border (Settle m) a b is same = record {
+prim_unseen laws fixed border (Settle m) a b is same = record {
+  some = same.some;
+  boot = same.boot;
+  halted = same.halted;
   rows = rows_settled_unseen border m a.core.rows.entries b.core.rows.entries is same.rows;
   known = same.known;
   procs = same.procs;
+  lines = same.lines;
   talk = same.talk;
 }
-prim_unseen fixed border (Put_proc m p mode address) a b is same =
+prim_unseen laws fixed border (Put_proc m p mode address) a b is same =
     puts_unseen fixed border m p mode address a b (owns fixed.object fixed.topology m p) refl is same
-prim_unseen fixed border (Shift m to) a b is same = record {
+prim_unseen laws fixed border (Put_line l asserted) a b is same = record {
+  some = same.some;
+  boot = same.boot;
+  halted = same.halted;
+  rows = same.rows;
+  known = same.known;
+  procs = same.procs;
+  lines = BothFrom-set_left (SameLine border) 0 l l asserted (omega arith)
+      (λ y. record { beyond = λ beyond. clash (border.line l) beyond is; released = λ none beyond. clash (border.line l) beyond is }) a.core.lines b.core.lines same.lines;
+  talk = same.talk;
+}
+prim_unseen laws fixed border (Shift m to) a b is same = record {
+  some = same.some;
+  boot = same.boot;
+  halted = same.halted;
   rows = rows_shifted_unseen border m (mode_of m a.core.rows) to a.core.rows.entries b.core.rows.entries is same.rows;
   known = BothFrom-set_left (SameKnown border) 0 m m to (omega arith) (λ y beyond. clash (border.master m) beyond is) a.core.rows.known b.core.rows.known same.known;
   procs = same.procs;
+  lines = same.lines;
+  talk = same.talk;
+}
+prim_unseen laws fixed border (Clear s) a b is same = record {
+  some = same.some;
+  boot = same.boot;
+  halted = same.halted;
+  rows = rows_dropped_unseen border s a.core.rows.entries b.core.rows.entries is same.rows;
+  known = same.known;
+  procs = same.procs;
+  lines = same.lines;
+  talk = same.talk;
+}
+prim_unseen laws fixed border Halt a b is same = record {
+  some = same.some;
+  boot = same.boot;
+  halted = λ some. clash border.some some is;
+  rows = rows_alone border cleared_entry a.core.rows.entries b.core.rows.entries (λ x. refl) is same.rows;
+  known = same.known;
+  procs = same.procs;
+  lines = same.lines;
+  talk = same.talk;
+}
+prim_unseen laws fixed border Reload a b is same = record {
+  some = same.some;
+  boot = same.boot;
+  halted = λ some. clash border.some some is;
+  rows = rows_alone border reloaded a.core.rows.entries b.core.rows.entries (λ x. refl) is same.rows;
+  known = BothFrom-any (SameKnown border) (λ k x y beyond. clash border.some (same.some k beyond) is) 0
+      (loaded_modes (length a.core.rows.known) a.core.rows.boot) b.core.rows.known
+      (length-set (replicate (length a.core.rows.known) Off) a.core.rows.boot Active ∙ (length-replicate (length a.core.rows.known) Off
+      ∙ BothFrom-length (SameKnown border) 0 a.core.rows.known b.core.rows.known same.known));
+  procs = reloads_unseen laws fixed border same.some is a.core.procs b.core.procs same.procs;
+  lines = lines_loaded_unseen border is 0 a.core.lines b.core.lines same.lines;
   talk = same.talk;
 }

@@ -1,16 +1,18 @@
 -- The border of a reach is closed.
-use Rattle.std.proofs.Common.{◌≡◌, ℕ, ◌<◌, ◌&&◌, ◌||◌, ◌==◌, Bool, true, false, not, zero, suc, List, [], ◌∷◌, length, slice_get, position, Option, Some, None, refl, ap, sym, ◌∙◌, arith}
+use Rattle.std.proofs.Common.{◌≡◌, ℕ, ◌+◌, ◌<◌, ◌&&◌, ◌||◌, ◌==◌, Bool, true, false, not, zero, suc, List, [], ◌∷◌, length, slice_get, position, Option, Some, None, refl, ap, subst, sym, ◌∙◌, arith}
 use Rattle.std.specs.Prelude.{option_and_then}
 use Rattle.std.specs.Option.{option_map, option_map_or}
-use Rattle.std.specs.List.{AllByRecursion as Each}
+use Rattle.std.specs.List.{AllByRecursion as Each, list_any}
 use Rattle.std.proofs.lemmas.List.Elements.{All-from_recursion}
 use Rattle.std.proofs.lemmas.Option.{slice_get_within}
 use Rattle.pm_base.specs.declared.names.LineId.{LineId}
 use Rattle.pm_base.specs.declared.names.NodeId.{NodeId}
 use Rattle.pm_base.specs.declared.names.Unit.TheVariants.{Node, Line}
-use Rattle.pm_base.proofs.Booleans.{equal}
+use Rattle.std.proofs.lemmas.Bool.{eqb-true}
+use Rattle.pm_base.proofs.Booleans.{both, equal, pair_of}
 use Rattle.pm_base.proofs.Options.{holds_of}
 use Rattle.pm_base.proofs.Searches.{position-first}
+use Rattle.pm_base.proofs.Tests.{present_at, present_from}
 use Rattle.pm_object.specs.declared.object.MasterRec.{MasterRec}
 use Rattle.pm_object.specs.declared.object.Object.{Object}
 use Rattle.pm_object.specs.Grammar.{IsObject}
@@ -33,10 +35,12 @@ use Rattle.pm_rows.specs.declared.row.RowSeed.{RowSeed}
 use Rattle.pm_core.specs.Members.{owner_at}
 use Rattle.pm_core.specs.Pairs.{pairs_of}
 use Rattle.pm_core.specs.Views.{master_node, named_master}
-use Rattle.pm_laws.specs.Border.{Border, IsBeyond, IsClosed, IsPairClosed, node_beyond, none_within, unit_beyond}
-use Rattle.pm_laws.specs.ReachBorder.{border_of, brings_in, entry_beyond, master_beyond, number_beyond, place_of, unit_border}
+use Rattle.pm_laws.specs.Border.{Border, IsBeyond, IsClosed, IsPairClosed, IsUserKnown, node_beyond, none_within, unit_beyond}
+use Rattle.pm_laws.specs.ReachBorder.{border_of, brings_in, entry_beyond, master_beyond, number_beyond, place_of, reset_beyond, unit_border}
 use Rattle.pm_laws.proofs.NamedLaw.{named_beyond}
+use Rattle.pm_laws.proofs.HiddenLemmas.{within_by}
 use Rattle.pm_laws.proofs.PairsLaw.{IsPermitted, pairs_permitted, permitted_use}
+use Rattle.pm_laws.proofs.Places.{StandsFrom, same_entry, stands_first, stands_from_start, stands_later}
 use Rattle.pm_laws.proofs.Records.{configures_there, forces_above_there, forces_there, record_place, resets_there, same_node, shuts_there, suspends_there, wakes_there}
 use Rattle.pm_laws.proofs.WithinReach.{ReachLaws, Starts, beyond_parts, lead, lead_in, lead_up, master_by, master_by_unit, unit_by}
 
@@ -167,12 +171,52 @@ module _ (laws : ReachLaws) (object : Object) (t : Topology) (formed : IsObject 
   pairs_closed [] each = tt
   pairs_closed (pair ∷ pairs) each = (pair_closed pair each.0, pairs_closed pairs each.1)
 
-  lines : (m : ℕ) (line : LineId) → may_reset object t (number m) line ≡ true → border.line line.0 ≡ true → IsBeyond border m
-  lines m line may e =
-      master_by_unit laws object t from starts m members.Line (Line line)
-      (record_place object formed m (resets_there object t (number m) line may))
-      (lead_in object t from m members.Line (Line line)
-      (λ f r. laws.units.line object t f m r line (by_number (λ n. may_reset object t n line) m may))) e
+  line_is : (got : Option LineId) (line : LineId) → got ≡ Some line → reset_beyond object t from got ≡ true
+      → not (brings_in object t from members.Line (Line line)) ≡ true
+  line_is got line is e = ap (reset_beyond object t from) (sym is) ∙ e
+
+  -- a master beyond may use a slave
+  abbrev uses : ℕ → RowSeed → Bool
+  uses s pair = (pair.slave == s) && border.master pair.master
+
+  user_known : (pairs : List RowSeed) (k : ℕ) (pair : RowSeed) → slice_get pairs k ≡ Some pair → list_any (uses pair.slave) pairs ≡ false → border.master pair.master ≡ false
+  user_known pairs k pair here none =
+      within_by (border.master pair.master) (list_any (uses pair.slave) pairs)
+      (λ beyond. present_from (uses pair.slave) pairs k pair here (pair_of (pair.slave == pair.slave) (border.master pair.master) (equal pair.slave pair.slave refl) beyond)) none
+
+  users_known : (k : ℕ) (part : List RowSeed) → StandsFrom (pairs_of object t) k part → Each (IsUserKnown border) part
+  users_known k [] stands = tt
+  users_known k (pair ∷ part) stands =
+      (user_known (pairs_of object t) k pair (stands_first (pairs_of object t) k pair part stands), users_known (k + 1) part (stands_later (pairs_of object t) k pair part stands))
+
+  permitted_at : (pairs : List RowSeed) (k : ℕ) (pair : RowSeed) → Each (IsPermitted object t) pairs → slice_get pairs k ≡ Some pair → IsPermitted object t pair
+  permitted_at [] k pair each here = cc
+  permitted_at (x ∷ xs) zero pair each here = let same : x ≡ pair = cc in subst (IsPermitted object t) same each.0
+  permitted_at (x ∷ xs) (suc k) pair each here = permitted_at xs k pair each.1 here
+
+  used : (s : ℕ) (slave : SlaveDef) → slice_get t.slaves s ≡ Some slave → border.used s ≡ true
+      → (k : ℕ) × IsBeyond border k × (may_use object t (number k) slave.node ≡ true)
+  used s slave is e =
+      let found = present_at (uses s) (pairs_of object t) e in
+      let pair : RowSeed = found.1 in
+      let parts = both (pair.slave == s) (border.master pair.master) found.3 in
+      let permitted : IsPermitted object t pair = permitted_at (pairs_of object t) found.0 pair (pairs_permitted object t) found.2 in
+      let there : slice_get t.slaves s ≡ Some permitted.slave = ap (slice_get t.slaves) (sym (eqb-true pair.slave s parts.0)) ∙ permitted.there in
+      let same : permitted.slave ≡ slave = same_entry permitted.slave slave (slice_get t.slaves s) there is in
+      let may : may_use object t (node_at object pair.master) permitted.slave.node ≡ true = permitted_use object t formed pair permitted in (
+        pair.master,
+        parts.1,
+        ap (λ n. may_use object t n slave.node) (sym (same_node object pair.master)) ∙ (ap (λ (d : SlaveDef). may_use object t (node_at object pair.master) d.node) (sym same) ∙ may),
+      )
+
+  lines : (m l : ℕ) (line : LineDef) → slice_get t.lines l ≡ Some line
+      → may_reset object t (number m) line.line ≡ true → border.line l ≡ true → IsBeyond border m
+  lines m l line is may e =
+      master_by_unit laws object t from starts m members.Line (Line line.line)
+      (record_place object formed m (resets_there object t (number m) line.line may))
+      (lead_in object t from m members.Line (Line line.line)
+      (λ f r. laws.units.line object t f m r line.line (by_number (λ n. may_reset object t n line.line) m may)))
+      (line_is _ line.line (ap (λ o. option_map (λ (line : LineDef). line.line) o) is) e)
 
   owner_within : (p m : ℕ) (proc : ProcDef) → slice_get t.procs p ≡ Some proc → owner_at object t p ≡ Some m → m < masters
   owner_within p m proc is own =
@@ -241,6 +285,8 @@ module _ (laws : ReachLaws) (object : Object) (t : Topology) (formed : IsObject 
   pub edge_closed : IsClosed object t border
   edge_closed = record {
     users = All-from_recursion (IsPairClosed border) (pairs_of object t) (pairs_closed (pairs_of object t) (pairs_permitted object t));
+    known = All-from_recursion (IsUserKnown border) (pairs_of object t) (users_known 0 (pairs_of object t) (stands_from_start (pairs_of object t)));
+    used = used;
     slaves = slaves;
     procs = procs;
     powers = powers;

@@ -2,9 +2,11 @@
 use Rattle.std.proofs.Common.{◌≡◌, ℕ, ◌<◌, ◌&&◌, Bool, true, false, not, slice_get, length, Option, Some, None, refl, ap, sym, ◌∙◌, subst, ◌↔◌}
 use Rattle.std.specs.Option.{option_map}
 use Rattle.std.proofs.lemmas.Bool.{lt-ltb}
+use Rattle.pm_base.specs.declared.names.LineId.{LineId}
 use Rattle.pm_base.specs.declared.names.NodeId.{NodeId}
 use Rattle.pm_base.specs.declared.names.Unit.TheVariants.{Node, Line}
 use Rattle.pm_object.specs.declared.object.Object.{Object}
+use Rattle.pm_topology.specs.declared.topology.LineDef.{LineDef}
 use Rattle.pm_topology.specs.declared.topology.PowerDef.{PowerDef}
 use Rattle.pm_topology.specs.declared.topology.SlaveDef.{SlaveDef}
 use Rattle.pm_topology.specs.declared.topology.Topology.{Topology}
@@ -18,7 +20,7 @@ use Rattle.pm_core.specs.State.{State}
 use Rattle.pm_core.specs.Values.{master_place}
 use Rattle.pm_laws.specs.Border.{Border}
 use Rattle.pm_laws.specs.Hidden.{is_within}
-use Rattle.pm_laws.specs.ReachBorder.{IsAllBeyond, IsBorderOf, border_of, brings_in, entry_beyond, master_beyond, place_of}
+use Rattle.pm_laws.specs.ReachBorder.{IsAllBeyond, IsBorderOf, border_of, brings_in, entry_beyond, master_beyond, place_of, reset_beyond}
 use Rattle.pm_laws.proofs.ReachBorderLaw.{edge, place_starts}
 use Rattle.pm_laws.proofs.WithinReach.{ReachLaws, Starts, beyond_parts}
 
@@ -46,6 +48,15 @@ module _ (laws : ReachLaws) (object : Object) (t : Topology) (from : ℕ) (start
         λ within. same ∙ is_beyond (brings_in object t (Some from) kind (Node node)) (test.1 within),
       )
 
+  line_where : (got : Option LineId) (line : LineId) → got ≡ Some line
+      → (reset_beyond object t (Some from) got ≡ false) ↔ IsIn object t from members.Line (Line line)
+  line_where got line is =
+      let same = ap (reset_beyond object t (Some from)) is in
+      let test = laws.tests.units object t from members.Line (Line line) starts in (
+        λ e. test.0 (not_beyond (brings_in object t (Some from) members.Line (Line line)) (sym same ∙ e)),
+        λ within. same ∙ is_beyond (brings_in object t (Some from) members.Line (Line line)) (test.1 within),
+      )
+
   pub edge_exact : IsBorderOf object t from border
   edge_exact = record {
     master = λ k within. (
@@ -54,10 +65,7 @@ module _ (laws : ReachLaws) (object : Object) (t : Topology) (from : ℕ) (start
     );
     slave = λ k s is. entry_where members.Slave _ s.node (ap (λ o. option_map (λ (slave : SlaveDef). slave.node) o) is);
     power = λ k p is. entry_where members.Power _ p.node (ap (λ o. option_map (λ (power : PowerDef). power.node) o) is);
-    line = λ l. (
-      λ e. (laws.tests.units object t from members.Line (Line l) starts).0 (not_beyond (brings_in object t (Some from) members.Line (Line l)) e),
-      λ within. is_beyond (brings_in object t (Some from) members.Line (Line l)) ((laws.tests.units object t from members.Line (Line l) starts).1 within),
-    );
+    line = λ k l is. line_where _ l.line (ap (λ o. option_map (λ (line : LineDef). line.line) o) is);
     configured = λ k e. (beyond_parts laws object t (Some from) starts k e).0;
     some = λ e. let found = (laws.tests.some object (master_beyond object t (Some from))).0 e in (found.0, found.2);
   }
@@ -72,6 +80,10 @@ unreached : (object : Object) (t : Topology) (kind : MemberKind) (got : Option N
 unreached object t kind None = refl
 unreached object t kind (Some node) = refl
 
+unset : (object : Object) (t : Topology) (got : Option LineId) → reset_beyond object t None got ≡ true
+unset object t None = refl
+unset object t (Some line) = refl
+
 pub all_beyond : (object : Object) (t : Topology) (m : NodeId) → place_of object m ≡ None → IsAllBeyond object (border_of object t m)
 all_beyond object t m is =
     let P : Option ℕ → Type 0 = λ place. IsAllBeyond object (edge object t place) in
@@ -79,7 +91,7 @@ all_beyond object t m is =
       masters = λ k within. ap (λ b. b && true) (lt-ltb k (length object.masters) within);
       slaves = λ s. unreached object t members.Slave (option_map (λ (slave : SlaveDef). slave.node) (slice_get t.slaves s));
       powers = λ w. unreached object t members.Power (option_map (λ (power : PowerDef). power.node) (slice_get t.powers w));
-      lines = λ l. refl;
+      lines = λ l. unset object t (option_map (λ (line : LineDef). line.line) (slice_get t.lines l));
     })
 
 -- the master itself is within its reach

@@ -40,7 +40,7 @@ pub record OutputLaws : Type 0 where
       → is_dropped (outputs event a).answer ≡ is_dropped (outputs event b).answer
   pub answers : (border : Border) (event : Event) (a b : State) → IsWellFormed a.fixed.topology
       → IsClosed a.fixed.object a.fixed.topology border → IsSound a → IsSound b → Agree border a b
-      → message_beyond a.fixed.object border event ≡ true
+      → message_beyond a.fixed.object a.fixed.topology border event ≡ true
       → (outputs event a).answer ≡ (outputs event b).answer
 
 module _ (laws : ApartLaws) (runs : RunLaws) (c : Setup) (m : NodeId) (object : IsObject c.object) (chip : IsWellFormed c.topology) where
@@ -120,8 +120,8 @@ module _ (laws : ApartLaws) (runs : RunLaws) (c : Setup) (m : NodeId) (object : 
     sender_at : (event : Event) (a : State) → IsBookOf c a → sender_beyond c.object border event ≡ true → sender_beyond a.fixed.object border event ≡ true
     sender_at event a is beyond = let P : Fixed → Type 0 = λ fixed. sender_beyond fixed.object border event ≡ true in subst P (sym is.fixed) beyond
 
-    message_at : (event : Event) (a : State) → IsBookOf c a → message_beyond c.object border event ≡ true → message_beyond a.fixed.object border event ≡ true
-    message_at event a is beyond = let P : Fixed → Type 0 = λ fixed. message_beyond fixed.object border event ≡ true in subst P (sym is.fixed) beyond
+    message_at : (event : Event) (a : State) → IsBookOf c a → message_beyond c.object c.topology border event ≡ true → message_beyond a.fixed.object a.fixed.topology border event ≡ true
+    message_at event a is beyond = let P : Fixed → Type 0 = λ fixed. message_beyond fixed.object fixed.topology border event ≡ true in subst P (sym is.fixed) beyond
 
     chip_at : (a : State) → IsBookOf c a → IsWellFormed a.fixed.topology
     chip_at a is = let P : Fixed → Type 0 = λ fixed. IsWellFormed fixed.topology in subst P (sym is.fixed) chip
@@ -136,9 +136,9 @@ module _ (laws : ApartLaws) (runs : RunLaws) (c : Setup) (m : NodeId) (object : 
         ))
         events (λ heard beyond. (refl, tt))
 
-    answers_apart : (events : List Event) → HaveAnswersAlike c.object border (run c events) (run c (quiet m events))
+    answers_apart : (events : List Event) → HaveAnswersAlike c.object c.topology border (run c events) (run c (quiet m events))
     answers_apart events =
-        apart (IsStepAnswerAlike c.object border)
+        apart (IsStepAnswerAlike c.object c.topology border)
         (λ event a b first second agree heard beyond. (
           outs.answers border event a.book b.book (chip_at a.book first) (closed_at laws c m object chip a.book first) first.sound second.sound agree
               (message_at event a.book first beyond)
@@ -158,5 +158,5 @@ pub drops_apart_of : ApartLaws → RunLaws → OutputLaws → (c : Setup) (m : N
 drops_apart_of laws runs outs c m events object chip = drops_apart laws runs c m object chip outs events
 
 pub answers_apart_of : ApartLaws → RunLaws → OutputLaws → (c : Setup) (m : NodeId) (events : List Event) → IsObject c.object → IsWellFormed c.topology
-    → HaveAnswersAlike c.object (border_of c.object c.topology m) (run c events) (run c (quiet m events))
+    → HaveAnswersAlike c.object c.topology (border_of c.object c.topology m) (run c events) (run c (quiet m events))
 answers_apart_of laws runs outs c m events object chip = answers_apart laws runs c m object chip outs events

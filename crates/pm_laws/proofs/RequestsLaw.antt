@@ -10,7 +10,7 @@ use Rattle.pm_laws.specs.Hidden.{is_hidden}
 use Rattle.pm_laws.specs.SeenTalk.{talk_part, IsTalkUnseen, asks_beyond, ends_beyond}
 use Rattle.pm_laws.proofs.AgreeLaw.{agree_self}
 use Rattle.pm_laws.proofs.CallsAlike.{book_of}
-use Rattle.pm_laws.proofs.CallsHidden.{HasClosed}
+use Rattle.pm_laws.proofs.HiddenLemmas.{HasClosed}
 use Rattle.pm_laws.proofs.EndsLaw.{ended_alike, ended_hidden, event_same, event_within}
 use Rattle.pm_laws.proofs.EventsLaw.{hidden_fixed}
 use Rattle.pm_laws.proofs.RowFacts.{BelowLaws}

@@ -1,7 +1,7 @@
 -- The two facts of each change of rows: made in both books it keeps them alike beyond the border, and made in one alone it
 -- does so where it isn't seen.
 use Rattle.std.proofs.Common.{◌≡◌, ℕ, Bool, true, false, not, ◌&&◌, ◌||◌, ◌==◌, if◌then◌else◌, List, map, refl, sym, ◌∙◌, ap, subst}
-use Rattle.std.specs.List.{list_any}
+use Rattle.std.specs.List.{list_any, AllByRecursion as Each}
 use Rattle.std.proofs.lemmas.Bool.{eqb-true}
 use Rattle.pm_base.specs.declared.caps.Caps.{Caps}
 use Rattle.pm_base.specs.declared.names.Mode.{Mode}
@@ -12,7 +12,7 @@ use Rattle.pm_rows.specs.declared.row.Change.TheVariants.{Request, Release, Set,
 use Rattle.pm_rows.specs.declared.row.Entry.{Entry}
 use Rattle.pm_rows.specs.declared.row.Row.{Row}
 use Rattle.pm_rows.specs.declared.row.RowSeed.{RowSeed}
-use Rattle.pm_rows.specs.Rows.{applied, set_in, is_at, is_rival, change_at, settled_at}
+use Rattle.pm_rows.specs.Rows.{applied, cleared, cleared_entry, dropped_at, loaded, reloaded, set_in, is_at, is_rival, change_at, settled_at}
 use Rattle.pm_rows.specs.Shift.{shifted_row, is_taken, shift_at}
 use Rattle.pm_laws.specs.Agree.{SameRow, IsWithin, SameRows}
 use Rattle.pm_laws.specs.Border.{Border, IsBeyond}
@@ -20,15 +20,17 @@ use Rattle.pm_laws.specs.Both.{Both}
 use Rattle.pm_object.specs.declared.object.Object.{Object}
 use Rattle.pm_topology.specs.declared.topology.Topology.{Topology}
 use Rattle.pm_topology.specs.Units.{UnitLaws}
+use Rattle.pm_topology.specs.Places.{KindLaws}
 use Rattle.pm_procs.specs.Procs.{has_member}
 use Rattle.pm_core.specs.Members.{members_of, owns}
 use Rattle.pm_laws.specs.Seen.{is_arming}
 use Rattle.pm_laws.proofs.AgreeLaw.{clash}
 use Rattle.pm_laws.proofs.Places.{Both-map, Both-map_left, Both-any, Each-map}
 
--- what the crates below promise: a shift arms and holds by the two modes alone, a master's processors are its own, and the units of
--- a chip stand in order
+-- what the crates below promise: the kind of a node is that of its entry, a shift arms and holds by the two modes alone, a
+-- master's processors are its own, and the units of a chip stand in order
 pub record BelowLaws : Type 0 where
+  pub kinds : KindLaws
   pub armed : (from to : Mode) (taken other : Bool) (a b : Row) → a.armed ≡ b.armed → (shifted_row from to taken a).armed ≡ (shifted_row from to other b).armed
   pub owned : (object : Object) (t : Topology) (m p : ℕ) → has_member m p (members_of object t) ≡ true → owns object t m p ≡ true
   pub hold : (from to : Mode) (taken other : Bool) (a b : Row) → a.hold ≡ b.hold → (shifted_row from to taken a).hold ≡ (shifted_row from to other b).hold
@@ -53,7 +55,7 @@ record RewrittenAlike (border : Border) (x : Entry) (r s : Row) : Type 0 where
 alike_if : (border : Border) (b : Bool) (x y : Entry) (r s : Row) → SameRow border x y → RewrittenAlike border x r s → SameRow border (rewritten b r x) (rewritten b s y)
 alike_if border false x y r s same alike = same
 alike_if border true x y r s same alike =
-    record { seed = same.seed; closed = same.closed; armed = alike.armed; hold = alike.hold; row = alike.row }
+    record { seed = same.seed; closed = same.closed; users = same.users; armed = alike.armed; hold = alike.hold; row = alike.row }
 
 alike_by : (border : Border) (b c : Bool) (x y : Entry) (r s : Row) → b ≡ c → SameRow border x y → RewrittenAlike border x r s → SameRow border (rewritten b r x) (rewritten c s y)
 alike_by border b c x y r s is same alike =
@@ -68,6 +70,7 @@ unseen_if border true x y r same traceless =
     record {
       seed = same.seed;
       closed = same.closed;
+      users = same.users;
       armed = λ is. alike.armed is ∙ same.armed is;
       hold = λ is. alike.hold is ∙ same.hold is;
       row = λ is. alike.row is ∙ same.row is;
@@ -270,3 +273,62 @@ rows_shifted_unseen border m from to a b within same =
     rows_map_left border border.some (shift_at a m from to) a b
     (λ x. pair_kept (x.seed.master == m) (shifted_row from to (is_taken a x) x.row) x)
     (own_unseen border m (λ x. shifted_row from to (is_taken a x) x.row) within) same
+
+-- ---- rows that are cleared
+
+drop_alike : (border : Border) (s : ℕ) (x y : Entry) → SameRow border x y → SameRow border (dropped_at s x) (dropped_at s y)
+drop_alike border s x y same =
+    alike_by border (x.seed.slave == s) (y.seed.slave == s) x y (cleared x.row) (cleared y.row)
+    (ap (λ (seed : RowSeed). seed.slave == s) same.seed) same
+    (record { armed = λ is. refl; hold = λ is. refl; row = λ is. ap cleared (same.row is) })
+
+pub rows_dropped_alike : (border : Border) (s : ℕ) (a b : List Entry) → SameRows border border.some a b → SameRows border border.some (map (dropped_at s) a) (map (dropped_at s) b)
+rows_dropped_alike border s a b same =
+    let pair : (x : Entry) → (dropped_at s x).seed ≡ x.seed = λ x. pair_kept (x.seed.slave == s) (cleared x.row) x in
+    rows_map border border.some (dropped_at s) (dropped_at s) a b pair pair (λ both. drop_alike border s) same
+
+-- on a slave that no master beyond may use
+drop_unseen : (border : Border) (s : ℕ) → border.used s ≡ false → (x y : Entry) → SameRow border x y → SameRow border (dropped_at s x) y
+drop_unseen border s unused x y same =
+    unseen_if border (x.seed.slave == s) x y (cleared x.row) same (λ is.
+    let there : x.seed.slave ≡ s = eqb-true x.seed.slave s is in
+    within_traceless border x y (cleared x.row) same (same.users (ap border.used there ∙ unused)))
+
+pub rows_dropped_unseen : (border : Border) (s : ℕ) (a b : List Entry) → border.used s ≡ false → SameRows border border.some a b → SameRows border border.some (map (dropped_at s) a) b
+rows_dropped_unseen border s a b unused same =
+    let pair : (x : Entry) → (dropped_at s x).seed ≡ x.seed = λ x. pair_kept (x.seed.slave == s) (cleared x.row) x in
+    rows_map_left border border.some (dropped_at s) a b pair (drop_unseen border s unused) same
+
+clear_alike : (border : Border) (x y : Entry) → SameRow border x y → SameRow border (cleared_entry x) (cleared_entry y)
+clear_alike border x y same =
+    record { seed = same.seed; closed = same.closed; users = same.users; armed = λ is. refl; hold = λ is. refl; row = λ is. ap cleared (same.row is) }
+
+pub rows_cleared_alike : (border : Border) (a b : List Entry) → SameRows border border.some a b → SameRows border border.some (map cleared_entry a) (map cleared_entry b)
+rows_cleared_alike border a b same =
+    rows_map border border.some cleared_entry cleared_entry a b (λ x. refl) (λ x. refl) (λ both. clear_alike border) same
+
+-- ---- rows that are as at load
+
+reload_alike : (border : Border) (x y : Entry) → SameRow border x y → SameRow border (reloaded x) (reloaded y)
+reload_alike border x y same = record {
+  seed = same.seed;
+  closed = same.closed;
+  users = same.users;
+  armed = λ is. refl;
+  hold = λ is. ap (λ (seed : RowSeed). seed.hold) same.seed;
+  row = λ is. ap loaded same.seed;
+}
+
+pub rows_reloaded_alike : (border : Border) (a b : List Entry) → SameRows border border.some a b → SameRows border border.some (map reloaded a) (map reloaded b)
+rows_reloaded_alike border a b same =
+    rows_map border border.some reloaded reloaded a b (λ x. refl) (λ x. refl) (λ both. reload_alike border) same
+
+-- where no master is beyond, rows may be rewritten in one book alone
+pub rows_alone : (border : Border) (f : Entry → Entry) (a b : List Entry) → ((x : Entry) → (f x).seed ≡ x.seed) → border.some ≡ false → SameRows border border.some a b → SameRows border border.some (map f a) b
+rows_alone border f a b pair none same =
+    let P : Bool → Type 0 = λ some. SameRows border some a b in
+    let Q : Bool → Type 0 = λ some. SameRows border some (map f a) b in
+    let S : RowSeed → Type 0 = λ seed. border.slave seed.slave ≡ false in
+    let within : Each (IsWithin border) a × Each (IsWithin border) b = subst P none same in
+    let kept : Each (IsWithin border) (map f a) × Each (IsWithin border) b = (Each-map (IsWithin border) f (λ x is. subst S (sym (pair x)) is) a within.0, within.1) in
+    subst Q (sym none) kept

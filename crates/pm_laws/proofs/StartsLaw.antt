@@ -32,7 +32,7 @@ use Rattle.pm_laws.specs.Hidden.{is_hidden}
 use Rattle.pm_laws.specs.Values.{is_beyond, starts_beyond}
 use Rattle.pm_laws.proofs.AgreeLaw.{agree_sym, agree_trans, same_sym}
 use Rattle.pm_laws.proofs.CallsAlike.{book_of}
-use Rattle.pm_laws.proofs.EventsLaw.{event_alike, event_hidden, hidden_fixed}
+use Rattle.pm_laws.proofs.EventsLaw.{event_alike, event_hidden, hidden_fixed, some_beyond}
 use Rattle.pm_laws.proofs.FollowLaw.{proc_alike}
 use Rattle.pm_laws.proofs.PathLaw.{path_alike, path_hidden}
 use Rattle.pm_laws.proofs.RowFacts.{BelowLaws}
@@ -156,7 +156,7 @@ module _ (laws : BelowLaws) (fixed : Fixed) (border : Border) (closed : IsClosed
       let first : State = book_of fixed a in
       let second : State = book_of fixed b in
       let agree : Agree border second first = agree_sym border first second (record { fixed = refl; now = same }) in
-      let hidden = event_hidden border event first closed is in
+      let hidden = event_hidden laws.kinds border event first closed is in
       let books : Each (Agree border second) (path event first) = path_hidden laws border (stages event first) second first sound.knows hidden agree in
       let after : Agree border second (effect event first) = effect_hidden laws fixed border closed event b a sound_a sound.knows is agree.now in
       let itself : Agree border second second = agree_trans border second first second agree (agree_sym border second first agree) in
@@ -177,7 +177,7 @@ module _ (laws : BelowLaws) (fixed : Fixed) (border : Border) (closed : IsClosed
       let second : State = book_of fixed b in
       let agree : Agree border first second = record { fixed = refl; now = same } in
       let alike = event_alike laws fixed border event a b sound_a.armed closed.some is same in
-      let books : Both (Agree border) (path event first) (path event second) = path_alike laws border (stages event first) (stages event second) first second alike agree in
+      let books : Both (Agree border) (path event first) (path event second) = path_alike laws border (stages event first) (stages event second) first second (some_beyond border event first closed.some is) alike agree in
       let end : Agree border (effect event first) (effect event second) = effect_alike laws fixed border closed event a b sound_a sound_b is same in
       starts_alike fixed border (effect event first).now (effect event second).now end.now
       (was_down (first ∷ path event first)) (was_down (second ∷ path event second))

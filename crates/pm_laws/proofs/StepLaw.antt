@@ -16,8 +16,8 @@ use Rattle.pm_laws.specs.Border.{Border, IsClosed}
 use Rattle.pm_laws.specs.Hidden.{is_within, changes_within, is_hidden}
 use Rattle.pm_laws.proofs.AgreeLaw.{agree_sym, agree_trans, same_sym}
 use Rattle.pm_laws.proofs.CallsAlike.{book_of}
-use Rattle.pm_laws.proofs.CallsHidden.{HasClosed}
-use Rattle.pm_laws.proofs.EventsLaw.{event_alike, event_hidden, hidden_fixed}
+use Rattle.pm_laws.proofs.HiddenLemmas.{HasClosed}
+use Rattle.pm_laws.proofs.EventsLaw.{event_alike, event_hidden, hidden_fixed, some_beyond}
 use Rattle.pm_laws.proofs.PathLaw.{stages_alike, stages_hidden}
 use Rattle.pm_laws.proofs.RowFacts.{BelowLaws}
 use Rattle.pm_laws.proofs.TalkFacts.{talked_alike, talked_unseen}
@@ -34,7 +34,7 @@ module _ (laws : BelowLaws) (fixed : Fixed) (border : Border) (closed : IsClosed
       let second : State = book_of fixed still in
       let after : State = after_stages (stages event first) first in
       let stays : Agree border second after =
-      stages_hidden laws border (stages event first) second first knows (event_hidden border event first closed is) (record { fixed = refl; now = same })
+      stages_hidden laws border (stages event first) second first knows (event_hidden laws.kinds border event first closed is) (record { fixed = refl; now = same })
       in
       agree_sym border (effect event first) second
       (talked_unseen border (talk event first) after second closed.some (talk_hidden laws border event fixed closed still now sound knows is same) (agree_sym border second after stays))
@@ -47,6 +47,7 @@ module _ (laws : BelowLaws) (fixed : Fixed) (border : Border) (closed : IsClosed
       let second : State = book_of fixed b in
       let after : Agree border (after_stages (stages event first) first) (after_stages (stages event second) second) =
       stages_alike laws border (stages event first) (stages event second) first second
+      (some_beyond border event first closed.some is)
       (event_alike laws fixed border event a b sound_a.armed closed.some is same) (record { fixed = refl; now = same })
       in
       talked_alike border (talk event first) (talk event second) (after_stages (stages event first) first) (after_stages (stages event second) second) closed.some

@@ -4,9 +4,9 @@ use Rattle.std.proofs.Common.{◌≡◌, ℕ, Bool, true, false, ◌&&◌, if◌
 use Rattle.std.specs.Prelude.{option_map, slice_set}
 use Rattle.pm_notify.specs.Mailbox.{Mail, forgotten, with_note, with_notifier, without_note}
 use Rattle.pm_notify.specs.Notify.{mail_of}
-use Rattle.pm_procs.specs.Pending.{lowered}
+use Rattle.pm_procs.specs.Pending.{dropped, lowered}
 use Rattle.pm_core.specs.State.{TalkHalf, State}
-use Rattle.pm_core.specs.Talk.{Talk, Ask, Lower, End, Forget, Notify, Take, Wait, apply_talk, talks, talked}
+use Rattle.pm_core.specs.Talk.{Talk, Ask, Lower, End, Renew, Forget, Notify, Take, Wait, apply_talk, talks, talked}
 use Rattle.pm_laws.specs.Agree.{SameEntries, SameMail, SamePending, SameTalk, Agree}
 use Rattle.pm_laws.specs.Border.{Border, HasSome, IsBeyond}
 use Rattle.pm_laws.specs.Both.{BothFrom}
@@ -61,6 +61,10 @@ told_alike border (Take m node note) a b same =
     record { pending = same.pending; mail = mail_set border m (without_note node note) a.mail b.mail (take_both border node note) same.mail }
 told_alike border (Wait m node note) a b same =
     record { pending = same.pending; mail = mail_set border m (with_note node note) a.mail b.mail (note_both border node note) same.mail }
+told_alike border Renew a b same = record {
+  pending = BothFrom-map (SamePending border) dropped dropped (λ k x y is beyond. refl) 0 a.pending b.pending same.pending;
+  mail = BothFrom-map (SameMail border) forgotten forgotten (λ k x y is beyond. forgotten_both border x y (is beyond)) 0 a.mail b.mail same.mail;
+}
 
 -- the second of two, where not both are so and the first is
 second_within : (a b : Bool) → (a && b) ≡ false → a ≡ true → b ≡ false
@@ -100,6 +104,11 @@ told_unseen border (Wait m node note) a b some is same = record {
   mail = mail_set_left border m (with_note node note) a.mail b.mail
       (λ beyond x y each. note_left border node note x y (second_within (border.master m) (border.node node.0) is beyond) each) same.mail;
 }
+told_unseen border Renew a b some is same = record {
+  pending = BothFrom-map_left (SamePending border) dropped
+      (λ k x y each beyond. clash border.some (some k beyond) is) 0 a.pending b.pending same.pending;
+  mail = BothFrom-map_left (SameMail border) forgotten (λ k x y each beyond. clash border.some (some k beyond) is) 0 a.mail b.mail same.mail;
+}
 
 -- ---- lists of changes
 
@@ -136,7 +145,7 @@ module _ (border : Border) (some : HasSome border) where
 with_talk : (border : Border) (ps qs : List Talk) (a b : State) → Agree border a b → SameTalk border (talks ps a.now.talk) (talks qs b.now.talk) → Agree border (talked ps a) (talked qs b)
 with_talk border ps qs a b agree same = record {
   fixed = agree.fixed;
-  now = record { rows = agree.now.rows; known = agree.now.known; procs = agree.now.procs; talk = same };
+  now = record { some = agree.now.some; boot = agree.now.boot; halted = agree.now.halted; rows = agree.now.rows; known = agree.now.known; procs = agree.now.procs; lines = agree.now.lines; talk = same };
 }
 
 pub talked_alike : (border : Border) (ps qs : List Talk) (a b : State) → HasSome border → talk_part border ps ≡ talk_part border qs → Agree border a b → Agree border (talked ps a) (talked qs b)
@@ -148,7 +157,7 @@ talked_unseen border changes a b some is agree =
     let same : SameTalk border (talks changes a.now.talk) b.now.talk = talks_alike border some changes [] a.now.talk b.now.talk is agree.now.talk in
     record {
       fixed = agree.fixed;
-      now = record { rows = agree.now.rows; known = agree.now.known; procs = agree.now.procs; talk = same };
+      now = record { some = agree.now.some; boot = agree.now.boot; halted = agree.now.halted; rows = agree.now.rows; known = agree.now.known; procs = agree.now.procs; lines = agree.now.lines; talk = same };
     }
 
 -- one change, in both books and in one alone
@@ -161,5 +170,5 @@ talk_unseen border change a b some is agree =
     let same : SameTalk border (apply_talk change a.now.talk) b.now.talk = told_unseen border change a.now.talk b.now.talk some is agree.now.talk in
     record {
       fixed = agree.fixed;
-      now = record { rows = agree.now.rows; known = agree.now.known; procs = agree.now.procs; talk = same };
+      now = record { some = agree.now.some; boot = agree.now.boot; halted = agree.now.halted; rows = agree.now.rows; known = agree.now.known; procs = agree.now.procs; lines = agree.now.lines; talk = same };
     }

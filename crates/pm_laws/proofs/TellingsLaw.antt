@@ -7,10 +7,10 @@ use Rattle.pm_base.specs.declared.events.Message.{Message}
 use Rattle.pm_base.specs.declared.names.Mode.{Mode}
 use Rattle.pm_base.specs.declared.names.Mode.TheVariants.{Off, Active, Asleep, Suspending}
 use Rattle.pm_base.specs.declared.names.NodeId.{NodeId}
-use Rattle.pm_base.proofs.Booleans.{neither}
+use Rattle.pm_base.proofs.Booleans.{both, neither}
 use Rattle.pm_ipi.specs.declared.calls.AckKind.TheVariants.{Blocking}
 use Rattle.pm_ipi.specs.declared.calls.Call.{Call}
-use Rattle.pm_ipi.specs.declared.calls.Call.TheVariants.{RequestNode, RequestSuspend, RequestWakeup, SetRequirement}
+use Rattle.pm_ipi.specs.declared.calls.Call.TheVariants.{RequestNode, RequestSuspend, ForcePowerdown, RequestWakeup, SetRequirement}
 use Rattle.pm_ipi.specs.Calls.{ack_of, call_of, node_of}
 use Rattle.pm_notify.specs.declared.notes.Waiting.{Waiting}
 use Rattle.pm_procs.specs.Modes.{is_awake, same_mode}
@@ -26,7 +26,7 @@ use Rattle.pm_core.specs.Outcome.{Outcome, outcome_of}
 use Rattle.pm_core.specs.Sound.{IsSound, KnowsModes}
 use Rattle.pm_core.specs.Stages.{after_stages}
 use Rattle.pm_core.specs.State.{Fixed, Now, State}
-use Rattle.pm_core.specs.Step.{aborts, called, ended, heard_at, heard_by, heard_of, mail_after, modes_in, news, opening, path, stages, talk, time_of}
+use Rattle.pm_core.specs.Step.{aborts, called, ended, heard_at, heard_by, heard_of, is_heard, mail_after, modes_in, news, opening, path, stages, talk, time_of}
 use Rattle.pm_core.specs.Talk.{Talk, wait_of}
 use Rattle.pm_core.specs.Values.{master_place, slave_place}
 use Rattle.pm_core.specs.Views.{row_view}
@@ -38,10 +38,11 @@ use Rattle.pm_laws.specs.SeenTalk.{IsTalkUnseen, asks_beyond, ends_beyond, notes
 use Rattle.pm_laws.proofs.AgreeLaw.{agree_sym, agree_trans, same_sym}
 use Rattle.pm_laws.proofs.CallsAlike.{asks_alike, book_of, kept, row_view_alike, wake_alike}
 use Rattle.pm_laws.proofs.EndsLaw.{ended_alike, ended_hidden, event_same, event_within}
-use Rattle.pm_laws.proofs.EventsLaw.{event_alike, event_hidden}
+use Rattle.pm_laws.proofs.EventsLaw.{event_alike, event_hidden, some_beyond}
 use Rattle.pm_laws.proofs.FollowLaw.{book_mode_alike, mode_alike}
 use Rattle.pm_laws.proofs.MailsLaw.{NewsAlike, mails_alike, mails_rest, no_news, waits_within}
 use Rattle.pm_laws.proofs.NoticesLaw.{acks_beyond, ended_names, notices_alike, notices_rest}
+use Rattle.pm_laws.proofs.HeardLaw.{heard_same}
 use Rattle.pm_laws.proofs.OpeningLaw.{opening_alike, opening_hidden, parts_alike}
 use Rattle.pm_laws.proofs.PathLaw.{stages_alike, stages_hidden}
 use Rattle.pm_laws.proofs.RowFacts.{BelowLaws}
@@ -80,19 +81,20 @@ module _ (laws : BelowLaws) (border : Border) where
       keeps_within m (same_mode (mode_of_master after.fixed after.now.core m) Asleep) notes is
 
   heard_hidden : (master : NodeId) (message : Message) (m : ℕ) (now after : State) (awake : Bool)
-      → is_awake (mode_of_master now.fixed now.now.core m) ≡ awake
+      → is_heard m now ≡ awake
       → master_place master after ≡ Some m → Agree border now after
       → IsTalkUnseen border (kept_of (heard_by master (call_of message) (if awake then Some (called m (call_of message) now) else None)) after)
   heard_hidden master message m now after false is place agree = refl
   heard_hidden master message m now after true is place agree =
       let notes : List Waiting = notes_of (call_of message) (called m (call_of message) now) in
-      ap (λ at. talk_part border (kept_at at notes after)) place ∙ at_hidden m now after notes (border.master m) refl agree is
+      ap (λ at. talk_part border (kept_at at notes after)) place
+      ∙ at_hidden m now after notes (border.master m) refl agree (both (not now.now.core.halted) (is_awake (mode_of_master now.fixed now.now.core m)) is).1
 
   place_hidden : (master : NodeId) (message : Message) (now after : State) (place : Option ℕ) → master_place master after ≡ place → Agree border now after
       → IsTalkUnseen border (heard_from master message now place after)
   place_hidden master message now after None is agree = refl
   place_hidden master message now after (Some m) is agree =
-      heard_hidden master message m now after (is_awake (mode_of_master now.fixed now.now.core m)) refl is agree
+      heard_hidden master message m now after (is_heard m now) refl is agree
 
   -- beside the book after the stages, which is of the same object
   pub kept_hidden : (event : Event) (now : State) → Agree border now (after_stages (stages event now) now)
@@ -122,6 +124,7 @@ module _ (laws : BelowLaws) (border : Border) where
         → notes_of call (called m call first) ≡ notes_of call (called m call second)
     notes_same m (RequestSuspend node ack latency state) beyond some plain =
         ap (notes_of (RequestSuspend node ack latency state)) (asks_alike laws fixed border m ack latency state node a b plain same)
+    notes_same m (ForcePowerdown node ack) beyond some plain = refl
     notes_same m (RequestWakeup node address ack) beyond some plain =
         ap (λ view. notes_of (RequestWakeup node address ack) (outcome_of (request_wakeup address ack view)))
         (wake_alike fixed border m (kind_of fixed.topology node) a b plain same)
@@ -162,8 +165,7 @@ module _ (laws : BelowLaws) (border : Border) where
     place_alike master message c d (Some m) at some is after =
         let parts = neither (not (border.master m)) (changes_within border (call_of message) first) is in
         let beyond : IsBeyond border m = kept (border.master m) parts.0 in
-        heard_alike master message m c d (is_awake (mode_of_master fixed a.core m)) (is_awake (mode_of_master fixed b.core m))
-        (ap is_awake (mode_alike laws fixed border m a b beyond same)) at
+        heard_alike master message m c d (is_heard m first) (is_heard m second) (heard_same laws fixed border m a b beyond same) at
         (keeps_alike m c d (notes_of (call_of message) (called m (call_of message) first)) (notes_of (call_of message) (called m (call_of message) second)) beyond after
         (notes_same m (call_of message) beyond (some m beyond) parts.1))
 
@@ -186,7 +188,7 @@ module _ (laws : BelowLaws) (border : Border) (event : Event) (fixed : Fixed) (c
   ended_acks now sound k =
       let book : State = book_of fixed now in
       acks_beyond border k (ended event book)
-      (ended_names fixed border closed now.talk.pending sound.pending book (path event book) (aborts event book) (time_of event))
+      (ended_names fixed border closed now.talk.pending sound.pending book (path event book) (aborts event book) (time_of event book))
 
   -- ---- an event that does the same in both
 
@@ -212,6 +214,7 @@ module _ (laws : BelowLaws) (border : Border) (event : Event) (fixed : Fixed) (c
       → Same fixed border (later event fixed a).now (later event fixed b).now
   after_alike a b sound is same =
       (stages_alike laws border (stages event (book_of fixed a)) (stages event (book_of fixed b)) (book_of fixed a) (book_of fixed b)
+      (some_beyond border event (book_of fixed a) closed.some is)
       (event_alike laws fixed border event a b sound.armed closed.some is same) (record { fixed = refl; now = same })).now
 
   pub talk_alike : (a b : Now) → IsSound (book_of fixed a) → IsSound (book_of fixed b) → is_hidden border event (book_of fixed a) ≡ false → Same fixed border a b
@@ -242,7 +245,7 @@ module _ (laws : BelowLaws) (border : Border) (event : Event) (fixed : Fixed) (c
       → Same fixed border still (later event fixed now).now
   after_hidden still now knows is same =
       (stages_hidden laws border (stages event (book_of fixed now)) (book_of fixed still) (book_of fixed now) knows
-      (event_hidden border event (book_of fixed now) closed is) (record { fixed = refl; now = same })).now
+      (event_hidden laws.kinds border event (book_of fixed now) closed is) (record { fixed = refl; now = same })).now
 
   pub news_hidden : (still now : Now) → border.some ≡ true → IsSound (book_of fixed now) → KnowsModes (book_of fixed still) → is_hidden border event (book_of fixed now) ≡ true
       → Same fixed border still now → NewsAlike border (news event (book_of fixed now)) no_news

@@ -21,15 +21,16 @@ use Rattle.pm_power.specs.Forest.{child_needs, is_parent, is_up, power_needs, up
 use Rattle.pm_procs.specs.Modes.{is_awake}
 use Rattle.pm_procs.specs.declared.procs.Proc.{Proc as Processor}
 use Rattle.pm_procs.specs.Procs.{mode_at, off}
+use Rattle.pm_resets.specs.Resets.{line_value}
 use Rattle.pm_rows.specs.declared.row.Entry.{Entry}
 use Rattle.pm_rows.specs.declared.wanted.Wanted.{Wanted}
 use Rattle.pm_rows.specs.Wanted.{nothing_wanted, wanted_of, with_row}
 use Rattle.pm_core.specs.Choice.{state_for}
 use Rattle.pm_core.specs.Members.{is_place, owner_at, owns}
 use Rattle.pm_core.specs.State.{Fixed, Now, State}
-use Rattle.pm_core.specs.Values.{chosen, forest, need_of, placed, proc_child, runs, slave_child, state_at, value, value_at, value_in}
-use Rattle.pm_laws.specs.Agree.{Agree, IsWithin, Same, SameProc, SameRows}
-use Rattle.pm_laws.specs.Border.{Border, IsClosed, none_within, unit_beyond}
+use Rattle.pm_core.specs.Values.{chosen, forest, line_at, line_place, need_of, placed, proc_child, runs, slave_child, state_at, value, value_at, value_in}
+use Rattle.pm_laws.specs.Agree.{Agree, IsWithin, Same, SameLine, SameProc, SameRows}
+use Rattle.pm_laws.specs.Border.{Border, IsClosed, line_beyond, none_within, unit_beyond}
 use Rattle.pm_laws.specs.Both.{BothFrom}
 use Rattle.pm_laws.specs.Values.{is_beyond}
 use Rattle.pm_laws.proofs.AgreeLaw.{clash}
@@ -209,9 +210,15 @@ module _ (fixed : Fixed) (border : Border) (closed : IsClosed fixed.object fixed
   kind_alike (Power w) beyond = ap (λ t. cond t 1 0) (up_alike w beyond)
   kind_alike Unknown beyond = refl
 
+  pub line_alike : (place : Option ℕ) → line_beyond border place ≡ true → line_at place a.core.lines ≡ line_at place b.core.lines
+  line_alike None beyond = refl
+  line_alike (Some l) beyond =
+      ap line_value
+      (BothFrom-get (SameLine border) SameBool 0 l l false (omega arith) refl (λ x y each. each.beyond beyond) a.core.lines b.core.lines same.lines)
+
   unit_alike : (unit : Unit) → is_beyond fixed.object fixed.topology border unit ≡ true → value_in fixed a.core unit ≡ value_in fixed b.core unit
   unit_alike (Node node) beyond = kind_alike (kind_of fixed.topology node) beyond
-  unit_alike (Line line) beyond = refl
+  unit_alike (Line line) beyond = line_alike (line_place line fixed) beyond
 
 -- a unit beyond has the same value in both
 pub values_alike : (border : Border) (unit : Unit) (a b : State) → IsClosed a.fixed.object a.fixed.topology border

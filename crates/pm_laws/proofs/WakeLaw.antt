@@ -15,7 +15,7 @@ use Rattle.pm_topology.specs.declared.places.Kind.{Kind}
 use Rattle.pm_topology.specs.declared.places.Kind.TheVariants.{Proc, Slave, Power, Unknown}
 use Rattle.pm_topology.specs.Places.{kind_of}
 use Rattle.pm_core.specs.Events.{raised_at, woken, woken_at, woken_by, woken_from, woken_in}
-use Rattle.pm_core.specs.Prims.{Prim, Put_proc}
+use Rattle.pm_core.specs.Prims.{Put_proc}
 use Rattle.pm_core.specs.Sound.{ArmsOwn, arms_own, is_armed_own, is_own}
 use Rattle.pm_core.specs.State.{Fixed, Now, State}
 use Rattle.pm_laws.specs.Agree.{SameRow, Same}
@@ -23,7 +23,8 @@ use Rattle.pm_laws.specs.Border.{Border, IsBeyond}
 use Rattle.pm_laws.specs.Both.{Both}
 use Rattle.pm_laws.specs.Seen.{seen, seen_part, IsUnseen, AreAlike, AreHidden}
 use Rattle.pm_laws.proofs.CallsAlike.{book_of, rows_both}
-use Rattle.pm_laws.proofs.CallsHidden.{one_hidden, turned, within_by}
+use Rattle.pm_laws.proofs.CallsHidden.{turned}
+use Rattle.pm_laws.proofs.HiddenLemmas.{one_hidden, within_by}
 use Rattle.pm_laws.proofs.FollowLaw.{proc_alike}
 
 -- ---- unseen

@@ -13,14 +13,15 @@ use Rattle.pm_topology.specs.UnitMap.{units_in}
 use Rattle.pm_topology.specs.Units.{rises}
 use Rattle.pm_core.specs.Members.{owner_at}
 use Rattle.pm_core.specs.State.{Fixed, TalkHalf, Now, State}
-use Rattle.pm_laws.specs.Border.{Border, IsBeyond, is_told}
+use Rattle.pm_laws.specs.Border.{Border, HasSome, IsBeyond, is_told}
 use Rattle.pm_laws.specs.Both.{Both, BothFrom}
 
--- two rows are those of one pair, whose master is beyond where its slave is; of a master beyond they are armed and held
--- alike, and on a slave beyond they are equal
+-- two rows are those of one pair, whose master is beyond where its slave is, and within where no master beyond may use that
+-- slave; of a master beyond they are armed and held alike, and on a slave beyond they are equal
 pub record SameRow (border : Border) (a b : Entry) : Type 0 where
   pub seed : a.seed ≡ b.seed
   pub closed : border.slave a.seed.slave ≡ true → IsBeyond border a.seed.master
+  pub users : border.used a.seed.slave ≡ false → border.master a.seed.master ≡ false
   pub armed : IsBeyond border a.seed.master → a.row.armed ≡ b.row.armed
   pub hold : IsBeyond border a.seed.master → a.row.hold ≡ b.row.hold
   pub row : border.slave a.seed.slave ≡ true → a.row ≡ b.row
@@ -42,6 +43,11 @@ SameKnown border m a b = IsBeyond border m → a ≡ b
 pub record SameProc (fixed : Fixed) (border : Border) (p : ℕ) (a b : Proc) : Type 0 where
   pub beyond : (m : ℕ) → owner_at fixed.object fixed.topology p ≡ Some m → IsBeyond border m → a ≡ b
   pub nobodys : owner_at fixed.object fixed.topology p ≡ None → (a.mode ≡ Off) × (b.mode ≡ Off)
+
+-- a reset line beyond is asserted in both or in neither, and where no master is beyond it is released in both
+pub record SameLine (border : Border) (l : ℕ) (a b : Bool) : Type 0 where
+  pub beyond : border.line l ≡ true → a ≡ b
+  pub released : border.some ≡ false → border.line l ≡ true → (a ≡ false) × (b ≡ false)
 
 -- the same is pending on a master beyond
 abbrev pub SamePending : Border → ℕ → Option Pending → Option Pending → Type 0
@@ -71,11 +77,16 @@ pub record SameTalk (border : Border) (a b : TalkHalf) : Type 0 where
   pub pending : BothFrom (SamePending border) 0 a.pending b.pending
   pub mail : BothFrom (SameMail border) 0 a.mail b.mail
 
--- what changes of two books with the same object and chip agrees beyond the border
+-- what changes of two books with the same object and chip agrees beyond the border. Where a master is beyond, some is, and
+-- then both books are halted or neither
 pub record Same (fixed : Fixed) (border : Border) (a b : Now) : Type 0 where
+  pub some : HasSome border
+  pub boot : a.core.rows.boot ≡ b.core.rows.boot
+  pub halted : border.some ≡ true → a.core.halted ≡ b.core.halted
   pub rows : SameRows border border.some a.core.rows.entries b.core.rows.entries
   pub known : BothFrom (SameKnown border) 0 a.core.rows.known b.core.rows.known
   pub procs : BothFrom (SameProc fixed border) 0 a.core.procs b.core.procs
+  pub lines : BothFrom (SameLine border) 0 a.core.lines b.core.lines
   pub talk : SameTalk border a.talk b.talk
 
 -- two books agree beyond the border: they have the same object and the same chip, and what changes of them agrees there

@@ -1,7 +1,6 @@
 -- What lies beyond the reach of a master. The laws of two worlds hold of every border that is closed.
 use Rattle.std.specs.Prelude.{◌≡◌, ℕ, Bool, true, false, ◌&&◌, ◌||◌, ◌==◌, slice_get, position, Option, Some, None}
 use Rattle.std.specs.List.{All}
-use Rattle.pm_base.specs.declared.names.LineId.{LineId}
 use Rattle.pm_base.specs.declared.names.NodeId.{NodeId}
 use Rattle.pm_base.specs.declared.names.Unit.{Unit}
 use Rattle.pm_base.specs.declared.names.Unit.TheVariants.{Node, Line}
@@ -22,11 +21,12 @@ use Rattle.pm_core.specs.Views.{master_node, named_master}
 use Rattle.pm_perms.specs.Permits.{may_configure, may_reset, may_shut, may_suspend, may_use, may_wake}
 use Rattle.pm_reach.specs.Leads.{forces_above, forces_proc, targets}
 
--- which masters, slaves and power nodes are beyond, by their places; which reset lines and nodes are, by their numbers; and
--- whether any master is beyond
+-- which masters, slaves, power nodes and reset lines are beyond, by their places; which slaves a master beyond may use; which
+-- nodes are beyond, by their numbers; and whether any master is
 pub record Border : Type 0 where
   pub master : ℕ → Bool
   pub slave : ℕ → Bool
+  pub used : ℕ → Bool
   pub power : ℕ → Bool
   pub line : ℕ → Bool
   pub node : ℕ → Bool
@@ -44,10 +44,19 @@ HasSome border = (m : ℕ) → IsBeyond border m → border.some ≡ true
 abbrev pub IsPairClosed : Border → RowSeed → Type 0
 IsPairClosed border pair = border.slave pair.slave ≡ true → IsBeyond border pair.master
 
+-- the master of a permitted pair is within where no master beyond may use its slave
+abbrev pub IsUserKnown : Border → RowSeed → Type 0
+IsUserKnown border pair = border.used pair.slave ≡ false → border.master pair.master ≡ false
+
 -- the master at this place is beyond, or there is none
 abbrev pub none_within : Border → Option ℕ → Bool
 none_within border None = true
 none_within border (Some m) = border.master m
+
+-- the reset line at this place is beyond, or there is none
+abbrev pub line_beyond : Border → Option ℕ → Bool
+line_beyond border None = true
+line_beyond border (Some l) = border.line l
 
 -- the unit of this kind and place is beyond, or there is none: a processor is where its owner is
 abbrev pub unit_beyond : Object → Topology → Border → Kind → Bool
@@ -71,6 +80,10 @@ is_told border (Line line) = false
 pub record IsClosed (object : Object) (t : Topology) (border : Border) : Type 0 where
   -- who may use a slave beyond is beyond
   pub users : All (IsPairClosed border) (pairs_of object t)
+  -- a slave is one that masters beyond may use exactly where one of them may
+  pub known : All (IsUserKnown border) (pairs_of object t)
+  pub used : (s : ℕ) (slave : SlaveDef) → slice_get t.slaves s ≡ Some slave → border.used s ≡ true
+      → (k : ℕ) × IsBeyond border k × (may_use object t (master_node object.masters k) slave.node ≡ true)
   -- what stands directly below a power node beyond is beyond, or is a processor that no configured master has
   pub slaves : (s : ℕ) (slave : SlaveDef) → slice_get t.slaves s ≡ Some slave
       → border.power slave.parent ≡ true → border.slave s ≡ true
@@ -100,8 +113,9 @@ pub record IsClosed (object : Object) (t : Topology) (border : Border) : Type 0 
   pub resets : (m k l : ℕ) (line : LineDef) → slice_get t.lines l ≡ Some line
       → may_reset object t (master_node object.masters m) line.line ≡ true
       → targets object t line k ≡ true → IsBeyond border k → IsBeyond border m
-  pub lines : (m : ℕ) (line : LineId) → may_reset object t (master_node object.masters m) line ≡ true
-      → border.line line.0 ≡ true → IsBeyond border m
+  pub lines : (m l : ℕ) (line : LineDef) → slice_get t.lines l ≡ Some line
+      → may_reset object t (master_node object.masters m) line.line ≡ true
+      → border.line l ≡ true → IsBeyond border m
   -- where any master is beyond, so is who may shut down more than itself, and who may set the configuration
   pub shuts : (m : ℕ) → (may_shut object t (master_node object.masters m) 1 || may_shut object t (master_node object.masters m) 2) ≡ true
       → border.some ≡ true → IsBeyond border m

@@ -4,8 +4,11 @@ pub mod Border
 pub mod Both
 pub mod Callbacks
 pub mod Hidden
+pub mod Left
+pub mod Pulse
 pub mod Quiet
 pub mod ReachBorder
+pub mod Runs
 pub mod Seen
 pub mod SeenTalk
 pub mod Starts

@@ -1,5 +1,6 @@
 -- The border of the reach of a master: what its messages can't change, neither by themselves nor through other masters.
 use Rattle.std.specs.Prelude.{◌≡◌, ℕ, Bool, true, false, not, ◌<◌, ◌&&◌, ◌==◌, nat_lt, ◌↔◌, length, position, slice_get, Option, Some, None}
+use Rattle.std.specs.List.{list_any}
 use Rattle.std.specs.Option.{option_map}
 use Rattle.pm_base.specs.declared.names.LineId.{LineId}
 use Rattle.pm_base.specs.declared.names.NodeId.{NodeId}
@@ -7,6 +8,8 @@ use Rattle.pm_base.specs.declared.names.Unit.{Unit}
 use Rattle.pm_base.specs.declared.names.Unit.TheVariants.{Node, Line}
 use Rattle.pm_object.specs.declared.object.MasterRec.{MasterRec}
 use Rattle.pm_object.specs.declared.object.Object.{Object}
+use Rattle.pm_topology.specs.declared.topology.LineDef.{LineDef}
+use Rattle.pm_rows.specs.declared.row.RowSeed.{RowSeed}
 use Rattle.pm_topology.specs.declared.topology.PowerDef.{PowerDef}
 use Rattle.pm_topology.specs.declared.topology.SlaveDef.{SlaveDef}
 use Rattle.pm_topology.specs.declared.topology.Topology.{Topology}
@@ -14,6 +17,7 @@ use Rattle.pm_reach.specs.declared.members.MemberKind.{MemberKind}
 use Rattle.pm_reach.specs.declared.members.MemberKind.TheVariants as members
 use Rattle.pm_reach.specs.Border.{Reaches, IsIn}
 use Rattle.pm_reach.specs.Reached.{some_master, is_reached, is_brought_in}
+use Rattle.pm_core.specs.Pairs.{pairs_of}
 use Rattle.pm_laws.specs.Border.{Border, IsBeyond, node_beyond}
 
 -- the place of a configured master
@@ -39,13 +43,19 @@ abbrev pub entry_beyond : Object → Topology → Option ℕ → MemberKind → 
 entry_beyond object t from kind None = true
 entry_beyond object t from kind (Some node) = not (brings_in object t from kind (Node node))
 
+-- the reset line of a number isn't brought in, or there is none
+abbrev pub reset_beyond : Object → Topology → Option ℕ → Option LineId → Bool
+reset_beyond object t from None = true
+reset_beyond object t from (Some line) = not (brings_in object t from members.Line (Line line))
+
 -- which masters and units are beyond the reach of the master at a place, with this of the numbers of nodes
 abbrev pub unit_border : Object → Topology → Option ℕ → (ℕ → Bool) → Border
 unit_border object t from nodes = record {
   master = master_beyond object t from;
   slave = λ s. entry_beyond object t from members.Slave (option_map (λ (slave : SlaveDef). slave.node) (slice_get t.slaves s));
+  used = λ s. list_any (λ (pair : RowSeed). (pair.slave == s) && master_beyond object t from pair.master) (pairs_of object t);
   power = λ w. entry_beyond object t from members.Power (option_map (λ (power : PowerDef). power.node) (slice_get t.powers w));
-  line = λ l. not (brings_in object t from members.Line (Line (record { 0 = l })));
+  line = λ l. reset_beyond object t from (option_map (λ (line : LineDef). line.line) (slice_get t.lines l));
   node = nodes;
   some = some_master object (master_beyond object t from);
 }
@@ -68,7 +78,8 @@ pub record IsBorderOf (object : Object) (t : Topology) (from : ℕ) (border : Bo
       → (border.slave k ≡ false) ↔ IsIn object t from members.Slave (Node s.node)
   pub power : (k : ℕ) (p : PowerDef) → slice_get t.powers k ≡ Some p
       → (border.power k ≡ false) ↔ IsIn object t from members.Power (Node p.node)
-  pub line : (l : LineId) → (border.line l.0 ≡ false) ↔ IsIn object t from members.Line (Line l)
+  pub line : (k : ℕ) (l : LineDef) → slice_get t.lines k ≡ Some l
+      → (border.line k ≡ false) ↔ IsIn object t from members.Line (Line l.line)
   pub configured : (k : ℕ) → IsBeyond border k → k < length object.masters
   pub some : border.some ≡ true → (k : ℕ) × IsBeyond border k
 

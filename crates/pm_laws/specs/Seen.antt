@@ -3,7 +3,7 @@ use Rattle.std.specs.Prelude.{◌≡◌, Bool, true, false, ◌&&◌, ◌||◌, 
 use Rattle.std.specs.List.{AllByRecursion as Each}
 use Rattle.pm_rows.specs.declared.row.Change.{Change}
 use Rattle.pm_rows.specs.declared.row.Change.TheVariants.{Request, Release, Set, Limit, Arm}
-use Rattle.pm_core.specs.Prims.{Prim, At_row, Settle, Put_proc, Shift}
+use Rattle.pm_core.specs.Prims.{Prim, At_row, Settle, Put_proc, Put_line, Shift, Clear, Halt, Reload}
 use Rattle.pm_laws.specs.Border.{Border}
 use Rattle.pm_laws.specs.Both.{Both}
 
@@ -15,12 +15,18 @@ is_arming (Set mode caps) = false
 is_arming (Limit latency) = false
 is_arming (Arm target) = true
 
--- a change is seen where it belongs to a master beyond; that of a row only where its slave is beyond too, or where it arms
+-- a change is seen where it belongs to a master beyond; that of a row only where its slave is beyond too, or where it arms; and
+-- that of a reset line where the line is beyond. Rows that are cleared on a slave are seen where a master beyond may use it, and
+-- what is done to all where any master is beyond
 abbrev pub seen : Border → Prim → Bool
 seen border (At_row m s by) = border.master m && (border.slave s || is_arming by)
 seen border (Settle m) = border.master m
 seen border (Put_proc m p mode address) = border.master m
+seen border (Put_line l asserted) = border.line l
 seen border (Shift m mode) = border.master m
+seen border (Clear s) = border.used s
+seen border Halt = border.some
+seen border Reload = border.some
 
 -- of these changes, those that are seen
 abbrev pub seen_part : Border → List Prim → List Prim

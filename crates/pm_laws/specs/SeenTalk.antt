@@ -1,14 +1,17 @@
 -- What is seen from beyond a border of what masters are told, and of the requests to suspend that are made and that end.
-use Rattle.std.specs.Prelude.{◌≡◌, Bool, ◌&&◌, List, [], filter, Option, Some, None, if◌then◌else◌}
+use Rattle.std.specs.Prelude.{◌≡◌, Bool, ◌&&◌, List, [], ◌∷◌, filter, Option, Some, None, if◌then◌else◌}
+use Rattle.pm_base.specs.declared.events.Event.{Event}
 use Rattle.pm_notify.specs.declared.notes.Waiting.{Waiting}
 use Rattle.pm_core.specs.declared.ended.Ended.{Ended}
 use Rattle.pm_core.specs.declared.judgement.Asked.{Asked}
-use Rattle.pm_core.specs.Talk.{Talk, Ask, Lower, End, Forget, Notify, Take, Wait}
+use Rattle.pm_core.specs.Run.{Stand, last_stand, step_of}
+use Rattle.pm_core.specs.Step.{ended}
+use Rattle.pm_core.specs.Talk.{Talk, Ask, Lower, End, Forget, Notify, Take, Wait, Renew}
 use Rattle.pm_laws.specs.Border.{Border}
 
--- a request, and its end, are seen where the master that is asked is beyond; and the time that passes where some master is.
--- What a master asks to be told, and that it forgets, is seen where it is beyond; and a note that waits for it or is taken out
--- where the node is beyond too
+-- a request, and its end, are seen where the master that is asked is beyond; and the time that passes, and a restart of all,
+-- where some master is. What a master asks to be told, and that it forgets, is seen where it is beyond; and a note that waits for
+-- it or is taken out where the node is beyond too
 abbrev pub seen_talk : Border → Talk → Bool
 seen_talk border (Ask m request) = border.master m
 seen_talk border (Lower count) = border.some
@@ -17,6 +20,7 @@ seen_talk border (Forget m) = border.master m
 seen_talk border (Notify m node event on) = border.master m
 seen_talk border (Take m node note) = border.master m && border.node node.0
 seen_talk border (Wait m node note) = border.master m && border.node node.0
+seen_talk border Renew = border.some
 
 -- of these changes, those that are seen
 abbrev pub talk_part : Border → List Talk → List Talk
@@ -42,3 +46,9 @@ notes_beyond border notes = filter (is_about_beyond border) notes
 -- of these ends, those of requests to masters beyond
 abbrev pub ends_beyond : Border → List Ended → List Ended
 ends_beyond border ended = filter (λ (e : Ended). border.master e.target) ended
+
+-- of the requests that end in the steps of these events, one step after another, those to masters beyond
+abbrev pub ends_along : Border → List Event → Stand → List (List Ended)
+ends_along border [] stand = []
+ends_along border (event ∷ events) stand =
+    ends_beyond border (ended event stand.book) ∷ ends_along border events (last_stand stand (step_of event stand).cores)

@@ -26,7 +26,7 @@ pub fn answers_agree()
         → is_dropped (outputs event a).answer ≡ is_dropped (outputs event b).answer }
     ensures answers { (border : Border) (event : Event) (a b : State) → IsWellFormed a.fixed.topology
         → IsClosed a.fixed.object a.fixed.topology border → IsSound a → IsSound b → Agree border a b
-        → message_beyond a.fixed.object border event ≡ true
+        → message_beyond a.fixed.object a.fixed.topology border event ≡ true
         → (outputs event a).answer ≡ (outputs event b).answer }
 {
     shifts_leave_others();
@@ -46,6 +46,7 @@ pub fn callbacks_agree()
         → IsClosed book.fixed.object book.fixed.topology border → IsSound book
         → is_hidden border event book ≡ true → calls_beyond book.fixed.object border (outputs event book).calls ≡ [] }
 {
+    kinds_are_exact();
     shifts_leave_others();
     members_are_owned();
     units_stand_in_order();

@@ -18,11 +18,11 @@ ghost use Rattle.pm_topology.specs.WellFormed.{IsWellFormed};
 ghost use Rattle.pm_rows.specs.Wanted.{wanted_of};
 ghost use Rattle.pm_core.specs.Load.{load_of};
 ghost use Rattle.pm_core.specs.Members.{mode_of_master};
-ghost use Rattle.pm_core.specs.Run.{Setup, run};
+ghost use Rattle.pm_core.specs.Run.{Setup, loaded, run};
 ghost use Rattle.pm_core.specs.Sound.{IsSound, KnowsModes};
 ghost use Rattle.pm_core.specs.Stages.{after_stage, after_stages, follow, path_from};
 ghost use Rattle.pm_core.specs.State.{State};
-ghost use Rattle.pm_core.specs.Step.{asks, effect, ended, outputs, stages, talk};
+ghost use Rattle.pm_core.specs.Step.{asks, effect, ended, outputs, pulse, stages, talk};
 ghost use Rattle.pm_core.specs.Talk.{Talk, talked};
 ghost use Rattle.pm_core.specs.Values.{master_place, slave_place, value};
 ghost use Rattle.pm_core.specs.Views.{is_asked, named_master, proc_view, row_view, suspend_view, wake_view};
@@ -32,12 +32,13 @@ ghost use Rattle.pm_laws.specs.Border.{Border, HasSome, IsBeyond, IsClosed, unit
 ghost use Rattle.pm_laws.specs.Both.{Both};
 ghost use Rattle.pm_laws.specs.Callbacks.{HaveCallsAlike, calls_beyond};
 ghost use Rattle.pm_laws.specs.Hidden.{is_hidden, is_slave_within, is_within, owner_by};
+ghost use Rattle.pm_laws.specs.Pulse.{HavePulsesAlike, pulse_beyond};
 ghost use Rattle.pm_laws.specs.Quiet.{AreRunsAlike, quiet, quiet_event};
 ghost use Rattle.pm_laws.specs.ReachBorder.{IsAllBeyond, IsBorderOf, border_of, place_of};
 ghost use Rattle.pm_laws.specs.Seen.{seen, seen_part, IsUnseen, AreAlike, AreHidden};
-ghost use Rattle.pm_laws.specs.SeenTalk.{seen_talk, talk_part, IsTalkUnseen, asks_beyond, ends_beyond};
+ghost use Rattle.pm_laws.specs.SeenTalk.{seen_talk, talk_part, IsTalkUnseen, asks_beyond, ends_along, ends_beyond};
 ghost use Rattle.pm_laws.specs.Starts.{HaveStartsAlike};
-ghost use Rattle.pm_laws.specs.Values.{HaveValuesAlike, is_beyond, starts_beyond};
+ghost use Rattle.pm_laws.specs.Values.{HaveModesAlike, HaveValuesAlike, is_beyond, starts_beyond};
 
 use crate::answers::{answers_agree, callbacks_agree};
 use pm_core::{books_of_a_run, books_stay_sound, members_are_owned};
@@ -59,20 +60,21 @@ pub fn books_agree()
     units_stand_in_order();
 }
 
-/// The two facts of each change: seen and made in both books it leaves them in agreement, and unseen and
-/// made in one alone it does so too. So do two lists of changes, one in each book, with the same seen part;
-/// and a list of which nothing is seen, in one book alone.
+/// The two facts of each change: seen and made in both books it leaves them in agreement, where some master
+/// is beyond, and unseen and made in one alone it does so too. So do two lists of changes, one in each book,
+/// with the same seen part; and a list of which nothing is seen, in one book alone.
 pub fn changes_agree()
-    ensures seen { (border : Border) (prim : Prim) (a b : State) → seen border prim ≡ true
+    ensures seen { (border : Border) (prim : Prim) (a b : State) → border.some ≡ true → seen border prim ≡ true
         → Agree border a b → Agree border (changed (prim ∷ []) a) (changed (prim ∷ []) b) }
     ensures unseen { (border : Border) (prim : Prim) (a b : State) → seen border prim ≡ false
         → Agree border a b → Agree border (changed (prim ∷ []) a) b }
-    ensures alike { (border : Border) (first second : List Prim) (a b : State)
+    ensures alike { (border : Border) (first second : List Prim) (a b : State) → border.some ≡ true
         → seen_part border first ≡ seen_part border second
         → Agree border a b → Agree border (changed first a) (changed second b) }
     ensures hidden { (border : Border) (prims : List Prim) (a b : State) → IsUnseen border prims
         → Agree border a b → Agree border (changed prims a) b }
 {
+    kinds_are_exact();
     shifts_leave_others();
     members_are_owned();
     units_stand_in_order();
@@ -96,36 +98,39 @@ pub fn talks_agree()
 
 /// A master beyond has the same mode in two books that agree, since it comes from its own processors. So
 /// the same part is seen of the shifts by which the rows follow, and none of them is where the rows know
-/// the modes already; and two stages with the same seen part leave the books in agreement.
+/// the modes already; and two stages with the same seen part leave the books in agreement, where some master
+/// is beyond.
 pub fn rows_follow_alike()
     ensures mode { (border : Border) (m : ℕ) (a b : State) → IsBeyond border m → Agree border a b
         → mode_of_master a.fixed a.now.core m ≡ mode_of_master b.fixed b.now.core m }
     ensures follow { (border : Border) (a b : State) → Agree border a b
         → seen_part border (follow a) ≡ seen_part border (follow b) }
     ensures rest { (book : State) → KnowsModes book → follow book ≡ [] }
-    ensures stage { (border : Border) (first second : List Prim) (a b : State)
+    ensures stage { (border : Border) (first second : List Prim) (a b : State) → border.some ≡ true
         → seen_part border first ≡ seen_part border second
         → Agree border a b → Agree border (after_stage first a) (after_stage second b) }
 {
+    kinds_are_exact();
     shifts_leave_others();
     members_are_owned();
     units_stand_in_order();
 }
 
 /// The books along a step. Where nothing in its stages is seen each of them agrees with a book that stays,
-/// if the one before did. Where the same part of two lists of stages is seen, one by one, the books along
-/// them agree one by one, and so do the last ones.
+/// if the one before did. Where the same part of two lists of stages is seen, one by one, and some master is
+/// beyond, the books along them agree one by one, and so do the last ones.
 pub fn paths_agree()
     ensures hidden { (border : Border) (stages : List (List Prim)) (still now : State) → KnowsModes still
         → AreHidden border stages → Agree border still now → Each (Agree border still) (path_from stages now) }
     ensures last_hidden { (border : Border) (stages : List (List Prim)) (still now : State) → KnowsModes still
         → AreHidden border stages → Agree border still now → Agree border still (after_stages stages now) }
-    ensures alike { (border : Border) (first second : List (List Prim)) (a b : State)
+    ensures alike { (border : Border) (first second : List (List Prim)) (a b : State) → border.some ≡ true
         → AreAlike border first second → Agree border a b → Both (Agree border) (path_from first a) (path_from second b) }
-    ensures last_alike { (border : Border) (first second : List (List Prim)) (a b : State)
+    ensures last_alike { (border : Border) (first second : List (List Prim)) (a b : State) → border.some ≡ true
         → AreAlike border first second → Agree border a b
         → Agree border (after_stages first a) (after_stages second b) }
 {
+    kinds_are_exact();
     shifts_leave_others();
     members_are_owned();
     units_stand_in_order();
@@ -153,13 +158,14 @@ pub fn views_agree()
     ensures wanted { (border : Border) (s : ℕ) (a b : State) → border.some ≡ true → border.slave s ≡ true
         → Agree border a b → wanted_of s a.now.core.rows ≡ wanted_of s b.now.core.rows }
 {
+    kinds_are_exact();
     shifts_leave_others();
     members_are_owned();
     units_stand_in_order();
 }
 
-/// A unit beyond has the same value in two books that agree: a slave, a power node, a processor of a master beyond or of
-/// nobody; and a processor has the same mode.
+/// A unit beyond has the same value in two books that agree: a slave, a power node, a reset line, a processor of a master
+/// beyond or of nobody; and a processor has the same mode.
 pub fn values_agree()
     ensures values { (border : Border) (unit : Unit) (a b : State) → IsClosed a.fixed.object a.fixed.topology border
         → is_beyond a.fixed.object a.fixed.topology border unit ≡ true
@@ -185,6 +191,7 @@ pub fn steps_agree()
         → IsClosed book.fixed.object book.fixed.topology border
         → is_hidden border event book ≡ true → AreHidden border (stages event book) }
 {
+    kinds_are_exact();
     shifts_leave_others();
     members_are_owned();
     units_stand_in_order();
@@ -213,6 +220,7 @@ pub fn requests_agree()
         → IsClosed book.fixed.object book.fixed.topology border → IsSound book
         → is_hidden border event book ≡ true → IsTalkUnseen border (talk event book) }
 {
+    kinds_are_exact();
     shifts_leave_others();
     members_are_owned();
     units_stand_in_order();
@@ -231,6 +239,22 @@ pub fn starts_agree()
         → starts_beyond a.fixed.object a.fixed.topology border (outputs event a).starts
         ≡ starts_beyond a.fixed.object a.fixed.topology border (outputs Pass b).starts }
 {
+    kinds_are_exact();
+    shifts_leave_others();
+    members_are_owned();
+    units_stand_in_order();
+}
+
+/// The same reset line beyond is pulsed in two books that agree, and a hidden event pulses none.
+pub fn pulses_agree()
+    ensures both { (border : Border) (event : Event) (a b : State)
+        → IsClosed a.fixed.object a.fixed.topology border → Agree border a b
+        → pulse_beyond a.fixed.topology border (pulse event a) ≡ pulse_beyond a.fixed.topology border (pulse event b) }
+    ensures hidden { (border : Border) (event : Event) (book : State)
+        → IsClosed book.fixed.object book.fixed.topology border
+        → is_hidden border event book ≡ true → pulse_beyond book.fixed.topology border (pulse event book) ≡ None }
+{
+    kinds_are_exact();
     shifts_leave_others();
     members_are_owned();
     units_stand_in_order();
@@ -255,13 +279,14 @@ pub fn reach_is_closed()
     kinds_are_exact();
 }
 
-/// Nothing that a master sends changes what is beyond its reach: two books that agree there agree after an event in both,
-/// and after a message of the master in the one and nothing in the other; and in both ways the same is asked of masters
-/// beyond, the same requests to them end, and of nodes beyond they are told the same. So a run, and the run without the
-/// messages of the master, have books that agree beyond its reach after each step, and each unit beyond has the same value
-/// in both. Step by step the same processors beyond start, the same messages of masters beyond are dropped, those that name
-/// nothing within are answered the same, and the same callbacks are made to masters beyond, but for those about nodes
-/// within.
+/// Nothing that a master sends changes what is beyond its reach: two books that agree there agree after an event in
+/// both, and after a message of the master in the one and nothing in the other; and in both ways the same is asked of
+/// masters beyond, the same requests to them end, of nodes beyond they are told the same, and the same reset line
+/// beyond is pulsed. So a run, and the run without the messages of the master, have books that agree beyond its reach
+/// after each step, and each unit beyond has the same value in both, and each processor the same mode. Step by step the
+/// same processors beyond start, the same messages of masters beyond are dropped, those that name nothing within are
+/// answered the same, the same reset lines beyond are pulsed, the same requests to masters beyond end, and the same
+/// callbacks are made to them, but for those about nodes within.
 pub fn reach_keeps_apart()
     ensures event { (m : NodeId) (event : Event) (a b : State) → IsObject a.fixed.object → IsWellFormed a.fixed.topology
         → IsSound a → IsSound b
@@ -285,22 +310,34 @@ pub fn reach_keeps_apart()
         → Agree (border_of a.fixed.object a.fixed.topology m) a b
         → calls_beyond a.fixed.object (border_of a.fixed.object a.fixed.topology m) (outputs event a).calls
         ≡ calls_beyond a.fixed.object (border_of a.fixed.object a.fixed.topology m) (outputs (quiet_event m event) b).calls }
+    ensures pulse { (m : NodeId) (event : Event) (a b : State) → IsObject a.fixed.object → IsWellFormed a.fixed.topology
+        → Agree (border_of a.fixed.object a.fixed.topology m) a b
+        → pulse_beyond a.fixed.topology (border_of a.fixed.object a.fixed.topology m) (pulse event a)
+        ≡ pulse_beyond a.fixed.topology (border_of a.fixed.object a.fixed.topology m) (pulse (quiet_event m event) b) }
     ensures books { (c : Setup) (m : NodeId) (events : List Event) → IsObject c.object → IsWellFormed c.topology
         → AreRunsAlike (border_of c.object c.topology m) (run c events) (run c (quiet m events)) }
     ensures values { (c : Setup) (m : NodeId) (events : List Event) → IsObject c.object → IsWellFormed c.topology
         → HaveValuesAlike c.object c.topology (border_of c.object c.topology m) (run c events) (run c (quiet m events)) }
+    ensures modes { (c : Setup) (m : NodeId) (events : List Event) → IsObject c.object → IsWellFormed c.topology
+        → HaveModesAlike c.object c.topology (border_of c.object c.topology m) (run c events) (run c (quiet m events)) }
     ensures starts { (c : Setup) (m : NodeId) (events : List Event) → IsObject c.object → IsWellFormed c.topology
         → HaveStartsAlike c.object c.topology (border_of c.object c.topology m) (run c events) (run c (quiet m events)) }
     ensures drops { (c : Setup) (m : NodeId) (events : List Event) → IsObject c.object → IsWellFormed c.topology
         → HaveDropsAlike c.object (border_of c.object c.topology m) (run c events) (run c (quiet m events)) }
     ensures answers { (c : Setup) (m : NodeId) (events : List Event) → IsObject c.object → IsWellFormed c.topology
-        → HaveAnswersAlike c.object (border_of c.object c.topology m) (run c events) (run c (quiet m events)) }
+        → HaveAnswersAlike c.object c.topology (border_of c.object c.topology m) (run c events) (run c (quiet m events)) }
+    ensures pulses { (c : Setup) (m : NodeId) (events : List Event) → IsObject c.object → IsWellFormed c.topology
+        → HavePulsesAlike c.topology (border_of c.object c.topology m) (run c events) (run c (quiet m events)) }
+    ensures ends { (c : Setup) (m : NodeId) (events : List Event) → IsObject c.object → IsWellFormed c.topology
+        → ends_along (border_of c.object c.topology m) events (loaded c events)
+        ≡ ends_along (border_of c.object c.topology m) (quiet m events) (loaded c (quiet m events)) }
     ensures callbacks { (c : Setup) (m : NodeId) (events : List Event) → IsObject c.object → IsWellFormed c.topology
         → HaveCallsAlike c.object (border_of c.object c.topology m) (run c events) (run c (quiet m events)) }
 {
     reach_is_closed();
     steps_agree();
     requests_agree();
+    pulses_agree();
     values_agree();
     starts_agree();
     answers_agree();

@@ -1,11 +1,18 @@
-//! Laws of two books that agree beyond a border: what a master within reach does is not seen from beyond.
+//! Two books that agree beyond a border: what a master within reach does is not seen from beyond.
 #![tactic(auto)]
 
 mod answers;
+mod apart;
 mod laws;
+mod runs;
+mod worlds;
 
 pub use answers::{answers_agree, callbacks_agree};
+pub use apart::steps_keep_apart;
 pub use laws::{
-    books_agree, changes_agree, paths_agree, reach_is_closed, reach_keeps_apart, requests_agree,
-    rows_follow_alike, starts_agree, steps_agree, talks_agree, values_agree, views_agree,
+    books_agree, changes_agree, paths_agree, pulses_agree, reach_is_closed, reach_keeps_apart,
+    requests_agree, rows_follow_alike, starts_agree, steps_agree, talks_agree, values_agree,
+    views_agree,
 };
+pub use runs::run;
+pub use worlds::{quiet_event, step_both};

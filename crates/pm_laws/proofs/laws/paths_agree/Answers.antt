@@ -5,6 +5,7 @@ use Rattle.pm_laws.proofs.laws.paths_agree.Goals as goal
 pub returns : goal.returns
 returns c =
     let laws : BelowLaws = record {
+      kinds = c.kinds_are_exact.ensures;
       armed = c.shifts_leave_others.ensures.armed;
       owned = c.members_are_owned.ensures;
       hold = c.shifts_leave_others.ensures.hold;

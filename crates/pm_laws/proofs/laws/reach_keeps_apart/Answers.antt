@@ -1,7 +1,9 @@
+use Rattle.pm_laws.proofs.PulseLaw.{PulseLaws, pulse_apart}
 use Rattle.pm_laws.proofs.ReachRequests.{RequestLaws, asked_apart, ended_apart}
 use Rattle.pm_laws.proofs.ReachCalls.{CallLaws, calls_apart, callbacks_apart_of}
 use Rattle.pm_laws.proofs.ReachRun.{OutputLaws, answers_apart_of, drops_apart_of, starts_apart_of}
 use Rattle.pm_laws.proofs.ReachStep.{ApartLaws, RunLaws, event_apart, message_apart, runs_apart, values_apart}
+use Rattle.pm_laws.proofs.ReachSteps.{ends_apart_of, modes_apart_of, pulses_apart_of}
 use Rattle.pm_laws.proofs.laws.reach_keeps_apart.Goals as goal
 
 pub returns : goal.returns
@@ -22,6 +24,7 @@ returns c =
       same_ended = c.requests_agree.ensures.ended;
       none_ended = c.requests_agree.ensures.ended_hidden;
     } in
+    let pulses : PulseLaws = record { same = c.pulses_agree.ensures.both; none = c.pulses_agree.ensures.hidden } in
     let runs : RunLaws = record {
       keeps = c.books_of_a_run.ensures.step;
       load = c.books_of_a_run.ensures.load;
@@ -40,10 +43,14 @@ returns c =
       asked = asked_apart laws requests;
       ended = ended_apart laws requests;
       calls = calls_apart laws calls;
+      pulse = pulse_apart laws pulses;
       books = runs_apart laws runs;
       values = values_apart laws runs;
+      modes = modes_apart_of laws runs c.values_agree.ensures.modes;
       starts = starts_apart_of laws runs outs;
       drops = drops_apart_of laws runs outs;
       answers = answers_apart_of laws runs outs;
+      pulses = pulses_apart_of laws runs pulses;
+      ends = ends_apart_of laws runs requests;
       callbacks = callbacks_apart_of laws runs calls;
     }

@@ -1,0 +1,232 @@
+-- Nothing is seen of a force and of a shutdown by a master within reach.
+use Rattle.std.proofs.Common.{◌≡◌, ℕ, ◌+◌, Bool, true, false, ◌&&◌, ◌||◌, ◌==◌, if◌then◌else◌, List, [], ◌∷◌, ◌++◌, slice_get, Option, Some, None, is_none, is_some, nat_le, zero, suc, refl, sym, ◌∙◌, ap, inl, inr, arith}
+use Rattle.std.specs.List.{enumerate_from, list_all}
+use Rattle.std.proofs.lemmas.Bool.{eqb-true}
+use Rattle.std.proofs.lemmas.List.Elements.{filter-append}
+use Rattle.pm_base.proofs.Booleans.{both, either, first_passes, later_passes, pair_of}
+use Rattle.pm_base.proofs.Tests.{present_from}
+use Rattle.pm_base.specs.declared.names.Mode.TheVariants.{Off, Active}
+use Rattle.pm_base.specs.declared.names.NodeId.{NodeId}
+use Rattle.pm_object.specs.declared.object.Object.{Object}
+use Rattle.pm_topology.specs.declared.places.Kind.{Kind}
+use Rattle.pm_topology.specs.declared.places.Kind.TheVariants.{Proc, Slave, Power, Unknown}
+use Rattle.pm_topology.specs.declared.topology.PowerDef.{PowerDef}
+use Rattle.pm_topology.specs.declared.topology.ProcDef.{ProcDef}
+use Rattle.pm_topology.specs.declared.topology.SlaveDef.{SlaveDef}
+use Rattle.pm_topology.specs.declared.topology.Topology.{Topology}
+use Rattle.pm_topology.specs.Places.{IsKind, KindLaws, is_below, kind_of}
+use Rattle.pm_ipi.specs.Calls.{ack_kind}
+use Rattle.pm_ipi.specs.Status.{invalid_node, invalid_parameter, no_access}
+use Rattle.pm_perms.specs.Permits.{can_be_forced, is_in, master_record, may_force, may_shut, pair_mask}
+use Rattle.pm_reach.specs.Leads.{forces_above, forces_at, forces_proc}
+use Rattle.pm_core.specs.declared.scope.Scope.{Scope}
+use Rattle.pm_core.specs.declared.scope.Scope.TheVariants.{Under, Own, All}
+use Rattle.pm_core.specs.Members.{owner_at}
+use Rattle.pm_core.specs.Outcome.{Check, Deed, judged, must}
+use Rattle.pm_core.specs.Prims.{Prim, Put_proc, Clear, Halt, Reload}
+use Rattle.pm_core.specs.Scope.{clear_at, clears, clears_from, is_slave_under, is_under, off_at, off_by, offs, offs_from, takes}
+use Rattle.pm_core.specs.State.{Fixed, State}
+use Rattle.pm_core.specs.Step.{called}
+use Rattle.pm_core.specs.Views.{master_node}
+use Rattle.pm_core.specs.calls.ForcePowerdown.{force_powerdown}
+use Rattle.pm_core.specs.calls.SystemShutdown.{all_stages, first_own, own_stages, starting, system_shutdown, system_shutdown_checks}
+use Rattle.pm_ipi.specs.declared.calls.Call.TheVariants.{ForcePowerdown, SystemShutdown}
+use Rattle.pm_laws.specs.Border.{Border, HasSome, IsClosed}
+use Rattle.pm_laws.specs.Seen.{seen, seen_part, IsUnseen, AreHidden}
+use Rattle.pm_laws.proofs.AgreeLaw.{clash}
+use Rattle.pm_laws.proofs.HiddenLemmas.{HasClosed, one_hidden, within_by}
+use Rattle.pm_laws.proofs.Places.{StandsFrom, same_entry, stands_first, stands_from_start, stands_later}
+use Rattle.pm_laws.proofs.PrimFacts.{placed_by}
+
+-- ---- a call whose checks pass
+
+abbrev pub passes : Check → Bool
+passes check = is_none check
+
+judged_hides : (border : Border) (checks : List Check) (deed : Deed) → (list_all passes checks ≡ true → AreHidden border deed.stages) → AreHidden border (judged checks deed).stages
+judged_hides border [] deed hides = hides refl
+judged_hides border (None ∷ checks) deed hides = judged_hides border checks deed hides
+judged_hides border (Some response ∷ checks) deed hides = tt
+
+pub must_pass : (holds : Bool) (status : ℕ) → passes (must holds status) ≡ true → holds ≡ true
+must_pass true status is = refl
+must_pass false status is = cc
+
+-- ---- processors that go off
+
+off_hidden : (border : Border) (owner : Option ℕ) (p : ℕ) → ((k : ℕ) → owner ≡ Some k → border.master k ≡ false) → IsUnseen border (off_by owner p)
+off_hidden border None p within = refl
+off_hidden border (Some m) p within = one_hidden border (Put_proc m p Off 0) (within m refl)
+
+taken_hidden : (border : Border) (owner : Option ℕ) (p : ℕ) (taken : Bool) → (taken ≡ true → (k : ℕ) → owner ≡ Some k → border.master k ≡ false) → IsUnseen border (if taken then off_by owner p else [])
+taken_hidden border owner p true within = off_hidden border owner p (within refl)
+taken_hidden border owner p false within = refl
+
+-- the owner of each processor that is taken is within
+abbrev TakesWithin : Border → Fixed → Scope → Type 0
+TakesWithin border fixed scope = (q : ℕ) (proc : ProcDef) → slice_get fixed.topology.procs q ≡ Some proc → takes fixed scope q proc.node ≡ true
+    → (k : ℕ) → owner_at fixed.object fixed.topology q ≡ Some k → border.master k ≡ false
+
+offs_from_hidden : (border : Border) (fixed : Fixed) (scope : Scope) → TakesWithin border fixed scope → (p : ℕ) (procs : List ProcDef) → StandsFrom fixed.topology.procs p procs → IsUnseen border (offs_from fixed scope p procs)
+offs_from_hidden border fixed scope within p [] stands = refl
+offs_from_hidden border fixed scope within p (proc ∷ procs) stands =
+    let first : List Prim = off_at fixed scope p proc.node in
+    let later : List Prim = offs_from fixed scope (p + 1) procs in
+    let here : slice_get fixed.topology.procs p ≡ Some proc = stands_first fixed.topology.procs p proc procs stands in
+    filter-append (seen border) first later
+    ∙ (ap (λ l. l ++ seen_part border later) (taken_hidden border (owner_at fixed.object fixed.topology p) p (takes fixed scope p proc.node) (within p proc here))
+    ∙ offs_from_hidden border fixed scope within (p + 1) procs (stands_later fixed.topology.procs p proc procs stands))
+
+offs_hidden : (border : Border) (fixed : Fixed) (scope : Scope) → TakesWithin border fixed scope → IsUnseen border (offs fixed scope)
+offs_hidden border fixed scope within = offs_from_hidden border fixed scope within 0 fixed.topology.procs (stands_from_start fixed.topology.procs)
+
+-- ---- rows that are cleared
+
+cleared_hidden : (border : Border) (s : ℕ) (below : Bool) → (below ≡ true → border.used s ≡ false) → IsUnseen border (if below then Clear s ∷ [] else [])
+cleared_hidden border s true unused = one_hidden border (Clear s) (unused refl)
+cleared_hidden border s false unused = refl
+
+-- no master beyond may use a slave below the forced node
+abbrev ClearsUnused : Border → Fixed → NodeId → Type 0
+ClearsUnused border fixed forced = (s : ℕ) (slave : SlaveDef) → slice_get fixed.topology.slaves s ≡ Some slave
+    → is_slave_under fixed.topology (kind_of fixed.topology forced) slave.node ≡ true → border.used s ≡ false
+
+clears_from_hidden : (border : Border) (fixed : Fixed) (forced : NodeId) → ClearsUnused border fixed forced → (s : ℕ) (slaves : List SlaveDef) → StandsFrom fixed.topology.slaves s slaves → IsUnseen border (clears_from fixed forced s slaves)
+clears_from_hidden border fixed forced unused s [] stands = refl
+clears_from_hidden border fixed forced unused s (slave ∷ slaves) stands =
+    let first : List Prim = clear_at fixed forced s slave.node in
+    let later : List Prim = clears_from fixed forced (s + 1) slaves in
+    let here : slice_get fixed.topology.slaves s ≡ Some slave = stands_first fixed.topology.slaves s slave slaves stands in
+    filter-append (seen border) first later
+    ∙ (ap (λ l. l ++ seen_part border later) (cleared_hidden border s (is_slave_under fixed.topology (kind_of fixed.topology forced) slave.node) (unused s slave here))
+    ∙ clears_from_hidden border fixed forced unused (s + 1) slaves (stands_later fixed.topology.slaves s slave slaves stands))
+
+clears_hidden : (border : Border) (fixed : Fixed) (forced : NodeId) → ClearsUnused border fixed forced → IsUnseen border (clears fixed forced)
+clears_hidden border fixed forced unused = clears_from_hidden border fixed forced unused 0 fixed.topology.slaves (stands_from_start fixed.topology.slaves)
+
+-- ---- a force
+
+-- an entry stands beside its place
+numbered : {X : Type 0} (k : ℕ) (xs : List X) (i at : ℕ) (x : X) → at ≡ k + i → slice_get xs i ≡ Some x → slice_get (enumerate_from k xs) i ≡ Some (at, x)
+numbered k [] i at x is here = cc
+numbered k (y ∷ ys) zero at x is here = let place : k ≡ at = omega (arith, is) in let same : y ≡ x = cc in cc
+numbered k (y ∷ ys) (suc i) at x is here = numbered (k + 1) ys i at x (omega (arith, is)) here
+
+-- a power node above a node is forced
+above_forced : (object : Object) (t : Topology) (master node forced : NodeId) (w : ℕ) → IsKind t forced (Power w) → is_below t w node ≡ true → may_force object t master forced ≡ true → forces_above object t master node ≡ true
+above_forced object t master node forced w is below may =
+    let power : PowerDef = is.0 in
+    let own : may_force object t master power.node ≡ true = ap (λ n. may_force object t master (record { 0 = n })) is.2 ∙ may in
+    present_from (λ (e : ℕ × PowerDef). forces_at object t master node e.0 e.1) (enumerate_from 0 t.powers) w (w, power)
+    (numbered 0 t.powers w w power (omega arith) is.1) (pair_of (is_below t w node) (may_force object t master power.node) below own)
+
+proc_forced : (object : Object) (t : Topology) (master forced : NodeId) (kind : Kind) (q : ℕ) (proc : ProcDef) → IsKind t forced kind → slice_get t.procs q ≡ Some proc → is_under t kind q proc.node ≡ true → may_force object t master forced ≡ true → forces_proc object t master proc.node ≡ true
+proc_forced object t master forced (Proc r) q proc is here under may =
+    let own : slice_get t.procs q ≡ Some is.0 = ap (slice_get t.procs) (eqb-true q r under) ∙ is.1 in
+    let same : proc ≡ is.0 = same_entry proc is.0 (slice_get t.procs q) here own in
+    let number : proc.node.0 ≡ forced.0 = ap (λ (p : ProcDef). p.node.0) same ∙ is.2 in
+    first_passes (may_force object t master proc.node) (forces_above object t master proc.node)
+    (ap (λ n. may_force object t master (record { 0 = n })) number ∙ may)
+proc_forced object t master forced (Power w) q proc is here under may =
+    later_passes (may_force object t master proc.node) (forces_above object t master proc.node)
+    (above_forced object t master proc.node forced w is under may)
+proc_forced object t master forced (Slave s) q proc is here under may = cc
+proc_forced object t master forced Unknown q proc is here under may = cc
+
+slave_forced : (object : Object) (t : Topology) (master forced : NodeId) (kind : Kind) (node : NodeId) → IsKind t forced kind → is_slave_under t kind node ≡ true → may_force object t master forced ≡ true → forces_above object t master node ≡ true
+slave_forced object t master forced (Power w) node is under may = above_forced object t master node forced w is under may
+slave_forced object t master forced (Proc p) node is under may = cc
+slave_forced object t master forced (Slave s) node is under may = cc
+slave_forced object t master forced Unknown node is under may = cc
+
+pub force_hidden : KindLaws → (border : Border) (m ack : ℕ) (node : NodeId) (book : State) → HasClosed border book → border.master m ≡ false → AreHidden border (called m (ForcePowerdown node ack) book).stages
+force_hidden laws border m ack node book closed within =
+    let fixed : Fixed = book.fixed in
+    let object : Object = fixed.object in
+    let t : Topology = fixed.topology in
+    let caller : NodeId = master_node object.masters m in
+    let call = force_powerdown fixed m node ack in
+    judged_hides border call.checks call.deed (λ passing.
+    let first = passes (must (is_some (ack_kind ack)) invalid_parameter) in
+    let second = passes (must (can_be_forced (kind_of t node)) invalid_node) in
+    let third = passes (must (may_force object t caller node) no_access) in
+    let rest = both first (second && (third && true)) passing in
+    let last = both second (third && true) rest.1 in
+    let may : may_force object t caller node ≡ true = must_pass (may_force object t caller node) no_access (both third true last.1).0 in
+    let takes_within : TakesWithin border fixed (Under node) = λ q proc here under k own.
+    within_by (border.master k) (border.master m)
+    (closed.forces m k q proc here (proc_forced object t caller node (kind_of t node) q proc (laws.is t node) here under may) own) within
+    in
+    let unused : ClearsUnused border fixed node = λ s slave here under.
+    within_by (border.used s) (border.master m)
+    (λ used. let user = closed.used s slave here used in
+    closed.clears m user.0 s slave here (slave_forced object t caller node (kind_of t node) slave.node (laws.is t node) under may) user.2 user.1) within
+    in
+    (offs_hidden border fixed (Under node) takes_within, (clears_hidden border fixed node unused, tt)))
+
+-- ---- a shutdown
+
+own_takes : (border : Border) (fixed : Fixed) (m : ℕ) → border.master m ≡ false → TakesWithin border fixed (Own m)
+own_takes border fixed m within =
+    λ q proc here own k owner. ap border.master (placed_by m k (owner_at fixed.object fixed.topology q) own owner) ∙ within
+
+starting_hidden : (border : Border) (m : ℕ) (first : Option ℕ) → border.master m ≡ false → IsUnseen border (starting m first)
+starting_hidden border m None within = refl
+starting_hidden border m (Some p) within = one_hidden border (Put_proc m p Active 0) within
+
+own_hidden : (border : Border) (fixed : Fixed) (m : ℕ) (restarts : Bool) → border.master m ≡ false → AreHidden border (own_stages fixed m restarts)
+own_hidden border fixed m false within = (offs_hidden border fixed (Own m) (own_takes border fixed m within), tt)
+own_hidden border fixed m true within =
+    (offs_hidden border fixed (Own m) (own_takes border fixed m within), (starting_hidden border m (first_own fixed m) within, tt))
+
+all_takes : (border : Border) (fixed : Fixed) → HasSome border → border.some ≡ false → TakesWithin border fixed All
+all_takes border fixed some none = λ q proc here taken k owner. within_by (border.master k) border.some (some k) none
+
+all_hidden : (border : Border) (fixed : Fixed) (restarts : Bool) → HasSome border → border.some ≡ false → AreHidden border (all_stages fixed restarts)
+all_hidden border fixed false some none = (offs_hidden border fixed All (all_takes border fixed some none), (one_hidden border Halt none, tt))
+all_hidden border fixed true some none = (offs_hidden border fixed All (all_takes border fixed some none), (one_hidden border Reload none, tt))
+
+-- who may shut down more than itself
+more_shut : (object : Object) (t : Topology) (caller : NodeId) (subtype : ℕ) → (subtype == 0) ≡ false → may_shut object t caller subtype ≡ true → (may_shut object t caller 1 || may_shut object t caller 2) ≡ true
+more_shut object t caller subtype more may =
+    let permits : Bool = is_in (master_record object caller) (pair_mask object.shutdown subtype) in
+    elim (either (is_some (master_record object caller) && (subtype == 0)) (((subtype == 1) || (subtype == 2)) && permits) may) [
+      | inl own ↦ clash (subtype == 0) (both (is_some (master_record object caller)) (subtype == 0) own).1 more
+      | inr all ↦ elim (either (subtype == 1) (subtype == 2) (both ((subtype == 1) || (subtype == 2)) permits all).0) [
+        | inl one ↦
+            first_passes (may_shut object t caller 1) (may_shut object t caller 2) (ap (may_shut object t caller) (sym (eqb-true subtype 1 one)) ∙ may)
+        | inr two ↦
+            later_passes (may_shut object t caller 1) (may_shut object t caller 2) (ap (may_shut object t caller) (sym (eqb-true subtype 2 two)) ∙ may)
+      ]
+    ]
+
+-- the checks of a shutdown that is no scope: the caller may shut that much down
+pub may_shut_down : (fixed : Fixed) (m shutdown_type subtype : ℕ) → (shutdown_type == 2) ≡ false → list_all passes (system_shutdown_checks fixed m shutdown_type subtype) ≡ true → may_shut fixed.object fixed.topology (master_node fixed.object.masters m) subtype ≡ true
+may_shut_down fixed m shutdown_type subtype no_scope passing =
+    let may : Bool = may_shut fixed.object fixed.topology (master_node fixed.object.masters m) subtype in
+    let first = passes (must (nat_le shutdown_type 2 && nat_le subtype 2) invalid_parameter) in
+    let second = passes (must ((shutdown_type == 2) || may) no_access) in
+    let one : ((shutdown_type == 2) || may) ≡ true =
+    must_pass ((shutdown_type == 2) || may) no_access (both second true (both first (second && true) passing).1).0
+    in
+    sym (ap (λ b. b || may) no_scope) ∙ one
+
+-- so where a master within may shut down more than itself, no master is beyond
+pub none_beyond : (border : Border) (fixed : Fixed) (m subtype : ℕ) → IsClosed fixed.object fixed.topology border → border.master m ≡ false → (subtype == 0) ≡ false → may_shut fixed.object fixed.topology (master_node fixed.object.masters m) subtype ≡ true → border.some ≡ false
+none_beyond border fixed m subtype closed within more may =
+    within_by border.some (border.master m)
+    (closed.shuts m (more_shut fixed.object fixed.topology (master_node fixed.object.masters m) subtype more may)) within
+
+stages_hidden : (border : Border) (fixed : Fixed) (m shutdown_type subtype : ℕ) (scope own restarts : Bool) → IsClosed fixed.object fixed.topology border → border.master m ≡ false → (shutdown_type == 2) ≡ scope → (subtype == 0) ≡ own → list_all passes (system_shutdown_checks fixed m shutdown_type subtype) ≡ true
+    → AreHidden border (if scope then [] else if own then own_stages fixed m restarts else all_stages fixed restarts)
+stages_hidden border fixed m shutdown_type subtype true own restarts closed within is_scope is_own passing = tt
+stages_hidden border fixed m shutdown_type subtype false true restarts closed within is_scope is_own passing = own_hidden border fixed m restarts within
+stages_hidden border fixed m shutdown_type subtype false false restarts closed within is_scope is_own passing =
+    all_hidden border fixed restarts closed.some
+    (none_beyond border fixed m subtype closed within is_own (may_shut_down fixed m shutdown_type subtype is_scope passing))
+
+pub shutdown_hidden : (border : Border) (m shutdown_type subtype : ℕ) (book : State) → HasClosed border book → border.master m ≡ false → AreHidden border (called m (SystemShutdown shutdown_type subtype) book).stages
+shutdown_hidden border m shutdown_type subtype book closed within =
+    let call = system_shutdown book.fixed m shutdown_type subtype in
+    judged_hides border call.checks call.deed
+    (stages_hidden border book.fixed m shutdown_type subtype (shutdown_type == 2) (subtype == 0) (shutdown_type == 1) closed within refl refl)

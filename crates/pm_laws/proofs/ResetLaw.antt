@@ -1,0 +1,144 @@
+-- Nothing is seen of a reset by a master within reach: the line is within, and so is the master whose processor it resets.
+use Rattle.std.proofs.Common.{◌≡◌, ℕ, ◌==◌, Bool, true, false, if◌then◌else◌, List, [], ◌∷◌, ◌++◌, slice_get, is_some, Option, Some, None, refl, sym, ◌∙◌, ap, subst}
+use Rattle.std.specs.Prelude.{option_and_then}
+use Rattle.std.specs.Option.{option_map_or}
+use Rattle.std.proofs.lemmas.Bool.{eqb-true}
+use Rattle.pm_base.specs.declared.names.LineId.{LineId}
+use Rattle.pm_base.specs.declared.names.Mode.TheVariants.{Off}
+use Rattle.pm_base.specs.declared.names.NodeId.{NodeId}
+use Rattle.pm_base.proofs.Booleans.{equal}
+use Rattle.pm_base.proofs.Searches.{position-first}
+use Rattle.pm_ipi.specs.declared.calls.Call.TheVariants.{ResetAssert}
+use Rattle.pm_ipi.specs.Status.{invalid_node, invalid_parameter, no_access}
+use Rattle.pm_object.specs.declared.object.Object.{Object}
+use Rattle.pm_perms.specs.Owner.{owner}
+use Rattle.pm_perms.specs.Permits.{may_reset}
+use Rattle.pm_reach.specs.Leads.{owns, targets}
+use Rattle.pm_topology.specs.declared.places.Kind.{Kind}
+use Rattle.pm_topology.specs.declared.places.Kind.TheVariants.{Proc, Slave, Power, Unknown}
+use Rattle.pm_topology.specs.declared.topology.LineDef.{LineDef}
+use Rattle.pm_topology.specs.declared.topology.ProcDef.{ProcDef}
+use Rattle.pm_topology.specs.declared.topology.Topology.{Topology}
+use Rattle.pm_topology.specs.Places.{kind_at, kind_of, proc_place}
+use Rattle.pm_core.specs.declared.lines.LineView.{LineView}
+use Rattle.pm_core.specs.declared.lines.OwnedProc.{OwnedProc}
+use Rattle.pm_core.specs.Lines.{line_view, owned_by, owned_node, owned_of, reset_at, reset_by}
+use Rattle.pm_core.specs.Members.{owner_at}
+use Rattle.pm_core.specs.Outcome.{Deed, judged, must}
+use Rattle.pm_core.specs.Prims.{Prim, Put_line, Put_proc}
+use Rattle.pm_core.specs.State.{State}
+use Rattle.pm_core.specs.Step.{called}
+use Rattle.pm_core.specs.Values.{line_place}
+use Rattle.pm_core.specs.Views.{master_node}
+use Rattle.pm_core.specs.calls.ResetAssert.{is_action, line_put, reset_assert, stopped, stopped_by}
+use Rattle.pm_laws.specs.Border.{Border, IsClosed}
+use Rattle.pm_laws.specs.Seen.{seen, seen_part, IsUnseen, AreHidden}
+use Rattle.pm_laws.proofs.HiddenLemmas.{within_by}
+
+-- ---- changes
+
+unseen_more : (border : Border) (prim : Prim) (later : List Prim) → seen border prim ≡ false → IsUnseen border later → IsUnseen border (prim ∷ later)
+unseen_more border prim later is rest = ap (λ b. if b then prim ∷ seen_part border later else seen_part border later) is ∙ rest
+
+stop_unseen : (border : Border) (target : Option OwnedProc) → ((x : OwnedProc) → target ≡ Some x → border.master x.owner ≡ false) → IsUnseen border (stopped target)
+stop_unseen border None within = refl
+stop_unseen border (Some target) within = unseen_more border (Put_proc target.owner target.proc Off 0) [] (within target refl) refl
+
+stops_unseen : (border : Border) (release : Bool) (target : Option OwnedProc) → ((x : OwnedProc) → target ≡ Some x → border.master x.owner ≡ false) → IsUnseen border (if release then [] else stopped target)
+stops_unseen border true target within = refl
+stops_unseen border false target within = stop_unseen border target within
+
+-- ---- the target of a line
+
+proc_first : (proc slave power : Option ℕ) (p : ℕ) → kind_at proc slave power ≡ Proc p → proc ≡ Some p
+proc_first (Some k) slave power p is = let same : k ≡ p = cc in ap Some same
+proc_first None (Some k) power p is = cc
+proc_first None None (Some k) p is = cc
+proc_first None None None p is = cc
+
+-- the owner of a processor is that of its number
+owner_of_node : (object : Object) (t : Topology) (node : NodeId) (p : ℕ) → proc_place t.procs node.0 ≡ Some p → owner_at object t p ≡ owner object t node
+owner_of_node object t node p is =
+    let first = position-first (λ (x : ProcDef). x.node.0 == node.0) t.procs p is in
+    let id : ℕ → NodeId = λ n. record { 0 = n } in
+    let same : first.element.node ≡ node = ap id (eqb-true first.element.node.0 node.0 first.passes) in
+    ap (λ o. option_and_then (λ (proc : ProcDef). owner object t proc.node) o) first.here ∙ ap (owner object t) same
+
+targets_owner : (object : Object) (t : Topology) (line : LineDef) (node : NodeId) (k : ℕ) → line.target ≡ Some node → owner object t node ≡ Some k → targets object t line k ≡ true
+targets_owner object t line node k target is =
+    ap (λ o. option_map_or (owns object t k) o false) target
+    ∙ (ap (λ o. option_map_or (λ j. j == k) o false) is ∙ equal k k refl)
+
+module _ (border : Border) (book : State) (closed : IsClosed book.fixed.object book.fixed.topology border) (m l : ℕ) (line : LineDef)
+    (here : slice_get book.fixed.topology.lines l ≡ Some line)
+    (may : may_reset book.fixed.object book.fixed.topology (master_node book.fixed.object.masters m) line.line ≡ true)
+    (within : border.master m ≡ false) where
+  -- the owner of a processor that the line resets is within
+  owner_within : (node : NodeId) (p : ℕ) (got : Option ℕ) (x : OwnedProc) → line.target ≡ Some node → kind_of book.fixed.topology node ≡ Proc p
+      → owner_at book.fixed.object book.fixed.topology p ≡ got → owned_by got p ≡ Some x → border.master x.owner ≡ false
+  owner_within node p None x target kind own is = cc
+  owner_within node p (Some k) x target kind own is =
+      let t : Topology = book.fixed.topology in
+      let place : proc_place t.procs node.0 ≡ Some p = proc_first (proc_place t.procs node.0) _ _ p kind in
+      let owned : owner book.fixed.object t node ≡ Some k = sym (owner_of_node book.fixed.object t node p place) ∙ own in
+      let same : k ≡ x.owner = ap (λ (o : Option OwnedProc). option_map_or (λ (y : OwnedProc). y.owner) o k) is in
+      let P : ℕ → Type 0 = λ j. border.master j ≡ false in
+      subst P same
+      (within_by (border.master k) (border.master m) (closed.resets m k l line here may (targets_owner book.fixed.object t line node k target owned)) within)
+
+  kind_within : (node : NodeId) (kind : Kind) (x : OwnedProc) → line.target ≡ Some node → kind_of book.fixed.topology node ≡ kind
+      → owned_of kind book.fixed ≡ Some x → border.master x.owner ≡ false
+  kind_within node (Proc p) x target kind is = owner_within node p (owner_at book.fixed.object book.fixed.topology p) x target kind refl is
+  kind_within node (Slave s) x target kind is = cc
+  kind_within node (Power w) x target kind is = cc
+  kind_within node Unknown x target kind is = cc
+
+  target_within : (target : Option NodeId) (x : OwnedProc) → line.target ≡ target → owned_node target book.fixed ≡ Some x → border.master x.owner ≡ false
+  target_within None x target is = cc
+  target_within (Some node) x target is = kind_within node (kind_of book.fixed.topology node) x target refl is
+
+  reset_within : (x : OwnedProc) → reset_at (Some l) book.fixed ≡ Some x → border.master x.owner ≡ false
+  reset_within x is = target_within line.target x refl (sym (ap (λ o. reset_by o book.fixed) here) ∙ is)
+
+  pub line_within : border.line l ≡ false
+  line_within = within_by (border.line l) (border.master m) (closed.lines m l line here may) within
+
+-- ---- the call
+
+-- the entry of a line that has a place, and that the master at place m may reset
+pub record IsPlaced (book : State) (m l : ℕ) : Type 0 where
+  pub line : LineDef
+  pub here : slice_get book.fixed.topology.lines l ≡ Some line
+  pub may : may_reset book.fixed.object book.fixed.topology (master_node book.fixed.object.masters m) line.line ≡ true
+
+pub placed : (m : ℕ) (line : LineId) (book : State) (l : ℕ) → line_place line book.fixed ≡ Some l → (line_view m line book).permitted ≡ true → IsPlaced book m l
+placed m line book l at may =
+    let first = position-first (λ (x : LineDef). x.line.0 == line.0) book.fixed.topology.lines l at in
+    let id : ℕ → LineId = λ n. record { 0 = n } in
+    let same : first.element.line ≡ line = ap id (eqb-true first.element.line.0 line.0 first.passes) in
+    record {
+      line = first.element;
+      here = first.here;
+      may = ap (may_reset book.fixed.object book.fixed.topology (master_node book.fixed.object.masters m)) same ∙ may;
+    }
+
+placed_unseen : (border : Border) (m : ℕ) (line : LineId) (action : ℕ) (book : State) (place : Option ℕ) → IsClosed book.fixed.object book.fixed.topology border → border.master m ≡ false → line_place line book.fixed ≡ place → (line_view m line book).permitted ≡ true → IsUnseen border (line_put place (action == 1) ++ stopped_by action (reset_at place book.fixed))
+placed_unseen border m line action book None closed within at may = stops_unseen border (action == 0) None (λ x is. cc)
+placed_unseen border m line action book (Some l) closed within at may =
+    let entry : IsPlaced book m l = placed m line book l at may in
+    unseen_more border (Put_line l (action == 1)) (stopped_by action (reset_at (Some l) book.fixed))
+    (line_within border book closed m l entry.line entry.here entry.may within)
+    (stops_unseen border (action == 0) (reset_at (Some l) book.fixed) (reset_within border book closed m l entry.line entry.here entry.may within))
+
+-- a call with these three checks is hidden where its changes are once the last one passes
+checked_hidden : (border : Border) (a b c : Bool) (deed : Deed) → (c ≡ true → AreHidden border deed.stages) → AreHidden border (judged (must a invalid_node ∷ must b invalid_parameter ∷ must c no_access ∷ []) deed).stages
+checked_hidden border true true true deed hidden = hidden refl
+checked_hidden border true true false deed hidden = tt
+checked_hidden border true false c deed hidden = tt
+checked_hidden border false b c deed hidden = tt
+
+pub reset_hidden : (border : Border) (m : ℕ) (line : LineId) (action : ℕ) (book : State) → IsClosed book.fixed.object book.fixed.topology border → border.master m ≡ false → AreHidden border (called m (ResetAssert line action) book).stages
+reset_hidden border m line action book closed within =
+    let view : LineView = line_view m line book in
+    checked_hidden border (is_some view.place) (is_action action) view.permitted (reset_assert line action view).deed
+    (λ may. (placed_unseen border m line action book (line_place line book.fixed) closed within refl may, tt))
