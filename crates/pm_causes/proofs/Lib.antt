@@ -1,0 +1,4 @@
+pub mod Answered
+pub mod Calls
+pub mod Statuses
+pub mod Tests
