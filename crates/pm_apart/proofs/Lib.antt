@@ -1,0 +1,11 @@
+pub mod FilterLemmas
+pub mod LineCommands
+pub mod LinesLaw
+pub mod NodeCommands
+pub mod PartsLaw
+pub mod RecordFacts
+pub mod RunsLaw
+pub mod TablesLaw
+pub mod TextsLaw
+pub mod TurnFacts
+pub mod WholeLaw

@@ -1,0 +1,81 @@
+//! Laws of the lines of two runs, one of which is without the messages of a master.
+
+ghost use Rattle.std.specs.Prelude.{◌≡◌, ℕ, Bool, true, List, [], ◌++◌, filter, map};
+ghost use Rattle.std.specs.List.{concat};
+ghost use Rattle.pm_base.specs.declared.events.Event.{Event};
+ghost use Rattle.pm_base.specs.declared.names.NodeId.{NodeId};
+ghost use Rattle.pm_base.specs.declared.names.Unit.{Unit};
+ghost use Rattle.pm_object.specs.Grammar.{IsObject};
+ghost use Rattle.pm_topology.specs.Units.{has_unit};
+ghost use Rattle.pm_topology.specs.WellFormed.{IsWellFormed};
+ghost use Rattle.pm_core.specs.Run.{Setup};
+ghost use Rattle.pm_laws.specs.Quiet.{quiet};
+ghost use Rattle.pm_trace.specs.Line.{line_text};
+ghost use Rattle.pm_replay.specs.Drive.{Driven, driven};
+ghost use Rattle.pm_replay.specs.Drove.{Drove, NoFailure};
+ghost use Rattle.pm_replay.specs.Replay.{texts};
+ghost use Rattle.pm_replay.specs.Replayed.{run_text};
+ghost use Rattle.pm_apart.specs.Apart.{AreDrivenAlike, IsOutOfReach, StaysApart, StepsStayApart};
+ghost use Rattle.pm_apart.specs.Lines.{closing_line_of, is_about, run_lines, set_lines, step_lines};
+
+use pm_apply::{KeptValue, a_part_without_refusal, at_zero_is_a_record, each_part_is_safe};
+use pm_core::books_of_a_run;
+use pm_device::Device;
+use pm_laws::{books_agree, reach_is_closed, reach_keeps_apart, values_agree};
+use pm_topology::{unit_maps, units_stand_in_order};
+
+/// The text of a run is that of its lines, one after another, and so is the text of some of its steps. Of the lines of a
+/// run's steps those about a unit are exactly those of the commands on it, each with the number of its step; and of all
+/// its lines those about a unit of the chip are these and then its closing line.
+pub fn texts_are_lines()
+    ensures steps { (n : ℕ) (xs : List Driven) → concat (texts n xs) ≡ concat (map line_text (step_lines n xs)) }
+    ensures run { (c : Setup) (answers : List (List Bool)) (events : List Event)
+        → run_text c answers events ≡ concat (map line_text (run_lines c answers events)) }
+    ensures about { (c : Setup) (answers : List (List Bool)) (events : List Event) (unit : Unit)
+        → filter (is_about unit) (step_lines 0 (driven c answers events)) ≡ set_lines unit 0 (driven c answers events) }
+    ensures whole { (c : Setup) (answers : List (List Bool)) (events : List Event) (unit : Unit) → IsWellFormed c.topology
+        → has_unit c.topology unit ≡ true
+        → filter (is_about unit) (run_lines c answers events)
+        ≡ set_lines unit 0 (driven c answers events) ++ closing_line_of c (driven c answers events) unit }
+{
+    books_of_a_run();
+    units_stand_in_order();
+}
+
+/// Over a device that never fails, nothing that a master sends changes what is written about a unit beyond its reach: a
+/// slave, a power node, a reset line, or a processor of a master beyond or of nobody. Step by step the same commands are
+/// given on the unit, with the same values before them, as in the run without the messages of the master; its closing line
+/// is the same; and so of all lines of the run those about the unit.
+pub fn lines_stay_apart()
+    ensures commands { (c : Setup) (m : NodeId) (events : List Event) (unit : Unit) → IsObject c.object → IsWellFormed c.topology
+        → IsOutOfReach c m unit → AreDrivenAlike unit (driven c [] events) (driven c [] (quiet m events)) }
+    ensures closing { (c : Setup) (m : NodeId) (events : List Event) (unit : Unit) → IsObject c.object → IsWellFormed c.topology
+        → IsOutOfReach c m unit → closing_line_of c (driven c [] events) unit ≡ closing_line_of c (driven c [] (quiet m events)) unit }
+    ensures steps { (c : Setup) (events : List Event) → IsObject c.object → IsWellFormed c.topology → StepsStayApart c [] events }
+    ensures run { (c : Setup) (events : List Event) → IsObject c.object → IsWellFormed c.topology → StaysApart c [] events }
+{
+    reach_keeps_apart();
+    reach_is_closed();
+    values_agree();
+    books_of_a_run();
+    books_agree();
+    each_part_is_safe();
+    a_part_without_refusal();
+    at_zero_is_a_record();
+    units_stand_in_order();
+    unit_maps::<KeptValue>();
+}
+
+/// The same of a device that was driven through a run under its own answers and reported no failure: the lines of that run,
+/// and of its steps alone, that are about a unit beyond the reach of a master are those of the run without the messages of
+/// the master.
+pub fn driven_lines_stay_apart<D: Device>()
+    ensures steps { (c : Setup) (events : List Event) (answers : List (List Bool)) (old new : D) → IsObject c.object → IsWellFormed c.topology
+        → NoFailure D.Device c.topology old new → Drove D.Device c (driven c answers events) old new
+        → StepsStayApart c answers events }
+    ensures run { (c : Setup) (events : List Event) (answers : List (List Bool)) (old new : D) → IsObject c.object → IsWellFormed c.topology
+        → NoFailure D.Device c.topology old new → Drove D.Device c (driven c answers events) old new
+        → StaysApart c answers events }
+{
+    lines_stay_apart();
+}
