@@ -1,0 +1,131 @@
+-- What is noted of each unit line by line is whether its transitions in the two runs differ.
+use Rattle.std.proofs.Common.{◌≡◌, ℕ, ◌+◌, ◌≤◌, ◌==◌, ◌||◌, ◌++◌, Bool, true, false, not, cond, if◌then◌else◌, List, [], ◌∷◌, Some, length, map, take, drop, suc, refl, sym, ◌∙◌, ap, arith}
+use Rattle.std.specs.Prelude.{filter, slice_get}
+use Rattle.std.specs.List.{concat, flat_map}
+use Rattle.std.proofs.lemmas.List.{length-append, length-drop, length-map, length-take-le}
+use Rattle.pm_base.specs.declared.events.Event.{Event}
+use Rattle.pm_base.specs.declared.names.NodeId.{NodeId}
+use Rattle.pm_base.specs.declared.names.Unit.{Unit}
+use Rattle.pm_base.proofs.Booleans.{equal}
+use Rattle.pm_topology.specs.declared.topology.Topology.{Topology}
+use Rattle.pm_topology.specs.UnitMap.{TablePlaceLaws, mapped, remade, with_value_at}
+use Rattle.pm_topology.specs.Units.{units_of}
+use Rattle.pm_core.specs.Load.{load_of}
+use Rattle.pm_core.specs.Run.{Setup, Stand, core_of, run, steps_of}
+use Rattle.pm_core.specs.State.{Fixed, State}
+use Rattle.pm_core.specs.Step.{effect}
+use Rattle.pm_laws.specs.Quiet.{quiet, quiet_event}
+use Rattle.pm_trace.specs.Closing.{shown}
+use Rattle.pm_isolate.specs.declared.worlds.Worlds.{Worlds}
+use Rattle.pm_isolate.specs.Differences.{difference_line, differences, steps_line}
+use Rattle.pm_isolate.specs.Transitions.{differs, history}
+use Rattle.pm_isolate.specs.Within.{Marks, after, begun, end_text, mark_line, noted_in, stepped}
+use Rattle.pm_isolate.proofs.HistoryLemmas.{parts, parts_tell}
+
+-- ---- one note
+
+-- the marks keep their number while some of them are made anew
+pub marks_long : (f : Unit → Bool → Bool) (old : Marks) (place : ℕ) → place ≤ length old → length (mapped f (take place old) ++ drop place old) ≡ length old
+marks_long f old place within =
+    omega (arith, length-append (mapped f (take place old)) (drop place old), length-map (take place old) (remade f), length-take-le place old within, length-drop place old)
+
+pub note_step : TablePlaceLaws Bool → (f : Unit → Bool → Bool) (old now new : Marks) (place : ℕ) (mark : Unit × Bool) (next : Bool)
+    → now ≡ mapped f (take place old) ++ drop place old
+    → slice_get now place ≡ Some mark
+    → next ≡ f mark.0 mark.1
+    → new ≡ with_value_at place next now
+    → new ≡ mapped f (take (place + 1) old) ++ drop (place + 1) old
+note_step laws f old now new place mark next so_far here is sets =
+    let found : slice_get old place ≡ Some mark = sym (laws.next f old place) ∙ ap (λ (marks : Marks). slice_get marks place) (sym so_far) ∙ here in
+    sets
+    ∙ ap (λ (value : Bool). with_value_at place value now) is
+    ∙ ap (λ (marks : Marks). with_value_at place (f mark.0 mark.1) marks) so_far
+    ∙ laws.made f old place mark found
+
+-- ---- what is noted over some events
+
+-- a unit with what a test gives of it
+abbrev pub marked : (Unit → Bool) → Unit → Unit × Bool
+marked g u = (u, g u)
+
+mapped_marked : (f : Unit → Bool → Bool) (g : Unit → Bool) (units : List Unit) → mapped f (map (marked g) units) ≡ map (marked (λ u. f u (g u))) units
+mapped_marked f g [] = refl
+mapped_marked f g (u ∷ us) = ap (λ (rest : Marks). (u, f u (g u)) ∷ rest) (mapped_marked f g us)
+
+-- whether a unit was found to differ after some events, where this was known of it before them
+abbrev pub apart : NodeId → List Event → State → State → Unit → Bool → Bool
+apart m [] a b u before = before
+apart m (e ∷ es) a b u before =
+    apart m es (effect e a) (effect (quiet_event m e) b) u (noted_in (effect e a) (effect (quiet_event m e) b) u before)
+
+marks_after : (m : NodeId) (es : List Event) (w : Worlds) (g : Unit → Bool) (units : List Unit) → w.differs ≡ map (marked g) units → (after m es w).differs ≡ map (marked (λ u. apart m es w.loud w.quiet u (g u))) units
+marks_after m [] w g units is = is
+marks_after m (e ∷ es) w g units is =
+    let f : Unit → Bool → Bool = noted_in (effect e w.loud) (effect (quiet_event m e) w.quiet) in
+    marks_after m es (stepped m e w) (λ u. f u (g u)) units (ap (λ (marks : Marks). mapped f marks) is ∙ mapped_marked f g units)
+
+fixed_after : (m : NodeId) (es : List Event) (w : Worlds) → (after m es w).loud.fixed ≡ w.loud.fixed
+fixed_after m [] w = refl
+fixed_after m (e ∷ es) w = fixed_after m es (stepped m e w)
+
+-- ---- and their histories
+
+abbrev stand : State → Stand
+stand book = record { book = book }
+
+apart_true : (m : NodeId) (es : List Event) (a b : State) (u : Unit) → apart m es a b u true ≡ true
+apart_true m [] a b u = refl
+apart_true m (e ∷ es) a b u = apart_true m es (effect e a) (effect (quiet_event m e) b) u
+
+split_by : (test : Bool) (go : Bool → Bool) (rest : Bool) → go true ≡ true → go false ≡ rest → go test ≡ (test || rest)
+split_by true go rest whole later = whole
+split_by false go rest whole later = later
+
+apart_parts : (m : NodeId) (es : List Event) (a b : State) (u : Unit) (v w : ℕ) → apart m es a b u false ≡ parts (history u v (steps_of es (stand a))) (history u w (steps_of (quiet m es) (stand b)))
+apart_parts m [] a b u v w = refl
+apart_parts m (e ∷ es) a b u v w =
+    let a' : State = effect e a in
+    let b' : State = effect (quiet_event m e) b in
+    split_by (not (shown u a' == shown u b')) (λ t. apart m es a' b' u t) (parts (history u (shown u a') (steps_of es (stand a'))) (history u (shown u b') (steps_of (quiet m es) (stand b'))))
+    (apart_true m es a' b' u) (apart_parts m es a' b' u (shown u a') (shown u b'))
+
+as_long : (m : NodeId) (es : List Event) (a b : State) (u : Unit) (v w : ℕ) → length (history u v (steps_of es (stand a))) ≡ length (history u w (steps_of (quiet m es) (stand b)))
+as_long m [] a b u v w = refl
+as_long m (e ∷ es) a b u v w =
+    let a' : State = effect e a in
+    let b' : State = effect (quiet_event m e) b in
+    ap suc (as_long m es a' b' u (shown u a') (shown u b'))
+
+-- a unit differs in the two runs where it was found to differ over the events from the load on
+differs_apart : (c : Setup) (m : NodeId) (es : List Event) (u : Unit) → apart m es (load_of c.object c.topology) (load_of c.object c.topology) u false ≡ differs (run c es) (run c (quiet m es)) u
+differs_apart c m es u =
+    let load : State = load_of c.object c.topology in
+    let x : ℕ = shown u load in
+    let first : List ℕ = history u x (steps_of es (stand load)) in
+    let second : List ℕ = history u x (steps_of (quiet m es) (stand load)) in
+    apart_parts m es load load u x x
+    ∙ sym (ap (λ (same : Bool). not same || parts first second) (equal x x refl))
+    ∙ sym (parts_tell 0 0 (x ∷ first) (x ∷ second) (ap suc (as_long m es load load u x x)))
+
+-- ---- and their text
+
+line_by : (t : Topology) (u : Unit) (b : Bool) (rest : List ℕ) (us : List Unit) → rest ≡ flat_map (difference_line t) us → (if b then difference_line t u else []) ++ rest ≡ flat_map (difference_line t) (cond b (u ∷ us) us)
+line_by t u true rest us is = ap (λ (more : List ℕ). difference_line t u ++ more) is
+line_by t u false rest us is = is
+
+text_is : (t : Topology) (g d : Unit → Bool) → ((u : Unit) → g u ≡ d u) → (units : List Unit) → concat (map (mark_line t) (map (marked g) units)) ≡ flat_map (difference_line t) (filter d units)
+text_is t g d same [] = refl
+text_is t g d same (u ∷ us) =
+    ap (λ (b : Bool). (if b then difference_line t u else []) ++ concat (map (mark_line t) (map (marked g) us))) (same u)
+    ∙ line_by t u (d u) (concat (map (mark_line t) (map (marked g) us))) (filter d us) (text_is t g d same us)
+
+pub end_is : (c : Setup) (m : NodeId) (es : List Event) → end_text (after m es (begun c)) (length es) ≡ differences c m es
+end_is c m es =
+    let load : State = load_of c.object c.topology in
+    let w : Worlds = after m es (begun c) in
+    let g : Unit → Bool = λ u. apart m es load load u false in
+    let t : w.loud.fixed.topology ≡ c.topology = ap (λ (f : Fixed). f.topology) (fixed_after m es (begun c)) in
+    let marks : w.differs ≡ map (marked g) (units_of c.topology) = marks_after m es (begun c) (λ u. false) (units_of c.topology) refl in
+    ap (λ (t : Topology). concat (map (mark_line t) w.differs) ++ steps_line (length es)) t
+    ∙ ap (λ (marks : Marks). concat (map (mark_line c.topology) marks) ++ steps_line (length es)) marks
+    ∙ ap (λ (text : List ℕ). text ++ steps_line (length es)) (text_is c.topology g (differs (run c es) (run c (quiet m es))) (differs_apart c m es) (units_of c.topology))

@@ -1,0 +1,60 @@
+-- What a comparison of the two runs of a named script did, on every exit, and what Done means.
+use Rattle.std.specs.Prelude.{◌≡◌, ℕ, Bool, List, ◌++◌, map, Option, Result, Ok, Err, IfOk, ⊤}
+use Rattle.pm_base.specs.declared.errors.Exit.{Exit}
+use Rattle.pm_base.specs.declared.events.Event.{Event}
+use Rattle.pm_base.specs.declared.inputs.Inputs as Inputs
+use Rattle.pm_base.specs.declared.names.NodeId.{NodeId}
+use Rattle.pm_base.specs.declared.sink.Sink as Sink
+use Rattle.pm_base.specs.Lines.{lines_of}
+use Rattle.pm_reach.specs.declared.members.Member.{Member}
+use Rattle.pm_reach.specs.Membership.{IsReach}
+use Rattle.pm_core.specs.Run.{Setup}
+use Rattle.pm_script.specs.Meaning.{meaning}
+use Rattle.pm_script.specs.Script.{Script}
+use Rattle.pm_trace.specs.declared.faults.Fault.{Fault}
+use Rattle.pm_trace.specs.Report.{Did, Report}
+use Rattle.pm_replay.specs.Replayed.{Holds, IsScriptOf}
+use Rattle.pm_isolate.specs.Differences.{isolate_report, isolate_text}
+
+-- what is compared: the members of the reach, and a script that can be begun
+pub record Comparison : Type 0 where
+  pub members : List Member
+  pub script : Script
+
+-- the script of a comparison, or the same refusal
+abbrev pub script_of_job : Result Comparison Fault → Result Script Fault
+script_of_job (Ok job) = Ok job.script
+script_of_job (Err fault) = Err fault
+
+-- what is written of it. No device answers
+abbrev pub comparison_report : Setup → NodeId → Comparison → List (List Bool) → Report
+comparison_report c m job answers = isolate_report c m job.members job.script
+
+module _ {I : Type 0} (i : Inputs.Ghosts I) where
+  -- the script is the one that is read under the name, unless memory is wanted, and the members are those of the reach of
+  -- the master
+  pub record IsComparisonOf (c : Setup) (m : NodeId) (name : List ℕ) (old new : I) (job : Result Comparison Fault) : Type 0 where
+    pub script : IsScriptOf i name old new (script_of_job job)
+    pub reach : IfOk job (λ job. IsReach c.object c.topology m job.members)
+
+-- no device is touched
+abbrev pub TouchesNothing : Result Comparison Fault → List (List Bool) → Option ℕ → Type 0
+TouchesNothing job answers cut = ⊤
+
+module _ {I O : Type 0} (i : Inputs.Ghosts I) (o : Sink.Ghosts O) where
+  -- on every exit: what was asked for, and what was written of it
+  abbrev pub Compared : Setup → NodeId → List ℕ → I → I → O → O → Exit → Type 0
+  Compared c m name old new sink sink' exit =
+      Did o (IsComparisonOf i c m name old new) (comparison_report c m) TouchesNothing sink sink' exit
+
+  -- a script was held under the name, and what was written is the reach of the master, a line for each unit whose
+  -- transitions differ between the run of that script and the run without the messages of the master, and the number of its
+  -- lines
+  pub record IsCompared (c : Setup) (m : NodeId) (name : List ℕ) (old : I) (sink sink' : O) : Type 0 where
+    pub script_bytes : List ℕ
+    pub events : List Event
+    pub members : List Member
+    pub held : Holds (i.state old) name script_bytes
+    pub means : map meaning (lines_of script_bytes) ≡ map (λ event. Ok event) events
+    pub reach : IsReach c.object c.topology m members
+    pub text : (o.state sink').bytes ≡ (o.state sink).bytes ++ isolate_text c m members events

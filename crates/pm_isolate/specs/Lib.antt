@@ -1,0 +1,5 @@
+pub mod Transitions
+pub mod Differences
+pub mod Compared
+pub mod Listed
+pub mod Within

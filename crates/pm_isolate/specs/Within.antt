@@ -1,0 +1,113 @@
+-- What the parts of a comparison do. No user of this crate speaks of these words.
+use Rattle.std.specs.Prelude.{◌≡◌, ℕ, ◌+◌, ◌==◌, ◌||◌, not, Bool, false, if◌then◌else◌, List, [], ◌∷◌, ◌++◌, length, map, Result, Ok, Err, ⊤}
+use Rattle.std.specs.List.{concat}
+use Rattle.pm_base.specs.declared.errors.Failed.{Failed}
+use Rattle.pm_base.specs.declared.events.Event.{Event}
+use Rattle.pm_base.specs.declared.names.NodeId.{NodeId}
+use Rattle.pm_base.specs.declared.names.Unit.{Unit}
+use Rattle.pm_base.specs.declared.sink.Sink as Sink
+use Rattle.pm_base.specs.Sink.{Wrote}
+use Rattle.pm_base.specs.Writing.{BreaksIn}
+use Rattle.pm_topology.specs.declared.topology.Topology.{Topology}
+use Rattle.pm_topology.specs.UnitMap.{all_at, mapped}
+use Rattle.pm_topology.specs.Units.{units_of}
+use Rattle.pm_reach.specs.declared.members.Member.{Member}
+use Rattle.pm_reach.specs.Membership.{IsReach}
+use Rattle.pm_core.specs.Load.{load_of}
+use Rattle.pm_core.specs.Run.{Setup}
+use Rattle.pm_core.specs.State.{State}
+use Rattle.pm_core.specs.Step.{effect}
+use Rattle.pm_laws.specs.Quiet.{quiet_event}
+use Rattle.pm_script.specs.declared.meaning.LineFault.{LineFault}
+use Rattle.pm_script.specs.Script.{Script, Stop}
+use Rattle.pm_script.specs.Script.Stop.{Bad}
+use Rattle.pm_trace.specs.declared.faults.Fault.{Fault}
+use Rattle.pm_trace.specs.declared.faults.Fault.TheVariants.{Line}
+use Rattle.pm_trace.specs.Closing.{shown}
+use Rattle.pm_trace.specs.Reach.{reach_text}
+use Rattle.pm_trace.specs.Report.{Report}
+use Rattle.pm_replay.specs.Replay.{fault_at}
+use Rattle.pm_isolate.specs.declared.comparison.Prepared.{Prepared}
+use Rattle.pm_isolate.specs.declared.worlds.Worlds.{Worlds}
+use Rattle.pm_isolate.specs.Differences.{difference_line, differences_where, steps_line}
+
+-- each unit, with whether it was found to differ
+abbrev pub Marks : Type 0
+Marks = List (Unit × Bool)
+
+-- a unit differs where it did before, or where the two books show different values of it
+abbrev pub noted_in : State → State → Unit → Bool → Bool
+noted_in a b unit before = before || not (shown unit a == shown unit b)
+
+abbrev pub noted : State → State → Marks → Marks
+noted a b marks = mapped (noted_in a b) marks
+
+-- both books at load, which show the same
+abbrev pub begun : Setup → Worlds
+begun c = record {
+  loud = load_of c.object c.topology;
+  quiet = load_of c.object c.topology;
+  differs = all_at false (units_of c.topology);
+}
+
+-- one more event in both, but for a message of the master, which is left out of the quiet one
+abbrev pub stepped : NodeId → Event → Worlds → Worlds
+stepped m event w = record {
+  loud = effect event w.loud;
+  quiet = effect (quiet_event m event) w.quiet;
+  differs = noted (effect event w.loud) (effect (quiet_event m event) w.quiet) w.differs;
+}
+
+-- one event after another
+abbrev pub after : NodeId → List Event → Worlds → Worlds
+after m [] w = w
+after m (event ∷ events) w = after m events (stepped m event w)
+
+-- the object and the chip of the two books
+abbrev pub setup_in : Worlds → Setup
+setup_in w = record { object = w.loud.fixed.object; topology = w.loud.fixed.topology }
+
+-- both books are as at load, and the text of the reach of the master is there
+pub record IsPrepared (c : Setup) (m : NodeId) (p : Prepared) : Type 0 where
+  pub members : List Member
+  pub reach : IsReach c.object c.topology m members
+  pub text : p.reach.items ≡ reach_text members
+  pub worlds : p.worlds ≡ begun c
+
+-- how lines end that come after n others: all were carried out, or one has no meaning
+abbrev pub LinesEnd : NodeId → ℕ → Script → Stop → Worlds → Worlds → Result ℕ Fault → Type 0
+LinesEnd m n s stop now last (Ok count) = (s.stop ≡ stop) × (last ≡ after m s.events now) × (count ≡ n + length s.events)
+LinesEnd m n s stop now last (Err fault) =
+    (cause : LineFault) × (s.stop ≡ Bad cause) × (fault ≡ Line (n + 1 + length s.events) cause)
+
+-- the line of a unit that was found to differ; that of any other is empty
+abbrev pub mark_line : Topology → Unit × Bool → List ℕ
+mark_line t mark = if mark.1 then difference_line t mark.0 else []
+
+abbrev pub mark_lines : Worlds → List (List ℕ)
+mark_lines w = map (mark_line w.loud.fixed.topology) w.differs
+
+-- what is written at the end of so many script lines
+abbrev pub end_text : Worlds → ℕ → List ℕ
+end_text w count = concat (mark_lines w) ++ steps_line count
+
+-- what is written after the last line of a script that came to its end or could not be read on
+abbrev pub end_report : Stop → Worlds → ℕ → Report
+end_report stop w count = record { body = differences_where stop (end_text w count); fault = fault_at 0 stop }
+
+-- what is written of the lines of a script, and after them
+abbrev pub rest_report : NodeId → Script → Worlds → Report
+rest_report m s w = record {
+  body = differences_where s.stop (end_text (after m s.events w) (length s.events));
+  fault = fault_at (1 + length s.events) s.stop;
+}
+
+-- a report behind a first piece
+abbrev pub report_behind : List ℕ → Report → Report
+report_behind piece r = record { body = piece ∷ r.body; fault = r.fault }
+
+-- a piece was written, by the result
+module _ {O : Type 0} (o : Sink.Ghosts O) where
+  abbrev pub Writes : List ℕ → O → O → Result ⊤ Failed → Type 0
+  Writes piece old new (Ok nothing) = Wrote o.observable piece (o.state old) (o.state new)
+  Writes piece old new (Err error) = BreaksIn o 0 (piece ∷ []) old new

@@ -1,0 +1,191 @@
+//! The run of a script is compared with the run without the messages of a master.
+
+ghost use Rattle.std.specs.Prelude.{◌≡◌, ◌≢◌, ◌<◌, ◌^◌, ◌==◌, IfOk, IsTrue, length};
+ghost use Rattle.std.specs.List.{list_any};
+ghost use Rattle.pm_base.specs.Faults.{Rose};
+ghost use Rattle.pm_base.specs.Inputs.{MayFail};
+ghost use Rattle.pm_base.specs.Sink.{HasFailed, IsUnfailed};
+ghost use Rattle.pm_base.specs.declared.prefix.StopReason.TheVariants.{Unbegun};
+ghost use Rattle.pm_topology.specs.Masters.{ObeysMasterRules};
+ghost use Rattle.pm_topology.specs.WellFormed.{IsWellFormed};
+ghost use Rattle.pm_script.specs.Script.{script_limit, script_lines, script_from, stop_of};
+ghost use Rattle.pm_trace.specs.Exits.{EndsWith, IsStarved};
+ghost use Rattle.pm_trace.specs.Report.{Reports};
+ghost use Rattle.pm_replay.specs.Replayed.{script_exit, script_in, setup};
+ghost use Rattle.pm_isolate.specs.Compared.{Compared, IsCompared};
+ghost use Rattle.pm_isolate.specs.Within.{IsPrepared, end_report, report_behind, rest_report, setup_in};
+
+use crate::lines::run_lines;
+use crate::worlds::Worlds;
+use crate::writing::write_end;
+use pm_base::{
+    Exit, Failed, Inputs, NoMemory, NodeId, Prefix, Sink, StopReason, gather, write_all,
+};
+use pm_object::Object;
+use pm_reach::reach;
+use pm_replay::scripts_are_read;
+use pm_script::SCRIPT_LIMIT;
+use pm_topology::Topology;
+use pm_trace::{Fault, exits_say, reach_text, refuse};
+use std::alloc::Global;
+
+/// Compares the run of the named script over an object with the run without the messages of the master
+/// `m`, in place of each of which nothing happens. Writes the reach of the master; then each line is run in
+/// both books; then comes a line for each unit whose transitions differ, and the number of script lines; or
+/// the fault line of the answer. Where the script can't be begun nothing stands before that. No device
+/// occurs in it. That `m` is a master of the object is tested by `has_key`.
+///
+/// Answers Done, BadLine, ReadFault, WriteFault, Memory and TooLarge.
+pub fn compare<I: Inputs, O: Sink>(
+    alloc: Global,
+    object: Object,
+    topology: Topology,
+    m: NodeId,
+    inputs: &mut I,
+    script: &str,
+    out: &mut O,
+) -> Exit
+    requires formed { IsWellFormed topology }
+    requires masters { ObeysMasterRules topology }
+    requires named { IsTrue (list_any (λ r. r.node == m.0) object.masters) }
+    // On Done the input held a script under the name, and the whole text was written: the reach of the
+    // master, the units whose transitions differ in the two runs, and the number of script lines.
+    ensures done { I.observable → O.observable → result ≡ Exit.Done
+        → IsCompared I.Inputs O.Sink (setup object topology) m script.now inputs.old out.old out.new }
+    // What the input holds decides the exit, unless memory is wanted or the sink fails.
+    ensures decided { I.observable
+        → EndsWith O.Sink (script_exit (script_in (I.state inputs.old) script.now)) out.old out.new result }
+    // On every exit: what was asked for, and what was written of it.
+    ensures ran { Compared I.Inputs O.Sink (setup object topology) m script.now
+        inputs.old inputs.new out.old out.new result }
+    // On Memory nothing was written but the fault line, as far as the sink took it.
+    ensures memory { result ≡ Exit.Memory → IsStarved O.Sink out.old out.new }
+    // ReadFault comes only where the inputs' count of faults rose.
+    ensures read_fault { result ≡ Exit.ReadFault → Rose (I.state inputs.old).faults (I.state inputs.new).faults }
+    // Where the inputs are observable, ReadFault comes only where the name isn't there, has a failing byte
+    // within the limit, or no more inputs can be begun.
+    ensures read_cause { I.observable → result ≡ Exit.ReadFault
+        → MayFail script.now script_limit (I.state inputs.old) }
+    // WriteFault comes only where a write failed, or took 0 of a piece that isn't empty.
+    ensures write_fault { result ≡ Exit.WriteFault → HasFailed (O.state out.old) (O.state out.new) }
+    // Done comes only where no write failed, and none took 0 of a piece that isn't empty.
+    ensures unfailed { result ≡ Exit.Done → IsUnfailed (O.state out.old) (O.state out.new) }
+{
+    scripts_are_read();
+    exits_say::<O>();
+    compare_named(alloc, object, topology, m, inputs, script, out)
+}
+
+/// Compares the two runs of the named script, where it can be read.
+fn compare_named<I: Inputs, O: Sink>(
+    alloc: Global,
+    object: Object,
+    topology: Topology,
+    m: NodeId,
+    inputs: &mut I,
+    script: &str,
+    out: &mut O,
+) -> Exit
+    requires formed { IsWellFormed topology }
+    requires masters { ObeysMasterRules topology }
+    requires named { IsTrue (list_any (λ r. r.node == m.0) object.masters) }
+    ensures { Compared I.Inputs O.Sink (setup object topology) m script.now
+        inputs.old inputs.new out.old out.new result }
+{
+    let Ok(mut prepared) = prepare(alloc, object, topology, m) else {
+        return refuse(Fault::Memory, out);
+    };
+    compare_prepared(alloc, &mut prepared, m, inputs, script, out)
+}
+
+/// The text of a reach, and both books at load.
+#[derive(Drop)]
+pub(crate) struct Prepared {
+    pub reach: Vec<u8>,
+    pub worlds: Worlds,
+}
+
+/// All that takes memory beside the script.
+fn prepare(
+    alloc: Global,
+    object: Object,
+    topology: Topology,
+    m: NodeId,
+) -> Result<Prepared, NoMemory>
+    requires formed { IsWellFormed topology }
+    requires masters { ObeysMasterRules topology }
+    requires named { IsTrue (list_any (λ r. r.node == m.0) object.masters) }
+    ensures { IfOk result (IsPrepared (setup object topology) m) }
+{
+    let found = reach(alloc, &object, &topology, m)?;
+    let reach = reach_text(alloc, &found)?;
+    let worlds = Worlds::load(alloc, object, topology)?;
+    Ok(Prepared { reach, worlds })
+}
+
+/// Compares the two runs of the named script from the load, where it can be read.
+fn compare_prepared<I: Inputs, O: Sink>(
+    alloc: Global,
+    prepared: &mut Prepared,
+    m: NodeId,
+    inputs: &mut I,
+    script: &str,
+    out: &mut O,
+) -> Exit
+    requires { IsPrepared (setup_in prepared.old.worlds) m prepared.old }
+    ensures { Compared I.Inputs O.Sink (setup_in prepared.old.worlds) m script.now
+        inputs.old inputs.new out.old out.new result }
+{
+    scripts_are_read();
+    let Ok(script) = gather(alloc, inputs, script, SCRIPT_LIMIT) else {
+        return refuse(Fault::Memory, out);
+    };
+    if let StopReason::Unbegun = script.stop() {
+        return refuse(Fault::Read, out);
+    }
+    run(prepared, m, &script, out)
+}
+
+/// Writes the text of the reach, and compares the two runs of a script that was begun.
+fn run<O: Sink>(prepared: &mut Prepared, m: NodeId, script: &Prefix, out: &mut O) -> Exit
+    requires size { length script.now.bytes < 2 ^ 31 }
+    requires begins { script.now.stop ≢ Unbegun }
+    ensures { Reports O.Sink (report_behind prepared.old.reach.items
+        (rest_report m (script_from (script_lines script.now) (stop_of script.now.stop)) prepared.old.worlds))
+        out.old out.new result }
+{
+    match write_all(out, prepared.reach.as_slice()) {
+        Ok(()) => run_rest(&mut prepared.worlds, m, script, out),
+        Err(Failed) => Exit::WriteFault,
+    }
+}
+
+/// Runs the lines of a script in both books, and writes what comes after them.
+fn run_rest<O: Sink>(worlds: &mut Worlds, m: NodeId, script: &Prefix, out: &mut O) -> Exit
+    requires size { length script.now.bytes < 2 ^ 31 }
+    requires begins { script.now.stop ≢ Unbegun }
+    ensures { Reports O.Sink
+        (rest_report m (script_from (script_lines script.now) (stop_of script.now.stop)) worlds.old)
+        out.old out.new result }
+{
+    match run_lines(worlds, m, script) {
+        Ok(count) => finish(worlds, script.stop(), count, out),
+        Err(fault) => refuse(fault, out),
+    }
+}
+
+/// Writes what comes after the last line: the differences, or the line of the fault for which the script
+/// can't be read on.
+fn finish<O: Sink>(worlds: &Worlds, stop: StopReason, count: u32, out: &mut O) -> Exit
+    requires begins { stop ≢ Unbegun }
+    ensures { Reports O.Sink (end_report (stop_of stop) worlds.now count) out.old out.new result }
+{
+    match stop {
+        StopReason::End => match write_end(worlds, count, out) {
+            Ok(()) => Exit::Done,
+            Err(Failed) => Exit::WriteFault,
+        },
+        StopReason::Limit => refuse(Fault::Size, out),
+        StopReason::Failure | StopReason::Unbegun => refuse(Fault::Read, out),
+    }
+}

@@ -1,0 +1,42 @@
+//! Laws of two runs: what it means that a unit differs, and that what differs is in the reach.
+
+ghost use Rattle.std.specs.Prelude.{◌≡◌, ℕ, true, false, List};
+ghost use Rattle.pm_base.specs.declared.events.Event.{Event};
+ghost use Rattle.pm_base.specs.declared.names.NodeId.{NodeId};
+ghost use Rattle.pm_base.specs.declared.names.Unit.{Unit};
+ghost use Rattle.pm_object.specs.Grammar.{IsObject};
+ghost use Rattle.pm_topology.specs.WellFormed.{IsWellFormed};
+ghost use Rattle.pm_reach.specs.declared.members.Member.{Member};
+ghost use Rattle.pm_reach.specs.Membership.{IsReach};
+ghost use Rattle.pm_core.specs.Run.{Setup, Step, run};
+ghost use Rattle.pm_laws.specs.Quiet.{quiet};
+ghost use Rattle.pm_topology.specs.Units.{has_unit};
+ghost use Rattle.pm_isolate.specs.Listed.{IsListed};
+ghost use Rattle.pm_isolate.specs.Transitions.{differs, transitions};
+
+use pm_laws::{reach_is_closed, reach_keeps_apart, values_agree};
+use pm_topology::{kinds_are_exact, units_stand_in_order};
+
+/// A unit differs in two runs exactly where its transitions aren't the same.
+pub fn transitions_are_exact()
+    ensures same { (first second : List Step) (unit : Unit) → differs first second unit ≡ false
+        → transitions unit first ≡ transitions unit second }
+    ensures differ { (first second : List Step) (unit : Unit) → differs first second unit ≡ true
+        → transitions unit first ≡ transitions unit second → ⊥ }
+{}
+
+/// A unit whose transitions differ between a run and the run without the messages of a master is a member of
+/// the reach of that master, or a processor of a master that is one.
+pub fn what_differs_is_reached()
+    ensures { (c : Setup) (m : NodeId) (events : List Event) (members : List Member) (unit : Unit)
+        → IsObject c.object → IsWellFormed c.topology → IsReach c.object c.topology m members
+        → has_unit c.topology unit ≡ true
+        → differs (run c events) (run c (quiet m events)) unit ≡ true
+        → IsListed c.object c.topology members unit }
+{
+    reach_keeps_apart();
+    reach_is_closed();
+    values_agree();
+    kinds_are_exact();
+    units_stand_in_order();
+}

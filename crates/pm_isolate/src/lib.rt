@@ -1,0 +1,13 @@
+//! Two runs of a script side by side, one of them without the messages of a master, and the units that
+//! differ between them.
+#![tactic(auto)]
+
+mod comparison;
+mod laws;
+mod lines;
+mod runner;
+mod worlds;
+mod writing;
+
+pub use comparison::compare;
+pub use laws::{transitions_are_exact, what_differs_is_reached};

@@ -1,0 +1,110 @@
+//! Two runs side by side, one of them without the messages of a master.
+
+ghost use Rattle.std.specs.Prelude.{◌≡◌, ◌<◌, false, IfOk, Some, length, slice_get};
+ghost use Rattle.pm_topology.specs.Masters.{ObeysMasterRules};
+ghost use Rattle.pm_topology.specs.Units.{units_of};
+ghost use Rattle.pm_topology.specs.UnitMap.{all_at};
+ghost use Rattle.pm_topology.specs.WellFormed.{IsWellFormed};
+ghost use Rattle.pm_laws.specs.Quiet.{quiet_event};
+ghost use Rattle.pm_replay.specs.Replayed.{setup};
+ghost use Rattle.pm_trace.specs.Closing.{shown};
+ghost use Rattle.pm_isolate.specs.Within.{begun, noted, noted_in, stepped};
+
+use crate::runner::Runner;
+use pm_base::{Event, NoMemory, NodeId, Unit};
+use pm_core::Book;
+use pm_object::Object;
+use pm_topology::{Topology, UnitMap, unit_map_places};
+use std::alloc::Global;
+
+/// The run with all messages, the quiet one without those of a master, and for each unit whether what it
+/// shows has differed between them.
+#[derive(Drop)]
+pub struct Worlds {
+    pub loud: Runner,
+    pub quiet: Runner,
+    pub differs: UnitMap<bool>,
+}
+
+impl Worlds {
+    /// Both books at load.
+    ///
+    /// # Errors
+    ///
+    /// `NoMemory` where there is not enough memory.
+    pub fn load(alloc: Global, object: Object, topology: Topology) -> Result<Worlds, NoMemory>
+        requires formed { IsWellFormed topology }
+        requires masters { ObeysMasterRules topology }
+        ensures { IfOk result (λ worlds. worlds ≡ begun (setup object topology)) }
+    {
+        let differs = UnitMap::load(alloc, &topology, false)?;
+        let other_object = object.copy(alloc)?;
+        let other_topology = topology.copy(alloc)?;
+        let quiet = Runner::load(alloc, other_object, other_topology)?;
+        let loud = Runner::load(alloc, object, topology)?;
+        Ok(Worlds {
+            loud,
+            quiet,
+            differs,
+        })
+    }
+
+    /// One event in both, but for a message of the master, in place of which nothing happens in the quiet
+    /// one; and each unit that then shows different values is noted.
+    pub fn step(&mut self, m: NodeId, event: &Event)
+        ensures { self.new ≡ stepped m event.now self.old }
+    {
+        self.loud.step(event);
+        self.quiet.step(&quiet_event(m, event));
+        note(self.loud.book(), self.quiet.book(), &mut self.differs);
+    }
+}
+
+/// The event, or nothing where it is a message of the master.
+fn quiet_event(m: NodeId, event: &Event) -> Event
+    ensures { result ≡ quiet_event m event.now }
+{
+    match event {
+        Event::Ipi { master, .. } => { if master.0 == m.0 { Event::Pass } else { *event } }
+        _ => *event,
+    }
+}
+
+/// Notes each unit that shows different values in two books.
+fn note(loud: &Book, quiet: &Book, differs: &mut UnitMap<bool>)
+    ensures { differs.new ≡ noted loud.now quiet.now differs.old }
+{
+    unit_map_places::<bool>();
+    for place in 0..differs.len() {
+        let (unit, before) = mark_at(differs, place);
+        differs.set_at(place, is_noted(loud, quiet, unit, before));
+    }
+}
+
+/// The unit at a place, and whether it was found to differ.
+pub(crate) fn mark_at(differs: &UnitMap<bool>, place: usize) -> (Unit, bool)
+    requires place { place < length differs.now }
+    ensures { slice_get differs.now place ≡ Some result }
+{
+    match differs.entry(place) {
+        Some(mark) => mark,
+        None => unreachable!(),
+    }
+}
+
+/// Whether a unit differs: it did before, or the two books show different values of it.
+fn is_noted(loud: &Book, quiet: &Book, unit: Unit, before: bool) -> bool
+    ensures { result ≡ noted_in loud.now quiet.now unit before }
+{
+    before || shown(loud, unit) != shown(quiet, unit)
+}
+
+/// What a book shows of a unit: the number of the mode of a processor, and the value of any other.
+fn shown(book: &Book, unit: Unit) -> u32
+    ensures { result ≡ shown unit book.now }
+{
+    match unit {
+        Unit::Node(node) => book.point(node),
+        Unit::Line(_) => book.value(unit),
+    }
+}
