@@ -1,5 +1,5 @@
 -- A fault of reading comes only where the inputs show that one may fail.
-use Rattle.std.proofs.Common.{◌≡◌, ℕ, ◌<◌, ◌≤◌, ◌⊎◌, Bool, true, false, List, Option, Some, None, Result, Ok, Err, refl, sym, ◌∙◌, subst, inl, inr}
+use Rattle.std.proofs.Common.{◌≡◌, ℕ, ◌<◌, ◌≤◌, ◌⊎◌, Bool, true, false, List, Option, Some, None, Result, Ok, Err, refl, sym, ◌∙◌, ap, subst, inl, inr}
 use Rattle.std.specs.Prelude.{IsSomeAnd}
 use Rattle.std.proofs.lemmas.Bool.{cases_lt}
 use Rattle.pm_base.specs.declared.names.NodeId.{NodeId}
@@ -12,9 +12,9 @@ use Rattle.pm_trace.specs.declared.faults.Fault.{Fault}
 use Rattle.pm_trace.specs.declared.faults.Fault.TheVariants.{Node, Read}
 use Rattle.pm_replay.specs.Replayed.{IsReadFault, script_or_fault}
 use Rattle.pm_top.specs.declared.form.Form.{Form}
-use Rattle.pm_top.specs.declared.form.Form.TheVariants.{Replay, Reach, Print, Build}
+use Rattle.pm_top.specs.declared.form.Form.TheVariants.{Replay, Reach, Isolate, Print, Build}
 use Rattle.pm_top.specs.Form.{word}
-use Rattle.pm_top.specs.Job.{FailsToRead, IsReachJob, Job, Meets, built_of, first_prefix, job_of, master_of, object_limit, object_of, reach_job, replay_job, second_prefix, text_limit, with_master, with_script}
+use Rattle.pm_top.specs.Job.{FailsToRead, IsIsolateJob, IsReachJob, Job, Meets, built_of, first_prefix, isolate_job, job_of, master_of, object_limit, object_of, reach_job, replay_job, second_prefix, text_limit, with_both, with_master, with_named, with_script}
 use Rattle.pm_top.specs.Ran.{FormMayFail}
 use Rattle.pm_top.proofs.JobLemmas.{object_kind, text_kind}
 
@@ -56,8 +56,33 @@ reach_cause ws m (Err fault) (Ok o) is meets read = by (master_of o (word 2 ws))
     by (Some master) none = absurd none
     by None node = let clash : Node ≡ Read = sym node ∙ read in cc
 
+-- a comparison that fails to read fails at its object or at its script
+module _ (script_unread : (p : Prefix) → IsReadFault (script_or_fault (script_of p)) → IsUnread p.stop) (ws : List (List ℕ)) (m : Moment) (again : Bool) (more : 2 ≤ m.room → again ≡ true) where
+  compared_fails : (o : Object) (master : NodeId) (script : Result Script Fault) (job : Result (Job Isolate) Fault) → IsIsolateJob job (with_both o master script) → FailsToRead Isolate job → IsReadFault script
+  compared_fails o master (Ok s) (Ok job) meets fails = sym (ap (λ (s : Script). s.stop) meets.2) ∙ fails
+  compared_fails o master (Err due) (Err fault) meets fails = sym meets ∙ fails
+  compared_fails o master (Ok s) (Err fault) meets fails = absurd meets
+  compared_fails o master (Err due) (Ok job) meets fails = absurd meets
+
+  named_fails : (o : Object) (named : Option NodeId) (script : Result Script Fault) (job : Result (Job Isolate) Fault) → IsIsolateJob job (with_named o named script) → FailsToRead Isolate job → IsReadFault script
+  named_fails o (Some master) script job meets fails = compared_fails o master script job meets fails
+  named_fails o None script (Ok job) meets fails = absurd meets
+  named_fails o None script (Err fault) meets fails = let clash : Node ≡ Read = sym meets ∙ fails in cc
+
+  isolate_cause : (job : Result (Job Isolate) Fault) (v : Result Object Fault) → object_of (first_prefix object_limit m (word 1 ws)) ≡ v → IsIsolateJob job (isolate_job v (word 3 ws) (script_or_fault (script_of (second_prefix script_limit m again (word 2 ws))))) → FailsToRead Isolate job → FormMayFail (Some Isolate) ws m
+  isolate_cause job (Ok o) is meets fails =
+      by (second_fails m again (word 2 ws) more (script_unread (second_prefix script_limit m again (word 2 ws)) (named_fails o (master_of o (word 3 ws)) (script_or_fault (script_of (second_prefix script_limit m again (word 2 ws)))) job meets fails)))
+    where
+      by : (m.room < 2) ⊎ MayFail (word 2 ws) script_limit m → FormMayFail (Some Isolate) ws m
+      by (inl few) = inl few
+      by (inr fails) = inr (inr fails)
+  isolate_cause (Err fault) (Err due) is meets read =
+      inr (inl (first_fails object_limit m (word 1 ws) ((object_kind (first_prefix object_limit m (word 1 ws)) due is).1.unread (sym meets ∙ read))))
+  isolate_cause (Ok job) (Err due) is meets fails = absurd meets
+
 pub job_cause : (script_unread : (p : Prefix) → IsReadFault (script_or_fault (script_of p)) → IsUnread p.stop) (f : Form) (ws : List (List ℕ)) (m : Moment) (again : Bool) → (2 ≤ m.room → again ≡ true) → (job : Result (Job f) Fault) → Meets f job (job_of f ws m again) → FailsToRead f job → FormMayFail (Some f) ws m
 job_cause script_unread Reach ws m again more job meets fails = reach_cause ws m job (object_of (first_prefix object_limit m (word 1 ws))) refl meets fails
+job_cause script_unread Isolate ws m again more job meets fails = isolate_cause script_unread ws m again more job (object_of (first_prefix object_limit m (word 1 ws))) refl meets fails
 job_cause script_unread Print ws m again more job meets fails = by (object_of (first_prefix object_limit m (word 1 ws))) refl (subst (FailsToRead Print) meets fails)
   where
     by : (v : Result Object Fault) → object_of (first_prefix object_limit m (word 1 ws)) ≡ v → FailsToRead Print v → MayFail (word 1 ws) object_limit m

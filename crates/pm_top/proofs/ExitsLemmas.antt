@@ -9,7 +9,7 @@ use Rattle.pm_base.specs.declared.inputs.Inputs as Inputs
 use Rattle.pm_base.specs.declared.sink.Sink as Sink
 use Rattle.pm_base.specs.Sink.{HasFailed, IsUnfailed}
 use Rattle.pm_base.specs.Writing.{Leaves}
-use Rattle.pm_script.specs.Script.{Stop}
+use Rattle.pm_script.specs.Script.{Script, Stop}
 use Rattle.pm_script.specs.Script.Stop.{End, Bad, Past, Failed}
 use Rattle.pm_trace.specs.declared.faults.Fault.{Fault}
 use Rattle.pm_trace.specs.declared.faults.Fault.TheVariants.{Memory, Read, Usage}
@@ -18,7 +18,7 @@ use Rattle.pm_trace.specs.Faults.{exit_after, exit_by, fault_text}
 use Rattle.pm_trace.specs.Report.{Did, exit_of, pieces, refusal, report_of}
 use Rattle.pm_replay.specs.Replay.{fault_at}
 use Rattle.pm_top.specs.declared.form.Form.{Form}
-use Rattle.pm_top.specs.declared.form.Form.TheVariants.{Replay, Reach, Print, Build}
+use Rattle.pm_top.specs.declared.form.Form.TheVariants.{Replay, Reach, Isolate, Print, Build}
 use Rattle.pm_top.specs.Job.{Asked, FailsToRead, IsAsked, IsFaultOf, IsKnown, Job, Meets, job_of, report}
 use Rattle.pm_top.specs.Ran.{FormDecides, IsBeforeRun, job_exit}
 
@@ -53,6 +53,7 @@ stops_late n Failed = refl
 late : (f : Form) (job : Job f) (answers : List (List Bool)) → comes_before (exit_after (report f job answers).fault) ≡ false
 late Replay job answers = stops_late (1 + length job.1.events) job.1.stop
 late Reach job answers = refl
+late Isolate job answers = stops_late (1 + length job.2.script.events) job.2.script.stop
 late Print job answers = refl
 late Build job answers = refl
 
@@ -79,12 +80,14 @@ failed_stop n Failed is = refl
 refusal_fails : (f : Form) (fault : Fault) → fault ≡ Read → FailsToRead f (Err fault)
 refusal_fails Replay fault is = is
 refusal_fails Reach fault is = is
+refusal_fails Isolate fault is = is
 refusal_fails Print fault is = is
 refusal_fails Build fault is = is
 
 job_fails : (f : Form) (job : Job f) (answers : List (List Bool)) → (report f job answers).fault ≡ Some Read → FailsToRead f (Ok job)
 job_fails Replay job answers is = failed_stop (1 + length job.1.events) job.1.stop is
 job_fails Reach job answers is = cc
+job_fails Isolate job answers is = failed_stop (1 + length job.2.script.events) job.2.script.stop is
 job_fails Print job answers is = cc
 job_fails Build job answers is = cc
 
@@ -95,6 +98,7 @@ fails f (Ok job) answers is = job_fails f job answers is
 known_fault : (f : Form) (fault : Fault) → IsKnown f (Err fault) → IsFaultOf f fault
 known_fault Replay fault known = known
 known_fault Reach fault known = known
+known_fault Isolate fault known = known
 known_fault Print fault known = known
 known_fault Build fault known = known
 
@@ -117,9 +121,16 @@ due_reach (Err fault) (Err due) answers is = ap (λ (fault : Fault). exit_by fau
 due_reach (Ok found) (Err due) answers is = absurd is
 due_reach (Err fault) (Ok asked) answers is = absurd is
 
+due_isolate : (job : Result (Job Isolate) Fault) (asked : Result (Asked Isolate) Fault) (answers : List (List Bool)) → Meets Isolate job asked → exit_after (report_of (report Isolate) job answers).fault ≡ job_exit Isolate asked
+due_isolate (Ok job) (Ok asked) answers is = ap (λ (s : Script). exit_after (fault_at (1 + length s.events) s.stop)) is.2
+due_isolate (Err fault) (Err due) answers is = ap (λ (fault : Fault). exit_by fault) is
+due_isolate (Ok job) (Err due) answers is = absurd is
+due_isolate (Err fault) (Ok asked) answers is = absurd is
+
 due : (f : Form) (job : Result (Job f) Fault) (asked : Result (Asked f) Fault) (answers : List (List Bool)) → Meets f job asked → exit_after (report_of (report f) job answers).fault ≡ job_exit f asked
 due Replay job asked answers is = due_replay job asked answers is
 due Reach job asked answers is = due_reach job asked answers is
+due Isolate job asked answers is = due_isolate job asked answers is
 due Print job asked answers is = due_print job asked answers is
 due Build job asked answers is = due_build job asked answers is
 

@@ -20,7 +20,7 @@ use Rattle.pm_trace.specs.declared.faults.Fault.{Fault}
 use Rattle.pm_trace.specs.declared.faults.Fault.TheVariants.{Object as BadObject, Text as BadText, Memory, Read}
 use Rattle.pm_replay.specs.Replayed.{IsReadFault, IsScriptOf, script_in, script_or_fault}
 use Rattle.pm_top.specs.declared.form.Form.{Form}
-use Rattle.pm_top.specs.declared.form.Form.TheVariants.{Replay, Reach, Print, Build}
+use Rattle.pm_top.specs.declared.form.Form.TheVariants.{Replay, Reach, Isolate, Print, Build}
 use Rattle.pm_top.specs.Form.{word}
 use Rattle.pm_top.specs.Job.{FailsToRead, IsAsked, IsFaultOf, IsJobOf, IsKnown, built_of, first_prefix, judged, object_limit, object_of, object_or_fault, replay_job, second_prefix, text_limit, text_or_fault, with_script}
 use Rattle.pm_top.specs.Within.{ReadsAs}
@@ -81,12 +81,37 @@ text_kind p fault is = by p.stop (building p.bytes) is
     by reason.Failure read is = lost reason.Failure tt (err_is is)
     by reason.Unbegun read is = lost reason.Unbegun tt (err_is is)
 
+-- ---- a script that is read after an object
+
+-- by what the inputs showed before both
+pub record SecondRead (m mid : Moment) (name : List ℕ) : Type 0 where
+  pub again : Bool
+  pub more : 2 ≤ m.room → again ≡ true
+  pub script : script_in mid name ≡ script_or_fault (script_of (second_prefix script_limit m again name))
+
+pub second_read : (m mid : Moment) (name : List ℕ) → m.room ≤ mid.room + 1 → mid.file name ≡ m.file name → SecondRead m mid name
+second_read m mid name room file = record {
+  again = not (mid.room == 0);
+  more = more m.room mid.room (mid.room == 0) refl room;
+  script = ap (λ (p : Prefix). script_or_fault (script_of p)) (
+      ap (λ (f : Option File). prefix_of script_limit f mid.room) file ∙ rooms (m.file name) mid.room (mid.room == 0) refl);
+}
+  where
+    rooms : (shown : Option File) (room : ℕ) (full : Bool) → (room == 0) ≡ full → prefix_of script_limit shown room ≡ prefix_of script_limit shown (if not full then 1 else 0)
+    rooms None room full is = refl
+    rooms (Some file) room full is = grind (arith, nat_tests)
+
+    more : (before after : ℕ) (full : Bool) → (after == 0) ≡ full → before ≤ after + 1 → 2 ≤ before → not full ≡ true
+    more before after true is room some = let none : after ≡ 0 = (Decides-eqb after 0).0 is in absurd (omega arith)
+    more before after false is room some = refl
+
 -- ---- the job
 
 module _ {I : Type 0} (i : Inputs.Ghosts I) where
   pub starved : (f : Form) (ws : List (List ℕ)) (old new : I) → IsAsked i f ws old new (Err Memory)
   starved Replay ws old new = record { shown = λ seen. inl refl; failed = λ e. absurd (memory_is_read e); known = tt }
   starved Reach ws old new = record { shown = λ seen. inl refl; failed = λ e. absurd (memory_is_read e); known = tt }
+  starved Isolate ws old new = record { shown = λ seen. inl refl; failed = λ e. absurd (memory_is_read e); known = tt }
   starved Print ws old new = record { shown = λ seen. inl refl; failed = λ e. absurd (memory_is_read e); known = tt }
   starved Build ws old new = record { shown = λ seen. inl refl; failed = λ e. absurd (memory_is_read e); known = tt }
 
@@ -142,28 +167,14 @@ module _ {I : Type 0} (i : Inputs.Ghosts I) where
       shown : i.observable → (job ≡ Err Memory) ⊎ (job ≡ script_in (i.state mid) (word 2 ws)) → (with_script object job ≡ Err Memory) ⊎ IsJobOf Replay ws (i.state old) (with_script object job)
       shown seen (inl memory) = inl (ap (with_script object) memory)
       shown seen (inr is) =
-          let m : Moment = i.state old in
-          let again : Bool = not ((i.state mid).room == 0) in
-          let room : m.room ≤ (i.state mid).room + 1 = reads.read.room seen in
-          let first : object_of (first_prefix object_limit m (word 1 ws)) ≡ Ok object = ap object_of (sym (reads.read.is seen)) ∙ reads.is in
-          let file : (i.state mid).file (word 2 ws) ≡ m.file (word 2 ws) = reads.read.files seen (word 2 ws) in
-          let second : prefix_of script_limit ((i.state mid).file (word 2 ws)) (i.state mid).room ≡ second_prefix script_limit m again (word 2 ws) =
-          ap (λ (f : Option File). prefix_of script_limit f (i.state mid).room) file ∙ rooms (m.file (word 2 ws)) (i.state mid).room ((i.state mid).room == 0) refl
-          in
+          let s = second_read (i.state old) (i.state mid) (word 2 ws) (reads.read.room seen) (reads.read.files seen (word 2 ws)) in
+          let first : object_of (first_prefix object_limit (i.state old) (word 1 ws)) ≡ Ok object = ap object_of (sym (reads.read.is seen)) ∙ reads.is in
           inr (
-            again,
-            more m.room (i.state mid).room ((i.state mid).room == 0) refl room,
-            ap (with_script object) (is ∙ ap (λ (p : Prefix). script_or_fault (script_of p)) second)
-                ∙ ap (λ (v : Result Object Fault). replay_job v (script_or_fault (script_of (second_prefix script_limit m again (word 2 ws))))) (sym first),
+            s.again,
+            s.more,
+            ap (with_script object) (is ∙ s.script)
+                ∙ ap (λ (v : Result Object Fault). replay_job v (script_or_fault (script_of (second_prefix script_limit (i.state old) s.again (word 2 ws))))) (sym first),
           )
-        where
-          rooms : (shown : Option File) (room : ℕ) (full : Bool) → (room == 0) ≡ full → prefix_of script_limit shown room ≡ prefix_of script_limit shown (if not full then 1 else 0)
-          rooms None room full is = refl
-          rooms (Some file) room full is = grind (arith, nat_tests)
-
-          more : (before after : ℕ) (full : Bool) → (after == 0) ≡ full → before ≤ after + 1 → 2 ≤ before → not full ≡ true
-          more before after true is room some = let none : after ≡ 0 = (Decides-eqb after 0).0 is in absurd (omega arith)
-          more before after false is room some = refl
 
       failed : (job : Result Script Fault) → (IsReadFault job → Rose (i.state mid).faults (i.state new).faults) → FailsToRead Replay (with_script object job) → Rose (i.state old).faults (i.state new).faults
       failed (Ok s) rose fails = let later : (i.state old).faults ≤ (i.state mid).faults = reads.read.later in let up = rose fails in omega (arith, up)

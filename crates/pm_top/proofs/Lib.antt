@@ -1,7 +1,9 @@
-pub mod JobLemmas
-pub mod ExitsLemmas
-pub mod ConversionLemmas
-pub mod ScriptLemmas
+pub mod ApartLemmas
 pub mod CauseLemmas
+pub mod ConversionLemmas
+pub mod ExitsLemmas
+pub mod IsolatingLemmas
+pub mod JobLemmas
 pub mod MainLemmas
 pub mod ReachingLemmas
+pub mod ScriptLemmas

@@ -17,7 +17,7 @@ use Rattle.pm_trace.specs.Report.{exit_of, report_of}
 use Rattle.pm_replay.specs.Replayed.{IsReadFault, script_or_fault}
 use Rattle.pm_replay.specs.World.{World}
 use Rattle.pm_top.specs.declared.form.Form.{Form}
-use Rattle.pm_top.specs.declared.form.Form.TheVariants.{Replay, Reach, Print, Build}
+use Rattle.pm_top.specs.declared.form.Form.TheVariants.{Replay, Reach, Isolate, Print, Build}
 use Rattle.pm_top.specs.Form.{form}
 use Rattle.pm_top.specs.Job.{FailsToRead, Job}
 use Rattle.pm_top.specs.Ran.{Decides, FormDecides, FormMayFail, InputsMayFail, IsBeforeRun, Ran, RanForm, Touches, nothing_to_do}
@@ -74,6 +74,7 @@ module _ {I O D : Type 0} (i : Inputs.Ghosts I) (o : Sink.Ghosts O) (say : Exits
   memory_fails : (f : Form) → FailsToRead f (Err Memory) → ⊥
   memory_fails Replay is = let clash : Memory ≡ Read = is in cc
   memory_fails Reach is = let clash : Memory ≡ Read = is in cc
+  memory_fails Isolate is = let clash : Memory ≡ Read = is in cc
   memory_fails Print is = let clash : Memory ≡ Read = is in cc
   memory_fails Build is = let clash : Memory ≡ Read = is in cc
 
@@ -97,6 +98,7 @@ module _ {I O D : Type 0} (i : Inputs.Ghosts I) (o : Sink.Ghosts O) (say : Exits
       by : (f : Option Form) → RanForm i o d f ws w w' result → w.device ≡ w'.device
       by None did = did.touched
       by (Some Reach) did = did.touched
+      by (Some Isolate) did = did.touched
       by (Some Print) did = did.touched
       by (Some Build) did = did.touched
       by (Some Replay) did = of_job did.job refl did.touched

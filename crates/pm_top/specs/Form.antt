@@ -2,7 +2,7 @@
 use Rattle.std.specs.Prelude.{ℕ, List, [], ◌∷◌, codes, if◌then◌else◌, get_or, Option, Some, None}
 use Rattle.std.specs.Str.{bytes_eq}
 use Rattle.pm_top.specs.declared.form.Form.{Form}
-use Rattle.pm_top.specs.declared.form.Form.TheVariants.{Replay, Reach, Print, Build}
+use Rattle.pm_top.specs.declared.form.Form.TheVariants.{Replay, Reach, Isolate, Print, Build}
 
 -- what two words ask for by the first: `print OBJ`, `build TEXT`
 abbrev pub form_of_two : List ℕ → Option Form
@@ -18,10 +18,15 @@ form_of_three first =
     else if bytes_eq first (codes "reach") then Some Reach
     else None
 
+-- what four words ask for by the first: `isolate OBJ SCRIPT NODE`
+abbrev pub form_of_four : List ℕ → Option Form
+form_of_four first = if bytes_eq first (codes "isolate") then Some Isolate else None
+
 -- the first word and the number of words decide
 abbrev pub form : List (List ℕ) → Option Form
 form (first ∷ second ∷ []) = form_of_two first
 form (first ∷ second ∷ third ∷ []) = form_of_three first
+form (first ∷ second ∷ third ∷ fourth ∷ []) = form_of_four first
 form words = None
 
 -- the word at a place

@@ -28,8 +28,10 @@ use Rattle.pm_trace.specs.Reach.{reach_text}
 use Rattle.pm_trace.specs.Report.{Report}
 use Rattle.pm_replay.specs.Replay.{replay_report}
 use Rattle.pm_replay.specs.Replayed.{IsReadFault as ScriptFails, script_or_fault, setup}
+use Rattle.pm_isolate.specs.Compared.{Comparison}
+use Rattle.pm_isolate.specs.Differences.{isolate_report}
 use Rattle.pm_top.specs.declared.form.Form.{Form}
-use Rattle.pm_top.specs.declared.form.Form.TheVariants.{Replay, Reach, Print, Build}
+use Rattle.pm_top.specs.declared.form.Form.TheVariants.{Replay, Reach, Isolate, Print, Build}
 use Rattle.pm_top.specs.Form.{word}
 
 -- the most bytes of an object
@@ -90,6 +92,7 @@ master_of object name = if_master object (at_most 4294967295 (number_of name))
 abbrev pub Asked : Form → Type 0
 Asked Replay = Setup × Script
 Asked Reach = Object × NodeId
+Asked Isolate = Setup × NodeId × Script
 Asked Print = Object
 Asked Build = Object
 
@@ -113,20 +116,38 @@ abbrev pub reach_job : Result Object Fault → List ℕ → Result (Object × No
 reach_job (Ok object) name = with_master object (master_of object name)
 reach_job (Err fault) name = Err fault
 
+-- an object over the chip with a master of it and a script, or the fault of the script
+abbrev pub with_both : Object → NodeId → Result Script Fault → Result (Setup × NodeId × Script) Fault
+with_both object master (Ok s) = Ok (setup object chip, master, s)
+with_both object master (Err fault) = Err fault
+
+-- the master first, and then the script
+abbrev pub with_named : Object → Option NodeId → Result Script Fault → Result (Setup × NodeId × Script) Fault
+with_named object (Some master) script = with_both object master script
+with_named object None script = Err Node
+
+-- the object first, then the master, and then the script
+abbrev pub isolate_job : Result Object Fault → List ℕ → Result Script Fault → Result (Setup × NodeId × Script) Fault
+isolate_job (Ok object) name script = with_named object (master_of object name) script
+isolate_job (Err fault) name script = Err fault
+
 -- what the words ask for by what the inputs hold, where a second input can be begun or not
 abbrev pub job_of : (f : Form) → List (List ℕ) → Moment → Bool → Result (Asked f) Fault
 job_of Replay ws m again =
     replay_job (object_of (first_prefix object_limit m (word 1 ws))) (script_or_fault (script_of (second_prefix script_limit m again (word 2 ws))))
 job_of Reach ws m again = reach_job (object_of (first_prefix object_limit m (word 1 ws))) (word 2 ws)
+job_of Isolate ws m again =
+    isolate_job (object_of (first_prefix object_limit m (word 1 ws))) (word 3 ws) (script_or_fault (script_of (second_prefix script_limit m again (word 2 ws))))
 job_of Print ws m again = object_of (first_prefix object_limit m (word 1 ws))
 job_of Build ws m again = built_of (first_prefix text_limit m (word 1 ws))
 
 -- ---- the job
 
--- what is to be written: of a reach its members, and else what is asked for
+-- what is to be written: of a reach its members, of a comparison these and the script, and else what is asked for
 abbrev pub Job : Form → Type 0
 Job Replay = Setup × Script
 Job Reach = Found
+Job Isolate = Setup × NodeId × Comparison
 Job Print = Object
 Job Build = Object
 
@@ -137,10 +158,19 @@ IsReachJob (Ok found) (Err due) = ⊥
 IsReachJob (Err fault) (Ok asked) = ⊥
 IsReachJob (Err fault) (Err due) = fault ≡ due
 
+-- what the master can reach by that object, and that script; or the same refusal
+abbrev pub IsIsolateJob : Result (Setup × NodeId × Comparison) Fault → Result (Setup × NodeId × Script) Fault → Type 0
+IsIsolateJob (Ok job) (Ok asked) =
+    (job.0 ≡ asked.0) × (job.1 ≡ asked.1) × (job.2.script ≡ asked.2) × IsReach job.0.object chip job.1 job.2.members
+IsIsolateJob (Ok job) (Err due) = ⊥
+IsIsolateJob (Err fault) (Ok asked) = ⊥
+IsIsolateJob (Err fault) (Err due) = fault ≡ due
+
 -- a job does what is asked for
 abbrev pub Meets : (f : Form) → Result (Job f) Fault → Result (Asked f) Fault → Type 0
 Meets Replay job asked = job ≡ asked
 Meets Reach job asked = IsReachJob job asked
+Meets Isolate job asked = IsIsolateJob job asked
 Meets Print job asked = job ≡ asked
 Meets Build job asked = job ≡ asked
 
@@ -156,6 +186,8 @@ FailsToRead Replay (Ok job) = ScriptFails (Ok job.1)
 FailsToRead Replay (Err fault) = fault ≡ Read
 FailsToRead Reach (Ok found) = ⊥
 FailsToRead Reach (Err fault) = fault ≡ Read
+FailsToRead Isolate (Ok job) = ScriptFails (Ok job.2.script)
+FailsToRead Isolate (Err fault) = fault ≡ Read
 FailsToRead Print (Ok object) = ⊥
 FailsToRead Print (Err fault) = fault ≡ Read
 FailsToRead Build (Ok object) = ⊥
@@ -165,6 +197,7 @@ FailsToRead Build (Err fault) = fault ≡ Read
 abbrev pub report : (f : Form) → Job f → List (List Bool) → Report
 report Replay job answers = replay_report job.0 job.1 answers
 report Reach found answers = record { body = reach_text found.members ∷ []; fault = None }
+report Isolate job answers = isolate_report job.0 job.1 job.2.members job.2.script
 report Print object answers = record { body = text_of object ∷ []; fault = None }
 report Build object answers = record { body = little_endian (words_of object) ∷ []; fault = None }
 
@@ -174,14 +207,17 @@ IsFaultOf f Read = ⊤
 IsFaultOf f Memory = ⊤
 IsFaultOf Replay (BadObject fault) = ⊤
 IsFaultOf Reach (BadObject fault) = ⊤
+IsFaultOf Isolate (BadObject fault) = ⊤
 IsFaultOf Print (BadObject fault) = ⊤
 IsFaultOf Build (BadObject fault) = ⊥
 IsFaultOf Replay (BadText fault) = ⊥
 IsFaultOf Reach (BadText fault) = ⊥
+IsFaultOf Isolate (BadText fault) = ⊥
 IsFaultOf Print (BadText fault) = ⊥
 IsFaultOf Build (BadText fault) = ⊤
 IsFaultOf Replay Node = ⊥
 IsFaultOf Reach Node = ⊤
+IsFaultOf Isolate Node = ⊤
 IsFaultOf Print Node = ⊥
 IsFaultOf Build Node = ⊥
 IsFaultOf f Usage = ⊥
@@ -192,6 +228,7 @@ IsFaultOf f Size = ⊥
 abbrev pub IsKnown : (f : Form) → Result (Job f) Fault → Type 0
 IsKnown Replay (Ok job) = job.0.topology ≡ chip
 IsKnown Reach (Ok found) = (object : Object) × (master : NodeId) × IsReach object chip master found.members
+IsKnown Isolate (Ok job) = (job.0.topology ≡ chip) × IsReach job.0.object chip job.1 job.2.members
 IsKnown Print (Ok object) = ⊤
 IsKnown Build (Ok object) = ⊤
 IsKnown f (Err fault) = IsFaultOf f fault

@@ -1,7 +1,7 @@
 //! The forms of the words of the program.
 
 ghost use Rattle.std.specs.Prelude.{◌≡◌, ◌<◌, IfSome, length, map, string_bytes};
-ghost use Rattle.pm_top.specs.Form.{form, form_of_three, form_of_two, word};
+ghost use Rattle.pm_top.specs.Form.{form, form_of_four, form_of_three, form_of_two, word};
 ghost use Rattle.pm_top.specs.Names.{names};
 
 /// What the words of the program ask for.
@@ -11,6 +11,9 @@ pub enum Form {
     Replay,
     /// `reach OBJ NODE`: what a master of an object can reach is written.
     Reach,
+    /// `isolate OBJ SCRIPT NODE`: the run of a script over an object is compared with the run without the
+    /// messages of a master.
+    Isolate,
     /// `print OBJ`: the text of an object is written.
     Print,
     /// `build TEXT`: the bytes of the object that a text says are written.
@@ -25,6 +28,7 @@ pub(crate) fn form_of(words: &[String]) -> Option<Form>
     match words {
         [command, _] => form_of_two(command.as_str()),
         [command, _, _] => form_of_three(command.as_str()),
+        [command, _, _, _] => form_of_four(command.as_str()),
         _ => None,
     }
 }
@@ -49,6 +53,17 @@ fn form_of_three(first: &str) -> Option<Form>
     match first {
         "replay" => Some(Form::Replay),
         "reach" => Some(Form::Reach),
+        _ => None,
+    }
+}
+
+/// The form of four words by the first.
+fn form_of_four(first: &str) -> Option<Form>
+    ensures form { result ≡ form_of_four first.now }
+    ensures words { IfSome result (λ f. names f < 4) }
+{
+    match first {
+        "isolate" => Some(Form::Isolate),
         _ => None,
     }
 }

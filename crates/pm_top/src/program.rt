@@ -16,10 +16,13 @@ ghost use Rattle.pm_top.specs.Ran.{Decides, InputsMayFail, IsBeforeRun, Ran, Ran
 
 use crate::conversions::{build_object, print_object};
 use crate::form::{Form, form_of, word};
+use crate::isolating::isolate;
 use crate::objects::read_object;
 use crate::reaching::write_reach;
+use pm_apart::{driven_lines_stay_apart, texts_are_lines};
 use pm_base::{Exit, Inputs, NoMemory, Sink};
 use pm_device::Device;
+use pm_laws::reach_keeps_apart;
 use pm_object::Object;
 use pm_replay::{a_script_that_fails, replay};
 use pm_topology::zynqmp;
@@ -28,7 +31,8 @@ use std::alloc::Global;
 
 /// Does all that the program does, for its words without its own name. `replay OBJ SCRIPT` runs the
 /// script of one name over the object of another, `reach OBJ NODE` writes what a master of an object can
-/// reach, `print OBJ` writes the text of an object, and `build TEXT` the bytes of the object that a text
+/// reach, `isolate OBJ SCRIPT NODE` writes that and what differs between the run of the script and the run
+/// without the messages of the master, `print OBJ` writes the text of an object, and `build TEXT` the bytes of the object that a text
 /// says. No other words have a form. A replay makes the device, which stands at 0 everywhere, follow the
 /// book of requirements; no other words command it.
 pub fn pm_main<I: Inputs, O: Sink, D: Device>(
@@ -95,6 +99,7 @@ fn run_words<I: Inputs, O: Sink, D: Device>(
         Some(Form::Print) => print_object(alloc, words, inputs, out),
         Some(Form::Build) => build_object(alloc, words, inputs, out),
         Some(Form::Reach) => write_reach(alloc, words, inputs, out),
+        Some(Form::Isolate) => isolate(alloc, words, inputs, out),
         Some(Form::Replay) => run_script(alloc, words, inputs, out, dev),
     }
 }
@@ -116,6 +121,9 @@ fn run_script<I: Inputs, O: Sink, D: Device>(
     ensures ran { RanForm I.Inputs O.Sink D.Device (Some forms.Replay) (map string_bytes words.now)
         (world inputs.old out.old dev.old) (world inputs.new out.new dev.new) result }
 {
+    texts_are_lines();
+    driven_lines_stay_apart::<D>();
+    reach_keeps_apart();
     match read_object(alloc, inputs, word(words, 1)) {
         Ok(object) => run_object(alloc, object, inputs, word(words, 2), out, dev),
         Err(fault) => refuse(fault, out),

@@ -62,7 +62,7 @@ fn reach_of(alloc: Global, object: &Object, name: &str) -> Result<Reach, Fault>
 }
 
 /// The master of an object that a word names.
-fn master_of(object: &Object, name: &str) -> Option<NodeId>
+pub(crate) fn master_of(object: &Object, name: &str) -> Option<NodeId>
     ensures exact { result ≡ master_of object.now name.now }
     ensures named { IfSome result (λ node. IsTrue (list_any (λ r. r.node == node.0) object.now.masters)) }
 {

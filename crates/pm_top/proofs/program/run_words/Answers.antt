@@ -16,6 +16,12 @@ returns-in-Some-Reach-clause-ran g c =
     let did = c.write_reach.ensures.ran in
     subst P (ap (λ (f : Form). Some f) (sym c.in-Some-Reach.field-0-is) ∙ c.in-Some-Reach.ensures.form) (record { job = did.job; answers = did.answers; cut = did.cut; asked = did.asked; left = did.left; ends = did.ends; touched = refl })
 
+pub returns-in-Some-Isolate-clause-ran : goal.returns-in-Some-Isolate-clause-ran
+returns-in-Some-Isolate-clause-ran g c =
+    let P : Option Form → Type 0 = λ f. RanForm g.I.Inputs g.O.Sink g.D.Device f (map string_bytes c.args.words.now) (world c.args.inputs.now c.args.out.now c.args.dev.now) (world c.isolate.new.inputs c.isolate.new.out c.args.dev.now) c.isolate.result in
+    let did = c.isolate.ensures.ran in
+    subst P (ap (λ (f : Form). Some f) (sym c.in-Some-Isolate.field-0-is) ∙ c.in-Some-Isolate.ensures.form) (record { job = did.job; answers = did.answers; cut = did.cut; asked = did.asked; left = did.left; ends = did.ends; touched = refl })
+
 pub returns-in-Some-Print-clause-ran : goal.returns-in-Some-Print-clause-ran
 returns-in-Some-Print-clause-ran g c =
     let P : Option Form → Type 0 = λ f. RanForm g.I.Inputs g.O.Sink g.D.Device f (map string_bytes c.args.words.now) (world c.args.inputs.now c.args.out.now c.args.dev.now) (world c.print_object.new.inputs c.print_object.new.out c.args.dev.now) c.print_object.result in
