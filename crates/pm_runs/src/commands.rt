@@ -38,7 +38,7 @@ static STEPS: [(&str, &[&str], &str); 17] = [
 
 /// Puts a line at the end of a text: the number of a step and then words, the first of which may be
 /// left out with its space.
-fn push_line(
+pub(crate) fn push_line(
     alloc: Global,
     text: &mut String,
     number: u64,

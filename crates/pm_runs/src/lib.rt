@@ -9,7 +9,11 @@ mod commands;
 #[cfg(test)]
 mod devices;
 #[cfg(test)]
+mod failing;
+#[cfg(test)]
 mod inputs;
+#[cfg(test)]
+mod isolate;
 #[cfg(test)]
 mod limits;
 #[cfg(test)]

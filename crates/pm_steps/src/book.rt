@@ -160,7 +160,7 @@ pub(crate) fn wrong_answer(desk: &mut Desk, cases: &[Case]) -> Option<usize> {
     None
 }
 
-fn wrong_value(book: &Book, values: &[(u32, u32)]) -> Option<usize> {
+pub(crate) fn wrong_value(book: &Book, values: &[(u32, u32)]) -> Option<usize> {
     for (place, (number, value)) in values.iter().enumerate() {
         if book.value(Unit::Node(NodeId(*number))) != *value {
             return Some(place);

@@ -7,7 +7,7 @@ ghost use Rattle.pm_apply.specs.Record.{IsRecordOf};
 use crate::book::{Desk, Trigger, bytes_of, chip, desk_with, event_of};
 use crate::rows::all_right;
 use pm_apply::{Kept, carry};
-use pm_base::{Event, Message, NoMemory, NodeId, Unit};
+use pm_base::{Event, LineId, Message, NoMemory, NodeId, Unit};
 use pm_core::Outbox;
 use pm_device::{Device, ListedDevice, ModelDevice};
 use pm_object::{Object, decode};
@@ -15,9 +15,10 @@ use pm_topology::Topology;
 use std::alloc::Global;
 use std::test::Fail;
 
-/// The masters 8 and 7, the second of which may use slave 28.
+/// The masters 8 and 7, the second of which may use slave 28, and reset its line.
 const OBJECT: &[u32] = &[
-    2, 2, 1, 0x101, 2, 8, 0x200, 100, 0, 0, 7, 0x100, 100, 0, 0, 0x102, 1, 28, 0, 0x100,
+    2, 3, 1, 0x101, 2, 8, 0x200, 100, 0, 0, 7, 0x100, 100, 0, 0, 0x102, 1, 28, 0, 0x100, 0x105, 1,
+    28, 0x100,
 ];
 
 /// A book with its outbox, and what is kept of a device that follows it.
@@ -205,5 +206,89 @@ fn a_domain_stays_up_over_a_slave_that_is_broken(rt: HostRuntime) -> Result<(), 
     )?;
     let mut drive = drive_of(rt.alloc(), &mut *dev)?;
     all_right(&rt, wrong_turn(&mut drive, &mut *dev, &BROKEN));
+    Ok(())
+}
+
+/// A call of master 7 with these first two arguments.
+fn call_on(api: u32, first: u32, second: u32) -> Event {
+    let message = Message {
+        api,
+        args: [first, second, 0, 2, 0],
+    };
+    Event::Ipi {
+        master: NodeId(7),
+        message,
+    }
+}
+
+/// Whether these commands were given to line 28: the value before, the value, and whether the device took it.
+fn are_done_on_line(out: &Outbox, commands: &[(u32, u32, bool)]) -> bool {
+    let done = out.done.as_slice();
+    for (place, wanted) in commands.iter().enumerate() {
+        let found = match done.get(place) {
+            Some(d) => (d.command.unit, d.from, d.command.value, d.ok),
+            None => return false,
+        };
+        let (from, value, ok) = *wanted;
+        if found != (Unit::Line(LineId(28)), from, value, ok) {
+            return false;
+        }
+    }
+    done.len() == commands.len()
+}
+
+/// The action of a reset of line 28, the commands on the line, and what is kept of it then.
+type Reset = (u32, &'static [(u32, u32, bool)], u32, bool);
+
+fn wrong_reset<D: Device>(drive: &mut Drive, dev: &mut D, resets: &[Reset]) -> Option<usize> {
+    let line = Unit::Line(LineId(28));
+    for (place, (action, commands, value, lags)) in resets.iter().enumerate() {
+        drive.take(&call_on(17, 28, *action), dev);
+        let kept = (drive.kept.value(line), drive.kept.lags(line));
+        if !are_done_on_line(&drive.desk.out, commands) || kept != (*value, *lags) {
+            return Some(place);
+        }
+    }
+    None
+}
+
+/// A pulse over a line that is released, and over one that is asserted: then the 0 alone.
+static LINES: [Reset; 8] = [
+    (0, &[], 0, false),
+    (2, &[(0, 1, true), (1, 0, true)], 0, false),
+    (1, &[(0, 1, true)], 1, false),
+    (1, &[], 1, false),
+    (2, &[(1, 0, true)], 0, false),
+    (3, &[], 0, false),
+    (1, &[(0, 1, true)], 1, false),
+    (0, &[(1, 0, true)], 0, false),
+];
+
+#[test]
+fn a_line_is_pulsed_by_two_commands(rt: HostRuntime) -> Result<(), Fail> {
+    let mut dev = Box::new(
+        rt.alloc(),
+        ModelDevice::new(rt.alloc(), &chip(rt.alloc())?)?,
+    )?;
+    let mut drive = drive_of(rt.alloc(), &mut *dev)?;
+    all_right(&rt, wrong_reset(&mut drive, &mut *dev, &LINES));
+    Ok(())
+}
+
+/// The fifth command, the 1 of a pulse, fails: no 0 follows. The seventh, the 0 of another pulse, fails: it is
+/// given again with the next step.
+static FAILING: [Reset; 4] = [
+    (2, &[(0, 1, false)], 0, false),
+    (1, &[(0, 1, true)], 1, false),
+    (2, &[(1, 0, false)], 1, true),
+    (3, &[(1, 0, true)], 0, false),
+];
+
+#[test]
+fn a_pulse_may_fail(rt: HostRuntime) -> Result<(), Fail> {
+    let chip = chip(rt.alloc())?;
+    let mut dev = Box::new(rt.alloc(), ListedDevice::new(rt.alloc(), &chip, &[5, 7])?)?;
+    let mut drive = drive_of(rt.alloc(), &mut *dev)?;
+    all_right(&rt, wrong_reset(&mut drive, &mut *dev, &FAILING));
     Ok(())
 }

@@ -2,6 +2,8 @@
 #![tactic(auto)]
 
 #[cfg(test)]
+mod anew;
+#[cfg(test)]
 mod asking;
 #[cfg(test)]
 mod book;
@@ -10,7 +12,15 @@ mod calls;
 #[cfg(test)]
 mod carrying;
 #[cfg(test)]
+mod each_line;
+#[cfg(test)]
+mod each_node;
+#[cfg(test)]
+mod each_shutdown;
+#[cfg(test)]
 mod ending;
+#[cfg(test)]
+mod forcing;
 #[cfg(test)]
 mod modes;
 #[cfg(test)]
@@ -20,7 +30,11 @@ mod notifying;
 #[cfg(test)]
 mod permitted;
 #[cfg(test)]
+mod resets;
+#[cfg(test)]
 mod rows;
+#[cfg(test)]
+mod shutting;
 #[cfg(test)]
 mod traces;
 #[cfg(test)]

@@ -29,6 +29,7 @@ fn outbox(
     }
     Ok(Outbox {
         moved: BoundedList::with_room(alloc, 0)?,
+        pulse: None,
         done: commands,
         starts,
         late: BoundedList::with_room(alloc, 2)?,

@@ -1,7 +1,7 @@
 //! The calls that messages make.
 
 use crate::rows::all_right;
-use pm_base::{Caps, Message, NodeId};
+use pm_base::{Caps, LineId, Message, NodeId};
 use pm_ipi::callbacks::INIT_SUSPEND;
 use pm_ipi::{AckKind, Call, Response, callback_words, decode_call, respond};
 
@@ -11,13 +11,22 @@ const ACK: u32 = 3;
 
 /// The number of a call, the call that it makes with the arguments 22, 7, 5, 3 and 2, and how it is
 /// acknowledged.
-static CALLS: [(u32, Call, AckKind, NodeId); 19] = [
+static CALLS: [(u32, Call, AckKind, NodeId); 22] = [
     (0, Call::Unknown, AckKind::Blocking, NodeId(0)),
     (1, Call::GetApiVersion, AckKind::Blocking, NodeId(0)),
     (2, Call::Unknown, AckKind::Blocking, NodeId(0)),
     (
         3,
         Call::GetNodeStatus { node: NODE },
+        AckKind::Blocking,
+        NodeId(0),
+    ),
+    (
+        4,
+        Call::GetOpCharacteristic {
+            node: NODE,
+            characteristic: 7,
+        },
         AckKind::Blocking,
         NodeId(0),
     ),
@@ -53,6 +62,12 @@ static CALLS: [(u32, Call, AckKind, NodeId); 19] = [
         NodeId(0),
     ),
     (
+        8,
+        Call::ForcePowerdown { node: NODE, ack: 7 },
+        AckKind::Blocking,
+        NODE,
+    ),
+    (
         9,
         Call::AbortSuspend {
             node: NodeId(7),
@@ -81,7 +96,15 @@ static CALLS: [(u32, Call, AckKind, NodeId); 19] = [
         AckKind::Blocking,
         NodeId(0),
     ),
-    (12, Call::Unknown, AckKind::Blocking, NodeId(0)),
+    (
+        12,
+        Call::SystemShutdown {
+            shutdown_type: 22,
+            subtype: 7,
+        },
+        AckKind::Blocking,
+        NodeId(0),
+    ),
     (
         13,
         Call::RequestNode {
@@ -117,7 +140,21 @@ static CALLS: [(u32, Call, AckKind, NodeId); 19] = [
         AckKind::Blocking,
         NodeId(0),
     ),
-    (17, Call::Unknown, AckKind::Blocking, NodeId(0)),
+    (
+        17,
+        Call::ResetAssert {
+            line: LineId(22),
+            action: 7,
+        },
+        AckKind::Blocking,
+        NodeId(0),
+    ),
+    (
+        18,
+        Call::ResetGetStatus { line: LineId(22) },
+        AckKind::Blocking,
+        NodeId(0),
+    ),
     (21, Call::InitFinalize, AckKind::Blocking, NodeId(0)),
     (22, Call::Unknown, AckKind::Blocking, NodeId(0)),
     (u32::MAX, Call::Unknown, AckKind::Blocking, NodeId(0)),

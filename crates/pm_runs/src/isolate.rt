@@ -1,0 +1,278 @@
+//! Runs that compare the run of a script with the run without the messages of a master.
+
+use super::run::{ALONE, Asked, LABORATORY, OBJECT, check, joined, model, node, run_with};
+use super::sinks::check_each_length;
+use pm_base::{Exit, MemSink};
+use std::test::Fail;
+
+/// What master 7 reaches in the object of two masters.
+const SHARED: &str = "master 7 self 7
+slave 11 use 7
+power 6 above 7
+power 62 above 7
+";
+
+/// A script in which master 7 uses the slave that it shares, and its whole text.
+const SCRIPT: &str = "ipi 1 21\nboot 7 0\nipi 7 13 11 1 0 2\nipi 1 13 33 1 0 2\n";
+
+const TEXT: &str = "master 7 self 7
+slave 11 use 7
+power 6 above 7
+power 62 above 7
+differ slave 11
+steps 4
+";
+
+/// Words, an object, a script, the input and the byte at which a read fails, the body, the fault line and the
+/// exit.
+type Case = (
+    &'static str,
+    &'static [u32],
+    &'static str,
+    &'static [(u32, u32)],
+    &'static str,
+    &'static str,
+    Exit,
+);
+
+const SEVEN: &str = "isolate obj script 7";
+
+static EXITS: [Case; 22] = [
+    (SEVEN, OBJECT, SCRIPT, &[], TEXT, "", Exit::Done),
+    // words without a form
+    (
+        "isolate obj 7",
+        OBJECT,
+        "",
+        &[],
+        "",
+        "fault usage\n",
+        Exit::Usage,
+    ),
+    (
+        "isolate obj script 7 7",
+        OBJECT,
+        "",
+        &[],
+        "",
+        "fault usage\n",
+        Exit::Usage,
+    ),
+    (
+        "replay obj script 7",
+        OBJECT,
+        "",
+        &[],
+        "",
+        "fault usage\n",
+        Exit::Usage,
+    ),
+    // an object without a reading, whatever the master and the script
+    (
+        SEVEN,
+        &[2, 1],
+        SCRIPT,
+        &[],
+        "",
+        "fault object 3 2\n",
+        Exit::BadObject,
+    ),
+    (
+        "isolate obj no x",
+        &[2, 1],
+        "",
+        &[],
+        "",
+        "fault object 3 2\n",
+        Exit::BadObject,
+    ),
+    // no master of the object, a number past the greatest that would be one, and no number, whatever the script
+    (
+        "isolate obj script 8",
+        LABORATORY,
+        "x",
+        &[],
+        "",
+        "fault node\n",
+        Exit::BadText,
+    ),
+    (
+        "isolate obj script 4294967303",
+        OBJECT,
+        "",
+        &[],
+        "",
+        "fault node\n",
+        Exit::BadText,
+    ),
+    (
+        "isolate obj no x",
+        OBJECT,
+        "",
+        &[],
+        "",
+        "fault node\n",
+        Exit::BadText,
+    ),
+    (
+        "isolate obj script 8",
+        OBJECT,
+        "",
+        &[(1, 0)],
+        "",
+        "fault node\n",
+        Exit::BadText,
+    ),
+    // a line without a meaning, at first and after others
+    (
+        SEVEN,
+        OBJECT,
+        "x",
+        &[],
+        SHARED,
+        "fault line 1 1\n",
+        Exit::BadLine,
+    ),
+    (
+        SEVEN,
+        OBJECT,
+        "boot 7 0\nipi 7 13 11 1 0 2\nwfi x\nipi 1 21\n",
+        &[],
+        SHARED,
+        "fault line 3 2\n",
+        Exit::BadLine,
+    ),
+    // inputs that aren't there or fail before the script is begun
+    (
+        "isolate no script x",
+        OBJECT,
+        "",
+        &[],
+        "",
+        "fault read\n",
+        Exit::ReadFault,
+    ),
+    (
+        "isolate obj no 7",
+        OBJECT,
+        "",
+        &[],
+        "",
+        "fault read\n",
+        Exit::ReadFault,
+    ),
+    (
+        SEVEN,
+        OBJECT,
+        SCRIPT,
+        &[(0, 4)],
+        "",
+        "fault read\n",
+        Exit::ReadFault,
+    ),
+    // a script that fails at its first byte, within a line, and at its end
+    (
+        SEVEN,
+        OBJECT,
+        SCRIPT,
+        &[(1, 0)],
+        SHARED,
+        "fault read\n",
+        Exit::ReadFault,
+    ),
+    (
+        SEVEN,
+        OBJECT,
+        SCRIPT,
+        &[(1, 30)],
+        SHARED,
+        "fault read\n",
+        Exit::ReadFault,
+    ),
+    (
+        SEVEN,
+        OBJECT,
+        SCRIPT,
+        &[(1, 54)],
+        SHARED,
+        "fault read\n",
+        Exit::ReadFault,
+    ),
+    (SEVEN, OBJECT, SCRIPT, &[(1, 55)], TEXT, "", Exit::Done),
+    // a bad line before the byte at which a read fails
+    (
+        SEVEN,
+        OBJECT,
+        "wfi x\nwfi 2\n",
+        &[(1, 8)],
+        SHARED,
+        "fault line 1 2\n",
+        Exit::BadLine,
+    ),
+    // the run of a master of its own, and nothing that differs
+    (
+        SEVEN,
+        ALONE,
+        "ipi 8 3 11\ntick 1\n",
+        &[],
+        "master 7 self 7\npower 6 above 7\npower 62 above 7\nsteps 2\n",
+        "",
+        Exit::Done,
+    ),
+    (
+        SEVEN,
+        ALONE,
+        "ipi 7 7 7 0 0 0 0\nwfi 7\nx\n",
+        &[],
+        "master 7 self 7\npower 6 above 7\npower 62 above 7\n",
+        "fault line 3 1\n",
+        Exit::BadLine,
+    ),
+];
+
+fn asked_of(case: &Case) -> Asked<'static> {
+    let (words, object, script, failing, _, _, _) = *case;
+    Asked {
+        words,
+        object,
+        script: script.as_bytes(),
+        failing,
+    }
+}
+
+#[test]
+fn a_sink_of_each_length_under_each_exit(rt: HostRuntime) -> Result<(), Fail> {
+    for case in &EXITS {
+        let (_, _, _, _, body, fault, exit) = case;
+        check_each_length(&rt, &asked_of(case), body.as_bytes(), fault, *exit)?;
+    }
+    Ok(())
+}
+
+#[test]
+fn a_script_that_fails_at_each_byte(rt: HostRuntime) -> Result<(), Fail> {
+    let text = [SHARED, "fault read\n"];
+    let text = joined(rt.alloc(), &text)?;
+    for at in 0..55u32 {
+        let failing = [(1, at)];
+        let asked = Asked {
+            failing: &failing,
+            ..asked_of(&EXITS[0])
+        };
+        check(&rt, &asked, None, &text, Exit::ReadFault)?;
+    }
+    Ok(())
+}
+
+#[test]
+fn no_device_is_commanded(rt: HostRuntime) -> Result<(), Fail> {
+    for case in &EXITS {
+        let mut out = MemSink::new(rt.alloc(), None)?;
+        let mut device = model(rt.alloc())?;
+        run_with(rt.alloc(), &asked_of(case), &mut out, &mut *device)?;
+        for number in 1..70 {
+            assert_eq!(rt; device.value(node(number)), 0, "{number}");
+        }
+    }
+    Ok(())
+}

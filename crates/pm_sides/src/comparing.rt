@@ -1,0 +1,102 @@
+//! A run of a script is compared with the run without the messages of a master.
+
+use crate::table::small_chip;
+use pm_base::{Exit, MemInputs, MemSink, NodeId};
+use pm_isolate::compare;
+use pm_object::{Object, decode, has_key};
+use std::alloc::Global;
+use std::test::Fail;
+
+/// Masters 1 and 8, each of which may suspend 8, and slave 46, which 1 alone may use.
+const OBJECT: &[u32] = &[
+    2, 2, 1, 0x101, 2, 1, 0x1, 100, 0x200, 0, 8, 0x200, 100, 0x200, 0, 0x102, 1, 46, 0, 0x1,
+];
+
+/// Master 8 is asked to suspend, by itself and then by 1; without its own messages the second is accepted,
+/// and times out. The callback of it that waits for 1 is about node 8, the master, and not the power node.
+const ASKED: &str = "ipi 1 21
+boot 108 0
+ipi 8 6 8 3 0 0
+ipi 1 6 8 3 0 0
+ipi 1 11 2 46 1
+ipi 1 7 2 0 0 0 0
+wfi 2
+tick 100
+irq 46
+";
+
+/// Master 8 starts and sleeps.
+const SLEEPING: &str = "ipi 1 21
+boot 108 0
+ipi 8 7 108 0 0 0 0
+wfi 108
+";
+
+/// The master that is left out, the script, and the whole text.
+type Case = (u32, &'static str, &'static str);
+
+/// What master 8 reaches has number 8 once, as that of a master.
+static CASES: [Case; 3] = [
+    (
+        8,
+        ASKED,
+        "master 8 self 8
+power 100 above 8
+steps 9
+",
+    ),
+    (
+        8,
+        SLEEPING,
+        "master 8 self 8
+power 100 above 8
+differ proc 108
+steps 4
+",
+    ),
+    (
+        1,
+        ASKED,
+        "master 1 self 1
+master 8 suspend 1 8
+slave 46 use 1
+power 100 above 1
+differ proc 2
+steps 9
+",
+    ),
+];
+
+/// The object of the tests.
+fn object(alloc: Global) -> Result<Object, Fail> {
+    let mut bytes = Vec::new(alloc);
+    for word in OBJECT {
+        bytes.extend_from_slice(&word.to_le_bytes())?;
+    }
+    Ok(decode(alloc, &bytes)?)
+}
+
+/// Compares the two runs of a script, where the number is that of a master of the object.
+fn compared(alloc: Global, m: u32, script: &str, out: &mut MemSink) -> Result<Option<Exit>, Fail> {
+    let mut inputs = MemInputs::new(alloc, &[])?;
+    inputs.add("script", script.as_bytes())?;
+    let object = object(alloc)?;
+    if has_key(object.masters.as_slice(), m) {
+        let chip = small_chip(alloc)?;
+        let exit = compare(alloc, object, chip, NodeId(m), &mut inputs, "script", out);
+        Ok(Some(exit))
+    } else {
+        Ok(None)
+    }
+}
+
+#[test]
+fn a_number_of_a_master_and_of_a_power_node(rt: HostRuntime) -> Result<(), Fail> {
+    for (m, script, text) in &CASES {
+        let mut out = MemSink::new(rt.alloc(), None)?;
+        let exit = compared(rt.alloc(), *m, script, &mut out)?;
+        assert_eq!(rt; exit, Some(Exit::Done), "{m}");
+        assert_eq!(rt; out.bytes(), text.as_bytes(), "{m}");
+    }
+    Ok(())
+}

@@ -1,0 +1,8 @@
+//! Tests of two runs side by side over a small chip, in which a number is one master's node and another
+//! unit's.
+#![tactic(auto)]
+
+#[cfg(test)]
+mod comparing;
+#[cfg(test)]
+mod table;

@@ -1,0 +1,120 @@
+//! A small chip, in which number 8 is that of a master and of a power node that is none of its parts.
+
+ghost use Rattle.std.specs.Prelude.{◌≡◌, ◌∷◌, [], None, IfOk};
+ghost use Rattle.pm_topology.specs.Chip.{master, power, proc};
+ghost use Rattle.pm_topology.specs.Masters.{ObeysMasterRules};
+ghost use Rattle.pm_topology.specs.WellFormed.{IsWellFormed};
+ghost use Rattle.pm_sides.specs.Table.{masters, powers, procs, slaves, small};
+
+use pm_base::{Caps, List, NoMemory, NodeId};
+use pm_topology::{MasterDef, PowerDef, ProcDef, SlaveDef, SlaveState, Topology};
+use std::alloc::Global;
+
+/// The place of the power node under which the processors and the slave stand.
+const HELD: usize = 0;
+
+/// The table of the small chip.
+///
+/// # Errors
+///
+/// `NoMemory` where there is not enough memory.
+#[tactic(auto, using(crate::proofs::TableLaw::small_sound, crate::proofs::TableLaw::small_masters), unfolding(crate::specs::Table::small))]
+pub(crate) fn small_chip(alloc: Global) -> Result<Topology, NoMemory>
+    ensures table { IfOk result (λ topology. topology ≡ small) }
+    ensures sound { IfOk result IsWellFormed }
+    ensures masters { IfOk result ObeysMasterRules }
+{
+    Ok(Topology {
+        slaves: slaves(alloc)?,
+        procs: procs(alloc)?,
+        powers: powers(alloc)?,
+        lines: List::new(alloc),
+        masters: masters(alloc)?,
+    })
+}
+
+fn powers(alloc: Global) -> Result<List<PowerDef>, NoMemory>
+    ensures { IfOk result (λ list. list ≡ powers) }
+{
+    let mut powers = List::new(alloc);
+    powers.push(power(100, true, 20, 3000))?;
+    powers.push(power(8, false, 10, 300))?;
+    Ok(powers)
+}
+
+/// A power node with none above it, by its number, whether it is held, its figure and its latency.
+fn power(number: u32, held: bool, figure: u32, latency: u32) -> PowerDef
+    ensures { result ≡ power number None held figure latency }
+{
+    PowerDef {
+        node: NodeId(number),
+        parent: None,
+        held,
+        figure,
+        latency,
+    }
+}
+
+fn procs(alloc: Global) -> Result<List<ProcDef>, NoMemory>
+    ensures { IfOk result (λ list. list ≡ procs) }
+{
+    let mut procs = List::new(alloc);
+    procs.push(proc(2, 300, 400))?;
+    procs.push(proc(107, 100, 200))?;
+    procs.push(proc(108, 100, 200))?;
+    Ok(procs)
+}
+
+/// A processor by its number, its figure and its latency.
+fn proc(number: u32, figure: u32, latency: u32) -> ProcDef
+    ensures { result ≡ proc number 0 figure latency }
+{
+    ProcDef {
+        node: NodeId(number),
+        parent: HELD,
+        figure,
+        latency,
+    }
+}
+
+fn slaves(alloc: Global) -> Result<List<SlaveDef>, NoMemory>
+    ensures { IfOk result (λ list. list ≡ slaves) }
+{
+    let mut states = List::new(alloc);
+    states.push(SlaveState {
+        caps: Caps(7),
+        latency: 0,
+        powered: true,
+        figure: 10,
+    })?;
+    let mut slaves = List::new(alloc);
+    slaves.push(SlaveDef {
+        node: NodeId(46),
+        parent: HELD,
+        states,
+    })?;
+    Ok(slaves)
+}
+
+fn masters(alloc: Global) -> Result<List<MasterDef>, NoMemory>
+    ensures { IfOk result (λ list. list ≡ masters) }
+{
+    let mut masters = List::new(alloc);
+    masters.push(master(alloc, 1, 2)?)?;
+    masters.push(master(alloc, 6, 107)?)?;
+    masters.push(master(alloc, 7, 107)?)?;
+    masters.push(master(alloc, 8, 108)?)?;
+    Ok(masters)
+}
+
+/// A master of one processor, by the numbers of both.
+fn master(alloc: Global, number: u32, proc: u32) -> Result<MasterDef, NoMemory>
+    ensures { IfOk result (λ made. made ≡ master number (record { 0 = proc } ∷ [])) }
+{
+    let mut procs = List::new(alloc);
+    procs.push(NodeId(proc))?;
+    Ok(MasterDef {
+        node: NodeId(number),
+        procs,
+    })
+}
