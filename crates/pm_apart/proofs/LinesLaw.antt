@@ -13,7 +13,7 @@ use Rattle.pm_laws.specs.Quiet.{quiet}
 use Rattle.pm_apply.specs.Part.{Kept}
 use Rattle.pm_apply.specs.Record.{at_zero}
 use Rattle.pm_trace.specs.Step.{command_words}
-use Rattle.pm_replay.specs.Drive.{Driven, answers_after, drive, driven, kept_after, last_book, last_kept, parts_of}
+use Rattle.pm_drive.specs.Drive.{Driven, answers_after, drive, driven, kept_after, last_book, last_kept, parts_of}
 use Rattle.pm_apart.specs.Apart.{AreDrivenAlike, IsOutOfReach, StaysApart, StepsStayApart}
 use Rattle.pm_apart.specs.Lines.{closing_line_of, commands_on, is_about, numbered, run_lines, set_lines, step_lines, table_lines}
 use Rattle.pm_apart.proofs.FilterLemmas.{parts_alike}

@@ -30,7 +30,7 @@ use Rattle.pm_laws.specs.ReachBorder.{border_of}
 use Rattle.pm_laws.specs.Values.{is_beyond}
 use Rattle.pm_apply.specs.Part.{Kept, Part, part_of}
 use Rattle.pm_apply.specs.Record.{IsRecordOf, at_zero, kept_value}
-use Rattle.pm_replay.specs.Drive.{Driven, drive, driven, last_book, last_kept}
+use Rattle.pm_drive.specs.Drive.{Driven, drive, driven, last_book, last_kept}
 use Rattle.pm_apart.specs.Apart.{AreDrivenAlike, IsOutOfReach}
 use Rattle.pm_apart.specs.Lines.{is_on}
 use Rattle.pm_apart.proofs.PartsLaw.{PartLaws, commands_alike, kept_alike, record_next}

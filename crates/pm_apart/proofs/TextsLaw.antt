@@ -26,9 +26,8 @@ use Rattle.pm_trace.specs.declared.line.Word.TheVariants as word
 use Rattle.pm_trace.specs.Closing.{closing_text, shown, unit_name, unit_text}
 use Rattle.pm_trace.specs.Line.{line_text, numbers}
 use Rattle.pm_trace.specs.Step.{Notices, answer_words, call_lines, call_words, command_name, command_words, core_text, late_lines, late_words, notices_of, numbered_line, output_words, rest_words, start_words}
-use Rattle.pm_replay.specs.Drive.{Driven, answers_after, drive, driven, first_answers, kept_after, last_book, last_kept, later_answers, parts_of}
-use Rattle.pm_replay.specs.Replay.{cores_text, driven_text, texts}
-use Rattle.pm_replay.specs.Replayed.{run_text}
+use Rattle.pm_drive.specs.Drive.{Driven, answers_after, drive, driven, first_answers, kept_after, last_book, last_kept, later_answers, parts_of}
+use Rattle.pm_drive.specs.Text.{cores_text, driven_text, run_text, texts}
 use Rattle.pm_apart.specs.Lines.{closing_line, commands_of, cores_lines, is_about, is_on, numbered, run_lines, set_lines, step_lines, table_lines}
 use Rattle.pm_apart.proofs.FilterLemmas.{filter_made, none_of_both}
 

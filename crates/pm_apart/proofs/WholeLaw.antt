@@ -21,7 +21,7 @@ use Rattle.pm_trace.specs.declared.line.Word.{Word}
 use Rattle.pm_trace.specs.declared.line.Word.TheVariants as word
 use Rattle.pm_trace.specs.Closing.{shown, unit_name}
 use Rattle.pm_trace.specs.Line.{numbers}
-use Rattle.pm_replay.specs.Drive.{Driven, answers_after, drive, driven, kept_after, last_book, last_kept, parts_of}
+use Rattle.pm_drive.specs.Drive.{Driven, answers_after, drive, driven, kept_after, last_book, last_kept, parts_of}
 use Rattle.pm_apart.specs.Lines.{closing_line, closing_line_of, is_about, run_lines, set_lines, step_lines, table_lines}
 use Rattle.pm_apart.proofs.FilterLemmas.{kept_in, none_of_both}
 use Rattle.pm_apart.proofs.TablesLaw.{end_about, other_line}

@@ -18,7 +18,7 @@ use Rattle.pm_trace.specs.declared.line.Word.TheVariants as word
 use Rattle.pm_trace.specs.Closing.{shown, unit_name}
 use Rattle.pm_trace.specs.Line.{numbers}
 use Rattle.pm_trace.specs.Step.{command_words, notices_of, output_words}
-use Rattle.pm_replay.specs.Drive.{Driven, driven, last_book, last_kept}
+use Rattle.pm_drive.specs.Drive.{Driven, driven, last_book, last_kept}
 
 -- ---- the lines of a run
 

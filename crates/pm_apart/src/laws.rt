@@ -11,11 +11,10 @@ ghost use Rattle.pm_topology.specs.WellFormed.{IsWellFormed};
 ghost use Rattle.pm_core.specs.Run.{Setup};
 ghost use Rattle.pm_laws.specs.Quiet.{quiet};
 ghost use Rattle.pm_trace.specs.Line.{line_text};
-ghost use Rattle.pm_replay.specs.Drive.{Driven, driven};
-ghost use Rattle.pm_replay.specs.Drove.{Drove, NoFailure};
-ghost use Rattle.pm_replay.specs.Replay.{texts};
-ghost use Rattle.pm_replay.specs.Replayed.{run_text};
-ghost use Rattle.pm_apart.specs.Apart.{AreDrivenAlike, IsOutOfReach, StaysApart, StepsStayApart};
+ghost use Rattle.pm_drive.specs.Drive.{Driven, driven};
+ghost use Rattle.pm_drive.specs.Drove.{Drove, NoFailure};
+ghost use Rattle.pm_drive.specs.Text.{run_text, texts};
+ghost use Rattle.pm_apart.specs.Apart.{AreDrivenAlike, IsOutOfReach, KeepsApart, StaysApart, StepsKeepApart, StepsStayApart};
 ghost use Rattle.pm_apart.specs.Lines.{closing_line_of, is_about, run_lines, set_lines, step_lines};
 
 use pm_apply::{KeptValue, a_part_without_refusal, at_zero_is_a_record, each_part_is_safe};
@@ -78,4 +77,21 @@ pub fn driven_lines_stay_apart<D: Device>()
         → StaysApart c answers events }
 {
     lines_stay_apart();
+}
+
+/// A device that was driven through a run keeps apart what is beyond the reach of each master: the text is that of its
+/// lines, of which those about a unit beyond are those of the run without the messages of the master, where the device
+/// reported no failure; and whatever it refused, beyond the reach the books of the run are as in that one. The same of the
+/// steps of the run alone.
+pub fn driven_runs_keep_apart<D: Device>()
+    ensures run { (c : Setup) (events : List Event) (answers : List (List Bool)) (old new : D) → IsObject c.object → IsWellFormed c.topology
+        → Drove D.Device c (driven c answers events) old new
+        → KeepsApart D.Device c answers events old new }
+    ensures steps { (c : Setup) (events : List Event) (answers : List (List Bool)) (old new : D) → IsObject c.object → IsWellFormed c.topology
+        → Drove D.Device c (driven c answers events) old new
+        → StepsKeepApart D.Device c answers events old new }
+{
+    texts_are_lines();
+    driven_lines_stay_apart::<D>();
+    reach_keeps_apart();
 }

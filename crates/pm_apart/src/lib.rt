@@ -3,4 +3,6 @@
 
 mod laws;
 
-pub use laws::{driven_lines_stay_apart, lines_stay_apart, texts_are_lines};
+pub use laws::{
+    driven_lines_stay_apart, driven_runs_keep_apart, lines_stay_apart, texts_are_lines,
+};

@@ -1,4 +1,5 @@
 pub mod Answered
 pub mod Calls
+pub mod RunsCaused
 pub mod Statuses
 pub mod Tests

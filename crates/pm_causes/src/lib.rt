@@ -3,4 +3,4 @@
 
 mod causes;
 
-pub use causes::answers_have_causes;
+pub use causes::{answers_have_causes, runs_have_causes};

@@ -1,5 +1,5 @@
 -- What a comparison means, and how it came about.
-use Rattle.std.proofs.Common.{◌≡◌, ℕ, ◌+◌, ◌<◌, ◌⊎◌, Bool, List, [], ◌∷◌, ◌++◌, length, Option, Some, None, Result, Ok, Err, refl, sym, ◌∙◌, ap, subst, inl, inr, arith}
+use Rattle.std.proofs.Common.{◌≡◌, ℕ, ◌+◌, ◌⊎◌, List, [], ◌∷◌, ◌++◌, length, Option, Some, None, Result, Ok, Err, refl, sym, ◌∙◌, ap, subst, inl, inr, arith}
 use Rattle.std.specs.List.{concat}
 use Rattle.std.proofs.lemmas.List.{append-nil}
 use Rattle.pm_base.specs.Faults.{Rose}
@@ -11,9 +11,10 @@ use Rattle.pm_base.specs.declared.prefix.StopReason.{StopReason}
 use Rattle.pm_base.specs.declared.prefix.StopReason.TheVariants as reason
 use Rattle.pm_base.specs.declared.sink.Sink as Sink
 use Rattle.pm_base.specs.Inputs.{MayFail, Moment}
-use Rattle.pm_base.specs.Prefix.{HasSize, IsUnread, Prefix, ReadsPrefix}
+use Rattle.pm_base.specs.Prefix.{IsUnread, Prefix, ReadsPrefix}
 use Rattle.pm_base.specs.Sink.{HasFailed, IsUnfailed}
 use Rattle.pm_base.specs.Writing.{Leaves}
+use Rattle.pm_base.specs.declared.events.Event.{Event}
 use Rattle.pm_reach.specs.declared.members.Member.{Member}
 use Rattle.pm_reach.specs.Membership.{IsReach}
 use Rattle.pm_core.specs.Run.{Setup}
@@ -25,13 +26,14 @@ use Rattle.pm_trace.specs.declared.faults.Fault.TheVariants.{Line, Memory, Read}
 use Rattle.pm_trace.specs.Exits.{EndsBy, EndsWith, ExitSays, ExitsSay, IsStarved, IsWhole}
 use Rattle.pm_trace.specs.Faults.{exit_after, fault_text}
 use Rattle.pm_trace.specs.Reach.{reach_text}
-use Rattle.pm_trace.specs.Report.{Report, Reports, pieces, refusal, report_of}
+use Rattle.pm_trace.specs.Report.{Reports, pieces, refusal, report_of}
 use Rattle.pm_replay.specs.Replay.{fault_at}
-use Rattle.pm_replay.specs.Replayed.{IsHeldWhole, IsReadFault, IsScriptOf, script_exit, script_in, script_or_fault}
+use Rattle.pm_replay.specs.Replayed.{IsHeldWhole, IsReadFault, script_exit, script_in, script_or_fault}
 use Rattle.pm_isolate.specs.declared.comparison.Prepared.{Prepared}
 use Rattle.pm_isolate.specs.declared.worlds.Worlds.{Worlds}
-use Rattle.pm_isolate.specs.Compared.{Compared, Comparison, IsCompared, IsComparisonOf, TouchesNothing, comparison_report, script_of_job}
+use Rattle.pm_isolate.specs.Compared.{Compared, Comparison, IsCompared, IsComparisonOf, comparison_report, script_of_job}
 use Rattle.pm_isolate.specs.Differences.{differences, differences_where, isolate_report}
+use Rattle.pm_isolate.specs.Listed.{AreListed}
 use Rattle.pm_isolate.specs.Within.{IsPrepared, after, begun, end_text, report_behind, rest_report}
 use Rattle.pm_isolate.proofs.MarksLemmas.{end_is}
 
@@ -90,8 +92,8 @@ module _ {I O : Type 0} (i : Inputs.Ghosts I) (o : Sink.Ghosts O) (laws : Script
     said : ExitSays o (report_of (comparison_report c m) did.job did.answers) did.cut sink sink' result
     said = say (report_of (comparison_report c m) did.job did.answers) did.cut sink sink' result did.left did.ends
 
-    pub compare_done : i.observable → o.observable → result ≡ exit.Done → IsCompared i o c m name old sink sink'
-    compare_done seen written is = by did.job did.asked (said.done is)
+    pub compare_done : ((members : List Member) (events : List Event) → IsReach c.object c.topology m members → AreListed c m members events) → i.observable → o.observable → result ≡ exit.Done → IsCompared i o c m name old sink sink'
+    compare_done listed seen written is = by did.job did.asked (said.done is)
       where
         by : (job : Result Comparison Fault) → IsComparisonOf i c m name old new job → IsWhole o (report_of (comparison_report c m) job did.answers) did.cut sink sink' → IsCompared i o c m name old sink sink'
         by (Err fault) asked whole = absurd (some_is_none whole.faultless)
@@ -113,6 +115,7 @@ module _ {I O : Type 0} (i : Inputs.Ghosts I) (o : Sink.Ghosts O) (laws : Script
               text = whole.wrote.appended written
                   ∙ ap (λ (ps : List (List ℕ)). (o.state sink).bytes ++ concat ps) all
                   ∙ ap (λ (tail : List ℕ). (o.state sink).bytes ++ (reach_text job.members ++ tail)) (append-nil text);
+              listed = listed job.members s.events asked.reach;
             }
 
     pub compare_unfailed : result ≡ exit.Done → IsUnfailed (o.state sink) (o.state sink')

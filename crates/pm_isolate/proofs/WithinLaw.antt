@@ -1,6 +1,7 @@
 -- What differs between a run and the run without the messages of a master is within its reach.
-use Rattle.std.proofs.Common.{◌≡◌, ℕ, ◌<◌, ◌==◌, ◌↔◌, Bool, true, false, List, [], ◌∷◌, length, Option, Some, None, option_and_then, refl, sym, ◌∙◌, ap, subst}
-use Rattle.std.specs.Prelude.{slice_get}
+use Rattle.std.proofs.Common.{◌≡◌, ℕ, ◌<◌, ◌==◌, Bool, true, false, cond, suc, List, [], ◌∷◌, length, Option, Some, None, option_and_then, refl, sym, ◌∙◌, ap, subst}
+use Rattle.std.specs.Prelude.{filter, slice_get}
+use Rattle.std.specs.List.{AllByRecursion as Each}
 use Rattle.std.proofs.lemmas.Option.{slice_get_within}
 use Rattle.pm_base.specs.declared.events.Event.{Event}
 use Rattle.pm_base.specs.declared.names.LineId.{LineId}
@@ -8,6 +9,7 @@ use Rattle.pm_base.specs.declared.names.NodeId.{NodeId}
 use Rattle.pm_base.specs.declared.names.Unit.{Unit}
 use Rattle.pm_base.specs.declared.names.Unit.TheVariants.{Node, Line}
 use Rattle.pm_base.proofs.Searches.{position-first}
+use Rattle.pm_base.proofs.Tests.{present_from}
 use Rattle.pm_object.specs.declared.object.MasterRec.{MasterRec}
 use Rattle.pm_object.specs.declared.object.Object.{Object}
 use Rattle.pm_object.specs.Grammar.{IsObject}
@@ -17,12 +19,10 @@ use Rattle.pm_procs.specs.Procs.{mode_at}
 use Rattle.pm_topology.specs.declared.places.Kind.{Kind}
 use Rattle.pm_topology.specs.declared.places.Kind.TheVariants.{Proc, Slave, Power, Unknown}
 use Rattle.pm_topology.specs.declared.topology.LineDef.{LineDef}
-use Rattle.pm_topology.specs.declared.topology.PowerDef.{PowerDef}
 use Rattle.pm_topology.specs.declared.topology.ProcDef.{ProcDef}
-use Rattle.pm_topology.specs.declared.topology.SlaveDef.{SlaveDef}
 use Rattle.pm_topology.specs.declared.topology.Topology.{Topology}
 use Rattle.pm_topology.specs.Places.{IsKind, KindLaws, kind_of, line_place}
-use Rattle.pm_topology.specs.Units.{UnitLaws, has_unit}
+use Rattle.pm_topology.specs.Units.{UnitLaws, has_unit, same_unit, units_of}
 use Rattle.pm_topology.specs.WellFormed.{IsWellFormed}
 use Rattle.pm_reach.specs.declared.members.Member.{Member}
 use Rattle.pm_reach.specs.declared.members.MemberKind.{MemberKind}
@@ -43,8 +43,8 @@ use Rattle.pm_laws.specs.Quiet.{AreRunsAlike, IsStepAlike, quiet, quiet_event}
 use Rattle.pm_laws.specs.ReachBorder.{IsBorderOf, border_of, place_of}
 use Rattle.pm_laws.specs.Values.{is_beyond}
 use Rattle.pm_trace.specs.Closing.{shown}
-use Rattle.pm_isolate.specs.Listed.{HasMember, IsKindListed, IsListed, IsOfMember}
-use Rattle.pm_isolate.specs.Transitions.{Transition, changes, differs, history, transitions}
+use Rattle.pm_isolate.specs.Listed.{AreListed, HasMember, IsKindListed, IsListed, IsOfMember}
+use Rattle.pm_isolate.specs.Transitions.{changes, differs, history, transitions}
 use Rattle.pm_isolate.proofs.HistoryLemmas.{differs_only, one}
 use Rattle.pm_isolate.proofs.ListedLaw.{line_listed, master_listed, power_listed, slave_listed}
 
@@ -183,3 +183,25 @@ differs_within laws c m events found unit object chip reach there differ = by (i
     by : (b : Bool) → is_beyond c.object c.topology (border_of c.object c.topology m) unit ≡ b → IsListed c.object c.topology found unit
     by true beyond = absurd (differs_only (run c events) (run c (quiet m events)) unit differ (within laws c m events unit object chip beyond))
     by false not = listed laws c.object c.topology m found reach unit there not
+
+-- ---- each of all that differ
+
+each_at : {X : Type 0} (P : X → Type 0) (xs : List X) → ((k : ℕ) (x : X) → slice_get xs k ≡ Some x → P x) → Each P xs
+each_at P [] holds = tt
+each_at P (x ∷ xs) holds = (holds 0 x refl, each_at P xs (λ k y at. holds (suc k) y at))
+
+each_filter : {X : Type 0} (P : X → Type 0) (p : X → Bool) (xs : List X) → Each (λ x. p x ≡ true → P x) xs → Each P (filter p xs)
+each_filter P p [] all = tt
+each_filter {X} P p (x ∷ xs) all = at (p x) refl (each_filter P p xs all.1)
+  where
+    at : (b : Bool) → p x ≡ b → Each P (filter p xs) → Each P (cond b (x ∷ filter p xs) (filter p xs))
+    at true passes later = (all.0 passes, later)
+    at false fails later = later
+
+pub all_within : (laws : ReachLaws) (c : Setup) (m : NodeId) (events : List Event) (found : List Member) → IsObject c.object → IsWellFormed c.topology → IsReach c.object c.topology m found → AreListed c m found events
+all_within laws c m events found object chip reach =
+    let differ : Unit → Bool = differs (run c events) (run c (quiet m events)) in
+    let listed : Unit → Type 0 = IsListed c.object c.topology found in
+    each_filter listed differ (units_of c.topology) (each_at (λ (unit : Unit). differ unit ≡ true → listed unit) (units_of c.topology) (λ k unit at.
+    let there : has_unit c.topology unit ≡ true = sym (laws.units.found c.topology unit) ∙ present_from (λ (u : Unit). same_unit u unit) (units_of c.topology) k unit at (laws.units.itself unit) in
+    differs_within laws c m events found unit object chip reach there))

@@ -15,6 +15,7 @@ use Rattle.pm_trace.specs.declared.faults.Fault.{Fault}
 use Rattle.pm_trace.specs.Report.{Did, Report}
 use Rattle.pm_replay.specs.Replayed.{Holds, IsScriptOf}
 use Rattle.pm_isolate.specs.Differences.{isolate_report, isolate_text}
+use Rattle.pm_isolate.specs.Listed.{AreListed}
 
 -- what is compared: the members of the reach, and a script that can be begun
 pub record Comparison : Type 0 where
@@ -49,7 +50,7 @@ module _ {I O : Type 0} (i : Inputs.Ghosts I) (o : Sink.Ghosts O) where
 
   -- a script was held under the name, and what was written is the reach of the master, a line for each unit whose
   -- transitions differ between the run of that script and the run without the messages of the master, and the number of its
-  -- lines
+  -- lines. Each such unit is in that reach, or a processor of a master that is
   pub record IsCompared (c : Setup) (m : NodeId) (name : List ℕ) (old : I) (sink sink' : O) : Type 0 where
     pub script_bytes : List ℕ
     pub events : List Event
@@ -58,3 +59,4 @@ module _ {I O : Type 0} (i : Inputs.Ghosts I) (o : Sink.Ghosts O) where
     pub means : map meaning (lines_of script_bytes) ≡ map (λ event. Ok event) events
     pub reach : IsReach c.object c.topology m members
     pub text : (o.state sink').bytes ≡ (o.state sink).bytes ++ isolate_text c m members events
+    pub listed : AreListed c m members events

@@ -1,5 +1,7 @@
 -- What is listed in a reach: its members, and the processors of its masters.
 use Rattle.std.specs.Prelude.{◌≡◌, ℕ, List, Some, slice_get}
+use Rattle.std.specs.List.{AllByRecursion as Each}
+use Rattle.pm_base.specs.declared.events.Event.{Event}
 use Rattle.pm_base.specs.declared.names.NodeId.{NodeId}
 use Rattle.pm_base.specs.declared.names.Unit.{Unit}
 use Rattle.pm_base.specs.declared.names.Unit.TheVariants.{Node, Line}
@@ -13,6 +15,8 @@ use Rattle.pm_reach.specs.declared.members.MemberKind.{MemberKind}
 use Rattle.pm_reach.specs.declared.members.MemberKind.TheVariants as members
 use Rattle.pm_reach.specs.Leads.{node_at}
 use Rattle.pm_core.specs.Members.{owner_at}
+use Rattle.pm_core.specs.Run.{Setup}
+use Rattle.pm_isolate.specs.Differences.{differing}
 
 -- a member of this kind has this number
 pub record HasMember (found : List Member) (kind : MemberKind) (number : ℕ) : Type 0 where
@@ -39,3 +43,7 @@ IsKindListed object t found Unknown number = ⊥
 abbrev pub IsListed : Object → Topology → List Member → Unit → Type 0
 IsListed object t found (Node node) = IsKindListed object t found (kind_of t node) node.0
 IsListed object t found (Line line) = HasMember found members.Line line.0
+
+-- each unit that differs between the run of these events and the run without the messages of a master is so listed
+abbrev pub AreListed : Setup → NodeId → List Member → List Event → Type 0
+AreListed c m found events = Each (IsListed c.object c.topology found) (differing c m events)

@@ -6,6 +6,7 @@ ghost use Rattle.pm_base.specs.Faults.{Rose};
 ghost use Rattle.pm_base.specs.Inputs.{MayFail};
 ghost use Rattle.pm_base.specs.Sink.{HasFailed, IsUnfailed};
 ghost use Rattle.pm_base.specs.declared.prefix.StopReason.TheVariants.{Unbegun};
+ghost use Rattle.pm_object.specs.Grammar.{IsObject};
 ghost use Rattle.pm_topology.specs.Masters.{ObeysMasterRules};
 ghost use Rattle.pm_topology.specs.WellFormed.{IsWellFormed};
 ghost use Rattle.pm_script.specs.Script.{script_limit, script_lines, script_from, stop_of};
@@ -15,6 +16,7 @@ ghost use Rattle.pm_replay.specs.Replayed.{script_exit, script_in, setup};
 ghost use Rattle.pm_isolate.specs.Compared.{Compared, IsCompared};
 ghost use Rattle.pm_isolate.specs.Within.{IsPrepared, end_report, report_behind, rest_report, setup_in};
 
+use crate::laws::what_differs_is_reached;
 use crate::lines::run_lines;
 use crate::worlds::Worlds;
 use crate::writing::write_end;
@@ -45,11 +47,13 @@ pub fn compare<I: Inputs, O: Sink>(
     script: &str,
     out: &mut O,
 ) -> Exit
+    requires object { IsObject object }
     requires formed { IsWellFormed topology }
     requires masters { ObeysMasterRules topology }
     requires named { IsTrue (list_any (λ r. r.node == m.0) object.masters) }
     // On Done the input held a script under the name, and the whole text was written: the reach of the
-    // master, the units whose transitions differ in the two runs, and the number of script lines.
+    // master, the units whose transitions differ in the two runs, and the number of script lines. Each of these
+    // units is in that reach, or a processor of a master that is.
     ensures done { I.observable → O.observable → result ≡ Exit.Done
         → IsCompared I.Inputs O.Sink (setup object topology) m script.now inputs.old out.old out.new }
     // What the input holds decides the exit, unless memory is wanted or the sink fails.
@@ -71,6 +75,7 @@ pub fn compare<I: Inputs, O: Sink>(
     // Done comes only where no write failed, and none took 0 of a piece that isn't empty.
     ensures unfailed { result ≡ Exit.Done → IsUnfailed (O.state out.old) (O.state out.new) }
 {
+    what_differs_is_reached();
     scripts_are_read();
     exits_say::<O>();
     compare_named(alloc, object, topology, m, inputs, script, out)

@@ -1,6 +1,6 @@
 //! Laws of two runs: what it means that a unit differs, and that what differs is in the reach.
 
-ghost use Rattle.std.specs.Prelude.{◌≡◌, ℕ, true, false, List};
+ghost use Rattle.std.specs.Prelude.{◌≡◌, true, false, List};
 ghost use Rattle.pm_base.specs.declared.events.Event.{Event};
 ghost use Rattle.pm_base.specs.declared.names.NodeId.{NodeId};
 ghost use Rattle.pm_base.specs.declared.names.Unit.{Unit};
@@ -11,7 +11,7 @@ ghost use Rattle.pm_reach.specs.Membership.{IsReach};
 ghost use Rattle.pm_core.specs.Run.{Setup, Step, run};
 ghost use Rattle.pm_laws.specs.Quiet.{quiet};
 ghost use Rattle.pm_topology.specs.Units.{has_unit};
-ghost use Rattle.pm_isolate.specs.Listed.{IsListed};
+ghost use Rattle.pm_isolate.specs.Listed.{AreListed, IsListed};
 ghost use Rattle.pm_isolate.specs.Transitions.{differs, transitions};
 
 use pm_laws::{reach_is_closed, reach_keeps_apart, values_agree};
@@ -26,13 +26,16 @@ pub fn transitions_are_exact()
 {}
 
 /// A unit whose transitions differ between a run and the run without the messages of a master is a member of
-/// the reach of that master, or a processor of a master that is one.
+/// the reach of that master, or a processor of a master that is one; and so is each of all that differ.
 pub fn what_differs_is_reached()
-    ensures { (c : Setup) (m : NodeId) (events : List Event) (members : List Member) (unit : Unit)
+    ensures one { (c : Setup) (m : NodeId) (events : List Event) (members : List Member) (unit : Unit)
         → IsObject c.object → IsWellFormed c.topology → IsReach c.object c.topology m members
         → has_unit c.topology unit ≡ true
         → differs (run c events) (run c (quiet m events)) unit ≡ true
         → IsListed c.object c.topology members unit }
+    ensures all { (c : Setup) (m : NodeId) (events : List Event) (members : List Member)
+        → IsObject c.object → IsWellFormed c.topology → IsReach c.object c.topology m members
+        → AreListed c m members events }
 {
     reach_keeps_apart();
     reach_is_closed();

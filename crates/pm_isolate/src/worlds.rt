@@ -2,10 +2,7 @@
 
 ghost use Rattle.std.specs.Prelude.{◌≡◌, ◌<◌, false, IfOk, Some, length, slice_get};
 ghost use Rattle.pm_topology.specs.Masters.{ObeysMasterRules};
-ghost use Rattle.pm_topology.specs.Units.{units_of};
-ghost use Rattle.pm_topology.specs.UnitMap.{all_at};
 ghost use Rattle.pm_topology.specs.WellFormed.{IsWellFormed};
-ghost use Rattle.pm_laws.specs.Quiet.{quiet_event};
 ghost use Rattle.pm_replay.specs.Replayed.{setup};
 ghost use Rattle.pm_trace.specs.Closing.{shown};
 ghost use Rattle.pm_isolate.specs.Within.{begun, noted, noted_in, stepped};
@@ -13,6 +10,7 @@ ghost use Rattle.pm_isolate.specs.Within.{begun, noted, noted_in, stepped};
 use crate::runner::Runner;
 use pm_base::{Event, NoMemory, NodeId, Unit};
 use pm_core::Book;
+use pm_laws::quiet_event;
 use pm_object::Object;
 use pm_topology::{Topology, UnitMap, unit_map_places};
 use std::alloc::Global;
@@ -57,16 +55,6 @@ impl Worlds {
         self.loud.step(event);
         self.quiet.step(&quiet_event(m, event));
         note(self.loud.book(), self.quiet.book(), &mut self.differs);
-    }
-}
-
-/// The event, or nothing where it is a message of the master.
-fn quiet_event(m: NodeId, event: &Event) -> Event
-    ensures { result ≡ quiet_event m event.now }
-{
-    match event {
-        Event::Ipi { master, .. } => { if master.0 == m.0 { Event::Pass } else { *event } }
-        _ => *event,
     }
 }
 

@@ -8,8 +8,8 @@ use Rattle.pm_core.specs.State.{State}
 use Rattle.pm_core.specs.Step.{effect, outputs}
 use Rattle.pm_apply.specs.Part.{Kept, Part, answers_in, orders_of, part_in, part_of}
 use Rattle.pm_trace.specs.Step.{core_text}
-use Rattle.pm_replay.specs.Drive.{Driven, acts_of, drive}
-use Rattle.pm_replay.specs.Replay.{driven_text, until}
+use Rattle.pm_drive.specs.Drive.{Driven, acts_of, drive, until}
+use Rattle.pm_drive.specs.Text.{driven_text}
 use Rattle.pm_replay.specs.Within.{Controls, driven_from}
 use Rattle.pm_replay.proofs.LeavesLemmas.{behind}
 

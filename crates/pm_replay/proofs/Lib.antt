@@ -1,9 +1,7 @@
 pub mod DriveLemmas
-pub mod DroveLaw
-pub mod DroveLemmas
 pub mod LeavesLemmas
 pub mod LinesLemmas
-pub mod MetLemmas
 pub mod NoticesLemmas
 pub mod ReplayLemmas
 pub mod RestLemmas
+pub mod RunLaws

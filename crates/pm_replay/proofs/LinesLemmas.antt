@@ -20,8 +20,8 @@ use Rattle.pm_script.specs.Script.Stop.{Bad}
 use Rattle.pm_trace.specs.Step.{Notices, core_text, step_text}
 use Rattle.pm_replay.specs.declared.lines.LineStop.{LineStop}
 use Rattle.pm_replay.specs.declared.lines.LineStop.TheVariants as lines
-use Rattle.pm_replay.specs.Drive.{Driven, acts, acts_of, last_book, last_kept}
-use Rattle.pm_replay.specs.Replay.{driven_text, texts, until}
+use Rattle.pm_drive.specs.Drive.{Driven, acts, acts_of, last_book, last_kept, until}
+use Rattle.pm_drive.specs.Text.{driven_text, texts}
 use Rattle.pm_replay.specs.Within.{Controls, LinesEnd, RanEvent, RanLines, Went, driven_from}
 use Rattle.pm_replay.proofs.DriveLemmas.{acts_of_step, driven_next, driven_step, text_of_step, until-cons}
 use Rattle.pm_replay.proofs.LeavesLemmas.{Leaves-before, Leaves-cons, behind}

@@ -16,8 +16,10 @@ use Rattle.pm_base.specs.Prefix.{IsUnread, Prefix, ReadsPrefix, prefix_of}
 use Rattle.pm_base.specs.Sink.{HasFailed, IsUnfailed}
 use Rattle.pm_base.specs.Writing.{Leaves}
 use Rattle.pm_base.proofs.PrefixEnds.{prefix_fails, prefix_whole}
+use Rattle.pm_object.specs.Grammar.{IsObject}
+use Rattle.pm_topology.specs.WellFormed.{IsWellFormed}
 use Rattle.pm_device.specs.declared.device.Device as Device
-use Rattle.pm_core.specs.Run.{Setup}
+use Rattle.pm_core.specs.Run.{Setup, loaded}
 use Rattle.pm_script.specs.declared.meaning.LineFault.{LineFault}
 use Rattle.pm_script.specs.Meaning.{meaning}
 use Rattle.pm_script.specs.Script.{Script, Stop, before, script_from, script_limit, script_lines, script_of, script_where, stop_of}
@@ -27,13 +29,15 @@ use Rattle.pm_trace.specs.declared.faults.Fault.TheVariants.{Memory, Read}
 use Rattle.pm_trace.specs.Exits.{EndsBy, EndsWith, ExitSays, ExitsSay, IsStarved, IsWhole}
 use Rattle.pm_trace.specs.Faults.{exit_after, fault_text}
 use Rattle.pm_trace.specs.Report.{Reports, pieces, refusal, report_of}
-use Rattle.pm_replay.specs.Drive.{acts, driven}
-use Rattle.pm_replay.specs.Drove.{Drove}
-use Rattle.pm_replay.specs.Replay.{Touched, closing_after, closing_where, fault_at, replay_report, texts, until}
+use Rattle.pm_drive.specs.Drive.{acts, driven, until}
+use Rattle.pm_drive.specs.Drove.{Drove}
+use Rattle.pm_drive.specs.Text.{closing_after, texts}
+use Rattle.pm_replay.specs.Replay.{Touched, closing_where, fault_at, replay_report}
 use Rattle.pm_replay.specs.Replayed.{IsHeldWhole, IsReadFault, IsRun, IsScriptOf, Replayed, script_exit, script_in, script_or_fault}
 use Rattle.pm_replay.specs.Safe.{IsSafe}
-use Rattle.pm_replay.specs.Within.{RanScript}
+use Rattle.pm_replay.specs.Within.{Drives, RanNamed, RanScript}
 use Rattle.pm_replay.specs.World.{World}
+use Rattle.pm_replay.proofs.RunLaws.{RunLaws}
 
 -- ---- the script of a prefix
 
@@ -181,14 +185,14 @@ script_cause m name fails =
     prefix_fails script_limit (m.file name) m.room p refl (script_unread p fails)
 
 module _ {I O D : Type 0} (i : Inputs.Ghosts I) (o : Sink.Ghosts O) (d : Device.Ghosts D) (c : Setup) (name : List ℕ) (w w' : World I O D) (result : Exit) where
-  module _ (say : ExitsSay o) (did : Replayed i o d c name w w' result) where
+  module _ (say : ExitsSay o) (did : RanNamed i o d c name w w' result) where
     said : ExitSays o (report_of (replay_report c) did.job did.answers) did.cut w.sink w'.sink result
     said = say (report_of (replay_report c) did.job did.answers) did.cut w.sink w'.sink result did.left did.ends
 
-    pub replay_done : i.observable → o.observable → result ≡ exit.Done → IsRun i o d c name w w'
-    replay_done seen written is = by did.job did.asked did.touched (said.done is)
+    pub replay_done : RunLaws d → IsObject c.object → IsWellFormed c.topology → i.observable → o.observable → result ≡ exit.Done → IsRun i o d c name w w'
+    replay_done laws object formed seen written is = by did.job did.asked did.touched (said.done is)
       where
-        by : (job : Result Script Fault) → IsScriptOf i name w.inputs w'.inputs job → Touched d c w.device w'.device job did.answers did.cut → IsWhole o (report_of (replay_report c) job did.answers) did.cut w.sink w'.sink → IsRun i o d c name w w'
+        by : (job : Result Script Fault) → IsScriptOf i name w.inputs w'.inputs job → Drives d c w.device w'.device job did.answers did.cut → IsWhole o (report_of (replay_report c) job did.answers) did.cut w.sink w'.sink → IsRun i o d c name w w'
         by (Err fault) asked touched whole = absurd (some_is_none whole.faultless)
         by (Ok s) asked touched whole =
             let stop : s.stop ≡ End = end_by (1 + length s.events) s.stop whole.faultless in
@@ -197,6 +201,7 @@ module _ {I O D : Type 0} (i : Inputs.Ghosts I) (o : Sink.Ghosts O) (d : Device.
             ap (λ (stop : Stop). texts 0 steps ++ closing_where stop (closing_after c steps)) stop
             in
             let read : IsHeldWhole (i.state w.inputs) name s.events = read_whole (i.state w.inputs) name s (elim (asked.shown seen) [ inl memory ↦ absurd (err_is_ok (sym memory)) | inr script ↦ script ]) stop in
+            let drove : Drove d c steps w.device w'.device = subst (λ (cut : Option ℕ). Drove d c (until cut steps) w.device w'.device) whole.uncut touched in
             record {
               script_bytes = read.bytes;
               events = s.events;
@@ -204,7 +209,9 @@ module _ {I O D : Type 0} (i : Inputs.Ghosts I) (o : Sink.Ghosts O) (d : Device.
               held = read.held;
               means = read.means;
               text = whole.wrote.appended written ∙ ap (λ (ps : List (List ℕ)). (o.state w.sink).bytes ++ concat ps) all;
-              drove = subst (λ (cut : Option ℕ). Drove d c (until cut steps) w.device w'.device) whole.uncut touched;
+              drove = drove;
+              keeps = laws.run c s.events did.answers w.device w'.device object formed drove;
+              causes = laws.causes s.events (loaded c s.events);
             }
 
     pub replay_unfailed : result ≡ exit.Done → IsUnfailed (o.state w.sink) (o.state w'.sink)
@@ -248,16 +255,28 @@ module _ {I O D : Type 0} (i : Inputs.Ghosts I) (o : Sink.Ghosts O) (d : Device.
         by job (inl memory) (inl ends) = inr (inl (ends ∙ same job ∙ ap script_exit memory))
         by job (inr script) (inl ends) = inl (ends ∙ same job ∙ ap script_exit script)
 
-  pub replay_safe : Replayed i o d c name w w' result → IsSafe d c.topology w.device w'.device
+  pub replay_safe : RanNamed i o d c name w w' result → IsSafe d c.topology w.device w'.device
   replay_safe did = by did.job did.answers did.cut did.touched
     where
-      by : (job : Result Script Fault) (answers : List (List Bool)) (cut : Option ℕ) → Touched d c w.device w'.device job answers cut → IsSafe d c.topology w.device w'.device
+      by : (job : Result Script Fault) (answers : List (List Bool)) (cut : Option ℕ) → Drives d c w.device w'.device job answers cut → IsSafe d c.topology w.device w'.device
       by (Err fault) answers cut same = record { acts = []; given = same; ordered = tt }
       by (Ok s) answers cut drove = record { acts = acts (until cut (driven c answers s.events)); given = drove.given; ordered = drove.ordered }
 
+  -- what is known of the steps that were done
+  pub replay_known : RunLaws d → IsObject c.object → IsWellFormed c.topology → RanNamed i o d c name w w' result → Replayed i o d c name w w' result
+  replay_known laws object formed did = record { job = did.job; answers = did.answers; cut = did.cut; asked = did.asked; left = did.left; ends = did.ends; touched = by did.job did.touched }
+    where
+      by : (job : Result Script Fault) → Drives d c w.device w'.device job did.answers did.cut → Touched d c w.device w'.device job did.answers did.cut
+      by (Ok s) drove = record {
+        drove = drove;
+        keeps = λ whole. laws.steps c s.events did.answers w.device w'.device object formed (subst (λ (cut : Option ℕ). Drove d c (until cut (driven c did.answers s.events)) w.device w'.device) whole drove);
+        causes = laws.causes s.events (loaded c s.events);
+      }
+      by (Err fault) same = same
+
   -- ---- how a replay came about
 
-  pub replay_refused : (fault : Fault) → IsScriptOf i name w.inputs w'.inputs (Err fault) → Reports o (refusal fault) w.sink w'.sink result → w.device ≡ w'.device → Replayed i o d c name w w' result
+  pub replay_refused : (fault : Fault) → IsScriptOf i name w.inputs w'.inputs (Err fault) → Reports o (refusal fault) w.sink w'.sink result → w.device ≡ w'.device → RanNamed i o d c name w w' result
   replay_refused fault asked reports same = record { job = Err fault; answers = []; cut = reports.cut; asked = asked; left = reports.left; ends = reports.ends; touched = same }
 
   pub starved : IsScriptOf i name w.inputs w'.inputs (Err Memory)
@@ -280,5 +299,5 @@ module _ {I O D : Type 0} (i : Inputs.Ghosts I) (o : Sink.Ghosts O) (d : Device.
     known = tt;
   }
 
-  pub replay_ran : (s : Script) → IsScriptOf i name w.inputs w'.inputs (Ok s) → (ran : RanScript o d c s w.sink w'.sink w.device w'.device result) → Drove d c (until ran.cut (driven c ran.answers s.events)) w.device w'.device → Replayed i o d c name w w' result
+  pub replay_ran : (s : Script) → IsScriptOf i name w.inputs w'.inputs (Ok s) → (ran : RanScript o d c s w.sink w'.sink w.device w'.device result) → Drove d c (until ran.cut (driven c ran.answers s.events)) w.device w'.device → RanNamed i o d c name w w' result
   replay_ran s asked ran drove = record { job = Ok s; answers = ran.answers; cut = ran.cut; asked = asked; left = ran.went.left; ends = ran.ends; touched = drove }

@@ -37,8 +37,9 @@ use Rattle.pm_trace.specs.Faults.{exit_after}
 use Rattle.pm_trace.specs.Report.{Report, Reports, exit_of, fault_lines, pieces, refusal}
 use Rattle.pm_trace.specs.Step.{Notices, core_text, notices_in, notices_of, step_text}
 use Rattle.pm_replay.specs.declared.lines.LineStop.TheVariants as lines
-use Rattle.pm_replay.specs.Drive.{Driven, acts, acts_of, drive, driven, last_book, last_kept}
-use Rattle.pm_replay.specs.Replay.{closing_where, fault_at, replay_report, texts, until}
+use Rattle.pm_drive.specs.Drive.{Driven, acts, acts_of, drive, driven, last_book, last_kept, until}
+use Rattle.pm_drive.specs.Text.{texts}
+use Rattle.pm_replay.specs.Replay.{closing_where, fault_at, replay_report}
 use Rattle.pm_replay.specs.Within.{Controls, IsLoaded, RanLines, RanRest, RanScript, Started, Went, closing_report, driven_from, report_from, setup_of}
 use Rattle.pm_replay.specs.Replayed.{setup}
 use Rattle.pm_replay.proofs.DriveLemmas.{until-cons}

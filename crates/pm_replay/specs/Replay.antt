@@ -1,41 +1,21 @@
 -- The run of a script over a book and a device: what is written, where it breaks off, and what the device was given.
-use Rattle.std.specs.Prelude.{◌≡◌, ◌+◌, ℕ, Bool, List, [], ◌∷◌, ◌++◌, length, take, Option, Some, None, Result, Ok, Err}
+use Rattle.std.specs.Prelude.{◌≡◌, ◌+◌, ℕ, Bool, List, [], ◌∷◌, ◌++◌, length, Option, Some, None, Result, Ok, Err}
 use Rattle.pm_device.specs.declared.device.Device as Device
-use Rattle.pm_core.specs.Load.{load_of}
-use Rattle.pm_core.specs.Run.{Core, Setup}
-use Rattle.pm_apply.specs.Part.{Part}
-use Rattle.pm_apply.specs.Record.{at_zero}
+use Rattle.pm_core.specs.Run.{Setup, loaded, steps_of}
+use Rattle.pm_causes.specs.Caused.{HaveCauses}
 use Rattle.pm_script.specs.Script.{Script, Stop}
 use Rattle.pm_script.specs.Script.Stop.{End, Bad, Past, Failed}
 use Rattle.pm_trace.specs.declared.faults.Fault.{Fault}
 use Rattle.pm_trace.specs.declared.faults.Fault.TheVariants.{Line, Size, Read}
-use Rattle.pm_trace.specs.Step.{core_text}
-use Rattle.pm_trace.specs.Closing.{closing_text}
 use Rattle.pm_trace.specs.Report.{Report}
-use Rattle.pm_replay.specs.Drive.{Driven, driven, last_book, last_kept}
-use Rattle.pm_replay.specs.Drove.{Drove}
+use Rattle.pm_drive.specs.Drive.{driven, until}
+use Rattle.pm_drive.specs.Drove.{Drove}
+use Rattle.pm_drive.specs.Text.{closing_after, texts}
+use Rattle.pm_apart.specs.Apart.{StepsKeepApart}
 
 -- ---- the text
 
--- the lines of a script line's core steps, each numbered by the line
-abbrev pub cores_text : ℕ → List Core → List Part → List ℕ
-cores_text n [] parts = []
-cores_text n (c ∷ cores) [] = []
-cores_text n (c ∷ cores) (part ∷ parts) = core_text n c.outputs part ++ cores_text n cores parts
-
-abbrev pub driven_text : ℕ → Driven → List ℕ
-driven_text n x = cores_text n x.step.cores x.parts
-
--- the texts of steps, the first of which has this number
-abbrev pub texts : ℕ → List Driven → List (List ℕ)
-texts n [] = []
-texts n (x ∷ xs) = driven_text n x ∷ texts (n + 1) xs
-
--- the closing table after some steps of a run
-abbrev pub closing_after : Setup → List Driven → List ℕ
-closing_after c xs = closing_text (last_book (load_of c.object c.topology) xs) (last_kept (at_zero c.topology) xs)
-
--- it is written where the script came to its end
+-- the closing table is written where the script came to its end
 abbrev pub closing_where : Stop → List ℕ → List (List ℕ)
 closing_where End table = table ∷ []
 closing_where (Bad cause) table = []
@@ -58,13 +38,16 @@ replay_report c s answers = record {
 
 -- ---- the device
 
--- the steps that are carried out where the text breaks off within this piece: that of the piece, and those before it
-abbrev pub until : {X : Type 0} → Option ℕ → List X → List X
-until None xs = xs
-until (Some k) xs = take (k + 1) xs
-
 module _ {D : Type 0} (d : Device.Ghosts D) where
-  -- the device was driven through the steps up to the cut, or nothing was done to it
+  -- the device was driven through the steps of a script up to the cut
+  pub record DroveScript (c : Setup) (s : Script) (answers : List (List Bool)) (cut : Option ℕ) (old new : D) : Type 0 where
+    pub drove : Drove d c (until cut (driven c answers s.events)) old new
+    -- where there is no cut the steps, also of a script that stops at a fault, keep apart what is beyond the reach of a master
+    pub keeps : cut ≡ None → StepsKeepApart d c answers s.events old new
+    -- each answer has its causes in the book before its step
+    pub causes : HaveCauses (loaded c s.events) (steps_of s.events (loaded c s.events))
+
+  -- so it was, or nothing was done to it
   abbrev pub Touched : Setup → D → D → Result Script Fault → List (List Bool) → Option ℕ → Type 0
-  Touched c old new (Ok s) answers cut = Drove d c (until cut (driven c answers s.events)) old new
+  Touched c old new (Ok s) answers cut = DroveScript c s answers cut old new
   Touched c old new (Err fault) answers cut = old ≡ new

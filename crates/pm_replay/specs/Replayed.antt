@@ -1,6 +1,5 @@
 -- What a replay of a named script did, on every exit, and what each exit means.
-use Rattle.std.specs.Prelude.{◌≡◌, ℕ, ◌+◌, ◌⊎◌, Bool, List, [], ◌∷◌, ◌++◌, length, map, Option, Some, None, Result, Ok, Err, IsSomeAnd, OnErr}
-use Rattle.std.specs.List.{concat}
+use Rattle.std.specs.Prelude.{◌≡◌, ℕ, ◌+◌, ◌⊎◌, Bool, List, ◌++◌, length, map, Option, Some, None, Result, Ok, Err, IsSomeAnd, OnErr}
 use Rattle.pm_base.specs.declared.errors.Exit.{Exit}
 use Rattle.pm_base.specs.declared.events.Event.{Event}
 use Rattle.pm_base.specs.declared.inputs.Inputs as Inputs
@@ -12,7 +11,8 @@ use Rattle.pm_base.specs.Prefix.{prefix_of}
 use Rattle.pm_object.specs.declared.object.Object.{Object}
 use Rattle.pm_topology.specs.declared.topology.Topology.{Topology}
 use Rattle.pm_device.specs.declared.device.Device as Device
-use Rattle.pm_core.specs.Run.{Setup}
+use Rattle.pm_core.specs.Run.{Setup, loaded, steps_of}
+use Rattle.pm_causes.specs.Caused.{HaveCauses}
 use Rattle.pm_script.specs.Meaning.{meaning}
 use Rattle.pm_script.specs.Script.{Script, script_limit, script_of}
 use Rattle.pm_script.specs.Script.Stop.{Failed}
@@ -20,9 +20,11 @@ use Rattle.pm_trace.specs.declared.faults.Fault.{Fault}
 use Rattle.pm_trace.specs.declared.faults.Fault.TheVariants.{Memory, Read}
 use Rattle.pm_trace.specs.Faults.{exit_after}
 use Rattle.pm_trace.specs.Report.{Did}
-use Rattle.pm_replay.specs.Drive.{driven}
-use Rattle.pm_replay.specs.Drove.{Drove}
-use Rattle.pm_replay.specs.Replay.{Touched, closing_after, fault_at, replay_report, texts}
+use Rattle.pm_drive.specs.Drive.{driven}
+use Rattle.pm_drive.specs.Drove.{Drove}
+use Rattle.pm_drive.specs.Text.{run_text}
+use Rattle.pm_apart.specs.Apart.{KeepsApart}
+use Rattle.pm_replay.specs.Replay.{Touched, fault_at, replay_report}
 use Rattle.pm_replay.specs.World.{World}
 
 abbrev pub setup : Object → Topology → Setup
@@ -59,10 +61,6 @@ module _ {I O D : Type 0} (i : Inputs.Ghosts I) (o : Sink.Ghosts O) (d : Device.
   Replayed c name w w' exit =
       Did o (IsScriptOf i name w.inputs w'.inputs) (replay_report c) (Touched d c w.device w'.device) w.sink w'.sink exit
 
--- the whole text of a run: that of step 0 and of each step, and the closing table
-abbrev pub run_text : Setup → List (List Bool) → List Event → List ℕ
-run_text c answers events = concat (texts 0 (driven c answers events) ++ closing_after c (driven c answers events) ∷ [])
-
 -- an input holds these bytes under a name
 abbrev pub Holds : Moment → List ℕ → List ℕ → Type 0
 Holds m name bytes = IsSomeAnd (m.file name) (λ file. file.bytes ≡ bytes)
@@ -74,8 +72,9 @@ pub record IsHeldWhole (m : Moment) (name : List ℕ) (events : List Event) : Ty
   pub means : map meaning (lines_of bytes) ≡ map (λ event. Ok event) events
 
 module _ {I O D : Type 0} (i : Inputs.Ghosts I) (o : Sink.Ghosts O) (d : Device.Ghosts D) where
-  -- a script was held under the name, the whole text of its run was written under the device's answers, and the device was
-  -- driven through that run
+  -- a script was held under the name, the whole text of its run was written under the device's answers, the device was
+  -- driven through that run, the run keeps apart what is beyond the reach of a master, and each answer has its causes in the
+  -- book before its step
   pub record IsRun (c : Setup) (name : List ℕ) (w w' : World I O D) : Type 0 where
     pub script_bytes : List ℕ
     pub events : List Event
@@ -84,3 +83,5 @@ module _ {I O D : Type 0} (i : Inputs.Ghosts I) (o : Sink.Ghosts O) (d : Device.
     pub means : map meaning (lines_of script_bytes) ≡ map (λ event. Ok event) events
     pub text : (o.state w'.sink).bytes ≡ (o.state w.sink).bytes ++ run_text c answers events
     pub drove : Drove d c (driven c answers events) w.device w'.device
+    pub keeps : KeepsApart d c answers events w.device w'.device
+    pub causes : HaveCauses (loaded c events) (steps_of events (loaded c events))

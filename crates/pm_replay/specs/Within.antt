@@ -4,6 +4,7 @@ use Rattle.std.specs.Prelude.{◌≡◌, ℕ, ◌+◌, Bool, List, [], ◌∷◌
 use Rattle.pm_base.specs.declared.errors.Exit.{Exit}
 use Rattle.pm_base.specs.declared.errors.Failed.{Failed}
 use Rattle.pm_base.specs.declared.events.Event.{Event}
+use Rattle.pm_base.specs.declared.inputs.Inputs as Inputs
 use Rattle.pm_base.specs.declared.sink.Sink as Sink
 use Rattle.pm_base.specs.Sink.{Wrote}
 use Rattle.pm_base.specs.Writing.{BreaksIn, Leaves}
@@ -20,12 +21,17 @@ use Rattle.pm_apply.specs.Record.{at_zero}
 use Rattle.pm_script.specs.Script.{Script, Stop}
 use Rattle.pm_script.specs.Script.Stop.{Bad}
 use Rattle.pm_trace.specs.Closing.{closing_text}
-use Rattle.pm_trace.specs.Report.{Report, exit_of, pieces}
+use Rattle.pm_trace.specs.declared.faults.Fault.{Fault}
+use Rattle.pm_trace.specs.Report.{Did, Report, exit_of, pieces}
 use Rattle.pm_trace.specs.Step.{notices_in, notices_of, step_text}
 use Rattle.pm_replay.specs.declared.lines.LineStop.{LineStop}
 use Rattle.pm_replay.specs.declared.lines.LineStop.TheVariants as lines
-use Rattle.pm_replay.specs.Drive.{Driven, acts, drive, driven, last_book, last_kept}
-use Rattle.pm_replay.specs.Replay.{closing_where, fault_at, replay_report, texts, until}
+use Rattle.pm_drive.specs.Drive.{Driven, acts, drive, driven, last_book, last_kept, until}
+use Rattle.pm_drive.specs.Drove.{Drove}
+use Rattle.pm_drive.specs.Text.{texts}
+use Rattle.pm_replay.specs.Replay.{closing_where, fault_at, replay_report}
+use Rattle.pm_replay.specs.Replayed.{IsScriptOf}
+use Rattle.pm_replay.specs.World.{World}
 
 -- the book, the values that the device last took, and the outbox of the last step
 pub record Controls : Type 0 where
@@ -119,3 +125,15 @@ module _ {O D : Type 0} (o : Sink.Ghosts O) (d : Device.Ghosts D) where
     pub cut : Option ℕ
     pub went : Went (pieces (replay_report c s answers)) (driven c answers s.events) cut old new from to
     pub ends : exit ≡ exit_of (replay_report c s answers) cut
+
+module _ {D : Type 0} (d : Device.Ghosts D) where
+  -- the device was driven through the steps up to the cut, or nothing was done to it
+  abbrev pub Drives : Setup → D → D → Result Script Fault → List (List Bool) → Option ℕ → Type 0
+  Drives c old new (Ok s) answers cut = Drove d c (until cut (driven c answers s.events)) old new
+  Drives c old new (Err fault) answers cut = old ≡ new
+
+module _ {I O D : Type 0} (i : Inputs.Ghosts I) (o : Sink.Ghosts O) (d : Device.Ghosts D) where
+  -- a named script was run from the load: what was asked for, what was written of it, and what the device was given
+  abbrev pub RanNamed : Setup → List ℕ → World I O D → World I O D → Exit → Type 0
+  RanNamed c name w w' exit =
+      Did o (IsScriptOf i name w.inputs w'.inputs) (replay_report c) (Drives d c w.device w'.device) w.sink w'.sink exit

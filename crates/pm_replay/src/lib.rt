@@ -7,5 +7,5 @@ mod lines;
 mod run;
 mod writing;
 
-pub use laws::{a_script_that_fails, driven_follows, scripts_are_read};
+pub use laws::{a_script_that_fails, scripts_are_read};
 pub use run::replay;

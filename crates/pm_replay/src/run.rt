@@ -9,7 +9,8 @@ ghost use Rattle.pm_base.specs.declared.prefix.StopReason.TheVariants.{Unbegun};
 ghost use Rattle.pm_script.specs.Script.{script_limit, script_lines, script_from, stop_of};
 ghost use Rattle.pm_topology.specs.Masters.{ObeysMasterRules};
 ghost use Rattle.pm_topology.specs.WellFormed.{IsWellFormed};
-ghost use Rattle.pm_replay.specs.Within.{IsLoaded, RanRest, RanScript, closing_report, setup_of};
+ghost use Rattle.pm_object.specs.Grammar.{IsObject};
+ghost use Rattle.pm_replay.specs.Within.{IsLoaded, RanNamed, RanRest, RanScript, closing_report, setup_of};
 ghost use Rattle.pm_trace.specs.Exits.{EndsWith, IsStarved};
 ghost use Rattle.pm_trace.specs.Report.{Reports};
 ghost use Rattle.pm_replay.specs.Replayed.{IsRun, Replayed, script_exit, script_in, setup};
@@ -17,11 +18,13 @@ ghost use Rattle.pm_replay.specs.Safe.{IsSafe};
 ghost use Rattle.pm_replay.specs.World.{world};
 
 use crate::controller::Controller;
-use crate::laws::driven_follows;
 use crate::lines::{LineStop, run_lines};
 use crate::writing::{write_closing, write_step};
+use pm_apart::driven_runs_keep_apart;
 use pm_base::{Exit, Failed, Inputs, NoMemory, Prefix, Sink, StopReason, gather};
+use pm_causes::runs_have_causes;
 use pm_device::Device;
+use pm_drive::driven_follows;
 use pm_object::Object;
 use pm_script::SCRIPT_LIMIT;
 use pm_topology::Topology;
@@ -43,11 +46,14 @@ pub fn replay<I: Inputs, O: Sink, D: Device>(
     out: &mut O,
     dev: &mut D,
 ) -> Exit
+    requires object { IsObject object }
     requires formed { IsWellFormed topology }
     requires masters { ObeysMasterRules topology }
     requires idle { D.values_observable → (unit : Unit) → (D.state dev.old).value unit ≡ 0 }
     // On Done the input held a script under the name, the whole text of its run was written, and the
-    // device was driven through that run.
+    // device was driven through that run. For each master and each unit beyond its reach, while the device
+    // reports no failure, the lines about the unit are those of the run without the messages of the master. Each answer
+    // has its causes.
     ensures done { I.observable → O.observable → result ≡ Exit.Done
         → IsRun I.Inputs O.Sink D.Device (setup object topology) script.now
         (world inputs.old out.old dev.old) (world inputs.new out.new dev.new) }
@@ -56,7 +62,8 @@ pub fn replay<I: Inputs, O: Sink, D: Device>(
         → EndsWith O.Sink (script_exit (script_in (I.state inputs.old) script.now)) out.old out.new result }
     // On every exit: nothing was used without power, and no domain went down under its users.
     ensures safe { IsSafe D.Device topology dev.old dev.new }
-    // On every exit: what was asked for, what was written of it, and what was done to the device.
+    // On every exit: what was asked for, what was written of it, and what was done to the device; and of the steps
+    // of a run that isn't cut the same as on Done.
     ensures ran { Replayed I.Inputs O.Sink D.Device (setup object topology) script.now
         (world inputs.old out.old dev.old) (world inputs.new out.new dev.new) result }
     // On Memory nothing was written but the fault line, as far as the sink took it.
@@ -73,6 +80,8 @@ pub fn replay<I: Inputs, O: Sink, D: Device>(
     ensures unfailed { result ≡ Exit.Done → IsUnfailed (O.state out.old) (O.state out.new) }
 {
     exits_say::<O>();
+    driven_runs_keep_apart::<D>();
+    runs_have_causes();
     run_named(alloc, object, topology, inputs, script, out, dev)
 }
 
@@ -89,7 +98,7 @@ fn run_named<I: Inputs, O: Sink, D: Device>(
     requires formed { IsWellFormed topology }
     requires masters { ObeysMasterRules topology }
     requires idle { D.values_observable → (unit : Unit) → (D.state dev.old).value unit ≡ 0 }
-    ensures { Replayed I.Inputs O.Sink D.Device (setup object topology) script.now
+    ensures { RanNamed I.Inputs O.Sink D.Device (setup object topology) script.now
         (world inputs.old out.old dev.old) (world inputs.new out.new dev.new) result }
 {
     let Ok(mut controller) = load(alloc, object, topology) else {
@@ -120,7 +129,7 @@ fn run_loaded<I: Inputs, O: Sink, D: Device>(
     requires formed { IsWellFormed (setup_of controller.old.book).topology }
     requires loaded { IsLoaded controller.old }
     requires idle { D.values_observable → (unit : Unit) → (D.state dev.old).value unit ≡ 0 }
-    ensures { Replayed I.Inputs O.Sink D.Device (setup_of controller.old.book) script.now
+    ensures { RanNamed I.Inputs O.Sink D.Device (setup_of controller.old.book) script.now
         (world inputs.old out.old dev.old) (world inputs.new out.new dev.new) result }
 {
     let Ok(script) = gather(alloc, inputs, script, SCRIPT_LIMIT) else {

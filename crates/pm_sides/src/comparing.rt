@@ -1,5 +1,8 @@
 //! A run of a script is compared with the run without the messages of a master.
 
+ghost use Rattle.std.specs.Prelude.{IfOk};
+ghost use Rattle.pm_object.specs.Grammar.{IsObject};
+
 use crate::table::small_chip;
 use pm_base::{Exit, MemInputs, MemSink, NodeId};
 use pm_isolate::compare;
@@ -68,7 +71,9 @@ steps 9
 ];
 
 /// The object of the tests.
-fn object(alloc: Global) -> Result<Object, Fail> {
+pub(crate) fn object(alloc: Global) -> Result<Object, Fail>
+    ensures { IfOk result IsObject }
+{
     let mut bytes = Vec::new(alloc);
     for word in OBJECT {
         bytes.extend_from_slice(&word.to_le_bytes())?;

@@ -1,12 +1,12 @@
 -- Two runs that are compared: what is asked for, and what is written.
-use Rattle.std.proofs.Common.{◌≡◌, ℕ, ◌≤◌, ◌⊎◌, true, List, [], Option, Some, None, Result, Ok, Err, refl, sym, ◌∙◌, ap, subst, inl, inr, arith}
+use Rattle.std.proofs.Common.{◌≡◌, ℕ, ◌≤◌, ◌⊎◌, true, List, Option, Some, None, Result, Ok, Err, refl, sym, ◌∙◌, ap, subst, inl, inr, arith}
 use Rattle.std.specs.Prelude.{IfOk, IsSomeAnd, OnErr}
 use Rattle.pm_base.specs.Faults.{Rose}
 use Rattle.pm_base.specs.declared.errors.Exit.{Exit}
 use Rattle.pm_base.specs.declared.inputs.Inputs as Inputs
 use Rattle.pm_base.specs.declared.names.NodeId.{NodeId}
 use Rattle.pm_base.specs.declared.sink.Sink as Sink
-use Rattle.pm_base.specs.Inputs.{File, Moment}
+use Rattle.pm_base.specs.Inputs.{File}
 use Rattle.pm_base.specs.Writing.{Leaves}
 use Rattle.pm_base.proofs.PrefixEnds.{prefix_whole}
 use Rattle.pm_object.specs.declared.object.Object.{Object}
@@ -139,4 +139,5 @@ module _ {I O : Type 0} (i : Inputs.Ghosts I) (o : Sink.Ghosts O) (ws : List (Li
     named = named;
     reach = did.reach;
     text = did.text;
+    listed = did.listed;
   }

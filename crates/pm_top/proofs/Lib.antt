@@ -1,4 +1,3 @@
-pub mod ApartLemmas
 pub mod CauseLemmas
 pub mod ConversionLemmas
 pub mod ExitsLemmas

@@ -25,17 +25,16 @@ use Rattle.pm_top.specs.Form.{word}
 use Rattle.pm_top.specs.Job.{IsAsked, object_limit, object_of}
 use Rattle.pm_top.specs.Ran.{RanForm}
 use Rattle.pm_top.specs.Within.{ReadsAs}
-use Rattle.pm_top.proofs.ApartLemmas.{ApartLaws, chip_formed, steps_apart}
 use Rattle.pm_top.proofs.ConversionLemmas.{object_end}
 use Rattle.pm_top.proofs.JobLemmas.{asked_refused, asked_replay, err_is, starved}
 
-module _ {I O D : Type 0} (i : Inputs.Ghosts I) (o : Sink.Ghosts O) (d : Device.Ghosts D) (ws : List (List ℕ)) (old mid new : I) (sink sink' : O) (dev dev' : D) (result : Exit) (laws : ApartLaws d) where
+module _ {I O D : Type 0} (i : Inputs.Ghosts I) (o : Sink.Ghosts O) (d : Device.Ghosts D) (ws : List (List ℕ)) (old mid new : I) (sink sink' : O) (dev dev' : D) (result : Exit) where
   -- the object was read, and the replay of the script over it did its job
   pub script_ran : (object : Object) → ReadsAs object_of Reads object_limit i.observable (word 1 ws) (i.state old) (i.state mid) (Ok object) → Replayed i o d (setup object chip) (word 2 ws) (world mid sink dev) (world new sink' dev') result → RanForm i o d (Some Replay) ws (world old sink dev) (world new sink' dev') result
   script_ran object reads did = by did.job did.asked did.left did.ends did.touched
     where
       by : (job : Result Script Fault) → IsScriptOf i (word 2 ws) mid new job → Leaves o (pieces (report_of (replay_report (setup object chip)) job did.answers)) did.cut sink sink' → result ≡ exit_of (report_of (replay_report (setup object chip)) job did.answers) did.cut → Touched d (setup object chip) dev dev' job did.answers did.cut → RanForm i o d (Some Replay) ws (world old sink dev) (world new sink' dev') result
-      by (Ok s) asked left ends touched = record { job = Ok (setup object chip, s); answers = did.answers; cut = did.cut; asked = asked_replay i ws old mid new object (Ok s) reads asked; left = left; ends = ends; touched = (touched, steps_apart d laws (setup object chip) reads.says.object chip_formed s.events did.answers did.cut dev dev' touched) }
+      by (Ok s) asked left ends touched = record { job = Ok (setup object chip, s); answers = did.answers; cut = did.cut; asked = asked_replay i ws old mid new object (Ok s) reads asked; left = left; ends = ends; touched = touched }
       by (Err fault) asked left ends touched = record { job = Err fault; answers = did.answers; cut = did.cut; asked = asked_replay i ws old mid new object (Err fault) reads asked; left = left; ends = ends; touched = touched }
 
   pub script_done : (object : Object) → ReadsAs object_of Reads object_limit i.observable (word 1 ws) (i.state old) (i.state mid) (Ok object) → i.observable → IsRun i o d (setup object chip) (word 2 ws) (world mid sink dev) (world new sink' dev') → IsReplayed i o d ws (world old sink dev) (world new sink' dev')
@@ -51,9 +50,8 @@ module _ {I O D : Type 0} (i : Inputs.Ghosts I) (o : Sink.Ghosts O) (d : Device.
     means = run.means;
     text = run.text;
     drove = run.drove;
-    lines = laws.whole_text (setup object chip) run.answers run.events;
-    apart = λ none. laws.whole (setup object chip) run.events run.answers dev dev' reads.says.object chip_formed none run.drove;
-    transitions = λ m. laws.values (setup object chip) m run.events reads.says.object chip_formed;
+    keeps = run.keeps;
+    causes = run.causes;
   }
 
 module _ {I O D : Type 0} (i : Inputs.Ghosts I) (o : Sink.Ghosts O) (d : Device.Ghosts D) (ws : List (List ℕ)) (old new : I) (sink sink' : O) (dev : D) (result : Exit) where

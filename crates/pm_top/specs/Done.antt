@@ -1,6 +1,5 @@
 -- The headline: what Done means. No limit, no reason to stop and no cut occurs in it.
 use Rattle.std.specs.Prelude.{◌≡◌, ℕ, Bool, List, ◌++◌, map, Option, Some, None, Ok}
-use Rattle.std.specs.List.{concat}
 use Rattle.pm_base.specs.declared.events.Event.{Event}
 use Rattle.pm_base.specs.declared.inputs.Inputs as Inputs
 use Rattle.pm_base.specs.declared.sink.Sink as Sink
@@ -15,15 +14,17 @@ use Rattle.pm_reach.specs.declared.members.Member.{Member}
 use Rattle.pm_reach.specs.Membership.{IsReach}
 use Rattle.pm_device.specs.declared.device.Device as Device
 use Rattle.pm_script.specs.Meaning.{meaning}
-use Rattle.pm_trace.specs.Line.{line_text}
 use Rattle.pm_trace.specs.Reach.{reach_text}
 use Rattle.pm_isolate.specs.Differences.{isolate_text}
-use Rattle.pm_replay.specs.Drive.{driven}
-use Rattle.pm_replay.specs.Drove.{Drove, NoFailure}
-use Rattle.pm_replay.specs.Replayed.{Holds, run_text, setup}
+use Rattle.pm_isolate.specs.Listed.{AreListed}
+use Rattle.pm_drive.specs.Drive.{driven}
+use Rattle.pm_drive.specs.Drove.{Drove}
+use Rattle.pm_drive.specs.Text.{run_text}
+use Rattle.pm_replay.specs.Replayed.{Holds, setup}
 use Rattle.pm_replay.specs.World.{World}
-use Rattle.pm_apart.specs.Apart.{StaysApart, ValuesStayApart}
-use Rattle.pm_apart.specs.Lines.{run_lines}
+use Rattle.pm_core.specs.Run.{loaded, steps_of}
+use Rattle.pm_causes.specs.Caused.{HaveCauses}
+use Rattle.pm_apart.specs.Apart.{KeepsApart}
 use Rattle.pm_top.specs.declared.form.Form.{Form}
 use Rattle.pm_top.specs.declared.form.Form.TheVariants.{Replay, Reach, Isolate, Print, Build}
 use Rattle.pm_top.specs.Form.{form, word}
@@ -45,7 +46,8 @@ module _ {I O : Type 0} (i : Inputs.Ghosts I) (o : Sink.Ghosts O) where
 
   -- an object and a script were held under the first two names, the third one names a master of the object, and what was
   -- written is what that master can reach, each unit whose transitions differ between the run of the script and the run
-  -- without the messages of the master, and the number of script lines
+  -- without the messages of the master, and the number of script lines. Each such unit is in that reach, or a processor of a
+  -- master that is
   pub record IsIsolated (ws : List (List ℕ)) (inputs : I) (old new : O) : Type 0 where
     pub object_bytes : List ℕ
     pub script_bytes : List ℕ
@@ -60,6 +62,7 @@ module _ {I O : Type 0} (i : Inputs.Ghosts I) (o : Sink.Ghosts O) where
     pub named : master_of object (word 3 ws) ≡ Some master
     pub reach : IsReach object chip master members
     pub text : (o.state new).bytes ≡ (o.state old).bytes ++ isolate_text (setup object chip) master members events
+    pub listed : AreListed (setup object chip) master members events
 
   -- an object was held under the name, and its text was written
   pub record IsPrinted (ws : List (List ℕ)) (inputs : I) (old new : O) : Type 0 where
@@ -93,12 +96,10 @@ module _ {I O D : Type 0} (i : Inputs.Ghosts I) (o : Sink.Ghosts O) (d : Device.
     pub means : map meaning (lines_of script_bytes) ≡ map (λ event. Ok event) events
     pub text : (o.state w'.sink).bytes ≡ (o.state w.sink).bytes ++ run_text (setup object chip) answers events
     pub drove : Drove d (setup object chip) (driven (setup object chip) answers events) w.device w'.device
-    -- the text is that of these lines
-    pub lines : run_text (setup object chip) answers events ≡ concat (map line_text (run_lines (setup object chip) answers events))
-    -- without a failure nothing that a master sends changes a line about a unit beyond its reach
-    pub apart : NoFailure d chip w.device w'.device → StaysApart (setup object chip) answers events
-    -- whatever the device refuses, each unit beyond has the same transitions in the book
-    pub transitions : ValuesStayApart (setup object chip) events
+    -- nothing that a master sends changes the lines or the transitions of a unit beyond its reach
+    pub keeps : KeepsApart d (setup object chip) answers events w.device w'.device
+    -- each answer has its causes in the book before its step
+    pub causes : HaveCauses (loaded (setup object chip) events) (steps_of events (loaded (setup object chip) events))
 
   -- what a form asks for was done. Only a replay touches the device
   abbrev pub FormDone : Option Form → List (List ℕ) → World I O D → World I O D → Type 0

@@ -1,27 +1,19 @@
 -- What a run of the program did, on every exit, and what each exit means.
-use Rattle.std.specs.Prelude.{◌≡◌, ℕ, ◌+◌, ◌<◌, ◌≤◌, ◌⊎◌, Bool, true, List, [], length, map, Option, Some, None, Result, Ok, Err, ⊤}
-use Rattle.std.specs.List.{concat}
+use Rattle.std.specs.Prelude.{◌≡◌, ℕ, ◌+◌, ◌<◌, ◌≤◌, ◌⊎◌, Bool, true, List, [], length, Option, Some, None, Result, Ok, Err, ⊤}
 use Rattle.pm_base.specs.declared.errors.Exit.{Exit}
 use Rattle.pm_base.specs.declared.errors.Exit.TheVariants as exit
-use Rattle.pm_base.specs.declared.events.Event.{Event}
 use Rattle.pm_base.specs.declared.inputs.Inputs as Inputs
 use Rattle.pm_base.specs.declared.sink.Sink as Sink
 use Rattle.pm_base.specs.Inputs.{Moment, MayFail}
 use Rattle.pm_device.specs.declared.device.Device as Device
-use Rattle.pm_core.specs.Run.{Setup}
 use Rattle.pm_script.specs.Script.{script_limit}
 use Rattle.pm_trace.specs.declared.faults.Fault.{Fault}
 use Rattle.pm_trace.specs.declared.faults.Fault.TheVariants.{Usage}
 use Rattle.pm_trace.specs.Exits.{EndsWith}
 use Rattle.pm_trace.specs.Faults.{exit_after}
-use Rattle.pm_trace.specs.Line.{line_text}
 use Rattle.pm_trace.specs.Report.{Did, Report}
-use Rattle.pm_replay.specs.Drive.{driven}
-use Rattle.pm_replay.specs.Drove.{NoFailure}
-use Rattle.pm_replay.specs.Replay.{Touched, fault_at, texts}
+use Rattle.pm_replay.specs.Replay.{Touched, fault_at}
 use Rattle.pm_replay.specs.World.{World}
-use Rattle.pm_apart.specs.Apart.{StepsStayApart, ValuesStayApart}
-use Rattle.pm_apart.specs.Lines.{step_lines}
 use Rattle.pm_top.specs.declared.form.Form.{Form}
 use Rattle.pm_top.specs.declared.form.Form.TheVariants.{Replay, Reach, Isolate, Print, Build}
 use Rattle.pm_top.specs.Form.{form, word}
@@ -29,21 +21,11 @@ use Rattle.pm_top.specs.Job.{Asked, IsAsked, Job, job_of, object_limit, report, 
 
 -- ---- what was done
 
--- a replay drives the device through its steps up to the cut, and nothing else touches it
 module _ {D : Type 0} (d : Device.Ghosts D) where
-  -- the text of the steps of a run is that of these lines. Without a failure of the device nothing that a master sends
-  -- changes one of them that is about a unit beyond its reach; and whatever the device refuses, such a unit has the same
-  -- transitions in the book
-  pub record StepsKeepApart (c : Setup) (answers : List (List Bool)) (events : List Event) (old new : D) : Type 0 where
-    pub lines : concat (texts 0 (driven c answers events)) ≡ concat (map line_text (step_lines 0 (driven c answers events)))
-    pub apart : NoFailure d c.topology old new → StepsStayApart c answers events
-    pub transitions : ValuesStayApart c events
-
-  -- what is done to the device under these answers, up to the cut. Where there is no cut the steps of a replay, also of a
-  -- script that stops at a fault, keep apart what is beyond the reach of a master
+  -- what is done to the device under these answers, up to the cut: a replay drives it through its steps, and nothing else
+  -- touches it
   abbrev pub Touches : (f : Form) → D → D → Result (Job f) Fault → List (List Bool) → Option ℕ → Type 0
-  Touches Replay old new (Ok job) answers cut =
-      Touched d job.0 old new (Ok job.1) answers cut × (cut ≡ None → StepsKeepApart job.0 answers job.1.events old new)
+  Touches Replay old new (Ok job) answers cut = Touched d job.0 old new (Ok job.1) answers cut
   Touches Replay old new (Err fault) answers cut = old ≡ new
   Touches Reach old new job answers cut = old ≡ new
   Touches Isolate old new job answers cut = old ≡ new

@@ -2,6 +2,7 @@
 
 ghost use Rattle.std.specs.Prelude.{◌≡◌, ◌<◌, ◌==◌, IsTrue, length, map, string_bytes};
 ghost use Rattle.std.specs.List.{list_any};
+ghost use Rattle.pm_object.specs.Grammar.{IsObject};
 ghost use Rattle.pm_topology.specs.Chip.{chip};
 ghost use Rattle.pm_isolate.specs.Compared.{Compared, IsCompared};
 ghost use Rattle.pm_replay.specs.Replayed.{setup};
@@ -50,7 +51,8 @@ fn isolate_by<I: Inputs, O: Sink>(
     script: &str,
     out: &mut O,
 ) -> Exit
-    requires { IsTrue (list_any (λ r. r.node == master.0) object.masters) }
+    requires object { IsObject object }
+    requires named { IsTrue (list_any (λ r. r.node == master.0) object.masters) }
     ensures done { I.observable → O.observable → result ≡ Exit.Done
         → IsCompared I.Inputs O.Sink (setup object chip) master script.now inputs.old out.old out.new }
     ensures ran { Compared I.Inputs O.Sink (setup object chip) master script.now

@@ -4,6 +4,7 @@ ghost use Rattle.std.specs.Prelude.{◌≡◌, ◌<◌, ◌↔◌, None, Some, l
 ghost use Rattle.pm_base.specs.declared.names.Unit.{Unit};
 ghost use Rattle.pm_base.specs.Faults.{Rose};
 ghost use Rattle.pm_base.specs.Sink.{HasFailed, IsUnfailed};
+ghost use Rattle.pm_object.specs.Grammar.{IsObject};
 ghost use Rattle.pm_topology.specs.Chip.{chip};
 ghost use Rattle.pm_trace.specs.Exits.{IsStarved};
 ghost use Rattle.pm_replay.specs.Replayed.{IsRun, Replayed, setup};
@@ -19,10 +20,8 @@ use crate::form::{Form, form_of, word};
 use crate::isolating::isolate;
 use crate::objects::read_object;
 use crate::reaching::write_reach;
-use pm_apart::{driven_lines_stay_apart, texts_are_lines};
 use pm_base::{Exit, Inputs, NoMemory, Sink};
 use pm_device::Device;
-use pm_laws::reach_keeps_apart;
 use pm_object::Object;
 use pm_replay::{a_script_that_fails, replay};
 use pm_topology::zynqmp;
@@ -121,9 +120,6 @@ fn run_script<I: Inputs, O: Sink, D: Device>(
     ensures ran { RanForm I.Inputs O.Sink D.Device (Some forms.Replay) (map string_bytes words.now)
         (world inputs.old out.old dev.old) (world inputs.new out.new dev.new) result }
 {
-    texts_are_lines();
-    driven_lines_stay_apart::<D>();
-    reach_keeps_apart();
     match read_object(alloc, inputs, word(words, 1)) {
         Ok(object) => run_object(alloc, object, inputs, word(words, 2), out, dev),
         Err(fault) => refuse(fault, out),
@@ -139,6 +135,7 @@ fn run_object<I: Inputs, O: Sink, D: Device>(
     out: &mut O,
     dev: &mut D,
 ) -> Exit
+    requires object { IsObject object }
     requires idle { D.values_observable → (unit : Unit) → (D.state dev.old).value unit ≡ 0 }
     ensures done { I.observable → O.observable → result ≡ Exit.Done
         → IsRun I.Inputs O.Sink D.Device (setup object chip) script.now

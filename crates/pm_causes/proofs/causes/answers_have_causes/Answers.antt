@@ -1,19 +1,30 @@
+use Rattle.std.proofs.Common.{◌≡◌, ◌⊎◌, Some, subst, sym}
+use Rattle.pm_base.specs.declared.events.Event.{Event}
+use Rattle.pm_ipi.specs.Calls.{call_of}
+use Rattle.pm_core.specs.declared.replies.Answer.TheVariants.{Silent}
+use Rattle.pm_core.specs.Step.{answer_to}
+use Rattle.pm_causes.specs.Answers.{told}
+use Rattle.pm_causes.specs.Causes.{status}
 use Rattle.pm_causes.proofs.Answered.{dropped, silenced, told_status}
 use Rattle.pm_causes.proofs.Statuses.{double_requests, no_accesses, no_features, no_nodes, others_told, successes, unknown_arguments, used_by_others, wrong_modes}
 use Rattle.pm_causes.proofs.causes.answers_have_causes.Goals as goal
 
 pub returns : goal.returns
-returns c = record {
-  dropped = dropped;
-  silent = silenced;
-  told = told_status;
-  success = successes;
-  no_feature = no_features;
-  unknown_argument = unknown_arguments;
-  no_node = no_nodes;
-  no_access = no_accesses;
-  double_request = double_requests;
-  used_by_other = used_by_others;
-  other_told = others_told;
-  wrong_mode = wrong_modes;
+returns c = λ event book. record {
+  dropped = λ master. dropped event book master;
+  silent = silenced event book;
+  told = λ sender message m is heard.
+      let P : Event → Type 0 = λ e. (answer_to e book ≡ Silent) ⊎ (told (answer_to e book) ≡ Some (sender, status m (call_of message) book)) in
+      subst P (sym is) (told_status sender message m book heard);
+  statuses = λ m call. record {
+    success = successes m call book;
+    no_feature = no_features m call book;
+    unknown_argument = unknown_arguments m call book;
+    no_node = no_nodes m call book;
+    no_access = no_accesses m call book;
+    double_request = double_requests m call book;
+    used_by_other = used_by_others m call book;
+    other_told = others_told m call book;
+    wrong_mode = wrong_modes m call book;
+  };
 }

@@ -13,7 +13,7 @@ returns g c =
     let say = c.exits_say.ensures in
     let ran = c.compare_named.ensures in
     record {
-      done = lemmas.compare_done g.I.Inputs g.O.Sink laws cs c.args.m c.args.script.now old new sink sink' c.compare_named.result say ran;
+      done = lemmas.compare_done g.I.Inputs g.O.Sink laws cs c.args.m c.args.script.now old new sink sink' c.compare_named.result say ran (λ members events reach. c.what_differs_is_reached.ensures.all cs c.args.m events members c.requires.object c.requires.formed reach);
       decided = lemmas.compare_decided g.I.Inputs g.O.Sink laws cs c.args.m c.args.script.now old new sink sink' c.compare_named.result say ran;
       ran = ran;
       memory = lemmas.compare_memory g.I.Inputs g.O.Sink laws cs c.args.m c.args.script.now old new sink sink' c.compare_named.result say ran;

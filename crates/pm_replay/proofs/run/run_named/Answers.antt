@@ -1,7 +1,8 @@
 use Rattle.std.proofs.Common.{refl, subst, sym}
 use Rattle.pm_topology.specs.WellFormed.{IsWellFormed}
 use Rattle.pm_core.specs.Run.{Setup}
-use Rattle.pm_replay.specs.Replayed.{Replayed, setup}
+use Rattle.pm_replay.specs.Replayed.{setup}
+use Rattle.pm_replay.specs.Within.{RanNamed}
 use Rattle.pm_replay.specs.World.{world}
 use Rattle.pm_replay.proofs.ReplayLemmas as lemmas
 use Rattle.pm_replay.proofs.run.run_named.Goals as goal
@@ -24,4 +25,4 @@ pub returns : goal.returns
 returns g c =
     let w = world c.args.inputs.now c.args.out.now c.args.dev.now in
     let w' = world c.run_loaded.new.inputs c.run_loaded.new.out c.run_loaded.new.dev in
-    subst (λ (s : Setup). Replayed g.I.Inputs g.O.Sink g.D.Device s c.args.script.now w w' c.run_loaded.result) c.in-Ok.ensures.setup c.run_loaded.ensures
+    subst (λ (s : Setup). RanNamed g.I.Inputs g.O.Sink g.D.Device s c.args.script.now w w' c.run_loaded.result) c.in-Ok.ensures.setup c.run_loaded.ensures

@@ -14,6 +14,12 @@ use Rattle.pm_top.proofs.ConversionLemmas.{known_read, refused}
 use Rattle.pm_top.proofs.IsolatingLemmas.{isolate_done, isolate_no_master, isolate_ran, isolate_refused}
 use Rattle.pm_top.proofs.isolating.isolate.Goals as goal
 
+pub isolate_by-requires : goal.isolate_by-requires
+isolate_by-requires g c =
+    let P : List ℕ → Type 0 = λ name. (◌≡◌ {A = Result Object Fault} (Ok c.in-Ok.object) (Err Memory)) ⊎ ReadsAs object_of Reads object_limit g.I.Inputs.observable name (g.I.Inputs.state c.args.inputs.now) (g.I.Inputs.state c.read_object.new.inputs) (Ok c.in-Ok.object) in
+    let reads = known_read c.in-Ok.object (subst P c.word.ensures c.in-Ok.ensures) in
+    record { object = reads.says.object; named = c.in-Some.ensures.named }
+
 pub returns-in-Some-clause-done : goal.returns-in-Some-clause-done
 returns-in-Some-clause-done g c = λ seen written is.
     let P : List ℕ → Type 0 = λ name. (◌≡◌ {A = Result Object Fault} (Ok c.in-Ok.object) (Err Memory)) ⊎ ReadsAs object_of Reads object_limit g.I.Inputs.observable name (g.I.Inputs.state c.args.inputs.now) (g.I.Inputs.state c.read_object.new.inputs) (Ok c.in-Ok.object) in

@@ -16,8 +16,8 @@ use Rattle.pm_core.specs.Values.{value}
 use Rattle.pm_apply.specs.Order.{IsOrdered, LagsAreExplained}
 use Rattle.pm_apply.specs.Part.{Kept, Part, orders_of, part_of}
 use Rattle.pm_apply.specs.Record.{IsRecordOf, kept_value}
-use Rattle.pm_replay.specs.Drive.{Driven, acts, answers_after, book_after, drive, first_answers, kept_after, last_book, last_kept, later_answers, part_acts, parts_of}
-use Rattle.pm_replay.specs.Drove.{AreExplained, CoresExplained}
+use Rattle.pm_drive.specs.Drive.{Driven, acts, answers_after, book_after, drive, first_answers, kept_after, last_book, last_kept, later_answers, part_acts, parts_of}
+use Rattle.pm_drive.specs.Drove.{AreExplained, CoresExplained}
 
 -- what holds of the part of each core step, whatever the device answers
 pub record PartLaws : Type 0 where

@@ -20,11 +20,10 @@ use Rattle.pm_core.specs.Step.{outputs_at_load}
 use Rattle.pm_core.specs.Values.{value}
 use Rattle.pm_apply.specs.Part.{Kept, Part, orders_of, part_of}
 use Rattle.pm_apply.specs.Record.{IsRecordOf, at_zero, kept_value}
-use Rattle.pm_replay.specs.Drive.{Driven, acts, answers_after, book_after, drive, driven, first_answers, kept_after, last_book, last_kept, later_answers, parts_of}
-use Rattle.pm_replay.specs.Drove.{Drove, Follows, NoFailure}
-use Rattle.pm_replay.specs.Replay.{until}
-use Rattle.pm_replay.proofs.DroveLemmas.{Moves, PartLaws, Reaches, StepsOfRun, OfRun, part_moves, part_reaches, steps_explained, steps_move, steps_reach, steps_same, none_left, none_right}
-use Rattle.pm_replay.proofs.MetLemmas.{met_by}
+use Rattle.pm_drive.specs.Drive.{Driven, acts, answers_after, book_after, drive, driven, first_answers, kept_after, last_book, last_kept, later_answers, parts_of, until}
+use Rattle.pm_drive.specs.Drove.{Drove, Follows, NoFailure}
+use Rattle.pm_drive.proofs.DroveLemmas.{Moves, PartLaws, Reaches, StepsOfRun, OfRun, part_moves, part_reaches, steps_explained, steps_move, steps_reach, steps_same, none_left, none_right}
+use Rattle.pm_drive.proofs.MetLemmas.{met_by}
 
 -- ---- first steps
 

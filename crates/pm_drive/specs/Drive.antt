@@ -1,6 +1,6 @@
 -- The device's part of a run: the steps of a run, in which no device occurs, each with the commands that make the device
 -- follow it, under the device's answers.
-use Rattle.std.specs.Prelude.{Bool, List, [], ◌∷◌, ◌++◌}
+use Rattle.std.specs.Prelude.{ℕ, ◌+◌, Bool, List, [], ◌∷◌, ◌++◌, take, Option, Some, None}
 use Rattle.pm_base.specs.declared.events.Event.{Event}
 use Rattle.pm_device.specs.Act.{Act}
 use Rattle.pm_core.specs.Run.{Setup, Step, Core, run}
@@ -77,3 +77,8 @@ last_book book (x ∷ xs) = last_book (book_after book x.step.cores) xs
 abbrev pub last_kept : Kept → List Driven → Kept
 last_kept kept [] = kept
 last_kept kept (x ∷ xs) = last_kept (kept_after kept x.parts) xs
+
+-- the steps that are carried out where the text breaks off within this piece: that of the piece, and those before it
+abbrev pub until : {X : Type 0} → Option ℕ → List X → List X
+until None xs = xs
+until (Some k) xs = take (k + 1) xs

@@ -16,7 +16,7 @@ use Rattle.pm_core.specs.Values.{value}
 use Rattle.pm_apply.specs.Order.{IsOrdered, LagsAreExplained}
 use Rattle.pm_apply.specs.Part.{Part}
 use Rattle.pm_apply.specs.Record.{StandsAs, at_zero}
-use Rattle.pm_replay.specs.Drive.{Driven, acts, drive, last_book, last_kept}
+use Rattle.pm_drive.specs.Drive.{Driven, acts, drive, last_book, last_kept}
 
 -- after each core step, a unit whose kept value isn't the book's lags for a command of that step that failed on it, above
 -- it or below it

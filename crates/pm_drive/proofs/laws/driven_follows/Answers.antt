@@ -1,5 +1,5 @@
-use Rattle.pm_replay.proofs.DroveLaw.{drove}
-use Rattle.pm_replay.proofs.laws.driven_follows.Goals as goal
+use Rattle.pm_drive.proofs.DroveLaw.{drove}
+use Rattle.pm_drive.proofs.laws.driven_follows.Goals as goal
 
 pub returns : goal.returns
 returns g c = λ setup events answers cut old new well idle given.

@@ -1,0 +1,3 @@
+pub mod DroveLaw
+pub mod DroveLemmas
+pub mod MetLemmas

@@ -1,0 +1,6 @@
+//! A device is driven through the steps of a run, and what is written of them.
+#![tactic(auto)]
+
+mod laws;
+
+pub use laws::driven_follows;
