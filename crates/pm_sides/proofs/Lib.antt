@@ -1,1 +1,2 @@
+pub mod SidesLaw
 pub mod TableLaw

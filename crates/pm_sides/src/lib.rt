@@ -3,6 +3,10 @@
 #![tactic(auto)]
 
 #[cfg(test)]
+mod both;
+#[cfg(test)]
 mod comparing;
+#[cfg(test)]
+mod running;
 #[cfg(test)]
 mod table;

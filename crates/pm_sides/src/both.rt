@@ -1,0 +1,246 @@
+//! Two books side by side, one of them without the messages of a master: what each step of both puts out.
+
+ghost use Rattle.std.specs.List.{list_any};
+ghost use Rattle.std.specs.Prelude.{◌≡◌, ◌==◌, IfOk, IsTrue};
+ghost use Rattle.pm_object.specs.Grammar.{IsObject};
+ghost use Rattle.pm_core.specs.Load.{load_of};
+ghost use Rattle.pm_core.specs.Outbox.{HasRoomFor};
+ghost use Rattle.pm_sides.specs.Sides.{AreSides};
+ghost use Rattle.pm_sides.specs.Table.{small};
+
+use crate::comparing::object;
+use crate::table::small_chip;
+use pm_base::{Event, NoMemory, NodeId, Unit};
+use pm_core::{Book, Outbox};
+use pm_laws::{books_agree, reach_is_closed, step_both};
+use pm_object::{Object, has_key};
+use pm_script::parse_line;
+use pm_trace::{TextLine, entries, entry};
+use std::alloc::Global;
+use std::test::Fail;
+
+/// A book, and the outbox of its last step.
+#[derive(Drop)]
+pub(crate) struct Desk {
+    pub(crate) book: Book,
+    pub(crate) out: Outbox,
+    ghost room: { HasRoomFor book out },
+}
+
+/// The book of an object at load over the small chip, on the heap.
+pub(crate) fn desk_of(alloc: Global, object: Object) -> Result<Box<Desk>, NoMemory>
+    ensures { IfOk result (λ desk. desk.value.book ≡ load_of object small) }
+{
+    let chip = small_chip(alloc)?;
+    let mut out = Outbox::load(alloc, &chip, object.masters.len())?;
+    let book = Book::load(alloc, object, chip, &mut out)?;
+    Box::new(alloc, Desk { book, out }).map_err(|_| NoMemory)
+}
+
+/// The book with all messages, and the one without those of a master.
+#[derive(Drop)]
+struct Sides {
+    loud: Box<Desk>,
+    quiet: Box<Desk>,
+}
+
+/// Both books at load, where the number is that of a master of the object.
+fn sides_of(alloc: Global, m: NodeId) -> Result<Sides, Fail>
+    ensures { IfOk result (λ sides. AreSides m sides.loud.value.book sides.quiet.value.book) }
+{
+    let object = object(alloc)?;
+    if has_key(object.masters.as_slice(), m.0) {
+        let sides = sides_with(alloc, object, m)?;
+        Ok(sides)
+    } else {
+        Err(Fail::from("no such master"))
+    }
+}
+
+/// Both books of an object that has the master, at load.
+fn sides_with(alloc: Global, object: Object, m: NodeId) -> Result<Sides, NoMemory>
+    requires formed { IsObject object }
+    requires named { IsTrue (list_any (λ r. r.node == m.0) object.masters) }
+    ensures { IfOk result (λ sides. AreSides m sides.loud.value.book sides.quiet.value.book) }
+{
+    books_agree();
+    reach_is_closed();
+    let other = object.copy(alloc)?;
+    let loud = desk_of(alloc, object)?;
+    let quiet = desk_of(alloc, other)?;
+    Ok(Sides { loud, quiet })
+}
+
+/// The event in the one book, and in the other the same event, or nothing where it is a message of the master.
+fn step(loud: &mut Desk, quiet: &mut Desk, m: NodeId, event: &Event)
+    requires { AreSides m loud.old.book quiet.old.book }
+    ensures { AreSides m loud.new.book quiet.new.book }
+{
+    step_both(
+        &mut loud.book,
+        &mut quiet.book,
+        m,
+        event,
+        &mut loud.out,
+        &mut quiet.out,
+    );
+}
+
+/// The lines of a step with this number.
+pub(crate) fn text_of(alloc: Global, n: u32, out: &Outbox) -> Result<Vec<u8>, Fail> {
+    let mut text = Vec::new(alloc);
+    let mut line = TextLine::new();
+    for k in 0..entries(out) {
+        entry(n, out, k, &mut line);
+        text.extend_from_slice(line.as_slice())?;
+    }
+    Ok(text)
+}
+
+/// A line of a script, by its number; what its step puts out in the book with all messages, and what in the other.
+pub(crate) type Turn = (u32, &'static str, &'static str, &'static str);
+
+/// Without the messages of master 8 the request of 1 to suspend it is accepted and times out, and of that 1 is told when it
+/// wakes. Else it is refused. Node 8, of which 1 is told, is within reach as that of the master.
+pub(crate) static ASKED: [Turn; 9] = [
+    (1, "ipi 1 21", "1 reply 1 0 0 0 0\n", "1 reply 1 0 0 0 0\n"),
+    (2, "boot 108 0", "2 run 108 0\n", "2 run 108 0\n"),
+    // master 8 asks itself
+    (3, "ipi 8 6 8 3 0 0", "3 call 8 30 201 0 0 100\n", ""),
+    // refused, since a request is pending; and accepted
+    (
+        4,
+        "ipi 1 6 8 3 0 0",
+        "4 call 1 31 8 2004 0 0\n",
+        "4 call 8 30 201 0 0 100\n",
+    ),
+    (
+        5,
+        "ipi 1 11 2 46 1",
+        "5 reply 1 0 0 0 0\n",
+        "5 reply 1 0 0 0 0\n",
+    ),
+    (
+        6,
+        "ipi 1 7 2 0 0 0 0",
+        "6 reply 1 0 0 0 0\n",
+        "6 reply 1 0 0 0 0\n",
+    ),
+    (7, "wfi 2", "", ""),
+    // master 8 is told of its own request, and master 1, which is asleep, nothing yet
+    (8, "tick 100", "8 call 8 31 8 2006 0 0\n", ""),
+    (
+        9,
+        "irq 46",
+        "9 run 2 0\n",
+        "9 run 2 0\n9 call 1 31 8 2006 0 0\n",
+    ),
+];
+
+/// Of slave 46, which is beyond, master 1 is told the same in both: that nobody uses it any more.
+static WATCHED: [Turn; 11] = [
+    (1, "ipi 1 21", "1 reply 1 0 0 0 0\n", "1 reply 1 0 0 0 0\n"),
+    (2, "boot 108 0", "2 run 108 0\n", "2 run 108 0\n"),
+    (
+        3,
+        "ipi 1 5 46 2 0 1",
+        "3 reply 1 0 0 0 0\n",
+        "3 reply 1 0 0 0 0\n",
+    ),
+    (
+        4,
+        "ipi 1 13 46 1 0 2",
+        "4 reply 1 0 0 0 0\n",
+        "4 reply 1 0 0 0 0\n",
+    ),
+    (5, "ipi 8 6 8 3 0 0", "5 call 8 30 201 0 0 100\n", ""),
+    (
+        6,
+        "ipi 1 14 46",
+        "6 call 1 32 46 2 0 0\n6 reply 1 0 0 0 0\n",
+        "6 call 1 32 46 2 0 0\n6 reply 1 0 0 0 0\n",
+    ),
+    // what is told of node 8 differs
+    (
+        7,
+        "ipi 1 6 8 3 0 0",
+        "7 call 1 31 8 2004 0 0\n",
+        "7 call 8 30 201 0 0 100\n",
+    ),
+    (8, "ipi 8 7 108 0 0 0 0", "8 reply 8 0 0 0 0\n", ""),
+    (
+        9,
+        "ipi 1 13 46 1 0 2",
+        "9 reply 1 0 0 0 0\n",
+        "9 reply 1 0 0 0 0\n",
+    ),
+    // master 8 ends its own request by its sleep
+    (10, "wfi 108", "", ""),
+    (
+        11,
+        "ipi 1 14 46",
+        "11 call 1 32 46 2 0 0\n11 reply 1 0 0 0 0\n",
+        "11 call 1 32 46 2 0 0\n11 reply 1 0 0 0 0\n",
+    ),
+];
+
+/// What is beyond the reach of master 8: the power node of its number, too.
+static BEYOND: [u32; 4] = [2, 8, 46, 107];
+
+/// Whether a node has the same value and operating point in both books.
+fn is_alike(loud: &Book, quiet: &Book, number: u32) -> bool {
+    let node = NodeId(number);
+    let unit = Unit::Node(node);
+    (loud.value(unit), loud.point(node)) == (quiet.value(unit), quiet.point(node))
+}
+
+/// Whether what is beyond the reach of 8 is alike in both books.
+fn are_alike(loud: &Book, quiet: &Book) -> bool {
+    for number in &BEYOND {
+        if !is_alike(loud, quiet, *number) {
+            return false;
+        }
+    }
+    true
+}
+
+/// The first line of these of which not that is put out.
+fn wrong_turn(
+    alloc: Global,
+    loud: &mut Desk,
+    quiet: &mut Desk,
+    m: NodeId,
+    turns: &[Turn],
+) -> Result<Option<u32>, Fail>
+    requires { AreSides m loud.old.book quiet.old.book }
+{
+    for (number, line, of_loud, of_quiet) in turns {
+        let event = parse_line(line.as_bytes())?;
+        step(loud, quiet, m, &event);
+        let first = text_of(alloc, *number, &loud.out)?;
+        let second = text_of(alloc, *number, &quiet.out)?;
+        let told = first.as_slice() == of_loud.as_bytes()
+            && second.as_slice() == of_quiet.as_bytes();
+        if !told || !are_alike(&loud.book, &quiet.book) {
+            return Ok(Some(*number));
+        }
+    }
+    Ok(None)
+}
+
+/// The first line of these of which not that is put out, and whether processor 108 of master 8, which is within, is
+/// alike in both books after them.
+fn compared(alloc: Global, turns: &[Turn]) -> Result<(Option<u32>, bool), Fail> {
+    let m = NodeId(8);
+    let mut sides = sides_of(alloc, m)?;
+    let wrong = wrong_turn(alloc, &mut sides.loud, &mut sides.quiet, m, turns)?;
+    let alike = is_alike(&sides.loud.book, &sides.quiet.book, 108);
+    Ok((wrong, alike))
+}
+
+#[test]
+fn what_is_beyond_is_told_the_same(rt: HostRuntime) -> Result<(), Fail> {
+    assert_eq!(rt; compared(rt.alloc(), &ASKED)?, (None, true));
+    assert_eq!(rt; compared(rt.alloc(), &WATCHED)?, (None, false));
+    Ok(())
+}
