@@ -90,3 +90,7 @@ FailsWithin limit file = IsSomeAnd file.fails_at (λ at. at ≤ min (length file
 -- as shown, a call that reads the input of this name, to its end or to one byte past the limit, may meet a fault
 abbrev pub MayFail : List ℕ → ℕ → Moment → Type 0
 MayFail name limit moment = CannotBegin name moment ⊎ IsSomeAnd (moment.file name) (FailsWithin limit)
+
+-- an input holds these bytes under a name
+abbrev pub Holds : Moment → List ℕ → List ℕ → Type 0
+Holds moment name bytes = IsSomeAnd (moment.file name) (λ file. file.bytes ≡ bytes)

@@ -9,3 +9,4 @@ pub mod Prefix
 pub mod Sink
 pub mod Words
 pub mod Writing
+pub mod World

@@ -86,7 +86,7 @@ module _ {D : Type 0} (values_observable nodes_observable : Type 0) (Does : Act 
         later = omega arith;
         counted = rose-both old.faults next.faults new.faults (refused act) (refusals acts) (counts-refused act old.faults next.faults one.counted) all.counted;
         values = λ seen unit. all.values seen unit ∙ values_after-same acts next.value (value_by act old.value) (one.values seen) unit;
-        units = λ seen unit. all.units seen unit ∙ one.units seen unit;
+        units = λ seen unit. all.units seen unit ∙ (by-nodes acts next (shown_after act old) (nodes seen)).units unit;
         broken = λ seen. all.broken seen ∙ (by-nodes acts next (shown_after act old) (nodes seen)).broken;
         matched = λ seen. (one.matches seen, all_match-same acts next (shown_after act old) (nodes seen) (all.matched seen));
         rising = λ seen before. all.rising seen (one.rising seen);

@@ -48,7 +48,7 @@ Counts (Rig node broken) before now = now ≡ before
 pub record Shows (values_observable nodes_observable : Type 0) (act : Act) (old new : DeviceMoment) : Type 0 where
   pub counted : Counts act old.faults new.faults
   pub values : values_observable → (unit : Unit) → new.value unit ≡ (shown_after act old).value unit
-  pub units : nodes_observable → (unit : Unit) → new.has unit ≡ old.has unit
+  pub units : nodes_observable → (unit : Unit) → new.has unit ≡ (shown_after act old).has unit
   pub broken : nodes_observable → new.broken ≡ (shown_after act old).broken
   pub matches : nodes_observable → Matches act old
   pub rising : nodes_observable → rises new.broken ≡ true
@@ -91,7 +91,7 @@ pub record ShowsAll (values_observable nodes_observable : Type 0) (acts : List A
   pub later : old.faults ≤ new.faults
   pub counted : RoseBy (refusals acts) old.faults new.faults
   pub values : values_observable → (unit : Unit) → new.value unit ≡ values_after acts old.value unit
-  pub units : nodes_observable → (unit : Unit) → new.has unit ≡ old.has unit
+  pub units : nodes_observable → (unit : Unit) → new.has unit ≡ (shown_by acts old).has unit
   pub broken : nodes_observable → new.broken ≡ (shown_by acts old).broken
   pub matched : nodes_observable → AllMatch acts old
   pub rising : nodes_observable → rises old.broken ≡ true → rises new.broken ≡ true

@@ -1,7 +1,7 @@
 //! The calls by their words (UG1200, API calls).
 
-ghost use Rattle.std.specs.Prelude.{◌≡◌};
-ghost use Rattle.pm_ipi.specs.Calls.{call_of, address_of, wake_address, ack_kind, ack_of, node_of};
+ghost use Rattle.std.specs.Prelude.{◌≡◌, option_map};
+ghost use Rattle.pm_ipi.specs.Calls.{acknowledge_of, call_of, address_of, wake_address, ack_kind, ack_of, node_of};
 
 use pm_base::{Caps, LineId, Message, NodeId};
 
@@ -206,17 +206,27 @@ pub fn ack_kind(word: u32) -> Option<AckKind>
 }
 
 impl Call {
+    /// The node that an acknowledgement of the call names, and its acknowledge kind, if it has one.
+    fn acknowledge(&self) -> Option<(NodeId, u32)>
+        ensures { result ≡ option_map (λ word. (node_of self.now, word)) (acknowledge_of self.now) }
+    {
+        match self {
+            Call::RequestSuspend { node, ack, .. }
+            | Call::ForcePowerdown { node, ack }
+            | Call::RequestWakeup { node, ack, .. }
+            | Call::RequestNode { node, ack, .. }
+            | Call::SetRequirement { node, ack, .. } => Some((*node, *ack)),
+            _ => None,
+        }
+    }
+
     /// How the call is acknowledged: by a reply, unless its argument says otherwise.
     pub fn ack(&self) -> AckKind
         ensures { result ≡ ack_of self.now }
     {
-        match self {
-            Call::RequestSuspend { ack, .. }
-            | Call::ForcePowerdown { ack, .. }
-            | Call::RequestWakeup { ack, .. }
-            | Call::RequestNode { ack, .. }
-            | Call::SetRequirement { ack, .. } => { ack_kind(*ack).unwrap_or(AckKind::Blocking) }
-            _ => AckKind::Blocking,
+        match self.acknowledge() {
+            Some((_, word)) => ack_kind(word).unwrap_or(AckKind::Blocking),
+            None => AckKind::Blocking,
         }
     }
 
@@ -225,13 +235,9 @@ impl Call {
     pub fn node(&self) -> NodeId
         ensures { result ≡ node_of self.now }
     {
-        match self {
-            Call::RequestSuspend { node, .. }
-            | Call::ForcePowerdown { node, .. }
-            | Call::RequestWakeup { node, .. }
-            | Call::RequestNode { node, .. }
-            | Call::SetRequirement { node, .. } => *node,
-            _ => NodeId(0),
+        match self.acknowledge() {
+            Some((node, _)) => node,
+            None => NodeId(0),
         }
     }
 }

@@ -1,12 +1,12 @@
--- Mail is cleared place by place.
+-- Notes are cleared place by place.
 use Rattle.std.proofs.Common.{◌≡◌, ℕ, ◌+◌, ◌<◌, ◌++◌, length, take, drop, ap, ◌∙◌, arith, inl, inr}
 use Rattle.std.proofs.lemmas.Option.{slice_get_cases}
 use Rattle.pm_topology.specs.UnitMap.{TablePlaceLaws, mapped, with_value_at}
 use Rattle.pm_notify.specs.declared.node_notes.NodeNotes.{NodeNotes}
-use Rattle.pm_notify.specs.Mailbox.{Mail, nothing_more}
+use Rattle.pm_notify.specs.MasterNotes.{MasterNotes, nothing_more}
 use Rattle.pm_notify.specs.NodeNotes.{no_notes}
 
-pub clear_step : TablePlaceLaws NodeNotes → (old now new : Mail) (place : ℕ)
+pub clear_step : TablePlaceLaws NodeNotes → (old now new : MasterNotes) (place : ℕ)
     → place < length old
     → now ≡ mapped nothing_more (take place old) ++ drop place old
     → new ≡ with_value_at place no_notes now

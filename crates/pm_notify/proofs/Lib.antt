@@ -1,5 +1,5 @@
 pub mod ClearLemmas
-pub mod MailLemmas
+pub mod MasterNotesLemmas
 pub mod NodeLemmas
 pub mod NotifyLaw
 pub mod OrderLemmas

@@ -1,4 +1,4 @@
--- The notes that wait in a master's mail stand in the order in which they are told.
+-- The notes that wait in a master's notes stand in the order in which they are told.
 use Rattle.std.proofs.Common.{◌≡◌, ℕ, ◌<◌, ◌&&◌, ◌||◌, Bool, true, false, ◌==◌, nat_lt, List, [], ◌∷◌, ◌++◌, map, refl, ap, sym, ◌∙◌, arith}
 use Rattle.std.specs.Prelude.{Option, Some, None}
 use Rattle.std.specs.List.{list_all}
@@ -14,7 +14,7 @@ use Rattle.pm_notify.specs.declared.notes.Note.TheVariants.{Ack, Change, ZeroUse
 use Rattle.pm_notify.specs.declared.notes.Waiting.{Waiting}
 use Rattle.pm_notify.specs.declared.node_notes.Slots.{Slots}
 use Rattle.pm_notify.specs.Laws.{are_told_in_order}
-use Rattle.pm_notify.specs.Mailbox.{Mail, waiting_about, waiting_in}
+use Rattle.pm_notify.specs.MasterNotes.{MasterNotes, waiting_about, waiting_in}
 use Rattle.pm_notify.specs.NodeNotes.{notes_in}
 use Rattle.pm_notify.specs.Notes.{is_told_before, kind_number}
 use Rattle.pm_notify.proofs.TakeLemmas.{about, slots_of}
@@ -49,40 +49,40 @@ told_about (Line l) slots = refl
 
 -- ---- notes about a node and those about later ones
 
-before_notes : (w : Waiting) (n : NodeId) (notes : List Note) → nat_lt w.node.0 n.0 ≡ true → list_all (is_told_before w) (map (about n) notes) ≡ true
+before_notes : (w : Waiting) (n : NodeId) (of_node : List Note) → nat_lt w.node.0 n.0 ≡ true → list_all (is_told_before w) (map (about n) of_node) ≡ true
 before_notes w n [] less = refl
-before_notes w n (note ∷ notes) less =
-    pair_of (is_told_before w (about n note)) (list_all (is_told_before w) (map (about n) notes))
+before_notes w n (note ∷ of_node) less =
+    pair_of (is_told_before w (about n note)) (list_all (is_told_before w) (map (about n) of_node))
     (first_passes (nat_lt w.node.0 n.0) ((w.node.0 == n.0) && nat_lt (kind_number w.note) (kind_number note)) less)
-    (before_notes w n notes less)
+    (before_notes w n of_node less)
 
 before_unit : (w : Waiting) (u : Unit) (slots : Slots) → is_before (Node w.node) u ≡ true → list_all (is_told_before w) (waiting_about u slots) ≡ true
 before_unit w (Node n) slots less = before_notes w n (notes_in slots) less
 before_unit w (Line l) slots less = refl
 
-before_mail : (w : Waiting) (mail : Mail) → list_all (is_before (Node w.node)) (units_in mail) ≡ true → list_all (is_told_before w) (waiting_in mail) ≡ true
-before_mail w [] later = refl
-before_mail w (e ∷ mail) later =
-    let parts = both (is_before (Node w.node) e.0) (list_all (is_before (Node w.node)) (units_in mail)) later in
-    all_of (is_told_before w) (waiting_about e.0 e.1.slots) (waiting_in mail) (before_unit w e.0 e.1.slots parts.0) (before_mail w mail parts.1)
+before_master_notes : (w : Waiting) (notes : MasterNotes) → list_all (is_before (Node w.node)) (units_in notes) ≡ true → list_all (is_told_before w) (waiting_in notes) ≡ true
+before_master_notes w [] later = refl
+before_master_notes w (e ∷ notes) later =
+    let parts = both (is_before (Node w.node) e.0) (list_all (is_before (Node w.node)) (units_in notes)) later in
+    all_of (is_told_before w) (waiting_about e.0 e.1.slots) (waiting_in notes) (before_unit w e.0 e.1.slots parts.0) (before_master_notes w notes parts.1)
 
-joined : (n : NodeId) (notes : List Note) (mail : Mail) → list_all (is_before (Node n)) (units_in mail) ≡ true
-    → are_told_in_order (map (about n) notes) ≡ true → are_told_in_order (waiting_in mail) ≡ true
-    → are_told_in_order (map (about n) notes ++ waiting_in mail) ≡ true
-joined n [] mail later here there = there
-joined n (note ∷ notes) mail later here there =
-    let parts = both (list_all (is_told_before (about n note)) (map (about n) notes)) (are_told_in_order (map (about n) notes)) here in
-    pair_of (list_all (is_told_before (about n note)) (map (about n) notes ++ waiting_in mail)) (are_told_in_order (map (about n) notes ++ waiting_in mail))
-    (all_of (is_told_before (about n note)) (map (about n) notes) (waiting_in mail) parts.0 (before_mail (about n note) mail later))
-    (joined n notes mail later parts.1 there)
+joined : (n : NodeId) (of_node : List Note) (notes : MasterNotes) → list_all (is_before (Node n)) (units_in notes) ≡ true
+    → are_told_in_order (map (about n) of_node) ≡ true → are_told_in_order (waiting_in notes) ≡ true
+    → are_told_in_order (map (about n) of_node ++ waiting_in notes) ≡ true
+joined n [] notes later here there = there
+joined n (note ∷ of_node) notes later here there =
+    let parts = both (list_all (is_told_before (about n note)) (map (about n) of_node)) (are_told_in_order (map (about n) of_node)) here in
+    pair_of (list_all (is_told_before (about n note)) (map (about n) of_node ++ waiting_in notes)) (are_told_in_order (map (about n) of_node ++ waiting_in notes))
+    (all_of (is_told_before (about n note)) (map (about n) of_node) (waiting_in notes) parts.0 (before_master_notes (about n note) notes later))
+    (joined n of_node notes later parts.1 there)
 
-joined_unit : (u : Unit) (slots : Slots) (mail : Mail) → list_all (is_before u) (units_in mail) ≡ true
-    → are_told_in_order (waiting_in mail) ≡ true → are_told_in_order (waiting_about u slots ++ waiting_in mail) ≡ true
-joined_unit (Node n) slots mail later there = joined n (notes_in slots) mail later (told_about (Node n) slots) there
-joined_unit (Line l) slots mail later there = there
+joined_unit : (u : Unit) (slots : Slots) (notes : MasterNotes) → list_all (is_before u) (units_in notes) ≡ true
+    → are_told_in_order (waiting_in notes) ≡ true → are_told_in_order (waiting_about u slots ++ waiting_in notes) ≡ true
+joined_unit (Node n) slots notes later there = joined n (notes_in slots) notes later (told_about (Node n) slots) there
+joined_unit (Line l) slots notes later there = there
 
-pub told_in_order : (mail : Mail) → rises (units_in mail) ≡ true → are_told_in_order (waiting_in mail) ≡ true
+pub told_in_order : (notes : MasterNotes) → rises (units_in notes) ≡ true → are_told_in_order (waiting_in notes) ≡ true
 told_in_order [] rising = refl
-told_in_order (e ∷ mail) rising =
-    let parts = both (list_all (is_before e.0) (units_in mail)) (rises (units_in mail)) rising in
-    joined_unit e.0 e.1.slots mail parts.0 (told_in_order mail parts.1)
+told_in_order (e ∷ notes) rising =
+    let parts = both (list_all (is_before e.0) (units_in notes)) (rises (units_in notes)) rising in
+    joined_unit e.0 e.1.slots notes parts.0 (told_in_order notes parts.1)

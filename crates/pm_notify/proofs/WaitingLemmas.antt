@@ -1,4 +1,4 @@
--- What waits in a master's mail is exactly what stands in its slots, in the order in which it is told.
+-- What waits in a master's notes is exactly what stands in its slots, in the order in which it is told.
 use Rattle.std.proofs.Common.{◌≡◌, ◌≢◌, ℕ, ◌<◌, ◌&&◌, ◌||◌, ◌⊎◌, ⊎_elim, Bool, true, false, cond, ◌==◌, nat_lt, List, [], ◌∷◌, ◌++◌, length, map, refl, ap, sym, ◌∙◌, arith, subst}
 use Rattle.std.specs.Prelude.{Option, Some, None, unwrap_or, Contains, ◌↔◌}
 use Rattle.std.specs.List.{list_all}
@@ -17,7 +17,7 @@ use Rattle.pm_notify.specs.declared.notes.Waiting.{Waiting}
 use Rattle.pm_notify.specs.declared.node_notes.NodeNotes.{NodeNotes}
 use Rattle.pm_notify.specs.declared.node_notes.Slots.{Slots}
 use Rattle.pm_notify.specs.Laws.{are_told_in_order}
-use Rattle.pm_notify.specs.Mailbox.{Mail, notes_at, waiting_about, waiting_in}
+use Rattle.pm_notify.specs.MasterNotes.{MasterNotes, notes_at, waiting_about, waiting_in}
 use Rattle.pm_notify.specs.NodeNotes.{in_slot, no_notes, note_like, notes_in}
 use Rattle.pm_notify.specs.Notes.{is_told_before}
 use Rattle.pm_notify.proofs.NodeLemmas.{none_waits}
@@ -108,29 +108,29 @@ stands_unit : (u : Unit) (slots : Slots) (w : Waiting) → Contains (waiting_abo
 stands_unit (Node n) slots w has = let stands = stands_about n slots w has in (ap Node stands.node, stands.slot)
 stands_unit (Line l) slots w has = absurd (nothing_in w has)
 
--- what waits in mail comes after all units that come before the mail's
-pub waits_later : (u : Unit) (mail : Mail) (w : Waiting) → list_all (is_before u) (units_in mail) ≡ true → Contains (waiting_in mail) w → is_before u (Node w.node) ≡ true
+-- what waits in notes comes after all units that come before those of the notes
+pub waits_later : (u : Unit) (notes : MasterNotes) (w : Waiting) → list_all (is_before u) (units_in notes) ≡ true → Contains (waiting_in notes) w → is_before u (Node w.node) ≡ true
 waits_later u [] w later has = absurd (nothing_in w has)
-waits_later u (e ∷ mail) w later has =
-    let parts = both (is_before u e.0) (list_all (is_before u) (units_in mail)) later in
+waits_later u (e ∷ notes) w later has =
+    let parts = both (is_before u e.0) (list_all (is_before u) (units_in notes)) later in
     ⊎_elim
     (λ here. ap (is_before u) (sym (stands_unit e.0 e.1.slots w here).0) ∙ parts.0)
-    (λ there. waits_later u mail w parts.1 there)
-    (Contains-append_cases (waiting_about e.0 e.1.slots) (waiting_in mail) w has)
+    (λ there. waits_later u notes w parts.1 there)
+    (Contains-append_cases (waiting_about e.0 e.1.slots) (waiting_in notes) w has)
 
-pub waits_in_slot : (mail : Mail) (w : Waiting) → rises (units_in mail) ≡ true → Contains (waiting_in mail) w → note_like w.note (notes_at w.node mail).slots ≡ Some w.note
+pub waits_in_slot : (notes : MasterNotes) (w : Waiting) → rises (units_in notes) ≡ true → Contains (waiting_in notes) w → note_like w.note (notes_at w.node notes).slots ≡ Some w.note
 waits_in_slot [] w rising has = absurd (nothing_in w has)
-waits_in_slot (e ∷ mail) w rising has =
-    let parts = both (list_all (is_before e.0) (units_in mail)) (rises (units_in mail)) rising in
+waits_in_slot (e ∷ notes) w rising has =
+    let parts = both (list_all (is_before e.0) (units_in notes)) (rises (units_in notes)) rising in
     ⊎_elim
     (λ here.
     let stands = stands_unit e.0 e.1.slots w here in
     let same : same_unit e.0 (Node w.node) ≡ true = ap (λ u. same_unit u (Node w.node)) stands.0 ∙ equal w.node.0 w.node.0 refl in
-    ap (λ b. note_like w.note (unwrap_or (cond b (Some e.1) (value_of mail (Node w.node))) no_notes).slots) same ∙ stands.1)
+    ap (λ b. note_like w.note (unwrap_or (cond b (Some e.1) (value_of notes (Node w.node))) no_notes).slots) same ∙ stands.1)
     (λ there.
-    let other : same_unit e.0 (Node w.node) ≡ false = before_differs e.0 (Node w.node) (waits_later e.0 mail w parts.0 there) in
-    ap (λ b. note_like w.note (unwrap_or (cond b (Some e.1) (value_of mail (Node w.node))) no_notes).slots) other ∙ waits_in_slot mail w parts.1 there)
-    (Contains-append_cases (waiting_about e.0 e.1.slots) (waiting_in mail) w has)
+    let other : same_unit e.0 (Node w.node) ≡ false = before_differs e.0 (Node w.node) (waits_later e.0 notes w parts.0 there) in
+    ap (λ b. note_like w.note (unwrap_or (cond b (Some e.1) (value_of notes (Node w.node))) no_notes).slots) other ∙ waits_in_slot notes w parts.1 there)
+    (Contains-append_cases (waiting_about e.0 e.1.slots) (waiting_in notes) w has)
 
 -- ---- what stands in a slot waits
 
@@ -155,19 +155,19 @@ stands_among n slots note is =
 
 -- it waits about the first unit, or about a later one
 module _ (units : UnitLaws) where
-  waits_among : (e : Unit × NodeNotes) (mail : Mail) (w : Waiting) (b : Bool) → same_unit e.0 (Node w.node) ≡ b
-      → note_like w.note (unwrap_or (cond b (Some e.1) (value_of mail (Node w.node))) no_notes).slots ≡ Some w.note
-      → (note_like w.note (notes_at w.node mail).slots ≡ Some w.note → Contains (waiting_in mail) w)
-      → Contains (waiting_about e.0 e.1.slots ++ waiting_in mail) w
-  waits_among e mail w true same is later =
+  waits_among : (e : Unit × NodeNotes) (notes : MasterNotes) (w : Waiting) (b : Bool) → same_unit e.0 (Node w.node) ≡ b
+      → note_like w.note (unwrap_or (cond b (Some e.1) (value_of notes (Node w.node))) no_notes).slots ≡ Some w.note
+      → (note_like w.note (notes_at w.node notes).slots ≡ Some w.note → Contains (waiting_in notes) w)
+      → Contains (waiting_about e.0 e.1.slots ++ waiting_in notes) w
+  waits_among e notes w true same is later =
       let P : Unit → Type 0 = λ u. Contains (waiting_about u e.1.slots) w in
-      Contains-append_left (waiting_about e.0 e.1.slots) (waiting_in mail) w
+      Contains-append_left (waiting_about e.0 e.1.slots) (waiting_in notes) w
       (subst P (sym (units.same e.0 (Node w.node) same)) (stands_among w.node e.1.slots w.note is))
-  waits_among e mail w false other is later = Contains-append_right (waiting_about e.0 e.1.slots) (waiting_in mail) w (later is)
+  waits_among e notes w false other is later = Contains-append_right (waiting_about e.0 e.1.slots) (waiting_in notes) w (later is)
 
-  pub slot_is_waiting : (mail : Mail) (w : Waiting) → note_like w.note (notes_at w.node mail).slots ≡ Some w.note → Contains (waiting_in mail) w
+  pub slot_is_waiting : (notes : MasterNotes) (w : Waiting) → note_like w.note (notes_at w.node notes).slots ≡ Some w.note → Contains (waiting_in notes) w
   slot_is_waiting [] w is = let none = none_waits w.note in cc
-  slot_is_waiting (e ∷ mail) w is = waits_among e mail w (same_unit e.0 (Node w.node)) refl is (slot_is_waiting mail w)
+  slot_is_waiting (e ∷ notes) w is = waits_among e notes w (same_unit e.0 (Node w.node)) refl is (slot_is_waiting notes w)
 
-  pub exactly_waits : (mail : Mail) (w : Waiting) → rises (units_in mail) ≡ true → Contains (waiting_in mail) w ↔ (note_like w.note (notes_at w.node mail).slots ≡ Some w.note)
-  exactly_waits mail w rising = (waits_in_slot mail w rising, slot_is_waiting mail w)
+  pub exactly_waits : (notes : MasterNotes) (w : Waiting) → rises (units_in notes) ≡ true → Contains (waiting_in notes) w ↔ (note_like w.note (notes_at w.node notes).slots ≡ Some w.note)
+  exactly_waits notes w rising = (waits_in_slot notes w rising, slot_is_waiting notes w)

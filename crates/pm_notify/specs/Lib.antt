@@ -1,5 +1,5 @@
 pub mod Laws
-pub mod Mailbox
+pub mod MasterNotes
 pub mod NodeNotes
 pub mod Notes
 pub mod Notify

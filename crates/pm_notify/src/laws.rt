@@ -1,12 +1,12 @@
 //! Laws of the notifiers and of the notes that wait. Each is a record of facts, which stands with its
 //! definitions.
 
-ghost use Rattle.pm_notify.specs.Laws.{NotifierLaws, OrderLaws, OtherMailLaws, SlotLaws, TakeLaws};
+ghost use Rattle.pm_notify.specs.Laws.{NotifierLaws, OrderLaws, OtherNotesLaws, SlotLaws, TakeLaws};
 
 use crate::node_notes::NodeNotes;
 use pm_topology::{unit_maps, units_stand_in_order};
 
-/// What was put is asked for, until it is put otherwise or the master's mail is cleared; and no other
+/// What was put is asked for, until it is put otherwise or the master's notes are cleared; and no other
 /// notifier notices.
 pub fn notifiers_are_kept()
     ensures { NotifierLaws }
@@ -23,13 +23,13 @@ pub fn notes_wait_in_slots()
     units_stand_in_order();
 }
 
-/// What is put, waits, is taken or is cleared for one master leaves the mail of all others.
-pub fn others_keep_their_mail()
-    ensures { OtherMailLaws }
+/// What is put, waits, is taken or is cleared for one master leaves the notes of all others.
+pub fn others_keep_their_notes()
+    ensures { OtherNotesLaws }
 {}
 
-/// The mail of each master is about the units of the chip, in order.
-pub fn mail_stands_in_order()
+/// The notes of each master are about the units of the chip, in order.
+pub fn notes_stand_in_order()
     ensures { OrderLaws }
 {
     unit_maps::<NodeNotes>();

@@ -3,13 +3,13 @@
 #![tactic(auto)]
 
 mod laws;
-mod mailbox;
+mod master_notes;
 pub mod node_notes;
 pub mod notes;
 pub mod notify;
 
 pub use laws::{
-    mail_stands_in_order, notes_wait_in_slots, notifiers_are_kept, others_keep_their_mail,
+    notes_stand_in_order, notes_wait_in_slots, notifiers_are_kept, others_keep_their_notes,
     takes_drain_the_slots,
 };
 pub use notes::{NodeEvent, Note, Waiting};

@@ -1,10 +1,10 @@
 //! What all masters have asked for and what waits for each of them.
 
 ghost use Rattle.std.specs.Prelude.{◌≡◌, IfOk, map};
-ghost use Rattle.pm_notify.specs.Mailbox.{forgotten};
-ghost use Rattle.pm_notify.specs.Notify.{IsInOrder, all_forgotten, asks_of, dropped, first_for, loaded, noted, registered, taken_out, without_mail};
+ghost use Rattle.pm_notify.specs.MasterNotes.{forgotten};
+ghost use Rattle.pm_notify.specs.Notify.{IsInOrder, all_forgotten, asks_of, dropped, first_for, loaded, noted, registered, taken_out, without_notes};
 
-use crate::mailbox::Mailbox;
+use crate::master_notes::MasterNotes;
 use crate::notes::{NodeEvent, Note, Waiting};
 use pm_base::{NoMemory, NodeId};
 use pm_topology::Topology;
@@ -19,7 +19,7 @@ use std::marker::Model;
 /// nothing waits.
 #[derive(Drop)]
 pub struct Notify {
-    mail: Vec<Mailbox>,
+    notes: Vec<MasterNotes>,
 }
 
 impl Model for Notify {
@@ -29,7 +29,7 @@ impl Model for Notify {
 
     ghost Value = { List (List (Unit × NodeNotes)) };
 
-    ghost view = { λ notify. notify.mail.items };
+    ghost view = { λ notify. notify.notes.items };
 }
 
 impl Notify {
@@ -42,16 +42,16 @@ impl Notify {
     pub fn load(alloc: Global, t: &Topology, masters: usize) -> Result<Notify, NoMemory>
         ensures { IfOk result (λ notify. notify ≡ loaded t.now masters) }
     {
-        let mail = mailboxes(alloc, t, masters)?;
-        Ok(Notify { mail })
+        let notes = notes_of_none(alloc, t, masters)?;
+        Ok(Notify { notes })
     }
 
     /// Whether a master has asked to be told of an event of a node.
     pub fn asked(&self, m: usize, n: NodeId, event: NodeEvent) -> bool
         ensures { result ≡ asks_of m n event self.now }
     {
-        match self.mail.get(m) {
-            Some(mail) => mail.asks(n, event),
+        match self.notes.get(m) {
+            Some(notes) => notes.asks(n, event),
             None => false,
         }
     }
@@ -61,8 +61,8 @@ impl Notify {
     pub fn put(&mut self, m: usize, n: NodeId, event: NodeEvent, on: bool)
         ensures { self.new ≡ registered m n event on self.old }
     {
-        if m < self.mail.len() {
-            self.mail[m].put(n, event, on);
+        if m < self.notes.len() {
+            self.notes[m].put(n, event, on);
         }
     }
 
@@ -71,14 +71,14 @@ impl Notify {
     pub fn wait(&mut self, m: usize, n: NodeId, note: Note)
         ensures { self.new ≡ noted m n note self.old }
     {
-        if m < self.mail.len() {
-            self.mail[m].wait(n, note);
+        if m < self.notes.len() {
+            self.notes[m].wait(n, note);
         }
     }
 
     /// Takes out the first note that waits for a master: by the number of its node, and then an
     /// acknowledgement before a change before no users any more. `None` where nothing waits. It looks
-    /// at most once at each unit in the mail of this master, and at no other mail.
+    /// at most once at each unit in the notes of this master, and in no other notes.
     pub fn take(&mut self, m: usize) -> Option<Waiting>
         ensures first { result ≡ first_for m self.old }
         ensures rest { self.new ≡ taken_out m result self.old }
@@ -96,8 +96,8 @@ impl Notify {
         ensures first { result ≡ first_for m self.now }
         ensures order { IsInOrder m self.now }
     {
-        match self.mail.get(m) {
-            Some(mail) => mail.first(),
+        match self.notes.get(m) {
+            Some(notes) => notes.first(),
             None => None,
         }
     }
@@ -106,8 +106,8 @@ impl Notify {
     fn drop_note(&mut self, m: usize, n: NodeId, note: Note)
         ensures { self.new ≡ dropped m n note self.old }
     {
-        if m < self.mail.len() {
-            self.mail[m].drop_note(n, note);
+        if m < self.notes.len() {
+            self.notes[m].drop_note(n, note);
         }
     }
 
@@ -115,36 +115,36 @@ impl Notify {
     pub fn restart(&mut self)
         ensures { self.new ≡ all_forgotten self.old }
     {
-        clear_mail(&mut self.mail);
+        clear_notes(&mut self.notes);
     }
 
     /// A master forgets what it asked for, and what waits for it is lost.
     pub fn clear(&mut self, m: usize)
-        ensures { self.new ≡ without_mail m self.old }
+        ensures { self.new ≡ without_notes m self.old }
     {
-        if m < self.mail.len() {
-            self.mail[m].clear();
+        if m < self.notes.len() {
+            self.notes[m].clear();
         }
     }
 }
 
-/// The mail of this many masters: each has asked for nothing, and nothing waits for it.
-fn mailboxes(alloc: Global, t: &Topology, masters: usize) -> Result<Vec<Mailbox>, NoMemory>
-    ensures { IfOk result (λ mail. mail.items ≡ loaded t.now masters) }
+/// The notes of this many masters: each has asked for nothing, and nothing waits for it.
+fn notes_of_none(alloc: Global, t: &Topology, masters: usize) -> Result<Vec<MasterNotes>, NoMemory>
+    ensures { IfOk result (λ notes. notes.items ≡ loaded t.now masters) }
 {
-    let mut mail = Vec::new(alloc);
+    let mut notes = Vec::new(alloc);
     for _master in 0..masters {
-        let mailbox = Mailbox::load(alloc, t)?;
-        mail.push(mailbox).map_err(|_| NoMemory)?;
+        let master_notes = MasterNotes::load(alloc, t)?;
+        notes.push(master_notes).map_err(|_| NoMemory)?;
     }
-    Ok(mail)
+    Ok(notes)
 }
 
 /// Each of these masters has asked for nothing, and nothing waits for it.
-fn clear_mail(mail: &mut [Mailbox])
-    ensures { mail.new ≡ map forgotten mail.old }
+fn clear_notes(notes: &mut [MasterNotes])
+    ensures { notes.new ≡ map forgotten notes.old }
 {
-    for mailbox in mail.iter_mut() {
-        mailbox.clear();
+    for master_notes in notes.iter_mut() {
+        master_notes.clear();
     }
 }

@@ -10,7 +10,7 @@ use Rattle.pm_object.specs.declared.object.SlaveRec.{SlaveRec}
 use Rattle.pm_object.specs.declared.object.Pair.{Pair}
 use Rattle.pm_topology.specs.declared.topology.Topology.{Topology}
 use Rattle.pm_topology.specs.declared.places.Kind.{Kind}
-use Rattle.pm_topology.specs.declared.places.Kind.TheVariants.{Proc, Slave, Power, Unknown}
+use Rattle.pm_topology.specs.declared.places.Kind.TheVariants.{Slave, Unknown}
 use Rattle.pm_topology.specs.Places.{kind_of, slave_place}
 use Rattle.pm_topology.specs.Units.{has_line}
 
@@ -76,10 +76,9 @@ may_wake object t master other =
 
 -- what a node must be to be forced down
 abbrev pub can_be_forced : Kind → Bool
-can_be_forced (Proc k) = true
 can_be_forced (Slave k) = false
-can_be_forced (Power k) = true
 can_be_forced Unknown = false
+can_be_forced _ = true
 
 -- a master may force a node down: it is a power node or a processor, and the mask of its power record has the master's
 -- bit

@@ -4,7 +4,7 @@ ghost use Rattle.std.specs.Prelude.{◌≡◌, ◌++◌, ◌∷◌, [], ◌==◌
 ghost use Rattle.std.specs.Option.{option_map};
 ghost use Rattle.pm_power.specs.Needs.{child, child_need, children_of, set_child, with_needs};
 
-use pm_base::{NoMemory, NodeId};
+use pm_base::{NoMemory, NodeId, at_or};
 use pm_topology::{ProcDef, SlaveDef, Topology};
 use std::alloc::Global;
 
@@ -97,7 +97,7 @@ fn need_at(first: &[bool], later: &[bool], place: usize) -> bool
     if place < first.len() {
         first[place]
     } else {
-        later.get(place - first.len()).copied().unwrap_or(false)
+        at_or(later, place - first.len(), false)
     }
 }
 

@@ -2,7 +2,7 @@
 
 ghost use Rattle.std.specs.Prelude.{◌≡◌, IfOk, option_map, slice_set};
 ghost use Rattle.pm_procs.specs.Pending as spec;
-ghost use Rattle.pm_procs.specs.Pending.{all_ended, all_lowered, none_pending, request_of, pending_at};
+ghost use Rattle.pm_procs.specs.Pending.{all_ended, all_lowered, none_pending, request_of};
 
 use pm_base::{NoMemory, NodeId};
 use pm_ipi::AckKind;
@@ -74,13 +74,6 @@ pub(crate) fn none_pending(alloc: Global, masters: usize) -> Result<Vec<Option<P
     ensures { IfOk result (λ pending. pending.items ≡ spec.none_pending masters) }
 {
     vec![in alloc; None; masters].map_err(|_| NoMemory)
-}
-
-/// What is pending on the master at a place.
-pub(crate) fn pending_at(pending: &[Option<Pending>], master: usize) -> Option<Pending>
-    ensures { result ≡ spec.pending_at master pending.now }
-{
-    pending.get(master).copied().unwrap_or(None)
 }
 
 /// Sets what is pending on the master at a place. Nothing changes where it isn't there.

@@ -8,7 +8,7 @@ ghost use Rattle.pm_procs.specs.Procs.{all_off, all_turned_off, gone, master_mod
 
 use crate::modes::same_mode;
 use crate::pending::{self, Pending};
-use pm_base::{List, Mode, NoMemory};
+use pm_base::{List, Mode, NoMemory, at_or};
 use pm_topology::Topology;
 use std::alloc::Global;
 use std::marker::Model;
@@ -91,7 +91,7 @@ impl Procs {
     pub fn proc(&self, p: usize) -> Proc
         ensures { result ≡ proc_at p self.now.procs }
     {
-        self.procs.get(p).copied().unwrap_or(Proc::off())
+        at_or(&self.procs, p, Proc::off())
     }
 
     /// The mode of the processor at a place.
@@ -173,7 +173,7 @@ impl Procs {
     pub fn pending(&self, m: usize) -> Option<Pending>
         ensures { result ≡ pending_at m self.now.pending }
     {
-        pending::pending_at(&self.pending, m)
+        at_or(&self.pending, m, None)
     }
 
     /// A request to suspend is pending on a master from now on, in place of one that was. Nothing changes

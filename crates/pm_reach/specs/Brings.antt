@@ -1,5 +1,5 @@
 -- What a master brings into a reach: the slaves, power nodes and reset lines that it can change.
-use Rattle.std.specs.Prelude.{ℕ, Bool, false, ◌&&◌, ◌||◌, ◌==◌, if◌then◌else◌, find, is_some, Option, Some, None, [], ◌∷◌}
+use Rattle.std.specs.Prelude.{ℕ, Bool, false, ◌&&◌, ◌||◌, ◌==◌, if◌then◌else◌, find, is_some, option_and_then, Option, Some, None, [], ◌∷◌}
 use Rattle.std.specs.List.{list_any}
 use Rattle.std.specs.Option.{option_map_or}
 use Rattle.pm_base.specs.declared.names.NodeId.{NodeId}
@@ -11,8 +11,7 @@ use Rattle.pm_topology.specs.declared.topology.ProcDef.{ProcDef}
 use Rattle.pm_topology.specs.declared.topology.LineDef.{LineDef}
 use Rattle.pm_topology.specs.declared.topology.Topology.{Topology}
 use Rattle.pm_topology.specs.declared.places.Kind.{Kind}
-use Rattle.pm_topology.specs.declared.places.Kind.TheVariants as kinds
-use Rattle.pm_topology.specs.Places.{is_below, kind_of}
+use Rattle.pm_topology.specs.Places.{is_below, kind_of, power_of, slave_of}
 use Rattle.pm_perms.specs.Permits.{may_use, may_reset}
 use Rattle.pm_reach.specs.declared.members.MemberKind.{MemberKind}
 use Rattle.pm_reach.specs.declared.members.MemberKind.TheVariants as members
@@ -62,17 +61,11 @@ brings_power object t a w = is_above_proc object t a w || is_above_slave object 
 
 -- why the master at place a brings in a node as a slave: none where its kind is another
 abbrev pub brings_as_slave : Object → Topology → ℕ → NodeId → Kind → Option Why
-brings_as_slave object t a node (kinds.Slave k) = brings_slave object t a node
-brings_as_slave object t a node (kinds.Proc k) = None
-brings_as_slave object t a node (kinds.Power k) = None
-brings_as_slave object t a node kinds.Unknown = None
+brings_as_slave object t a node kind = option_and_then (λ s. brings_slave object t a node) (slave_of kind)
 
 -- why it brings in a node as a power node: none where its kind is another
 abbrev pub brings_as_power : Object → Topology → ℕ → Kind → Option Why
-brings_as_power object t a (kinds.Power w) = if brings_power object t a w then Some Above else None
-brings_as_power object t a (kinds.Proc k) = None
-brings_as_power object t a (kinds.Slave k) = None
-brings_as_power object t a kinds.Unknown = None
+brings_as_power object t a kind = option_and_then (λ w. if brings_power object t a w then Some Above else None) (power_of kind)
 
 -- why the master at place a brings in a unit as a member of this kind: none where it doesn't, or the unit is of another
 -- kind

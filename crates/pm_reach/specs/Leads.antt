@@ -11,7 +11,7 @@ use Rattle.pm_topology.specs.declared.topology.PowerDef.{PowerDef}
 use Rattle.pm_topology.specs.declared.topology.LineDef.{LineDef}
 use Rattle.pm_topology.specs.declared.topology.Topology.{Topology}
 use Rattle.pm_topology.specs.Places.{is_below}
-use Rattle.pm_perms.specs.Owner.{owner}
+use Rattle.pm_perms.specs.Owner.{has_processor}
 use Rattle.pm_perms.specs.Permits.{may_use, may_suspend, may_wake, may_force, may_reset, may_shut, may_configure}
 use Rattle.pm_reach.specs.declared.members.Why.{Why}
 use Rattle.pm_reach.specs.declared.members.Why.TheVariants.{Myself, Suspend, Wake, Force, Reset, Shutdown, Config, Uses, Above}
@@ -23,9 +23,9 @@ abbrev pub node_at : Object → ℕ → NodeId
 node_at object place =
     record { 0 = option_map_or (λ (m : MasterRec). m.node) (slice_get object.masters place) 0 }
 
--- a processor belongs to the master at a place
+-- the master at a place has a processor in the chip's table. More than one may have it
 abbrev pub owns : Object → Topology → ℕ → NodeId → Bool
-owns object t place proc = option_map_or (λ k. k == place) (owner object t proc) false
+owns object t place proc = option_map_or (λ (m : MasterRec). has_processor t m.node proc) (slice_get object.masters place) false
 
 -- ---- power nodes above
 

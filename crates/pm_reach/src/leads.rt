@@ -6,9 +6,8 @@ ghost use Rattle.pm_reach.specs.Leads as spec;
 use crate::members::Why;
 use pm_base::NodeId;
 use pm_object::Object;
-use pm_perms::{
-    may_configure, may_force, may_reset, may_shut, may_suspend, may_use, may_wake, owner_of,
-};
+use pm_perms::owner::has_processor;
+use pm_perms::{may_configure, may_force, may_reset, may_shut, may_suspend, may_use, may_wake};
 use pm_topology::{LineDef, PowerDef, Topology};
 
 /// The six reasons for which a master leads to another, in their order.
@@ -31,12 +30,12 @@ pub fn node_at(object: &Object, place: usize) -> NodeId
     }
 }
 
-/// Whether a processor belongs to the master at a place.
+/// Whether the master at a place has a processor in the chip's table. More than one may have it.
 pub fn owns(object: &Object, t: &Topology, place: usize, proc: NodeId) -> bool
     ensures { result ≡ spec.owns object.now t.now place proc }
 {
-    match owner_of(object, t, proc) {
-        Some(owner) => owner == place,
+    match object.masters.as_slice().get(place) {
+        Some(master) => has_processor(t, master.node, proc),
         None => false,
     }
 }

@@ -3,7 +3,7 @@
 ghost use Rattle.std.specs.Prelude.{◌≡◌, IfOk, length};
 ghost use Rattle.pm_resets.specs.Resets.{all_released, line_value, value_of, with_line};
 
-use pm_base::NoMemory;
+use pm_base::{NoMemory, at_or};
 use std::alloc::Global;
 use std::marker::Model;
 
@@ -39,7 +39,7 @@ impl Resets {
     pub fn value(&self, l: usize) -> u32
         ensures { result ≡ value_of l self.now }
     {
-        number(self.asserted.get(l).copied().unwrap_or(false))
+        number(at_or(&self.asserted, l, false))
     }
 
     /// The line at a place is asserted or released from now on (UG1200, PM_RESET_ASSERT). Nothing changes

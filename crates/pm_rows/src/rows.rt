@@ -7,11 +7,11 @@ ghost use Rattle.pm_rows.specs.Rows.{mode_of, loaded_entry, loaded_rows, reloade
 ghost use Rattle.pm_rows.specs.Shift.{shifted};
 ghost use Rattle.pm_rows.specs.Wanted.{wanted_of};
 
-use crate::modes::{loaded_modes, mode_in, reload_modes, set_mode};
+use crate::modes::{loaded_modes, reload_modes, set_mode};
 use crate::row::{Change, Entry, Row, RowSeed};
 use crate::shift::shift_rows;
 use crate::wanted::{Wanted, wanted_on};
-use pm_base::{Caps, Mode, NoMemory, NodeId, Steps};
+use pm_base::{Caps, Mode, NoMemory, NodeId, Steps, at_or};
 use std::alloc::Global;
 use std::marker::Model;
 use std::sync::ledger::Ledger;
@@ -106,7 +106,7 @@ impl Rows {
     pub fn mode(&self, master: usize) -> Mode
         ensures { result ≡ mode_of master self.now }
     {
-        mode_in(&self.known, master)
+        at_or(&self.known, master, Mode::Off)
     }
 
     /// The number of rows.
@@ -220,7 +220,7 @@ impl Rows {
     pub fn shift(&mut self, master: usize, to: Mode)
         ensures { self.new ≡ shifted master to self.old }
     {
-        let from = mode_in(&self.known, master);
+        let from = at_or(&self.known, master, Mode::Off);
         shift_rows(&mut self.entries, master, from, to);
         set_mode(&mut self.known, master, to);
     }

@@ -3,9 +3,8 @@
 ghost use Rattle.std.specs.Prelude.{◌≡◌, fold};
 ghost use Rattle.pm_rows.specs.Wanted.{least, both, by_use, by_arming, by_hold, limit_by, required_by, with_row, nothing_wanted};
 
-use crate::modes::mode_in;
 use crate::row::Entry;
-use pm_base::{Caps, Mode};
+use pm_base::{Caps, Mode, at_or};
 
 /// What the requirements in force on a slave come to: the capabilities that it must have, and the
 /// greatest latency that is allowed, if there is a limit.
@@ -83,7 +82,7 @@ fn with_row(slave: usize, modes: &[Mode], wanted: Wanted, entry: &Entry) -> Want
         Wanted {
             caps: both(
                 wanted.caps,
-                entry.required_by(mode_in(modes, entry.seed.master)),
+                entry.required_by(at_or(modes, entry.seed.master, Mode::Off)),
             ),
             limit: least(wanted.limit, entry.limit_by()),
         }

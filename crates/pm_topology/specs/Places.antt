@@ -35,6 +35,19 @@ kind_at None None None = Unknown
 abbrev pub kind_of : Topology → NodeId → Kind
 kind_of t n = kind_at (proc_place t.procs n.0) (slave_place t.slaves n.0) (power_place t.powers n.0)
 
+-- the place of a processor, of a slave or of a power node: none where the kind is another
+abbrev pub proc_of : Kind → Option ℕ
+proc_of (Proc p) = Some p
+proc_of _ = None
+
+abbrev pub slave_of : Kind → Option ℕ
+slave_of (Slave s) = Some s
+slave_of _ = None
+
+abbrev pub power_of : Kind → Option ℕ
+power_of (Power w) = Some w
+power_of _ = None
+
 -- the entry of this kind and place has this number; of the kind Unknown, no entry has it
 abbrev pub IsKind : Topology → NodeId → Kind → Type 0
 IsKind t n (Proc k) = (p : ProcDef) × (slice_get t.procs k ≡ Some p) × (p.node.0 ≡ n.0)

@@ -1,7 +1,7 @@
 use Rattle.std.proofs.Common.{◌∙◌, ◌<◌, length, ap, arith}
 use Rattle.pm_topology.specs.UnitMap.{with_value_at}
 use Rattle.pm_notify.proofs.ClearLemmas.{clear_step}
-use Rattle.pm_notify.proofs.mailbox.clear_all.Goals as goal
+use Rattle.pm_notify.proofs.master_notes.clear_all.Goals as goal
 
 pub loop-place-preserved : goal.loop-place-preserved
 loop-place-preserved c =

@@ -3,8 +3,8 @@
 ghost use Rattle.std.specs.Prelude.{◌≡◌, IfOk, slice_get, true};
 ghost use Rattle.pm_topology.specs.UnitMap.{all_at, units_in};
 ghost use Rattle.pm_topology.specs.Units.{rises, units_of};
-ghost use Rattle.pm_notify.specs.Mailbox as spec;
-ghost use Rattle.pm_notify.specs.Mailbox.{asks_about, forgotten, notes_at, waiting_about, waiting_in, with_note, with_notes, with_notifier, without_note};
+ghost use Rattle.pm_notify.specs.MasterNotes as spec;
+ghost use Rattle.pm_notify.specs.MasterNotes.{asks_about, forgotten, notes_at, waiting_about, waiting_in, with_note, with_notes, with_notifier, without_note};
 ghost use Rattle.pm_notify.specs.NodeNotes.{no_notes};
 
 use crate::node_notes::{NodeNotes, Slots};
@@ -17,31 +17,31 @@ use std::marker::Model;
 /// What a master has asked for and what waits for it about each unit of a chip, in the order of units.
 /// About a reset line nothing is ever asked for, and nothing waits.
 #[derive(Drop)]
-pub struct Mailbox {
+pub struct MasterNotes {
     notes: UnitMap<NodeNotes>,
 }
 
-impl Model for Mailbox {
+impl Model for MasterNotes {
     ghost use Rattle.std.specs.Prelude.{List};
     ghost use Rattle.pm_base.specs.declared.names.Unit.{Unit};
     ghost use Rattle.pm_notify.specs.declared.node_notes.NodeNotes.{NodeNotes};
 
     ghost Value = { List (Unit × NodeNotes) };
 
-    ghost view = { λ mailbox. mailbox.notes };
+    ghost view = { λ master_notes. master_notes.notes };
 }
 
-impl Mailbox {
+impl MasterNotes {
     /// A master that has asked for nothing and for which nothing waits, about each unit of the chip.
     ///
     /// # Errors
     ///
     /// `NoMemory` where there is not enough memory.
-    pub fn load(alloc: Global, t: &Topology) -> Result<Mailbox, NoMemory>
-        ensures { IfOk result (λ mail. mail ≡ all_at no_notes (units_of t.now)) }
+    pub fn load(alloc: Global, t: &Topology) -> Result<MasterNotes, NoMemory>
+        ensures { IfOk result (λ notes. notes ≡ all_at no_notes (units_of t.now)) }
     {
         let notes = UnitMap::load(alloc, t, NodeNotes::none())?;
-        Ok(Mailbox { notes })
+        Ok(MasterNotes { notes })
     }
 
     /// What was asked for and what waits about a node: nothing where the chip doesn't have it.

@@ -1,7 +1,7 @@
 use Rattle.std.proofs.Common.{◌≡◌, ◌∙◌, Some, None, ap, sym, add-one}
-use Rattle.pm_notify.specs.Mailbox.{first_at}
+use Rattle.pm_notify.specs.MasterNotes.{first_at}
 use Rattle.pm_notify.proofs.TakeLemmas.{first_found, none_found}
-use Rattle.pm_notify.proofs.mailbox.first_in.Goals as goal
+use Rattle.pm_notify.proofs.master_notes.first_in.Goals as goal
 
 pub returns-in-Some-clause-first : goal.returns-in-Some-clause-first
 returns-in-Some-clause-first c =
