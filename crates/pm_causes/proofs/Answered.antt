@@ -1,5 +1,5 @@
 -- Which messages are dropped, which are answered by nothing, and what the others are told.
-use Rattle.std.proofs.Common.{◌≡◌, ◌↔◌, ◌⊎◌, inl, inr, ℕ, Bool, true, false, not, ◌&&◌, ◌==◌, if◌then◌else◌, Option, Some, None, refl, sym, ◌∙◌, ap}
+use Rattle.std.proofs.Common.{◌≡◌, ◌↔◌, ◌⊎◌, inl, inr, ℕ, Bool, true, false, not, ◌&&◌, ◌==◌, if◌then◌else◌, List, [], Option, Some, None, refl, sym, ◌∙◌, ap}
 use Rattle.std.specs.Prelude.{is_some, option_and_then, option_map}
 use Rattle.std.proofs.lemmas.Bool.{eqb-true}
 use Rattle.pm_base.specs.declared.events.Event.{Event}
@@ -12,23 +12,30 @@ use Rattle.pm_procs.specs.Modes.{is_awake}
 use Rattle.pm_ipi.specs.declared.calls.AckKind.{AckKind}
 use Rattle.pm_ipi.specs.declared.calls.AckKind.TheVariants.{No, Blocking, NonBlocking}
 use Rattle.pm_ipi.specs.declared.calls.Call.{Call}
-use Rattle.pm_ipi.specs.declared.calls.Call.TheVariants.{ForcePowerdown, RequestNode, RequestSuspend, RequestWakeup, SetRequirement}
+use Rattle.pm_ipi.specs.declared.calls.Call.TheVariants.{RegisterNotifier, RequestSuspend, SystemShutdown}
 use Rattle.pm_ipi.specs.declared.responses.Response.{Response}
-use Rattle.pm_ipi.specs.Calls.{ack_kind, ack_of, call_of, kind_or_reply, node_of}
-use Rattle.pm_core.specs.declared.judgement.Asked.{Asked}
+use Rattle.pm_ipi.specs.Calls.{ack_kind, ack_of, acknowledge_of, call_of, kind_by, kind_or_reply, node_of}
+use Rattle.pm_core.specs.declared.verdict.Asked.{Asked}
+use Rattle.pm_core.specs.declared.verdict.Effects.{Effects}
+use Rattle.pm_core.specs.declared.verdict.Say.{Say}
+use Rattle.pm_core.specs.declared.verdict.Say.TheVariants.{Abort, Ask, Register, Renew}
+use Rattle.pm_core.specs.Checks.{AllHold, Cause, Fits, Stands}
+use Rattle.pm_core.specs.Verdict.{Called, asked_by, response_of, response_to, verdict_by, verdict_of}
+use Rattle.pm_core.specs.calls.RegisterNotifier.{notifier_put}
+use Rattle.pm_core.specs.calls.RequestSuspend.{asked_of}
+use Rattle.pm_core.specs.calls.SystemShutdown.{renewal, restarts_all}
+use Rattle.pm_core.proofs.Verdicts.{all_hold, mapped, none_fails}
+use Rattle.pm_notify.specs.Notes.{event_of}
+use Rattle.pm_ipi.specs.Responses.{success}
 use Rattle.pm_core.specs.declared.replies.Answer.{Answer}
 use Rattle.pm_core.specs.declared.replies.Answer.TheVariants.{Silent, Drop}
 use Rattle.pm_core.specs.Members.{mode_of_master}
-use Rattle.pm_core.specs.Outcome.{Deed, Outcome}
 use Rattle.pm_core.specs.State.{State}
-use Rattle.pm_core.specs.Step.{acknowledged, answer_by, answer_to, answered, called, effect, heard_at, heard_by, tried_by, verdict}
+use Rattle.pm_core.specs.Step.{acknowledged, answer_of, answer_to, answered, call_in, called, effect, heard_at, verdict}
 use Rattle.pm_core.specs.Values.{master_place}
 use Rattle.pm_core.specs.Views.{master_mode, master_mode_at, suspend_view}
-use Rattle.pm_causes.specs.Answers.{IsDropped, IsHeard, IsSilent, IsUnanswered, IsUnheard, acknowledge_of, is_request_to_suspend, told}
-use Rattle.pm_causes.specs.Causes.{cause, checks_of, status}
-use Rattle.pm_causes.specs.Checks.{AllHold, Cause, Fits, Stands}
-use Rattle.pm_causes.proofs.Calls.{decided}
-use Rattle.pm_causes.proofs.Statuses.{all_hold, none_fails, outcome_by}
+use Rattle.pm_causes.specs.Answers.{IsDropped, IsHeard, IsSilent, IsUnanswered, IsUnheard, is_request_to_suspend, told}
+use Rattle.pm_causes.specs.Causes.{cause, checks_of, response as told_response, status, status_in, words_in}
 
 -- ---- acknowledge kind 1
 
@@ -40,132 +47,149 @@ wants_nothing ack is = ap Some (eqb-true ack 1 (by (ack == 1) (ack == 2) (ack ==
   by false false true is = cc
   by false false false is = cc
 
-abbrev kind_of_word : Option ℕ → Option AckKind
-kind_of_word None = None
-kind_of_word (Some ack) = ack_kind ack
-
-one_wants_nothing : (ack : ℕ) → Some ack ≡ Some 1 → kind_or_reply (ack_kind ack) ≡ No
-one_wants_nothing ack is = ap (λ word. kind_or_reply (kind_of_word word)) is
+word_wants : (word : Option ℕ) → kind_by word ≡ No → word ≡ Some 1
+word_wants None is = cc
+word_wants (Some ack) is = wants_nothing ack is
 
 acknowledges_one : (call : Call) → ack_of call ≡ No → acknowledge_of call ≡ Some 1
-acknowledges_one (RequestSuspend node ack latency state) is = wants_nothing ack is
-acknowledges_one (ForcePowerdown node ack) is = wants_nothing ack is
-acknowledges_one (RequestWakeup node address ack) is = wants_nothing ack is
-acknowledges_one (RequestNode node caps ack) is = wants_nothing ack is
-acknowledges_one (SetRequirement node caps ack) is = wants_nothing ack is
-acknowledges_one _ is = cc
+acknowledges_one call is = word_wants (acknowledge_of call) is
 
 one_acknowledges : (call : Call) → acknowledge_of call ≡ Some 1 → ack_of call ≡ No
-one_acknowledges (RequestSuspend node ack latency state) is = one_wants_nothing ack is
-one_acknowledges (ForcePowerdown node ack) is = one_wants_nothing ack is
-one_acknowledges (RequestWakeup node address ack) is = one_wants_nothing ack is
-one_acknowledges (RequestNode node caps ack) is = one_wants_nothing ack is
-one_acknowledges (SetRequirement node caps ack) is = one_wants_nothing ack is
-one_acknowledges _ is = cc
+one_acknowledges call is = ap kind_by is
 
 -- ---- what a call that is heard is answered
 
-module _ (master : NodeId) (call : Call) (response : Response) (after : State) where
-  silent_kind : (kind : AckKind) (node : NodeId) → acknowledged kind master node response after ≡ Silent → kind ≡ No
-  silent_kind No node is = refl
-  silent_kind Blocking node is = cc
-  silent_kind NonBlocking node is = cc
+module _ (master : NodeId) (call : Call) (after : State) where
+  silent_kind : (response : Response) (kind : AckKind) (node : NodeId) → acknowledged kind master node response after ≡ Silent → kind ≡ No
+  silent_kind response No node is = refl
+  silent_kind response Blocking node is = cc
+  silent_kind response NonBlocking node is = cc
 
-  silent_by : (asked : Option Asked) → answered asked master call response after ≡ Silent → (is_some asked ≡ true) ⊎ (ack_of call ≡ No)
-  silent_by None is = inr (silent_kind (ack_of call) (node_of call) is)
-  silent_by (Some asked) is = inl refl
+  silent_by : (response : Option Response) → answered response master call after ≡ Silent → (response ≡ None) ⊎ (ack_of call ≡ No)
+  silent_by None is = inl refl
+  silent_by (Some response) is = inr (silent_kind response (ack_of call) (node_of call) is)
 
-  asked_silent : (asked : Option Asked) → is_some asked ≡ true → answered asked master call response after ≡ Silent
-  asked_silent None is = cc
-  asked_silent (Some asked) is = refl
+  kind_silent : (response : Option Response) → ack_of call ≡ No → answered response master call after ≡ Silent
+  kind_silent None is = refl
+  kind_silent (Some response) is = ap (λ kind. acknowledged kind master (node_of call) response after) is
 
-  kind_silent : (asked : Option Asked) → ack_of call ≡ No → answered asked master call response after ≡ Silent
-  kind_silent None is = ap (λ kind. acknowledged kind master (node_of call) response after) is
-  kind_silent (Some asked) is = refl
-
-  kind_stays : (kind : AckKind) (node to : NodeId) → acknowledged kind master node response after ≡ Drop to → ⊥
-  kind_stays No node to is = cc
-  kind_stays Blocking node to is = cc
-  kind_stays NonBlocking node to is = cc
+  kind_stays : (response : Response) (kind : AckKind) (node to : NodeId) → acknowledged kind master node response after ≡ Drop to → ⊥
+  kind_stays response No node to is = cc
+  kind_stays response Blocking node to is = cc
+  kind_stays response NonBlocking node to is = cc
 
   -- it isn't dropped
-  stays : (asked : Option Asked) (to : NodeId) → answered asked master call response after ≡ Drop to → ⊥
-  stays None to is = kind_stays (ack_of call) (node_of call) to is
-  stays (Some asked) to is = cc
+  stays : (response : Option Response) (to : NodeId) → answered response master call after ≡ Drop to → ⊥
+  stays None to is = cc
+  stays (Some response) to is = kind_stays response (ack_of call) (node_of call) to is
 
-  kind_told : (kind : AckKind) (node : NodeId) → (acknowledged kind master node response after ≡ Silent) ⊎ (told (acknowledged kind master node response after) ≡ Some (master, response.status))
-  kind_told No node = inl refl
-  kind_told Blocking node = inr refl
-  kind_told NonBlocking node = inr refl
+  -- it is told a status, or nothing
+  abbrev Tells : Answer → ℕ → Type 0
+  Tells answer status = (answer ≡ Silent) ⊎ (told answer ≡ Some (master, status))
 
-  tells : (asked : Option Asked) → (answered asked master call response after ≡ Silent) ⊎ (told (answered asked master call response after) ≡ Some (master, response.status))
-  tells None = kind_told (ack_of call) (node_of call)
-  tells (Some asked) = inl refl
+  kind_told : (response : Response) (kind : AckKind) (node : NodeId) → Tells (acknowledged kind master node response after) response.status
+  kind_told response No node = inl refl
+  kind_told response Blocking node = inr refl
+  kind_told response NonBlocking node = inr refl
+
+  accepted_told : (says : Option Say) (words : List ℕ) → Tells (answered (response_to says words) master call after) 0
+  accepted_told (Some (Ask asked)) words = inl refl
+  accepted_told (Some (Abort m)) words = kind_told (success words) (ack_of call) (node_of call)
+  accepted_told (Some (Register put)) words = kind_told (success words) (ack_of call) (node_of call)
+  accepted_told (Some Renew) words = kind_told (success words) (ack_of call) (node_of call)
+  accepted_told None words = kind_told (success words) (ack_of call) (node_of call)
+
+  tells : (cause : Cause) (effects : Effects) → Tells (answered (response_of (verdict_by cause effects)) master call after) (status_in (verdict_by cause effects))
+  tells (Stands Fits) effects = accepted_told effects.says effects.words
+  tells _ effects = kind_told _ (ack_of call) (node_of call)
+
+  -- it is given in the form of the acknowledge kind, or there is none
+  abbrev Forms : Answer → Response → Type 0
+  Forms answer response = (answer ≡ Silent) ⊎ (answer ≡ acknowledged (ack_of call) master (node_of call) response after)
+
+  accepted_forms : (says : Option Say) (words : List ℕ) → Forms (answered (response_to says words) master call after) (success words)
+  accepted_forms (Some (Ask asked)) words = inl refl
+  accepted_forms (Some (Abort m)) words = inr refl
+  accepted_forms (Some (Register put)) words = inr refl
+  accepted_forms (Some Renew) words = inr refl
+  accepted_forms None words = inr refl
+
+  forms : (cause : Cause) (effects : Effects)
+      → Forms (answered (response_of (verdict_by cause effects)) master call after)
+      (record { status = status_in (verdict_by cause effects); words = words_in (verdict_by cause effects) })
+  forms (Stands Fits) effects = accepted_forms effects.says effects.words
+  forms _ effects = inr refl
+
+  not_dropped : (cause : Cause) (effects : Effects) → answer_of (verdict_by cause effects) master call after ≡ answered (response_of (verdict_by cause effects)) master call after
+  not_dropped (Stands Fits) effects = refl
+  not_dropped _ effects = refl
 
 -- ---- which call asks a master to suspend
 
-abbrev asks_by : Cause → Option Asked → Option Asked
-asks_by (Stands Fits) asks = asks
-asks_by _ asks = None
+asks_none : (says : Option Say) (words : List ℕ) → response_to says words ≡ None → is_some (asked_by says) ≡ true
+asks_none (Some (Ask asked)) words is = refl
+asks_none (Some (Abort m)) words is = cc
+asks_none (Some (Register put)) words is = cc
+asks_none (Some Renew) words is = cc
+asks_none None words is = cc
 
-asks_is : (cause : Cause) (deed : Deed) → (outcome_by cause deed).judgement.asks ≡ asks_by cause deed.asks
-asks_is (Stands Fits) deed = refl
-asks_is _ deed = refl
+none_by : (cause : Cause) (effects : Effects) → response_of (verdict_by cause effects) ≡ None → (cause ≡ Stands Fits) × (is_some (asked_by effects.says) ≡ true)
+none_by (Stands Fits) effects is = (refl, asks_none effects.says effects.words is)
+none_by _ effects is = cc
 
-asks_some : (cause : Cause) (asks : Option Asked) → is_some (asks_by cause asks) ≡ true → (cause ≡ Stands Fits) × (is_some asks ≡ true)
-asks_some (Stands Fits) asks is = (refl, is)
-asks_some _ asks is = cc
+renewal_asks : (all : Bool) → is_some (asked_by (renewal all)) ≡ true → ⊥
+renewal_asks true is = cc
+renewal_asks false is = cc
 
 -- it is a request to suspend
-request_of : (m : ℕ) (call : Call) (book : State) → is_some (tried_by m call book).deed.asks ≡ true → is_request_to_suspend call ≡ true
+request_of : (m : ℕ) (call : Call) (book : State) → is_some (asked_by (called m call book).effects.says) ≡ true → is_request_to_suspend call ≡ true
 request_of m (RequestSuspend node ack latency state) book is = refl
+request_of m (RegisterNotifier node event wake enable) book is =
+    absurd (mapped (λ says. is_some (asked_by says) ≡ true → ⊥) (notifier_put m node enable) (event_of event) (λ none. cc) (λ put some. cc) is)
+request_of m (SystemShutdown shutdown_type subtype) book is = absurd (renewal_asks (restarts_all shutdown_type subtype) is)
 request_of m _ book is = cc
 
-some_mapped : {X Y : Type 0} (f : X → Y) (x : Option X) → is_some x ≡ true → is_some (option_map f x) ≡ true
-some_mapped f None is = cc
-some_mapped f (Some x) is = refl
+asked_none : {X : Type 0} (f : X → Asked) (o : Option X) (words : List ℕ) → is_some o ≡ true → response_to (option_map (λ x. Ask (f x)) o) words ≡ None
+asked_none f None words is = cc
+asked_none f (Some x) words is = refl
 
-request_asks : (m : ℕ) (call : Call) (book : State) → is_request_to_suspend call ≡ true → AllHold (checks_of m call book) → is_some (tried_by m call book).deed.asks ≡ true
-request_asks m (RequestSuspend node ack latency state) book is all = some_mapped _ (suspend_view m node book).target all.permitted
-request_asks m _ book is all = cc
+request_waits : (m : ℕ) (call : Call) (book : State) → is_request_to_suspend call ≡ true → AllHold (checks_of m call book) → response_to (called m call book).effects.says (called m call book).effects.words ≡ None
+request_waits m (RequestSuspend node ack latency state) book is all =
+    asked_none (asked_of m node ack latency state) (suspend_view m node book).target _ all.permitted
+request_waits m _ book is all = cc
 
 module _ (m : ℕ) (call : Call) (book : State) where
-  abbrev outcome : Outcome
-  outcome = called m call book
+  -- the response that it is given now
+  abbrev response : Option Response
+  response = response_of (verdict_of (called m call book))
 
-  asks_decided : outcome.judgement.asks ≡ asks_by (cause m call book) (tried_by m call book).deed.asks
-  asks_decided =
-      ap (λ (o : Outcome). o.judgement.asks) (decided m call book).is ∙ asks_is (cause m call book) (tried_by m call book).deed
-
-  unanswered : (master : NodeId) (after : State) → answered outcome.judgement.asks master call outcome.judgement.response after ≡ Silent → IsUnanswered m call book
-  unanswered master after silent = by (silent_by master call outcome.judgement.response after outcome.judgement.asks silent) where
-    by : (is_some outcome.judgement.asks ≡ true) ⊎ (ack_of call ≡ No) → IsUnanswered m call book
-    by (inl asks) =
-        let parts = asks_some (cause m call book) (tried_by m call book).deed.asks (sym (ap is_some asks_decided) ∙ asks) in
+  unanswered : (master : NodeId) (after : State) → answered response master call after ≡ Silent → IsUnanswered m call book
+  unanswered master after silent = by (silent_by master call after response silent) where
+    by : (response ≡ None) ⊎ (ack_of call ≡ No) → IsUnanswered m call book
+    by (inl none) =
+        let parts = none_by (cause m call book) (called m call book).effects none in
         inl (request_of m call book parts.1, all_hold (checks_of m call book) parts.0)
     by (inr nothing) = inr (acknowledges_one call nothing)
 
-  silent : (master : NodeId) (after : State) → IsUnanswered m call book → answered outcome.judgement.asks master call outcome.judgement.response after ≡ Silent
+  silent : (master : NodeId) (after : State) → IsUnanswered m call book → answered response master call after ≡ Silent
   silent master after (inl accepted) =
-      asked_silent master call outcome.judgement.response after outcome.judgement.asks
-      (ap is_some asks_decided
-      ∙ (ap (λ c. is_some (asks_by c (tried_by m call book).deed.asks)) (none_fails (checks_of m call book) accepted.1)
-      ∙ request_asks m call book accepted.0 accepted.1))
-  silent master after (inr one) =
-      kind_silent master call outcome.judgement.response after outcome.judgement.asks (one_acknowledges call one)
+      ap (λ r. answered r master call after)
+      (ap (λ c. response_of (verdict_by c (called m call book).effects)) (none_fails (checks_of m call book) accepted.1)
+      ∙ request_waits m call book accepted.0 accepted.1)
+  silent master after (inr one) = kind_silent master call after response (one_acknowledges call one)
 
 -- ---- who is heard
 
-heard_if : (halted awake : Bool) (outcome : Outcome) → halted ≡ false → awake ≡ true → (if not halted && awake then Some outcome else None) ≡ Some outcome
-heard_if false true outcome running woken = refl
-heard_if true awake outcome running woken = cc
-heard_if false false outcome running woken = cc
+heard_if : (halted awake : Bool) (call : Called) → halted ≡ false → awake ≡ true → (if not halted && awake then Some call else None) ≡ Some call
+heard_if false true call running woken = refl
+heard_if true awake call running woken = cc
+heard_if false false call running woken = cc
 
-unheard_if : (halted awake : Bool) (outcome : Outcome) → (halted ≡ true) ⊎ (awake ≡ false) → (if not halted && awake then Some outcome else None) ≡ None
-unheard_if true awake outcome is = refl
-unheard_if false false outcome is = refl
-unheard_if false true outcome (inl is) = cc
-unheard_if false true outcome (inr is) = cc
+unheard_if : (halted awake : Bool) (call : Called) → (halted ≡ true) ⊎ (awake ≡ false) → (if not halted && awake then Some call else None) ≡ None
+unheard_if true awake call is = refl
+unheard_if false false call is = refl
+unheard_if false true call (inl is) = cc
+unheard_if false true call (inr is) = cc
 
 module _ (sender : NodeId) (message : Message) (book : State) where
   abbrev call : Call
@@ -174,21 +198,23 @@ module _ (sender : NodeId) (message : Message) (book : State) where
   abbrev event : Event
   event = Ipi sender message
 
-  heard_verdict : (m : ℕ) → IsHeard sender m book → verdict sender message book ≡ Some (called m call book)
-  heard_verdict m heard =
-      ap (option_and_then (heard_at message book)) heard.place
+  heard_call : (m : ℕ) → IsHeard sender m book → call_in sender call book ≡ Some (called m call book)
+  heard_call m heard =
+      ap (option_and_then (heard_at call book)) heard.place
       ∙ heard_if book.now.core.halted (is_awake (mode_of_master book.fixed book.now.core m)) (called m call book) heard.running (by heard.mode)
     where
       by : (master_mode sender book ≡ Active) ⊎ (master_mode sender book ≡ Suspending) → is_awake (mode_of_master book.fixed book.now.core m) ≡ true
       by (inl is) = ap is_awake (sym (ap (λ place. master_mode_at place book) heard.place) ∙ is)
       by (inr is) = ap is_awake (sym (ap (λ place. master_mode_at place book) heard.place) ∙ is)
 
-  pub heard_answer : (m : ℕ) → IsHeard sender m book → answer_to event book ≡ answered (called m call book).judgement.asks sender call (called m call book).judgement.response (effect event book)
-  heard_answer m heard = ap (λ outcome. answer_by (heard_by sender call outcome) (effect event book)) (heard_verdict m heard)
+  pub heard_answer : (m : ℕ) → IsHeard sender m book → answer_to event book ≡ answered (response m call book) sender call (effect event book)
+  heard_answer m heard =
+      ap (λ x. answer_of (verdict x) sender call (effect event book)) (heard_call m heard)
+      ∙ not_dropped sender call (effect event book) (cause m call book) (called m call book).effects
 
   unheard_at : (place : Option ℕ)
       → (place ≡ None) ⊎ (master_mode_at place book ≡ Asleep) ⊎ (master_mode_at place book ≡ Off) ⊎ (book.now.core.halted ≡ true)
-      → option_and_then (heard_at message book) place ≡ None
+      → option_and_then (heard_at call book) place ≡ None
   unheard_at None is = refl
   unheard_at (Some m) (inl is) = cc
   unheard_at (Some m) (inr (inl is)) = unheard_if book.now.core.halted _ (called m call book) (inr (ap is_awake is))
@@ -196,7 +222,7 @@ module _ (sender : NodeId) (message : Message) (book : State) where
   unheard_at (Some m) (inr (inr (inr is))) = unheard_if book.now.core.halted (is_awake (mode_of_master book.fixed book.now.core m)) (called m call book) (inl is)
 
   unheard_answer : IsUnheard sender book → answer_to event book ≡ Drop sender
-  unheard_answer is = ap (λ outcome. answer_by (heard_by sender call outcome) (effect event book)) (unheard_at (master_place sender book) is)
+  unheard_answer is = ap (λ x. answer_of (verdict x) sender call (effect event book)) (unheard_at (master_place sender book) is)
 
   -- nobody hears the sender, or it is heard
   heard_or_not : IsUnheard sender book ⊎ ((m : ℕ) × IsHeard sender m book)
@@ -224,8 +250,7 @@ drops (Ipi sender message) book master is = by (heard_or_not sender message book
   by : IsUnheard sender book ⊎ ((m : ℕ) × IsHeard sender m book) → (sender ≡ master) × IsUnheard sender book
   by (inl unheard) = (dropped_same sender master (sym (unheard_answer sender message book unheard) ∙ is), unheard)
   by (inr heard) =
-      absurd (stays sender (call_of message) (called heard.0 (call_of message) book).judgement.response (effect (Ipi sender message) book)
-      (called heard.0 (call_of message) book).judgement.asks master (sym (heard_answer sender message book heard.0 heard.1) ∙ is))
+      absurd (stays sender (call_of message) (effect (Ipi sender message) book) (response heard.0 (call_of message) book) master (sym (heard_answer sender message book heard.0 heard.1) ∙ is))
 drops _ book master is = cc
 
 dropped_by : (event : Event) (book : State) (master : NodeId) → IsDropped master event book → answer_to event book ≡ Drop master
@@ -259,5 +284,16 @@ pub told_status : (sender : NodeId) (message : Message) (m : ℕ) (book : State)
     → (answer_to (Ipi sender message) book ≡ Silent) ⊎ (told (answer_to (Ipi sender message) book) ≡ Some (sender, status m (call_of message) book))
 told_status sender message m book heard =
     told_by (answer_to (Ipi sender message) book) _ (Some (sender, status m (call_of message) book)) (heard_answer sender message book m heard)
-    (tells sender (call_of message) (called m (call_of message) book).judgement.response (effect (Ipi sender message) book)
-    (called m (call_of message) book).judgement.asks)
+    (tells sender (call_of message) (effect (Ipi sender message) book) (cause m (call_of message) book) (called m (call_of message) book).effects)
+
+formed_by : (shown now form : Answer) → shown ≡ now → (now ≡ Silent) ⊎ (now ≡ form) → (shown ≡ Silent) ⊎ (shown ≡ form)
+formed_by shown now form same (inl is) = inl (same ∙ is)
+formed_by shown now form same (inr is) = inr (same ∙ is)
+
+pub formed : (sender : NodeId) (message : Message) (m : ℕ) (book : State) → IsHeard sender m book
+    → (answer_to (Ipi sender message) book ≡ Silent)
+    ⊎ (answer_to (Ipi sender message) book
+    ≡ acknowledged (ack_of (call_of message)) sender (node_of (call_of message)) (told_response m (call_of message) book) (effect (Ipi sender message) book))
+formed sender message m book heard =
+    formed_by (answer_to (Ipi sender message) book) _ _ (heard_answer sender message book m heard)
+    (forms sender (call_of message) (effect (Ipi sender message) book) (cause m (call_of message) book) (called m (call_of message) book).effects)

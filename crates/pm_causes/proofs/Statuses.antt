@@ -1,28 +1,37 @@
 -- The status of a call tells the first of its checks that fails.
-use Rattle.std.proofs.Common.{◌≡◌, ◌↔◌, ◌⊎◌, inl, inr, ℕ, Bool, true, false, ◌==◌, [], ◌∷◌, refl, sym, ◌∙◌, ap}
+use Rattle.std.proofs.Common.{◌≡◌, ◌↔◌, ◌⊎◌, inl, inr, ℕ, Bool, false, ◌==◌, List, [], ◌∷◌, refl, sym, ◌∙◌, ap}
 use Rattle.pm_base.specs.declared.names.NodeId.{NodeId}
 use Rattle.pm_base.proofs.Booleans.{differs}
 use Rattle.pm_ipi.specs.declared.calls.Call.{Call}
 use Rattle.pm_ipi.specs.Status.{failure, invalid_parameter, no_feature, no_access, invalid_node, double_request, node_used}
-use Rattle.pm_core.specs.Outcome.{Deed, Outcome, judged}
+use Rattle.pm_core.specs.declared.verdict.Effects.{Effects}
+use Rattle.pm_core.specs.Checks.{AllHold, Acknowledge, Arguments, Capable, Cause, Fits, InUse, Known, Node, NotUsed, Permitted, Stands, UsedBy, WrongMode}
 use Rattle.pm_core.specs.State.{State}
-use Rattle.pm_core.specs.Step.{tried_by}
-use Rattle.pm_causes.specs.Causes.{cause, checks_of, status, words}
-use Rattle.pm_causes.specs.Checks.{Standing, Fits, NotUsed, InUse, UsedBy, WrongMode, Checks, AllHold, Cause, Known, Acknowledge, Node, Arguments, Permitted, Capable, Stands, first_failing}
-use Rattle.pm_causes.proofs.Calls.{decided}
-use Rattle.pm_causes.proofs.Tests.{check_by, number}
+use Rattle.pm_core.specs.Step.{called}
+use Rattle.pm_core.specs.Verdict.{verdict_by}
+use Rattle.pm_core.proofs.Verdicts.{all_hold, none_fails}
+use Rattle.pm_causes.specs.Causes.{cause, checks_of, status, status_in, words, words_in}
 
--- what this cause alone makes of a call
-abbrev pub outcome_by : Cause → Deed → Outcome
-outcome_by cause deed = judged (check_by cause ∷ []) deed
+-- the status by the check that fails
+abbrev pub number : Cause → ℕ
+number Known = no_feature
+number Acknowledge = invalid_parameter
+number Node = invalid_node
+number (Arguments told) = invalid_parameter
+number Permitted = no_access
+number Capable = no_feature
+number (Stands Fits) = 0
+number (Stands NotUsed) = no_access
+number (Stands InUse) = double_request
+number (Stands (UsedBy other)) = node_used
+number (Stands WrongMode) = failure
 
-status_by : (cause : Cause) (deed : Deed) → (outcome_by cause deed).judgement.response.status ≡ number cause
-status_by (Stands Fits) deed = refl
-status_by _ deed = refl
+status_by : (cause : Cause) (effects : Effects) → status_in (verdict_by cause effects) ≡ number cause
+status_by (Stands Fits) effects = refl
+status_by _ effects = refl
 
 pub status_is : (m : ℕ) (call : Call) (book : State) → status m call book ≡ number (cause m call book)
-status_is m call book =
-    ap (λ (outcome : Outcome). outcome.judgement.response.status) (decided m call book).is ∙ status_by (cause m call book) (tried_by m call book).deed
+status_is m call book = status_by (cause m call book) (called m call book).effects
 
 -- ---- each status is that of its causes alone
 
@@ -39,9 +48,9 @@ lacks_feature Capable is = inr refl
 lacks_feature (Stands Fits) is = apart _ _ refl is
 lacks_feature _ is = apart _ _ refl is
 
-is_parameter : (cause : Cause) → number cause ≡ invalid_parameter → (cause ≡ Acknowledge) ⊎ (cause ≡ Arguments)
+is_parameter : (cause : Cause) → number cause ≡ invalid_parameter → (cause ≡ Acknowledge) ⊎ ((told : List ℕ) × (cause ≡ Arguments told))
 is_parameter Acknowledge is = inl refl
-is_parameter Arguments is = inr refl
+is_parameter (Arguments told) is = inr (told, refl)
 is_parameter (Stands Fits) is = apart _ _ refl is
 is_parameter _ is = apart _ _ refl is
 
@@ -85,8 +94,11 @@ module _ (m : ℕ) (call : Call) (book : State) where
   pub no_features : (status m call book ≡ no_feature) ↔ ((cause m call book ≡ Known) ⊎ (cause m call book ≡ Capable))
   no_features = of_two no_feature refl refl lacks_feature
 
-  pub unknown_arguments : (status m call book ≡ invalid_parameter) ↔ ((cause m call book ≡ Acknowledge) ⊎ (cause m call book ≡ Arguments))
-  unknown_arguments = of_two invalid_parameter refl refl is_parameter
+  pub unknown_arguments : (status m call book ≡ invalid_parameter) ↔ ((cause m call book ≡ Acknowledge) ⊎ ((told : List ℕ) × (cause m call book ≡ Arguments told)))
+  unknown_arguments = (λ is. is_parameter (cause m call book) (sym (status_is m call book) ∙ is), back) where
+    back : (cause m call book ≡ Acknowledge) ⊎ ((told : List ℕ) × (cause m call book ≡ Arguments told)) → status m call book ≡ invalid_parameter
+    back (inl is) = status_is m call book ∙ ap number is
+    back (inr is) = status_is m call book ∙ ap number is.1
 
   pub no_nodes : (status m call book ≡ invalid_node) ↔ (cause m call book ≡ Node)
   no_nodes = of_one invalid_node refl is_node
@@ -105,35 +117,9 @@ module _ (m : ℕ) (call : Call) (book : State) where
       (λ is. is_used (cause m call book) (sym (status_is m call book) ∙ is), λ used. status_is m call book ∙ ap number used.1)
 
   pub others_told : (other : NodeId) → cause m call book ≡ Stands (UsedBy other) → words m call book ≡ other.0 ∷ 0 ∷ 0 ∷ []
-  others_told other is =
-      ap (λ (outcome : Outcome). outcome.judgement.response.words) (decided m call book).is
-      ∙ ap (λ (c : Cause). (outcome_by c (tried_by m call book).deed).judgement.response.words) is
+  others_told other is = ap (λ (c : Cause). words_in (verdict_by c (called m call book).effects)) is
 
 -- ---- all seven hold
-
--- where none fails all hold
-holds_by : (known acknowledge node arguments permitted capable : Bool) (standing : Standing)
-    → first_failing (record { known = known; acknowledge = acknowledge; node = node; arguments = arguments; permitted = permitted; capable = capable; standing = standing }) ≡ Stands Fits
-    → AllHold (record { known = known; acknowledge = acknowledge; node = node; arguments = arguments; permitted = permitted; capable = capable; standing = standing })
-holds_by true true true true true true Fits is =
-    record { known = refl; acknowledge = refl; node = refl; arguments = refl; permitted = refl; capable = refl; standing = refl }
-holds_by true true true true true true NotUsed is = cc
-holds_by true true true true true true InUse is = cc
-holds_by true true true true true true (UsedBy other) is = cc
-holds_by true true true true true true WrongMode is = cc
-holds_by false acknowledge node arguments permitted capable standing is = cc
-holds_by true false node arguments permitted capable standing is = cc
-holds_by true true false arguments permitted capable standing is = cc
-holds_by true true true false permitted capable standing is = cc
-holds_by true true true true false capable standing is = cc
-holds_by true true true true true false standing is = cc
-
-pub all_hold : (checks : Checks) → first_failing checks ≡ Stands Fits → AllHold checks
-all_hold checks = holds_by checks.known checks.acknowledge checks.node checks.arguments checks.permitted checks.capable checks.standing
-
-pub none_fails : (checks : Checks) → AllHold checks → first_failing checks ≡ Stands Fits
-none_fails checks all =
-    cc (all.known, all.acknowledge, all.node, all.arguments, all.permitted, all.capable, all.standing)
 
 pub successes : (m : ℕ) (call : Call) (book : State) → (status m call book ≡ 0) ↔ AllHold (checks_of m call book)
 successes m call book = (

@@ -6,15 +6,15 @@ use Rattle.pm_base.specs.declared.events.Event.TheVariants.{Ipi}
 use Rattle.pm_base.specs.declared.names.Mode.TheVariants.{Off, Active, Asleep, Suspending}
 use Rattle.pm_base.specs.declared.names.NodeId.{NodeId}
 use Rattle.pm_ipi.specs.declared.calls.Call.{Call}
-use Rattle.pm_ipi.specs.declared.calls.Call.TheVariants.{ForcePowerdown, RequestNode, RequestSuspend, RequestWakeup, SetRequirement}
-use Rattle.pm_ipi.specs.Calls.{call_of}
+use Rattle.pm_ipi.specs.declared.calls.Call.TheVariants.{RequestSuspend}
+use Rattle.pm_ipi.specs.Calls.{acknowledge_of, call_of}
 use Rattle.pm_core.specs.declared.replies.Answer.{Answer}
 use Rattle.pm_core.specs.declared.replies.Answer.TheVariants.{Silent, Drop, Reply, Ack}
+use Rattle.pm_core.specs.Checks.{AllHold}
 use Rattle.pm_core.specs.State.{State}
 use Rattle.pm_core.specs.Values.{master_place}
 use Rattle.pm_core.specs.Views.{master_mode}
 use Rattle.pm_causes.specs.Causes.{checks_of}
-use Rattle.pm_causes.specs.Checks.{AllHold}
 
 -- ---- who is heard
 
@@ -38,15 +38,6 @@ IsDropped master (Ipi sender message) book = (sender ≡ master) × IsUnheard se
 IsDropped master _ book = ⊥
 
 -- ---- what is answered
-
--- the acknowledge kind of a call, where it has one
-abbrev pub acknowledge_of : Call → Option ℕ
-acknowledge_of (RequestSuspend node ack latency state) = Some ack
-acknowledge_of (ForcePowerdown node ack) = Some ack
-acknowledge_of (RequestWakeup node address ack) = Some ack
-acknowledge_of (RequestNode node caps ack) = Some ack
-acknowledge_of (SetRequirement node caps ack) = Some ack
-acknowledge_of _ = None
 
 -- the call asks a master to suspend
 abbrev pub is_request_to_suspend : Call → Bool

@@ -1,27 +1,29 @@
 -- What is said of an answer: it has its causes, and no other. Of the status of a call, of the answer to an event, and of each
 -- answer of a run.
-use Rattle.std.specs.Prelude.{◌≡◌, ◌↔◌, ◌⊎◌, ⊤, ℕ, List, [], ◌∷◌, Some}
+use Rattle.std.specs.Prelude.{◌≡◌, ◌↔◌, ◌⊎◌, ℕ, List, [], ◌∷◌, Some}
+use Rattle.std.specs.List.{All}
 use Rattle.pm_base.specs.declared.events.Event.{Event}
 use Rattle.pm_base.specs.declared.events.Event.TheVariants.{Ipi}
 use Rattle.pm_base.specs.declared.events.Message.{Message}
 use Rattle.pm_base.specs.declared.names.NodeId.{NodeId}
 use Rattle.pm_ipi.specs.declared.calls.Call.{Call}
-use Rattle.pm_ipi.specs.Calls.{call_of}
+use Rattle.pm_ipi.specs.Calls.{ack_of, call_of, node_of}
 use Rattle.pm_ipi.specs.Status
 use Rattle.pm_core.specs.declared.replies.Answer.{Answer}
 use Rattle.pm_core.specs.declared.replies.Answer.TheVariants.{Drop, Silent}
-use Rattle.pm_core.specs.Run.{Core, Stand, Step, last_stand}
 use Rattle.pm_core.specs.State.{State}
+use Rattle.pm_core.specs.Step.{acknowledged, effect}
+use Rattle.pm_run.specs.Run.{Core}
 use Rattle.pm_causes.specs.Answers.{IsDropped, IsHeard, IsSilent, told as told_by}
-use Rattle.pm_causes.specs.Causes.{cause, checks_of, status, words}
-use Rattle.pm_causes.specs.Checks.{AllHold, Acknowledge, Arguments, Capable, InUse, Known, Node, NotUsed, Permitted, Stands, UsedBy, WrongMode}
+use Rattle.pm_causes.specs.Causes.{cause, checks_of, response, status, words}
+use Rattle.pm_core.specs.Checks.{AllHold, Acknowledge, Arguments, Capable, InUse, Known, Node, NotUsed, Permitted, Stands, UsedBy, WrongMode}
 
 -- each status that a call of the master at place m gets in a book comes exactly where its causes are the first of the seven
 -- checks of the call that fails
 pub record StatusHasCauses (m : ℕ) (call : Call) (book : State) : Type 0 where
   pub success : (status m call book ≡ 0) ↔ AllHold (checks_of m call book)
   pub no_feature : (status m call book ≡ Status.no_feature) ↔ ((cause m call book ≡ Known) ⊎ (cause m call book ≡ Capable))
-  pub unknown_argument : (status m call book ≡ Status.invalid_parameter) ↔ ((cause m call book ≡ Acknowledge) ⊎ (cause m call book ≡ Arguments))
+  pub unknown_argument : (status m call book ≡ Status.invalid_parameter) ↔ ((cause m call book ≡ Acknowledge) ⊎ ((told : List ℕ) × (cause m call book ≡ Arguments told)))
   pub no_node : (status m call book ≡ Status.invalid_node) ↔ (cause m call book ≡ Node)
   pub no_access : (status m call book ≡ Status.no_access) ↔ ((cause m call book ≡ Permitted) ⊎ (cause m call book ≡ Stands NotUsed))
   pub double_request : (status m call book ≡ Status.double_request) ↔ (cause m call book ≡ Stands InUse)
@@ -38,16 +40,16 @@ pub record HasCauses (event : Event) (book : State) (answer : Answer) : Type 0 w
   -- any other message that is heard is told the status of its call
   pub told : (sender : NodeId) (message : Message) (m : ℕ) → event ≡ Ipi sender message → IsHeard sender m book
       → (answer ≡ Silent) ⊎ (told_by answer ≡ Some (sender, status m (call_of message) book))
+  -- with its words, and in the form of its acknowledge kind: a reply, or the callback with the node that it names
+  pub formed : (sender : NodeId) (message : Message) (m : ℕ) → event ≡ Ipi sender message → IsHeard sender m book
+      → (answer ≡ Silent)
+      ⊎ (answer ≡ acknowledged (ack_of (call_of message)) sender (node_of (call_of message)) (response m (call_of message) book) (effect event book))
   pub statuses : (m : ℕ) (call : Call) → StatusHasCauses m call book
 
--- the answers of the core steps of an event have, each in the book before it
-abbrev pub CoresHaveCauses : Event → Stand → List Core → Type 0
-CoresHaveCauses event stand [] = ⊤
-CoresHaveCauses event stand (core ∷ cores) =
-    HasCauses event stand.book core.outputs.answer × CoresHaveCauses event core.stand cores
+-- the answer of a core step has the causes of its own event, in the book before it
+abbrev pub HasOwnCauses : Core → Type 0
+HasOwnCauses core = HasCauses core.event core.before core.outputs.answer
 
--- the answers of these steps have, from where a run stands on
-abbrev pub HaveCauses : Stand → List Step → Type 0
-HaveCauses stand [] = ⊤
-HaveCauses stand (step ∷ steps) =
-    CoresHaveCauses step.event stand step.cores × HaveCauses (last_stand stand step.cores) steps
+-- the answers of all of these core steps have
+abbrev pub HaveCauses : List Core → Type 0
+HaveCauses cores = All HasOwnCauses cores

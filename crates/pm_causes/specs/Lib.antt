@@ -1,4 +1,3 @@
 pub mod Answers
 pub mod Causes
-pub mod Checks
 pub mod Caused

@@ -2,9 +2,9 @@
 
 ghost use Rattle.std.specs.Prelude.{List};
 ghost use Rattle.pm_base.specs.declared.events.Event.{Event};
-ghost use Rattle.pm_core.specs.Run.{Stand, steps_of};
 ghost use Rattle.pm_core.specs.State.{State};
 ghost use Rattle.pm_core.specs.Step.{answer_to};
+ghost use Rattle.pm_run.specs.Run.{Setup, Stand, cores_of, cores_in, lines_of, run};
 ghost use Rattle.pm_causes.specs.Caused.{HasCauses, HaveCauses};
 
 /// Which answer an event gets in a book, and why: the answer that the step gives, before any command goes to a device.
@@ -17,9 +17,11 @@ pub fn answers_have_causes()
     ensures { (event : Event) (book : State) → HasCauses event book (answer_to event book) }
 {}
 
-/// So has each answer of a run, in the book before its step.
+/// So has each answer of a list of core events, of the lines of a run from where it stands, and of the run whole, the load too.
 pub fn runs_have_causes()
-    ensures { (events : List Event) (stand : Stand) → HaveCauses stand (steps_of events stand) }
+    ensures cores { (events : List Event) (book : State) → HaveCauses (cores_of events book) }
+    ensures lines { (c : Setup) (events : List Event) (stand : Stand) → HaveCauses (cores_in (lines_of c events stand)) }
+    ensures run { (c : Setup) (events : List Event) → HaveCauses (cores_in (run c events)) }
 {
     answers_have_causes();
 }

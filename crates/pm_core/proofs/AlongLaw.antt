@@ -9,7 +9,7 @@ use Rattle.pm_procs.specs.Modes.{same_mode}
 use Rattle.pm_core.specs.declared.ended.Turns.{Turns}
 use Rattle.pm_core.specs.Ended.{goes_down, goes_off, goes_on, turns_along, turns_of}
 use Rattle.pm_core.specs.Members.{mode_of_master}
-use Rattle.pm_core.specs.Along.{Trail, Completes, HasPlaces, IsTrail, both_turns, down_after, down_in, down_noted, forgotten, trail_at_load, trail_from, is_down, mode_beside, mode_noted, modes_of, no_turns, trailed, turns_after, turns_noted}
+use Rattle.pm_core.specs.Along.{Trail, Completes, HasPlaces, IsTrail, both_turns, down_after, down_in, down_logged, forgotten, trail_at_load, trail_from, is_down, mode_beside, mode_logged, modes_of, no_turns, trailed, turns_after, turns_logged}
 use Rattle.pm_core.specs.Prims.{Prim}
 use Rattle.pm_core.specs.Stages.{after_stage, after_stages, last_of, path_from}
 use Rattle.pm_core.specs.Starts.{was_down}
@@ -31,31 +31,31 @@ at_place f g xs m d same within = elim ((slice_get_cases xs m).1) [
   | inr past ↦ absurd (omega (arith, within, past.0))
 ]
 
-pub mode_is : (book : State) (m : ℕ) → m < length (in_force book).masters → mode_noted (modes_of book) m ≡ mode_of_master book.fixed book.now.core m
+pub mode_is : (book : State) (m : ℕ) → m < length (in_force book).masters → mode_logged (modes_of book) m ≡ mode_of_master book.fixed book.now.core m
 mode_is book m within =
     at_place (mode_beside book) (λ k. mode_of_master book.fixed book.now.core k) (in_force book).masters m Off (λ x. refl) within
 
 -- what became of a mode, and whether a processor was down, after one moment more
 turns_are : (book : State) (before : Trail) (m : ℕ) → m < length (in_force book).masters
-    → turns_noted m (trailed book before).turns
-    ≡ both_turns (turns_noted m before.turns) (turns_of (mode_noted before.modes m) (mode_of_master book.fixed book.now.core m ∷ []))
+    → turns_logged m (trailed book before).turns
+    ≡ both_turns (turns_logged m before.turns) (turns_of (mode_logged before.modes m) (mode_of_master book.fixed book.now.core m ∷ []))
 turns_are book before m within =
     at_place (turns_after before.modes before.turns book)
-    (λ k. both_turns (turns_noted k before.turns) (turns_of (mode_noted before.modes k) (mode_of_master book.fixed book.now.core k ∷ [])))
+    (λ k. both_turns (turns_logged k before.turns) (turns_of (mode_logged before.modes k) (mode_of_master book.fixed book.now.core k ∷ [])))
     (in_force book).masters m no_turns (λ x. refl) within
 
 downs_are : (book : State) (before : Trail) (p : ℕ) → p < length book.fixed.topology.procs
-    → down_noted p (trailed book before).downs ≡ (down_noted p before.downs || is_down book p)
+    → down_logged p (trailed book before).downs ≡ (down_logged p before.downs || is_down book p)
 downs_are book before p within =
-    at_place (down_after before.downs book) (λ q. down_noted q before.downs || is_down book q) book.fixed.topology.procs p true (λ x. refl) within
+    at_place (down_after before.downs book) (λ q. down_logged q before.downs || is_down book q) book.fixed.topology.procs p true (λ x. refl) within
 
 -- at the first moment
-first_turns : (book : State) (m : ℕ) → m < length (in_force book).masters → turns_noted m (trail_from book).turns ≡ no_turns
+first_turns : (book : State) (m : ℕ) → m < length (in_force book).masters → turns_logged m (trail_from book).turns ≡ no_turns
 first_turns book m within =
     unwrap_or-slice_get (replicate (length (in_force book).masters) no_turns) m no_turns
     ∙ get_or-replicate (length (in_force book).masters) m no_turns no_turns within
 
-first_downs : (book : State) (p : ℕ) → p < length book.fixed.topology.procs → down_noted p (trail_from book).downs ≡ is_down book p
+first_downs : (book : State) (p : ℕ) → p < length book.fixed.topology.procs → down_logged p (trail_from book).downs ≡ is_down book p
 first_downs book p within = at_place (down_in book) (is_down book) book.fixed.topology.procs p true (λ x. refl) within
 
 -- ---- one stage at most
@@ -78,15 +78,15 @@ last_down false false = refl
 
 -- from the first moment on, one moment more
 second_turns : (book next : State) (m : ℕ) → next.fixed ≡ book.fixed → m < length (in_force book).masters
-    → turns_noted m (trailed next (trail_from book)).turns
+    → turns_logged m (trailed next (trail_from book)).turns
     ≡ both_turns no_turns (turns_of (mode_of_master book.fixed book.now.core m) (mode_of_master next.fixed next.now.core m ∷ []))
 second_turns book next m fixed within =
     turns_are next (trail_from book) m (subst (λ f. m < length f.object.masters) (sym fixed) within)
-    ∙ (ap (λ t. both_turns t (turns_of (mode_noted (modes_of book) m) (mode_of_master next.fixed next.now.core m ∷ []))) (first_turns book m within)
+    ∙ (ap (λ t. both_turns t (turns_of (mode_logged (modes_of book) m) (mode_of_master next.fixed next.now.core m ∷ []))) (first_turns book m within)
     ∙ ap (λ mode. both_turns no_turns (turns_of mode (mode_of_master next.fixed next.now.core m ∷ []))) (mode_is book m within))
 
 second_downs : (book next : State) (p : ℕ) → next.fixed ≡ book.fixed → p < length book.fixed.topology.procs
-    → down_noted p (trailed next (trail_from book)).downs ≡ (is_down book p || is_down next p)
+    → down_logged p (trailed next (trail_from book)).downs ≡ (is_down book p || is_down next p)
 second_downs book next p fixed within =
     downs_are next (trail_from book) p (subst (λ f. p < length f.topology.procs) (sym fixed) within)
     ∙ ap (λ b. b || is_down next p) (first_downs book p within)
@@ -190,7 +190,7 @@ twice_is first later book =
           let is : Mode = mode_of_master mid.fixed mid.now.core m in
           let becomes : Mode = mode_of_master last.fixed last.now.core m in
           turns_are last before m within
-          ∙ (ap (λ t. both_turns t (turns_of (mode_noted (modes_of mid) m) (becomes ∷ []))) (second_turns book mid m refl within)
+          ∙ (ap (λ t. both_turns t (turns_of (mode_logged (modes_of mid) m) (becomes ∷ []))) (second_turns book mid m refl within)
           ∙ (ap (λ mode. both_turns (both_turns no_turns (turns_of was (is ∷ []))) (turns_of mode (becomes ∷ []))) (mode_is mid m within)
           ∙ two_turns was is becomes));
       downs = λ p within.

@@ -3,36 +3,33 @@ use Rattle.std.proofs.Common.{◌≡◌, ℕ, ◌+◌, ◌<◌, List, [], ◌∷
 use Rattle.std.specs.Prelude.{option_map, unwrap_or}
 use Rattle.std.proofs.lemmas.Option.{slice_get_cases}
 use Rattle.pm_base.specs.declared.events.Event.{Event}
-use Rattle.pm_base.specs.declared.events.Event.TheVariants.{Ipi}
 use Rattle.pm_base.specs.declared.names.NodeId.{NodeId}
-use Rattle.pm_ipi.specs.Calls.{call_of}
-use Rattle.pm_ipi.specs.declared.calls.Call.{Call}
 use Rattle.pm_base.specs.declared.names.Mode.{Mode}
 use Rattle.pm_base.specs.declared.names.Mode.TheVariants.{Off, Active, Asleep, Suspending}
 use Rattle.pm_notify.specs.declared.notes.Waiting.{Waiting}
-use Rattle.pm_notify.specs.Mailbox.{Mail}
-use Rattle.pm_notify.specs.Notify.{mail_of}
+use Rattle.pm_notify.specs.MasterNotes.{MasterNotes}
+use Rattle.pm_notify.specs.Notify.{notes_for}
 use Rattle.pm_object.specs.declared.object.MasterRec.{MasterRec}
 use Rattle.pm_procs.specs.declared.pending.Pending.{Pending}
 use Rattle.pm_core.specs.declared.ended.Ended.{Ended}
 use Rattle.pm_core.specs.declared.ended.Turns.{Turns}
-use Rattle.pm_core.specs.declared.judgement.Asked.{Asked}
-use Rattle.pm_core.specs.declared.step.Heard.{Heard}
+use Rattle.pm_core.specs.declared.verdict.Asked.{Asked}
+use Rattle.pm_core.specs.declared.step.Served.{Served}
 use Rattle.pm_core.specs.declared.telling.Telling.{Telling}
-use Rattle.pm_core.specs.Callbacks.{News, called_back, callbacks, callbacks_from, mailed, mails_from}
+use Rattle.pm_core.specs.Callbacks.{News, called_back, callbacks, callbacks_from, note_changes_at, note_changes_from}
 use Rattle.pm_core.specs.Ended.{ended_at, ended_from, turns_along}
-use Rattle.pm_core.specs.Heard.{aborts_in, asks_in, kept_of, registers_in, pulse_in, renews_in}
+use Rattle.pm_core.specs.Served.{kept_of, says_in}
 use Rattle.pm_core.specs.Members.{mode_of_master}
-use Rattle.pm_core.specs.Along.{Trail, IsTrail, mode_noted, modes_of, turns_noted}
-use Rattle.pm_core.specs.Outcome.{Outcome}
+use Rattle.pm_core.specs.Along.{Trail, IsTrail, mode_logged, modes_of, turns_logged}
 use Rattle.pm_core.specs.Prims.{Prim, applies, changed}
 use Rattle.pm_core.specs.Stages.{after_stage, after_stages, follow, last_of, path_from}
 use Rattle.pm_core.specs.State.{Fixed, Now, State, in_force}
-use Rattle.pm_core.specs.Step.{aborts, aborts_of, asks, asks_of, effect, ended, forgets, heard_by, heard_of, mail_after, modes_in, news, notices, opening, path, registers, registers_of, pulse, pulse_of, renews, renews_of, stages, talk, tellings, time_of, verdict}
+use Rattle.pm_core.specs.Step.{effect, ended, forgets, notes_after, modes_in, news, notices, opening, path, says, served, stages, talk, tellings, time_of}
 use Rattle.pm_core.specs.Caches.{AreKept}
 use Rattle.pm_core.specs.declared.caches.Caches.{Caches}
 use Rattle.pm_core.specs.Talk.{Talk, forget_at, forgets_from, talk_of, talked}
 use Rattle.pm_core.specs.Telling.{news_in, opening_in, turns_in}
+use Rattle.pm_core.specs.Verdict.{aborted_by, asked_by}
 use Rattle.pm_core.proofs.AlongLaw.{mode_is}
 
 -- ---- the stages leave what the masters are told
@@ -62,12 +59,12 @@ ended_alike f g aborts count m (request ∷ pending) alike =
 
 -- the requests that end in a step, by what was noted along it
 pub ended_noted : (event : Event) (old new : State) (along : Trail) → new ≡ after_stages (stages event old) old → IsTrail old (path event old) along → length old.now.talk.pending ≡ length (in_force old).masters
-    → ended_from (λ m. turns_noted m along.turns) (aborts event old) (time_of event old) 0 new.now.talk.pending ≡ ended event old
+    → ended_from (λ m. turns_logged m along.turns) (aborted_by (says event old)) (time_of event old) 0 new.now.talk.pending ≡ ended event old
 ended_noted event old new along is trailed each =
-    let turns : ℕ → Turns = λ m. turns_noted m along.turns in
+    let turns : ℕ → Turns = λ m. turns_logged m along.turns in
     let talk : new.now.talk.pending ≡ old.now.talk.pending = ap (λ (b : State). b.now.talk.pending) is ∙ ap (λ t. t.pending) (stages_talk (stages event old) old) in
-    ap (λ pending. ended_from turns (aborts event old) (time_of event old) 0 pending) talk
-    ∙ ended_alike turns (turns_along old (path event old)) (aborts event old) (time_of event old) 0 old.now.talk.pending
+    ap (λ pending. ended_from turns (aborted_by (says event old)) (time_of event old) 0 pending) talk
+    ∙ ended_alike turns (turns_along old (path event old)) (aborted_by (says event old)) (time_of event old) 0 old.now.talk.pending
     (λ k below. trailed.turns k (omega (arith, below, each)))
 
 -- the masters that forget
@@ -78,87 +75,47 @@ forgets_alike f g m (x ∷ masters) alike =
     ∙ ap (λ later. forget_at (g m) m ++ later) (forgets_alike f g (m + 1) masters (λ k below. alike k (omega (arith, below))))
 
 forgets_noted : (event : Event) (old : State) (along : Trail) → IsTrail old (path event old) along
-    → forgets_from (λ m. turns_noted m along.turns) 0 (in_force old).masters ≡ forgets event old
+    → forgets_from (λ m. turns_logged m along.turns) 0 (in_force old).masters ≡ forgets event old
 forgets_noted event old along trailed =
-    forgets_alike (λ m. turns_noted m along.turns) (turns_along old (path event old)) 0 (in_force old).masters
+    forgets_alike (λ m. turns_logged m along.turns) (turns_along old (path event old)) 0 (in_force old).masters
     (λ k below. trailed.turns k (omega (arith, below)))
 
 -- ---- what is told in a step
 
-asks_by : (master : NodeId) (call : Call) (outcome : Option Outcome) → asks_in (heard_by master call outcome) ≡ asks_of outcome
-asks_by master call None = refl
-asks_by master call (Some outcome) = refl
-
-aborts_by : (master : NodeId) (call : Call) (outcome : Option Outcome) → aborts_in (heard_by master call outcome) ≡ aborts_of outcome
-aborts_by master call None = refl
-aborts_by master call (Some outcome) = refl
-
-registers_by : (master : NodeId) (call : Call) (outcome : Option Outcome) → registers_in (heard_by master call outcome) ≡ registers_of outcome
-registers_by master call None = refl
-registers_by master call (Some outcome) = refl
-
-pulse_by : (master : NodeId) (call : Call) (outcome : Option Outcome) → pulse_in (heard_by master call outcome) ≡ pulse_of outcome
-pulse_by master call None = refl
-pulse_by master call (Some outcome) = refl
-
-asks_heard : (event : Event) (book : State) → asks_in (heard_of event book) ≡ asks event book
-asks_heard (Ipi master message) book = asks_by master (call_of message) (verdict master message book)
-asks_heard _ book = refl
-
-aborts_heard : (event : Event) (book : State) → aborts_in (heard_of event book) ≡ aborts event book
-aborts_heard (Ipi master message) book = aborts_by master (call_of message) (verdict master message book)
-aborts_heard _ book = refl
-
-registers_heard : (event : Event) (book : State) → registers_in (heard_of event book) ≡ registers event book
-registers_heard (Ipi master message) book = registers_by master (call_of message) (verdict master message book)
-registers_heard _ book = refl
-
 -- the masters are told the same where the modes before are the same
-mails_alike : (news : News) (f g : ℕ → Mode) (mail : List Mail) (after : State) (k : ℕ) (masters : List MasterRec) → ((j : ℕ) → j < k + length masters → f j ≡ g j) → mails_from news f mail after k masters ≡ mails_from news g mail after k masters
-mails_alike news f g mail after k [] alike = refl
-mails_alike news f g mail after k (x ∷ masters) alike =
-    ap (λ was. mailed news k was (mode_of_master after.fixed after.now.core k) (mail_of k mail) ++ mails_from news f mail after (k + 1) masters) (alike k (omega arith))
-    ∙ ap (λ later. mailed news k (g k) (mode_of_master after.fixed after.now.core k) (mail_of k mail) ++ later)
-    (mails_alike news f g mail after (k + 1) masters (λ j below. alike j (omega (arith, below))))
+master_notes_alike : (news : News) (f g : ℕ → Mode) (notes : List MasterNotes) (after : State) (k : ℕ) (masters : List MasterRec) → ((j : ℕ) → j < k + length masters → f j ≡ g j) → note_changes_from news f notes after k masters ≡ note_changes_from news g notes after k masters
+master_notes_alike news f g notes after k [] alike = refl
+master_notes_alike news f g notes after k (x ∷ masters) alike =
+    ap (λ was. note_changes_at news k was (mode_of_master after.fixed after.now.core k) (notes_for k notes) ++ note_changes_from news f notes after (k + 1) masters) (alike k (omega arith))
+    ∙ ap (λ later. note_changes_at news k (g k) (mode_of_master after.fixed after.now.core k) (notes_for k notes) ++ later)
+    (master_notes_alike news f g notes after (k + 1) masters (λ j below. alike j (omega (arith, below))))
 
-calls_alike : (news : News) (f g : ℕ → Mode) (mail : List Mail) (after : State) (k : ℕ) (masters : List MasterRec) → ((j : ℕ) → j < k + length masters → f j ≡ g j) → callbacks_from news f mail after k masters ≡ callbacks_from news g mail after k masters
-calls_alike news f g mail after k [] alike = refl
-calls_alike news f g mail after k (x ∷ masters) alike =
+calls_alike : (news : News) (f g : ℕ → Mode) (notes : List MasterNotes) (after : State) (k : ℕ) (masters : List MasterRec) → ((j : ℕ) → j < k + length masters → f j ≡ g j) → callbacks_from news f notes after k masters ≡ callbacks_from news g notes after k masters
+calls_alike news f g notes after k [] alike = refl
+calls_alike news f g notes after k (x ∷ masters) alike =
     let node : NodeId = record { 0 = x.node } in
-    ap (λ was. called_back news k node was (mode_of_master after.fixed after.now.core k) (mail_of k mail) after ++ callbacks_from news f mail after (k + 1) masters) (alike k (omega arith))
-    ∙ ap (λ later. called_back news k node (g k) (mode_of_master after.fixed after.now.core k) (mail_of k mail) after ++ later)
-    (calls_alike news f g mail after (k + 1) masters (λ j below. alike j (omega (arith, below))))
+    ap (λ was. called_back news k node was (mode_of_master after.fixed after.now.core k) (notes_for k notes) after ++ callbacks_from news f notes after (k + 1) masters) (alike k (omega arith))
+    ∙ ap (λ later. called_back news k node (g k) (mode_of_master after.fixed after.now.core k) (notes_for k notes) after ++ later)
+    (calls_alike news f g notes after (k + 1) masters (λ j below. alike j (omega (arith, below))))
 
-was_noted : (book : State) (modes : List Mode) → modes ≡ modes_of book → (k : ℕ) → k < 0 + length (in_force book).masters → mode_noted modes k ≡ modes_in book k
-was_noted book modes are k below = ap (λ ms. mode_noted ms k) are ∙ mode_is book k (omega (arith, below))
-
-pub pulse_heard : (event : Event) (book : State) → pulse_in (heard_of event book) ≡ pulse event book
-pulse_heard (Ipi master message) book = pulse_by master (call_of message) (verdict master message book)
-pulse_heard _ book = refl
-
-renews_by : (master : NodeId) (call : Call) (outcome : Option Outcome) → renews_in (heard_by master call outcome) ≡ renews_of outcome
-renews_by master call None = refl
-renews_by master call (Some outcome) = refl
-
-renews_heard : (event : Event) (book : State) → renews_in (heard_of event book) ≡ renews event book
-renews_heard (Ipi master message) book = renews_by master (call_of message) (verdict master message book)
-renews_heard _ book = refl
+was_noted : (book : State) (modes : List Mode) → modes ≡ modes_of book → (k : ℕ) → k < 0 + length (in_force book).masters → mode_logged modes k ≡ modes_in book k
+was_noted book modes are k below = ap (λ ms. mode_logged ms k) are ∙ mode_is book k (omega (arith, below))
 
 -- what is kept of a step until the masters are told of it
-pub record IsNoted (event : Event) (old mid : State) (heard : Heard) (count : Option ℕ) (telling : Telling) : Type 0 where
+pub record IsNoted (event : Event) (old mid : State) (of : Option Served) (count : Option ℕ) (telling : Telling) : Type 0 where
   pub mid_is : mid ≡ after_stages (stages event old) old
-  pub heard_is : heard ≡ heard_of event old
+  pub served_is : of ≡ served event old
   pub count_is : count ≡ time_of event old
   pub modes_are : telling.modes.items ≡ modes_of old
   pub along_is : IsTrail old (path event old) telling.along
-  pub asks_are : telling.asks ≡ asks_in heard
-  pub ended_are : telling.ended.items ≡ ended_from (turns_in telling) (aborts_in heard) count 0 mid.now.talk.pending
+  pub asks_are : telling.asks ≡ asked_by (says_in of)
+  pub ended_are : telling.ended.items ≡ ended_from (turns_in telling) (aborted_by (says_in of)) count 0 mid.now.talk.pending
   pub notices_are : telling.notices.items ≡ notices event old
 
 abbrev news_of : Option Asked → List Ended → List Waiting → News
 news_of asked ended notices = record { asked = asked; ended = ended; notices = notices }
 
-module _ (event : Event) (old mid : State) (heard : Heard) (count : Option ℕ) (telling : Telling) (is : IsNoted event old mid heard count telling) (each : length old.now.talk.pending ≡ length (in_force old).masters) where
+module _ (event : Event) (old mid : State) (of : Option Served) (count : Option ℕ) (telling : Telling) (is : IsNoted event old mid of count telling) (each : length old.now.talk.pending ≡ length (in_force old).masters) where
   abbrev pub after : State
   after = after_stages (stages event old) old
 
@@ -167,73 +124,71 @@ module _ (event : Event) (old mid : State) (heard : Heard) (count : Option ℕ) 
 
   -- what is done first, as it was noted
   abbrev pub first_noted : List Talk
-  first_noted = opening_in telling (renews_in heard) (registers_in heard) count mid
+  first_noted = opening_in telling (says_in of) count mid
 
   ended_is : telling.ended.items ≡ ended event old
   ended_is =
       is.ended_are
-      ∙ (ap (λ a. ended_from (turns_in telling) a count 0 mid.now.talk.pending) (ap aborts_in is.heard_is ∙ aborts_heard event old)
-      ∙ (ap (λ n. ended_from (turns_in telling) (aborts event old) n 0 mid.now.talk.pending) is.count_is
+      ∙ (ap (λ a. ended_from (turns_in telling) a count 0 mid.now.talk.pending) (ap (λ x. aborted_by (says_in x)) is.served_is)
+      ∙ (ap (λ n. ended_from (turns_in telling) (aborted_by (says event old)) n 0 mid.now.talk.pending) is.count_is
       ∙ ended_noted event old mid telling.along is.mid_is is.along_is each))
 
-  asks_is : telling.asks ≡ asks event old
-  asks_is = is.asks_are ∙ (ap asks_in is.heard_is ∙ asks_heard event old)
+  asks_is : telling.asks ≡ asked_by (says event old)
+  asks_is = is.asks_are ∙ ap (λ x. asked_by (says_in x)) is.served_is
 
   news_is : news_in telling ≡ news event old
   news_is =
       ap (λ a. news_of a telling.ended.items telling.notices.items) asks_is
-      ∙ (ap (λ es. news_of (asks event old) es telling.notices.items) ended_is
-      ∙ ap (λ ns. news_of (asks event old) (ended event old) ns) is.notices_are)
+      ∙ (ap (λ es. news_of (asked_by (says event old)) es telling.notices.items) ended_is
+      ∙ ap (λ ns. news_of (asked_by (says event old)) (ended event old) ns) is.notices_are)
 
   first_is : first_noted ≡ opening event old
   first_is =
-      ap (λ (b : State). opening_in telling (renews_in heard) (registers_in heard) count b) is.mid_is
-      ∙ (ap (λ all. talk_of all (forgets_from (turns_in telling) 0 (in_force old).masters) (registers_in heard) telling.asks count telling.ended.items) (ap renews_in is.heard_is ∙ renews_heard event old)
-      ∙ (ap (λ fs. talk_of (renews event old) fs (registers_in heard) telling.asks count telling.ended.items) (forgets_noted event old telling.along is.along_is)
-      ∙ (ap (λ r. talk_of (renews event old) (forgets event old) r telling.asks count telling.ended.items) (ap registers_in is.heard_is ∙ registers_heard event old)
-      ∙ (ap (λ a. talk_of (renews event old) (forgets event old) (registers event old) a count telling.ended.items) asks_is
-      ∙ (ap (λ n. talk_of (renews event old) (forgets event old) (registers event old) (asks event old) n telling.ended.items) is.count_is
-      ∙ ap (λ es. talk_of (renews event old) (forgets event old) (registers event old) (asks event old) (time_of event old) es) ended_is)))))
+      ap (λ (b : State). opening_in telling (says_in of) count b) is.mid_is
+      ∙ (ap (λ x. talk_of (says_in x) (forgets_from (turns_in telling) 0 (in_force old).masters) count telling.ended.items) is.served_is
+      ∙ (ap (λ fs. talk_of (says event old) fs count telling.ended.items) (forgets_noted event old telling.along is.along_is)
+      ∙ (ap (λ n. talk_of (says event old) (forgets event old) n telling.ended.items) is.count_is
+      ∙ ap (λ es. talk_of (says event old) (forgets event old) (time_of event old) es) ended_is)))
 
   -- all that is told, as it was noted
-  pub talk_is : tellings (news_in telling) (mode_noted modes) first_noted heard mid ≡ talk event old
+  pub talk_is : tellings (news_in telling) (mode_logged modes) first_noted of mid ≡ talk event old
   talk_is =
-      ap (λ n. tellings n (mode_noted modes) first_noted heard mid) news_is
-      ∙ (ap (λ first. tellings (news event old) (mode_noted modes) first heard mid) first_is
-      ∙ (ap (λ h. tellings (news event old) (mode_noted modes) (opening event old) h mid) is.heard_is
-      ∙ (ap (λ (b : State). tellings (news event old) (mode_noted modes) (opening event old) (heard_of event old) b) is.mid_is
-      ∙ ap (λ told. opening event old ++ (told ++ kept_of (heard_of event old) after))
-      (mails_alike (news event old) (mode_noted modes) (modes_in old) (mail_after (opening event old) after) after 0 (in_force old).masters (was_noted old modes is.modes_are)))))
+      ap (λ n. tellings n (mode_logged modes) first_noted of mid) news_is
+      ∙ (ap (λ first. tellings (news event old) (mode_logged modes) first of mid) first_is
+      ∙ (ap (λ x. tellings (news event old) (mode_logged modes) (opening event old) x mid) is.served_is
+      ∙ (ap (λ (b : State). tellings (news event old) (mode_logged modes) (opening event old) (served event old) b) is.mid_is
+      ∙ ap (λ told. opening event old ++ (told ++ kept_of (served event old) after))
+      (master_notes_alike (news event old) (mode_logged modes) (modes_in old) (notes_after (opening event old) after) after 0 (in_force old).masters (was_noted old modes is.modes_are)))))
 
-  pub book_is : (new : State) → new ≡ talked (tellings (news_in telling) (mode_noted modes) first_noted heard mid) mid → new ≡ effect event old
+  pub book_is : (new : State) → new ≡ talked (tellings (news_in telling) (mode_logged modes) first_noted of mid) mid → new ≡ effect event old
   book_is new new_is =
       new_is ∙ (ap (λ told. talked told mid) talk_is ∙ ap (λ b. talked (talk event old) b) is.mid_is)
 
   -- the callbacks, as they were noted
-  pub calls_are : (new : State) → new ≡ effect event old → callbacks (news_in telling) (mode_noted modes) (mail_after first_noted mid) new ≡ callbacks (news event old) (modes_in old) (mail_after (opening event old) after) (effect event old)
+  pub calls_are : (new : State) → new ≡ effect event old → callbacks (news_in telling) (mode_logged modes) (notes_after first_noted mid) new ≡ callbacks (news event old) (modes_in old) (notes_after (opening event old) after) (effect event old)
   calls_are new new_is =
-      ap (λ n. callbacks n (mode_noted modes) (mail_after first_noted mid) new) news_is
-      ∙ (ap (λ first. callbacks (news event old) (mode_noted modes) (mail_after first mid) new) first_is
-      ∙ (ap (λ b. callbacks (news event old) (mode_noted modes) (mail_after (opening event old) b) new) is.mid_is
-      ∙ (ap (λ b. callbacks (news event old) (mode_noted modes) (mail_after (opening event old) after) b) new_is
-      ∙ calls_alike (news event old) (mode_noted modes) (modes_in old) (mail_after (opening event old) after) (effect event old) 0 (in_force old).masters (was_noted old modes is.modes_are))))
+      ap (λ n. callbacks n (mode_logged modes) (notes_after first_noted mid) new) news_is
+      ∙ (ap (λ first. callbacks (news event old) (mode_logged modes) (notes_after first mid) new) first_is
+      ∙ (ap (λ b. callbacks (news event old) (mode_logged modes) (notes_after (opening event old) b) new) is.mid_is
+      ∙ (ap (λ b. callbacks (news event old) (mode_logged modes) (notes_after (opening event old) after) b) new_is
+      ∙ calls_alike (news event old) (mode_logged modes) (modes_in old) (notes_after (opening event old) after) (effect event old) 0 (in_force old).masters (was_noted old modes is.modes_are))))
 
 -- the requests that end, the book after a step and the callbacks of it, as they were noted
-pub record IsTold (event : Event) (old mid new : State) (heard : Heard) (count : Option ℕ) (telling : Telling) : Type 0 where
+pub record IsTold (event : Event) (old mid new : State) (of : Option Served) (count : Option ℕ) (telling : Telling) : Type 0 where
   pub ended : telling.ended.items ≡ ended event old
   pub book : new ≡ effect event old
-  pub calls : callbacks (news_in telling) (mode_noted telling.modes.items) (mail_after (opening_in telling (renews_in heard) (registers_in heard) count mid) mid) new
-      ≡ callbacks (news event old) (modes_in old) (mail_after (opening event old) (after_stages (stages event old) old)) (effect event old)
+  pub calls : callbacks (news_in telling) (mode_logged telling.modes.items) (notes_after (opening_in telling (says_in of) count mid) mid) new
+      ≡ callbacks (news event old) (modes_in old) (notes_after (opening event old) (after_stages (stages event old) old)) (effect event old)
 
-pub step_told : (event : Event) (old mid new : State) (heard : Heard) (count : Option ℕ) (telling : Telling) → IsNoted event old mid heard count telling → length old.now.talk.pending ≡ length (in_force old).masters
-    → new ≡ talked (tellings (news_in telling) (mode_noted telling.modes.items) (opening_in telling (renews_in heard) (registers_in heard) count mid) heard mid) mid
-    → IsTold event old mid new heard count telling
-step_told event old mid new heard count telling is each new_is =
-    let book : new ≡ effect event old = book_is event old mid heard count telling is each new new_is in
+pub step_told : (event : Event) (old mid new : State) (of : Option Served) (count : Option ℕ) (telling : Telling) → IsNoted event old mid of count telling → length old.now.talk.pending ≡ length (in_force old).masters
+    → new ≡ talked (tellings (news_in telling) (mode_logged telling.modes.items) (opening_in telling (says_in of) count mid) of mid) mid
+    → IsTold event old mid new of count telling
+step_told event old mid new of count telling is each new_is =
+    let book : new ≡ effect event old = book_is event old mid of count telling is each new new_is in
     record {
-      ended = ended_is event old mid heard count telling is each;
+      ended = ended_is event old mid of count telling is each;
       book = book;
-      calls = calls_are event old mid heard count telling is each new book;
+      calls = calls_are event old mid of count telling is each new book;
     }
 
 -- what is kept of the values stays right, whatever is told

@@ -7,9 +7,8 @@ pub mod EndedLemmas
 pub mod FedLaw
 pub mod FollowLemmas
 pub mod Full
-pub mod Judged
 pub mod LoadLaw
-pub mod MailLaw
+pub mod MasterNotesLaw
 pub mod MembersLaw
 pub mod MetLaw
 pub mod MovesLemmas
@@ -25,7 +24,6 @@ pub mod RenewLaw
 pub mod ResetSound
 pub mod RestartLaw
 pub mod RowLaws
-pub mod RunLaw
 pub mod ScopeLemmas
 pub mod ScopeSound
 pub mod ShutdownCases
@@ -37,4 +35,5 @@ pub mod TalkLemmas
 pub mod TellLemmas
 pub mod WakeLemmas
 pub mod WakeSound
+pub mod Verdicts
 pub mod Wants

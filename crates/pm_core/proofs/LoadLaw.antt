@@ -37,7 +37,7 @@ use Rattle.pm_core.proofs.Each.{Each-append}
 use Rattle.pm_core.proofs.MembersLaw.{Owns, members_owned, one_owner}
 use Rattle.pm_core.proofs.PairsLaw.{pairs_once}
 use Rattle.pm_core.proofs.ArmedLaw.{load_arms}
-use Rattle.pm_core.proofs.MailLaw.{load_mails}
+use Rattle.pm_core.proofs.MasterNotesLaw.{load_notes}
 use Rattle.pm_core.proofs.PendingLaw.{RequestLaws, none_named}
 use Rattle.pm_core.proofs.RowLaws.{RowLaws}
 
@@ -214,5 +214,5 @@ load_sound rows modes requests orders object topology =
       lines = record { each = length-replicate (length topology.lines) false; nobodys = λ l line is none. none_asserted (length topology.lines) l };
       armed = load_arms (record { object = object; topology = topology }) (pairs_of object topology);
       pending = none_named requests (record { object = object; topology = topology });
-      mail = load_mails orders topology masters;
+      notes = load_notes orders topology masters;
     }

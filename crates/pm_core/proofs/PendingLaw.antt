@@ -11,35 +11,39 @@ use Rattle.pm_base.specs.declared.names.Mode.{Mode}
 use Rattle.pm_base.specs.declared.names.Mode.TheVariants.{Off, Active, Asleep, Suspending}
 use Rattle.pm_ipi.specs.Calls.{ack_of, call_of, node_of}
 use Rattle.pm_notify.specs.declared.notes.Waiting.{Waiting}
-use Rattle.pm_notify.specs.Mailbox.{Mail}
-use Rattle.pm_notify.specs.Notify.{mail_of}
+use Rattle.pm_notify.specs.MasterNotes.{MasterNotes}
+use Rattle.pm_notify.specs.Notify.{notes_for}
 use Rattle.pm_object.specs.declared.object.MasterRec.{MasterRec}
 use Rattle.pm_ipi.specs.declared.calls.Call.{Call}
-use Rattle.pm_ipi.specs.declared.calls.Call.TheVariants.{RequestSuspend}
+use Rattle.pm_ipi.specs.declared.calls.Call.TheVariants.{RegisterNotifier, RequestSuspend, SystemShutdown}
 use Rattle.pm_procs.specs.declared.pending.Pending.{Pending}
 use Rattle.pm_procs.specs.Modes.{is_awake, same_mode}
 use Rattle.pm_procs.specs.Pending.{all_ended, all_lowered, asked, ended, lowered, none_pending, pending_at}
 use Rattle.pm_core.specs.declared.ended.Ended.{Ended}
 use Rattle.pm_core.specs.declared.ended.Turns.{Turns}
-use Rattle.pm_core.specs.declared.judgement.Asked.{Asked}
-use Rattle.pm_core.specs.declared.judgement.Notifier.{Notifier}
-use Rattle.pm_core.specs.declared.step.Heard.{Heard}
-use Rattle.pm_core.specs.declared.step.Heard.TheVariants.{Nothing, Dropped, Served}
-use Rattle.pm_core.specs.calls.RequestSuspend.{asked_of}
-use Rattle.pm_core.specs.Callbacks.{News, mailed, mails, mails_from, notes_to, told_at_wake}
+use Rattle.pm_core.specs.declared.verdict.Asked.{Asked}
+use Rattle.pm_core.specs.declared.step.Served.{Served}
+use Rattle.pm_core.specs.declared.verdict.Say.{Say}
+use Rattle.pm_core.specs.declared.verdict.Say.TheVariants.{Ask as SaysAsk, Abort as SaysAbort, Register as SaysRegister, Renew as SaysRenew}
+use Rattle.pm_core.specs.calls.RegisterNotifier.{notifier_put}
+use Rattle.pm_core.specs.calls.RequestSuspend.{asked_of, target_asked}
+use Rattle.pm_core.specs.calls.SystemShutdown.{renewal, restarts_all}
+use Rattle.pm_notify.specs.Notes.{event_of}
+use Rattle.pm_core.specs.Callbacks.{News, note_changes_at, note_changes, note_changes_from, notes_to, told_at_wake}
 use Rattle.pm_core.specs.Ended.{turns_along}
-use Rattle.pm_core.specs.Heard.{kept_at, kept_of, own_note}
+use Rattle.pm_core.specs.Served.{kept_at, kept_of, own_note}
 use Rattle.pm_core.specs.Members.{mode_of_master}
-use Rattle.pm_core.specs.Outcome.{Check, Deed, judged}
 use Rattle.pm_core.specs.Sound.{AreNamed}
 use Rattle.pm_core.specs.State.{Fixed, State, TalkHalf, in_force}
 use Rattle.pm_core.specs.Stages.{after_stages}
-use Rattle.pm_core.specs.Step.{asks, asks_of, called, heard_at, heard_of, mail_after, modes_in, news, opening, path, registers, stages, is_heard, renews, talk, time_of, tried_by}
+use Rattle.pm_core.specs.Step.{called, heard_at, is_heard, notes_after, modes_in, news, opening, path, says, served, stages, talk, time_of, verdict}
 use Rattle.pm_core.specs.Step as step
-use Rattle.pm_core.specs.Talk.{Talk, Ask, Lower, End, Forget, Notify, Take, Wait, apply_talk, Renew, ask_of, ends, forget_at, forgets_from, lower_by, notify_by, take_of, renew_if, talks, wait_of}
+use Rattle.pm_core.specs.Talk.{Talk, Ask, Lower, End, Forget, Notify, Take, Wait, Renew, apply_talk, ends, forget_at, forgets_from, lower_by, renew_by, say_by, take_of, talks, wait_of}
 use Rattle.pm_core.specs.Values.{master_place}
-use Rattle.pm_core.specs.Views.{can_suspend, named_master, suspendable, suspendable_at}
+use Rattle.pm_core.specs.Verdict.{asked_by, response_of, says_of}
+use Rattle.pm_core.specs.Views.{can_suspend, named_master, suspend_view, suspendable, suspendable_at}
 use Rattle.pm_core.proofs.Each.{Each-append}
+use Rattle.pm_core.proofs.Verdicts.{mapped, says_either}
 
 -- the laws of what is pending on the masters
 pub record RequestLaws : Type 0 where
@@ -148,46 +152,53 @@ talk_keeps laws fixed (Renew ∷ changes) half names named =
 
 -- ---- who is asked in a step
 
--- a call asks a master only where its checks pass, and then the one that it means to ask
-judged_asks : (checks : List Check) (deed : Deed) (asked : Asked) → (judged checks deed).judgement.asks ≡ Some asked → deed.asks ≡ Some asked
-judged_asks [] deed asked is = is
-judged_asks (None ∷ checks) deed asked is = judged_asks checks deed asked is
-judged_asks (Some response ∷ checks) deed asked is = cc
+-- the master that is asked is the one that the node of the request names
+abbrev AsksNamed : Fixed → Option Say → Type 0
+AsksNamed fixed says = (asked : Asked) → asked_by says ≡ Some asked → named_master fixed asked.request.node ≡ Some asked.target
 
-means : (book : State) (m ack latency state : ℕ) (node : NodeId) (asked : Asked) (may : Bool) (k : ℕ) → named_master book.fixed node ≡ Some k → option_map (asked_of m node ack latency state) (if may then Some (suspendable_at k book) else None) ≡ Some asked → named_master book.fixed asked.request.node ≡ Some asked.target
-means book m ack latency state node asked false k names is = cc
-means book m ack latency state node asked true k names is =
+none_asked : (fixed : Fixed) → AsksNamed fixed None
+none_asked fixed asked is = cc
+
+means : (book : State) (m ack latency state : ℕ) (node : NodeId) (may : Bool) (k : ℕ) → named_master book.fixed node ≡ Some k → AsksNamed book.fixed (option_map (target_asked m node ack latency state) (if may then Some (suspendable_at k book) else None))
+means book m ack latency state node false k names asked is = cc
+means book m ack latency state node true k names asked is =
     let same : asked_of m node ack latency state (suspendable_at k book) ≡ asked = one_request (asked_of m node ack latency state (suspendable_at k book)) asked is in
     subst (λ (a : Asked). named_master book.fixed a.request.node ≡ Some a.target) same names
 
-target_means : (book : State) (m ack latency state : ℕ) (node : NodeId) (asked : Asked) (named : Option ℕ) → named_master book.fixed node ≡ named → option_map (asked_of m node ack latency state) (suspendable m named book) ≡ Some asked → named_master book.fixed asked.request.node ≡ Some asked.target
-target_means book m ack latency state node asked None names is = cc
-target_means book m ack latency state node asked (Some k) names is =
-    means book m ack latency state node asked (can_suspend m k book) k names is
+target_means : (book : State) (m ack latency state : ℕ) (node : NodeId) (named : Option ℕ) → named_master book.fixed node ≡ named → AsksNamed book.fixed (option_map (target_asked m node ack latency state) (suspendable m named book))
+target_means book m ack latency state node None names = none_asked book.fixed
+target_means book m ack latency state node (Some k) names = means book m ack latency state node (can_suspend m k book) k names
 
-deed_means : (m : ℕ) (call : Call) (book : State) (asked : Asked) → (tried_by m call book).deed.asks ≡ Some asked → named_master book.fixed asked.request.node ≡ Some asked.target
-deed_means m (RequestSuspend node ack latency state) book asked is =
-    target_means book m ack latency state node asked (named_master book.fixed node) refl is
-deed_means m call book asked is = cc
+renewal_asks : (fixed : Fixed) (all : Bool) → AsksNamed fixed (renewal all)
+renewal_asks fixed true asked is = cc
+renewal_asks fixed false asked is = cc
 
-heard_means : (message : Message) (book : State) (m : ℕ) (awake : Bool) (asked : Asked) → asks_of (if awake then Some (called m (call_of message) book) else None) ≡ Some asked → named_master book.fixed asked.request.node ≡ Some asked.target
-heard_means message book m true asked is =
-    deed_means m (call_of message) book asked (judged_asks (tried_by m (call_of message) book).checks (tried_by m (call_of message) book).deed asked is)
-heard_means message book m false asked is = cc
+call_means : (m : ℕ) (call : Call) (book : State) → AsksNamed book.fixed (called m call book).effects.says
+call_means m (RequestSuspend node ack latency state) book = target_means book m ack latency state node (named_master book.fixed node) refl
+call_means m (RegisterNotifier node event wake enable) book =
+    mapped (AsksNamed book.fixed) (notifier_put m node enable) (event_of event) (none_asked book.fixed) (λ put asked is. cc)
+call_means m (SystemShutdown shutdown_type subtype) book = renewal_asks book.fixed (restarts_all shutdown_type subtype)
+call_means m call book = λ asked is. cc
 
-message_means : (message : Message) (book : State) (place : Option ℕ) (asked : Asked) → asks_of (option_and_then (heard_at message book) place) ≡ Some asked → named_master book.fixed asked.request.node ≡ Some asked.target
-message_means message book None asked is = cc
-message_means message book (Some m) asked is =
-    heard_means message book m (is_heard m book) asked is
+heard_means : (call : Call) (book : State) (m : ℕ) (heard : Bool) → AsksNamed book.fixed (says_of (verdict (if heard then Some (called m call book) else None)))
+heard_means call book m true = says_either (AsksNamed book.fixed) (called m call book) (none_asked book.fixed) (call_means m call book)
+heard_means call book m false = none_asked book.fixed
+
+message_means : (call : Call) (book : State) (place : Option ℕ) → AsksNamed book.fixed (says_of (verdict (option_and_then (heard_at call book) place)))
+message_means call book None = none_asked book.fixed
+message_means call book (Some m) = heard_means call book m (is_heard m book)
 
 -- the master that is asked is the one that the node of the request names
-pub asks_named : (event : Event) (book : State) (asked : Asked) → asks event book ≡ Some asked → named_master book.fixed asked.request.node ≡ Some asked.target
-asks_named (Ipi master message) book asked is = message_means message book (master_place master book) asked is
-asks_named _ book asked is = cc
+pub asks_named : (event : Event) (book : State) → AsksNamed book.fixed (says event book)
+asks_named (Ipi master message) book = message_means (call_of message) book (master_place master book)
+asks_named _ book = none_asked book.fixed
 
-ask_names : (fixed : Fixed) (asks : Option Asked) → ((asked : Asked) → asks ≡ Some asked → named_master fixed asked.request.node ≡ Some asked.target) → (later : List Talk) → Each (NamesTarget fixed) later → Each (NamesTarget fixed) (ask_of asks ++ later)
-ask_names fixed None names later each = each
-ask_names fixed (Some asked) names later each = (names asked refl, each)
+say_names : (fixed : Fixed) (says : Option Say) → AsksNamed fixed says → (later : List Talk) → Each (NamesTarget fixed) later → Each (NamesTarget fixed) (say_by says ++ later)
+say_names fixed None names later each = each
+say_names fixed (Some (SaysAsk asked)) names later each = (names asked refl, each)
+say_names fixed (Some (SaysAbort m)) names later each = each
+say_names fixed (Some (SaysRegister put)) names later each = (tt, each)
+say_names fixed (Some SaysRenew) names later each = each
 
 lower_names : (fixed : Fixed) (count : Option ℕ) (later : List Talk) → Each (NamesTarget fixed) later → Each (NamesTarget fixed) (lower_by count ++ later)
 lower_names fixed None later each = each
@@ -199,10 +210,6 @@ ends_name fixed (e ∷ ended) = (tt, ends_name fixed ended)
 
 -- ---- what else is told asks nobody
 
-notify_names : (fixed : Fixed) (registers : Option Notifier) → Each (NamesTarget fixed) (notify_by registers)
-notify_names fixed None = tt
-notify_names fixed (Some put) = (tt, tt)
-
 forget_names : (fixed : Fixed) (m : ℕ) (off : Bool) → Each (NamesTarget fixed) (if off then Forget m ∷ [] else [])
 forget_names fixed m true = (tt, tt)
 forget_names fixed m false = tt
@@ -213,68 +220,68 @@ forgets_name fixed turns m (master ∷ masters) =
     Each-append (NamesTarget fixed) (forget_at (turns m) m) (forgets_from turns (m + 1) masters)
     (forget_names fixed m (turns m).off) (forgets_name fixed turns (m + 1) masters)
 
-waits_name : (fixed : Fixed) (k : ℕ) (notes : List Waiting) → Each (NamesTarget fixed) (map (wait_of k) notes)
+waits_name : (fixed : Fixed) (k : ℕ) (due : List Waiting) → Each (NamesTarget fixed) (map (wait_of k) due)
 waits_name fixed k [] = tt
-waits_name fixed k (w ∷ notes) = (tt, waits_name fixed k notes)
+waits_name fixed k (w ∷ due) = (tt, waits_name fixed k due)
 
-takes_name : (fixed : Fixed) (k : ℕ) (notes : List Waiting) → Each (NamesTarget fixed) (map (take_of k) notes)
+takes_name : (fixed : Fixed) (k : ℕ) (due : List Waiting) → Each (NamesTarget fixed) (map (take_of k) due)
 takes_name fixed k [] = tt
-takes_name fixed k (w ∷ notes) = (tt, takes_name fixed k notes)
+takes_name fixed k (w ∷ due) = (tt, takes_name fixed k due)
 
-mailed_names : (fixed : Fixed) (news : News) (k : ℕ) (was is : Mode) (mail : Mail) → Each (NamesTarget fixed) (mailed news k was is mail)
-mailed_names fixed news k was Off mail = tt
-mailed_names fixed news k was Active mail = takes_name fixed k (told_at_wake was Active mail)
-mailed_names fixed news k was Asleep mail = waits_name fixed k (notes_to news k mail)
-mailed_names fixed news k was Suspending mail = takes_name fixed k (told_at_wake was Suspending mail)
+noted_names : (fixed : Fixed) (news : News) (k : ℕ) (was is : Mode) (notes : MasterNotes) → Each (NamesTarget fixed) (note_changes_at news k was is notes)
+noted_names fixed news k was Off notes = tt
+noted_names fixed news k was Active notes = takes_name fixed k (told_at_wake was Active notes)
+noted_names fixed news k was Asleep notes = waits_name fixed k (notes_to news k notes)
+noted_names fixed news k was Suspending notes = takes_name fixed k (told_at_wake was Suspending notes)
 
-mails_name : (fixed : Fixed) (news : News) (was : ℕ → Mode) (mail : List Mail) (after : State) (k : ℕ) (masters : List MasterRec) → Each (NamesTarget fixed) (mails_from news was mail after k masters)
-mails_name fixed news was mail after k [] = tt
-mails_name fixed news was mail after k (master ∷ masters) =
-    Each-append (NamesTarget fixed) (mailed news k (was k) (mode_of_master after.fixed after.now.core k) (mail_of k mail)) (mails_from news was mail after (k + 1) masters)
-    (mailed_names fixed news k (was k) (mode_of_master after.fixed after.now.core k) (mail_of k mail))
-    (mails_name fixed news was mail after (k + 1) masters)
+note_changes_name : (fixed : Fixed) (news : News) (was : ℕ → Mode) (notes : List MasterNotes) (after : State) (k : ℕ) (masters : List MasterRec) → Each (NamesTarget fixed) (note_changes_from news was notes after k masters)
+note_changes_name fixed news was notes after k [] = tt
+note_changes_name fixed news was notes after k (master ∷ masters) =
+    Each-append (NamesTarget fixed) (note_changes_at news k (was k) (mode_of_master after.fixed after.now.core k) (notes_for k notes)) (note_changes_from news was notes after (k + 1) masters)
+    (noted_names fixed news k (was k) (mode_of_master after.fixed after.now.core k) (notes_for k notes))
+    (note_changes_name fixed news was notes after (k + 1) masters)
 
-kept_if : (fixed : Fixed) (m : ℕ) (asleep : Bool) (notes : List Waiting) → Each (NamesTarget fixed) (if asleep then map (wait_of m) notes else [])
-kept_if fixed m true notes = waits_name fixed m notes
-kept_if fixed m false notes = tt
+kept_if : (fixed : Fixed) (m : ℕ) (asleep : Bool) (due : List Waiting) → Each (NamesTarget fixed) (if asleep then map (wait_of m) due else [])
+kept_if fixed m true due = waits_name fixed m due
+kept_if fixed m false due = tt
 
-kept_at_names : (fixed : Fixed) (place : Option ℕ) (notes : List Waiting) (after : State) → Each (NamesTarget fixed) (kept_at place notes after)
-kept_at_names fixed None notes after = tt
-kept_at_names fixed (Some m) notes after = kept_if fixed m (same_mode (mode_of_master after.fixed after.now.core m) Asleep) notes
+kept_at_names : (fixed : Fixed) (place : Option ℕ) (due : List Waiting) (after : State) → Each (NamesTarget fixed) (kept_at place due after)
+kept_at_names fixed None due after = tt
+kept_at_names fixed (Some m) due after = kept_if fixed m (same_mode (mode_of_master after.fixed after.now.core m) Asleep) due
 
-kept_names : (fixed : Fixed) (heard : Heard) (after : State) → Each (NamesTarget fixed) (kept_of heard after)
-kept_names fixed Nothing after = tt
-kept_names fixed (Dropped master) after = tt
-kept_names fixed (Served master call judgement) after =
-    kept_at_names fixed (master_place master after) (own_note judgement.asks (ack_of call) (node_of call) judgement.response.status) after
+kept_names : (fixed : Fixed) (served : Option Served) (after : State) → Each (NamesTarget fixed) (kept_of served after)
+kept_names fixed None after = tt
+kept_names fixed (Some served) after =
+    kept_at_names fixed (master_place served.master after) (own_note (response_of served.verdict) (ack_of served.call) (node_of served.call)) after
 
 -- ---- the whole step
 
-renew_names : (fixed : Fixed) (renews : Bool) (later : List Talk) → Each (NamesTarget fixed) later → Each (NamesTarget fixed) (renew_if renews ++ later)
-renew_names fixed true later each = (tt, each)
-renew_names fixed false later each = each
+renew_names : (fixed : Fixed) (says : Option Say) (later : List Talk) → Each (NamesTarget fixed) later → Each (NamesTarget fixed) (renew_by says ++ later)
+renew_names fixed None later each = each
+renew_names fixed (Some (SaysAsk asked)) later each = each
+renew_names fixed (Some (SaysAbort m)) later each = each
+renew_names fixed (Some (SaysRegister put)) later each = each
+renew_names fixed (Some SaysRenew) later each = (tt, each)
 
 opening_named : (event : Event) (book : State) → Each (NamesTarget book.fixed) (opening event book)
 opening_named event book =
     let fixed : Fixed = book.fixed in
     let rest : List Talk = lower_by (time_of event book) ++ ends (step.ended event book) in
-    renew_names fixed (renews event book) (step.forgets event book ++ (notify_by (registers event book) ++ (ask_of (asks event book) ++ rest)))
-    (Each-append (NamesTarget fixed) (step.forgets event book) (notify_by (registers event book) ++ (ask_of (asks event book) ++ rest))
+    renew_names fixed (says event book) (step.forgets event book ++ (say_by (says event book) ++ rest))
+    (Each-append (NamesTarget fixed) (step.forgets event book) (say_by (says event book) ++ rest)
     (forgets_name fixed (turns_along book (path event book)) 0 (in_force book).masters)
-    (Each-append (NamesTarget fixed) (notify_by (registers event book)) (ask_of (asks event book) ++ rest)
-    (notify_names fixed (registers event book))
-    (ask_names fixed (asks event book) (asks_named event book) rest
-    (lower_names fixed (time_of event book) (ends (step.ended event book)) (ends_name fixed (step.ended event book))))))
+    (say_names fixed (says event book) (asks_named event book) rest
+    (lower_names fixed (time_of event book) (ends (step.ended event book)) (ends_name fixed (step.ended event book)))))
 
 -- what is told in a step asks only a master that is named
 pub talk_named : (event : Event) (book : State) → Each (NamesTarget book.fixed) (talk event book)
 talk_named event book =
     let fixed : Fixed = book.fixed in
     let after : State = after_stages (stages event book) book in
-    let mail : List Mail = mail_after (opening event book) after in
-    let told : List Talk = mails (news event book) (modes_in book) mail after in
-    Each-append (NamesTarget fixed) (opening event book) (told ++ kept_of (heard_of event book) after)
+    let notes : List MasterNotes = notes_after (opening event book) after in
+    let told : List Talk = note_changes (news event book) (modes_in book) notes after in
+    Each-append (NamesTarget fixed) (opening event book) (told ++ kept_of (served event book) after)
     (opening_named event book)
-    (Each-append (NamesTarget fixed) told (kept_of (heard_of event book) after)
-    (mails_name fixed (news event book) (modes_in book) mail after 0 (in_force after).masters)
-    (kept_names fixed (heard_of event book) after))
+    (Each-append (NamesTarget fixed) told (kept_of (served event book) after)
+    (note_changes_name fixed (news event book) (modes_in book) notes after 0 (in_force after).masters)
+    (kept_names fixed (served event book) after))

@@ -1,7 +1,6 @@
 -- The reset of a line keeps the book sound: only a line that a master may reset is asserted.
 use Rattle.std.proofs.Common.{◌≡◌, ◌≢◌, ℕ, ◌&&◌, ◌==◌, Bool, true, false, true≢false, if◌then◌else◌, IsTrue, List, [], ◌∷◌, ◌++◌, length, slice_get, is_some, Option, Some, None, refl, sym, ◌∙◌, ap, subst, inl, inr}
 use Rattle.std.specs.Prelude.{slice_set, unwrap_or}
-use Rattle.std.specs.List.{list_all}
 use Rattle.std.proofs.lemmas.Bool.{cases_eq, eqb-true}
 use Rattle.std.proofs.lemmas.List.{get_or-set_other, length-set}
 use Rattle.std.proofs.lemmas.Option.{unwrap_or-slice_get}
@@ -10,22 +9,20 @@ use Rattle.pm_base.specs.declared.names.LineId.{LineId}
 use Rattle.pm_base.specs.declared.names.Mode.TheVariants.{Off}
 use Rattle.pm_topology.specs.declared.topology.LineDef.{LineDef}
 use Rattle.pm_topology.specs.declared.topology.Topology.{Topology}
-use Rattle.pm_ipi.specs.Status.{invalid_node, invalid_parameter, no_access}
 use Rattle.pm_perms.specs.Permits.{may_reset}
 use Rattle.pm_resets.specs.Resets.{is_asserted, with_line}
-use Rattle.pm_core.specs.declared.lines.LineView.{LineView}
-use Rattle.pm_core.specs.declared.lines.OwnedProc.{OwnedProc}
-use Rattle.pm_core.specs.Lines.{line_view, reset_at}
+use Rattle.pm_core.specs.declared.reset_lines.LineView.{LineView}
+use Rattle.pm_core.specs.declared.reset_lines.OwnedProc.{OwnedProc}
+use Rattle.pm_core.specs.ResetLines.{line_view, reset_at}
 use Rattle.pm_core.specs.Members.{owns}
-use Rattle.pm_core.specs.Outcome.{must}
+use Rattle.pm_core.specs.Checks.{AllHold}
 use Rattle.pm_core.specs.Prims.{Prim, Put_line, applies, apply, changed}
 use Rattle.pm_core.specs.Sound.{AreLines, IsSound}
 use Rattle.pm_core.specs.Stages.{after_stage}
 use Rattle.pm_core.specs.State.{Fixed, Now, State, in_force}
 use Rattle.pm_core.specs.Values.{line_place}
 use Rattle.pm_core.specs.Views.{master_node}
-use Rattle.pm_core.specs.calls.ResetAssert.{is_action, line_put, reset_changes, reset_checks, stopped, stopped_by}
-use Rattle.pm_core.proofs.Judged.{passes, must_passes}
+use Rattle.pm_core.specs.calls.ResetAssert.{line_put, reset_changes, reset_checks, stopped, stopped_by}
 use Rattle.pm_core.proofs.RowLaws.{RowLaws}
 use Rattle.pm_core.proofs.StageLaw.{IsWithin, within, put_keeps, followed_sound}
 
@@ -53,7 +50,7 @@ put_line_keeps fixed now m l asserted may of = record {
   };
   armed = of.armed;
   pending = of.pending;
-  mail = of.mail;
+  notes = of.notes;
 }
 
 -- a processor that is stopped keeps it so too
@@ -65,18 +62,6 @@ stopped_keeps fixed (Some target) now of =
 stops_keep : (fixed : Fixed) (release : Bool) (target : Option OwnedProc) (now : Now) → IsWithin fixed now → IsWithin fixed (applies fixed (if release then [] else stopped target) now)
 stops_keep fixed true target now of = of
 stops_keep fixed false target now of = stopped_keeps fixed target now of
-
--- of the checks of a reset: the caller may reset the line
-reset_part : (a b c : Bool) → IsTrue (a && (b && (c && true))) → IsTrue c
-reset_part true true true is = refl
-reset_part true true false is = cc
-reset_part true false c is = cc
-reset_part false b c is = cc
-
-permitted : (action : ℕ) (view : LineView) → IsTrue (list_all passes (reset_checks action view)) → IsTrue view.permitted
-permitted action view passing =
-    must_passes view.permitted no_access
-    (reset_part (passes (must (is_some view.place) invalid_node)) (passes (must (is_action action) invalid_parameter)) (passes (must view.permitted no_access)) passing)
 
 -- the entry at the place of a line has its number
 line_is : (number : ℕ) (lines : List LineDef) (l : ℕ) (line : LineDef) (first : IsFirst (λ (x : LineDef). x.line.0 == number) lines l) → slice_get lines l ≡ Some line → line.line ≡ record { 0 = number }
@@ -98,8 +83,8 @@ reset_within m line action book (Some l) target at may sound =
     (put_line_keeps book.fixed book.now m l (action == 1) (placed_may m line book l at may) (within book sound))
 
 -- the call that resets a line
-pub reset_keeps : RowLaws → (m : ℕ) (line : LineId) (action : ℕ) (book : State) → IsSound book → IsTrue (list_all passes (reset_checks action (line_view m line book))) → IsSound (after_stage (reset_changes action (line_view m line book)) book)
-reset_keeps laws m line action book sound passing =
+pub reset_keeps : RowLaws → (m : ℕ) (line : LineId) (action : ℕ) (book : State) → IsSound book → AllHold (reset_checks action (line_view m line book)) → IsSound (after_stage (reset_changes action (line_view m line book)) book)
+reset_keeps laws m line action book sound all =
     let view : LineView = line_view m line book in
     followed_sound laws (changed (reset_changes action view) book)
-    (reset_within m line action book (line_place line book.fixed) (reset_at (line_place line book.fixed) book.fixed) refl (permitted action view passing) sound)
+    (reset_within m line action book (line_place line book.fixed) (reset_at (line_place line book.fixed) book.fixed) refl all.permitted sound)

@@ -8,7 +8,7 @@ use Rattle.pm_base.specs.declared.names.Mode.{Mode}
 use Rattle.pm_base.specs.declared.names.Mode.TheVariants.{Off, Active, Asleep, Suspending}
 use Rattle.pm_ipi.specs.Calls.{call_of}
 use Rattle.pm_ipi.specs.declared.calls.Call.{Call}
-use Rattle.pm_ipi.specs.declared.calls.Call.TheVariants.{SystemShutdown}
+use Rattle.pm_ipi.specs.declared.calls.Call.TheVariants.{RegisterNotifier, RequestSuspend, SystemShutdown}
 use Rattle.pm_object.specs.declared.object.MasterRec.{MasterRec}
 use Rattle.pm_procs.specs.declared.pending.Pending.{Pending}
 use Rattle.pm_procs.specs.Modes.{same_mode}
@@ -18,27 +18,35 @@ use Rattle.pm_core.specs.declared.ended.Ended.{Ended}
 use Rattle.pm_core.specs.declared.scope.Scope.TheVariants.{All}
 use Rattle.pm_core.specs.Load.{load_of}
 use Rattle.pm_core.specs.Members.{mode_of_master}
-use Rattle.pm_core.specs.Outcome.{Check, Deed, Outcome, judged}
+use Rattle.pm_core.specs.Checks.{Cause, Fits, Stands, first_failing}
 use Rattle.pm_core.specs.Prims.{Prim, Shift, changed}
 use Rattle.pm_core.specs.Scope.{offs}
-use Rattle.pm_core.specs.Sound.{AreMails, IsSound}
+use Rattle.pm_core.specs.Sound.{AreNotes, IsSound}
 use Rattle.pm_core.specs.Stages.{after_stage, after_stages, follow, follow_at, follow_from, follow_to}
 use Rattle.pm_core.specs.State.{Fixed, CoreHalf, TalkHalf, State, in_force}
-use Rattle.pm_core.specs.Step.{asks, asks_of, called, effect, heard_at, heard_of, is_heard, modes_in, news, path, registers_of, renews, renews_of, stages, stages_of, tellings, tried_by, verdict}
+use Rattle.pm_core.specs.Step.{call_in, called, effect, heard_at, is_heard, message_stages, modes_in, news, path, renews, served, tellings, verdict}
 use Rattle.pm_core.specs.Step as step
 use Rattle.pm_core.specs.Talk.{Talk, ends, forgets_from, talk_of, talked, talks}
 use Rattle.pm_core.specs.Values.{master_place}
-use Rattle.pm_core.specs.calls.SystemShutdown.{restart_all}
+use Rattle.pm_core.specs.calls.RegisterNotifier.{notifier_put}
+use Rattle.pm_core.specs.calls.RequestSuspend.{target_asked}
+use Rattle.pm_core.specs.calls.SystemShutdown.{renewal, restart_all, restarts_all}
+use Rattle.pm_notify.specs.Notes.{event_of}
 use Rattle.std.proofs.lemmas.List.Quantifiers.{position-Some}
-use Rattle.pm_notify.specs.Mailbox.{Mail}
+use Rattle.pm_notify.specs.MasterNotes.{MasterNotes}
 use Rattle.pm_notify.specs.Notify.{all_forgotten, loaded}
 use Rattle.pm_topology.specs.declared.topology.Topology.{Topology}
 use Rattle.pm_core.specs.declared.ended.Turns.{Turns}
-use Rattle.pm_core.specs.declared.step.Heard.{Heard}
+use Rattle.pm_core.specs.declared.step.Served.{Served}
+use Rattle.pm_core.specs.declared.verdict.Effects.{Effects}
+use Rattle.pm_core.specs.declared.verdict.Say.{Say}
+use Rattle.pm_core.specs.declared.verdict.Say.TheVariants.{Renew as SaysRenew}
 use Rattle.pm_core.specs.Boot.{boot_master}
-use Rattle.pm_core.specs.Callbacks.{News, mails_from}
+use Rattle.pm_core.specs.Callbacks.{News, note_changes_from}
 use Rattle.pm_core.specs.Ended.{turns_along}
-use Rattle.pm_core.specs.Heard.{kept_of}
+use Rattle.pm_core.specs.Served.{kept_of}
+use Rattle.pm_core.specs.Verdict.{Called, renews_all, says_of, stages_by, verdict_by}
+use Rattle.pm_core.specs.Views.{suspend_view}
 use Rattle.pm_core.proofs.LoadLaw.{load_sound}
 use Rattle.pm_core.proofs.RenewLaw.{all_told, forgets_none, kept_none, none_asleep}
 use Rattle.pm_core.proofs.TalkLemmas.{talks_append}
@@ -46,38 +54,49 @@ use Rattle.pm_core.proofs.PendingLaw.{RequestLaws}
 use Rattle.pm_core.proofs.ScopeSound.{KeepLaws, offs_free, reload_is, stage_kept}
 use Rattle.pm_core.proofs.ShutdownCases.{all_restart}
 use Rattle.pm_core.proofs.StageLaw.{within}
+use Rattle.pm_core.proofs.Verdicts.{mapped}
 
 -- ---- which messages restart all
 
-record Restarts (fixed : Fixed) (outcome : Option Outcome) : Type 0 where
-  pub stages : stages_of outcome ≡ restart_all fixed
-  pub asks : asks_of outcome ≡ None
-  pub registers : registers_of outcome ≡ None
+record Restarts (fixed : Fixed) (call : Option Called) : Type 0 where
+  pub stages : message_stages call ≡ restart_all fixed
+  pub says : says_of (verdict call) ≡ Some SaysRenew
 
-record DeedRestarts (fixed : Fixed) (deed : Deed) : Type 0 where
-  pub stages : deed.stages ≡ restart_all fixed
-  pub asks : deed.asks ≡ None
-  pub registers : deed.registers ≡ None
+-- a call that has all restarted does so
+abbrev CallRestarts : Fixed → List (List Prim) → Option Say → Type 0
+CallRestarts fixed stages says = renews_all says ≡ true → (stages ≡ restart_all fixed) × (says ≡ Some SaysRenew)
 
-judged_restarts : (fixed : Fixed) (checks : List Check) (deed : Deed) → (deed.renews ≡ true → DeedRestarts fixed deed) → (judged checks deed).judgement.renews ≡ true → Restarts fixed (Some (judged checks deed))
-judged_restarts fixed [] deed does is = let all : DeedRestarts fixed deed = does is in record { stages = all.stages; asks = all.asks; registers = all.registers }
-judged_restarts fixed (None ∷ checks) deed does is = judged_restarts fixed checks deed does is
-judged_restarts fixed (Some response ∷ checks) deed does is = cc
+none_restarts : (fixed : Fixed) (stages : List (List Prim)) → CallRestarts fixed stages None
+none_restarts fixed stages is = cc
 
-deed_restarts : (m : ℕ) (call : Call) (book : State) → (tried_by m call book).deed.renews ≡ true → DeedRestarts book.fixed (tried_by m call book).deed
-deed_restarts m (SystemShutdown shutdown_type subtype) book is =
-    record { stages = all_restart book.fixed m shutdown_type subtype is; asks = refl; registers = refl }
-deed_restarts m call book is = cc
+renewal_is : (all : Bool) → renews_all (renewal all) ≡ true → (all ≡ true) × (renewal all ≡ Some SaysRenew)
+renewal_is true is = (refl, refl)
+renewal_is false is = cc
 
-heard_restarts : (message : Message) (book : State) (m : ℕ) (heard : Bool) → renews_of (if heard then Some (called m (call_of message) book) else None) ≡ true → Restarts book.fixed (if heard then Some (called m (call_of message) book) else None)
-heard_restarts message book m true is =
-    let call : Call = call_of message in
-    judged_restarts book.fixed (tried_by m call book).checks (tried_by m call book).deed (deed_restarts m call book) is
-heard_restarts message book m false is = cc
+call_restarts : (m : ℕ) (call : Call) (book : State) → CallRestarts book.fixed (called m call book).stages (called m call book).effects.says
+call_restarts m (SystemShutdown shutdown_type subtype) book = λ is.
+    let all = renewal_is (restarts_all shutdown_type subtype) is in
+    (all_restart book.fixed m shutdown_type subtype all.0, all.1)
+call_restarts m (RequestSuspend node ack latency state) book =
+    mapped (CallRestarts book.fixed []) (target_asked m node ack latency state) (suspend_view m node book).target (none_restarts book.fixed []) (λ target is. cc)
+call_restarts m (RegisterNotifier node event wake enable) book =
+    mapped (CallRestarts book.fixed []) (notifier_put m node enable) (event_of event) (none_restarts book.fixed []) (λ put is. cc)
+call_restarts m call book = λ is. cc
 
-message_restarts : (message : Message) (book : State) (place : Option ℕ) → renews_of (option_and_then (heard_at message book) place) ≡ true → Restarts book.fixed (option_and_then (heard_at message book) place)
-message_restarts message book None is = cc
-message_restarts message book (Some m) is = heard_restarts message book m (is_heard m book) is
+restarts_by : (fixed : Fixed) (cause : Cause) (stages : List (List Prim)) (effects : Effects) → CallRestarts fixed stages effects.says → CallRestarts fixed (stages_by cause stages) (says_of (verdict_by cause effects))
+restarts_by fixed (Stands Fits) stages effects restarts = restarts
+restarts_by fixed _ stages effects restarts = λ is. cc
+
+heard_restarts : (call : Call) (book : State) (m : ℕ) (heard : Bool) → renews_all (says_of (verdict (if heard then Some (called m call book) else None))) ≡ true → Restarts book.fixed (if heard then Some (called m call book) else None)
+heard_restarts call book m true is =
+    let x : Called = called m call book in
+    let all = restarts_by book.fixed (first_failing x.checks) x.stages x.effects (call_restarts m call book) is in
+    record { stages = all.0; says = all.1 }
+heard_restarts call book m false is = cc
+
+message_restarts : (call : Call) (book : State) (place : Option ℕ) → renews_all (says_of (verdict (option_and_then (heard_at call book) place))) ≡ true → Restarts book.fixed (option_and_then (heard_at call book) place)
+message_restarts call book None is = cc
+message_restarts call book (Some m) is = heard_restarts call book m (is_heard m book) is
 
 -- ---- nothing follows the load
 
@@ -129,19 +148,19 @@ after_restart laws book sound =
     ∙ ap (λ prims. changed prims (with load.now.core)) none
 
 -- what is done first: all is as at load, whoever forgets and whatever ends
-told_anew : KeepLaws → (book : State) (turns : ℕ → Turns) (es : List Ended) (half : TalkHalf) → length half.pending ≡ length (in_force book).masters → AreMails book.fixed.topology (length (in_force book).masters) half.mail
-    → talks (talk_of true (forgets_from turns 0 (in_force book).masters) None None None es) half ≡ (load_of (in_force book) book.fixed.topology).now.talk
-told_anew laws book turns es half each mails =
+told_anew : KeepLaws → (book : State) (turns : ℕ → Turns) (es : List Ended) (half : TalkHalf) → length half.pending ≡ length (in_force book).masters → AreNotes book.fixed.topology (length (in_force book).masters) half.notes
+    → talks (talk_of (Some SaysRenew) (forgets_from turns 0 (in_force book).masters) None es) half ≡ (load_of (in_force book) book.fixed.topology).now.talk
+told_anew laws book turns es half each note_changes =
     let t : Topology = book.fixed.topology in
     let masters : ℕ = length (in_force book).masters in
     let fresh : TalkHalf = (load_of (in_force book) t).now.talk in
     let forgets : List Talk = forgets_from turns 0 (in_force book).masters in
     let none : all_ended half.pending ≡ none_pending masters = laws.requests.renew half.pending ∙ ap none_pending each in
-    let empty : all_forgotten half.mail ≡ loaded t masters =
-    laws.orders.as_loaded t half.mail (λ m within. mails.units m (omega (arith, within, mails.each))) ∙ ap (loaded t) mails.each
+    let empty : all_forgotten half.notes ≡ loaded t masters =
+    laws.orders.as_loaded t half.notes (λ m within. note_changes.units m (omega (arith, within, note_changes.each))) ∙ ap (loaded t) note_changes.each
     in
-    let both : List (Option Pending) → List Mail → TalkHalf = λ ps ms. record { pending = ps; mail = ms } in
-    ap (λ p. talks (forgets ++ ends es) (both p (all_forgotten half.mail))) none
+    let both : List (Option Pending) → List MasterNotes → TalkHalf = λ ps ms. record { pending = ps; notes = ms } in
+    ap (λ p. talks (forgets ++ ends es) (both p (all_forgotten half.notes))) none
     ∙ (ap (λ ms. talks (forgets ++ ends es) (both (none_pending masters) ms)) empty
     ∙ (talks_append forgets (ends es) fresh
     ∙ (ap (talks (ends es)) (forgets_none t masters turns 0 (in_force book).masters fresh refl)
@@ -158,47 +177,44 @@ nobody : MasterRec
 nobody = record { node = 0; mask = 0; timeout = 0; suspend = 0; wake = 0 }
 
 -- all that is told where the core half is as at load: what is done first alone
-told_all : KeepLaws → (book : State) (news : News) (was : ℕ → Mode) (turns : ℕ → Turns) (es : List Ended) (heard : Heard) (half : TalkHalf) → length half.pending ≡ length (in_force book).masters → AreMails book.fixed.topology (length (in_force book).masters) half.mail
+told_all : KeepLaws → (book : State) (news : News) (was : ℕ → Mode) (turns : ℕ → Turns) (es : List Ended) (of : Option Served) (half : TalkHalf) → length half.pending ≡ length (in_force book).masters → AreNotes book.fixed.topology (length (in_force book).masters) half.notes
     → let at : State = record { fixed = book.fixed; now = record { core = (load_of (in_force book) book.fixed.topology).now.core; talk = half } } in
-    talked (tellings news was (talk_of true (forgets_from turns 0 (in_force book).masters) None None None es) heard at) at ≡ load_of (in_force book) book.fixed.topology
-told_all laws book news was turns es heard half each mails =
+    talked (tellings news was (talk_of (Some SaysRenew) (forgets_from turns 0 (in_force book).masters) None es) of at) at ≡ load_of (in_force book) book.fixed.topology
+told_all laws book news was turns es of half each note_changes =
     let fixed : Fixed = book.fixed in
     let t : Topology = fixed.topology in
     let masters : List MasterRec = (in_force book).masters in
     let load : State = load_of (in_force book) t in
     let with : TalkHalf → State = λ h. record { fixed = fixed; now = record { core = load.now.core; talk = h } } in
-    let first : List Talk = talk_of true (forgets_from turns 0 masters) None None None es in
-    let anew : talks first half ≡ load.now.talk = told_anew laws book turns es half each mails in
-    let rest : TalkHalf → List Talk = λ h. mails_from news was h.mail (with half) 0 masters ++ kept_of heard (with half) in
+    let first : List Talk = talk_of (Some SaysRenew) (forgets_from turns 0 masters) None es in
+    let anew : talks first half ≡ load.now.talk = told_anew laws book turns es half each note_changes in
+    let rest : TalkHalf → List Talk = λ h. note_changes_from news was h.notes (with half) 0 masters ++ kept_of of (with half) in
     let none : rest (talks first half) ≡ [] =
     ap rest anew
-    ∙ (ap (λ ms. ms ++ kept_of heard (with half)) (all_told news was t (with half) (length masters) 0 masters (omega arith) (load_awake laws fixed))
-    ∙ kept_none heard (with half)
+    ∙ (ap (λ ms. ms ++ kept_of of (with half)) (all_told news was t (with half) (length masters) 0 masters (omega arith) (load_awake laws fixed))
+    ∙ kept_none of (with half)
     (λ master m is. load_awake laws fixed m (position-Some (λ (x : MasterRec). x.node == master.0) masters m nobody is).0))
     in
     ap (λ later. talked (first ++ later) (with half)) none
     ∙ (ap with (talks_append first [] half) ∙ ap with anew)
 
-restarted_message : KeepLaws → (book : State) (outcome : Option Outcome) (news : News) (was : ℕ → Mode) (turns : ℕ → Turns) (es : List Ended) (heard : Heard) → IsSound book → renews_of outcome ≡ true → Restarts book.fixed outcome
-    → talked (tellings news was (talk_of (renews_of outcome) (forgets_from turns 0 (in_force book).masters) (registers_of outcome) (asks_of outcome) None es) heard (after_stages (stages_of outcome) book)) (after_stages (stages_of outcome) book)
+restarted_message : KeepLaws → (book : State) (call : Option Called) (news : News) (was : ℕ → Mode) (turns : ℕ → Turns) (es : List Ended) (of : Option Served) → IsSound book → Restarts book.fixed call
+    → talked (tellings news was (talk_of (says_of (verdict call)) (forgets_from turns 0 (in_force book).masters) None es) of (after_stages (message_stages call) book)) (after_stages (message_stages call) book)
     ≡ load_of (in_force book) book.fixed.topology
-restarted_message laws book outcome news was turns es heard sound all restarts =
+restarted_message laws book call news was turns es of sound restarts =
     let fixed : Fixed = book.fixed in
     let mid : State = after_stage (offs fixed All) book in
     let still : IsSound mid = stage_kept laws (offs fixed All) book (offs_free fixed All) sound in
     let fs : List Talk = forgets_from turns 0 (in_force book).masters in
-    let tell : List Talk → State → State = λ first b. talked (tellings news was first heard b) b in
-    ap (λ r. tell (talk_of r fs (registers_of outcome) (asks_of outcome) None es) (after_stages (stages_of outcome) book)) all
-    ∙ (ap (λ put. tell (talk_of true fs put (asks_of outcome) None es) (after_stages (stages_of outcome) book)) restarts.registers
-    ∙ (ap (λ a. tell (talk_of true fs None a None es) (after_stages (stages_of outcome) book)) restarts.asks
-    ∙ (ap (λ s. tell (talk_of true fs None None None es) (after_stages s book)) restarts.stages
-    ∙ (ap (tell (talk_of true fs None None None es)) (after_restart laws book sound)
-    ∙ told_all laws book news was turns es heard mid.now.talk still.pending.each still.mail))))
+    let tell : List Talk → State → State = λ first b. talked (tellings news was first of b) b in
+    ap (λ says. tell (talk_of says fs None es) (after_stages (message_stages call) book)) restarts.says
+    ∙ (ap (λ s. tell (talk_of (Some SaysRenew) fs None es) (after_stages s book)) restarts.stages
+    ∙ (ap (tell (talk_of (Some SaysRenew) fs None es)) (after_restart laws book sound)
+    ∙ told_all laws book news was turns es of mid.now.talk still.pending.each still.notes))
 
 pub restart_loads : KeepLaws → (event : Event) (book : State) → IsSound book → renews event book ≡ true → effect event book ≡ load_of (in_force book) book.fixed.topology
 restart_loads laws (Ipi master message) book sound is =
     let event : Event = Ipi master message in
-    let outcome : Option Outcome = verdict master message book in
-    restarted_message laws book outcome (news event book) (modes_in book) (turns_along book (path event book)) (step.ended event book) (heard_of event book) sound is
-    (message_restarts message book (master_place master book) is)
+    restarted_message laws book (call_in master (call_of message) book) (news event book) (modes_in book) (turns_along book (path event book)) (step.ended event book) (served event book) sound
+    (message_restarts (call_of message) book (master_place master book) is)
 restart_loads laws _ book sound is = cc

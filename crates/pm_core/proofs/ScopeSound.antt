@@ -74,7 +74,7 @@ reload_within laws fixed now of =
       lines = record { each = loaded.lines.each; nobodys = loaded.lines.nobodys };
       armed = loaded.armed;
       pending = of.pending;
-      mail = of.mail;
+      notes = of.notes;
     })
 
 -- ---- one change
@@ -105,7 +105,7 @@ free_keeps laws fixed (Clear s) now free of = record {
   lines = of.lines;
   armed = drop_arms fixed s now.core.rows.entries of.armed;
   pending = of.pending;
-  mail = of.mail;
+  notes = of.notes;
 }
 free_keeps laws fixed Halt now free of = record {
   rows = laws.rows.clear (pairs_of fixed.object fixed.topology) now.core.rows of.rows;
@@ -115,7 +115,7 @@ free_keeps laws fixed Halt now free of = record {
   lines = of.lines;
   armed = clear_arms fixed now.core.rows.entries of.armed;
   pending = of.pending;
-  mail = of.mail;
+  notes = of.notes;
 }
 free_keeps laws fixed Reload now free of = reload_within laws fixed now of
 

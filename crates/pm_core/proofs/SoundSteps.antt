@@ -1,7 +1,6 @@
 -- Each step keeps the book sound.
-use Rattle.std.proofs.Common.{◌≡◌, ◌≢◌, ℕ, ◌<◌, Bool, true, false, not, ◌&&◌, ◌==◌, if◌then◌else◌, IsTrue, List, [], length, is_some, Option, Some, None, refl, sym, subst, inl, inr}
+use Rattle.std.proofs.Common.{◌≡◌, ◌≢◌, ℕ, ◌<◌, Bool, true, false, not, ◌&&◌, ◌==◌, if◌then◌else◌, IsTrue, List, [], ◌∷◌, length, is_some, Option, Some, None, refl, sym, subst, inl, inr}
 use Rattle.std.specs.Prelude.{option_and_then, option_map}
-use Rattle.std.specs.List.{list_all}
 use Rattle.std.proofs.lemmas.List.Quantifiers.{position-Some}
 use Rattle.pm_base.specs.declared.caps.Caps.{Caps}
 use Rattle.pm_base.specs.declared.events.Event.{Event}
@@ -11,8 +10,7 @@ use Rattle.pm_base.specs.declared.names.Mode.{Mode}
 use Rattle.pm_base.specs.declared.names.Mode.TheVariants.{Off, Active, Asleep, Suspending}
 use Rattle.pm_ipi.specs.declared.calls.Call.{Call}
 use Rattle.pm_ipi.specs.declared.calls.Call.TheVariants.{SelfSuspend, ForcePowerdown, AbortSuspend, RequestWakeup, SetWakeupSource, SystemShutdown, RequestNode, ReleaseNode, SetRequirement, SetMaxLatency, ResetAssert, InitFinalize, Unknown as Other}
-use Rattle.pm_ipi.specs.Calls.{call_of, ack_kind}
-use Rattle.pm_ipi.specs.Status.{invalid_parameter, invalid_node, no_access, no_feature, double_request}
+use Rattle.pm_ipi.specs.Calls.{call_of}
 use Rattle.pm_notify.specs.Laws.{OrderLaws}
 use Rattle.pm_object.specs.declared.object.MasterRec.{MasterRec}
 use Rattle.pm_procs.specs.declared.procs.Proc.{Proc as Processor}
@@ -22,7 +20,6 @@ use Rattle.pm_rows.specs.declared.row.Change.{Change}
 use Rattle.pm_rows.specs.declared.row.Change.TheVariants.{Request, Release, Set, Limit}
 use Rattle.pm_rows.specs.declared.row.Entry.{Entry}
 use Rattle.pm_rows.specs.Rows.{has_all, mode_of, rival_of, entry_at, is_at}
-use Rattle.pm_rows.specs.Wanted.{wakeup}
 use Rattle.pm_rows.specs.Sound.{IsFit}
 use Rattle.pm_topology.specs.declared.places.Kind.{Kind}
 use Rattle.pm_topology.specs.declared.places.Kind.TheVariants.{Proc, Slave, Power, Unknown}
@@ -31,40 +28,41 @@ use Rattle.pm_core.specs.declared.views.ProcView.{ProcView}
 use Rattle.pm_core.specs.declared.views.RowView.{RowView}
 use Rattle.pm_core.specs.declared.views.WakeView.{WakeView}
 use Rattle.pm_core.specs.Events.{boot, boot_at, boot_by, booted, interrupt, raised, wait, wait_at, wait_by, waits}
-use Rattle.pm_core.specs.Lines.{line_view}
+use Rattle.pm_core.specs.ResetLines.{line_view}
 use Rattle.pm_core.specs.Members.{mode_of_master, owner_at}
-use Rattle.pm_core.specs.Outcome.{Deed, Check, Tried, judged, outcome_of, done, must, must_be_free}
+use Rattle.pm_core.specs.Checks.{AllHold, Fits, InUse}
 use Rattle.pm_core.specs.Prims.{Prim, At_row, Settle, Put_proc}
 use Rattle.pm_core.specs.ProcCalls.{address_in, is_in, proc_changes, put_at}
 use Rattle.pm_core.specs.RowCalls.{changes_of, row_changes, can_have, is_in_use}
 use Rattle.pm_core.specs.Sound.{IsSound, IsBook}
 use Rattle.pm_core.specs.Stages.{after_stage, after_stages}
 use Rattle.pm_core.specs.State.{State, in_force}
-use Rattle.pm_core.specs.Step.{called, tried_by, heard_at, is_heard, stages_of, stages, talk, effect}
+use Rattle.pm_core.specs.Step.{called, effect, heard_at, is_heard, message_stages, stages, talk}
 use Rattle.pm_core.specs.Values.{master_place, slave_place}
+use Rattle.pm_core.specs.Verdict.{Called, stages_of}
 use Rattle.pm_core.specs.Views.{is_asked, row_view_at, proc_view, wake_view, rival_node, master_node}
 use Rattle.pm_core.specs.calls.AbortSuspend.{abort_suspend}
 use Rattle.pm_core.specs.declared.scope.Scope.TheVariants.{Under}
 use Rattle.pm_core.specs.calls.ForcePowerdown.{force_powerdown, force_stages}
 use Rattle.pm_core.specs.calls.InitFinalize.{init_finalize}
 use Rattle.pm_core.specs.calls.ReleaseNode.{release_node}
-use Rattle.pm_core.specs.calls.RequestNode.{request_checks, request_node}
+use Rattle.pm_core.specs.calls.RequestNode.{request_checks, request_node, rivalled}
 use Rattle.pm_core.specs.calls.RequestWakeup.{request_wakeup}
 use Rattle.pm_core.specs.calls.ResetAssert.{reset_assert}
 use Rattle.pm_core.specs.calls.SelfSuspend.{self_suspend}
 use Rattle.pm_core.specs.calls.SetMaxLatency.{set_max_latency}
 use Rattle.pm_core.specs.calls.SetRequirement.{set_requirement, set_requirement_checks}
-use Rattle.pm_core.specs.calls.SetWakeupSource.{arming, is_switch, set_wakeup_source, set_wakeup_source_checks}
+use Rattle.pm_core.specs.calls.SetWakeupSource.{arming, set_wakeup_source, set_wakeup_source_checks}
 use Rattle.pm_core.specs.calls.SystemShutdown.{all_stages, own_stages, system_shutdown}
 use Rattle.std.proofs.lemmas.Bool.{eqb-true}
 use Rattle.pm_base.proofs.Booleans.{both}
 use Rattle.pm_base.proofs.Counts.{split}
 use Rattle.pm_base.specs.declared.names.NodeId.{NodeId}
 use Rattle.pm_core.proofs.ArmedLaw.{MayArm, arming_may}
-use Rattle.pm_core.proofs.Judged.{judged_either, passes, must_passes, free_passes}
+use Rattle.pm_core.proofs.Verdicts.{stages_either}
 use Rattle.pm_core.proofs.LoadLaw.{ModeLaws}
 use Rattle.pm_core.proofs.RowLaws.{RowLaws}
-use Rattle.pm_core.proofs.MailLaw.{talk_mails}
+use Rattle.pm_core.proofs.MasterNotesLaw.{talk_notes}
 use Rattle.pm_core.proofs.ScopeSound.{KeepLaws, all_free, clears_free, offs_free, own_free, stages_kept}
 use Rattle.pm_core.proofs.ShutdownCases.{each_shutdown}
 use Rattle.pm_core.proofs.PendingLaw.{RequestLaws, talk_keeps, talk_named}
@@ -74,17 +72,14 @@ use Rattle.pm_core.proofs.WakeSound.{raised_keeps, interrupt_keeps, request_keep
 
 -- ---- calls
 
--- a call keeps the book sound where its stages do, once its checks pass
-judged_keeps : (checks : List Check) (deed : Deed) (book : State) → IsSound book → (IsTrue (list_all passes checks) → IsSound (after_stages deed.stages book)) → IsSound (after_stages (judged checks deed).stages book)
-judged_keeps checks deed book sound keeps =
+-- a call keeps the book sound if its stages do, once its checks hold
+call_keeps : (call : Called) (book : State) → IsSound book → (AllHold call.checks → IsSound (after_stages call.stages book)) → IsSound (after_stages (stages_of call) book)
+call_keeps call book sound keeps =
     let P : List (List Prim) → Type 0 = λ stages. IsSound (after_stages stages book) in
-    elim (judged_either checks deed) [
+    elim (stages_either call) [
       | inl both ↦ subst P (sym both.1) (keeps both.0)
       | inr none ↦ subst P (sym none) sound
     ]
-
-tried_keeps : (call : Tried) (book : State) → IsSound book → (IsTrue (list_all passes call.checks) → IsSound (after_stages call.deed.stages book)) → IsSound (after_stages (outcome_of call).stages book)
-tried_keeps call book sound keeps = judged_keeps call.checks call.deed book sound keeps
 
 -- the caller is heard: it is a configured master, and it is awake
 record IsHeard (book : State) (m : ℕ) : Type 0 where
@@ -107,42 +102,29 @@ view_of m s book = record { slave = Some s; entry = entry_at m s book.now.core.r
 abbrev no_view : RowView
 no_view = record { slave = None; entry = None; rival = None }
 
--- a call on a row keeps the book sound where its change fits the row of each slave once its checks pass
-row_call_keeps : RowLaws → (m : ℕ) (by : Change) (call : RowView → Tried) (book : State) (slave : Option ℕ) → IsSound book → ((view : RowView) → (call view).deed ≡ done (row_changes by view)) → ((s : ℕ) → IsTrue (list_all passes (call (view_of m s book)).checks) → (e : Entry) → entry_at m s book.now.core.rows ≡ Some e → FitsRow m s by e book) → IsSound (after_stages (outcome_of (call (row_view_at m slave book))).stages book)
-row_call_keeps laws m by call book None sound deed fits =
-    tried_keeps (call no_view) book sound (λ passing.
-    let P : Deed → Type 0 = λ d. IsSound (after_stages d.stages book) in
-    subst P (sym (deed no_view)) (empty_keeps laws book sound))
-row_call_keeps laws m by call book (Some s) sound deed fits =
-    tried_keeps (call (view_of m s book)) book sound (λ passing.
-    let P : Deed → Type 0 = λ d. IsSound (after_stages d.stages book) in
-    subst P (sym (deed (view_of m s book))) (row_keeps laws m s by book (entry_at m s book.now.core.rows) sound refl (fits s passing)))
+-- a call on a row keeps the book sound where its change fits the row of each slave once its checks hold
+row_call_keeps : RowLaws → (m : ℕ) (by : Change) (call : RowView → Called) (book : State) (slave : Option ℕ) → IsSound book → ((view : RowView) → (call view).stages ≡ row_changes by view ∷ []) → ((s : ℕ) → AllHold (call (view_of m s book)).checks → (e : Entry) → entry_at m s book.now.core.rows ≡ Some e → FitsRow m s by e book) → IsSound (after_stages (stages_of (call (row_view_at m slave book))) book)
+row_call_keeps laws m by call book None sound does fits =
+    call_keeps (call no_view) book sound (λ all.
+    let P : List (List Prim) → Type 0 = λ stages. IsSound (after_stages stages book) in
+    subst P (sym (does no_view)) (empty_keeps laws book sound))
+row_call_keeps laws m by call book (Some s) sound does fits =
+    call_keeps (call (view_of m s book)) book sound (λ all.
+    let P : List (List Prim) → Type 0 = λ stages. IsSound (after_stages stages book) in
+    subst P (sym (does (view_of m s book))) (row_keeps laws m s by book (entry_at m s book.now.core.rows) sound refl (fits s all)))
 
 rival_known : (book : State) (rival : Option ℕ) → option_map (master_node (in_force book).masters) rival ≡ None → rival ≡ None
 rival_known book None is = refl
 rival_known book (Some rival) is = cc
 
--- of the checks of a request: the slave has the capabilities, and no rival uses it
-request_parts : (a b c d e f : Bool) → IsTrue (a && (b && (c && (d && (e && (f && true)))))) → (IsTrue d) × (IsTrue f)
-request_parts true true true true true true is = (refl, refl)
-request_parts true true true true true false is = cc
-request_parts true true true true false f is = cc
-request_parts true true true false e f is = cc
-request_parts true true false d e f is = cc
-request_parts true false c d e f is = cc
-request_parts false b c d e f is = cc
+-- a slave that fits a request has no rival
+unrivalled : (used : Bool) (rival : Option NodeId) → (if used then InUse else rivalled rival) ≡ Fits → rival ≡ None
+unrivalled true rival is = cc
+unrivalled false None is = refl
+unrivalled false (Some other) is = cc
 
--- of the checks of a requirement: the slave has the capabilities
-requirement_part : (a b c d e : Bool) → IsTrue (a && (b && (c && (d && (e && true))))) → IsTrue d
-requirement_part true true true true e is = refl
-requirement_part true true true false e is = cc
-requirement_part true true false d e is = cc
-requirement_part true false c d e is = cc
-requirement_part false b c d e is = cc
-
-able : (caps : Caps) (view : RowView) (e : Entry) → view.entry ≡ Some e → IsTrue (passes (must (can_have caps view) no_feature)) → IsTrue (has_all e.seed.all caps)
-able caps view e is passing =
-    let can : IsTrue (can_have caps view) = must_passes (can_have caps view) no_feature passing in
+able : (caps : Caps) (view : RowView) (e : Entry) → view.entry ≡ Some e → IsTrue (can_have caps view) → IsTrue (has_all e.seed.all caps)
+able caps view e is can =
     let P : Option Entry → Type 0 = λ o. IsTrue (can_have caps (record view { entry = o })) in
     subst P is can
 
@@ -152,38 +134,26 @@ awake_is_not_off Active known is awake = λ off. cc
 awake_is_not_off Asleep known is awake = cc
 awake_is_not_off Suspending known is awake = λ off. cc
 
-request_fits : (m : ℕ) (caps : Caps) (ack : ℕ) (book : State) → IsSound book → IsHeard book m → (s : ℕ) → IsTrue (list_all passes (request_checks caps ack (view_of m s book))) → (e : Entry) → entry_at m s book.now.core.rows ≡ Some e → IsFit m s (Request caps) e book.now.core.rows
-request_fits m caps ack book sound heard s passing e is =
-    let view : RowView = view_of m s book in
-    let parts = request_parts (passes (must (is_some (ack_kind ack)) invalid_parameter)) (passes (must (is_some view.slave) invalid_node)) (passes (must (is_some view.entry) no_access)) (passes (must (can_have caps view) no_feature)) (passes (must (not (is_in_use view)) double_request)) (passes (must_be_free view.rival)) passing in (
-      able caps view e is parts.0,
-      rival_known book (rival_of m s book.now.core.rows) (free_passes view.rival parts.1),
+request_fits : (m : ℕ) (caps : Caps) (ack : ℕ) (book : State) → IsSound book → IsHeard book m → (s : ℕ) → AllHold (request_checks caps ack (view_of m s book)) → (e : Entry) → entry_at m s book.now.core.rows ≡ Some e → IsFit m s (Request caps) e book.now.core.rows
+request_fits m caps ack book sound heard s all e is =
+    let view : RowView = view_of m s book in (
+      able caps view e is all.capable,
+      rival_known book (rival_of m s book.now.core.rows) (unrivalled (is_in_use view) view.rival all.standing),
       awake_is_not_off (mode_of_master book.fixed book.now.core m) (mode_of m book.now.core.rows) (sound.knows.right m heard.there) heard.awake,
     )
 
-set_fits : (m : ℕ) (caps : Caps) (ack : ℕ) (book : State) → IsSound book → IsHeard book m → (s : ℕ) → IsTrue (list_all passes (set_requirement_checks caps ack (view_of m s book))) → (e : Entry) → entry_at m s book.now.core.rows ≡ Some e → IsFit m s (Set (mode_of_master book.fixed book.now.core m) caps) e book.now.core.rows
-set_fits m caps ack book sound heard s passing e is =
-    let view : RowView = view_of m s book in
-    let part = requirement_part (passes (must (is_some (ack_kind ack)) invalid_parameter)) (passes (must (is_some view.slave) invalid_node)) (passes (must (is_some view.entry) no_access)) (passes (must (can_have caps view) no_feature)) (passes (must (is_in_use view) no_access)) passing in
-    (able caps view e is part, sound.knows.right m heard.there)
+set_fits : (m : ℕ) (caps : Caps) (ack : ℕ) (book : State) → IsSound book → IsHeard book m → (s : ℕ) → AllHold (set_requirement_checks caps ack (view_of m s book)) → (e : Entry) → entry_at m s book.now.core.rows ≡ Some e → IsFit m s (Set (mode_of_master book.fixed book.now.core m) caps) e book.now.core.rows
+set_fits m caps ack book sound heard s all e is =
+    (able caps (view_of m s book) e is all.capable, sound.knows.right m heard.there)
 
--- of the checks of an arming: the processor is the caller's
-arming_part : (a b c d e f : Bool) → IsTrue (a && (b && (c && (d && (e && (f && true)))))) → IsTrue d
-arming_part true true true true e f is = refl
-arming_part true true true false e f is = cc
-arming_part true true false d e f is = cc
-arming_part true false c d e f is = cc
-arming_part false b c d e f is = cc
-
-arming_fits : (m : ℕ) (node : NodeId) (enable : ℕ) (book : State) → (s : ℕ) → IsTrue (list_all passes (set_wakeup_source_checks enable (proc_view m node book) (view_of m s book))) → (e : Entry) → entry_at m s book.now.core.rows ≡ Some e → FitsRow m s (arming node enable) e book
-arming_fits m node enable book s passing e is =
+arming_fits : (m : ℕ) (node : NodeId) (enable : ℕ) (book : State) → (s : ℕ) → AllHold (set_wakeup_source_checks enable (proc_view m node book) (view_of m s book)) → (e : Entry) → entry_at m s book.now.core.rows ≡ Some e → FitsRow m s (arming node enable) e book
+arming_fits m node enable book s all e is =
     let target : ProcView = proc_view m node book in
-    let source : RowView = view_of m s book in
-    let part = arming_part (passes (must (is_some target.place) invalid_node)) (passes (must (is_some source.slave) invalid_node)) (passes (must (is_switch enable) invalid_parameter)) (passes (must (is_some target.own) no_access)) (passes (must (is_some source.entry) no_access)) (passes (must (can_have wakeup source) no_feature)) passing in
+    let part = (both (is_some target.own) (is_some (view_of m s book).entry) all.permitted).0 in
     let at : is_at m s e ≡ true = (split (is_at m s) book.now.core.rows.entries e is).passes in
     let own : e.seed.master ≡ m = eqb-true e.seed.master m (both (e.seed.master == m) (e.seed.slave == s) at).0 in
     let P : ℕ → Type 0 = λ k. MayArm book.fixed k (arming node enable) in
-    (tt, subst P (sym own) (arming_may m node enable book (must_passes (is_some target.own) no_access part)))
+    (tt, subst P (sym own) (arming_may m node enable book part))
 
 -- a call on a processor keeps the book sound
 put_keeps : RowLaws → (m : ℕ) (place : Option ℕ) (mode : Mode) (address : ℕ) (book : State) → IsSound book → IsSound (after_stage (put_at m place mode address) book)
@@ -195,52 +165,52 @@ on_keeps : RowLaws → (m : ℕ) (view : ProcView) (suspending : Bool) (book : S
 on_keeps laws m view true book sound = put_keeps laws m view.place Active (address_in view) book sound
 on_keeps laws m view false book sound = empty_keeps laws book sound
 
-called_keeps : KeepLaws → (m : ℕ) (call : Call) (book : State) → IsSound book → IsHeard book m → IsSound (after_stages (called m call book).stages book)
+called_keeps : KeepLaws → (m : ℕ) (call : Call) (book : State) → IsSound book → IsHeard book m → IsSound (after_stages (stages_of (called m call book)) book)
 called_keeps laws m (SelfSuspend node address) book sound heard =
     let view : ProcView = proc_view m node book in
-    tried_keeps (self_suspend m address view) book sound (λ passing. put_keeps laws.rows m view.place Suspending address book sound)
+    call_keeps (self_suspend m address view) book sound (λ all. put_keeps laws.rows m view.place Suspending address book sound)
 called_keeps laws m (ForcePowerdown node ack) book sound heard =
-    tried_keeps (force_powerdown book.fixed m node ack) book sound
-    (λ passing. stages_kept laws (force_stages book.fixed node) book (offs_free book.fixed (Under node), (clears_free book.fixed node, tt)) sound)
+    call_keeps (force_powerdown book.fixed m node ack) book sound
+    (λ all. stages_kept laws (force_stages book.fixed node) book (offs_free book.fixed (Under node), (clears_free book.fixed node, tt)) sound)
 called_keeps laws m (AbortSuspend node reason) book sound heard =
     let view : ProcView = proc_view m node book in
-    tried_keeps (abort_suspend m reason (is_asked m book) view) book sound (λ passing. on_keeps laws.rows m view (is_in Suspending view) book sound)
+    call_keeps (abort_suspend m reason (is_asked m book) view) book sound (λ all. on_keeps laws.rows m view (is_in Suspending view) book sound)
 called_keeps laws m (RequestWakeup node address ack) book sound heard =
     let view : WakeView = wake_view m node book in
-    tried_keeps (request_wakeup address ack view) book sound (λ passing. request_keeps laws.rows address view.place view.target book sound)
+    call_keeps (request_wakeup address ack view) book sound (λ all. request_keeps laws.rows address view.place view.target book sound)
 called_keeps laws m (SetWakeupSource target source enable) book sound heard =
     row_call_keeps laws.rows m (arming target enable) (set_wakeup_source target enable (proc_view m target book)) book (slave_place source book) sound (λ view. refl) (arming_fits m target enable book)
 called_keeps laws m (SystemShutdown shutdown_type subtype) book sound heard =
-    tried_keeps (system_shutdown book.fixed m shutdown_type subtype) book sound
-    (λ passing. each_shutdown (λ stages. IsSound (after_stages stages book)) book.fixed m sound
+    call_keeps (system_shutdown book.fixed m shutdown_type subtype) book sound
+    (λ all. each_shutdown (λ stages. IsSound (after_stages stages book)) book.fixed m sound
     (λ restarts. stages_kept laws (own_stages book.fixed m restarts) book (own_free book.fixed m restarts) sound)
     (λ restarts. stages_kept laws (all_stages book.fixed restarts) book (all_free book.fixed restarts) sound) shutdown_type subtype)
 called_keeps laws m (RequestNode node caps ack) book sound heard =
-    row_call_keeps laws.rows m (Request caps) (request_node caps ack) book (slave_place node book) sound (λ view. refl) (λ s passing e is. (request_fits m caps ack book sound heard s passing e is, tt))
+    row_call_keeps laws.rows m (Request caps) (request_node caps ack) book (slave_place node book) sound (λ view. refl) (λ s all e is. (request_fits m caps ack book sound heard s all e is, tt))
 called_keeps laws m (ReleaseNode node) book sound heard =
-    row_call_keeps laws.rows m Release release_node book (slave_place node book) sound (λ view. refl) (λ s passing e is. (tt, tt))
+    row_call_keeps laws.rows m Release release_node book (slave_place node book) sound (λ view. refl) (λ s all e is. (tt, tt))
 called_keeps laws m (SetRequirement node caps ack) book sound heard =
     let mode : Mode = mode_of_master book.fixed book.now.core m in
-    row_call_keeps laws.rows m (Set mode caps) (set_requirement mode caps ack) book (slave_place node book) sound (λ view. refl) (λ s passing e is. (set_fits m caps ack book sound heard s passing e is, tt))
+    row_call_keeps laws.rows m (Set mode caps) (set_requirement mode caps ack) book (slave_place node book) sound (λ view. refl) (λ s all e is. (set_fits m caps ack book sound heard s all e is, tt))
 called_keeps laws m (SetMaxLatency node latency) book sound heard =
-    row_call_keeps laws.rows m (Limit latency) (set_max_latency latency) book (slave_place node book) sound (λ view. refl) (λ s passing e is. (tt, tt))
+    row_call_keeps laws.rows m (Limit latency) (set_max_latency latency) book (slave_place node book) sound (λ view. refl) (λ s all e is. (tt, tt))
 called_keeps laws m (ResetAssert line action) book sound heard =
-    tried_keeps (reset_assert line action (line_view m line book)) book sound (λ passing. reset_keeps laws.rows m line action book sound passing)
+    call_keeps (reset_assert line action (line_view m line book)) book sound (λ all. reset_keeps laws.rows m line action book sound all)
 called_keeps laws m InitFinalize book sound heard =
-    tried_keeps (init_finalize m) book sound (λ passing. stage_keeps laws.rows book (Settle m) sound (settle m))
+    call_keeps (init_finalize m) book sound (λ all. stage_keeps laws.rows book (Settle m) sound (settle m))
 called_keeps laws m Other book sound heard = sound
-called_keeps laws m call book sound heard = tried_keeps (tried_by m call book) book sound (λ passing. sound)
+called_keeps laws m call book sound heard = call_keeps (called m call book) book sound (λ all. sound)
 
 -- ---- events
 
-heard_keeps : KeepLaws → (message : Message) (book : State) (m : ℕ) (awake : Bool) → IsSound book → m < length (in_force book).masters → awake ≡ is_heard m book → IsSound (after_stages (stages_of (if awake then Some (called m (call_of message) book) else None)) book)
-heard_keeps laws message book m true sound there is = called_keeps laws m (call_of message) book sound (record { there = there; awake = (both (not book.now.core.halted) (is_awake (mode_of_master book.fixed book.now.core m)) (sym is)).1 })
-heard_keeps laws message book m false sound there is = sound
+heard_keeps : KeepLaws → (call : Call) (book : State) (m : ℕ) (heard : Bool) → IsSound book → m < length (in_force book).masters → heard ≡ is_heard m book → IsSound (after_stages (message_stages (if heard then Some (called m call book) else None)) book)
+heard_keeps laws call book m true sound there is = called_keeps laws m call book sound (record { there = there; awake = (both (not book.now.core.halted) (is_awake (mode_of_master book.fixed book.now.core m)) (sym is)).1 })
+heard_keeps laws call book m false sound there is = sound
 
-message_keeps : KeepLaws → (message : Message) (book : State) (place : Option ℕ) → IsSound book → ((m : ℕ) → place ≡ Some m → m < length (in_force book).masters) → IsSound (after_stages (stages_of (option_and_then (heard_at message book) place)) book)
-message_keeps laws message book None sound there = sound
-message_keeps laws message book (Some m) sound there =
-    heard_keeps laws message book m (is_heard m book) sound (there m refl) refl
+message_keeps : KeepLaws → (call : Call) (book : State) (place : Option ℕ) → IsSound book → ((m : ℕ) → place ≡ Some m → m < length (in_force book).masters) → IsSound (after_stages (message_stages (option_and_then (heard_at call book) place)) book)
+message_keeps laws call book None sound there = sound
+message_keeps laws call book (Some m) sound there =
+    heard_keeps laws call book m (is_heard m book) sound (there m refl) refl
 
 booted_keeps : RowLaws → (m p address : ℕ) (mode : Mode) (book : State) → IsSound book → IsSound (after_stages (booted m p address mode) book)
 booted_keeps laws m p address Off book sound = stage_keeps laws book (Put_proc m p Active address) sound (put m p Active address)
@@ -283,7 +253,7 @@ halted_keeps false stages book sound after = after
 -- the stages of each step keep the book sound
 stages_keep : KeepLaws → (event : Event) (book : State) → IsSound book → IsSound (after_stages (stages event book) book)
 stages_keep laws (Ipi master message) book sound =
-    message_keeps laws message book (master_place master book) sound
+    message_keeps laws (call_of message) book (master_place master book) sound
     (λ m is. (position-Some (λ (x : MasterRec). x.node == master.0) (in_force book).masters m (record { node = 0; mask = 0; timeout = 0; suspend = 0; wake = 0 }) is).0)
 stages_keep laws (Boot proc address) book sound =
     halted_keeps book.now.core.halted (boot proc address book) book sound (boot_keeps laws.rows (kind_of book.fixed.topology proc) address book sound)
@@ -295,7 +265,7 @@ stages_keep laws (Gic proc) book sound =
     halted_keeps book.now.core.halted (interrupt proc book) book sound (interrupt_keeps laws.rows (kind_of book.fixed.topology proc) book sound)
 stages_keep laws _ book sound = sound
 
--- each step keeps the book sound: what is told after its stages changes nothing but what is pending and the mail
+-- each step keeps the book sound: what is told after its stages changes nothing but what is pending and the notes
 pub effect_sound : RowLaws → ModeLaws → RequestLaws → OrderLaws → (event : Event) (book : State) → IsSound book → IsSound (effect event book)
 effect_sound laws modes requests orders event book sound =
     let after : IsSound (after_stages (stages event book) book) = stages_keep (record { rows = laws; modes = modes; requests = requests; orders = orders }) event book sound in
@@ -306,7 +276,7 @@ effect_sound laws modes requests orders event book sound =
       lines = after.lines;
       armed = after.armed;
       pending = talk_keeps requests book.fixed (talk event book) (after_stages (stages event book) book).now.talk (talk_named event book) after.pending;
-      mail = talk_mails orders book.fixed.topology (length (in_force book).masters) (talk event book) (after_stages (stages event book) book).now.talk after.mail;
+      notes = talk_notes orders book.fixed.topology (length (in_force book).masters) (talk event book) (after_stages (stages event book) book).now.talk after.notes;
     }
 
 -- what holds in every book is kept by each step

@@ -19,7 +19,7 @@ use Rattle.pm_core.specs.Boot.{boot_master}
 use Rattle.pm_core.specs.Members.{mode_of_master, owner_at, owns, is_place}
 use Rattle.pm_core.specs.Pairs.{pairs_of}
 use Rattle.pm_core.specs.Prims.{Prim, At_row, Settle, Put_proc, Shift, applies, changed, proc_put}
-use Rattle.pm_core.specs.Sound.{AreLines, AreMails, AreNamed, ArmsOwn, HasProcs, HasSoundRows, IsSound}
+use Rattle.pm_core.specs.Sound.{AreLines, AreNotes, AreNamed, ArmsOwn, HasProcs, HasSoundRows, IsSound}
 use Rattle.pm_core.specs.Stages.{after_stage, follow_at, follow_from, followed}
 use Rattle.pm_core.specs.State.{Fixed, Now, State, in_force}
 use Rattle.pm_core.proofs.ArmedLaw.{MayArm, change_arms, settle_arms, shift_arms}
@@ -36,10 +36,10 @@ pub record IsWithin (fixed : Fixed) (now : Now) : Type 0 where
   pub lines : AreLines fixed now.core.lines
   pub armed : ArmsOwn (record { fixed = fixed; now = now })
   pub pending : AreNamed fixed now.talk.pending
-  pub mail : AreMails fixed.topology (length fixed.object.masters) now.talk.mail
+  pub notes : AreNotes fixed.topology (length fixed.object.masters) now.talk.notes
 
 pub within : (book : State) → IsSound book → IsWithin book.fixed book.now
-within book sound = record { rows = sound.rows; boot = sound.knows.boot; each = sound.knows.each; procs = sound.procs; lines = sound.lines; armed = sound.armed; pending = sound.pending; mail = sound.mail }
+within book sound = record { rows = sound.rows; boot = sound.knows.boot; each = sound.knows.each; procs = sound.procs; lines = sound.lines; armed = sound.armed; pending = sound.pending; notes = sound.notes }
 
 -- ---- the rows follow
 
@@ -80,7 +80,7 @@ follows_by laws fixed now m to false is there of = record {
     lines = of.lines;
     armed = shift_arms laws fixed m (mode_of m now.core.rows) to now.core.rows.entries of.armed;
     pending = of.pending;
-    mail = of.mail;
+    notes = of.notes;
   };
   knows = own_mode now.core.rows.known m to (omega (arith, there, of.each));
 }
@@ -112,7 +112,7 @@ knows_more fixed now next m k is before here procs below =
 -- all masters from place m on follow
 follow_keeps : RowLaws → (fixed : Fixed) (m : ℕ) (masters : List MasterRec) (now : Now) → m + length masters ≡ length fixed.object.masters → IsWithin fixed now → KnowsBefore m fixed now → IsSound (record { fixed = fixed; now = applies fixed (follow_from fixed now.core m masters) now })
 follow_keeps laws fixed m [] now count of before =
-    record { rows = of.rows; knows = record { boot = of.boot; each = of.each; right = λ k there. before k (omega (arith, count, there)) }; procs = of.procs; lines = of.lines; armed = of.armed; pending = of.pending; mail = of.mail }
+    record { rows = of.rows; knows = record { boot = of.boot; each = of.each; right = λ k there. before k (omega (arith, count, there)) }; procs = of.procs; lines = of.lines; armed = of.armed; pending = of.pending; notes = of.notes }
 follow_keeps laws fixed m (x ∷ xs) now count of before =
     let first = follow_at fixed now.core m in
     let next : Now = applies fixed first now in
@@ -166,7 +166,7 @@ put_keeps fixed now m p mode address true is of = record {
   lines = of.lines;
   armed = of.armed;
   pending = of.pending;
-  mail = of.mail;
+  notes = of.notes;
 }
 
 pub change_within : RowLaws → (book : State) (prim : Prim) → IsSound book → Fits book prim → IsWithin book.fixed (changed (prim ∷ []) book).now
@@ -178,7 +178,7 @@ change_within laws book _ sound (row m s by entry found fit may) = record {
   procs = record { each = sound.procs.each; nobodys = sound.procs.nobodys };
   lines = sound.lines;
   pending = sound.pending;
-  mail = sound.mail;
+  notes = sound.notes;
 }
 change_within laws book _ sound (settle m) = record {
   armed = settle_arms book.fixed m book.now.core.rows.entries sound.armed;
@@ -188,7 +188,7 @@ change_within laws book _ sound (settle m) = record {
   procs = record { each = sound.procs.each; nobodys = sound.procs.nobodys };
   lines = sound.lines;
   pending = sound.pending;
-  mail = sound.mail;
+  notes = sound.notes;
 }
 change_within laws book _ sound (put m p mode address) =
     put_keeps book.fixed book.now m p mode address (owns book.fixed.object book.fixed.topology m p) refl (within book sound)

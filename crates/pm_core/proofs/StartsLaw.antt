@@ -25,7 +25,7 @@ use Rattle.pm_core.specs.declared.caches.UnitKind.{UnitKind}
 use Rattle.pm_core.specs.declared.caches.UnitKind.TheVariants.{Entry, Reset}
 use Rattle.pm_core.specs.declared.outbox.Start.{Start}
 use Rattle.pm_core.specs.Caches.{kind_of_unit, start_if, start_in, started_at, starts_by}
-use Rattle.pm_core.specs.Along.{down_noted}
+use Rattle.pm_core.specs.Along.{down_logged}
 use Rattle.pm_core.specs.Starts.{start_of, start_by, starts_among}
 use Rattle.pm_core.specs.State.{State}
 
@@ -84,7 +84,7 @@ few_by down (Node node) proc = few_if (down && same_mode proc.mode Active) (reco
 few_by down (Line line) proc = omega arith
 
 few_in : (downs : List Bool) (procs : List Processor) (kind : Kind) (e : Unit × ℕ) → length (start_in downs procs kind e) ≤ cond (is_proc kind) 1 0
-few_in downs procs (Proc p) e = few_by (down_noted p downs) e.0 (proc_at p procs)
+few_in downs procs (Proc p) e = few_by (down_logged p downs) e.0 (proc_at p procs)
 few_in downs procs (Slave s) e = omega arith
 few_in downs procs (Power w) e = omega arith
 few_in downs procs Unknown e = omega arith
@@ -203,7 +203,7 @@ starts_few units_hold kinds_hold t downs procs kinds es are =
 
 -- what is noted of each processor of the chip is whether it was down
 abbrev pub TellsDown : List Bool → (ℕ → Bool) → State → Type 0
-TellsDown downs down after = (node : NodeId) (p : ℕ) → kind_of after.fixed.topology node ≡ Proc p → down_noted p downs ≡ down p
+TellsDown downs down after = (node : NodeId) (p : ℕ) → kind_of after.fixed.topology node ≡ Proc p → down_logged p downs ≡ down p
 
 start_is : (downs : List Bool) (value : ℕ) (down : ℕ → Bool) (after : State) (node : NodeId) (kind : Kind) → kind_of after.fixed.topology node ≡ kind → TellsDown downs down after → start_in downs after.now.core.procs kind (Node node, value) ≡ start_by down after node kind
 start_is downs value down after node (Proc p) is tells =

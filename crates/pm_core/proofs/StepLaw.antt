@@ -23,19 +23,15 @@ use Rattle.pm_core.specs.Caches.{kind_of_unit, moved_by, starts_by, value_by, va
 use Rattle.pm_core.specs.Events.{boot, boot_at, boot_by, booted, wait, wait_at, wait_by, waits, interrupt, interrupt_at, interrupt_by, raised, raised_at}
 use Rattle.pm_core.specs.Members.{owner_at}
 use Rattle.pm_core.specs.Along.{Trail, IsTrail, trail_at_load}
-use Rattle.pm_core.specs.Outcome.{Deed, Check, judged, outcome_of}
+use Rattle.pm_core.specs.Checks.{Cause, Fits, Stands, first_failing}
 use Rattle.pm_core.specs.Prims.{Prim}
 use Rattle.pm_core.specs.Stages.{after_stages}
 use Rattle.pm_core.specs.Starts.{starts, was_down}
 use Rattle.pm_core.specs.State.{State}
-use Rattle.pm_core.specs.declared.step.Heard.TheVariants.{Nothing}
-use Rattle.pm_core.specs.Step.{called, heard_of, is_ipi, is_once, stages, path, effect, tried_by}
+use Rattle.pm_core.specs.Step.{called, is_ipi, is_once, stages, path, effect, served}
 use Rattle.pm_core.specs.Units.{units, moved}
-use Rattle.pm_core.specs.declared.views.ProcView.{ProcView}
-use Rattle.pm_core.specs.declared.views.RowView.{RowView}
-use Rattle.pm_core.specs.Views.{proc_view, row_view}
-use Rattle.pm_core.specs.calls.SetWakeupSource.{set_wakeup_source}
 use Rattle.pm_core.specs.Values.{value, value_at}
+use Rattle.pm_core.specs.Verdict.{stages_by, stages_of}
 use Rattle.pm_core.proofs.CachesLaw.{moves_are}
 use Rattle.pm_core.proofs.LoadLaw.{get_or-replicate_any}
 use Rattle.pm_core.proofs.AlongLaw.{HasOneAtMost}
@@ -43,35 +39,34 @@ use Rattle.pm_core.proofs.StartsLaw.{TellsDown, starts_are}
 
 -- ---- one stage at most
 
-judged_once : (checks : List Check) (deed : Deed) → HasOneAtMost deed.stages → HasOneAtMost (judged checks deed).stages
-judged_once [] deed once = once
-judged_once (None ∷ checks) deed once = judged_once checks deed once
-judged_once (Some response ∷ checks) deed once = tt
+by_once : (cause : Cause) (stages : List (List Prim)) → HasOneAtMost stages → HasOneAtMost (stages_by cause stages)
+by_once (Stands Fits) stages once = once
+by_once _ stages once = tt
 
-deed_once : (m : ℕ) (call : Call) (book : State) → is_once call ≡ true → HasOneAtMost (tried_by m call book).deed.stages
-deed_once m GetApiVersion book is = tt
-deed_once m (GetNodeStatus node) book is = tt
-deed_once m (RegisterNotifier node event wake enable) book is = tt
-deed_once m (GetOpCharacteristic node characteristic) book is = tt
-deed_once m (RequestSuspend node ack latency state) book is = tt
-deed_once m (SelfSuspend node address) book is = refl
-deed_once m (ForcePowerdown node ack) book is = cc
-deed_once m (AbortSuspend node reason) book is = refl
-deed_once m (RequestWakeup node address ack) book is = refl
-deed_once m (SetWakeupSource target source enable) book is = refl
-deed_once m (SystemShutdown shutdown_type subtype) book is = cc
-deed_once m (RequestNode node caps ack) book is = refl
-deed_once m (ReleaseNode node) book is = refl
-deed_once m (SetRequirement node caps ack) book is = refl
-deed_once m (SetMaxLatency node latency) book is = refl
-deed_once m (ResetAssert line action) book is = refl
-deed_once m (ResetGetStatus line) book is = tt
-deed_once m InitFinalize book is = refl
-deed_once m Unknown book is = refl
+each_once : (m : ℕ) (call : Call) (book : State) → is_once call ≡ true → HasOneAtMost (called m call book).stages
+each_once m GetApiVersion book is = tt
+each_once m (GetNodeStatus node) book is = tt
+each_once m (RegisterNotifier node event wake enable) book is = tt
+each_once m (GetOpCharacteristic node characteristic) book is = tt
+each_once m (RequestSuspend node ack latency state) book is = tt
+each_once m (SelfSuspend node address) book is = refl
+each_once m (ForcePowerdown node ack) book is = cc
+each_once m (AbortSuspend node reason) book is = refl
+each_once m (RequestWakeup node address ack) book is = refl
+each_once m (SetWakeupSource target source enable) book is = refl
+each_once m (SystemShutdown shutdown_type subtype) book is = cc
+each_once m (RequestNode node caps ack) book is = refl
+each_once m (ReleaseNode node) book is = refl
+each_once m (SetRequirement node caps ack) book is = refl
+each_once m (SetMaxLatency node latency) book is = refl
+each_once m (ResetAssert line action) book is = refl
+each_once m (ResetGetStatus line) book is = tt
+each_once m InitFinalize book is = refl
+each_once m Unknown book is = tt
 
 -- a call that takes nothing down
-pub called_once : (m : ℕ) (call : Call) (book : State) → is_once call ≡ true → HasOneAtMost (called m call book).stages
-called_once m call book is = judged_once (tried_by m call book).checks (tried_by m call book).deed (deed_once m call book is)
+pub called_once : (m : ℕ) (call : Call) (book : State) → is_once call ≡ true → HasOneAtMost (stages_of (called m call book))
+called_once m call book is = by_once (first_failing (called m call book).checks) (called m call book).stages (each_once m call book is)
 
 -- a call that is neither a force nor a shutdown
 pub once_of : (call : Call) → ((node : NodeId) (ack : ℕ) → call ≡ ForcePowerdown node ack → ⊥) → ((shutdown_type subtype : ℕ) → call ≡ SystemShutdown shutdown_type subtype → ⊥) → is_once call ≡ true
@@ -84,22 +79,14 @@ pub no_message : (event : Event) → ((master : NodeId) (message : Message) → 
 no_message (Ipi master message) isnt = absurd (isnt master message refl)
 no_message _ isnt = refl
 
-pub none_heard : (event : Event) (book : State) → is_ipi event ≡ false → heard_of event book ≡ Nothing
-none_heard (Ipi master message) book is = cc
-none_heard _ book is = refl
+pub none_served : (event : Event) (book : State) → is_ipi event ≡ false → served event book ≡ None
+none_served (Ipi master message) book is = cc
+none_served _ book is = refl
 
 -- a place that is none
 pub nowhere : (place : Option ℕ) → ((k : ℕ) → place ≡ Some k → ⊥) → place ≡ None
 nowhere None isnt = refl
 nowhere (Some k) isnt = absurd (isnt k refl)
-
--- a wake-up source is armed, over what is read of the book
-pub armed_by : (book new : State) (m : ℕ) (target source : NodeId) (enable : ℕ) (proc : ProcView) (row : RowView) → proc ≡ proc_view m target book → row ≡ row_view m source book → new ≡ after_stages (outcome_of (set_wakeup_source target enable proc row)).stages book
-    → new ≡ after_stages (called m (SetWakeupSource target source enable) book).stages book
-armed_by book new m target source enable proc row proc_is row_is is =
-    is
-    ∙ (ap (λ v. after_stages (outcome_of (set_wakeup_source target enable v row)).stages book) proc_is
-    ∙ ap (λ v. after_stages (outcome_of (set_wakeup_source target enable (proc_view m target book) v)).stages book) row_is)
 
 booted_once : (m p address : ℕ) (mode : Mode) → HasOneAtMost (booted m p address mode)
 booted_once m p address Off = refl

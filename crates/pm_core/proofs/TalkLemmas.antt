@@ -50,9 +50,8 @@ then_told first later book mid new mid_is new_is =
     new_is ∙ (ap (talked later) mid_is ∙ sym (talked_append first later book))
 
 -- six lists of changes, one after another
-pub opens : (r f n a l e : List Talk) (book b0 b1 b2 b3 b4 b5 : State) → b0 ≡ talked r book → b1 ≡ talked f b0 → b2 ≡ talked n b1 → b3 ≡ talked a b2 → b4 ≡ talked l b3 → b5 ≡ talked e b4
-    → b5 ≡ talked (r ++ (f ++ (n ++ (a ++ (l ++ e))))) book
-opens r f n a l e book b0 b1 b2 b3 b4 b5 is0 is1 is2 is3 is4 is5 =
-    then_told r (f ++ (n ++ (a ++ (l ++ e)))) book b0 b5 is0
-    (then_told f (n ++ (a ++ (l ++ e))) b0 b1 b5 is1
-    (then_told n (a ++ (l ++ e)) b1 b2 b5 is2 (then_told a (l ++ e) b2 b3 b5 is3 (then_told l e b3 b4 b5 is4 is5))))
+pub opens : (r f a l e : List Talk) (book b0 b1 b2 b3 b4 : State) → b0 ≡ talked r book → b1 ≡ talked f b0 → b2 ≡ talked a b1 → b3 ≡ talked l b2 → b4 ≡ talked e b3
+    → b4 ≡ talked (r ++ (f ++ (a ++ (l ++ e)))) book
+opens r f a l e book b0 b1 b2 b3 b4 is0 is1 is2 is3 is4 =
+    then_told r (f ++ (a ++ (l ++ e))) book b0 b4 is0
+    (then_told f (a ++ (l ++ e)) b0 b1 b4 is1 (then_told a (l ++ e) b1 b2 b4 is2 (then_told l e b2 b3 b4 is3 is4)))

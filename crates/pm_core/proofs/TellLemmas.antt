@@ -12,23 +12,23 @@ use Rattle.pm_ipi.specs.declared.calls.AckKind.{AckKind}
 use Rattle.pm_ipi.specs.declared.calls.AckKind.TheVariants.{No, Blocking, NonBlocking}
 use Rattle.pm_notify.specs.declared.notes.Waiting.{Waiting}
 use Rattle.pm_notify.specs.Laws.{TakeLaws}
-use Rattle.pm_notify.specs.Mailbox.{Mail, waiting_in}
-use Rattle.pm_notify.specs.Notify.{IsInOrder, dropped, mail_of, taken_out, waiting_for}
+use Rattle.pm_notify.specs.MasterNotes.{MasterNotes, waiting_in}
+use Rattle.pm_notify.specs.Notify.{IsInOrder, dropped, notes_for, taken_out, waiting_for}
 use Rattle.pm_object.specs.declared.object.MasterRec.{MasterRec}
 use Rattle.pm_procs.specs.Modes.{is_awake}
 use Rattle.pm_core.specs.declared.caches.Caches.{Caches}
 use Rattle.pm_core.specs.declared.ended.Ended.{Ended}
-use Rattle.pm_core.specs.declared.judgement.Asked.{Asked}
+use Rattle.pm_core.specs.declared.verdict.Asked.{Asked}
 use Rattle.pm_core.specs.declared.outbox.Callback.{Callback}
-use Rattle.pm_core.specs.declared.step.Heard.{Heard}
-use Rattle.pm_core.specs.declared.step.Heard.TheVariants.{Nothing, Dropped, Served}
+use Rattle.pm_core.specs.declared.step.Served.{Served}
 use Rattle.pm_core.specs.Caches.{AreKept}
-use Rattle.pm_core.specs.Callbacks.{News, acknowledged_by, acknowledged_to, asks_to, callback_of, callbacks_from, called_back, init_suspend, is_wanted, mailed, mails_from, noticed_by, notes_to, told_at_wake, told_if, told_to, wakes}
+use Rattle.pm_core.specs.Callbacks.{News, acknowledged_by, acknowledged_to, asks_to, callback_of, callbacks_from, called_back, init_suspend, is_wanted, note_changes_at, note_changes_from, noticed_by, notes_to, told_at_wake, told_if, told_to, wakes}
 use Rattle.pm_core.specs.Members.{mode_of_master}
 use Rattle.pm_core.specs.State.{CoreHalf, Fixed, State}
-use Rattle.pm_core.specs.Heard.{kept_at, kept_of, own_note}
+use Rattle.pm_core.specs.Served.{kept_at, kept_of, own_note}
 use Rattle.pm_core.specs.Talk.{Talk, take_of, talked}
 use Rattle.pm_core.specs.Values.{master_place}
+use Rattle.pm_core.specs.Verdict.{response_of}
 use Rattle.pm_core.specs.Views.{master_node}
 use Rattle.pm_core.proofs.TalkLemmas.{talked_append}
 
@@ -38,28 +38,28 @@ none_first : {X : Type 0} (xs : List X) → slice_get xs 0 ≡ None → xs ≡ [
 none_first [] is = refl
 none_first (x ∷ xs) is = cc
 
-pub none_waits : (k : ℕ) (mail : List Mail) → slice_get (waiting_in (mail_of k mail)) 0 ≡ None → waiting_in (mail_of k mail) ≡ []
-none_waits k mail is = none_first (waiting_in (mail_of k mail)) is
+pub none_waits : (k : ℕ) (notes : List MasterNotes) → slice_get (waiting_in (notes_for k notes)) 0 ≡ None → waiting_in (notes_for k notes) ≡ []
+none_waits k notes is = none_first (waiting_in (notes_for k notes)) is
 
-pub take_first : TakeLaws → (k : ℕ) (mail : List Mail) (w : Waiting) → IsInOrder k mail → slice_get (waiting_in (mail_of k mail)) 0 ≡ Some w
-    → waiting_in (mail_of k mail) ≡ w ∷ waiting_in (mail_of k (dropped k w.node w.note mail))
-take_first laws k mail w order first =
-    let rest : waiting_for k (dropped k w.node w.note mail) ≡ drop 1 (waiting_for k mail) =
-    ap (λ o. waiting_for k (taken_out k o mail)) (sym first) ∙ laws.next k mail order
+pub take_first : TakeLaws → (k : ℕ) (notes : List MasterNotes) (w : Waiting) → IsInOrder k notes → slice_get (waiting_in (notes_for k notes)) 0 ≡ Some w
+    → waiting_in (notes_for k notes) ≡ w ∷ waiting_in (notes_for k (dropped k w.node w.note notes))
+take_first laws k notes w order first =
+    let rest : waiting_for k (dropped k w.node w.note notes) ≡ drop 1 (waiting_for k notes) =
+    ap (λ o. waiting_for k (taken_out k o notes)) (sym first) ∙ laws.next k notes order
     in
-    drop_found (waiting_in (mail_of k mail)) 0 w first ∙ ap (λ ws. w ∷ ws) (sym rest)
+    drop_found (waiting_in (notes_for k notes)) 0 w first ∙ ap (λ ws. w ∷ ws) (sym rest)
 
 -- one note is taken out, and those that are left
-pub take_step : TakeLaws → (k : ℕ) (book next : State) (w : Waiting) → IsInOrder k book.now.talk.mail → slice_get (waiting_in (mail_of k book.now.talk.mail)) 0 ≡ Some w → next ≡ talked (take_of k w ∷ []) book
-    → talked (map (take_of k) (waiting_in (mail_of k next.now.talk.mail))) next ≡ talked (map (take_of k) (waiting_in (mail_of k book.now.talk.mail))) book
+pub take_step : TakeLaws → (k : ℕ) (book next : State) (w : Waiting) → IsInOrder k book.now.talk.notes → slice_get (waiting_in (notes_for k book.now.talk.notes)) 0 ≡ Some w → next ≡ talked (take_of k w ∷ []) book
+    → talked (map (take_of k) (waiting_in (notes_for k next.now.talk.notes))) next ≡ talked (map (take_of k) (waiting_in (notes_for k book.now.talk.notes))) book
 take_step laws k book next w order first is =
-    ap (λ (b : State). talked (map (take_of k) (waiting_in (mail_of k b.now.talk.mail))) b) is
-    ∙ ap (λ ws. talked (map (take_of k) ws) book) (sym (take_first laws k book.now.talk.mail w order first))
+    ap (λ (b : State). talked (map (take_of k) (waiting_in (notes_for k b.now.talk.notes))) b) is
+    ∙ ap (λ ws. talked (map (take_of k) ws) book) (sym (take_first laws k book.now.talk.notes w order first))
 
-pub left_step : TakeLaws → (k : ℕ) (book next : State) (w : Waiting) → IsInOrder k book.now.talk.mail → slice_get (waiting_in (mail_of k book.now.talk.mail)) 0 ≡ Some w → next ≡ talked (take_of k w ∷ []) book
-    → waiting_in (mail_of k book.now.talk.mail) ≡ w ∷ waiting_in (mail_of k next.now.talk.mail)
+pub left_step : TakeLaws → (k : ℕ) (book next : State) (w : Waiting) → IsInOrder k book.now.talk.notes → slice_get (waiting_in (notes_for k book.now.talk.notes)) 0 ≡ Some w → next ≡ talked (take_of k w ∷ []) book
+    → waiting_in (notes_for k book.now.talk.notes) ≡ w ∷ waiting_in (notes_for k next.now.talk.notes)
 left_step laws k book next w order first is =
-    take_first laws k book.now.talk.mail w order first ∙ ap (λ (b : State). w ∷ waiting_in (mail_of k b.now.talk.mail)) (sym is)
+    take_first laws k book.now.talk.notes w order first ∙ ap (λ (b : State). w ∷ waiting_in (notes_for k b.now.talk.notes)) (sym is)
 
 -- ---- what is kept of the values
 
@@ -85,37 +85,37 @@ mode_same a b k fixed core =
     ap (λ (f : Fixed). mode_of_master f a.now.core k) fixed ∙ ap (λ (c : CoreHalf). mode_of_master b.fixed c k) core
 
 -- and so does what it is told
-pub called_same : (news : News) (k : ℕ) (master : NodeId) (was is : Mode) (mail : Mail) (a b : State) → a.fixed ≡ b.fixed → a.now.core ≡ b.now.core → called_back news k master was is mail a ≡ called_back news k master was is mail b
-called_same news k master was is mail a b fixed core =
+pub called_same : (news : News) (k : ℕ) (master : NodeId) (was is : Mode) (notes : MasterNotes) (a b : State) → a.fixed ≡ b.fixed → a.now.core ≡ b.now.core → called_back news k master was is notes a ≡ called_back news k master was is notes b
+called_same news k master was is notes a b fixed core =
     let with : Fixed → CoreHalf → State = λ f c. record { fixed = f; now = record { core = c; talk = b.now.talk } } in
-    ap (λ (f : Fixed). called_back news k master was is mail (with f a.now.core)) fixed
-    ∙ ap (λ (c : CoreHalf). called_back news k master was is mail (with b.fixed c)) core
+    ap (λ (f : Fixed). called_back news k master was is notes (with f a.now.core)) fixed
+    ∙ ap (λ (c : CoreHalf). called_back news k master was is notes (with b.fixed c)) core
 
 -- ---- master by master
 
-pub mails_step : (news : News) (was : ℕ → Mode) (mail : List Mail) (after book next : State) (k : ℕ) (x : MasterRec) (masters : List MasterRec) → slice_get masters k ≡ Some x → next ≡ talked (mailed news k (was k) (mode_of_master after.fixed after.now.core k) (mail_of k mail)) book
-    → talked (mails_from news was mail after (k + 1) (drop (k + 1) masters)) next ≡ talked (mails_from news was mail after k (drop k masters)) book
-mails_step news was mail after book next k x masters at is =
-    let here = mailed news k (was k) (mode_of_master after.fixed after.now.core k) (mail_of k mail) in
-    let rest = mails_from news was mail after (k + 1) (drop (k + 1) masters) in
+pub note_changes_step : (news : News) (was : ℕ → Mode) (notes : List MasterNotes) (after book next : State) (k : ℕ) (x : MasterRec) (masters : List MasterRec) → slice_get masters k ≡ Some x → next ≡ talked (note_changes_at news k (was k) (mode_of_master after.fixed after.now.core k) (notes_for k notes)) book
+    → talked (note_changes_from news was notes after (k + 1) (drop (k + 1) masters)) next ≡ talked (note_changes_from news was notes after k (drop k masters)) book
+note_changes_step news was notes after book next k x masters at is =
+    let here = note_changes_at news k (was k) (mode_of_master after.fixed after.now.core k) (notes_for k notes) in
+    let rest = note_changes_from news was notes after (k + 1) (drop (k + 1) masters) in
     ap (talked rest) is
     ∙ (sym (talked_append here rest book)
-    ∙ ap (λ xs. talked (mails_from news was mail after k xs) book) (sym (drop_found masters k x at)))
+    ∙ ap (λ xs. talked (note_changes_from news was notes after k xs) book) (sym (drop_found masters k x at)))
 
 pub node_found : (masters : List MasterRec) (k : ℕ) (x : MasterRec) → slice_get masters k ≡ Some x → master_node masters k ≡ record { 0 = x.node }
 node_found masters k x at = ap (λ o. option_map_or (λ (master : MasterRec). record { 0 = master.node }) o (record { 0 = 0 })) at
 
-pub calls_step : (news : News) (was : ℕ → Mode) (mail : List Mail) (after : State) (k : ℕ) (x : MasterRec) (masters : List MasterRec) (items new whole : List Callback) → slice_get masters k ≡ Some x
-    → new ≡ items ++ called_back news k (master_node masters k) (was k) (mode_of_master after.fixed after.now.core k) (mail_of k mail) after
-    → items ++ callbacks_from news was mail after k (drop k masters) ≡ whole
-    → new ++ callbacks_from news was mail after (k + 1) (drop (k + 1) masters) ≡ whole
-calls_step news was mail after k x masters items new whole at is before =
+pub calls_step : (news : News) (was : ℕ → Mode) (notes : List MasterNotes) (after : State) (k : ℕ) (x : MasterRec) (masters : List MasterRec) (items new whole : List Callback) → slice_get masters k ≡ Some x
+    → new ≡ items ++ called_back news k (master_node masters k) (was k) (mode_of_master after.fixed after.now.core k) (notes_for k notes) after
+    → items ++ callbacks_from news was notes after k (drop k masters) ≡ whole
+    → new ++ callbacks_from news was notes after (k + 1) (drop (k + 1) masters) ≡ whole
+calls_step news was notes after k x masters items new whole at is before =
     let is_mode = mode_of_master after.fixed after.now.core k in
-    let here = called_back news k (record { 0 = x.node }) (was k) is_mode (mail_of k mail) after in
-    let rest = callbacks_from news was mail after (k + 1) (drop (k + 1) masters) in
-    ap (λ xs. xs ++ rest) (is ∙ ap (λ n. items ++ called_back news k n (was k) is_mode (mail_of k mail) after) (node_found masters k x at))
+    let here = called_back news k (record { 0 = x.node }) (was k) is_mode (notes_for k notes) after in
+    let rest = callbacks_from news was notes after (k + 1) (drop (k + 1) masters) in
+    ap (λ xs. xs ++ rest) (is ∙ ap (λ n. items ++ called_back news k n (was k) is_mode (notes_for k notes) after) (node_found masters k x at))
     ∙ (append_assoc items here rest
-    ∙ (ap (λ xs. items ++ callbacks_from news was mail after k xs) (sym (drop_found masters k x at)) ∙ before))
+    ∙ (ap (λ xs. items ++ callbacks_from news was notes after k xs) (sym (drop_found masters k x at)) ∙ before))
 
 -- ---- how much one master is told at most
 
@@ -138,44 +138,44 @@ few_flat parts each (x ∷ xs) =
     let later : length (flat_map parts xs) ≤ length xs = few_flat parts each xs in
     omega (arith, later, each x, length-append (parts x) (flat_map parts xs))
 
-few_notes : (news : News) (k : ℕ) (mail : Mail) → length (notes_to news k mail) ≤ length news.ended + length news.notices
-few_notes news k mail =
+few_notes : (news : News) (k : ℕ) (notes : MasterNotes) → length (notes_to news k notes) ≤ length news.ended + length news.notices
+few_notes news k notes =
     let acks = few_flat (acknowledged_to k) (λ e. few_to (e.request.by == k) e) news.ended in
-    let notices = few_flat (noticed_by mail) (λ n. few_if (is_wanted mail n n.note) n) news.notices in
-    omega (arith, acks, notices, length-append (flat_map (acknowledged_to k) news.ended) (flat_map (noticed_by mail) news.notices))
+    let notices = few_flat (noticed_by notes) (λ n. few_if (is_wanted notes n n.note) n) news.notices in
+    omega (arith, acks, notices, length-append (flat_map (acknowledged_to k) news.ended) (flat_map (noticed_by notes) news.notices))
 
 few_asks : (k : ℕ) (master : NodeId) (asked : Option Asked) → length (asks_to k master asked) ≤ 1
 few_asks k master None = omega arith
 few_asks k master (Some asked) = few_if (asked.target == k) (init_suspend master asked)
 
-pub few_if_woken : (woken : Bool) (mail : Mail) → length (told_if woken mail) ≤ length (waiting_in mail)
-few_if_woken true mail = omega arith
-few_if_woken false mail = omega arith
+pub few_if_woken : (woken : Bool) (notes : MasterNotes) → length (told_if woken notes) ≤ length (waiting_in notes)
+few_if_woken true notes = omega arith
+few_if_woken false notes = omega arith
 
-few_told : (news : News) (k : ℕ) (master : NodeId) (was is : Mode) (mail : Mail) (after : State) → length (told_to news k master was is mail after) ≤ length (waiting_in mail) + (1 + (length news.ended + length news.notices))
-few_told news k master was is mail after =
-    let late = map (callback_of master after) (told_at_wake was is mail) in
+few_told : (news : News) (k : ℕ) (master : NodeId) (was is : Mode) (notes : MasterNotes) (after : State) → length (told_to news k master was is notes after) ≤ length (waiting_in notes) + (1 + (length news.ended + length news.notices))
+few_told news k master was is notes after =
+    let late = map (callback_of master after) (told_at_wake was is notes) in
     let asked = asks_to k master news.asked in
-    let notes = map (callback_of master after) (notes_to news k mail) in
+    let due = map (callback_of master after) (notes_to news k notes) in
     omega (
       arith,
-      length-append late (asked ++ notes),
-      length-append asked notes,
-      length-map (told_at_wake was is mail) (callback_of master after),
-      length-map (notes_to news k mail) (callback_of master after),
-      few_if_woken (wakes was is) mail,
+      length-append late (asked ++ due),
+      length-append asked due,
+      length-map (told_at_wake was is notes) (callback_of master after),
+      length-map (notes_to news k notes) (callback_of master after),
+      few_if_woken (wakes was is) notes,
       few_asks k master news.asked,
-      few_notes news k mail,
+      few_notes news k notes,
     )
 
 few_called_if : (awake : Bool) (told : List Callback) → length (if awake then told else []) ≤ length told
 few_called_if true told = omega arith
 few_called_if false told = omega arith
 
-pub few_called : (news : News) (k : ℕ) (master : NodeId) (was is : Mode) (mail : Mail) (after : State) → length (called_back news k master was is mail after) ≤ length (waiting_in mail) + (1 + (length news.ended + length news.notices))
-few_called news k master was is mail after =
-    let some = few_called_if (is_awake is) (told_to news k master was is mail after) in
-    let few = few_told news k master was is mail after in
+pub few_called : (news : News) (k : ℕ) (master : NodeId) (was is : Mode) (notes : MasterNotes) (after : State) → length (called_back news k master was is notes after) ≤ length (waiting_in notes) + (1 + (length news.ended + length news.notices))
+few_called news k master was is notes after =
+    let some = few_called_if (is_awake is) (told_to news k master was is notes after) in
+    let few = few_told news k master was is notes after in
     omega (arith, some, few)
 
 -- one master's part, and those of the masters before it, are no more than all
@@ -184,34 +184,33 @@ part_fits k zero c below = omega (arith, below)
 part_fits zero (suc n) c below = omega arith
 part_fits (suc k) (suc n) c below = let rest : k * c + c ≤ n * c = part_fits k n c (omega (arith, below)) in omega (arith, rest)
 
--- ---- what is told before doesn't change what is told after it but by the mail
+-- ---- what is told before doesn't change what is told after it but by the notes
 
-pub mails_told : (news : News) (was : ℕ → Mode) (mail : List Mail) (changes : List Talk) (book : State) (k : ℕ) (masters : List MasterRec) → mails_from news was mail (talked changes book) k masters ≡ mails_from news was mail book k masters
-mails_told news was mail changes book k [] = refl
-mails_told news was mail changes book k (x ∷ masters) =
-    ap (λ later. mailed news k (was k) (mode_of_master book.fixed book.now.core k) (mail_of k mail) ++ later) (mails_told news was mail changes book (k + 1) masters)
+pub note_changes_told : (news : News) (was : ℕ → Mode) (notes : List MasterNotes) (changes : List Talk) (book : State) (k : ℕ) (masters : List MasterRec) → note_changes_from news was notes (talked changes book) k masters ≡ note_changes_from news was notes book k masters
+note_changes_told news was notes changes book k [] = refl
+note_changes_told news was notes changes book k (x ∷ masters) =
+    ap (λ later. note_changes_at news k (was k) (mode_of_master book.fixed book.now.core k) (notes_for k notes) ++ later) (note_changes_told news was notes changes book (k + 1) masters)
 
-pub callbacks_same : (master : NodeId) (changes : List Talk) (book : State) (notes : List Waiting) → map (callback_of master (talked changes book)) notes ≡ map (callback_of master book) notes
+pub callbacks_same : (master : NodeId) (changes : List Talk) (book : State) (due : List Waiting) → map (callback_of master (talked changes book)) due ≡ map (callback_of master book) due
 callbacks_same master changes book [] = refl
-callbacks_same master changes book (w ∷ notes) = ap (λ later. callback_of master book w ∷ later) (callbacks_same master changes book notes)
+callbacks_same master changes book (w ∷ due) = ap (λ later. callback_of master book w ∷ later) (callbacks_same master changes book due)
 
-pub calls_told : (news : News) (was : ℕ → Mode) (mail : List Mail) (changes : List Talk) (book : State) (k : ℕ) (masters : List MasterRec) → callbacks_from news was mail (talked changes book) k masters ≡ callbacks_from news was mail book k masters
-calls_told news was mail changes book k [] = refl
-calls_told news was mail changes book k (x ∷ masters) =
+pub calls_told : (news : News) (was : ℕ → Mode) (notes : List MasterNotes) (changes : List Talk) (book : State) (k : ℕ) (masters : List MasterRec) → callbacks_from news was notes (talked changes book) k masters ≡ callbacks_from news was notes book k masters
+calls_told news was notes changes book k [] = refl
+calls_told news was notes changes book k (x ∷ masters) =
     let node : NodeId = record { 0 = x.node } in
     let is = mode_of_master book.fixed book.now.core k in
-    ap (λ here. here ++ callbacks_from news was mail (talked changes book) (k + 1) masters) (called_same news k node (was k) is (mail_of k mail) (talked changes book) book refl refl)
-    ∙ ap (λ later. called_back news k node (was k) is (mail_of k mail) book ++ later) (calls_told news was mail changes book (k + 1) masters)
+    ap (λ here. here ++ callbacks_from news was notes (talked changes book) (k + 1) masters) (called_same news k node (was k) is (notes_for k notes) (talked changes book) book refl refl)
+    ∙ ap (λ later. called_back news k node (was k) is (notes_for k notes) book ++ later) (calls_told news was notes changes book (k + 1) masters)
 
-kept_at_told : (place : Option ℕ) (notes : List Waiting) (changes : List Talk) (book : State) → kept_at place notes (talked changes book) ≡ kept_at place notes book
-kept_at_told None notes changes book = refl
-kept_at_told (Some m) notes changes book = refl
+kept_at_told : (place : Option ℕ) (due : List Waiting) (changes : List Talk) (book : State) → kept_at place due (talked changes book) ≡ kept_at place due book
+kept_at_told None due changes book = refl
+kept_at_told (Some m) due changes book = refl
 
-pub kept_told : (heard : Heard) (changes : List Talk) (book : State) → kept_of heard (talked changes book) ≡ kept_of heard book
-kept_told Nothing changes book = refl
-kept_told (Dropped master) changes book = refl
-kept_told (Served master call judgement) changes book =
-    kept_at_told (master_place master book) (own_note judgement.asks (ack_of call) (node_of call) judgement.response.status) changes book
+pub kept_told : (served : Option Served) (changes : List Talk) (book : State) → kept_of served (talked changes book) ≡ kept_of served book
+kept_told None changes book = refl
+kept_told (Some served) changes book =
+    kept_at_told (master_place served.master book) (own_note (response_of served.verdict) (ack_of served.call) (node_of served.call)) changes book
 
 -- a master that is awake wakes where it was asleep
 pub wakes_awake : (woken awake : Bool) → awake ≡ true → (woken && awake) ≡ woken
@@ -219,10 +218,10 @@ wakes_awake true awake is = is
 wakes_awake false awake is = refl
 
 -- the callbacks grow by no more than what waits
-pub length-calls : (woken : Bool) (mail : Mail) (call : Waiting → Callback) (items new : List Callback) → new ≡ items ++ map call (told_if woken mail) → length new ≤ length items + length (waiting_in mail)
-length-calls woken mail call items new is =
-    let few = few_if_woken woken mail in
-    omega (arith, few, ap length is, length-append items (map call (told_if woken mail)), length-map (told_if woken mail) call)
+pub length-calls : (woken : Bool) (notes : MasterNotes) (call : Waiting → Callback) (items new : List Callback) → new ≡ items ++ map call (told_if woken notes) → length new ≤ length items + length (waiting_in notes)
+length-calls woken notes call items new is =
+    let few = few_if_woken woken notes in
+    omega (arith, few, ap length is, length-append items (map call (told_if woken notes)), length-map (told_if woken notes) call)
 
 -- what is put in by three calls
 pub three_put : (before first second third : Bounded Callback) (a b c whole : List Callback) → first ≡ record before { items = before.items ++ a } → second ≡ record first { items = first.items ++ b } → third ≡ record second { items = second.items ++ c } → whole ≡ b ++ c

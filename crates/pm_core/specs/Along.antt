@@ -34,14 +34,14 @@ both_turns first later =
     record { down = first.down || later.down; on = first.on || later.on; off = first.off || later.off }
 
 -- what was noted of the master at a place, and of the processor at a place: one that isn't there is down
-abbrev pub mode_noted : List Mode → ℕ → Mode
-mode_noted modes m = unwrap_or (slice_get modes m) Off
+abbrev pub mode_logged : List Mode → ℕ → Mode
+mode_logged modes m = unwrap_or (slice_get modes m) Off
 
-abbrev pub turns_noted : ℕ → List Turns → Turns
-turns_noted m turns = unwrap_or (slice_get turns m) no_turns
+abbrev pub turns_logged : ℕ → List Turns → Turns
+turns_logged m turns = unwrap_or (slice_get turns m) no_turns
 
-abbrev pub down_noted : ℕ → List Bool → Bool
-down_noted p downs = unwrap_or (slice_get downs p) true
+abbrev pub down_logged : ℕ → List Bool → Bool
+down_logged p downs = unwrap_or (slice_get downs p) true
 
 -- the mode of the master at place m, beside its entry in the object
 abbrev pub mode_beside : State → ℕ → MasterRec → Mode
@@ -54,7 +54,7 @@ modes_of book = placed (mode_beside book) 0 (in_force book).masters
 -- what became of the mode of the master at place m, by what was noted and its mode in this book
 abbrev pub turns_after : List Mode → List Turns → State → ℕ → MasterRec → Turns
 turns_after modes turns book m master =
-    both_turns (turns_noted m turns) (turns_of (mode_noted modes m) (mode_of_master book.fixed book.now.core m ∷ []))
+    both_turns (turns_logged m turns) (turns_of (mode_logged modes m) (mode_of_master book.fixed book.now.core m ∷ []))
 
 -- whether the processor at place p is down in this book
 abbrev pub is_down : State → ℕ → Bool
@@ -65,7 +65,7 @@ down_in book p proc = is_down book p
 
 -- whether it was down at some noted moment, or is so in this book
 abbrev pub down_after : List Bool → State → ℕ → ProcDef → Bool
-down_after downs book p proc = down_noted p downs || is_down book p
+down_after downs book p proc = down_logged p downs || is_down book p
 
 -- the first moment that is noted
 abbrev pub trail_from : State → Trail
@@ -96,8 +96,8 @@ pub record HasPlaces (masters procs : ℕ) (trailed : Trail) : Type 0 where
 
 -- what is noted is what became of the modes along these books, which follow on this one, and which processors were down in them
 pub record IsTrail (before : State) (books : List State) (trailed : Trail) : Type 0 where
-  pub turns : (m : ℕ) → m < length (in_force before).masters → turns_noted m trailed.turns ≡ turns_along before books m
-  pub downs : (p : ℕ) → p < length before.fixed.topology.procs → down_noted p trailed.downs ≡ was_down (before ∷ books) p
+  pub turns : (m : ℕ) → m < length (in_force before).masters → turns_logged m trailed.turns ≡ turns_along before books m
+  pub downs : (p : ℕ) → p < length before.fixed.topology.procs → down_logged p trailed.downs ≡ was_down (before ∷ books) p
 
 -- noting this book completes what is noted along these books, which follow on the first one
 pub record Completes (before : State) (books : List State) (last : State) (along : Trail) : Type 0 where

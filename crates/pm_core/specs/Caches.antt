@@ -22,7 +22,7 @@ use Rattle.pm_core.specs.declared.outbox.Start.{Start}
 use Rattle.pm_notify.specs.declared.notes.Waiting.{Waiting}
 use Rattle.pm_rows.specs.Rows.{Rows}
 use Rattle.pm_core.specs.Notifications.{is_used, notes_about, used_at}
-use Rattle.pm_core.specs.Along.{down_noted}
+use Rattle.pm_core.specs.Along.{down_logged}
 use Rattle.pm_core.specs.State.{Fixed, CoreHalf, State}
 use Rattle.pm_core.specs.Units.{units}
 use Rattle.pm_core.specs.Values.{placed, chosen, need_of, run_of, forest, line_at, value, value_at}
@@ -74,7 +74,7 @@ start_if down (Line line) proc = []
 
 -- the start of an entry's node of this kind, if it is a processor that starts
 abbrev pub start_in : List Bool → List Processor → Kind → Unit × ℕ → List Start
-start_in downs procs (Proc p) e = start_if (down_noted p downs) e.0 (proc_at p procs)
+start_in downs procs (Proc p) e = start_if (down_logged p downs) e.0 (proc_at p procs)
 start_in downs procs (Slave s) e = []
 start_in downs procs (Power w) e = []
 start_in downs procs Unknown e = []

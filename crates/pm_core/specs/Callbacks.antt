@@ -12,13 +12,13 @@ use Rattle.pm_notify.specs.declared.notes.NodeEvent.TheVariants as event
 use Rattle.pm_notify.specs.declared.notes.Note.{Note}
 use Rattle.pm_notify.specs.declared.notes.Note.TheVariants.{Ack, Change, ZeroUsers}
 use Rattle.pm_notify.specs.declared.notes.Waiting.{Waiting}
-use Rattle.pm_notify.specs.Mailbox.{Mail, asks_about, waiting_in}
+use Rattle.pm_notify.specs.MasterNotes.{MasterNotes, asks_about, waiting_in}
 use Rattle.pm_notify.specs.Notes.{event_number}
-use Rattle.pm_notify.specs.Notify.{mail_of}
+use Rattle.pm_notify.specs.Notify.{notes_for}
 use Rattle.pm_procs.specs.Modes.{is_awake, same_mode}
 use Rattle.pm_core.specs.declared.outbox.Callback.{Callback}
 use Rattle.pm_core.specs.declared.outbox.Late.{Late}
-use Rattle.pm_core.specs.declared.judgement.Asked.{Asked}
+use Rattle.pm_core.specs.declared.verdict.Asked.{Asked}
 use Rattle.pm_core.specs.declared.ended.Ended.{Ended}
 use Rattle.pm_core.specs.Members.{mode_of_master}
 use Rattle.pm_core.specs.State.{State, in_force}
@@ -57,19 +57,19 @@ acknowledged_by NonBlocking ended = record { node = ended.request.node; note = A
 abbrev pub acknowledged_to : ℕ → Ended → List Waiting
 acknowledged_to k ended = if ended.request.by == k then acknowledged_by ended.request.ack ended else []
 
--- a master whose mail this is has asked to be told this of a node
-abbrev pub is_wanted : Mail → Waiting → Note → Bool
-is_wanted mail notice (Ack status) = false
-is_wanted mail notice Change = asks_about notice.node event.Change mail
-is_wanted mail notice ZeroUsers = asks_about notice.node event.ZeroUsers mail
+-- a master whose notes these are has asked to be told this of a node
+abbrev pub is_wanted : MasterNotes → Waiting → Note → Bool
+is_wanted notes notice (Ack status) = false
+is_wanted notes notice Change = asks_about notice.node event.Change notes
+is_wanted notes notice ZeroUsers = asks_about notice.node event.ZeroUsers notes
 
-abbrev pub noticed_by : Mail → Waiting → List Waiting
-noticed_by mail notice = if is_wanted mail notice notice.note then notice ∷ [] else []
+abbrev pub noticed_by : MasterNotes → Waiting → List Waiting
+noticed_by notes notice = if is_wanted notes notice notice.note then notice ∷ [] else []
 
--- the notes to the master at place k, whose mail this is: how its requests ended, in object order of the targets, and then
+-- the new notes to the master at place k, whose notes these are: how its requests ended, in object order of the targets, and then
 -- what happened to nodes of which it asked to be told
-abbrev pub notes_to : News → ℕ → Mail → List Waiting
-notes_to news k mail = flat_map (acknowledged_to k) news.ended ++ flat_map (noticed_by mail) news.notices
+abbrev pub notes_to : News → ℕ → MasterNotes → List Waiting
+notes_to news k notes = flat_map (acknowledged_to k) news.ended ++ flat_map (noticed_by notes) news.notices
 
 -- ---- the callbacks
 
@@ -110,51 +110,51 @@ callback_of master after waiting = callback_by master waiting.node (point waitin
 abbrev pub wakes : (was is : Mode) → Bool
 wakes was is = same_mode was Asleep && is_awake is
 
--- all that waits in this mail is told to a master that wakes
-abbrev pub told_if : (woken : Bool) → Mail → List Waiting
-told_if woken mail = if woken then waiting_in mail else []
+-- all that waits in these notes is told to a master that wakes
+abbrev pub told_if : (woken : Bool) → MasterNotes → List Waiting
+told_if woken notes = if woken then waiting_in notes else []
 
-abbrev pub told_at_wake : (was is : Mode) → Mail → List Waiting
-told_at_wake was is mail = told_if (wakes was is) mail
+abbrev pub told_at_wake : (was is : Mode) → MasterNotes → List Waiting
+told_at_wake was is notes = told_if (wakes was is) notes
 
--- what the master at place k is told, whose mail this is: what waited, that it is asked to suspend, and the notes to it
-abbrev pub told_to : News → ℕ → NodeId → (was is : Mode) → Mail → State → List Callback
-told_to news k master was is mail after =
-    map (callback_of master after) (told_at_wake was is mail)
-    ++ (asks_to k master news.asked ++ map (callback_of master after) (notes_to news k mail))
+-- what the master at place k is told, whose notes these are: what waited, that it is asked to suspend, and the notes to it
+abbrev pub told_to : News → ℕ → NodeId → (was is : Mode) → MasterNotes → State → List Callback
+told_to news k master was is notes after =
+    map (callback_of master after) (told_at_wake was is notes)
+    ++ (asks_to k master news.asked ++ map (callback_of master after) (notes_to news k notes))
 
 -- only a master that is active or suspending after the step is told
-abbrev pub called_back : News → ℕ → NodeId → (was is : Mode) → Mail → State → List Callback
-called_back news k master was is mail after = if is_awake is then told_to news k master was is mail after else []
+abbrev pub called_back : News → ℕ → NodeId → (was is : Mode) → MasterNotes → State → List Callback
+called_back news k master was is notes after = if is_awake is then told_to news k master was is notes after else []
 
--- what this does to its mail: what waited is taken out by a master that wakes, the notes to one that is asleep wait, and those to
+-- what this does to its notes: what waited is taken out by a master that wakes, the notes to one that is asleep wait, and those to
 -- one that is off are lost
-abbrev pub mailed : News → ℕ → (was is : Mode) → Mail → List Talk
-mailed news k was Off mail = []
-mailed news k was Active mail = map (take_of k) (told_at_wake was Active mail)
-mailed news k was Asleep mail = map (wait_of k) (notes_to news k mail)
-mailed news k was Suspending mail = map (take_of k) (told_at_wake was Suspending mail)
+abbrev pub note_changes_at : News → ℕ → (was is : Mode) → MasterNotes → List Talk
+note_changes_at news k was Off notes = []
+note_changes_at news k was Active notes = map (take_of k) (told_at_wake was Active notes)
+note_changes_at news k was Asleep notes = map (wait_of k) (notes_to news k notes)
+note_changes_at news k was Suspending notes = map (take_of k) (told_at_wake was Suspending notes)
 
 -- ---- all masters
 
--- the callbacks to these masters, in object order, by the modes before the step and by their mail; the first of them has place k
-abbrev pub callbacks_from : News → (ℕ → Mode) → List Mail → State → ℕ → List MasterRec → List Callback
-callbacks_from news was mail after k [] = []
-callbacks_from news was mail after k (master ∷ masters) =
-    called_back news k (record { 0 = master.node }) (was k) (mode_of_master after.fixed after.now.core k) (mail_of k mail) after
-    ++ callbacks_from news was mail after (k + 1) masters
+-- the callbacks to these masters, in object order, by the modes before the step and by their notes; the first of them has place k
+abbrev pub callbacks_from : News → (ℕ → Mode) → List MasterNotes → State → ℕ → List MasterRec → List Callback
+callbacks_from news was notes after k [] = []
+callbacks_from news was notes after k (master ∷ masters) =
+    called_back news k (record { 0 = master.node }) (was k) (mode_of_master after.fixed after.now.core k) (notes_for k notes) after
+    ++ callbacks_from news was notes after (k + 1) masters
 
--- what becomes of their mail
-abbrev pub mails_from : News → (ℕ → Mode) → List Mail → State → ℕ → List MasterRec → List Talk
-mails_from news was mail after k [] = []
-mails_from news was mail after k (master ∷ masters) =
-    mailed news k (was k) (mode_of_master after.fixed after.now.core k) (mail_of k mail)
-    ++ mails_from news was mail after (k + 1) masters
+-- what becomes of their notes
+abbrev pub note_changes_from : News → (ℕ → Mode) → List MasterNotes → State → ℕ → List MasterRec → List Talk
+note_changes_from news was notes after k [] = []
+note_changes_from news was notes after k (master ∷ masters) =
+    note_changes_at news k (was k) (mode_of_master after.fixed after.now.core k) (notes_for k notes)
+    ++ note_changes_from news was notes after (k + 1) masters
 
--- the callbacks of a step, by the modes of the masters before it, by the mail that they find, and by the book after it
-abbrev pub callbacks : News → (ℕ → Mode) → List Mail → State → List Callback
-callbacks news was mail after = callbacks_from news was mail after 0 (in_force after).masters
+-- the callbacks of a step, by the modes of the masters before it, by the notes that they find, and by the book after it
+abbrev pub callbacks : News → (ℕ → Mode) → List MasterNotes → State → List Callback
+callbacks news was notes after = callbacks_from news was notes after 0 (in_force after).masters
 
--- what becomes of that mail
-abbrev pub mails : News → (ℕ → Mode) → List Mail → State → List Talk
-mails news was mail after = mails_from news was mail after 0 (in_force after).masters
+-- what becomes of those notes
+abbrev pub note_changes : News → (ℕ → Mode) → List MasterNotes → State → List Talk
+note_changes news was notes after = note_changes_from news was notes after 0 (in_force after).masters

@@ -4,7 +4,7 @@ use Rattle.pm_base.specs.declared.names.NodeId.{NodeId}
 use Rattle.pm_base.specs.declared.names.Mode.{Mode}
 use Rattle.pm_base.specs.declared.names.Mode.TheVariants.{Off, Active, Asleep, Suspending}
 use Rattle.pm_topology.specs.declared.places.Kind.{Kind}
-use Rattle.pm_topology.specs.declared.places.Kind.TheVariants.{Proc, Slave, Power, Unknown}
+use Rattle.pm_topology.specs.declared.places.Kind.TheVariants.{Proc, Slave}
 use Rattle.pm_topology.specs.Places.{kind_of}
 use Rattle.pm_procs.specs.declared.procs.Proc.{Proc as Processor}
 use Rattle.pm_procs.specs.Procs.{proc_at}
@@ -40,15 +40,11 @@ wait_by (Some m) p proc = waits m p proc.address proc.mode
 abbrev pub boot_at : Kind → ℕ → State → List (List Prim)
 boot_at (Proc p) address book =
     boot_by (owner_at book.fixed.object book.fixed.topology p) p address (proc_at p book.now.core.procs)
-boot_at (Slave s) address book = []
-boot_at (Power w) address book = []
-boot_at Unknown address book = []
+boot_at _ address book = []
 
 abbrev pub wait_at : Kind → State → List (List Prim)
 wait_at (Proc p) book = wait_by (owner_at book.fixed.object book.fixed.topology p) p (proc_at p book.now.core.procs)
-wait_at (Slave s) book = []
-wait_at (Power w) book = []
-wait_at Unknown book = []
+wait_at _ book = []
 
 -- the stages of a boot and of a wait: none where the node is no processor, where no configured master has it, and where its
 -- mode is another
@@ -76,9 +72,7 @@ interrupt_by (Some m) p proc = woken m p proc ∷ []
 abbrev pub interrupt_at : Kind → State → List (List Prim)
 interrupt_at (Proc p) book =
     interrupt_by (owner_at book.fixed.object book.fixed.topology p) p (proc_at p book.now.core.procs)
-interrupt_at (Slave s) book = []
-interrupt_at (Power w) book = []
-interrupt_at Unknown book = []
+interrupt_at _ book = []
 
 abbrev pub interrupt : NodeId → State → List (List Prim)
 interrupt node book = interrupt_at (kind_of book.fixed.topology node) book
@@ -86,9 +80,7 @@ interrupt node book = interrupt_at (kind_of book.fixed.topology node) book
 -- what wakes of a master: its processor that is of this kind
 abbrev pub woken_at : ℕ → Kind → State → List Prim
 woken_at m (Proc p) book = woken m p (proc_at p book.now.core.procs)
-woken_at m (Slave s) book = []
-woken_at m (Power w) book = []
-woken_at m Unknown book = []
+woken_at m _ book = []
 
 -- what wakes of a master whose row is armed with this processor
 abbrev pub woken_by : ℕ → Option NodeId → State → List Prim
@@ -102,9 +94,7 @@ woken_from s book entry = if entry.seed.slave == s then woken_by entry.seed.mast
 -- the stages of the interrupt of a slave: each row that is armed there wakes its processor
 abbrev pub raised_at : Kind → State → List (List Prim)
 raised_at (Slave s) book = flat_map (woken_from s book) book.now.core.rows.entries ∷ []
-raised_at (Proc p) book = []
-raised_at (Power w) book = []
-raised_at Unknown book = []
+raised_at _ book = []
 
 abbrev pub raised : NodeId → State → List (List Prim)
 raised node book = raised_at (kind_of book.fixed.topology node) book

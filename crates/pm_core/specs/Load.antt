@@ -26,7 +26,7 @@ load_of object topology = record {
     };
     talk = record {
       pending = none_pending (length object.masters);
-      mail = loaded topology (length object.masters);
+      notes = loaded topology (length object.masters);
     };
   };
 }

@@ -8,7 +8,7 @@ use Rattle.pm_notify.specs.declared.notes.Note.TheVariants.{Change, ZeroUsers}
 use Rattle.pm_notify.specs.declared.notes.Waiting.{Waiting}
 use Rattle.pm_rows.specs.Rows.{Rows, users_of}
 use Rattle.pm_topology.specs.declared.places.Kind.{Kind}
-use Rattle.pm_topology.specs.declared.places.Kind.TheVariants.{Proc, Slave, Power, Unknown}
+use Rattle.pm_topology.specs.declared.places.Kind.TheVariants.{Slave}
 use Rattle.pm_topology.specs.Places.{kind_of}
 use Rattle.pm_core.specs.State.{State}
 use Rattle.pm_core.specs.Units.{units}
@@ -21,9 +21,7 @@ is_used s rows = not (users_of s rows == 0)
 -- a node of this kind is a slave that is used
 abbrev pub used_at : Kind → Rows → Bool
 used_at (Slave s) rows = is_used s rows
-used_at (Proc p) rows = false
-used_at (Power w) rows = false
-used_at Unknown rows = false
+used_at _ rows = false
 
 -- the unit is a slave that is used
 abbrev pub used : Unit → State → Bool
@@ -31,12 +29,12 @@ used (Node node) book = used_at (kind_of book.fixed.topology node) book.now.core
 used (Line line) book = false
 
 -- a note about a node, if that happened to it
-abbrev pub note_if : Bool → NodeId → Note → List Waiting
-note_if happened node note = if happened then record { node = node; note = note } ∷ [] else []
+abbrev pub log_if : Bool → NodeId → Note → List Waiting
+log_if happened node note = if happened then record { node = node; note = note } ∷ [] else []
 
 -- what happened to a unit: it changed, and after that, its last user doesn't use it any more; nothing is told of a reset line
 abbrev pub notes_about : (changed freed : Bool) → Unit → List Waiting
-notes_about changed freed (Node node) = note_if changed node Change ++ note_if freed node ZeroUsers
+notes_about changed freed (Node node) = log_if changed node Change ++ log_if freed node ZeroUsers
 notes_about changed freed (Line line) = []
 
 -- what happened to a unit between two books: its value changed, and some master used it and none does any more

@@ -72,6 +72,17 @@ pub record Outputs : Type 0 where
   pub calls : List Callback
   pub answer : Answer
 
+-- what an outbox holds of it
+abbrev pub outputs_in : Outbox → Outputs
+outputs_in out = record {
+  moved = out.moved.items;
+  pulse = out.pulse;
+  starts = out.starts.items;
+  late = out.late.items;
+  calls = out.calls.items;
+  answer = out.answer;
+}
+
 -- an outbox holds these outputs, and no command is done yet
 pub record Holds (outputs : Outputs) (out : Outbox) : Type 0 where
   pub moved : out.moved.items ≡ outputs.moved

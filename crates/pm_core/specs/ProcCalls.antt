@@ -1,12 +1,22 @@
 -- What calls on a processor look at, and how they change it.
-use Rattle.std.specs.Prelude.{ℕ, Bool, List, [], ◌∷◌, Option, Some, None}
+use Rattle.std.specs.Prelude.{ℕ, Bool, is_some, List, [], ◌∷◌, Option, Some, None}
 use Rattle.std.specs.Option.{option_map_or}
 use Rattle.pm_base.specs.declared.names.Mode.{Mode}
 use Rattle.pm_base.specs.declared.names.Mode.TheVariants.{Off}
 use Rattle.pm_procs.specs.declared.procs.Proc.{Proc}
 use Rattle.pm_procs.specs.Modes.{same_mode}
 use Rattle.pm_core.specs.declared.views.ProcView.{ProcView}
+use Rattle.pm_core.specs.Checks.{Checks, Standing, Fits, unchecked}
 use Rattle.pm_core.specs.Prims.{Prim, Put_proc}
+
+-- the node is a processor, and the caller's
+abbrev pub on_own : ProcView → Checks
+on_own view = record unchecked { node = is_some view.place; permitted = is_some view.own }
+
+-- what the mode of its own processor says; of another one the permission fails before
+abbrev pub by_mode : (Mode → Standing) → Option Proc → Standing
+by_mode says None = Fits
+by_mode says (Some proc) = says proc.mode
 
 -- the processor is the caller's, and in this mode
 abbrev pub is_in : Mode → ProcView → Bool

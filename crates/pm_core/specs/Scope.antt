@@ -6,7 +6,7 @@ use Rattle.pm_topology.specs.declared.topology.ProcDef.{ProcDef}
 use Rattle.pm_topology.specs.declared.topology.SlaveDef.{SlaveDef}
 use Rattle.pm_topology.specs.declared.topology.Topology.{Topology}
 use Rattle.pm_topology.specs.declared.places.Kind.{Kind}
-use Rattle.pm_topology.specs.declared.places.Kind.TheVariants.{Proc, Slave, Power, Unknown}
+use Rattle.pm_topology.specs.declared.places.Kind.TheVariants.{Proc, Power}
 use Rattle.pm_topology.specs.Places.{is_below, kind_of}
 use Rattle.pm_core.specs.declared.scope.Scope.{Scope}
 use Rattle.pm_core.specs.declared.scope.Scope.TheVariants.{Under, Own, All}
@@ -18,15 +18,12 @@ use Rattle.pm_core.specs.State.{Fixed}
 abbrev pub is_under : Topology → Kind → ℕ → NodeId → Bool
 is_under t (Proc q) p node = p == q
 is_under t (Power w) p node = is_below t w node
-is_under t (Slave s) p node = false
-is_under t Unknown p node = false
+is_under t _ p node = false
 
 -- the slave of this number has the node of this kind above it
 abbrev pub is_slave_under : Topology → Kind → NodeId → Bool
 is_slave_under t (Power w) node = is_below t w node
-is_slave_under t (Proc p) node = false
-is_slave_under t (Slave s) node = false
-is_slave_under t Unknown node = false
+is_slave_under t _ node = false
 
 -- the processor at place p, which has this number, is among those that go off
 abbrev pub takes : Fixed → Scope → ℕ → NodeId → Bool

@@ -6,7 +6,7 @@ use Rattle.pm_base.specs.declared.names.Mode.TheVariants.{Active}
 use Rattle.pm_base.specs.declared.names.Unit.{Unit}
 use Rattle.pm_base.specs.declared.names.Unit.TheVariants.{Node, Line}
 use Rattle.pm_topology.specs.declared.places.Kind.{Kind}
-use Rattle.pm_topology.specs.declared.places.Kind.TheVariants.{Proc, Slave, Power, Unknown}
+use Rattle.pm_topology.specs.declared.places.Kind.TheVariants.{Proc}
 use Rattle.pm_topology.specs.Places.{kind_of}
 use Rattle.pm_procs.specs.Modes.{same_mode, is_awake}
 use Rattle.pm_procs.specs.Procs.{mode_at, proc_at}
@@ -28,9 +28,7 @@ start_at down after node p =
 -- the same by the kind of the node: only a processor starts
 abbrev pub start_by : (ℕ → Bool) → State → NodeId → Kind → List Start
 start_by down after node (Proc p) = start_at down after node p
-start_by down after node (Slave s) = []
-start_by down after node (Power w) = []
-start_by down after node Unknown = []
+start_by down after node _ = []
 
 -- the start of a unit
 abbrev pub start_of : (ℕ → Bool) → State → Unit → List Start

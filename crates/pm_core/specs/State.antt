@@ -3,7 +3,7 @@
 use Rattle.std.specs.Prelude.{Bool, List, Option}
 use Rattle.pm_object.specs.declared.object.Object.{Object}
 use Rattle.pm_topology.specs.declared.topology.Topology.{Topology}
-use Rattle.pm_notify.specs.Mailbox.{Mail}
+use Rattle.pm_notify.specs.MasterNotes.{MasterNotes}
 use Rattle.pm_procs.specs.declared.pending.Pending.{Pending}
 use Rattle.pm_procs.specs.declared.procs.Proc.{Proc}
 use Rattle.pm_rows.specs.Rows.{Rows}
@@ -23,10 +23,10 @@ pub record CoreHalf : Type 0 where
   pub halted : Bool
 
 -- what the masters are told, from which no value follows: for each master the request that it suspends, where one is pending,
--- and its mail: the events of which it asked to be told, and the notes that wait for it
+-- and its notes: the events of which it asked to be told, and the notes that wait for it
 pub record TalkHalf : Type 0 where
   pub pending : List (Option Pending)
-  pub mail : List Mail
+  pub notes : List MasterNotes
 
 pub record Now : Type 0 where
   pub core : CoreHalf

@@ -4,14 +4,14 @@ use Rattle.pm_base.specs.declared.names.NodeId.{NodeId}
 use Rattle.pm_notify.specs.declared.notes.NodeEvent.{NodeEvent}
 use Rattle.pm_notify.specs.declared.notes.Note.{Note}
 use Rattle.pm_notify.specs.declared.notes.Waiting.{Waiting}
-use Rattle.pm_notify.specs.Notify.{all_forgotten, dropped, noted, registered, without_mail}
+use Rattle.pm_notify.specs.Notify.{all_forgotten, dropped, noted, registered, without_notes}
 use Rattle.pm_object.specs.declared.object.MasterRec.{MasterRec}
 use Rattle.pm_procs.specs.declared.pending.Pending.{Pending}
 use Rattle.pm_procs.specs.Pending.{asked, ended, all_ended, all_lowered}
 use Rattle.pm_core.specs.declared.ended.Ended.{Ended}
 use Rattle.pm_core.specs.declared.ended.Turns.{Turns}
-use Rattle.pm_core.specs.declared.judgement.Asked.{Asked}
-use Rattle.pm_core.specs.declared.judgement.Notifier.{Notifier}
+use Rattle.pm_core.specs.declared.verdict.Say.{Say}
+use Rattle.pm_core.specs.declared.verdict.Say.TheVariants.{Ask as SaysAsk, Register as SaysRegister, Renew as SaysRenew}
 use Rattle.pm_core.specs.State.{TalkHalf, State}
 
 pub data Talk : Type 0 where
@@ -36,11 +36,11 @@ abbrev pub apply_talk : Talk → TalkHalf → TalkHalf
 apply_talk (Ask m request) talk = record talk { pending = asked m request talk.pending }
 apply_talk (Lower count) talk = record talk { pending = all_lowered count talk.pending }
 apply_talk (End m) talk = record talk { pending = ended m talk.pending }
-apply_talk (Forget m) talk = record talk { mail = without_mail m talk.mail }
-apply_talk (Notify m node event on) talk = record talk { mail = registered m node event on talk.mail }
-apply_talk (Take m node note) talk = record talk { mail = dropped m node note talk.mail }
-apply_talk (Wait m node note) talk = record talk { mail = noted m node note talk.mail }
-apply_talk Renew talk = record talk { pending = all_ended talk.pending; mail = all_forgotten talk.mail }
+apply_talk (Forget m) talk = record talk { notes = without_notes m talk.notes }
+apply_talk (Notify m node event on) talk = record talk { notes = registered m node event on talk.notes }
+apply_talk (Take m node note) talk = record talk { notes = dropped m node note talk.notes }
+apply_talk (Wait m node note) talk = record talk { notes = noted m node note talk.notes }
+apply_talk Renew talk = record talk { pending = all_ended talk.pending; notes = all_forgotten talk.notes }
 
 -- one change after another
 abbrev pub talks : List Talk → TalkHalf → TalkHalf
@@ -60,16 +60,6 @@ abbrev pub forgets_from : (ℕ → Turns) → ℕ → List MasterRec → List Ta
 forgets_from turns m [] = []
 forgets_from turns m (master ∷ masters) = forget_at (turns m) m ++ forgets_from turns (m + 1) masters
 
--- a notifier is put, if one is
-abbrev pub notify_by : Option Notifier → List Talk
-notify_by None = []
-notify_by (Some put) = Notify put.master put.node put.event put.on ∷ []
-
--- a master is asked, if one is
-abbrev pub ask_of : Option Asked → List Talk
-ask_of None = []
-ask_of (Some asked) = Ask asked.target asked.request ∷ []
-
 -- this time passes, if any does
 abbrev pub lower_by : Option ℕ → List Talk
 lower_by None = []
@@ -79,16 +69,21 @@ lower_by (Some count) = Lower count ∷ []
 abbrev pub ends : List Ended → List Talk
 ends ended = map (λ (e : Ended). End e.target) ended
 
--- what the masters are told is as at load, if all was restarted
-abbrev pub renew_if : Bool → List Talk
-renew_if true = Renew ∷ []
-renew_if false = []
+-- what the masters are told is as at load, if all is restarted
+abbrev pub renew_by : Option Say → List Talk
+renew_by (Some SaysRenew) = Renew ∷ []
+renew_by _ = []
 
--- what a step does before any master is told of it: all is as at load, if all was restarted, masters that became off forget, a
--- notifier is put, a master is asked, time passes, and requests end
-abbrev pub talk_of : Bool → List Talk → Option Notifier → Option Asked → Option ℕ → List Ended → List Talk
-talk_of renews forgets registers asked count ended =
-    renew_if renews ++ (forgets ++ (notify_by registers ++ (ask_of asked ++ (lower_by count ++ ends ended))))
+-- a master is asked, or a notifier is put
+abbrev pub say_by : Option Say → List Talk
+say_by (Some (SaysAsk asked)) = Ask asked.target asked.request ∷ []
+say_by (Some (SaysRegister put)) = Notify put.master put.node put.event put.on ∷ []
+say_by _ = []
+
+-- what a step does before any master is told of it: all is as at load, if all is restarted, masters that became off forget, a
+-- notifier is put or a master is asked, time passes, and requests end
+abbrev pub talk_of : Option Say → List Talk → Option ℕ → List Ended → List Talk
+talk_of says forgets count ended = renew_by says ++ (forgets ++ (say_by says ++ (lower_by count ++ ends ended)))
 
 -- a note that waited for the master at place m was told to it
 abbrev pub take_of : ℕ → Waiting → Talk

@@ -96,10 +96,14 @@ value unit book = value_in book.fixed book.now.core unit
 -- the operating point of a node, as it is told: of a processor the number of its mode, and of any other its value
 abbrev pub point_at : Kind → Fixed → CoreHalf → ℕ
 point_at (Proc p) fixed core = mode_number (mode_at p core.procs)
-point_at (Slave s) fixed core = value_at (Slave s) fixed core
-point_at (Power w) fixed core = value_at (Power w) fixed core
-point_at Unknown fixed core = value_at Unknown fixed core
+point_at kind fixed core = value_at kind fixed core
 
 -- the operating point of a node in a book
 abbrev pub point : NodeId → State → ℕ
 point node book = point_at (kind_of book.fixed.topology node) book.fixed book.now.core
+
+-- what is shown of a unit: the operating point of a node, which is the number of the mode of a processor and the value of any
+-- other, and the value of a reset line
+abbrev pub shown : Unit → State → ℕ
+shown (Node node) book = point node book
+shown (Line reset) book = value (Line reset) book

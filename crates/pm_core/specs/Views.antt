@@ -59,9 +59,7 @@ own_proc m p book =
 -- the same for a node of this kind
 abbrev pub proc_view_at : ℕ → Kind → State → ProcView
 proc_view_at m (Proc p) book = record { place = Some p; own = own_proc m p book }
-proc_view_at m (Slave s) book = record { place = None; own = None }
-proc_view_at m (Power w) book = record { place = None; own = None }
-proc_view_at m Unknown book = record { place = None; own = None }
+proc_view_at m _ book = record { place = None; own = None }
 
 -- what the master at place m sees of a processor: its place, where the node is one, and its mode and resume address where it
 -- is the master's own
@@ -83,9 +81,7 @@ wakeable m p (Some k) book =
 abbrev pub wake_view_at : ℕ → Kind → State → WakeView
 wake_view_at m (Proc p) book =
     record { place = Some p; target = wakeable m p (owner_at book.fixed.object book.fixed.topology p) book }
-wake_view_at m (Slave s) book = record { place = None; target = None }
-wake_view_at m (Power w) book = record { place = None; target = None }
-wake_view_at m Unknown book = record { place = None; target = None }
+wake_view_at m _ book = record { place = None; target = None }
 
 -- what the master at place m sees of a processor that it wants to wake: its place, where the node is one, and its master, mode
 -- and resume address where it may be woken
@@ -99,9 +95,7 @@ is_asked m book = is_some (pending_at m book.now.talk.pending)
 -- the node can name a master: it is a processor, or a number that masters have
 abbrev pub is_proc : Kind → Bool
 is_proc (Proc p) = true
-is_proc (Slave s) = false
-is_proc (Power w) = false
-is_proc Unknown = false
+is_proc _ = false
 
 abbrev pub names_master : Fixed → NodeId → Bool
 names_master fixed node = is_proc (kind_of fixed.topology node) || is_master_node node.0
@@ -151,8 +145,7 @@ abbrev pub watched_at : ℕ → NodeId → Kind → State → Watched
 watched_at m node (Slave s) book =
     SlaveNode (may_use (in_force book) book.fixed.topology (master_node (in_force book).masters m) node)
 watched_at m node (Power w) book = PowerNode
-watched_at m node (Proc p) book = Nothing
-watched_at m node Unknown book = Nothing
+watched_at m node _ book = Nothing
 
 abbrev pub watched : ℕ → NodeId → State → Watched
 watched m node book = watched_at m node (kind_of book.fixed.topology node) book
@@ -163,13 +156,12 @@ plain value = record { state = Some value; requested = record { 0 = 0 }; usage =
 
 abbrev pub status_view_at : ℕ → Kind → ℕ → State → StatusView
 status_view_at m Unknown value book = record { state = None; requested = record { 0 = 0 }; usage = 0 }
-status_view_at m (Proc p) value book = plain value
-status_view_at m (Power w) value book = plain value
 status_view_at m (Slave s) value book = record {
   state = Some value;
   requested = now_of (entry_at m s book.now.core.rows);
   usage = usage_of m s book.now.core.rows;
 }
+status_view_at m _ value book = plain value
 
 -- what the master at place m is told of a node: its operating point, and of a slave the capabilities that the master wants
 -- of it now, and who uses it
@@ -189,9 +181,7 @@ row master slave book = row_at (master_place master book) (slave_place slave boo
 -- the mode of a node of this kind
 abbrev pub mode_by : Kind → State → Mode
 mode_by (Proc p) book = mode_at p book.now.core.procs
-mode_by (Slave s) book = Off
-mode_by (Power w) book = Off
-mode_by Unknown book = Off
+mode_by _ book = Off
 
 -- the mode of a processor, and Off for any other node
 abbrev pub mode : NodeId → State → Mode

@@ -4,13 +4,13 @@ ghost use Rattle.std.specs.Prelude.{◌≡◌, ◌∷◌, ◌||◌, [], IfOk, le
 ghost use Rattle.pm_core.specs.Ended.{turns_of};
 ghost use Rattle.pm_core.specs.Members.{mode_of_master};
 ghost use Rattle.pm_core.specs.Along as spec;
-ghost use Rattle.pm_core.specs.Along.{HasPlaces, both_turns, down_noted, trail_from, forgotten, mode_noted, modes_of, no_turns, trailed, trail_at_load, turns_noted};
+ghost use Rattle.pm_core.specs.Along.{HasPlaces, both_turns, down_logged, trail_from, forgotten, mode_logged, modes_of, no_turns, trailed, trail_at_load, turns_logged};
 ghost use Rattle.pm_core.specs.State.{in_force};
 ghost use Rattle.pm_core.specs.Values.{placed};
 
 use crate::ended::{Turns, turns_between};
 use crate::inner::Inner;
-use pm_base::{Mode, NoMemory};
+use pm_base::{Mode, NoMemory, at_or};
 use pm_procs::is_awake;
 use std::alloc::Global;
 use std::marker::Model;
@@ -44,57 +44,39 @@ impl Along {
         })
     }
 
-    /// Notes the first moment of a step.
+    /// Logs the first moment of a step.
     pub(crate) fn start(&mut self, inner: &Inner)
         requires { HasPlaces (length (in_force inner.now).masters) (length inner.now.fixed.topology.procs) self.old }
         ensures { self.new ≡ trail_from inner.now }
     {
-        inner.note_modes(&mut self.modes);
+        inner.log_modes(&mut self.modes);
         forget(&mut self.turns);
-        inner.note_downs(&mut self.downs);
+        inner.log_downs(&mut self.downs);
     }
 
-    /// Notes one moment more.
-    pub(crate) fn note(&mut self, inner: &Inner)
+    /// Logs one moment more.
+    pub(crate) fn log(&mut self, inner: &Inner)
         requires { HasPlaces (length (in_force inner.now).masters) (length inner.now.fixed.topology.procs) self.old }
         ensures { self.new ≡ trailed inner.now self.old }
     {
-        inner.note_turns(&self.modes, &mut self.turns);
-        inner.note_modes(&mut self.modes);
+        inner.log_turns(&self.modes, &mut self.turns);
+        inner.log_modes(&mut self.modes);
         inner.add_downs(&mut self.downs);
     }
 
     /// What became of the mode of the master at a place.
     pub(crate) fn turns(&self, m: usize) -> Turns
-        ensures { result ≡ turns_noted m self.now.turns }
+        ensures { result ≡ turns_logged m self.now.turns }
     {
-        turns_noted(&self.turns, m)
+        at_or(&self.turns, m, Turns::none())
     }
 
     /// Whether the processor at a place was down.
     pub(crate) fn was_down(&self, p: usize) -> bool
-        ensures { result ≡ down_noted p self.now.downs }
+        ensures { result ≡ down_logged p self.now.downs }
     {
-        down_noted(&self.downs, p)
+        at_or(&self.downs, p, true)
     }
-}
-
-pub(crate) fn mode_noted(modes: &[Mode], m: usize) -> Mode
-    ensures { result ≡ mode_noted modes.now m }
-{
-    modes.get(m).copied().unwrap_or(Mode::Off)
-}
-
-fn turns_noted(turns: &[Turns], m: usize) -> Turns
-    ensures { result ≡ turns_noted m turns.now }
-{
-    turns.get(m).copied().unwrap_or(Turns::none())
-}
-
-fn down_noted(downs: &[bool], p: usize) -> bool
-    ensures { result ≡ down_noted p downs.now }
-{
-    downs.get(p).copied().unwrap_or(true)
 }
 
 /// Nothing became of any mode.
@@ -108,7 +90,7 @@ fn forget(turns: &mut [Turns])
 
 impl Inner {
     /// Writes the mode of each master.
-    pub(crate) fn note_modes(&self, modes: &mut [Mode])
+    pub(crate) fn log_modes(&self, modes: &mut [Mode])
         requires { length modes.old ≡ length (in_force self.now).masters }
         ensures { modes.new ≡ modes_of self.now }
     {
@@ -118,7 +100,7 @@ impl Inner {
     }
 
     /// Adds what became of the mode of each master since these modes were noted.
-    fn note_turns(&self, modes: &[Mode], turns: &mut [Turns])
+    fn log_turns(&self, modes: &[Mode], turns: &mut [Turns])
         requires { length turns.old ≡ length (in_force self.now).masters }
         ensures { turns.new ≡ placed (spec.turns_after modes.now turns.old self.now) 0 (in_force self.now).masters }
     {
@@ -129,15 +111,15 @@ impl Inner {
 
     /// What became of the mode of the master at a place, by what was noted of it.
     fn turns_after(&self, modes: &[Mode], turns: &[Turns], m: usize) -> Turns
-        ensures { result ≡ both_turns (turns_noted m turns.now)
-            (turns_of (mode_noted modes.now m) (mode_of_master self.now.fixed self.now.now.core m ∷ [])) }
+        ensures { result ≡ both_turns (turns_logged m turns.now)
+            (turns_of (mode_logged modes.now m) (mode_of_master self.now.fixed self.now.now.core m ∷ [])) }
     {
-        let since = turns_between(mode_noted(modes, m), self.mode_of_master(m));
-        turns_noted(turns, m).and(since)
+        let since = turns_between(at_or(modes, m, Mode::Off), self.mode_of_master(m));
+        at_or(turns, m, Turns::none()).and(since)
     }
 
     /// Writes whether each processor is down.
-    fn note_downs(&self, downs: &mut [bool])
+    fn log_downs(&self, downs: &mut [bool])
         requires { length downs.old ≡ length self.now.fixed.topology.procs }
         ensures { downs.new ≡ placed (spec.down_in self.now) 0 self.now.fixed.topology.procs }
     {
@@ -158,9 +140,9 @@ impl Inner {
 
     /// Whether the processor at a place is down, or was so.
     fn down_after(&self, downs: &[bool], p: usize) -> bool
-        ensures { result ≡ (down_noted p downs.now || spec.is_down self.now p) }
+        ensures { result ≡ (down_logged p downs.now || spec.is_down self.now p) }
     {
-        down_noted(downs, p) || self.is_down(p)
+        at_or(downs, p, true) || self.is_down(p)
     }
 
     /// Whether the processor at a place is off or asleep.

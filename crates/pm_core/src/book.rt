@@ -11,13 +11,14 @@ ghost use Rattle.pm_core.specs.Step.{effect, outputs, outputs_at_load, is_refuse
 ghost use Rattle.pm_core.specs.State.{in_force};
 ghost use Rattle.pm_core.specs.Sound.{IsSound, StandsAsWanted, MeetsRequirements};
 ghost use Rattle.pm_core.specs.Units.{units};
-ghost use Rattle.pm_core.specs.Values.{point, value};
+ghost use Rattle.pm_core.specs.Values.{point, shown, value};
 ghost use Rattle.pm_core.specs.Views.{master_mode, mode, row};
 
 use crate::caches::Caches;
 use crate::inner::Inner;
 use crate::laws::{books_stay_sound, values_meet};
 use crate::outbox::Outbox;
+use crate::step::pulse_in;
 use crate::talk::tell;
 use crate::telling::Telling;
 use pm_base::{Event, Mode, NoMemory, NodeId, Unit};
@@ -30,7 +31,7 @@ use std::marker::Model;
 /// The book of requirements. It keeps the object, the parts of the chip, a row for each permitted pair
 /// of a master and a slave, the mode and resume address of each processor, whether each reset line is
 /// asserted, whether all is halted, and for each master the request to suspend that is pending on it and
-/// its mail about each unit of the chip. These contracts see. It also keeps what is found of the values,
+/// its notes about each unit of the chip. These contracts see. It also keeps what is found of the values,
 /// and what is noted of a step until the masters are told of it.
 #[derive(Drop)]
 pub struct Book {
@@ -85,7 +86,7 @@ impl Book {
         // know the modes of the masters, nothing is scheduled while a master is active, one that is off uses
         // nothing, a processor that no configured master has is off, a reset line that no master may reset is
         // released, a row that is armed names a processor of its own master, the node of a request to suspend
-        // names the master on which it is pending, and each master has mail about each unit of the chip.
+        // names the master on which it is pending, and each master has notes about each unit of the chip.
         ensures sound { IfOk result IsSound }
 
         // Each slave stands in the first of its states that meets all that is required of it, each processor
@@ -141,7 +142,7 @@ impl Book {
         // know the modes of the masters, nothing is scheduled while a master is active, one that is off uses
         // nothing, a processor that no configured master has is off, a reset line that no master may reset is
         // released, a row that is armed names a processor of its own master, the node of a request to suspend
-        // names the master on which it is pending, and each master has mail about each unit of the chip.
+        // names the master on which it is pending, and each master has notes about each unit of the chip.
         ensures sound { IsSound self.new }
 
         // Each slave stands in the first of its states that meets all that is required of it, each processor
@@ -155,12 +156,12 @@ impl Book {
         values_meet();
         out.clear();
         let count = self.inner.time_of(event);
-        self.telling.note_modes(&self.inner);
+        self.telling.log_modes(&self.inner);
         self.telling.along.start(&self.inner);
-        let heard = self
+        let served = self
             .inner
             .take(&self.caches, event, &mut self.telling.along);
-        self.telling.along.note(&self.inner);
+        self.telling.along.log(&self.inner);
         self.caches.update(
             &self.inner,
             &self.telling.along,
@@ -173,12 +174,12 @@ impl Book {
             &self.caches,
             &mut self.telling,
             count,
-            &heard,
+            served,
             &mut out.late,
             &mut out.calls,
         );
-        out.pulse = heard.pulse();
-        out.answer = self.inner.answer(&self.caches, heard);
+        out.pulse = pulse_in(served);
+        out.answer = self.inner.answer(&self.caches, served);
     }
 
     /// The configuration object.
@@ -188,18 +189,25 @@ impl Book {
         self.inner.in_force()
     }
 
-    /// The parts of the chip. The book is sound and meets its requirements, and each node that needs
-    /// power in its value stands directly below a power node that is up.
+    /// The parts of the chip, which have passed their check.
     pub fn topology(&self) -> &Topology
         ensures formed { IsWellFormed result.now }
-        ensures masters { ObeysMasterRules result.now }
         ensures topology { result.now ≡ self.now.fixed.topology }
+    {
+        self.inner.topology()
+    }
+
+    /// What holds of every book: its chip has passed its check and obeys the rules on masters, the book is sound and meets
+    /// its requirements, and each node that needs power in its value stands directly below a power node that is up.
+    pub fn stays_sound(&self)
+        ensures formed { IsWellFormed self.now.fixed.topology }
+        ensures masters { ObeysMasterRules self.now.fixed.topology }
         ensures sound { IsSound self.now }
         ensures met { MeetsRequirements self.now (λ u. value u self.now) }
-        ensures fed { IsFed result.now (λ u. value u self.now) }
+        ensures fed { IsFed self.now.fixed.topology (λ u. value u self.now) }
     {
         values_meet();
-        self.inner.topology()
+        let _chip = self.inner.topology();
     }
 
     /// The number of units.
@@ -237,6 +245,16 @@ impl Book {
         ensures { result ≡ point node self.now }
     {
         self.inner.point(&self.caches, node)
+    }
+
+    /// What is shown of a unit: of a node its operating point, and of a reset line its value.
+    pub fn shown(&self, unit: Unit) -> u32
+        ensures { result ≡ shown unit self.now }
+    {
+        match unit {
+            Unit::Node(node) => self.point(node),
+            Unit::Line(_) => self.value(unit),
+        }
     }
 
     /// The mode of a processor, and Off for any other node.

@@ -8,8 +8,8 @@ ghost use Rattle.pm_core.specs.Outbox.{notice_count};
 
 use crate::along::Along;
 use crate::inner::Inner;
-use crate::moves::{note_moves, note_starts};
-use crate::notifications::note_notices;
+use crate::moves::{log_moves, log_starts};
+use crate::notifications::log_notices;
 use crate::outbox::Start;
 use pm_base::{BoundedList, NoMemory, Unit};
 use pm_notify::Waiting;
@@ -111,11 +111,11 @@ impl Caches {
         units_stand_in_order();
         kinds_are_exact();
         inner.choose(&mut self.states, &mut self.needs);
-        inner.note_runs(&mut self.runs);
+        inner.log_runs(&mut self.runs);
         self.power.recompute(&self.needs, &self.runs);
-        note_starts(along, &self.kinds, &inner.procs, &self.values, starts);
+        log_starts(along, &self.kinds, &inner.procs, &self.values, starts);
         notices.clear();
-        note_notices(
+        log_notices(
             &self.kinds,
             &self.states,
             &inner.procs,
@@ -126,7 +126,7 @@ impl Caches {
             &self.values,
             notices,
         );
-        note_moves(
+        log_moves(
             &self.kinds,
             &self.states,
             &inner.procs,
@@ -135,7 +135,7 @@ impl Caches {
             &mut self.values,
             moved,
         );
-        inner.note_uses(&mut self.used);
+        inner.log_uses(&mut self.used);
     }
 }
 

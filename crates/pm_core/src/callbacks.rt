@@ -1,8 +1,8 @@
 //! What masters are told in a step: late replies, callbacks, and notes that wait for those that are asleep.
 
 ghost use Rattle.std.specs.Prelude.{◌≡◌, ◌+◌, ◌<◌, ◌≤◌, ◌++◌, length, flat_map, map, option_to_list, slice_get};
-ghost use Rattle.pm_notify.specs.Mailbox.{waiting_in};
-ghost use Rattle.pm_notify.specs.Notify.{IsInOrder, mail_of};
+ghost use Rattle.pm_notify.specs.MasterNotes.{waiting_in};
+ghost use Rattle.pm_notify.specs.Notify.{IsInOrder, notes_for};
 ghost use Rattle.pm_base.specs.declared.names.Mode.TheVariants.{Asleep};
 ghost use Rattle.pm_procs.specs.Modes.{same_mode};
 ghost use Rattle.pm_core.specs.Caches.{AreKept};
@@ -10,24 +10,24 @@ ghost use Rattle.pm_core.specs.Callbacks as spec;
 ghost use Rattle.pm_core.specs.Callbacks.{told_if};
 ghost use Rattle.pm_core.specs.Members.{mode_of_master};
 ghost use Rattle.pm_core.specs.Outbox.{callback_count, callbacks_to_one, notice_count, unit_count};
-ghost use Rattle.pm_core.specs.Sound.{HasMail};
+ghost use Rattle.pm_core.specs.Sound.{HasNotes};
 ghost use Rattle.pm_core.specs.State.{in_force};
 ghost use Rattle.pm_core.specs.Talk.{take_of, talked, wait_of};
-ghost use Rattle.pm_core.specs.Along.{mode_noted};
+ghost use Rattle.pm_core.specs.Along.{mode_logged};
 ghost use Rattle.pm_core.specs.Telling.{news_in};
 
 use crate::caches::Caches;
 use crate::ended::Ended;
 use crate::inner::Inner;
-use crate::judgement::Asked;
 use crate::outbox::{Callback, Late};
 use crate::telling::Telling;
+use crate::verdict::Asked;
 use crate::views::master_node;
 use pm_base::{BoundedList, Mode, NodeId};
 use pm_ipi::AckKind;
 use pm_ipi::callbacks::{ACKNOWLEDGE, INIT_SUSPEND, NOTIFY, REASON_MASTER};
 use pm_notify::{
-    NodeEvent, Note, Waiting, notifiers_are_kept, others_keep_their_mail, takes_drain_the_slots,
+    NodeEvent, Note, Waiting, notifiers_are_kept, others_keep_their_notes, takes_drain_the_slots,
 };
 use pm_procs::same_mode;
 use pm_topology::units_stand_in_order;
@@ -146,17 +146,17 @@ impl Inner {
         calls: &mut BoundedList<Callback>,
     )
         requires kept { AreKept self.old caches.now }
-        requires mail { HasMail self.old }
+        requires notes { HasNotes self.old }
         requires ended { length telling.now.ended.items ≤ length (in_force self.old).masters }
         requires notices { length telling.now.notices.items ≤ notice_count (unit_count self.old.fixed.topology) }
         requires room { length calls.old.items
             + callback_count (unit_count self.old.fixed.topology) (length (in_force self.old).masters) ≤ calls.old.room }
-        ensures book { self.new ≡ talked (spec.mails (news_in telling.now) (mode_noted telling.now.modes.items) self.old.now.talk.mail self.old) self.old }
+        ensures book { self.new ≡ talked (spec.note_changes (news_in telling.now) (mode_logged telling.now.modes.items) self.old.now.talk.notes self.old) self.old }
         ensures calls { calls.new ≡ record calls.old {
-          items = calls.old.items ++ spec.callbacks (news_in telling.now) (mode_noted telling.now.modes.items) self.old.now.talk.mail self.old;
+          items = calls.old.items ++ spec.callbacks (news_in telling.now) (mode_logged telling.now.modes.items) self.old.now.talk.notes self.old;
         } }
     {
-        others_keep_their_mail();
+        others_keep_their_notes();
         takes_drain_the_slots();
         units_stand_in_order();
         for k in 0..self.masters() {
@@ -175,13 +175,13 @@ impl Inner {
         calls: &mut BoundedList<Callback>,
     )
         requires kept { AreKept self.old caches.now }
-        requires room { length calls.old.items + (length (waiting_in (mail_of k self.old.now.talk.mail))
+        requires room { length calls.old.items + (length (waiting_in (notes_for k self.old.now.talk.notes))
             + (1 + (length telling.now.ended.items + length telling.now.notices.items))) ≤ calls.old.room }
-        ensures book { self.new ≡ talked (spec.mailed (news_in telling.now) k (mode_noted telling.now.modes.items k)
-            (mode_of_master self.old.fixed self.old.now.core k) (mail_of k self.old.now.talk.mail)) self.old }
+        ensures book { self.new ≡ talked (spec.note_changes_at (news_in telling.now) k (mode_logged telling.now.modes.items k)
+            (mode_of_master self.old.fixed self.old.now.core k) (notes_for k self.old.now.talk.notes)) self.old }
         ensures calls { calls.new ≡ record calls.old {
-          items = calls.old.items ++ spec.called_back (news_in telling.now) k master (mode_noted telling.now.modes.items k)
-              (mode_of_master self.old.fixed self.old.now.core k) (mail_of k self.old.now.talk.mail) self.old;
+          items = calls.old.items ++ spec.called_back (news_in telling.now) k master (mode_logged telling.now.modes.items k)
+              (mode_of_master self.old.fixed self.old.now.core k) (notes_for k self.old.now.talk.notes) self.old;
         } }
     {
         match self.mode_of_master(k) {
@@ -204,15 +204,15 @@ impl Inner {
         calls: &mut BoundedList<Callback>,
     )
         requires kept { AreKept self.old caches.now }
-        requires room { length calls.old.items + (length (waiting_in (mail_of k self.old.now.talk.mail))
+        requires room { length calls.old.items + (length (waiting_in (notes_for k self.old.now.talk.notes))
             + (1 + (length telling.now.ended.items + length telling.now.notices.items))) ≤ calls.old.room }
-        ensures book { self.new ≡ talked (map (take_of k) (told_if (same_mode (mode_noted telling.now.modes.items k) Asleep)
-            (mail_of k self.old.now.talk.mail))) self.old }
+        ensures book { self.new ≡ talked (map (take_of k) (told_if (same_mode (mode_logged telling.now.modes.items k) Asleep)
+            (notes_for k self.old.now.talk.notes))) self.old }
         ensures calls { calls.new ≡ record calls.old {
           items = calls.old.items
-              ++ (map (spec.callback_of master self.old) (told_if (same_mode (mode_noted telling.now.modes.items k) Asleep) (mail_of k self.old.now.talk.mail))
+              ++ (map (spec.callback_of master self.old) (told_if (same_mode (mode_logged telling.now.modes.items k) Asleep) (notes_for k self.old.now.talk.notes))
               ++ (spec.asks_to k master telling.now.asks
-              ++ map (spec.callback_of master self.old) (spec.notes_to (news_in telling.now) k (mail_of k self.old.now.talk.mail))));
+              ++ map (spec.callback_of master self.old) (spec.notes_to (news_in telling.now) k (notes_for k self.old.now.talk.notes))));
         } }
     {
         notifiers_are_kept();
@@ -230,10 +230,10 @@ impl Inner {
         calls: &mut BoundedList<Callback>,
     )
         requires kept { AreKept self.old caches.now }
-        requires room { length calls.old.items + length (waiting_in (mail_of k self.old.now.talk.mail)) ≤ calls.old.room }
-        ensures book { self.new ≡ talked (map (take_of k) (told_if (same_mode was Asleep) (mail_of k self.old.now.talk.mail))) self.old }
+        requires room { length calls.old.items + length (waiting_in (notes_for k self.old.now.talk.notes)) ≤ calls.old.room }
+        ensures book { self.new ≡ talked (map (take_of k) (told_if (same_mode was Asleep) (notes_for k self.old.now.talk.notes))) self.old }
         ensures calls { calls.new ≡ record calls.old {
-          items = calls.old.items ++ map (spec.callback_of master self.old) (told_if (same_mode was Asleep) (mail_of k self.old.now.talk.mail));
+          items = calls.old.items ++ map (spec.callback_of master self.old) (told_if (same_mode was Asleep) (notes_for k self.old.now.talk.notes));
         } }
     {
         if same_mode(was, Mode::Asleep) {
@@ -250,10 +250,10 @@ impl Inner {
         calls: &mut BoundedList<Callback>,
     )
         requires kept { AreKept self.old caches.now }
-        requires room { length calls.old.items + length (waiting_in (mail_of k self.old.now.talk.mail)) ≤ calls.old.room }
-        ensures book { self.new ≡ talked (map (take_of k) (waiting_in (mail_of k self.old.now.talk.mail))) self.old }
+        requires room { length calls.old.items + length (waiting_in (notes_for k self.old.now.talk.notes)) ≤ calls.old.room }
+        ensures book { self.new ≡ talked (map (take_of k) (waiting_in (notes_for k self.old.now.talk.notes))) self.old }
         ensures calls { calls.new ≡ record calls.old {
-          items = calls.old.items ++ map (spec.callback_of master self.old) (waiting_in (mail_of k self.old.now.talk.mail));
+          items = calls.old.items ++ map (spec.callback_of master self.old) (waiting_in (notes_for k self.old.now.talk.notes));
         } }
     {
         takes_drain_the_slots();
@@ -264,9 +264,9 @@ impl Inner {
 
     /// Takes out the first note that waits for a master.
     fn take_note(&mut self, k: usize) -> Option<Waiting>
-        ensures first { result ≡ slice_get (waiting_in (mail_of k self.old.now.talk.mail)) 0 }
+        ensures first { result ≡ slice_get (waiting_in (notes_for k self.old.now.talk.notes)) 0 }
         ensures rest { self.new ≡ talked (map (take_of k) (option_to_list result)) self.old }
-        ensures order { IsInOrder k self.old.now.talk.mail }
+        ensures order { IsInOrder k self.old.now.talk.notes }
     {
         self.notify.take(k)
     }
@@ -293,7 +293,7 @@ impl Inner {
         requires room { length calls.old.items + (1 + (length telling.now.ended.items + length telling.now.notices.items)) ≤ calls.old.room }
         ensures { calls.new ≡ record calls.old {
           items = calls.old.items ++ (spec.asks_to k master telling.now.asks
-              ++ map (spec.callback_of master self.now) (spec.notes_to (news_in telling.now) k (mail_of k self.now.now.talk.mail)));
+              ++ map (spec.callback_of master self.now) (spec.notes_to (news_in telling.now) k (notes_for k self.now.now.talk.notes)));
         } }
     {
         tell_asked(k, master, telling.asks(), calls);
@@ -334,7 +334,7 @@ impl Inner {
         requires kept { AreKept self.now caches.now }
         requires room { length calls.old.items + length notices.now ≤ calls.old.room }
         ensures calls { calls.new ≡ record calls.old {
-          items = calls.old.items ++ map (spec.callback_of master self.now) (flat_map (spec.noticed_by (mail_of k self.now.now.talk.mail)) notices.now);
+          items = calls.old.items ++ map (spec.callback_of master self.now) (flat_map (spec.noticed_by (notes_for k self.now.now.talk.notes)) notices.now);
         } }
     {
         for notice in notices {
@@ -346,7 +346,7 @@ impl Inner {
 
     /// Whether the master at a place has asked to be told this of a node.
     fn is_wanted(&self, k: usize, notice: Waiting) -> bool
-        ensures { result ≡ spec.is_wanted (mail_of k self.now.now.talk.mail) notice notice.note }
+        ensures { result ≡ spec.is_wanted (notes_for k self.now.now.talk.notes) notice notice.note }
     {
         match notice.note {
             Note::Ack { .. } => false,
@@ -357,7 +357,7 @@ impl Inner {
 
     /// The notes to a master that is asleep wait.
     fn keep_notes(&mut self, telling: &Telling, k: usize)
-        ensures { self.new ≡ talked (map (wait_of k) (spec.notes_to (news_in telling.now) k (mail_of k self.old.now.talk.mail))) self.old }
+        ensures { self.new ≡ talked (map (wait_of k) (spec.notes_to (news_in telling.now) k (notes_for k self.old.now.talk.notes))) self.old }
     {
         notifiers_are_kept();
         self.keep_ended(k, telling.ended());
@@ -381,7 +381,7 @@ impl Inner {
     }
 
     fn keep_notices(&mut self, k: usize, notices: &[Waiting])
-        ensures { self.new ≡ talked (map (wait_of k) (flat_map (spec.noticed_by (mail_of k self.old.now.talk.mail)) notices.now)) self.old }
+        ensures { self.new ≡ talked (map (wait_of k) (flat_map (spec.noticed_by (notes_for k self.old.now.talk.notes)) notices.now)) self.old }
     {
         notifiers_are_kept();
         for notice in notices {
@@ -390,7 +390,7 @@ impl Inner {
     }
 
     fn keep_notice(&mut self, k: usize, notice: Waiting)
-        ensures { self.new ≡ talked (map (wait_of k) (spec.noticed_by (mail_of k self.old.now.talk.mail) notice)) self.old }
+        ensures { self.new ≡ talked (map (wait_of k) (spec.noticed_by (notes_for k self.old.now.talk.notes) notice)) self.old }
     {
         if self.is_wanted(k, notice) {
             self.wait_note(k, notice);

@@ -20,8 +20,3 @@ mod set_wakeup_source;
 mod system_shutdown;
 
 pub(crate) use get_api_version::get_api_version;
-pub(crate) use get_node_status::get_node_status;
-pub(crate) use get_op_characteristic::get_op_characteristic;
-pub(crate) use register_notifier::register_notifier;
-pub(crate) use request_suspend::request_suspend;
-pub(crate) use reset_get_status::reset_get_status;

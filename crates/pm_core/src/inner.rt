@@ -23,7 +23,7 @@ use pm_topology::{Kind, SlaveDef, Topology, kinds_are_exact, needs_in, units_sta
 use std::marker::Model;
 
 /// The object, the parts of the chip, a row for each permitted pair of a master and a slave, the
-/// processors, the reset lines, whether the book is halted, and the mail of each master. A change of it owes
+/// processors, the reset lines, whether the book is halted, and the notes of each master. A change of it owes
 /// nothing to what is kept of the book's values.
 #[derive(Drop)]
 pub(crate) struct Inner {
@@ -46,7 +46,7 @@ impl Model for Inner {
 
     ghost view = { λ inner. record {
       fixed = record { object = inner.object; topology = inner.topology };
-      now = record { core = record { rows = inner.rows; procs = inner.procs.procs; lines = inner.resets; halted = inner.halted }; talk = record { pending = inner.procs.pending; mail = inner.notify } };
+      now = record { core = record { rows = inner.rows; procs = inner.procs.procs; lines = inner.resets; halted = inner.halted }; talk = record { pending = inner.procs.pending; notes = inner.notify } };
     } };
 
     ghost invariant = { λ inner. IsWellFormed inner.topology
@@ -158,7 +158,7 @@ impl Inner {
     }
 
     /// Writes whether some master uses each slave.
-    pub(crate) fn note_uses(&self, used: &mut [bool])
+    pub(crate) fn log_uses(&self, used: &mut [bool])
         requires { length used.old ≡ length self.now.fixed.topology.slaves }
         ensures { used.new ≡ placed (use_of self.now.now.core) 0 self.now.fixed.topology.slaves }
     {
@@ -168,7 +168,7 @@ impl Inner {
     }
 
     /// Writes whether each processor runs, and so needs its power node.
-    pub(crate) fn note_runs(&self, runs: &mut [bool])
+    pub(crate) fn log_runs(&self, runs: &mut [bool])
         requires { length runs.old ≡ length self.now.fixed.topology.procs }
         ensures { runs.new ≡ placed (run_of self.now.now.core) 0 self.now.fixed.topology.procs }
     {

@@ -1,7 +1,6 @@
-//! Laws of books and of runs.
+//! Laws of books.
 
-ghost use Rattle.std.specs.Prelude.{◌≡◌, ℕ, List, is_some, true};
-ghost use Rattle.std.specs.List.{All};
+ghost use Rattle.std.specs.Prelude.{◌≡◌, ℕ, is_some, true};
 ghost use Rattle.pm_base.specs.declared.events.Event.{Event};
 ghost use Rattle.pm_base.specs.declared.names.NodeId.{NodeId};
 ghost use Rattle.pm_base.specs.declared.names.Unit.{Unit};
@@ -13,14 +12,13 @@ ghost use Rattle.pm_core.specs.Fed.{IsFed};
 ghost use Rattle.pm_core.specs.Load.{load_of};
 ghost use Rattle.pm_procs.specs.Procs.{has_member};
 ghost use Rattle.pm_core.specs.Members.{members_of, owns};
-ghost use Rattle.pm_core.specs.Run.{Setup, Stand, Core, IsBookOf, loaded, last_stand, run};
 ghost use Rattle.pm_core.specs.Sound.{IsSound, MeetsRequirements, StandsAsWanted};
 ghost use Rattle.pm_core.specs.State.{State, in_force};
 ghost use Rattle.pm_core.specs.Step.{effect, renews};
 ghost use Rattle.pm_core.specs.Values.{value};
 ghost use Rattle.pm_core.specs.Views.{row};
 
-use pm_notify::mail_stands_in_order;
+use pm_notify::notes_stand_in_order;
 use pm_power::up_where_needed;
 use pm_procs::{modes_of_masters, requests_of_masters};
 use pm_rows::{rows_know_modes, rows_stay_sound, shifts_leave_others};
@@ -40,7 +38,7 @@ pub fn books_stay_sound()
     shifts_leave_others();
     modes_of_masters();
     requests_of_masters();
-    mail_stands_in_order();
+    notes_stand_in_order();
 }
 
 /// After a restart of all a sound book is the book at load.
@@ -53,7 +51,7 @@ pub fn restarts_load()
     shifts_leave_others();
     modes_of_masters();
     requests_of_masters();
-    mail_stands_in_order();
+    notes_stand_in_order();
 }
 
 /// In each sound book over a chip that passes its check the values are those that the requirements ask
@@ -70,21 +68,6 @@ pub fn values_meet()
     kinds_are_exact();
     first_state_meets();
     up_where_needed();
-}
-
-/// Each book of a run over a chip that passes its check has the object and the chip of the run's setup, is sound, and
-/// stands as its requirements ask for: the book at load, each that follows by an event, and so each one of the run.
-pub fn books_of_a_run()
-    ensures load { (c : Setup) (events : List Event) → IsWellFormed c.topology → IsBookOf c (loaded c events).book }
-    ensures step { (c : Setup) (event : Event) (book : State) → IsWellFormed c.topology
-        → IsBookOf c book → IsBookOf c (effect event book) }
-    ensures last { (c : Setup) (stand : Stand) (cores : List Core) → IsBookOf c stand.book
-        → All (λ core. IsBookOf c core.stand.book) cores → IsBookOf c (last_stand stand cores).book }
-    ensures all { (c : Setup) (events : List Event) → IsWellFormed c.topology
-        → All (λ step. All (λ core. IsBookOf c core.stand.book) step.cores) (run c events) }
-{
-    books_stay_sound();
-    values_meet();
 }
 
 /// In the values of each book over a chip that passes its check a node that needs power in its value

@@ -13,9 +13,7 @@ mod choice;
 mod ended;
 mod events;
 mod inner;
-mod judgement;
 mod laws;
-mod lines;
 mod load;
 mod members;
 mod moves;
@@ -23,16 +21,16 @@ mod notifications;
 mod outbox;
 mod pairs;
 mod replies;
+mod reset_lines;
 mod scope;
 mod stages;
 mod step;
 mod talk;
 mod telling;
+mod verdict;
 mod views;
 
 pub use book::Book;
-pub use laws::{
-    books_of_a_run, books_stay_sound, members_are_owned, restarts_load, values_are_fed, values_meet,
-};
+pub use laws::{books_stay_sound, members_are_owned, restarts_load, values_are_fed, values_meet};
 pub use outbox::{Callback, Done, Late, Outbox, Start};
 pub use replies::Answer;

@@ -1,6 +1,6 @@
 //! Which units a step moves, and which processors it starts.
 
-ghost use Rattle.std.specs.Prelude.{◌≡◌, ◌+◌, ◌<◌, ◌≤◌, ◌++◌, false, length, option_to_list, slice_get, unwrap_or};
+ghost use Rattle.std.specs.Prelude.{◌≡◌, ◌+◌, ◌<◌, ◌≤◌, ◌++◌, length, option_to_list, slice_get};
 ghost use Rattle.pm_base.specs.declared.names.Unit.TheVariants.{Node};
 ghost use Rattle.pm_topology.specs.UnitMap.{with_value_at};
 ghost use Rattle.pm_core.specs.Caches.{kind_value, moved_at, moved_by, revalued, start_in, start_if, started_at, starts_by, unit_value};
@@ -9,14 +9,14 @@ ghost use Rattle.pm_core.specs.Values.{line_at};
 use crate::along::Along;
 use crate::caches::UnitKind;
 use crate::outbox::Start;
-use pm_base::{BoundedList, Mode, NodeId, Unit};
+use pm_base::{BoundedList, Mode, NodeId, Unit, at_or};
 use pm_procs::{Proc, Procs, is_awake, same_mode};
 use pm_resets::Resets;
 use pm_topology::{Kind, UnitMap};
 
 /// Writes the value of each unit by its kind, and puts those units into `moved` whose value isn't the
 /// one before.
-pub(crate) fn note_moves(
+pub(crate) fn log_moves(
     kinds: &[UnitKind],
     states: &[u32],
     procs: &Procs,
@@ -34,7 +34,7 @@ pub(crate) fn note_moves(
     } }
 {
     for (k, kind) in kinds.iter().enumerate() {
-        note_move(
+        log_move(
             k,
             unit_value(*kind, states, procs, ups, resets),
             values,
@@ -44,7 +44,7 @@ pub(crate) fn note_moves(
 }
 
 /// Writes the value of the unit at a place, and puts the unit into `moved` if that isn't the one before.
-fn note_move(k: usize, value: u32, values: &mut UnitMap<u32>, moved: &mut BoundedList<Unit>)
+fn log_move(k: usize, value: u32, values: &mut UnitMap<u32>, moved: &mut BoundedList<Unit>)
     requires { length moved.old.items < moved.old.room }
     ensures values { values.new ≡ with_value_at k value values.old }
     ensures moved { moved.new ≡ record moved.old { items = moved.old.items ++ moved_at value (slice_get values.old k) } }
@@ -88,27 +88,15 @@ fn kind_value(kind: Kind, states: &[u32], procs: &Procs, ups: &[bool]) -> u32
     ensures { result ≡ kind_value states.now procs.now.procs ups.now kind }
 {
     match kind {
-        Kind::Slave(place) => state_at(states, place),
-        Kind::Power(place) => { if is_up(ups, place) { 1 } else { 0 } }
+        Kind::Slave(place) => at_or(states, place, 0),
+        Kind::Power(place) => { if at_or(ups, place, false) { 1 } else { 0 } }
         Kind::Proc(place) => { if is_awake(procs.mode(place)) { 1 } else { 0 } }
         Kind::Unknown => 0,
     }
 }
 
-fn state_at(states: &[u32], place: usize) -> u32
-    ensures { result ≡ unwrap_or (slice_get states.now place) 0 }
-{
-    states.get(place).copied().unwrap_or(0)
-}
-
-fn is_up(ups: &[bool], place: usize) -> bool
-    ensures { result ≡ unwrap_or (slice_get ups.now place) false }
-{
-    ups.get(place).copied().unwrap_or(false)
-}
-
 /// Puts the processors that are active now, and were down by what is kept along the step, into `starts`.
-pub(crate) fn note_starts(
+pub(crate) fn log_starts(
     along: &Along,
     kinds: &[UnitKind],
     procs: &Procs,

@@ -1,13 +1,13 @@
 //! What happens to nodes in a step: which change, and which have no users any more.
 
-ghost use Rattle.std.specs.Prelude.{◌≡◌, ◌+◌, ◌*◌, ◌<◌, ◌≤◌, ◌++◌, false, length, slice_get, unwrap_or};
+ghost use Rattle.std.specs.Prelude.{◌≡◌, ◌+◌, ◌*◌, ◌<◌, ◌≤◌, ◌++◌, length};
 ghost use Rattle.pm_core.specs.Caches.{freed_by, noticed_at, noticed_by, unit_value};
 ghost use Rattle.pm_core.specs.Notifications as spec;
 ghost use Rattle.pm_core.specs.Outbox.{notice_count};
 
 use crate::caches::UnitKind;
 use crate::moves::unit_value;
-use pm_base::{BoundedList, NodeId, Unit};
+use pm_base::{BoundedList, NodeId, Unit, at_or};
 use pm_notify::{Note, Waiting};
 use pm_procs::Procs;
 use pm_resets::Resets;
@@ -16,7 +16,7 @@ use pm_topology::{Kind, UnitMap};
 
 /// Puts what happened to each unit into `notices`, in the order of the units: that its value isn't the one
 /// before, and then that it was used and is used no more.
-pub(crate) fn note_notices(
+pub(crate) fn log_notices(
     kinds: &[UnitKind],
     states: &[u32],
     procs: &Procs,
@@ -38,7 +38,7 @@ pub(crate) fn note_notices(
     for (k, kind) in kinds.iter().enumerate() {
         let value = unit_value(*kind, states, procs, ups, resets);
         let freed = freed(*kind, used, rows);
-        note_notice(values.entry(k), value, freed, notices);
+        log_notice(values.entry(k), value, freed, notices);
     }
 }
 
@@ -47,16 +47,10 @@ fn freed(kind: UnitKind, used: &[bool], rows: &Rows) -> bool
     ensures { result ≡ freed_by used.now rows.now kind }
 {
     match kind {
-        UnitKind::Entry(Kind::Slave(s)) => was_used(used, s) && !is_used(s, rows),
+        UnitKind::Entry(Kind::Slave(s)) => at_or(used, s, false) && !is_used(s, rows),
         UnitKind::Entry(Kind::Proc(_) | Kind::Power(_) | Kind::Unknown) => false,
         UnitKind::Reset(_) => false,
     }
-}
-
-fn was_used(used: &[bool], s: usize) -> bool
-    ensures { result ≡ unwrap_or (slice_get used.now s) false }
-{
-    used.get(s).copied().unwrap_or(false)
 }
 
 /// Whether some master uses the slave at a place.
@@ -67,7 +61,7 @@ pub(crate) fn is_used(s: usize, rows: &Rows) -> bool
 }
 
 /// Puts what happened to the unit of an entry into `notices`, by its value before.
-fn note_notice(
+fn log_notice(
     entry: Option<(Unit, u32)>,
     value: u32,
     freed: bool,
@@ -78,15 +72,15 @@ fn note_notice(
     ensures few { length notices.new.items ≤ length notices.old.items + 2 }
 {
     if let Some((Unit::Node(node), before)) = entry {
-        note_if(before != value, node, Note::Change, notices);
-        note_if(freed, node, Note::ZeroUsers, notices);
+        log_if(before != value, node, Note::Change, notices);
+        log_if(freed, node, Note::ZeroUsers, notices);
     }
 }
 
 /// Puts a note about a node into `notices`, if that happened to it.
-fn note_if(happened: bool, node: NodeId, note: Note, notices: &mut BoundedList<Waiting>)
+fn log_if(happened: bool, node: NodeId, note: Note, notices: &mut BoundedList<Waiting>)
     requires { length notices.old.items < notices.old.room }
-    ensures notices { notices.new ≡ record notices.old { items = notices.old.items ++ spec.note_if happened node note } }
+    ensures notices { notices.new ≡ record notices.old { items = notices.old.items ++ spec.log_if happened node note } }
     ensures few { length notices.new.items ≤ length notices.old.items + 1 }
 {
     if happened {

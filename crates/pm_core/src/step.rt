@@ -1,92 +1,50 @@
 //! What one event does to the book, and how it is answered.
 
 ghost use Rattle.std.specs.Prelude.{◌≡◌, true, false};
-ghost use Rattle.pm_base.specs.declared.events.Event.TheVariants.{Ipi};
 ghost use Rattle.pm_ipi.specs.Calls.{ack_of, node_of};
 ghost use Rattle.pm_core.specs.Caches.{AreKept};
 ghost use Rattle.pm_core.specs.Stages.{after_stages, path_from};
-ghost use Rattle.pm_core.specs.Step.{called, stages, path, heard_of, is_heard, is_ipi, is_once, answer_by, acknowledged, time_of};
-ghost use Rattle.pm_core.specs.Heard.{asks_in, aborts_in, registers_in, pulse_in, renews_in};
+ghost use Rattle.pm_core.specs.Served.{pulse_in, says_in};
+ghost use Rattle.pm_core.specs.Step.{acknowledged, answer_by, answer_of, call_in, called, is_heard, is_ipi, is_once, message_stages, path, served, stages, time_of, verdict};
+ghost use Rattle.pm_core.specs.Verdict.{stages_of, verdict_of};
 ghost use Rattle.pm_core.specs.Along.{Completes, trail_from};
 
 use crate::along::Along;
 use crate::caches::Caches;
-use crate::calls::{
-    get_api_version, get_node_status, get_op_characteristic, register_notifier, request_suspend,
-    reset_get_status,
-};
+use crate::calls::get_api_version;
 use crate::inner::Inner;
-use crate::judgement::{Asked, Judgement, Notifier};
 use crate::replies::Answer;
-use pm_base::{Event, LineId, Message, NodeId};
+use crate::verdict::{Say, Verdict};
+use pm_base::{Event, LineId, NodeId};
 use pm_ipi::status::NO_FEATURE;
 use pm_ipi::{AckKind, Call, Response, decode_call};
 use pm_procs::is_awake;
 
-/// What an event came to: nothing to be answered, a message that was dropped, or a call that was
-/// served.
+/// A message with the verdict on it.
 #[derive(Clone, Copy, Debug, PartialEq, Eq)]
-pub(crate) enum Heard {
-    Nothing,
-    Dropped {
-        master: NodeId,
-    },
-    Served {
-        master: NodeId,
-        call: Call,
-        judgement: Judgement,
-    },
+pub(crate) struct Served {
+    pub(crate) master: NodeId,
+    pub(crate) call: Call,
+    pub(crate) verdict: Verdict,
 }
 
-impl Heard {
-    /// The master that the message asks to suspend.
-    pub(crate) fn asks(&self) -> Option<Asked>
-        ensures { result ≡ asks_in self.now }
-    {
-        match self {
-            Heard::Served { judgement, .. } => judgement.asks,
-            Heard::Nothing | Heard::Dropped { .. } => None,
-        }
+/// What the masters are told by a message, if there is one.
+pub(crate) fn says_in(served: Option<Served>) -> Option<Say>
+    ensures { result ≡ says_in served }
+{
+    match served {
+        Some(served) => served.verdict.says(),
+        None => None,
     }
+}
 
-    /// The notifier that the message puts.
-    pub(crate) fn registers(&self) -> Option<Notifier>
-        ensures { result ≡ registers_in self.now }
-    {
-        match self {
-            Heard::Served { judgement, .. } => judgement.registers,
-            Heard::Nothing | Heard::Dropped { .. } => None,
-        }
-    }
-
-    /// Whether all is restarted by the message.
-    pub(crate) fn renews(&self) -> bool
-        ensures { result ≡ renews_in self.now }
-    {
-        match self {
-            Heard::Served { judgement, .. } => judgement.renews,
-            Heard::Nothing | Heard::Dropped { .. } => false,
-        }
-    }
-
-    /// The master that aborts its suspend by the message.
-    pub(crate) fn aborts(&self) -> Option<usize>
-        ensures { result ≡ aborts_in self.now }
-    {
-        match self {
-            Heard::Served { judgement, .. } => judgement.aborts,
-            Heard::Nothing | Heard::Dropped { .. } => None,
-        }
-    }
-
-    /// The reset line that the message pulses.
-    pub(crate) fn pulse(&self) -> Option<LineId>
-        ensures { result ≡ pulse_in self.now }
-    {
-        match self {
-            Heard::Served { judgement, .. } => judgement.pulse,
-            Heard::Nothing | Heard::Dropped { .. } => None,
-        }
+/// The reset line that is pulsed by it.
+pub(crate) fn pulse_in(served: Option<Served>) -> Option<LineId>
+    ensures { result ≡ pulse_in served }
+{
+    match served {
+        Some(served) => served.verdict.pulse(),
+        None => None,
     }
 }
 
@@ -101,20 +59,31 @@ impl Inner {
         }
     }
 
-    /// One event: the book after its stages, and what it came to. Noting the modes after it completes what
-    /// was noted along the step.
-    pub(crate) fn take(&mut self, caches: &Caches, event: &Event, along: &mut Along) -> Heard
+    /// One event: the book after its stages, and the verdict on a message. Noting the modes after it completes
+    /// what was noted along the step.
+    pub(crate) fn take(
+        &mut self,
+        caches: &Caches,
+        event: &Event,
+        along: &mut Along,
+    ) -> Option<Served>
         requires kept { AreKept self.old caches.now }
         requires along { along.old ≡ trail_from self.old }
         ensures book { self.new ≡ after_stages (stages event.now self.old) self.old }
-        ensures heard { result ≡ heard_of event.now self.old }
+        ensures served { result ≡ served event.now self.old }
         ensures along { Completes self.old (path event.now self.old) self.new along.new }
     {
         if let Event::Ipi { master, message } = event {
-            return self.hear(caches, *master, message, along);
+            let call = decode_call(message);
+            let verdict = self.hear(caches, *master, call, along);
+            return Some(Served {
+                master: *master,
+                call,
+                verdict,
+            });
         }
         self.happen(event);
-        Heard::Nothing
+        None
     }
 
     /// An event that is no message. Nothing happens while the book is halted.
@@ -134,32 +103,21 @@ impl Inner {
         }
     }
 
-    fn hear(
-        &mut self,
-        caches: &Caches,
-        master: NodeId,
-        message: &Message,
-        along: &mut Along,
-    ) -> Heard
+    /// A call of the master with this node, if that is heard.
+    fn hear(&mut self, caches: &Caches, master: NodeId, call: Call, along: &mut Along) -> Verdict
         requires kept { AreKept self.old caches.now }
         requires along { along.old ≡ trail_from self.old }
-        ensures book { self.new ≡ after_stages (stages (Ipi master message.now) self.old) self.old }
-        ensures heard { result ≡ heard_of (Ipi master message.now) self.old }
-        ensures along { Completes self.old (path (Ipi master message.now) self.old) self.new along.new }
+        ensures book { self.new ≡ after_stages (message_stages (call_in master call self.old)) self.old }
+        ensures verdict { result ≡ verdict (call_in master call self.old) }
+        ensures along { Completes self.old (path_from (message_stages (call_in master call self.old)) self.old) self.new along.new }
     {
         let Some(place) = self.master_place(master) else {
-            return Heard::Dropped { master };
+            return Verdict::Dropped;
         };
         if !self.is_heard(place) {
-            return Heard::Dropped { master };
+            return Verdict::Dropped;
         }
-        let call = decode_call(message);
-        let judgement = self.serve(caches, place, call, along);
-        Heard::Served {
-            master,
-            call,
-            judgement,
-        }
+        self.serve(caches, place, call, along)
     }
 
     /// Whether a master is heard: it is active or suspending, and the book isn't halted.
@@ -170,12 +128,12 @@ impl Inner {
     }
 
     /// One call. The modes are noted between its stages.
-    fn serve(&mut self, caches: &Caches, master: usize, call: Call, along: &mut Along) -> Judgement
+    fn serve(&mut self, caches: &Caches, master: usize, call: Call, along: &mut Along) -> Verdict
         requires kept { AreKept self.old caches.now }
         requires along { along.old ≡ trail_from self.old }
-        ensures judgement { result ≡ (called master call self.old).judgement }
-        ensures book { self.new ≡ after_stages (called master call self.old).stages self.old }
-        ensures along { Completes self.old (path_from (called master call self.old).stages self.old) self.new along.new }
+        ensures verdict { result ≡ verdict_of (called master call self.old) }
+        ensures book { self.new ≡ after_stages (stages_of (called master call self.old)) self.old }
+        ensures along { Completes self.old (path_from (stages_of (called master call self.old)) self.old) self.new along.new }
     {
         match call {
             Call::ForcePowerdown { node, ack } => self.force_powerdown(master, node, ack, along),
@@ -188,108 +146,76 @@ impl Inner {
     }
 
     /// A call of one stage at most.
-    fn serve_once(&mut self, caches: &Caches, master: usize, call: Call) -> Judgement
+    fn serve_once(&mut self, caches: &Caches, master: usize, call: Call) -> Verdict
         requires kept { AreKept self.old caches.now }
         requires once { is_once call ≡ true }
-        ensures judgement { result ≡ (called master call self.old).judgement }
-        ensures book { self.new ≡ after_stages (called master call self.old).stages self.old }
+        ensures verdict { result ≡ verdict_of (called master call self.old) }
+        ensures book { self.new ≡ after_stages (stages_of (called master call self.old)) self.old }
     {
         match call {
             Call::GetApiVersion => get_api_version(),
-            Call::GetNodeStatus { node } => {
-                get_node_status(&self.status_view(caches, master, node))
-            }
+            Call::GetNodeStatus { node } => self.get_node_status(caches, master, node),
             Call::GetOpCharacteristic {
                 node,
                 characteristic,
-            } => {
-                let view = self.characteristics(caches, node);
-                get_op_characteristic(characteristic, view)
-            }
+            } => self.get_op_characteristic(caches, node, characteristic),
             Call::RegisterNotifier {
                 node,
                 event,
                 enable,
                 ..
-            } => {
-                let view = self.watched(master, node);
-                register_notifier(master, &view, node, event, enable)
-            }
+            } => self.register_notifier(master, node, event, enable),
             Call::RequestSuspend {
                 node,
                 ack,
                 latency,
                 state,
-            } => {
-                let view = self.suspend_view(master, node);
-                request_suspend(master, &view, node, ack, latency, state)
-            }
-            Call::SelfSuspend { node, address } => {
-                let view = self.proc_view(master, node);
-                self.self_suspend(master, &view, address)
-            }
-            Call::AbortSuspend { node, reason } => {
-                let view = self.proc_view(master, node);
-                self.abort_suspend(master, &view, reason, self.is_asked(master))
-            }
+            } => self.request_suspend(master, node, ack, latency, state),
+            Call::SelfSuspend { node, address } => self.self_suspend(master, node, address),
+            Call::AbortSuspend { node, reason } => self.abort_suspend(master, node, reason),
             Call::RequestWakeup { node, address, ack } => {
-                let view = self.wake_view(master, node);
-                self.request_wakeup(&view, address, ack)
+                self.request_wakeup(master, node, address, ack)
             }
             Call::SetWakeupSource {
                 target,
                 source,
                 enable,
-            } => {
-                let row = self.row_view(master, source);
-                let proc = self.proc_view(master, target);
-                self.set_wakeup_source(&proc, &row, target, enable)
-            }
-            Call::RequestNode { node, caps, ack } => {
-                let view = self.row_view(master, node);
-                self.request_node(&view, caps, ack)
-            }
-            Call::ReleaseNode { node } => {
-                let view = self.row_view(master, node);
-                self.release_node(&view)
-            }
+            } => self.set_wakeup_source(master, target, source, enable),
+            Call::RequestNode { node, caps, ack } => self.request_node(master, node, caps, ack),
+            Call::ReleaseNode { node } => self.release_node(master, node),
             Call::SetRequirement { node, caps, ack } => {
-                let view = self.row_view(master, node);
-                let mode = self.mode_of_master(master);
-                self.set_requirement(&view, mode, caps, ack)
+                self.set_requirement(master, node, caps, ack)
             }
-            Call::SetMaxLatency { node, latency } => {
-                let view = self.row_view(master, node);
-                self.set_max_latency(&view, latency)
-            }
-            Call::ResetAssert { line, action } => {
-                let view = self.line_view(master, line);
-                self.reset_assert(&view, line, action)
-            }
-            Call::ResetGetStatus { line } => reset_get_status(self.line_status(line)),
+            Call::SetMaxLatency { node, latency } => self.set_max_latency(master, node, latency),
+            Call::ResetAssert { line, action } => self.reset_assert(master, line, action),
+            Call::ResetGetStatus { line } => self.reset_get_status(line),
             Call::InitFinalize => self.init_finalize(master),
-            Call::ForcePowerdown { .. } | Call::SystemShutdown { .. } | Call::Unknown => {
-                Judgement::refusal(NO_FEATURE)
-            }
+            _ => Verdict::refused(NO_FEATURE),
         }
     }
 
-    /// What the sender of a message gets for what it came to, in the book after it.
-    pub(crate) fn answer(&self, caches: &Caches, heard: Heard) -> Answer
+    /// What the sender of a message gets by the verdict on it, in the book after it.
+    pub(crate) fn answer(&self, caches: &Caches, served: Option<Served>) -> Answer
         requires { AreKept self.now caches.now }
-        ensures { result ≡ answer_by heard self.now }
+        ensures { result ≡ answer_by served self.now }
     {
-        match heard {
-            Heard::Nothing => Answer::Silent,
-            Heard::Dropped { master } => Answer::Drop { master },
-            Heard::Served {
-                master,
-                call,
-                judgement,
-            } => match judgement.asks {
-                None => self.acknowledge(caches, master, &call, judgement.response),
-                Some(_) => Answer::Silent,
-            },
+        match served {
+            None => Answer::Silent,
+            Some(served) => self.answer_to(caches, &served),
+        }
+    }
+
+    fn answer_to(&self, caches: &Caches, served: &Served) -> Answer
+        requires { AreKept self.now caches.now }
+        ensures { result ≡ answer_of served.now.verdict served.now.master served.now.call self.now }
+    {
+        let master = served.master;
+        if matches!(served.verdict, Verdict::Dropped) {
+            return Answer::Drop { master };
+        }
+        match served.verdict.response() {
+            Some(response) => self.acknowledge(caches, master, &served.call, response),
+            None => Answer::Silent,
         }
     }
 

@@ -4,17 +4,18 @@
 ghost use Rattle.std.specs.Prelude.{◌≡◌, ◌+◌, ◌<◌, ◌≤◌, ◌++◌, IfOk, length};
 ghost use Rattle.pm_procs.specs.Pending.{pending_at};
 ghost use Rattle.pm_topology.specs.Units.{units_of};
-ghost use Rattle.pm_core.specs.Along.{mode_noted, modes_of, trail_at_load, turns_noted};
+ghost use Rattle.pm_core.specs.Along.{mode_logged, modes_of, trail_at_load, turns_logged};
 ghost use Rattle.pm_core.specs.Ended.{ended_at, ended_from};
 ghost use Rattle.pm_core.specs.Outbox.{notice_count};
 ghost use Rattle.pm_core.specs.State.{in_force};
 ghost use Rattle.pm_core.specs.Telling.{turns_in};
+ghost use Rattle.pm_core.specs.Verdict.{aborted_by, asked_by};
 
-use crate::along::{Along, mode_noted};
+use crate::along::Along;
 use crate::ended::{Ended, Turns, ended_at};
 use crate::inner::Inner;
-use crate::judgement::Asked;
-use pm_base::{BoundedList, Mode, NoMemory};
+use crate::verdict::{Asked, Say, aborted_by, asked_by};
+use pm_base::{BoundedList, Mode, NoMemory, at_or};
 use pm_notify::Waiting;
 use std::alloc::Global;
 
@@ -74,46 +75,41 @@ impl Telling {
         self.notices.as_slice()
     }
 
-    /// Notes the mode of each master before the step.
-    pub(crate) fn note_modes(&mut self, inner: &Inner)
+    /// Logs the mode of each master before the step.
+    pub(crate) fn log_modes(&mut self, inner: &Inner)
         requires places { length self.old.modes.items ≡ length (in_force inner.now).masters }
         ensures modes { self.new.modes.items ≡ modes_of inner.now }
         ensures along { self.new.along ≡ self.old.along }
         ensures ended { self.new.ended ≡ self.old.ended }
         ensures notices { self.new.notices ≡ self.old.notices }
     {
-        inner.note_modes(&mut self.modes);
+        inner.log_modes(&mut self.modes);
     }
 
-    /// Notes the master that is asked, and the requests that end: by what became of the modes along the
+    /// Logs the master that is asked, and the requests that end: by what became of the modes along the
     /// step, by the master that aborts its suspend, and by the time that passes.
-    pub(crate) fn note_ended(
-        &mut self,
-        inner: &Inner,
-        asks: Option<Asked>,
-        aborts: Option<usize>,
-        count: Option<u32>,
-    )
+    pub(crate) fn log_ended(&mut self, inner: &Inner, says: Option<Say>, count: Option<u32>)
         requires each { length inner.now.now.talk.pending ≡ length (in_force inner.now).masters }
         requires room { length (in_force inner.now).masters ≤ self.old.ended.room }
         ensures modes { self.new.modes ≡ self.old.modes }
         ensures along { self.new.along ≡ self.old.along }
-        ensures asks { self.new.asks ≡ asks }
+        ensures asks { self.new.asks ≡ asked_by says }
         ensures notices { self.new.notices ≡ self.old.notices }
         ensures ended { self.new.ended ≡ record self.old.ended {
-          items = ended_from (turns_in self.old) aborts count 0 inner.now.now.talk.pending;
+          items = ended_from (turns_in self.old) (aborted_by says) count 0 inner.now.now.talk.pending;
         } }
         ensures few { length self.new.ended.items ≤ length (in_force inner.now).masters }
     {
-        self.asks = asks;
+        self.asks = asked_by(says);
         self.ended.clear();
+        let aborts = aborted_by(says);
         for m in 0..inner.masters() {
-            self.note_end(inner, aborts, count, m);
+            self.log_end(inner, aborts, count, m);
         }
     }
 
-    /// Notes the end of what is pending on the master at a place.
-    fn note_end(&mut self, inner: &Inner, aborts: Option<usize>, count: Option<u32>, m: usize)
+    /// Logs the end of what is pending on the master at a place.
+    fn log_end(&mut self, inner: &Inner, aborts: Option<usize>, count: Option<u32>, m: usize)
         requires room { length self.old.ended.items < self.old.ended.room }
         ensures modes { self.new.modes ≡ self.old.modes }
         ensures along { self.new.along ≡ self.old.along }
@@ -139,8 +135,8 @@ impl Telling {
 
     /// The mode of the master at a place before the step.
     pub(crate) fn mode(&self, m: usize) -> Mode
-        ensures { result ≡ mode_noted self.now.modes.items m }
+        ensures { result ≡ mode_logged self.now.modes.items m }
     {
-        mode_noted(&self.modes, m)
+        at_or(&self.modes, m, Mode::Off)
     }
 }

@@ -1,15 +1,17 @@
 -- PM_REGISTER_NOTIFIER (UG1200).
-use Rattle.std.specs.Prelude.{ℕ, Bool, true, false, ◌==◌, List, [], ◌∷◌, Option, Some, None, option_map}
+use Rattle.std.specs.Prelude.{ℕ, Bool, true, false, ◌==◌, ◌&&◌, Option, Some, None, option_map}
 use Rattle.pm_base.specs.declared.names.NodeId.{NodeId}
 use Rattle.pm_notify.specs.declared.notes.NodeEvent.{NodeEvent}
 use Rattle.pm_notify.specs.declared.notes.NodeEvent.TheVariants.{Change, ZeroUsers}
 use Rattle.pm_notify.specs.Notes.{event_of}
-use Rattle.pm_ipi.specs.Status.{invalid_parameter, invalid_node, no_access}
-use Rattle.pm_core.specs.declared.judgement.Notifier.{Notifier}
+use Rattle.pm_core.specs.declared.verdict.Notifier.{Notifier}
+use Rattle.pm_core.specs.declared.verdict.Say.{Say}
+use Rattle.pm_core.specs.declared.verdict.Say.TheVariants.{Register}
 use Rattle.pm_core.specs.declared.views.Watched.{Watched}
 use Rattle.pm_core.specs.declared.views.Watched.TheVariants.{Nothing, PowerNode, SlaveNode}
 use Rattle.pm_core.specs.calls.SetWakeupSource.{is_switch}
-use Rattle.pm_core.specs.Outcome.{Tried, tried, Check, must, registering}
+use Rattle.pm_core.specs.Checks.{Checks, in_range, unchecked}
+use Rattle.pm_core.specs.Verdict.{Called, effecting, saying}
 
 -- masters can be told of the node: it is a slave or a power node
 abbrev pub is_watchable : Watched → Bool
@@ -32,19 +34,21 @@ may_watch PowerNode = true
 may_watch (SlaveNode permitted) = permitted
 
 -- the node is a slave or a power node, the event can happen to it, the switch is known, and the caller may be told
-abbrev pub register_checks : (event enable : ℕ) → Watched → List Check
-register_checks event enable view =
-    must (is_watchable view) invalid_node
-    ∷ must (can_happen (event_of event) view) invalid_parameter
-    ∷ must (is_switch enable) invalid_parameter
-    ∷ must (may_watch view) no_access
-    ∷ []
+abbrev pub register_checks : (event enable : ℕ) → Watched → Checks
+register_checks event enable view = record unchecked {
+  node = is_watchable view;
+  arguments = in_range (can_happen (event_of event) view && is_switch enable);
+  permitted = may_watch view;
+}
 
 -- the notifier of the master at place m for an event of a node, on or off
 abbrev pub notifier_of : ℕ → NodeId → ℕ → NodeEvent → Notifier
 notifier_of m node enable event = record { master = m; node = node; event = event; on = enable == 1 }
 
+abbrev pub notifier_put : ℕ → NodeId → ℕ → NodeEvent → Say
+notifier_put m node enable event = Register (notifier_of m node enable event)
+
 -- the caller is told of the event from now on, or isn't any more
-abbrev pub register_notifier : ℕ → NodeId → (event enable : ℕ) → Watched → Tried
+abbrev pub register_notifier : ℕ → NodeId → (event enable : ℕ) → Watched → Called
 register_notifier m node event enable view =
-    tried (register_checks event enable view) (registering (option_map (notifier_of m node enable) (event_of event)))
+    effecting (register_checks event enable view) (saying (option_map (notifier_put m node enable) (event_of event)))

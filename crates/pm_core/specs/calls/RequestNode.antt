@@ -1,25 +1,34 @@
 -- PM_REQUEST_NODE (UG1200).
-use Rattle.std.specs.Prelude.{ℕ, not, is_some, List, [], ◌∷◌}
+use Rattle.std.specs.Prelude.{ℕ, is_some, if◌then◌else◌, Option, Some, None}
 use Rattle.pm_base.specs.declared.caps.Caps.{Caps}
+use Rattle.pm_base.specs.declared.names.NodeId.{NodeId}
 use Rattle.pm_core.specs.declared.views.RowView.{RowView}
 use Rattle.pm_rows.specs.declared.row.Change.TheVariants.{Request}
-use Rattle.pm_ipi.specs.Status.{invalid_parameter, invalid_node, no_access, no_feature, double_request}
 use Rattle.pm_ipi.specs.Calls.{ack_kind}
+use Rattle.pm_core.specs.Checks.{Checks, Standing, Fits, InUse, UsedBy, unchecked}
 use Rattle.pm_core.specs.RowCalls.{is_in_use, can_have, row_changes}
-use Rattle.pm_core.specs.Outcome.{Tried, tried, Check, must, must_be_free, done}
+use Rattle.pm_core.specs.Verdict.{Called, changing}
+
+-- nobody else may use a slave that can't be shared
+abbrev pub rivalled : Option NodeId → Standing
+rivalled None = Fits
+rivalled (Some other) = UsedBy other
+
+-- the caller doesn't use the slave yet
+abbrev pub to_request : RowView → Standing
+to_request view = if is_in_use view then InUse else rivalled view.rival
 
 -- the acknowledge kind is known, the node is a slave, the caller may use it, the slave has the
 -- capabilities, the caller doesn't use it yet, and no other master does where it can't be shared
-abbrev pub request_checks : Caps → ℕ → RowView → List Check
-request_checks caps ack view =
-    must (is_some (ack_kind ack)) invalid_parameter
-    ∷ must (is_some view.slave) invalid_node
-    ∷ must (is_some view.entry) no_access
-    ∷ must (can_have caps view) no_feature
-    ∷ must (not (is_in_use view)) double_request
-    ∷ must_be_free view.rival
-    ∷ []
+abbrev pub request_checks : Caps → ℕ → RowView → Checks
+request_checks caps ack view = record unchecked {
+  acknowledge = is_some (ack_kind ack);
+  node = is_some view.slave;
+  permitted = is_some view.entry;
+  capable = can_have caps view;
+  standing = to_request view;
+}
 
 -- the slave is used from now on, with these capabilities
-abbrev pub request_node : Caps → ℕ → RowView → Tried
-request_node caps ack view = tried (request_checks caps ack view) (done (row_changes (Request caps) view))
+abbrev pub request_node : Caps → ℕ → RowView → Called
+request_node caps ack view = changing (request_checks caps ack view) (row_changes (Request caps) view)

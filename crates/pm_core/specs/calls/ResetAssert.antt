@@ -2,23 +2,20 @@
 use Rattle.std.specs.Prelude.{ℕ, Bool, ◌==◌, ◌||◌, if◌then◌else◌, is_some, List, [], ◌∷◌, ◌++◌, Option, Some, None}
 use Rattle.pm_base.specs.declared.names.LineId.{LineId}
 use Rattle.pm_base.specs.declared.names.Mode.TheVariants.{Off}
-use Rattle.pm_ipi.specs.Status.{invalid_parameter, invalid_node, no_access}
-use Rattle.pm_core.specs.declared.lines.LineView.{LineView}
-use Rattle.pm_core.specs.declared.lines.OwnedProc.{OwnedProc}
-use Rattle.pm_core.specs.Outcome.{Tried, tried, Check, must, resetting}
+use Rattle.pm_core.specs.declared.reset_lines.LineView.{LineView}
+use Rattle.pm_core.specs.declared.reset_lines.OwnedProc.{OwnedProc}
+use Rattle.pm_core.specs.Checks.{Checks, in_range, unchecked}
 use Rattle.pm_core.specs.Prims.{Prim, Put_line, Put_proc}
+use Rattle.pm_core.specs.Verdict.{Called, changing, pulsing}
 
 -- 0 releases, 1 asserts, and 2 pulses
 abbrev pub is_action : ℕ → Bool
 is_action action = (action == 0) || ((action == 1) || (action == 2))
 
 -- the chip has the line, the action is known, and the caller may reset the line
-abbrev pub reset_checks : ℕ → LineView → List Check
+abbrev pub reset_checks : ℕ → LineView → Checks
 reset_checks action view =
-    must (is_some view.place) invalid_node
-    ∷ must (is_action action) invalid_parameter
-    ∷ must view.permitted no_access
-    ∷ []
+    record unchecked { node = is_some view.place; arguments = in_range (is_action action); permitted = view.permitted }
 
 -- the line at this place is asserted or released
 abbrev pub line_put : Option ℕ → Bool → List Prim
@@ -42,6 +39,6 @@ reset_changes action view = line_put view.place (action == 1) ++ stopped_by acti
 abbrev pub pulsed : ℕ → LineId → Option LineId
 pulsed action line = if action == 2 then Some line else None
 
-abbrev pub reset_assert : LineId → ℕ → LineView → Tried
+abbrev pub reset_assert : LineId → ℕ → LineView → Called
 reset_assert line action view =
-    tried (reset_checks action view) (resetting (pulsed action line) (reset_changes action view))
+    record (changing (reset_checks action view) (reset_changes action view)) { effects = pulsing (pulsed action line) }

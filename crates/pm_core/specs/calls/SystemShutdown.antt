@@ -1,23 +1,25 @@
 -- PM_SYSTEM_SHUTDOWN (UG1200).
 use Rattle.std.specs.Prelude.{ℕ, ◌==◌, ◌&&◌, ◌||◌, nat_le, Bool, true, false, not, if◌then◌else◌, List, [], ◌∷◌, slice_get, Option, Some, None}
 use Rattle.pm_base.specs.declared.names.Mode.TheVariants.{Active}
-use Rattle.pm_ipi.specs.Status.{invalid_parameter, no_access}
 use Rattle.pm_perms.specs.Permits.{may_shut}
 use Rattle.pm_procs.specs.Procs.{members_at}
 use Rattle.pm_core.specs.declared.scope.Scope.TheVariants.{Own, All}
 use Rattle.pm_core.specs.Members.{members_of}
-use Rattle.pm_core.specs.Outcome.{Deed, Tried, tried, Check, must, staged}
+use Rattle.pm_core.specs.declared.verdict.Say.{Say}
+use Rattle.pm_core.specs.declared.verdict.Say.TheVariants.{Renew}
+use Rattle.pm_core.specs.Checks.{Checks, in_range, unchecked}
 use Rattle.pm_core.specs.Prims.{Prim, Put_proc, Halt, Reload}
 use Rattle.pm_core.specs.Scope.{offs}
 use Rattle.pm_core.specs.State.{Fixed}
+use Rattle.pm_core.specs.Verdict.{Called, saying, staged}
 use Rattle.pm_core.specs.Views.{master_node}
 
 -- the type and the subtype are known, and the caller may shut that much down; a scope (type 2) needs no permission
-abbrev pub system_shutdown_checks : Fixed → (m shutdown_type subtype : ℕ) → List Check
-system_shutdown_checks fixed m shutdown_type subtype =
-    must (nat_le shutdown_type 2 && nat_le subtype 2) invalid_parameter
-    ∷ must ((shutdown_type == 2) || may_shut fixed.object fixed.topology (master_node fixed.object.masters m) subtype) no_access
-    ∷ []
+abbrev pub system_shutdown_checks : Fixed → (m shutdown_type subtype : ℕ) → Checks
+system_shutdown_checks fixed m shutdown_type subtype = record unchecked {
+  arguments = in_range (nat_le shutdown_type 2 && nat_le subtype 2);
+  permitted = (shutdown_type == 2) || may_shut fixed.object fixed.topology (master_node fixed.object.masters m) subtype;
+}
 
 -- the place of the first processor of the master at place m
 abbrev pub first_own : Fixed → ℕ → Option ℕ
@@ -55,10 +57,12 @@ shutdown_stages fixed m shutdown_type subtype =
 abbrev pub restarts_all : (shutdown_type subtype : ℕ) → Bool
 restarts_all shutdown_type subtype = (shutdown_type == 1) && not (subtype == 0)
 
-abbrev pub system_shutdown_deed : Fixed → (m shutdown_type subtype : ℕ) → Deed
-system_shutdown_deed fixed m shutdown_type subtype =
-    record (staged (shutdown_stages fixed m shutdown_type subtype)) { renews = restarts_all shutdown_type subtype }
+-- then what the masters are told is as at load
+abbrev pub renewal : Bool → Option Say
+renewal all = if all then Some Renew else None
 
-abbrev pub system_shutdown : Fixed → (m shutdown_type subtype : ℕ) → Tried
+abbrev pub system_shutdown : Fixed → (m shutdown_type subtype : ℕ) → Called
 system_shutdown fixed m shutdown_type subtype =
-    tried (system_shutdown_checks fixed m shutdown_type subtype) (system_shutdown_deed fixed m shutdown_type subtype)
+    record (staged (system_shutdown_checks fixed m shutdown_type subtype) (shutdown_stages fixed m shutdown_type subtype)) {
+      effects = saying (renewal (restarts_all shutdown_type subtype));
+    }

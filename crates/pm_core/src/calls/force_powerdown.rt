@@ -3,15 +3,15 @@
 ghost use Rattle.std.specs.Prelude.{◌≡◌};
 ghost use Rattle.pm_perms.specs.Permits.{can_be_forced, may_force};
 ghost use Rattle.pm_core.specs.Along.{Completes, trail_from};
-ghost use Rattle.pm_core.specs.Outcome.{outcome_of};
+ghost use Rattle.pm_core.specs.Verdict.{stages_of, verdict_of};
 ghost use Rattle.pm_core.specs.Stages.{after_stages, path_from};
 ghost use Rattle.pm_core.specs.Views.{master_node};
 ghost use Rattle.pm_core.specs.calls.ForcePowerdown.{force_powerdown, force_stages};
 
 use crate::along::Along;
 use crate::inner::Inner;
-use crate::judgement::Judgement;
 use crate::scope::Scope;
+use crate::verdict::Verdict;
 use crate::views::master_node;
 use pm_base::NodeId;
 use pm_ipi::ack_kind;
@@ -28,24 +28,24 @@ impl Inner {
         node: NodeId,
         ack: u32,
         along: &mut Along,
-    ) -> Judgement
+    ) -> Verdict
         requires { along.old ≡ trail_from self.old }
-        ensures judgement { result ≡ (outcome_of (force_powerdown self.old.fixed master node ack)).judgement }
-        ensures book { self.new ≡ after_stages (outcome_of (force_powerdown self.old.fixed master node ack)).stages self.old }
+        ensures verdict { result ≡ verdict_of (force_powerdown self.old.fixed master node ack) }
+        ensures book { self.new ≡ after_stages (stages_of (force_powerdown self.old.fixed master node ack)) self.old }
         ensures along { Completes self.old
-            (path_from (outcome_of (force_powerdown self.old.fixed master node ack)).stages self.old) self.new along.new }
+            (path_from (stages_of (force_powerdown self.old.fixed master node ack)) self.old) self.new along.new }
     {
         if ack_kind(ack).is_none() {
-            return Judgement::refusal(INVALID_PARAMETER);
+            return Verdict::refused(INVALID_PARAMETER);
         }
         if !can_be_forced(self.kind(node)) {
-            return Judgement::refusal(INVALID_NODE);
+            return Verdict::refused(INVALID_NODE);
         }
         if !self.may_force(master, node) {
-            return Judgement::refusal(NO_ACCESS);
+            return Verdict::refused(NO_ACCESS);
         }
         self.force(node, along);
-        Judgement::success([0; 3])
+        Verdict::done()
     }
 
     /// Whether the object permits a master to force a node.
@@ -64,7 +64,7 @@ impl Inner {
     {
         self.take_off(Scope::Under(node));
         self.follow();
-        along.note(self);
+        along.log(self);
         self.clear_below(node);
         self.follow();
     }

@@ -1,10 +1,12 @@
 //! PM_REGISTER_NOTIFIER (UG1200).
 
 ghost use Rattle.std.specs.Prelude.{◌≡◌};
-ghost use Rattle.pm_core.specs.Outcome.{outcome_of};
+ghost use Rattle.pm_core.specs.Verdict.{verdict_of};
+ghost use Rattle.pm_core.specs.Views.{watched};
 ghost use Rattle.pm_core.specs.calls.RegisterNotifier.{can_happen, may_watch, register_notifier};
 
-use crate::judgement::{Judgement, Notifier};
+use crate::inner::Inner;
+use crate::verdict::{Notifier, Say, Verdict};
 use crate::views::Watched;
 use pm_base::NodeId;
 use pm_ipi::status::{INVALID_NODE, INVALID_PARAMETER, NO_ACCESS};
@@ -31,35 +33,35 @@ fn may_watch(view: &Watched) -> bool
     }
 }
 
-/// The caller is told of the event of the node from now on, or not any more.
-pub(crate) fn register_notifier(
-    master: usize,
-    view: &Watched,
-    node: NodeId,
-    event: u32,
-    enable: u32,
-) -> Judgement
-    ensures { result ≡ (outcome_of (register_notifier master node event enable view.now)).judgement }
-{
-    if matches!(view, Watched::Nothing) {
-        return Judgement::refusal(INVALID_NODE);
-    }
-    let Some(event) = NodeEvent::from_number(event) else {
-        return Judgement::refusal(INVALID_PARAMETER);
-    };
-    if !can_happen(event, view) || enable > 1 {
-        return Judgement::refusal(INVALID_PARAMETER);
-    }
-    if !may_watch(view) {
-        return Judgement::refusal(NO_ACCESS);
-    }
-    Judgement {
-        registers: Some(Notifier {
+impl Inner {
+    /// The caller is told of the event of the node from now on, or not any more.
+    pub(crate) fn register_notifier(
+        &self,
+        master: usize,
+        node: NodeId,
+        event: u32,
+        enable: u32,
+    ) -> Verdict
+        ensures { result ≡ verdict_of (register_notifier master node event enable (watched master node self.now)) }
+    {
+        let view = self.watched(master, node);
+        if matches!(view, Watched::Nothing) {
+            return Verdict::refused(INVALID_NODE);
+        }
+        let Some(event) = NodeEvent::from_number(event) else {
+            return Verdict::refused(INVALID_PARAMETER);
+        };
+        if !can_happen(event, &view) || enable > 1 {
+            return Verdict::refused(INVALID_PARAMETER);
+        }
+        if !may_watch(&view) {
+            return Verdict::refused(NO_ACCESS);
+        }
+        Verdict::saying(Say::Register(Notifier {
             master,
             node,
             event,
             on: enable == 1,
-        }),
-        ..Judgement::success([0; 3])
+        }))
     }
 }

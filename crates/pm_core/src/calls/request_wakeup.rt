@@ -1,14 +1,14 @@
 //! PM_REQUEST_WAKEUP (UG1200).
 
 ghost use Rattle.std.specs.Prelude.{◌≡◌};
-ghost use Rattle.pm_core.specs.Outcome.{outcome_of};
+ghost use Rattle.pm_core.specs.Verdict.{stages_of, verdict_of};
 ghost use Rattle.pm_core.specs.Stages.{after_stages};
+ghost use Rattle.pm_core.specs.Views.{wake_view};
 ghost use Rattle.pm_core.specs.calls.RequestWakeup.{request_wakeup};
 
 use crate::inner::Inner;
-use crate::judgement::Judgement;
-use crate::views::WakeView;
-use pm_base::Mode;
+use crate::verdict::Verdict;
+use pm_base::{Mode, NodeId};
 use pm_ipi::ack_kind;
 use pm_ipi::status::{FAILURE, INVALID_NODE, INVALID_PARAMETER, NO_ACCESS};
 
@@ -17,28 +17,30 @@ impl Inner {
     /// the address, or where it was to resume if there is none.
     pub(crate) fn request_wakeup(
         &mut self,
-        view: &WakeView,
+        master: usize,
+        node: NodeId,
         address: Option<u64>,
         ack: u32,
-    ) -> Judgement
-        ensures judgement { result ≡ (outcome_of (request_wakeup address ack view.now)).judgement }
-        ensures book { self.new ≡ after_stages (outcome_of (request_wakeup address ack view.now)).stages self.old }
+    ) -> Verdict
+        ensures verdict { result ≡ verdict_of (request_wakeup address ack (wake_view master node self.old)) }
+        ensures book { self.new ≡ after_stages (stages_of (request_wakeup address ack (wake_view master node self.old))) self.old }
     {
+        let view = self.wake_view(master, node);
         if ack_kind(ack).is_none() {
-            return Judgement::refusal(INVALID_PARAMETER);
+            return Verdict::refused(INVALID_PARAMETER);
         }
         let Some(p) = view.place else {
-            return Judgement::refusal(INVALID_NODE);
+            return Verdict::refused(INVALID_NODE);
         };
         let Some(target) = view.target else {
-            return Judgement::refusal(NO_ACCESS);
+            return Verdict::refused(NO_ACCESS);
         };
         match target.proc.mode {
-            Mode::Active => Judgement::refusal(FAILURE),
+            Mode::Active => Verdict::refused(FAILURE),
             Mode::Off | Mode::Asleep | Mode::Suspending => {
                 let address = address.unwrap_or(target.proc.address);
                 self.proc_stage(target.owner, p, Mode::Active, address);
-                Judgement::success([0; 3])
+                Verdict::done()
             }
         }
     }

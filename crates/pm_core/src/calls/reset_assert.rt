@@ -1,15 +1,15 @@
 //! PM_RESET_ASSERT (UG1200).
 
 ghost use Rattle.std.specs.Prelude.{◌≡◌, ◌∷◌, [], ◌++◌, ◌==◌};
-ghost use Rattle.pm_ipi.specs.Responses.{success};
-ghost use Rattle.pm_core.specs.Outcome.{answering, outcome_of};
+ghost use Rattle.pm_core.specs.Verdict.{stages_of, verdict_of};
+ghost use Rattle.pm_core.specs.ResetLines.{line_view};
 ghost use Rattle.pm_core.specs.Prims.{changed, Put_line};
 ghost use Rattle.pm_core.specs.Stages.{after_stage, after_stages};
 ghost use Rattle.pm_core.specs.calls.ResetAssert.{is_action, pulsed, reset_assert, stopped, stopped_by};
 
 use crate::inner::Inner;
-use crate::judgement::Judgement;
-use crate::lines::{LineView, OwnedProc};
+use crate::reset_lines::OwnedProc;
+use crate::verdict::Verdict;
 use pm_base::{LineId, Mode};
 use pm_ipi::status::{INVALID_NODE, INVALID_PARAMETER, NO_ACCESS};
 
@@ -33,35 +33,26 @@ fn pulsed(action: u32, line: LineId) -> Option<LineId>
     if action == PULSE { Some(line) } else { None }
 }
 
-/// What the call comes to where its checks pass.
-fn reset(action: u32, line: LineId) -> Judgement
-    ensures { result ≡ record (answering (success (0 ∷ 0 ∷ 0 ∷ []))) { pulse = pulsed action line } }
-{
-    Judgement {
-        pulse: pulsed(action, line),
-        ..Judgement::success([0; 3])
-    }
-}
-
 impl Inner {
     /// The line is released, asserted or pulsed. An asserted line is at 1, and a pulsed one at 0 after its
     /// pulse. The processor that an asserted or pulsed line resets, if it resets one, goes off; released
     /// it stays off. A slave that is reset keeps its state.
-    pub(crate) fn reset_assert(&mut self, view: &LineView, line: LineId, action: u32) -> Judgement
-        ensures judgement { result ≡ (outcome_of (reset_assert line action view.now)).judgement }
-        ensures book { self.new ≡ after_stages (outcome_of (reset_assert line action view.now)).stages self.old }
+    pub(crate) fn reset_assert(&mut self, master: usize, line: LineId, action: u32) -> Verdict
+        ensures verdict { result ≡ verdict_of (reset_assert line action (line_view master line self.old)) }
+        ensures book { self.new ≡ after_stages (stages_of (reset_assert line action (line_view master line self.old))) self.old }
     {
+        let view = self.line_view(master, line);
         let Some(place) = view.place else {
-            return Judgement::refusal(INVALID_NODE);
+            return Verdict::refused(INVALID_NODE);
         };
         if !is_action(action) {
-            return Judgement::refusal(INVALID_PARAMETER);
+            return Verdict::refused(INVALID_PARAMETER);
         }
         if !view.permitted {
-            return Judgement::refusal(NO_ACCESS);
+            return Verdict::refused(NO_ACCESS);
         }
         self.reset_stage(place, action, view.target);
-        reset(action, line)
+        Verdict::pulsing(pulsed(action, line))
     }
 
     /// The stage in which the line at a place takes its value, and its processor stops.

@@ -1,48 +1,51 @@
 //! PM_SET_REQUIREMENT (UG1200).
 
 ghost use Rattle.std.specs.Prelude.{◌≡◌};
-ghost use Rattle.pm_core.specs.Outcome.{outcome_of};
+ghost use Rattle.pm_core.specs.Verdict.{stages_of, verdict_of};
+ghost use Rattle.pm_core.specs.Members.{mode_of_master};
 ghost use Rattle.pm_core.specs.Stages.{after_stages};
+ghost use Rattle.pm_core.specs.Views.{row_view};
 ghost use Rattle.pm_core.specs.calls.SetRequirement.{set_requirement};
 
 use crate::inner::Inner;
-use crate::judgement::Judgement;
-use crate::views::RowView;
+use crate::verdict::Verdict;
 use bitflags::Flags;
-use pm_base::{Caps, Mode};
+use pm_base::{Caps, NodeId};
 use pm_ipi::ack_kind;
 use pm_ipi::status::{INVALID_NODE, INVALID_PARAMETER, NO_ACCESS, NO_FEATURE};
 use pm_rows::Change;
 
 impl Inner {
-    /// The caller, which is in this mode, requires these capabilities of a slave that it uses: at once
+    /// The caller requires these capabilities of a slave that it uses: at once
     /// while it is active, and from its sleep on while it is suspending.
     pub(crate) fn set_requirement(
         &mut self,
-        view: &RowView,
-        mode: Mode,
+        master: usize,
+        node: NodeId,
         caps: Caps,
         ack: u32,
-    ) -> Judgement
-        ensures judgement { result ≡ (outcome_of (set_requirement mode caps ack view.now)).judgement }
-        ensures book { self.new ≡ after_stages (outcome_of (set_requirement mode caps ack view.now)).stages self.old }
+    ) -> Verdict
+        ensures verdict { result ≡ verdict_of (set_requirement (mode_of_master self.old.fixed self.old.now.core master) caps ack (row_view master node self.old)) }
+        ensures book { self.new ≡ after_stages (stages_of (set_requirement (mode_of_master self.old.fixed self.old.now.core master) caps ack (row_view master node self.old))) self.old }
     {
+        let view = self.row_view(master, node);
+        let mode = self.mode_of_master(master);
         if ack_kind(ack).is_none() {
-            return Judgement::refusal(INVALID_PARAMETER);
+            return Verdict::refused(INVALID_PARAMETER);
         }
         if view.slave.is_none() {
-            return Judgement::refusal(INVALID_NODE);
+            return Verdict::refused(INVALID_NODE);
         }
         let Some(entry) = view.entry else {
-            return Judgement::refusal(NO_ACCESS);
+            return Verdict::refused(NO_ACCESS);
         };
         if !entry.seed.all.contains(caps) {
-            return Judgement::refusal(NO_FEATURE);
+            return Verdict::refused(NO_FEATURE);
         }
         if !entry.row.used {
-            return Judgement::refusal(NO_ACCESS);
+            return Verdict::refused(NO_ACCESS);
         }
         self.row_stage(entry.seed.master, entry.seed.slave, Change::Set(mode, caps));
-        Judgement::success([0; 3])
+        Verdict::done()
     }
 }

@@ -3,7 +3,7 @@
 ghost use Rattle.std.specs.Prelude.{◌≡◌};
 ghost use Rattle.pm_perms.specs.Permits.{may_shut};
 ghost use Rattle.pm_core.specs.Along.{Completes, trail_from};
-ghost use Rattle.pm_core.specs.Outcome.{outcome_of};
+ghost use Rattle.pm_core.specs.Verdict.{stages_of, verdict_of};
 ghost use Rattle.pm_core.specs.Prims.{changed};
 ghost use Rattle.pm_core.specs.Stages.{after_stages, path_from};
 ghost use Rattle.pm_core.specs.Views.{master_node};
@@ -11,8 +11,8 @@ ghost use Rattle.pm_core.specs.calls.SystemShutdown.{first_own, own_stages, rest
 
 use crate::along::Along;
 use crate::inner::Inner;
-use crate::judgement::Judgement;
 use crate::scope::Scope;
+use crate::verdict::{Say, Verdict};
 use crate::views::master_node;
 use pm_base::Mode;
 use pm_ipi::status::{INVALID_PARAMETER, NO_ACCESS};
@@ -32,32 +32,32 @@ impl Inner {
         shutdown_type: u32,
         subtype: u32,
         along: &mut Along,
-    ) -> Judgement
+    ) -> Verdict
         requires { along.old ≡ trail_from self.old }
-        ensures judgement { result ≡ (outcome_of (system_shutdown self.old.fixed master shutdown_type subtype)).judgement }
-        ensures book { self.new ≡ after_stages (outcome_of (system_shutdown self.old.fixed master shutdown_type subtype)).stages self.old }
+        ensures verdict { result ≡ verdict_of (system_shutdown self.old.fixed master shutdown_type subtype) }
+        ensures book { self.new ≡ after_stages (stages_of (system_shutdown self.old.fixed master shutdown_type subtype)) self.old }
         ensures along { Completes self.old
-            (path_from (outcome_of (system_shutdown self.old.fixed master shutdown_type subtype)).stages self.old) self.new along.new }
+            (path_from (stages_of (system_shutdown self.old.fixed master shutdown_type subtype)) self.old) self.new along.new }
     {
         if shutdown_type > 2 || subtype > 2 {
-            return Judgement::refusal(INVALID_PARAMETER);
+            return Verdict::refused(INVALID_PARAMETER);
         }
         if shutdown_type == SCOPE {
-            return Judgement::success([0; 3]);
+            return Verdict::done();
         }
         if !self.may_shut(master, subtype) {
-            return Judgement::refusal(NO_ACCESS);
+            return Verdict::refused(NO_ACCESS);
         }
         if subtype == 0 {
             self.shut_own(master, shutdown_type == RESTART, along);
-            return Judgement::success([0; 3]);
+            return Verdict::done();
         }
         if shutdown_type == RESTART {
             self.restart_all(along);
-            return Judgement::renewal();
+            return Verdict::saying(Say::Renew);
         }
         self.stop_all(along);
-        Judgement::success([0; 3])
+        Verdict::done()
     }
 
     /// Whether a master may shut down what a subtype names.
@@ -78,7 +78,7 @@ impl Inner {
         self.take_off(Scope::Own(m));
         self.follow();
         if restarts {
-            along.note(self);
+            along.log(self);
             self.start_own(m);
             self.follow();
         }
@@ -101,7 +101,7 @@ impl Inner {
     {
         self.take_off(Scope::All);
         self.follow();
-        along.note(self);
+        along.log(self);
         self.halt();
         self.follow();
     }
@@ -114,7 +114,7 @@ impl Inner {
     {
         self.take_off(Scope::All);
         self.follow();
-        along.note(self);
+        along.log(self);
         self.reload();
         self.follow();
     }

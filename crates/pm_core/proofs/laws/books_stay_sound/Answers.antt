@@ -38,7 +38,7 @@ returns c =
       length_lowered = c.requests_of_masters.ensures.length_lowered;
       length_load = c.requests_of_masters.ensures.length_load;
     } in
-    let orders : OrderLaws = c.mail_stands_in_order.ensures in
+    let orders : OrderLaws = c.notes_stand_in_order.ensures in
     record {
       load = load_sound rows modes requests orders;
       step = effect_sound rows modes requests orders;

@@ -36,4 +36,4 @@ returns c =
       length_lowered = c.requests_of_masters.ensures.length_lowered;
       length_load = c.requests_of_masters.ensures.length_load;
     } in
-    restart_loads (record { rows = rows; modes = modes; requests = requests; orders = c.mail_stands_in_order.ensures })
+    restart_loads (record { rows = rows; modes = modes; requests = requests; orders = c.notes_stand_in_order.ensures })

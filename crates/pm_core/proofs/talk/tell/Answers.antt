@@ -2,74 +2,72 @@ use Rattle.std.proofs.Common.{◌≡◌, ◌++◌, length, sym, ◌∙◌, ap, s
 use Rattle.pm_base.specs.BoundedList.{Bounded}
 use Rattle.pm_core.specs.declared.outbox.Callback.{Callback}
 use Rattle.pm_core.specs.Caches.{AreKept}
-use Rattle.pm_core.specs.Callbacks.{callbacks, mails}
-use Rattle.pm_core.specs.Heard.{kept_of, registers_in, renews_in}
-use Rattle.pm_core.specs.Sound.{AreMails}
+use Rattle.pm_core.specs.Callbacks.{callbacks, note_changes}
+use Rattle.pm_core.specs.Served.{kept_of, says_in}
+use Rattle.pm_core.specs.Sound.{AreNotes}
 use Rattle.pm_core.specs.State.{State, in_force}
-use Rattle.pm_core.specs.Step.{mail_after, tellings}
+use Rattle.pm_core.specs.Step.{notes_after, tellings}
 use Rattle.pm_core.specs.Talk.{talked}
-use Rattle.pm_core.specs.Along.{mode_noted}
+use Rattle.pm_core.specs.Along.{mode_logged}
 use Rattle.pm_core.specs.Telling.{news_in, opening_in}
 use Rattle.pm_core.proofs.EndedLaw.{kept_talked}
-use Rattle.pm_core.proofs.MailLaw.{talk_mails}
+use Rattle.pm_core.proofs.MasterNotesLaw.{talk_notes}
 use Rattle.pm_core.proofs.TalkLemmas.{then_told}
-use Rattle.pm_core.proofs.TellLemmas.{calls_told, kept_told, mails_told}
+use Rattle.pm_core.proofs.TellLemmas.{calls_told, kept_told, note_changes_told}
 use Rattle.pm_core.proofs.talk.tell.Goals as goal
 
 pub tell_masters-requires-clause-kept : goal.tell_masters-requires-clause-kept
 tell_masters-requires-clause-kept c =
     let P : State → Type 0 = λ b. AreKept b c.args.caches.now in
-    subst P (sym c.open.ensures) (kept_talked (opening_in c.note_ended.new.self c.renews.result c.registers.result c.args.count c.args.inner.now) c.args.inner.now c.args.caches.now c.requires.kept)
+    subst P (sym c.open.ensures) (kept_talked (opening_in c.log_ended.new.self c.says_in-says.result c.args.count c.args.inner.now) c.args.inner.now c.args.caches.now c.requires.kept)
 
-pub tell_masters-requires-clause-mail : goal.tell_masters-requires-clause-mail
-tell_masters-requires-clause-mail c =
+pub tell_masters-requires-clause-notes : goal.tell_masters-requires-clause-notes
+tell_masters-requires-clause-notes c =
     let old = c.args.inner.now in
-    let P : State → Type 0 = λ b. AreMails b.fixed.topology (length (in_force b).masters) b.now.talk.mail in
-    subst P (sym c.open.ensures) (talk_mails c.mail_stands_in_order.ensures old.fixed.topology (length (in_force old).masters) (opening_in c.note_ended.new.self c.renews.result c.registers.result c.args.count old) old.now.talk c.requires.mail)
+    let P : State → Type 0 = λ b. AreNotes b.fixed.topology (length (in_force b).masters) b.now.talk.notes in
+    subst P (sym c.open.ensures) (talk_notes c.notes_stand_in_order.ensures old.fixed.topology (length (in_force old).masters) (opening_in c.log_ended.new.self c.says_in-says.result c.args.count old) old.now.talk c.requires.notes)
 
 pub returns-clause-book : goal.returns-clause-book
 returns-clause-book c =
     let old = c.args.inner.now in
-    let telling = c.note_ended.new.self in
+    let telling = c.log_ended.new.self in
     let news = news_in telling in
-    let was = mode_noted telling.modes.items in
-    let heard = c.args.heard.now in
-    let first = opening_in telling (renews_in heard) (registers_in heard) c.args.count old in
+    let was = mode_logged telling.modes.items in
+    let served = c.args.served in
+    let first = opening_in telling (says_in served) c.args.count old in
     let opened : c.open.new.self ≡ talked first old =
-    c.open.ensures ∙ (ap (λ r. talked (opening_in telling c.renews.result r c.args.count old) old) c.registers.ensures
-    ∙ ap (λ all. talked (opening_in telling all (registers_in heard) c.args.count old) old) c.renews.ensures)
+    c.open.ensures ∙ ap (λ says. talked (opening_in telling says c.args.count old) old) c.says_in-says.ensures
     in
-    let told : c.tell_masters.new.self ≡ talked (mails news was (mail_after first old) old) c.open.new.self =
+    let told : c.tell_masters.new.self ≡ talked (note_changes news was (notes_after first old) old) c.open.new.self =
     c.tell_masters.ensures.book
-    ∙ (ap (λ (b : State). talked (mails news was b.now.talk.mail b) c.open.new.self) opened
-    ∙ ap (λ ms. talked ms c.open.new.self) (mails_told news was (mail_after first old) first old 0 (in_force old).masters))
+    ∙ (ap (λ (b : State). talked (note_changes news was b.now.talk.notes b) c.open.new.self) opened
+    ∙ ap (λ ms. talked ms c.open.new.self) (note_changes_told news was (notes_after first old) first old 0 (in_force old).masters))
     in
-    let both = then_told first (mails news was (mail_after first old) old) old c.open.new.self c.tell_masters.new.self opened told in
-    let kept : c.keep_own.new.self ≡ talked (kept_of heard old) c.tell_masters.new.self =
+    let both = then_told first (note_changes news was (notes_after first old) old) old c.open.new.self c.tell_masters.new.self opened told in
+    let kept : c.keep_own.new.self ≡ talked (kept_of served old) c.tell_masters.new.self =
     c.keep_own.ensures
-    ∙ (ap (λ (b : State). talked (kept_of heard b) c.tell_masters.new.self) both
-    ∙ ap (λ ks. talked ks c.tell_masters.new.self) (kept_told heard (first ++ mails news was (mail_after first old) old) old))
+    ∙ (ap (λ (b : State). talked (kept_of served b) c.tell_masters.new.self) both
+    ∙ ap (λ ks. talked ks c.tell_masters.new.self) (kept_told served (first ++ note_changes news was (notes_after first old) old) old))
     in
-    then_told first (mails news was (mail_after first old) old ++ kept_of heard old) old c.open.new.self c.keep_own.new.self opened
-    (then_told (mails news was (mail_after first old) old) (kept_of heard old) c.open.new.self c.tell_masters.new.self c.keep_own.new.self told kept)
+    then_told first (note_changes news was (notes_after first old) old ++ kept_of served old) old c.open.new.self c.keep_own.new.self opened
+    (then_told (note_changes news was (notes_after first old) old) (kept_of served old) c.open.new.self c.tell_masters.new.self c.keep_own.new.self told kept)
 
 pub returns-clause-calls : goal.returns-clause-calls
 returns-clause-calls c =
     let old = c.args.inner.now in
-    let telling = c.note_ended.new.self in
+    let telling = c.log_ended.new.self in
     let news = news_in telling in
-    let was = mode_noted telling.modes.items in
-    let heard = c.args.heard.now in
-    let first = opening_in telling (renews_in heard) (registers_in heard) c.args.count old in
+    let was = mode_logged telling.modes.items in
+    let served = c.args.served in
+    let first = opening_in telling (says_in served) c.args.count old in
     let before = c.args.calls.now in
     let opened : c.open.new.self ≡ talked first old =
-    c.open.ensures ∙ (ap (λ r. talked (opening_in telling c.renews.result r c.args.count old) old) c.registers.ensures
-    ∙ ap (λ all. talked (opening_in telling all (registers_in heard) c.args.count old) old) c.renews.ensures)
+    c.open.ensures ∙ ap (λ says. talked (opening_in telling says c.args.count old) old) c.says_in-says.ensures
     in
     let put : _ → Bounded Callback = λ cs. record before { items = before.items ++ cs } in
-    let all = tellings news was first heard old in
+    let all = tellings news was first served old in
     c.tell_masters.ensures.calls
-    ∙ (ap (λ (b : State). put (callbacks news was b.now.talk.mail b)) opened
-    ∙ (ap put (calls_told news was (mail_after first old) first old 0 (in_force old).masters)
-    ∙ (ap put (sym (calls_told news was (mail_after first old) all old 0 (in_force old).masters))
-    ∙ ap (λ (b : State). put (callbacks news was (mail_after first old) b)) (sym (returns-clause-book c)))))
+    ∙ (ap (λ (b : State). put (callbacks news was b.now.talk.notes b)) opened
+    ∙ (ap put (calls_told news was (notes_after first old) first old 0 (in_force old).masters)
+    ∙ (ap put (sym (calls_told news was (notes_after first old) all old 0 (in_force old).masters))
+    ∙ ap (λ (b : State). put (callbacks news was (notes_after first old) b)) (sym (returns-clause-book c)))))

@@ -17,9 +17,9 @@ returns c =
     let masters : ℕ = length (in_force book).masters in
     let procs : ℕ = length book.fixed.topology.procs in
     let was = c.self.inside in
-    let modes = c.note_modes.new.modes in
+    let modes = c.log_modes.new.modes in
     let turns = c.forget.new.turns in
-    let downs = c.note_downs.new.downs in
+    let downs = c.log_downs.new.downs in
     let trail : List Mode → List Turns → List Bool → Trail = λ ms ts ds. record { modes = ms; turns = ts; downs = ds } in
     let put_turns = take was.turns.len (turns ++ drop (length turns) was.turns.items) in
     let put_downs = take was.downs.len (downs ++ drop (length downs) was.downs.items) in
@@ -35,8 +35,8 @@ returns c =
     in
     let modes_are : take was.modes.len (modes ++ drop (length modes) was.modes.items) ≡ modes_of book =
     written_back modes was.modes.items was.modes.len
-    (ap length c.note_modes.ensures ∙ (length-placed (mode_beside book) 0 (in_force book).masters ∙ (sym each_mode ∙ c.deref_mut.ensures.len)))
-    ∙ c.note_modes.ensures
+    (ap length c.log_modes.ensures ∙ (length-placed (mode_beside book) 0 (in_force book).masters ∙ (sym each_mode ∙ c.deref_mut.ensures.len)))
+    ∙ c.log_modes.ensures
     in
     let gone : turns ≡ none = c.forget.ensures ∙ all_forgotten masters c.deref_mut-2.result.now each_turn in
     let turns_are : put_turns ≡ none =
@@ -45,8 +45,8 @@ returns c =
     in
     let downs_are : put_downs ≡ placed (down_in book) 0 book.fixed.topology.procs =
     written_back downs was.downs.items was.downs.len
-    (ap length c.note_downs.ensures ∙ (length-placed (down_in book) 0 book.fixed.topology.procs ∙ (sym each_down ∙ c.deref_mut-3.ensures.len)))
-    ∙ c.note_downs.ensures
+    (ap length c.log_downs.ensures ∙ (length-placed (down_in book) 0 book.fixed.topology.procs ∙ (sym each_down ∙ c.deref_mut-3.ensures.len)))
+    ∙ c.log_downs.ensures
     in
     ap (λ ms. trail ms put_turns put_downs) modes_are
     ∙ (ap (λ ts. trail (modes_of book) ts put_downs) turns_are ∙ ap (trail (modes_of book) none) downs_are)

@@ -6,26 +6,26 @@ use Rattle.pm_notify.specs.declared.notes.Waiting.{Waiting}
 use Rattle.pm_topology.specs.Units.{units_of, entry_count}
 use Rattle.pm_core.specs.Caches.{AreKept, moved_by, value_by}
 use Rattle.pm_core.specs.Callbacks.{callbacks, late_replies}
-use Rattle.pm_core.specs.Along.{HasPlaces as HasTrail, IsTrail, Trail, mode_beside, mode_noted, turns_noted}
-use Rattle.pm_core.specs.Heard.{pulse_in}
+use Rattle.pm_core.specs.Along.{HasPlaces as HasTrail, IsTrail, Trail, mode_beside, mode_logged, turns_logged}
+use Rattle.pm_core.specs.Served.{pulse_in, says_in}
 use Rattle.pm_base.specs.BoundedList.{Bounded}
-use Rattle.pm_core.specs.Sound.{AreMails, IsBook}
+use Rattle.pm_core.specs.Sound.{AreNotes, IsBook}
 use Rattle.pm_core.specs.declared.outbox.Callback.{Callback}
 use Rattle.pm_core.specs.declared.outbox.Late.{Late}
 use Rattle.pm_core.specs.declared.outbox.Start.{Start}
 use Rattle.pm_core.specs.Stages.{after_stages}
 use Rattle.pm_core.specs.Starts.{starts, was_down}
 use Rattle.pm_core.specs.State.{Fixed, State, in_force}
-use Rattle.pm_core.specs.Step.{effect, ended, heard_of, mail_after, modes_in, news, opening, path, pulse, stages, answer_by, answer_to, tellings}
+use Rattle.pm_core.specs.Step.{effect, ended, served, notes_after, modes_in, news, opening, path, pulse, stages, answer_by, answer_to, tellings}
 use Rattle.pm_core.specs.Ended.{ended_from}
-use Rattle.pm_core.specs.Heard.{aborts_in, registers_in, renews_in}
 use Rattle.pm_core.specs.Notifications.{notifications}
 use Rattle.pm_core.specs.Telling.{HasPlaces, news_in, opening_in, turns_in}
 use Rattle.pm_core.specs.Units.{units, moved}
 use Rattle.pm_core.specs.Values.{value}
+use Rattle.pm_core.specs.Verdict.{aborted_by}
 use Rattle.pm_core.proofs.CachesLaw.{kept_places}
 use Rattle.pm_core.proofs.AlongLaw.{completed, trailed_places}
-use Rattle.pm_core.proofs.EndedLaw.{IsTold, kept_talked, pulse_heard, stages_talk, step_told}
+use Rattle.pm_core.proofs.EndedLaw.{IsTold, kept_talked, stages_talk, step_told}
 use Rattle.pm_core.proofs.NoticesLaw.{notices_are}
 use Rattle.pm_core.proofs.PlacedLemmas.{length-placed}
 use Rattle.pm_core.proofs.Refused.{refused_stays}
@@ -35,8 +35,8 @@ use Rattle.pm_core.proofs.book.Book.step.Goals as goal
 
 pub update-requires-clause-places : goal.update-requires-clause-places
 update-requires-clause-places c =
-    kept_places c.self.inside.inner c.self.inside.caches c.take-heard.new.self.fixed.topology
-    (ap (λ (b : State). b.fixed.topology) c.take-heard.ensures.book) c.self.invariant.1
+    kept_places c.self.inside.inner c.self.inside.caches c.take-served.new.self.fixed.topology
+    (ap (λ (b : State). b.fixed.topology) c.take-served.ensures.book) c.self.invariant.1
 
 pub update-requires-clause-room : goal.update-requires-clause-room
 update-requires-clause-room c =
@@ -50,18 +50,18 @@ update-requires-clause-room c =
     omega (arith, values, same, few, none, c.requires.room.moved, c.clear.ensures.room.moved)
 
 -- the places of the trail stay while it is noted
-pub note-requires : goal.note-requires
-note-requires c =
-    let Q : Fixed → Type 0 = λ f. HasTrail (length f.object.masters) (length f.topology.procs) c.take-heard.new.along in
-    subst Q (sym (ap (λ (b : State). b.fixed) c.take-heard.ensures.book)) c.take-heard.ensures.along.places
+pub log-requires : goal.log-requires
+log-requires c =
+    let Q : Fixed → Type 0 = λ f. HasTrail (length f.object.masters) (length f.topology.procs) c.take-served.new.along in
+    subst Q (sym (ap (λ (b : State). b.fixed) c.take-served.ensures.book)) c.take-served.ensures.along.places
 
 pub tell-requires-clause-each : goal.tell-requires-clause-each
 tell-requires-clause-each c =
     let old = c.self.inside.inner in
-    ap (λ (b : State). length b.now.talk.pending) c.take-heard.ensures.book
+    ap (λ (b : State). length b.now.talk.pending) c.take-served.ensures.book
     ∙ (ap (λ t. length t.pending) (stages_talk (stages c.args.event.now old) old)
     ∙ (c.self.invariant.0.sound.pending.each
-    ∙ sym (ap (λ (b : State). length (in_force b).masters) c.take-heard.ensures.book)))
+    ∙ sym (ap (λ (b : State). length (in_force b).masters) c.take-served.ensures.book)))
 
 pub update-requires-clause-notices : goal.update-requires-clause-notices
 update-requires-clause-notices c =
@@ -69,14 +69,14 @@ update-requires-clause-notices c =
     let values : length c.self.inside.caches.values ≡ length (units old) =
     ap length c.self.invariant.1.values ∙ length-map (units old) (λ u. (u, value u old))
     in
-    omega (arith, values, c.self.invariant.2.notices, ap (λ (l : Bounded _). l.room) c.note_modes.ensures.notices)
+    omega (arith, values, c.self.invariant.2.notices, ap (λ (l : Bounded _). l.room) c.log_modes.ensures.notices)
 
-pub tell-requires-clause-mail : goal.tell-requires-clause-mail
-tell-requires-clause-mail c =
+pub tell-requires-clause-notes : goal.tell-requires-clause-notes
+tell-requires-clause-notes c =
     let old = c.self.inside.inner in
-    let P : State → Type 0 = λ b. AreMails b.fixed.topology (length (in_force b).masters) b.now.talk.mail in
-    let Q : _ → Type 0 = λ t. AreMails old.fixed.topology (length (in_force old).masters) t.mail in
-    subst P (sym c.take-heard.ensures.book) (subst Q (sym (stages_talk (stages c.args.event.now old) old)) c.self.invariant.0.sound.mail)
+    let P : State → Type 0 = λ b. AreNotes b.fixed.topology (length (in_force b).masters) b.now.talk.notes in
+    let Q : _ → Type 0 = λ t. AreNotes old.fixed.topology (length (in_force old).masters) t.notes in
+    subst P (sym c.take-served.ensures.book) (subst Q (sym (stages_talk (stages c.args.event.now old) old)) c.self.invariant.0.sound.notes)
 
 pub tell-requires-clause-few : goal.tell-requires-clause-few
 tell-requires-clause-few c =
@@ -84,64 +84,64 @@ tell-requires-clause-few c =
     let values : length c.self.inside.caches.values ≡ length (units old) =
     ap length c.self.invariant.1.values ∙ length-map (units old) (λ u. (u, value u old))
     in
-    let same : length (units c.take-heard.new.self) ≡ length (units old) = ap (λ (b : State). length (units b)) c.take-heard.ensures.book in
-    let few : length (units c.take-heard.new.self) ≤ entry_count c.take-heard.new.self.fixed.topology = c.units_stand_in_order.ensures.few c.take-heard.new.self.fixed.topology in
+    let same : length (units c.take-served.new.self) ≡ length (units old) = ap (λ (b : State). length (units b)) c.take-served.ensures.book in
+    let few : length (units c.take-served.new.self) ≤ entry_count c.take-served.new.self.fixed.topology = c.units_stand_in_order.ensures.few c.take-served.new.self.fixed.topology in
     omega (arith, values, same, few, c.update.ensures.few)
 
 pub tell-requires-clause-places : goal.tell-requires-clause-places
 tell-requires-clause-places c =
     let old = c.self.inside.inner in
-    let count : length (in_force c.take-heard.new.self).masters ≡ length (in_force old).masters = ap (λ (b : State). length (in_force b).masters) c.take-heard.ensures.book in
-    let all : length (units c.take-heard.new.self) ≡ length (units old) = ap (λ (b : State). length (units b)) c.take-heard.ensures.book in
-    let mid = c.take-heard.new.self in
+    let count : length (in_force c.take-served.new.self).masters ≡ length (in_force old).masters = ap (λ (b : State). length (in_force b).masters) c.take-served.ensures.book in
+    let all : length (units c.take-served.new.self) ≡ length (units old) = ap (λ (b : State). length (units b)) c.take-served.ensures.book in
+    let mid = c.take-served.new.self in
     let Q : Trail → Type 0 = λ n. HasTrail (length (in_force mid).masters) (length mid.fixed.topology.procs) n in
     record {
-      along = subst Q (sym c.note.ensures) (trailed_places mid c.take-heard.new.along);
-      modes = ap length c.note_modes.ensures.modes ∙ (length-placed (mode_beside old) 0 (in_force old).masters ∙ sym count);
-      ended = omega (arith, count, c.self.invariant.2.ended, ap (λ (l : Bounded _). l.room) c.note_modes.ensures.ended);
+      along = subst Q (sym c.log.ensures) (trailed_places mid c.take-served.new.along);
+      modes = ap length c.log_modes.ensures.modes ∙ (length-placed (mode_beside old) 0 (in_force old).masters ∙ sym count);
+      ended = omega (arith, count, c.self.invariant.2.ended, ap (λ (l : Bounded _). l.room) c.log_modes.ensures.ended);
       notices = omega (
         arith,
         all,
         c.self.invariant.2.notices,
-        ap (λ (l : Bounded _). l.room) c.note_modes.ensures.notices,
+        ap (λ (l : Bounded _). l.room) c.log_modes.ensures.notices,
         ap (λ (l : Bounded Waiting). l.room) c.update.ensures.notices,
       );
     }
 
 -- what was noted until the masters were told
-told : (c : goal.After-out-2-1) → IsTold c.args.event.now c.self.inside.inner c.take-heard.new.self c.tell.new.inner c.take-heard.result c.time_of-count.result c.tell.new.telling
+told : (c : goal.After-out-2-1) → IsTold c.args.event.now c.self.inside.inner c.take-served.new.self c.tell.new.inner c.take-served.result c.time_of-count.result c.tell.new.telling
 told c =
     let event = c.args.event.now in
     let old = c.self.inside.inner in
-    let mid = c.take-heard.new.self in
+    let mid = c.take-served.new.self in
     let caches = c.self.inside.caches in
-    let fixed : old.fixed ≡ mid.fixed = sym (ap (λ (b : State). b.fixed) c.take-heard.ensures.book) in
-    let trail : IsTrail old (path event old) c.note.new.self =
-    completed old (path event old) mid c.take-heard.new.along c.note.new.self c.take-heard.ensures.along c.note.ensures
+    let fixed : old.fixed ≡ mid.fixed = sym (ap (λ (b : State). b.fixed) c.take-served.ensures.book) in
+    let trail : IsTrail old (path event old) c.log.new.self =
+    completed old (path event old) mid c.take-served.new.along c.log.new.self c.take-served.ensures.along c.log.ensures
     in
     let Along : Trail → Type 0 = λ n. IsTrail old (path event old) n in
-    step_told event old mid c.tell.new.inner c.take-heard.result c.time_of-count.result c.tell.new.telling
+    step_told event old mid c.tell.new.inner c.take-served.result c.time_of-count.result c.tell.new.telling
     (record {
-      mid_is = c.take-heard.ensures.book;
-      heard_is = c.take-heard.ensures.heard;
+      mid_is = c.take-served.ensures.book;
+      served_is = c.take-served.ensures.served;
       count_is = c.time_of-count.ensures;
       along_is = subst Along (sym c.tell.ensures.along) trail;
-      modes_are = ap (λ v. v.items) c.tell.ensures.modes ∙ c.note_modes.ensures.modes;
+      modes_are = ap (λ v. v.items) c.tell.ensures.modes ∙ c.log_modes.ensures.modes;
       asks_are = c.tell.ensures.asks;
       ended_are = c.tell.ensures.ended
-          ∙ ap (λ (n : Trail). ended_from (λ m. turns_noted m n.turns) (aborts_in c.take-heard.result) c.time_of-count.result 0 mid.now.talk.pending)
+          ∙ ap (λ (n : Trail). ended_from (λ m. turns_logged m n.turns) (aborted_by (says_in c.take-served.result)) c.time_of-count.result 0 mid.now.talk.pending)
           (sym c.tell.ensures.along);
       notices_are = ap (λ (l : Bounded Waiting). l.items) (c.tell.ensures.notices ∙ c.update.ensures.notices)
           ∙ (notices_are c.kinds_are_exact.ensures old mid caches.kinds.items caches.used.items caches.values fixed c.self.invariant.1.kinds c.self.invariant.1.used c.self.invariant.1.values
-          ∙ ap (notifications old) c.take-heard.ensures.book);
+          ∙ ap (notifications old) c.take-served.ensures.book);
     })
     c.self.invariant.0.sound.pending.each c.tell.ensures.book
 
 pub answer-out-requires : goal.answer-out-requires
 answer-out-requires c =
-    let mid = c.take-heard.new.self in
+    let mid = c.take-served.new.self in
     let telling = c.tell.new.telling in
-    let changes = tellings (news_in telling) (mode_noted telling.modes.items) (opening_in telling (renews_in c.take-heard.result) (registers_in c.take-heard.result) c.time_of-count.result mid) c.take-heard.result mid in
+    let changes = tellings (news_in telling) (mode_logged telling.modes.items) (opening_in telling (says_in c.take-served.result) c.time_of-count.result mid) c.take-served.result mid in
     let P : State → Type 0 = λ b. AreKept b c.update.new.self in
     subst P (sym c.tell.ensures.book) (kept_talked changes mid c.update.new.self c.update.ensures.kept)
 
@@ -149,10 +149,10 @@ pub invariant_of-self : goal.invariant_of-self
 invariant_of-self c =
     let event = c.args.event.now in
     let old = c.self.inside.inner in
-    let mid = c.take-heard.new.self in
+    let mid = c.take-served.new.self in
     let new = c.tell.new.inner in
     let telling = c.tell.new.telling in
-    let changes = tellings (news_in telling) (mode_noted telling.modes.items) (opening_in telling (renews_in c.take-heard.result) (registers_in c.take-heard.result) c.time_of-count.result mid) c.take-heard.result mid in
+    let changes = tellings (news_in telling) (mode_logged telling.modes.items) (opening_in telling (says_in c.take-served.result) c.time_of-count.result mid) c.take-served.result mid in
     let P : State → Type 0 = λ b. AreKept b c.update.new.self in
     let Q : State → Type 0 = λ b. HasPlaces b.fixed.topology (length (in_force b).masters) telling in (
       kept_by c.books_stay_sound.ensures.step event old new (told c).book c.self.invariant.0,
@@ -183,19 +183,19 @@ returns-clause-out c =
     let event = c.args.event.now in
     let old = c.self.inside.inner in
     let new = c.tell.new.inner in
-    let mid = c.take-heard.new.self in
+    let mid = c.take-served.new.self in
     let telling = c.tell.new.telling in
     let found = telling.ended.items in
     let caches = c.self.inside.caches in
-    let told_calls = callbacks (news_in telling) (mode_noted telling.modes.items) (mail_after (opening_in telling (renews_in c.take-heard.result) (registers_in c.take-heard.result) c.time_of-count.result mid) mid) new in
+    let told_calls = callbacks (news_in telling) (mode_logged telling.modes.items) (notes_after (opening_in telling (says_in c.take-served.result) c.time_of-count.result mid) mid) new in
     record {
       moved = ap (λ (s : Bounded Unit). s.items) c.update.ensures.moved ∙ (
           ap (λ xs. xs ++ moved_by (value_by mid.fixed mid.now.core) caches.kinds.items caches.values) c.clear.ensures.empty.moved
-          ∙ (step_moves event old mid caches.kinds.items caches.values c.take-heard.ensures.book c.self.invariant.1.kinds c.self.invariant.1.values
+          ∙ (step_moves event old mid caches.kinds.items caches.values c.take-served.ensures.book c.self.invariant.1.kinds c.self.invariant.1.values
           ∙ ap (λ (b : State). moved (λ u. value u b) (effect event b)) c.self.view_is));
-      pulse = c.pulse-out.ensures ∙ (ap pulse_in c.take-heard.ensures.heard ∙ (pulse_heard event old ∙ ap (pulse event) c.self.view_is));
+      pulse = c.pulse_in-out.ensures ∙ (ap pulse_in c.take-served.ensures.served ∙ ap (pulse event) c.self.view_is);
       starts = ap (λ (s : Bounded Start). s.items) c.update.ensures.starts
-          ∙ (step_starts c.kinds_are_exact.ensures event old mid c.note.new.self caches.kinds.items caches.values c.take-heard.ensures.book (completed old (path event old) mid c.take-heard.new.along c.note.new.self c.take-heard.ensures.along c.note.ensures) c.self.invariant.1.kinds c.self.invariant.1.values
+          ∙ (step_starts c.kinds_are_exact.ensures event old mid c.log.new.self caches.kinds.items caches.values c.take-served.ensures.book (completed old (path event old) mid c.take-served.new.along c.log.new.self c.take-served.ensures.along c.log.ensures) c.self.invariant.1.kinds c.self.invariant.1.values
           ∙ ap (λ (b : State). starts (was_down (b ∷ path event b)) (effect event b)) c.self.view_is);
       late = ap (λ (s : Bounded Late). s.items) c.tell.ensures.late
           ∙ (ap (λ xs. xs ++ late_replies found new) c.clear.ensures.empty.late
@@ -205,8 +205,8 @@ returns-clause-out c =
       calls = ap (λ (s : Bounded Callback). s.items) c.tell.ensures.calls
           ∙ (ap (λ xs. xs ++ told_calls) c.clear.ensures.empty.calls
           ∙ ((told c).calls
-          ∙ ap (λ (b : State). callbacks (news event b) (modes_in b) (mail_after (opening event b) (after_stages (stages event b) b)) (effect event b)) c.self.view_is));
-      answer = c.answer-out.ensures ∙ (ap (λ h. answer_by h new) c.take-heard.ensures.heard ∙ (
-          ap (λ b. answer_by (heard_of event old) b) (told c).book ∙ ap (answer_to event) c.self.view_is));
+          ∙ ap (λ (b : State). callbacks (news event b) (modes_in b) (notes_after (opening event b) (after_stages (stages event b) b)) (effect event b)) c.self.view_is));
+      answer = c.answer-out.ensures ∙ (ap (λ h. answer_by h new) c.take-served.ensures.served ∙ (
+          ap (λ b. answer_by (served event old) b) (told c).book ∙ ap (answer_to event) c.self.view_is));
       done = c.clear.ensures.empty.done;
     }

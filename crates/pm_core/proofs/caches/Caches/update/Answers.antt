@@ -14,8 +14,8 @@ use Rattle.pm_core.proofs.PlacedLemmas.{length-placed}
 use Rattle.pm_core.proofs.StartsLaw.{starts_few}
 use Rattle.pm_core.proofs.caches.Caches.update.Goals as goal
 
-pub note_starts-requires-clause-room : goal.note_starts-requires-clause-room
-note_starts-requires-clause-room c =
+pub log_starts-requires-clause-room : goal.log_starts-requires-clause-room
+log_starts-requires-clause-room c =
     let t = c.args.inner.now.fixed.topology in
     let procs = c.inner.inside.procs.procs in
     let none = ap length c.requires.starts in
@@ -43,21 +43,21 @@ needs_are c =
     in
     written_back c.choose.new.needs c.args.self.now.needs.items c.args.self.now.needs.len places ∙ c.choose.ensures.needs
 
-runs_are : (c : goal.After-self-4-1) → take c.args.self.now.runs.len (c.note_runs.new.runs ++ drop (length c.note_runs.new.runs) c.args.self.now.runs.items) ≡ placed (run_of c.args.inner.now.now.core) 0 c.args.inner.now.fixed.topology.procs
+runs_are : (c : goal.After-self-4-1) → take c.args.self.now.runs.len (c.log_runs.new.runs ++ drop (length c.log_runs.new.runs) c.args.self.now.runs.items) ≡ placed (run_of c.args.inner.now.now.core) 0 c.args.inner.now.fixed.topology.procs
 runs_are c =
-    let places : length c.note_runs.new.runs ≡ c.args.self.now.runs.len =
-    ap length c.note_runs.ensures ∙ (length-placed (run_of c.args.inner.now.now.core) 0 c.args.inner.now.fixed.topology.procs
+    let places : length c.log_runs.new.runs ≡ c.args.self.now.runs.len =
+    ap length c.log_runs.ensures ∙ (length-placed (run_of c.args.inner.now.now.core) 0 c.args.inner.now.fixed.topology.procs
     ∙ (sym c.requires.places.runs ∙ (ap length (sym c.deref_mut-3.ensures.value) ∙ c.deref_mut-3.ensures.len)))
     in
-    written_back c.note_runs.new.runs c.args.self.now.runs.items c.args.self.now.runs.len places ∙ c.note_runs.ensures
+    written_back c.log_runs.new.runs c.args.self.now.runs.items c.args.self.now.runs.len places ∙ c.log_runs.ensures
 
-used_is : (c : goal.After-self-4-1) → take c.args.self.now.used.len (c.note_uses.new.used ++ drop (length c.note_uses.new.used) c.args.self.now.used.items) ≡ placed (use_of c.args.inner.now.now.core) 0 c.args.inner.now.fixed.topology.slaves
+used_is : (c : goal.After-self-4-1) → take c.args.self.now.used.len (c.log_uses.new.used ++ drop (length c.log_uses.new.used) c.args.self.now.used.items) ≡ placed (use_of c.args.inner.now.now.core) 0 c.args.inner.now.fixed.topology.slaves
 used_is c =
-    let places : length c.note_uses.new.used ≡ c.args.self.now.used.len =
-    ap length c.note_uses.ensures ∙ (length-placed (use_of c.args.inner.now.now.core) 0 c.args.inner.now.fixed.topology.slaves
+    let places : length c.log_uses.new.used ≡ c.args.self.now.used.len =
+    ap length c.log_uses.ensures ∙ (length-placed (use_of c.args.inner.now.now.core) 0 c.args.inner.now.fixed.topology.slaves
     ∙ (sym c.requires.places.used ∙ (ap length (sym c.deref_mut-4.ensures.value) ∙ c.deref_mut-4.ensures.len)))
     in
-    written_back c.note_uses.new.used c.args.self.now.used.items c.args.self.now.used.len places ∙ c.note_uses.ensures
+    written_back c.log_uses.new.used c.args.self.now.used.items c.args.self.now.used.len places ∙ c.log_uses.ensures
 
 -- and so the power nodes are those of the book
 power_is : (c : goal.After-self-4-1) → c.recompute.new.self ≡ forest c.args.inner.now.fixed c.args.inner.now.now.core
@@ -75,7 +75,7 @@ returns-clause-kept c =
       runs = runs_are c;
       used = used_is c;
       power = power_is c;
-      values = c.note_moves.ensures.values
+      values = c.log_moves.ensures.values
           ∙ valued_is c.args.inner.now c.deref-8.result.now c.inner.inside.procs.procs c.ups-2.result.now c.inner.inside.resets c.deref-7.result.now c.args.self.now.values
           (c.deref-8.ensures.value ∙ states_are c) (ap (λ (b : State). b.now.core.procs) c.inner.view_is) (c.ups-2.ensures ∙ ap ups (power_is c)) (ap (λ (b : State). b.now.core.lines) c.inner.view_is)
           c.requires.places.units (c.deref-7.ensures.value ∙ c.requires.places.kinds);
@@ -88,7 +88,7 @@ returns-clause-moved c =
     let before = c.args.moved.now in
     let with : List Unit → Bounded Unit = λ items. record before { items = before.items ++ items } in
     let new : UnitKind → ℕ = unit_value c.deref-8.result.now c.inner.inside.procs.procs c.ups-2.result.now c.inner.inside.resets in
-    c.note_moves.ensures.moved
+    c.log_moves.ensures.moved
     ∙ (ap (λ ks. with (moved_by new ks old.values)) c.deref-7.ensures.value
     ∙ ap with (moved_by-same new (value_by book.fixed book.now.core)
     (unit_value_is book.fixed book.now.core c.deref-8.result.now c.inner.inside.procs.procs c.ups-2.result.now c.inner.inside.resets
@@ -103,7 +103,7 @@ returns-clause-notices c =
     let with : List Waiting → Bounded Waiting = λ items. record before { items = items } in
     let new : UnitKind → ℕ = unit_value c.deref-5.result.now c.inner.inside.procs.procs c.ups.result.now c.inner.inside.resets in
     let freed : UnitKind → Bool = freed_by old.used.items book.now.core.rows in
-    c.note_notices.ensures.notices
+    c.log_notices.ensures.notices
     ∙ (ap (λ (s : Bounded Waiting). record s { items = s.items ++ noticed_by new (freed_by c.deref-6.result.now c.inner.inside.rows) c.deref-4.result.now old.values }) c.clear.ensures
     ∙ (ap (λ us. with (noticed_by new (freed_by us c.inner.inside.rows) c.deref-4.result.now old.values)) c.deref-6.ensures.value
     ∙ (ap (λ (b : State). with (noticed_by new (freed_by old.used.items b.now.core.rows) c.deref-4.result.now old.values)) c.inner.view_is

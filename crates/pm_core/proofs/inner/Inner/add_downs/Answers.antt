@@ -1,7 +1,7 @@
 use Rattle.std.proofs.Common.{◌≡◌, ◌<◌, ◌||◌, true, length, ◌∙◌, ap, inl, inr, arith}
 use Rattle.std.proofs.lemmas.List.{length-set}
 use Rattle.std.proofs.lemmas.Option.{slice_get_cases}
-use Rattle.pm_core.specs.Along.{down_after, down_noted, is_down}
+use Rattle.pm_core.specs.Along.{down_after, down_logged, is_down}
 use Rattle.pm_core.specs.State.{State}
 use Rattle.pm_core.proofs.PlacedLemmas.{placed_step, rest_after, same_at}
 use Rattle.pm_core.proofs.inner.Inner.add_downs.Goals as goal
@@ -14,7 +14,7 @@ loop-p-preserved c =
     let p = c.loop-p.p in
     let same : length c.self.inside.topology.procs ≡ length procs = ap (λ (b : State). length b.fixed.topology.procs) c.self.view_is in
     let within : p < length procs = omega (arith, same, c.len-p-end.ensures, c.loop-p-test.true) in
-    let is : c.down_after.result ≡ (down_noted p downs || is_down book p) =
+    let is : c.down_after.result ≡ (down_logged p downs || is_down book p) =
     c.down_after.ensures ∙ ap (λ b. b || is_down book p) (same_at c.loop-p.downs downs p true c.loop-p.invariant.rest)
     in
     record {

@@ -2,12 +2,12 @@ use Rattle.std.proofs.Common.{◌≡◌, List, [], drop, map, flat_map, refl, sy
 use Rattle.std.proofs.lemmas.List.{drop_all}
 use Rattle.std.proofs.lemmas.Option.{slice_get-get_or}
 use Rattle.pm_notify.specs.declared.notes.Waiting.{Waiting}
-use Rattle.pm_notify.specs.Mailbox.{asks_about}
-use Rattle.pm_notify.specs.Notify.{mail_of}
+use Rattle.pm_notify.specs.MasterNotes.{asks_about}
+use Rattle.pm_notify.specs.Notify.{notes_for}
 use Rattle.pm_core.specs.Callbacks.{noticed_by}
 use Rattle.pm_core.specs.State.{State}
 use Rattle.pm_core.specs.Talk.{Talk, talked, wait_of}
-use Rattle.pm_core.proofs.MailLaw.{noticed_alike, waits_ask}
+use Rattle.pm_core.proofs.MasterNotesLaw.{noticed_alike, waits_ask}
 use Rattle.pm_core.proofs.TalkLemmas.{each_step, map_flat}
 use Rattle.pm_core.proofs.inner.Inner.keep_notices.Goals as goal
 
@@ -17,27 +17,27 @@ loop-notice-init c = record { alike = λ node event. refl; whole = refl }
 pub loop-notice-preserved : goal.loop-notice-preserved
 loop-notice-preserved c =
     let k = c.args.k in
-    let mail = mail_of k c.args.self.now.now.talk.mail in
+    let notes = notes_for k c.args.self.now.now.talk.notes in
     let book = c.loop-notice.self in
     let next = c.keep_notice.new.self in
-    let here = noticed_by (mail_of k book.now.talk.mail) _ in
-    let change : Waiting → List Talk = λ notice. map (wait_of k) (noticed_by mail notice) in
+    let here = noticed_by (notes_for k book.now.talk.notes) _ in
+    let change : Waiting → List Talk = λ notice. map (wait_of k) (noticed_by notes notice) in
     record {
       alike = λ node event.
-          ap (λ (b : State). asks_about node event (mail_of k b.now.talk.mail)) c.keep_notice.ensures
+          ap (λ (b : State). asks_about node event (notes_for k b.now.talk.notes)) c.keep_notice.ensures
           ∙ (waits_ask c.notifiers_are_kept.ensures k k here book.now.talk node event ∙ c.loop-notice.invariant.alike node event);
       whole = each_step change c.args.notices.now c.loop-notice.notice-index _ book next
           (slice_get-get_or c.args.notices.now c.loop-notice.notice-index _ c.loop-notice-test.true)
-          (c.keep_notice.ensures ∙ ap (λ ws. talked (map (wait_of k) ws) book) (noticed_alike (mail_of k book.now.talk.mail) mail _ c.loop-notice.invariant.alike))
+          (c.keep_notice.ensures ∙ ap (λ ws. talked (map (wait_of k) ws) book) (noticed_alike (notes_for k book.now.talk.notes) notes _ c.loop-notice.invariant.alike))
           ∙ c.loop-notice.invariant.whole;
     }
 
 pub returns : goal.returns
 returns c =
     let k = c.args.k in
-    let mail = mail_of k c.args.self.now.now.talk.mail in
-    let change : Waiting → List Talk = λ notice. map (wait_of k) (noticed_by mail notice) in
+    let notes = notes_for k c.args.self.now.now.talk.notes in
+    let change : Waiting → List Talk = λ notice. map (wait_of k) (noticed_by notes notice) in
     let notices = c.args.notices.now in
     let none : drop c.loop-notice.notice-index notices ≡ [] = drop_all c.loop-notice.notice-index notices (omega (arith, c.loop-notice-test.false)) in
     sym (ap (λ left. talked (flat_map change left) c.loop-notice.self) none)
-    ∙ (c.loop-notice.invariant.whole ∙ ap (λ changes. talked changes c.args.self.now) (sym (map_flat (wait_of k) (noticed_by mail) notices)))
+    ∙ (c.loop-notice.invariant.whole ∙ ap (λ changes. talked changes c.args.self.now) (sym (map_flat (wait_of k) (noticed_by notes) notices)))

@@ -1,14 +1,14 @@
 use Rattle.std.proofs.Common.{◌≡◌, drop, flat_map, map}
-use Rattle.pm_notify.specs.Notify.{mail_of}
+use Rattle.pm_notify.specs.Notify.{notes_for}
 use Rattle.pm_core.specs.Callbacks.{noticed_by}
 use Rattle.pm_core.specs.Talk.{talked, wait_of}
-use Rattle.pm_core.proofs.MailLaw.{AskAlike}
+use Rattle.pm_core.proofs.MasterNotesLaw.{AskAlike}
 use Rattle.pm_core.proofs.inner.Inner.keep_notices.Given as goal
 
 -- the notifications that are left wait after those that do, and the master asks for what it asked for
 abbrev pub invariant-loop-notice : goal.invariant-loop-notice
 invariant-loop-notice l = record {
-  alike : AskAlike (mail_of l.k l.self.now.talk.mail) (mail_of l.k l.fn.self.now.talk.mail);
-  whole : talked (flat_map (λ notice. map (wait_of l.k) (noticed_by (mail_of l.k l.fn.self.now.talk.mail) notice)) (drop l.notice-index l.notices)) l.self
-      ≡ talked (flat_map (λ notice. map (wait_of l.k) (noticed_by (mail_of l.k l.fn.self.now.talk.mail) notice)) l.notices) l.fn.self;
+  alike : AskAlike (notes_for l.k l.self.now.talk.notes) (notes_for l.k l.fn.self.now.talk.notes);
+  whole : talked (flat_map (λ notice. map (wait_of l.k) (noticed_by (notes_for l.k l.fn.self.now.talk.notes) notice)) (drop l.notice-index l.notices)) l.self
+      ≡ talked (flat_map (λ notice. map (wait_of l.k) (noticed_by (notes_for l.k l.fn.self.now.talk.notes) notice)) l.notices) l.fn.self;
 }

@@ -8,8 +8,8 @@ use Rattle.pm_core.specs.State.{State}
 use Rattle.pm_core.proofs.AlongLaw.{next_places, twice_trailed}
 use Rattle.pm_core.proofs.inner.Inner.restart_all.Goals as goal
 
-pub note-requires : goal.note-requires
-note-requires c =
+pub log-requires : goal.log-requires
+log-requires c =
     let mid : c.follow.new.self ≡ after_stage (offs c.args.self.now.fixed All) c.args.self.now =
     c.follow.ensures ∙ ap followed c.take_off.ensures
     in
@@ -21,6 +21,6 @@ returns-clause-along c =
     let first = offs book.fixed All in
     let later : List Prim = Reload ∷ [] in
     let mid : c.follow.new.self ≡ after_stage first book = c.follow.ensures ∙ ap followed c.take_off.ensures in
-    twice_trailed first later book c.follow.new.self c.follow-2.new.self c.note.new.self mid
-    (c.note.ensures ∙ ap (trailed c.follow.new.self) c.requires)
+    twice_trailed first later book c.follow.new.self c.follow-2.new.self c.log.new.self mid
+    (c.log.ensures ∙ ap (trailed c.follow.new.self) c.requires)
     (c.follow-2.ensures ∙ (ap followed c.reload.ensures ∙ ap (λ (b : State). followed (changed later b)) mid))

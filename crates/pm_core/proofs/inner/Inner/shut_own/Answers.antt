@@ -9,8 +9,8 @@ use Rattle.pm_core.specs.calls.SystemShutdown.{first_own, own_stages, starting}
 use Rattle.pm_core.proofs.AlongLaw.{next_places, once_trailed, twice_trailed}
 use Rattle.pm_core.proofs.inner.Inner.shut_own.Goals as goal
 
-pub note-requires : goal.note-requires
-note-requires c =
+pub log-requires : goal.log-requires
+log-requires c =
     let mid : c.follow.new.self ≡ after_stage (offs c.args.self.now.fixed (Own c.args.m)) c.args.self.now =
     c.follow.ensures ∙ ap followed c.take_off.ensures
     in
@@ -24,10 +24,10 @@ returns-then-restarts-clause-along c =
     let later = starting m (first_own book.fixed m) in
     let new = c.follow-then-restarts.new.self in
     let mid : c.follow.new.self ≡ after_stage first book = c.follow.ensures ∙ ap followed c.take_off.ensures in
-    let P : Bool → Type 0 = λ restarts. Completes book (path_from (own_stages book.fixed m restarts) book) new c.note.new.self in
+    let P : Bool → Type 0 = λ restarts. Completes book (path_from (own_stages book.fixed m restarts) book) new c.log.new.self in
     subst P (sym c.if-restarts.true)
-    (twice_trailed first later book c.follow.new.self new c.note.new.self mid
-    (c.note.ensures ∙ ap (trailed c.follow.new.self) c.requires)
+    (twice_trailed first later book c.follow.new.self new c.log.new.self mid
+    (c.log.ensures ∙ ap (trailed c.follow.new.self) c.requires)
     (c.follow-then-restarts.ensures
     ∙ (ap followed c.start_own.ensures ∙ ap (λ (b : State). followed (changed (starting m (first_own b.fixed m)) b)) mid)))
 

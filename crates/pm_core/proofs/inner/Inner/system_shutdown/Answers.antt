@@ -1,13 +1,12 @@
-use Rattle.std.proofs.Common.{◌<◌, ◌⊎◌, inl, inr, ◌==◌, ◌&&◌, ◌||◌, [], ◌∷◌, sym, ◌∙◌}
+use Rattle.std.proofs.Common.{◌<◌, ◌⊎◌, inl, inr, ◌==◌, ◌&&◌, ◌||◌, sym, ◌∙◌}
 use Rattle.std.specs.Prelude.{nat_le}
-use Rattle.pm_ipi.specs.Status.{invalid_parameter, no_access}
 use Rattle.pm_perms.specs.Permits.{may_shut}
-use Rattle.pm_core.specs.Outcome.{must, outcome_of}
+use Rattle.pm_core.specs.Verdict.{stages_of}
 use Rattle.pm_core.specs.Views.{master_node}
 use Rattle.pm_core.specs.calls.SystemShutdown.{system_shutdown}
 use Rattle.pm_core.proofs.AlongLaw.{still_trailed}
-use Rattle.pm_core.proofs.Judged.{first_fails, later_fails, nothing_judged}
 use Rattle.pm_core.proofs.ShutdownCases.{is_scope, isnt_known, isnt_shut}
+use Rattle.pm_core.proofs.Verdicts.{clash, none_done, nothing_done, ranged}
 use Rattle.pm_core.proofs.inner.Inner.system_shutdown.Goals as goal
 
 pub returns-then-shutdown_type-gt2-clause-along : goal.returns-then-shutdown_type-gt2-clause-along
@@ -16,18 +15,18 @@ returns-then-shutdown_type-gt2-clause-along c =
     let kind = c.args.shutdown_type in
     let sub = c.args.subtype in
     let call = system_shutdown book.fixed c.args.master kind sub in
-    let may = may_shut book.fixed.object book.fixed.topology (master_node book.fixed.object.masters c.args.master) sub in
     let beyond : (2 < kind) ⊎ (2 < sub) = elim c.then-shutdown_type-gt2.either [ inl type ↦ inl type | inr scope ↦ inr scope.1 ] in
-    still_trailed (outcome_of call).stages book c.args.along.now
-    (first_fails (nat_le kind 2 && nat_le sub 2) invalid_parameter (must ((kind == 2) || may) no_access ∷ []) call.deed (isnt_known kind sub beyond))
+    let known = nat_le kind 2 && nat_le sub 2 in
+    still_trailed (stages_of call) book c.args.along.now
+    (none_done call (λ all. clash known (ranged known all.arguments) (isnt_known kind sub beyond)))
     c.requires
 
 pub returns-then-shutdown_type-eq-SCOPE-clause-along : goal.returns-then-shutdown_type-eq-SCOPE-clause-along
 returns-then-shutdown_type-eq-SCOPE-clause-along c =
     let book = c.args.self.now in
     let call = system_shutdown book.fixed c.args.master c.args.shutdown_type c.args.subtype in
-    still_trailed (outcome_of call).stages book c.args.along.now
-    (nothing_judged call.checks call.deed (is_scope book.fixed c.args.master c.args.shutdown_type c.args.subtype c.if-shutdown_type-eq-SCOPE.true))
+    still_trailed (stages_of call) book c.args.along.now
+    (nothing_done call (is_scope book.fixed c.args.master c.args.shutdown_type c.args.subtype c.if-shutdown_type-eq-SCOPE.true))
     c.requires
 
 pub returns-then-not-may_shut-clause-along : goal.returns-then-not-may_shut-clause-along
@@ -37,7 +36,6 @@ returns-then-not-may_shut-clause-along c =
     let sub = c.args.subtype in
     let call = system_shutdown book.fixed c.args.master kind sub in
     let may = may_shut book.fixed.object book.fixed.topology (master_node book.fixed.object.masters c.args.master) sub in
-    still_trailed (outcome_of call).stages book c.args.along.now
-    (later_fails (must (nat_le kind 2 && nat_le sub 2) invalid_parameter) (must ((kind == 2) || may) no_access ∷ []) call.deed
-    (first_fails ((kind == 2) || may) no_access [] call.deed (isnt_shut kind may c.if-shutdown_type-eq-SCOPE.false (sym c.may_shut.ensures ∙ c.if-not-may_shut.true))))
+    still_trailed (stages_of call) book c.args.along.now
+    (none_done call (λ all. clash ((kind == 2) || may) all.permitted (isnt_shut kind may c.if-shutdown_type-eq-SCOPE.false (sym c.may_shut.ensures ∙ c.if-not-may_shut.true))))
     c.requires

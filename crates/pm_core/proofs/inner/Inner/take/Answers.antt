@@ -1,7 +1,7 @@
 use Rattle.std.proofs.Common.{sym}
 use Rattle.pm_core.specs.Step.{is_ipi, stages}
 use Rattle.pm_core.proofs.AlongLaw.{once_trailed}
-use Rattle.pm_core.proofs.StepLaw.{no_message, none_heard, stages_once}
+use Rattle.pm_core.proofs.StepLaw.{no_message, none_served, stages_once}
 use Rattle.pm_core.proofs.inner.Inner.take.Goals as goal
 
 pub returns : goal.returns
@@ -11,6 +11,6 @@ returns c =
     let none = no_message event c.in_default.not-Ipi in
     record {
       book = c.happen.ensures;
-      heard = sym (none_heard event book none);
+      served = sym (none_served event book none);
       along = once_trailed (stages event book) book c.happen.new.self c.args.along.now (stages_once event book none) c.requires.along c.happen.ensures;
     }

@@ -1,39 +1,39 @@
 use Rattle.std.proofs.Common.{◌≡◌, ◌++◌, List, map, sym, ◌∙◌, ap, append_assoc, subst, arith}
 use Rattle.pm_base.specs.BoundedList.{Bounded}
 use Rattle.pm_base.specs.declared.names.Mode.TheVariants.{Asleep}
-use Rattle.pm_notify.specs.Notify.{mail_of}
+use Rattle.pm_notify.specs.Notify.{notes_for}
 use Rattle.pm_procs.specs.Modes.{same_mode}
 use Rattle.pm_core.specs.declared.outbox.Callback.{Callback}
 use Rattle.pm_core.specs.Caches.{AreKept}
 use Rattle.pm_core.specs.Callbacks.{asks_to, callback_of, notes_to, told_if}
 use Rattle.pm_core.specs.State.{State}
 use Rattle.pm_core.specs.Talk.{take_of, talked}
-use Rattle.pm_core.specs.Along.{mode_noted}
+use Rattle.pm_core.specs.Along.{mode_logged}
 use Rattle.pm_core.specs.Telling.{news_in}
 use Rattle.pm_core.proofs.EndedLaw.{kept_talked}
-use Rattle.pm_core.proofs.MailLaw.{notes_alike, takes_ask}
+use Rattle.pm_core.proofs.MasterNotesLaw.{notes_alike, takes_ask}
 use Rattle.pm_core.proofs.TellLemmas.{callbacks_same, length-calls}
 use Rattle.pm_core.proofs.inner.Inner.tell_awake.Goals as goal
 
 pub tell_news-requires-clause-kept : goal.tell_news-requires-clause-kept
 tell_news-requires-clause-kept c =
     let P : State → Type 0 = λ b. AreKept b c.args.caches.now in
-    let woken = told_if (same_mode c.mode.result Asleep) (mail_of c.args.k c.args.self.now.now.talk.mail) in
+    let woken = told_if (same_mode c.mode.result Asleep) (notes_for c.args.k c.args.self.now.now.talk.notes) in
     subst P (sym c.tell_woken.ensures.book) (kept_talked (map (take_of c.args.k) woken) c.args.self.now c.args.caches.now c.requires.kept)
 
 pub tell_news-requires-clause-room : goal.tell_news-requires-clause-room
 tell_news-requires-clause-room c =
-    let mail = mail_of c.args.k c.args.self.now.now.talk.mail in
+    let notes = notes_for c.args.k c.args.self.now.now.talk.notes in
     let woken = same_mode c.mode.result Asleep in
     let room = ap (λ (s : Bounded Callback). s.room) c.tell_woken.ensures.calls in
     let items = ap (λ (s : Bounded Callback). s.items) c.tell_woken.ensures.calls in
-    let few = length-calls woken mail (callback_of c.args.master c.args.self.now) c.args.calls.now.items c.tell_woken.new.calls.items items in
+    let few = length-calls woken notes (callback_of c.args.master c.args.self.now) c.args.calls.now.items c.tell_woken.new.calls.items items in
     omega (arith, room, few, c.requires.room)
 
 pub returns-clause-book : goal.returns-clause-book
 returns-clause-book c =
-    let mail = mail_of c.args.k c.args.self.now.now.talk.mail in
-    c.tell_woken.ensures.book ∙ ap (λ was. talked (map (take_of c.args.k) (told_if (same_mode was Asleep) mail)) c.args.self.now) c.mode.ensures
+    let notes = notes_for c.args.k c.args.self.now.now.talk.notes in
+    c.tell_woken.ensures.book ∙ ap (λ was. talked (map (take_of c.args.k) (told_if (same_mode was Asleep) notes)) c.args.self.now) c.mode.ensures
 
 pub returns-clause-calls : goal.returns-clause-calls
 returns-clause-calls c =
@@ -41,23 +41,23 @@ returns-clause-calls c =
     let master = c.args.master in
     let old = c.args.self.now in
     let news = news_in c.args.telling.now in
-    let mail = mail_of k old.now.talk.mail in
-    let was = mode_noted c.args.telling.now.modes.items k in
-    let woken = told_if (same_mode was Asleep) mail in
+    let notes = notes_for k old.now.talk.notes in
+    let was = mode_logged c.args.telling.now.modes.items k in
+    let woken = told_if (same_mode was Asleep) notes in
     let before = c.args.calls.now in
     let changes = map (take_of k) woken in
     let first = map (callback_of master old) woken in
     let asked = asks_to k master c.args.telling.now.asks in
-    let notes = notes_to news k mail in
+    let due = notes_to news k notes in
     let mid = c.tell_woken.new.self in
-    let book : mid ≡ talked changes old = c.tell_woken.ensures.book ∙ ap (λ w. talked (map (take_of k) (told_if (same_mode w Asleep) mail)) old) c.mode.ensures in
+    let book : mid ≡ talked changes old = c.tell_woken.ensures.book ∙ ap (λ w. talked (map (take_of k) (told_if (same_mode w Asleep) notes)) old) c.mode.ensures in
     let calls : c.tell_woken.new.calls ≡ record before { items = before.items ++ first } =
-    c.tell_woken.ensures.calls ∙ ap (λ w. record before { items = before.items ++ map (callback_of master old) (told_if (same_mode w Asleep) mail) }) c.mode.ensures
+    c.tell_woken.ensures.calls ∙ ap (λ w. record before { items = before.items ++ map (callback_of master old) (told_if (same_mode w Asleep) notes) }) c.mode.ensures
     in
     let told : List Callback → Bounded Callback = λ cs. record before { items = (before.items ++ first) ++ (asked ++ cs) } in
     c.tell_news.ensures
-    ∙ (ap (λ (s : Bounded Callback). record s { items = s.items ++ (asked ++ map (callback_of master mid) (notes_to news k (mail_of k mid.now.talk.mail))) }) calls
-    ∙ (ap (λ (b : State). told (map (callback_of master b) (notes_to news k (mail_of k b.now.talk.mail)))) book
-    ∙ (ap told (callbacks_same master changes old (notes_to news k (mail_of k (talked changes old).now.talk.mail)))
-    ∙ (ap (λ ns. told (map (callback_of master old) ns)) (notes_alike news k (mail_of k (talked changes old).now.talk.mail) mail (takes_ask c.notifiers_are_kept.ensures k k woken old.now.talk))
-    ∙ ap (λ cs. record before { items = cs }) (append_assoc before.items first (asked ++ map (callback_of master old) notes))))))
+    ∙ (ap (λ (s : Bounded Callback). record s { items = s.items ++ (asked ++ map (callback_of master mid) (notes_to news k (notes_for k mid.now.talk.notes))) }) calls
+    ∙ (ap (λ (b : State). told (map (callback_of master b) (notes_to news k (notes_for k b.now.talk.notes)))) book
+    ∙ (ap told (callbacks_same master changes old (notes_to news k (notes_for k (talked changes old).now.talk.notes)))
+    ∙ (ap (λ ns. told (map (callback_of master old) ns)) (notes_alike news k (notes_for k (talked changes old).now.talk.notes) notes (takes_ask c.notifiers_are_kept.ensures k k woken old.now.talk))
+    ∙ ap (λ cs. record before { items = cs }) (append_assoc before.items first (asked ++ map (callback_of master old) due))))))

@@ -3,31 +3,31 @@ use Rattle.std.proofs.lemmas.List.{length-map}
 use Rattle.std.proofs.lemmas.Option.{slice_get_cases}
 use Rattle.pm_base.specs.BoundedList.{Bounded}
 use Rattle.pm_notify.specs.Laws.{TakeLaws}
-use Rattle.pm_notify.specs.Mailbox.{Mail, waiting_in}
-use Rattle.pm_notify.specs.Notify.{mail_of}
+use Rattle.pm_notify.specs.MasterNotes.{MasterNotes, waiting_in}
+use Rattle.pm_notify.specs.Notify.{notes_for}
 use Rattle.pm_topology.specs.Units.{UnitLaws}
 use Rattle.pm_core.specs.declared.outbox.Callback.{Callback}
-use Rattle.pm_core.specs.Callbacks.{called_back, mailed}
+use Rattle.pm_core.specs.Callbacks.{called_back, note_changes_at}
 use Rattle.pm_core.specs.Members.{mode_of_master}
 use Rattle.pm_core.specs.Outbox.{callbacks_to_one, unit_count}
-use Rattle.pm_core.specs.Sound.{HasMail}
+use Rattle.pm_core.specs.Sound.{HasNotes}
 use Rattle.pm_core.specs.State.{Fixed, State}
 use Rattle.pm_core.specs.Talk.{talked}
-use Rattle.pm_core.specs.Along.{mode_noted}
+use Rattle.pm_core.specs.Along.{mode_logged}
 use Rattle.pm_core.specs.Telling.{news_in}
 use Rattle.pm_core.specs.Views.{master_node}
-use Rattle.pm_core.proofs.MailLaw.{mailed_others}
-use Rattle.pm_core.proofs.TellLemmas.{called_same, calls_step, few_called, mails_step, mode_same, part_fits}
+use Rattle.pm_core.proofs.MasterNotesLaw.{noted_others}
+use Rattle.pm_core.proofs.TellLemmas.{called_same, calls_step, few_called, note_changes_step, mode_same, part_fits}
 use Rattle.pm_core.proofs.inner.Inner.tell_masters.Goals as goal
 
 -- what waits for one master is no more than three notes about each unit
-waits_few : TakeLaws → UnitLaws → (start : State) (now : Mail) (k : ℕ) → k < length start.fixed.object.masters → HasMail start → now ≡ mail_of k start.now.talk.mail
+waits_few : TakeLaws → UnitLaws → (start : State) (now : MasterNotes) (k : ℕ) → k < length start.fixed.object.masters → HasNotes start → now ≡ notes_for k start.now.talk.notes
     → length (waiting_in now) ≤ 3 * unit_count start.fixed.topology
 waits_few takes laws start now k within has here =
     let units = ap length (has.units k within) in
-    let few = takes.few k start.now.talk.mail in
+    let few = takes.few k start.now.talk.notes in
     let count = laws.few start.fixed.topology in
-    omega (arith, ap (λ (m : Mail). length (waiting_in m)) here, units, few, count, length-map (mail_of k start.now.talk.mail) (λ e. e.0))
+    omega (arith, ap (λ (m : MasterNotes). length (waiting_in m)) here, units, few, count, length-map (notes_for k start.now.talk.notes) (λ e. e.0))
 
 pub tell_master-requires-clause-room : goal.tell_master-requires-clause-room
 tell_master-requires-clause-room c =
@@ -35,10 +35,10 @@ tell_master-requires-clause-room c =
     let k = c.loop-k.k in
     let one = callbacks_to_one (unit_count start.fixed.topology) (length start.fixed.object.masters) in
     let within : k < length start.fixed.object.masters = omega (arith, c.masters-k-end.ensures, c.loop-k-test.true) in
-    let here : mail_of k c.loop-k.self.now.talk.mail ≡ mail_of k start.now.talk.mail = c.loop-k.invariant.others k (omega arith) in
-    let few = waits_few c.takes_drain_the_slots.ensures c.units_stand_in_order.ensures start (mail_of k c.loop-k.self.now.talk.mail) k within c.requires.mail here in
+    let here : notes_for k c.loop-k.self.now.talk.notes ≡ notes_for k start.now.talk.notes = c.loop-k.invariant.others k (omega arith) in
+    let few = waits_few c.takes_drain_the_slots.ensures c.units_stand_in_order.ensures start (notes_for k c.loop-k.self.now.talk.notes) k within c.requires.notes here in
     let fits : k * one + one ≤ length start.fixed.object.masters * one = part_fits k (length start.fixed.object.masters) one within in
-    let room : length c.loop-k.calls.items + (length (waiting_in (mail_of k c.loop-k.self.now.talk.mail)) + (1 + (length c.args.telling.now.ended.items + length c.args.telling.now.notices.items))) ≤ c.loop-k.calls.room =
+    let room : length c.loop-k.calls.items + (length (waiting_in (notes_for k c.loop-k.self.now.talk.notes)) + (1 + (length c.args.telling.now.ended.items + length c.args.telling.now.notices.items))) ≤ c.loop-k.calls.room =
     omega (arith, few, fits, c.loop-k.invariant.room, c.loop-k.invariant.few, c.requires.ended, c.requires.notices, c.requires.room)
     in
     room
@@ -47,50 +47,50 @@ pub loop-k-preserved : goal.loop-k-preserved
 loop-k-preserved c =
     let start = c.args.self.now in
     let masters = start.fixed.object.masters in
-    let mail = start.now.talk.mail in
+    let notes = start.now.talk.notes in
     let news = news_in c.args.telling.now in
-    let was = mode_noted c.args.telling.now.modes.items in
+    let was = mode_logged c.args.telling.now.modes.items in
     let k = c.loop-k.k in
     let book = c.loop-k.self in
     let next = c.tell_master.new.self in
     let fixed = c.loop-k.invariant.fixed in
     let core = c.loop-k.invariant.core in
-    let here : mail_of k book.now.talk.mail ≡ mail_of k mail = c.loop-k.invariant.others k (omega arith) in
+    let here : notes_for k book.now.talk.notes ≡ notes_for k notes = c.loop-k.invariant.others k (omega arith) in
     let mode : mode_of_master book.fixed book.now.core k ≡ mode_of_master start.fixed start.now.core k = mode_same book start k fixed core in
     let mode_is = mode_of_master start.fixed start.now.core k in
-    let told : next ≡ talked (mailed news k (was k) mode_is (mail_of k mail)) book =
+    let told : next ≡ talked (note_changes_at news k (was k) mode_is (notes_for k notes)) book =
     c.tell_master.ensures.book
-    ∙ (ap (λ m. talked (mailed news k (was k) m (mail_of k book.now.talk.mail)) book) mode
-    ∙ ap (λ m. talked (mailed news k (was k) mode_is m) book) here)
+    ∙ (ap (λ m. talked (note_changes_at news k (was k) m (notes_for k book.now.talk.notes)) book) mode
+    ∙ ap (λ m. talked (note_changes_at news k (was k) mode_is m) book) here)
     in
     let master : c.master_node-master.result ≡ master_node masters k =
     c.master_node-master.ensures
     ∙ (ap (λ ms. master_node ms k) (c.as_slice.ensures ∙ ap (λ (b : State). b.fixed.object.masters) c.self-in-loop-k.view_is)
     ∙ ap (λ (f : Fixed). master_node f.object.masters k) fixed)
     in
-    let called : c.tell_master.new.calls.items ≡ c.loop-k.calls.items ++ called_back news k (master_node masters k) (was k) mode_is (mail_of k mail) start =
+    let called : c.tell_master.new.calls.items ≡ c.loop-k.calls.items ++ called_back news k (master_node masters k) (was k) mode_is (notes_for k notes) start =
     ap (λ (s : Bounded Callback). s.items) c.tell_master.ensures.calls
-    ∙ (ap (λ m. c.loop-k.calls.items ++ called_back news k c.master_node-master.result (was k) m (mail_of k book.now.talk.mail) book) mode
+    ∙ (ap (λ m. c.loop-k.calls.items ++ called_back news k c.master_node-master.result (was k) m (notes_for k book.now.talk.notes) book) mode
     ∙ (ap (λ m. c.loop-k.calls.items ++ called_back news k c.master_node-master.result (was k) mode_is m book) here
-    ∙ (ap (λ cs. c.loop-k.calls.items ++ cs) (called_same news k c.master_node-master.result (was k) mode_is (mail_of k mail) book start fixed core)
-    ∙ ap (λ n. c.loop-k.calls.items ++ called_back news k n (was k) mode_is (mail_of k mail) start) master)))
+    ∙ (ap (λ cs. c.loop-k.calls.items ++ cs) (called_same news k c.master_node-master.result (was k) mode_is (notes_for k notes) book start fixed core)
+    ∙ ap (λ n. c.loop-k.calls.items ++ called_back news k n (was k) mode_is (notes_for k notes) start) master)))
     in
     let within : k < length masters = omega (arith, c.masters-k-end.ensures, c.loop-k-test.true) in
-    let waits = waits_few c.takes_drain_the_slots.ensures c.units_stand_in_order.ensures start (mail_of k mail) k within c.requires.mail refl in
-    let few = few_called news k (master_node masters k) (was k) mode_is (mail_of k mail) start in
-    let counted = ap length called ∙ length-append c.loop-k.calls.items (called_back news k (master_node masters k) (was k) mode_is (mail_of k mail) start) in
+    let waits = waits_few c.takes_drain_the_slots.ensures c.units_stand_in_order.ensures start (notes_for k notes) k within c.requires.notes refl in
+    let few = few_called news k (master_node masters k) (was k) mode_is (notes_for k notes) start in
+    let counted = ap length called ∙ length-append c.loop-k.calls.items (called_back news k (master_node masters k) (was k) mode_is (notes_for k notes) start) in
     elim ((slice_get_cases masters k).1) [
       | inl found ↦ record {
         fixed = ap (λ (b : State). b.fixed) told ∙ fixed;
         core = ap (λ (b : State). b.now.core) told ∙ core;
         others = λ j later.
-            ap (λ (b : State). mail_of j b.now.talk.mail) told
-            ∙ (mailed_others c.others_keep_their_mail.ensures news k j (was k) mode_is (mail_of k mail) book.now.talk (λ same. omega (arith, same, later))
+            ap (λ (b : State). notes_for j b.now.talk.notes) told
+            ∙ (noted_others c.others_keep_their_notes.ensures news k j (was k) mode_is (notes_for k notes) book.now.talk (λ same. omega (arith, same, later))
             ∙ c.loop-k.invariant.others j (omega (arith, later)));
         room = ap (λ (s : Bounded Callback). s.room) c.tell_master.ensures.calls ∙ c.loop-k.invariant.room;
         few = omega (arith, counted, few, waits, c.loop-k.invariant.few, c.requires.ended, c.requires.notices);
-        book = mails_step news was mail start book next k found.0 masters found.2 told ∙ c.loop-k.invariant.book;
-        calls = calls_step news was mail start k found.0 masters c.loop-k.calls.items c.tell_master.new.calls.items _ found.2 called c.loop-k.invariant.calls;
+        book = note_changes_step news was notes start book next k found.0 masters found.2 told ∙ c.loop-k.invariant.book;
+        calls = calls_step news was notes start k found.0 masters c.loop-k.calls.items c.tell_master.new.calls.items _ found.2 called c.loop-k.invariant.calls;
       }
       | inr past ↦ absurd (omega (arith, past.0, within))
     ]

@@ -2,8 +2,8 @@ use Rattle.std.proofs.Common.{◌≡◌, ◌++◌, ◌∷◌, [], Some, length, 
 use Rattle.std.specs.Prelude.{option_to_list, slice_get}
 use Rattle.pm_base.specs.BoundedList.{Bounded}
 use Rattle.pm_notify.specs.declared.notes.Waiting.{Waiting}
-use Rattle.pm_notify.specs.Mailbox.{waiting_in}
-use Rattle.pm_notify.specs.Notify.{mail_of}
+use Rattle.pm_notify.specs.MasterNotes.{waiting_in}
+use Rattle.pm_notify.specs.Notify.{notes_for}
 use Rattle.pm_core.specs.declared.outbox.Callback.{Callback}
 use Rattle.pm_core.specs.Callbacks.{callback_of}
 use Rattle.pm_core.specs.State.{State}
@@ -21,10 +21,10 @@ notes-preserved c =
     let next = c.take_note.new.self in
     let w = c.in-Some.waiting in
     let call : Waiting → Callback = callback_of master start in
-    let first : slice_get (waiting_in (mail_of k book.now.talk.mail)) 0 ≡ Some w = sym c.take_note.ensures.first ∙ c.in-Some.is in
+    let first : slice_get (waiting_in (notes_for k book.now.talk.notes)) 0 ≡ Some w = sym c.take_note.ensures.first ∙ c.in-Some.is in
     let is : next ≡ talked (take_of k w ∷ []) book = c.take_note.ensures.rest ∙ ap (λ o. talked (map (take_of k) (option_to_list o)) book) c.in-Some.is in
     let left = left_step laws k book next w c.take_note.ensures.order first is in
-    let rest = waiting_in (mail_of k next.now.talk.mail) in
+    let rest = waiting_in (notes_for k next.now.talk.notes) in
     let fixed : next.fixed ≡ start.fixed = ap (λ (b : State). b.fixed) is ∙ c.notes.invariant.fixed in
     let core : next.now.core ≡ start.now.core = ap (λ (b : State). b.now.core) is ∙ c.notes.invariant.core in
     let put : c.push.new.self.items ≡ c.notes.calls.items ++ call w ∷ [] =

@@ -1,0 +1,23 @@
+use Rattle.std.proofs.Common.{◌≡◌, ◌<◌, length, ◌∙◌, ap, inl, inr, arith}
+use Rattle.std.proofs.lemmas.List.{length-set}
+use Rattle.std.proofs.lemmas.Option.{slice_get_cases}
+use Rattle.pm_core.specs.Members.{mode_of_master}
+use Rattle.pm_core.specs.State.{State, in_force}
+use Rattle.pm_core.specs.Along.{mode_beside}
+use Rattle.pm_core.proofs.PlacedLemmas.{placed_step}
+use Rattle.pm_core.proofs.inner.Inner.log_modes.Goals as goal
+
+pub loop-m-preserved : goal.loop-m-preserved
+loop-m-preserved c =
+    let book = c.args.self.now in
+    let masters = (in_force book).masters in
+    let m = c.loop-m.m in
+    let same : length c.self.inside.object.masters ≡ length masters = ap (λ (b : State). length (in_force b).masters) c.self.view_is in
+    let within : m < length masters = omega (arith, same, c.len-m-end.ensures, c.loop-m-test.true) in
+    record {
+      places = length-set c.loop-m.modes m c.mode_of_master.result ∙ c.loop-m.invariant.places;
+      modes = elim ((slice_get_cases masters m).1) [
+        | inl here ↦ placed_step (mode_beside book) masters c.loop-m.modes m here.0 c.mode_of_master.result _ here.2 (omega arith) c.mode_of_master.ensures c.loop-m.invariant.modes
+        | inr past ↦ absurd (omega (arith, past.0))
+      ];
+    }
