@@ -1,3 +1,5 @@
+pub mod Cuts
+pub mod DropFacts
 pub mod FilterLemmas
 pub mod LineCommands
 pub mod LinesLaw
@@ -6,6 +8,7 @@ pub mod PartsLaw
 pub mod RecordFacts
 pub mod RunsLaw
 pub mod TablesLaw
+pub mod TellingLaw
 pub mod TextsLaw
 pub mod TurnFacts
 pub mod WholeLaw

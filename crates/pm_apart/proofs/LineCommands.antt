@@ -1,7 +1,7 @@
 -- The commands of a plan on one reset line, where none is refused: they follow from its value in the record, its value in the
 -- book, and whether it is the line that is pulsed.
 use Rattle.std.proofs.Common.{◌≡◌, ℕ, ◌==◌, Bool, true, false, not, ◌&&◌, cond, if◌then◌else◌, Option, Some, None, List, [], ◌∷◌, ◌++◌, refl, ap, sym, ◌∙◌}
-use Rattle.std.specs.Prelude.{filter}
+use Rattle.std.specs.Prelude.{filter, flat_map, map, reverse}
 use Rattle.std.proofs.lemmas.Bool.{both_ways, eqb-true}
 use Rattle.pm_base.specs.declared.names.Command.{Command}
 use Rattle.pm_base.specs.declared.names.LineId.{LineId}
@@ -10,17 +10,17 @@ use Rattle.pm_base.specs.declared.names.Unit.TheVariants.{Line}
 use Rattle.pm_topology.specs.declared.topology.Topology.{Topology}
 use Rattle.pm_topology.specs.Places.{line_place}
 use Rattle.pm_topology.specs.UnitMap.{units_in}
-use Rattle.pm_topology.specs.Units.{has_in, same_unit}
+use Rattle.pm_topology.specs.Units.{has_in, same_unit, units_of}
 use Rattle.pm_core.specs.declared.outbox.Done.{Done}
 use Rattle.pm_laws.specs.Border.{Border, line_beyond}
 use Rattle.pm_laws.specs.Pulse.{pulse_beyond}
 use Rattle.pm_apply.specs.declared.turns.Turn.{Turn}
 use Rattle.pm_apply.specs.declared.turns.Turn.TheVariants.{PowerOn, Pulse, Apply, PowerOff}
-use Rattle.pm_apply.specs.Plan.{apply, command, due, plan, pulse_before, pulse_turn, take_turn, turns_of, unit_turns, where_due, with_pulse}
+use Rattle.pm_apply.specs.Plan.{apply, command, due, plan, power_places, pulse_before, pulse_turn, take_turn, turns_of, unit_turns, where_due, with_pulse}
 use Rattle.pm_apply.specs.Record.{Kept, keep, kept_value}
 use Rattle.pm_apart.specs.Lines.{is_on}
 use Rattle.pm_apart.proofs.FilterLemmas.{kept_in, left_out, made_alike, parts_alike}
-use Rattle.pm_apart.proofs.NodeCommands.{moves}
+use Rattle.pm_apart.proofs.NodeCommands.{moves, moves_none}
 use Rattle.pm_apart.proofs.RecordFacts.{ChipLaws, other_kept, own_kept, units_stay}
 use Rattle.pm_apart.proofs.TurnFacts.{command_to, lowers, pulses, raises, settles}
 
@@ -81,6 +81,40 @@ line_commands l value kept (PowerOn w ∷ turns) = line_commands l value kept tu
 line_commands l value kept (Pulse line ∷ turns) = moves (Line l) kept 1 ++ line_commands l value 1 turns
 line_commands l value kept (Apply unit ∷ turns) = moves (Line l) kept value ++ line_commands l value value turns
 line_commands l value kept (PowerOff w ∷ turns) = line_commands l value kept turns
+
+-- a line that is at its value, and isn't pulsed, gets no command
+module _ (t : Topology) (l : LineId) (v : ℕ) where
+  abbrev IsStill : List Turn → Type 0
+  IsStill turns = line_commands l v v (filter (concerns l) (flat_map (with_pulse None) turns)) ≡ []
+
+  still_unit : (unit : Unit) (turns : List Turn) → IsStill turns → IsStill (Apply unit ∷ turns)
+  still_unit unit turns later = at (same_unit unit (Line l)) refl
+    where
+      rest : List Turn
+      rest = flat_map (with_pulse None) turns
+
+      at : (is : Bool) → same_unit unit (Line l) ≡ is → IsStill (Apply unit ∷ turns)
+      at true is =
+          ap (line_commands l v v) (kept_in (concerns l) (Apply unit) rest is)
+          ∙ (ap (λ ds. ds ++ line_commands l v v (filter (concerns l) rest)) (moves_none (Line l) v v refl) ∙ later)
+      at false is = ap (line_commands l v v) (left_out (concerns l) (Apply unit) rest is) ∙ later
+
+  still_ups : (places : List ℕ) (turns : List Turn) → IsStill turns → IsStill (map PowerOn places ++ turns)
+  still_ups [] turns later = later
+  still_ups (w ∷ places) turns later = still_ups places turns later
+
+  still_units : (units : List Unit) (turns : List Turn) → IsStill turns → IsStill (map Apply units ++ turns)
+  still_units [] turns later = later
+  still_units (unit ∷ units) turns later = still_unit unit (map Apply units ++ turns) (still_units units turns later)
+
+  still_downs : (places : List ℕ) → IsStill (map PowerOff places)
+  still_downs [] = refl
+  still_downs (w ∷ places) = still_downs places
+
+  pub still_line : line_commands l v v (filter (concerns l) (turns_of t None)) ≡ []
+  still_line =
+      still_ups (power_places t) (map Apply (units_of t) ++ map PowerOff (reverse (power_places t)))
+      (still_units (units_of t) (map PowerOff (reverse (power_places t))) (still_downs (reverse (power_places t))))
 
 and_true : (b : Bool) → (b && true) ≡ b
 and_true true = refl

@@ -1,5 +1,5 @@
 -- The lines about a unit beyond the reach of a master are those of the run without its messages.
-use Rattle.std.proofs.Common.{◌≡◌, ℕ, ◌+◌, Bool, List, [], ◌∷◌, ◌++◌, refl, ap, sym, ◌∙◌}
+use Rattle.std.proofs.Common.{◌≡◌, ℕ, ◌+◌, Bool, List, [], ◌∷◌, ◌++◌, Option, None, refl, ap, sym, ◌∙◌}
 use Rattle.std.specs.Prelude.{filter, map}
 use Rattle.pm_base.specs.declared.events.Event.{Event}
 use Rattle.pm_base.specs.declared.names.NodeId.{NodeId}
@@ -7,19 +7,22 @@ use Rattle.pm_base.specs.declared.names.Unit.{Unit}
 use Rattle.pm_object.specs.Grammar.{IsObject}
 use Rattle.pm_topology.specs.WellFormed.{IsWellFormed}
 use Rattle.pm_core.specs.Load.{load_of}
-use Rattle.pm_core.specs.Run.{Setup, Step, run}
 use Rattle.pm_core.specs.State.{State}
+use Rattle.pm_run.specs.Run.{Line, Setup, run}
 use Rattle.pm_laws.specs.Quiet.{quiet}
 use Rattle.pm_apply.specs.Part.{Kept}
 use Rattle.pm_apply.specs.Record.{at_zero}
-use Rattle.pm_trace.specs.Step.{command_words}
-use Rattle.pm_drive.specs.Drive.{Driven, answers_after, drive, driven, kept_after, last_book, last_kept, parts_of}
-use Rattle.pm_apart.specs.Apart.{AreDrivenAlike, IsOutOfReach, StaysApart, StepsStayApart}
+use Rattle.pm_trace.specs.declared.step.StepLine.TheVariants as told
+use Rattle.pm_trace.specs.Step.{step_words}
+use Rattle.pm_drive.specs.Drive.{Driven, drive, driven, last_book, last_kept, until}
+use Rattle.pm_drive.proofs.DroveLaw.{lines-driven, until-drive}
+use Rattle.pm_apart.specs.Apart.{AreDrivenAlike, IsDrivenAlike, IsOutOfReach, StaysApart, StepsStayApart}
 use Rattle.pm_apart.specs.Lines.{closing_line_of, commands_on, is_about, numbered, run_lines, set_lines, step_lines, table_lines}
+use Rattle.pm_apart.proofs.Cuts.{until_both}
 use Rattle.pm_apart.proofs.FilterLemmas.{parts_alike}
 use Rattle.pm_apart.proofs.RunsLaw.{ReachLaws, runs_alike}
 use Rattle.pm_apart.proofs.TablesLaw.{line_same, table_same}
-use Rattle.pm_apart.proofs.TextsLaw.{run_about}
+use Rattle.pm_apart.proofs.TextsLaw.{lines_about}
 
 -- where the same commands are given step by step, their lines are the same
 set_same : (u : Unit) (n : ℕ) (xs ys : List Driven) → AreDrivenAlike u xs ys → set_lines u n xs ≡ set_lines u n ys
@@ -27,8 +30,8 @@ set_same u n [] [] alike = refl
 set_same u n [] (y ∷ ys) alike = absurd alike
 set_same u n (x ∷ xs) [] alike = absurd alike
 set_same u n (x ∷ xs) (y ∷ ys) alike =
-    ap (λ ds. map (λ d. numbered n (command_words d)) ds ++ set_lines u (n + 1) xs) alike.0
-    ∙ ap (λ lines. map (λ d. numbered n (command_words d)) (commands_on u y) ++ lines) (set_same u (n + 1) xs ys alike.1)
+    ap (λ ds. map (λ d. numbered n (step_words (told.Command d))) ds ++ set_lines u (n + 1) xs) alike.0
+    ∙ ap (λ lines. map (λ d. numbered n (step_words (told.Command d))) (commands_on u y) ++ lines) (set_same u (n + 1) xs ys alike.1)
 
 module _ (laws : ReachLaws) (c : Setup) (m : NodeId) (events : List Event) (u : Unit) (object : IsObject c.object) (chip : IsWellFormed c.topology)
     (beyond : IsOutOfReach c m u) where
@@ -50,37 +53,40 @@ module _ (laws : ReachLaws) (c : Setup) (m : NodeId) (events : List Event) (u : 
   pub closing_apart : closing_line_of c loud u ≡ closing_line_of c still u
   closing_apart = line_same laws c m u object chip beyond (book loud) (book still) (kept loud) (kept still) (runs_alike laws c m u object chip beyond events).end
 
-  pub steps_apart : filter (is_about u) (step_lines 0 loud) ≡ filter (is_about u) (step_lines 0 still)
-  steps_apart =
-      run_about u c [] events
-      ∙ (set_same u 0 loud still commands_apart ∙ sym (run_about u c [] (quiet m events)))
+  -- of the lines up to a cut
+  pub steps_apart : (cut : Option ℕ) → filter (is_about u) (step_lines 0 (until cut loud)) ≡ filter (is_about u) (step_lines 0 (until cut still))
+  steps_apart cut =
+      lines_about u 0 (until cut loud)
+      ∙ (set_same u 0 (until cut loud) (until cut still) (until_both (IsDrivenAlike u) cut loud still commands_apart) ∙ sym (lines_about u 0 (until cut still)))
 
   pub run_apart : filter (is_about u) (run_lines c [] events) ≡ filter (is_about u) (run_lines c [] (quiet m events))
   run_apart =
-      parts_alike (is_about u) (step_lines 0 loud) (table_lines c loud) (step_lines 0 still) (table_lines c still) steps_apart
+      parts_alike (is_about u) (step_lines 0 loud) (table_lines c loud) (step_lines 0 still) (table_lines c still) (steps_apart None)
       (table_same laws c m u object chip beyond (book loud) (book still) (kept loud) (kept still) (runs_alike laws c m u object chip beyond events).end)
 
 -- ---- a device that reported no failure
 
-steps-driven : (steps : List Step) (kept : Kept) (answers : List (List Bool)) → map (λ (x : Driven). x.step) (drive kept answers steps) ≡ steps
-steps-driven [] kept answers = refl
-steps-driven (s ∷ steps) kept answers =
-    ap (λ (ss : List Step). s ∷ ss) (steps-driven steps (kept_after kept (parts_of kept answers s.cores)) (answers_after s.cores answers))
+-- the lines up to a cut, over one that never fails
+abbrev FollowsUntil : Setup → List (List Bool) → List Event → Option ℕ → Type 0
+FollowsUntil c answers events cut =
+    until cut (driven c answers events) ≡ drive (at_zero c.topology) [] (map (λ (x : Driven). x.line) (until cut (driven c answers events)))
 
--- was driven through the run over one that never fails
-unfailing_run : (c : Setup) (answers : List (List Bool)) (events : List Event)
-    → driven c answers events ≡ drive (at_zero c.topology) [] (map (λ (x : Driven). x.step) (driven c answers events))
-    → driven c answers events ≡ driven c [] events
-unfailing_run c answers events is = is ∙ ap (drive (at_zero c.topology) []) (steps-driven (run c events) (at_zero c.topology) answers)
+-- are those of the run over one that never fails
+unfailing_run : (c : Setup) (answers : List (List Bool)) (events : List Event) (cut : Option ℕ)
+    → FollowsUntil c answers events cut → until cut (driven c answers events) ≡ until cut (driven c [] events)
+unfailing_run c answers events cut is =
+    let first = at_zero c.topology in
+    let lines : List Line = until cut (run c events) in
+    is
+    ∙ (ap (λ (xs : List Driven). drive first [] (map (λ (x : Driven). x.line) xs)) (until-drive cut (run c events) first answers)
+    ∙ (ap (drive first []) (lines-driven lines first answers) ∙ sym (until-drive cut (run c events) first [])))
 
-pub run_by : (c : Setup) (answers : List (List Bool)) (events : List Event)
-    → driven c answers events ≡ drive (at_zero c.topology) [] (map (λ (x : Driven). x.step) (driven c answers events))
+pub run_by : (c : Setup) (answers : List (List Bool)) (events : List Event) → FollowsUntil c answers events None
     → StaysApart c [] events → StaysApart c answers events
 run_by c answers events is apart m unit beyond =
-    ap (λ xs. filter (is_about unit) (step_lines 0 xs ++ table_lines c xs)) (unfailing_run c answers events is) ∙ apart m unit beyond
+    ap (λ xs. filter (is_about unit) (step_lines 0 xs ++ table_lines c xs)) (unfailing_run c answers events None is) ∙ apart m unit beyond
 
-pub steps_by : (c : Setup) (answers : List (List Bool)) (events : List Event)
-    → driven c answers events ≡ drive (at_zero c.topology) [] (map (λ (x : Driven). x.step) (driven c answers events))
-    → StepsStayApart c [] events → StepsStayApart c answers events
-steps_by c answers events is apart m unit beyond =
-    ap (λ xs. filter (is_about unit) (step_lines 0 xs)) (unfailing_run c answers events is) ∙ apart m unit beyond
+pub steps_by : (c : Setup) (answers : List (List Bool)) (events : List Event) (cut : Option ℕ) → FollowsUntil c answers events cut
+    → StepsStayApart c [] events cut → StepsStayApart c answers events cut
+steps_by c answers events cut is apart m unit beyond =
+    ap (λ xs. filter (is_about unit) (step_lines 0 xs)) (unfailing_run c answers events cut is) ∙ apart m unit beyond

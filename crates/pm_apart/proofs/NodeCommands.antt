@@ -26,7 +26,7 @@ use Rattle.pm_apart.proofs.TurnFacts.{Sets, command_to, lowers, pulses, raises, 
 abbrev pub moves : Unit → ℕ → ℕ → List Done
 moves unit from value = if from == value then [] else command_to unit from value ∷ []
 
-moves_none : (unit : Unit) (from value : ℕ) → from ≡ value → moves unit from value ≡ []
+pub moves_none : (unit : Unit) (from value : ℕ) → from ≡ value → moves unit from value ≡ []
 moves_none unit from value same = ap (λ b. cond b [] (command_to unit from value ∷ [])) (eq-eqb from value same)
 
 moves_one : (unit : Unit) (from value : ℕ) → from ≢ value → moves unit from value ≡ command_to unit from value ∷ []

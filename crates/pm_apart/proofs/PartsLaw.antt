@@ -1,6 +1,6 @@
 -- The commands of a core step on a unit, over a device that never fails: they follow from its values before and after, and
 -- from the pulse.
-use Rattle.std.proofs.Common.{◌≡◌, ℕ, ◌+◌, Bool, true, false, ◌&&◌, if◌then◌else◌, List, [], ◌∷◌, refl, ap, sym, ◌∙◌, subst, arith}
+use Rattle.std.proofs.Common.{◌≡◌, ℕ, ◌+◌, Bool, true, false, ◌&&◌, if◌then◌else◌, List, [], ◌∷◌, None, refl, ap, sym, ◌∙◌, subst, arith}
 use Rattle.std.specs.Prelude.{filter}
 use Rattle.std.specs.List.{list_all}
 use Rattle.pm_base.proofs.Booleans.{both}
@@ -15,9 +15,9 @@ use Rattle.pm_topology.specs.WellFormed.{IsWellFormed}
 use Rattle.pm_device.specs.Act.{AreHarmless, refusals, value_by, values_after}
 use Rattle.pm_core.specs.declared.outbox.Done.{Done}
 use Rattle.pm_core.specs.Outbox.{Outputs}
-use Rattle.pm_core.specs.Run.{IsBookOf, Setup}
 use Rattle.pm_core.specs.State.{Fixed, State}
 use Rattle.pm_core.specs.Values.{value}
+use Rattle.pm_run.specs.Run.{IsBookOf, Setup}
 use Rattle.pm_laws.specs.Border.{Border}
 use Rattle.pm_laws.specs.Pulse.{pulse_beyond}
 use Rattle.pm_laws.specs.Values.{is_beyond}
@@ -26,8 +26,8 @@ use Rattle.pm_apply.specs.Plan.{plan, turns_of}
 use Rattle.pm_apply.specs.Record.{IsRecordOf, kept_value}
 use Rattle.pm_apart.specs.Lines.{is_on}
 use Rattle.pm_apart.proofs.FilterLemmas.{left_out, kept_in}
-use Rattle.pm_apart.proofs.LineCommands.{concerns, line_commands, planned, turns_alike}
-use Rattle.pm_apart.proofs.NodeCommands.{moves, node_commands, none_lacking}
+use Rattle.pm_apart.proofs.LineCommands.{concerns, line_commands, planned, still_line, turns_alike}
+use Rattle.pm_apart.proofs.NodeCommands.{moves, moves_none, node_commands, none_lacking}
 use Rattle.pm_apart.proofs.RecordFacts.{ChipLaws, marked_kept}
 
 -- what is known of the part of a core step
@@ -118,6 +118,12 @@ module _ (laws : PartLaws) (c : Setup) (well : IsWellFormed c.topology) where
         ∙ laws.reaches kept [] book outputs formed here (none_refused part.commands (laws.succeeds kept [] book outputs refl)) u
         (ap (λ (t : Topology). has_unit t u) (topology_is book is) ∙ has))
 
+    -- the record has the book's values
+    pub part_reached : (u : Unit) → has_unit c.topology u ≡ true → kept_value part.kept u ≡ value u book
+    part_reached u has =
+        laws.reaches kept [] book outputs formed here (none_refused part.commands (laws.succeeds kept [] book outputs refl)) u
+        (ap (λ (t : Topology). has_unit t u) (topology_is book is) ∙ has)
+
     has_cell : (u : Unit) → has_unit c.topology u ≡ true → has_in (units_in kept) u ≡ true
     has_cell u has = ap (λ units. has_in units u) record_of.units ∙ (laws.chip.units.found c.topology u ∙ has)
 
@@ -137,6 +143,29 @@ module _ (laws : PartLaws) (c : Setup) (well : IsWellFormed c.topology) where
     on_line l has =
         ap (filter (is_on (Line l))) commands_are
         ∙ planned laws.chip c.topology values l (turns_of c.topology outputs.pulse) kept (has_cell (Line l) has)
+
+    -- a unit beyond that is as the book has it, and isn't pulsed, gets no command, and so the same is kept of it
+    module _ (border : Border) (still : pulse_beyond c.topology border outputs.pulse ≡ None) where
+      nothing_there : (u : Unit) → is_beyond c.object c.topology border u ≡ true → has_unit c.topology u ≡ true → kept_value kept u ≡ value u book
+          → filter (is_on u) part.commands ≡ []
+      nothing_there (Node node) beyond has same = on_node node has ∙ moves_none (Node node) (kept_value kept (Node node)) (values (Node node)) same
+      nothing_there (Line l) beyond has same =
+          let turns = filter (concerns l) (turns_of c.topology outputs.pulse) in
+          on_line l has
+          ∙ (ap (λ from. line_commands l (values (Line l)) from turns) same
+          ∙ (ap (line_commands l (values (Line l)) (values (Line l))) (turns_alike c.topology border l beyond outputs.pulse None still)
+          ∙ still_line c.topology l (values (Line l))))
+
+      pub nothing_on : (u : Unit) → is_beyond c.object c.topology border u ≡ true → (has_unit c.topology u ≡ true → kept_value kept u ≡ value u book)
+          → filter (is_on u) part.commands ≡ []
+      nothing_on u beyond same = at (has_unit c.topology u) refl
+        where
+          at : (has : Bool) → has_unit c.topology u ≡ has → filter (is_on u) part.commands ≡ []
+          at true has = nothing_there u beyond has (same has)
+          at false has = lacking u has
+
+      pub nothing_kept : (u : Unit) → filter (is_on u) part.commands ≡ [] → kept_value part.kept u ≡ kept_value kept u
+      nothing_kept u none = kept_next u ∙ ap (λ ds. value_on ds (kept_value kept u)) none
 
   -- ---- two core steps
 

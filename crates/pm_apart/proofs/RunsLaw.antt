@@ -1,59 +1,49 @@
--- Two runs over a device that never fails, one of them without the messages of a master: on a unit beyond its reach the same
--- commands are given step by step, and in the end it stands alike.
-use Rattle.std.proofs.Common.{◌≡◌, ℕ, ◌+◌, ◌==◌, Bool, true, false, if◌then◌else◌, List, [], ◌∷◌, ◌++◌, refl, ap, sym, ◌∙◌, subst}
+-- Two runs over a device that never fails, one of them without the messages of a master, set beside one another: on a unit beyond
+-- its reach the same commands are given line by line, and in the end it stands alike.
+use Rattle.std.proofs.Common.{◌≡◌, ℕ, true, List, [], ◌∷◌, ◌++◌, None, refl, ap, sym, ◌∙◌, subst}
 use Rattle.std.specs.Prelude.{filter}
-use Rattle.std.proofs.lemmas.Bool.{eqb-true}
-use Rattle.std.proofs.lemmas.List.{append-nil}
+use Rattle.std.proofs.lemmas.List.Elements.{filter-append}
 use Rattle.pm_base.specs.declared.events.Event.{Event}
-use Rattle.pm_base.specs.declared.events.Event.TheVariants.{Ipi, Pass}
-use Rattle.pm_base.specs.declared.events.Message.{Message}
 use Rattle.pm_base.specs.declared.names.NodeId.{NodeId}
 use Rattle.pm_base.specs.declared.names.Unit.{Unit}
 use Rattle.pm_object.specs.declared.object.Object.{Object}
 use Rattle.pm_object.specs.Grammar.{IsObject}
 use Rattle.pm_topology.specs.declared.topology.Topology.{Topology}
+use Rattle.pm_topology.specs.declared.places.Kind.TheVariants.{Proc}
+use Rattle.pm_topology.specs.Units.{has_unit}
 use Rattle.pm_topology.specs.WellFormed.{IsWellFormed}
 use Rattle.pm_procs.specs.Procs.{mode_at}
-use Rattle.pm_topology.specs.declared.places.Kind.TheVariants.{Proc}
 use Rattle.pm_core.specs.Load.{load_of}
-use Rattle.pm_core.specs.Outbox.{Outputs}
-use Rattle.pm_core.specs.Run.{IsBookOf, Setup, Stand, core_of, loaded, steps_of}
-use Rattle.pm_core.specs.Sound.{IsSound}
 use Rattle.pm_core.specs.State.{Fixed, State}
-use Rattle.pm_core.specs.Step.{effect, outputs, outputs_at_load, pulse}
+use Rattle.pm_core.specs.Step.{effect, outputs_at_load}
 use Rattle.pm_core.specs.Values.{value}
+use Rattle.pm_run.specs.Run.{Core, IsBookOf, Line, Setup, loaded, lines_of}
 use Rattle.pm_laws.specs.Agree.{Agree}
+use Rattle.pm_laws.specs.Beside.{AreBeside, no_core, both_cores, left_core, rest_core}
 use Rattle.pm_laws.specs.Border.{Border, IsClosed, unit_beyond}
-use Rattle.pm_laws.specs.Pulse.{pulse_beyond}
-use Rattle.pm_laws.specs.Quiet.{quiet, quiet_event}
+use Rattle.pm_laws.specs.Quiet.{quiet}
 use Rattle.pm_laws.specs.ReachBorder.{border_of}
 use Rattle.pm_laws.specs.Values.{is_beyond}
+use Rattle.pm_laws.specs.Worlds.{AreLinesBeside, AreWorldsBeside}
 use Rattle.pm_apply.specs.Part.{Kept, Part, part_of}
 use Rattle.pm_apply.specs.Record.{IsRecordOf, at_zero, kept_value}
-use Rattle.pm_drive.specs.Drive.{Driven, drive, driven, last_book, last_kept}
+use Rattle.pm_drive.specs.Drive.{Driven, Given, drive, drive_line, driven, give, kept_after, last_book, last_kept}
+use Rattle.pm_drive.proofs.DroveLaw.{run_goes}
+use Rattle.pm_drive.proofs.DroveLemmas.{AllGo, OfRun, last_after, no_answers}
 use Rattle.pm_apart.specs.Apart.{AreDrivenAlike, IsOutOfReach}
-use Rattle.pm_apart.specs.Lines.{is_on}
-use Rattle.pm_apart.proofs.PartsLaw.{PartLaws, commands_alike, kept_alike, record_next}
+use Rattle.pm_apart.specs.Lines.{commands_of, is_on}
+use Rattle.pm_apart.proofs.FilterLemmas.{parts_alike}
+use Rattle.pm_apart.proofs.PartsLaw.{PartLaws, commands_alike, kept_alike, nothing_kept, nothing_on, part_reached, record_next}
 
--- what is known of two books that agree beyond the reach of a master
+-- what is known of two runs, and of two books that agree beyond the reach of a master
 pub record ReachLaws : Type 0 where
-  pub event : (m : NodeId) (event : Event) (a b : State) → IsObject a.fixed.object → IsWellFormed a.fixed.topology → IsSound a → IsSound b
-      → Agree (border_of a.fixed.object a.fixed.topology m) a b
-      → Agree (border_of a.fixed.object a.fixed.topology m) (effect event a) (effect event b)
-  pub message : (m : NodeId) (message : Message) (a b : State) → IsObject a.fixed.object → IsWellFormed a.fixed.topology → IsSound a → IsSound b
-      → Agree (border_of a.fixed.object a.fixed.topology m) a b
-      → Agree (border_of a.fixed.object a.fixed.topology m) (effect (Ipi m message) a) (effect Pass b)
-  pub pulses : (m : NodeId) (event : Event) (a b : State) → IsObject a.fixed.object → IsWellFormed a.fixed.topology
-      → Agree (border_of a.fixed.object a.fixed.topology m) a b
-      → pulse_beyond a.fixed.topology (border_of a.fixed.object a.fixed.topology m) (pulse event a)
-      ≡ pulse_beyond a.fixed.topology (border_of a.fixed.object a.fixed.topology m) (pulse (quiet_event m event) b)
+  pub beside : (c : Setup) (m : NodeId) (events : List Event) → IsObject c.object → IsWellFormed c.topology → AreWorldsBeside c m events
   pub closed : (object : Object) (t : Topology) (m : NodeId) → IsObject object → IsWellFormed t → IsClosed object t (border_of object t m)
-  pub at_load : (border : Border) (object : Object) (t : Topology) → IsClosed object t border → Agree border (load_of object t) (load_of object t)
   pub values : (border : Border) (unit : Unit) (a b : State) → IsClosed a.fixed.object a.fixed.topology border
       → is_beyond a.fixed.object a.fixed.topology border unit ≡ true → Agree border a b → value unit a ≡ value unit b
   pub modes : (border : Border) (p : ℕ) (a b : State) → unit_beyond a.fixed.object a.fixed.topology border (Proc p) ≡ true
       → Agree border a b → mode_at p a.now.core.procs ≡ mode_at p b.now.core.procs
-  pub load : (c : Setup) (events : List Event) → IsWellFormed c.topology → IsBookOf c (loaded c events).book
+  pub load : (c : Setup) → IsWellFormed c.topology → IsBookOf c (loaded c).book
   pub keeps : (c : Setup) (event : Event) (book : State) → IsWellFormed c.topology → IsBookOf c book → IsBookOf c (effect event book)
   pub zero : (t : Topology) → IsRecordOf t (at_zero t)
   pub part : PartLaws
@@ -63,10 +53,7 @@ module _ (laws : ReachLaws) (c : Setup) (m : NodeId) (u : Unit) (object : IsObje
   abbrev border : Border
   border = border_of c.object c.topology m
 
-  abbrev border_in : Fixed → Border
-  border_in fixed = border_of fixed.object fixed.topology m
-
-  -- two runs stand alike: their books agree beyond the reach, and the same is kept of the unit
+  -- two runs stand alike: their books agree beyond the reach, and the same is kept of the unit, which is the book's value
   pub record StandAlike (a b : State) (first second : Kept) : Type 0 where
     pub is_a : IsBookOf c a
     pub is_b : IsBookOf c b
@@ -74,97 +61,117 @@ module _ (laws : ReachLaws) (c : Setup) (m : NodeId) (u : Unit) (object : IsObje
     pub record_a : IsRecordOf c.topology first
     pub record_b : IsRecordOf c.topology second
     pub kept : kept_value first u ≡ kept_value second u
-
-  -- ---- the books
-
-  same_event : (event : Event) (a b : State) → IsBookOf c a → IsBookOf c b → Agree border a b → Agree border (effect event a) (effect event b)
-  same_event event a b is_a is_b agree =
-      let P : Fixed → Type 0 = λ fixed. IsObject fixed.object → IsWellFormed fixed.topology → Agree (border_in fixed) a b
-      → Agree (border_in fixed) (effect event a) (effect event b) in
-      subst P is_a.fixed (λ object chip agree. laws.event m event a b object chip is_a.sound is_b.sound agree) object chip agree
-
-  own_message : (message : Message) (a b : State) → IsBookOf c a → IsBookOf c b → Agree border a b → Agree border (effect (Ipi m message) a) (effect Pass b)
-  own_message message a b is_a is_b agree =
-      let P : Fixed → Type 0 = λ fixed. IsObject fixed.object → IsWellFormed fixed.topology → Agree (border_in fixed) a b
-      → Agree (border_in fixed) (effect (Ipi m message) a) (effect Pass b) in
-      subst P is_a.fixed (λ object chip agree. laws.message m message a b object chip is_a.sound is_b.sound agree) object chip agree
-
-  any_message : (master : NodeId) (message : Message) (own : Bool) → (master.0 == m.0) ≡ own → (a b : State) → IsBookOf c a → IsBookOf c b → Agree border a b
-      → Agree border (effect (Ipi master message) a) (effect (if own then Pass else Ipi master message) b)
-  any_message master message true is a b is_a is_b agree =
-      let number : ℕ → NodeId = λ n. record { 0 = n } in
-      let same : master ≡ m = ap number (eqb-true master.0 m.0 is) in
-      subst (λ master. Agree border (effect (Ipi master message) a) (effect Pass b)) (sym same) (own_message message a b is_a is_b agree)
-  any_message master message false is a b is_a is_b agree = same_event (Ipi master message) a b is_a is_b agree
-
-  agree_next : (event : Event) (a b : State) → IsBookOf c a → IsBookOf c b → Agree border a b → Agree border (effect event a) (effect (quiet_event m event) b)
-  agree_next (Ipi master message) a b is_a is_b agree = any_message master message (master.0 == m.0) refl a b is_a is_b agree
-  agree_next event a b is_a is_b agree = same_event event a b is_a is_b agree
-
-  pulses_at : (event : Event) (a b : State) → IsBookOf c a → Agree border a b
-      → pulse_beyond c.topology border (pulse event a) ≡ pulse_beyond c.topology border (pulse (quiet_event m event) b)
-  pulses_at event a b is_a agree =
-      let P : Fixed → Type 0 = λ fixed. IsObject fixed.object → IsWellFormed fixed.topology → Agree (border_in fixed) a b
-      → pulse_beyond fixed.topology (border_in fixed) (pulse event a) ≡ pulse_beyond fixed.topology (border_in fixed) (pulse (quiet_event m event) b) in
-      subst P is_a.fixed (λ object chip agree. laws.pulses m event a b object chip agree) object chip agree
+    pub reached : has_unit c.topology u ≡ true → kept_value second u ≡ value u b
 
   pub value_beyond : (a b : State) → IsBookOf c a → Agree border a b → value u a ≡ value u b
   value_beyond a b is_a agree =
       let P : Fixed → Type 0 = λ fixed. IsClosed fixed.object fixed.topology border → is_beyond fixed.object fixed.topology border u ≡ true → value u a ≡ value u b in
       subst P is_a.fixed (λ closed is. laws.values border u a b closed is agree) (laws.closed c.object c.topology m object chip) beyond
 
-  -- ---- one step
+  -- ---- core steps that are beside one another
 
-  abbrev SameCommands : State → State → Kept → Kept → Outputs → Outputs → Type 0
-  SameCommands a b first second out other = filter (is_on u) (part_of first [] a out).commands ≡ filter (is_on u) (part_of second [] b other).commands
+  abbrev on : List Given → List Given → Type 0
+  on given others = filter (is_on u) (commands_of given) ≡ filter (is_on u) (commands_of others)
 
-  same_commands : (event : Event) (a b : State) (first second : Kept) → StandAlike a b first second
-      → SameCommands (effect event a) (effect (quiet_event m event) b) first second (outputs event a) (outputs (quiet_event m event) b)
-  same_commands event a b first second s =
-      let next_a = laws.keeps c event a chip s.is_a in
-      let next_b = laws.keeps c (quiet_event m event) b chip s.is_b in
-      commands_alike laws.part c chip border first second (effect event a) (effect (quiet_event m event) b) (outputs event a) (outputs (quiet_event m event) b)
-      next_a next_b s.record_a s.record_b (pulses_at event a b s.is_a s.agree) u beyond s.kept
-      (value_beyond (effect event a) (effect (quiet_event m event) b) next_a (agree_next event a b s.is_a s.is_b s.agree))
+  pub record CoresAlike (a b : State) (first second : Kept) (xs ys : List Core) : Type 0 where
+    pub commands : on (give first [] xs) (give second [] ys)
+    pub end : StandAlike (last_after a xs) (last_after b ys) (kept_after first (give first [] xs)) (kept_after second (give second [] ys))
 
-  stand_next : (event : Event) (a b : State) (first second : Kept) → StandAlike a b first second
-      → StandAlike (effect event a) (effect (quiet_event m event) b)
-      (part_of first [] (effect event a) (outputs event a)).kept
-      (part_of second [] (effect (quiet_event m event) b) (outputs (quiet_event m event) b)).kept
-  stand_next event a b first second s =
-      let next_a = laws.keeps c event a chip s.is_a in
-      let next_b = laws.keeps c (quiet_event m event) b chip s.is_b in
+  pub cores_alike : (a b : State) (xs ys : List Core) → AreBeside c m a b xs ys → OfRun c xs → OfRun c ys
+      → (first second : Kept) → StandAlike a b first second → CoresAlike a b first second xs ys
+  cores_alike _ _ _ _ (no_core a b) of_x of_y first second s = record { commands = refl; end = s }
+  cores_alike _ _ _ _ (both_cores a b x y xs ys event from_a from_b agree told later) of_x of_y first second s =
+      let p : Part = part_of first [] x.after x.outputs in
+      let q : Part = part_of second [] y.after y.outputs in
+      let values : value u x.after ≡ value u y.after = value_beyond x.after y.after of_x.0 agree in
+      let same : filter (is_on u) p.commands ≡ filter (is_on u) q.commands =
+      commands_alike laws.part c chip border first second x.after y.after x.outputs y.outputs of_x.0 of_y.0 s.record_a s.record_b told.pulse u beyond s.kept values
+      in
+      let rest = cores_alike x.after y.after xs ys later of_x.1 of_y.1 p.kept q.kept (record {
+        is_a = of_x.0;
+        is_b = of_y.0;
+        agree = agree;
+        record_a = record_next laws.part c chip first x.after x.outputs of_x.0 s.record_a;
+        record_b = record_next laws.part c chip second y.after y.outputs of_y.0 s.record_b;
+        kept = kept_alike laws.part c chip border first second x.after y.after x.outputs y.outputs of_x.0 of_y.0 s.record_a s.record_b told.pulse u same s.kept;
+        reached = part_reached laws.part c chip second y.after y.outputs of_y.0 s.record_b u;
+      }) in
       record {
-        is_a = next_a;
-        is_b = next_b;
-        agree = agree_next event a b s.is_a s.is_b s.agree;
-        record_a = record_next laws.part c chip first (effect event a) (outputs event a) next_a s.record_a;
-        record_b = record_next laws.part c chip second (effect (quiet_event m event) b) (outputs (quiet_event m event) b) next_b s.record_b;
-        kept = kept_alike laws.part c chip border first second (effect event a) (effect (quiet_event m event) b) (outputs event a) (outputs (quiet_event m event) b)
-            next_a next_b s.record_a s.record_b (pulses_at event a b s.is_a s.agree) u (same_commands event a b first second s) s.kept;
+        commands = parts_alike (is_on u) p.commands (commands_of (give p.kept [] xs)) q.commands (commands_of (give q.kept [] ys)) same rest.commands;
+        end = rest.end;
+      }
+  cores_alike _ _ _ _ (left_core a b x xs ys own from_a agree tells later) of_x of_y first second s =
+      let p : Part = part_of first [] x.after x.outputs in
+      let none : filter (is_on u) p.commands ≡ [] =
+      nothing_on laws.part c chip first x.after x.outputs of_x.0 s.record_a border tells.pulse u beyond
+      (λ has. s.kept ∙ (s.reached has ∙ sym (value_beyond x.after b of_x.0 agree)))
+      in
+      let rest = cores_alike x.after b xs ys later of_x.1 of_y p.kept second (record {
+        is_a = of_x.0;
+        is_b = s.is_b;
+        agree = agree;
+        record_a = record_next laws.part c chip first x.after x.outputs of_x.0 s.record_a;
+        record_b = s.record_b;
+        kept = nothing_kept laws.part c chip first x.after x.outputs of_x.0 s.record_a border tells.pulse u none ∙ s.kept;
+        reached = s.reached;
+      }) in
+      record {
+        commands = parts_alike (is_on u) p.commands (commands_of (give p.kept [] xs)) [] (commands_of (give second [] ys)) none rest.commands;
+        end = rest.end;
+      }
+  cores_alike _ _ _ _ (rest_core a b y xs ys pass from_b agree tells later) of_x of_y first second s =
+      let q : Part = part_of second [] y.after y.outputs in
+      let values : value u a ≡ value u y.after = value_beyond a y.after s.is_a agree in
+      let none : filter (is_on u) q.commands ≡ [] =
+      nothing_on laws.part c chip second y.after y.outputs of_y.0 s.record_b border tells.pulse u beyond
+      (λ has. s.reached has ∙ (sym (value_beyond a b s.is_a s.agree) ∙ values))
+      in
+      let rest = cores_alike a y.after xs ys later of_x of_y.1 first q.kept (record {
+        is_a = s.is_a;
+        is_b = of_y.0;
+        agree = agree;
+        record_a = s.record_a;
+        record_b = record_next laws.part c chip second y.after y.outputs of_y.0 s.record_b;
+        kept = s.kept ∙ sym (nothing_kept laws.part c chip second y.after y.outputs of_y.0 s.record_b border tells.pulse u none);
+        reached = part_reached laws.part c chip second y.after y.outputs of_y.0 s.record_b u;
+      }) in
+      record {
+        commands = parts_alike (is_on u) [] (commands_of (give first [] xs)) q.commands (commands_of (give q.kept [] ys)) (sym none) rest.commands;
+        end = rest.end;
       }
 
-  -- ---- all steps
-
-  -- a step of one core step has the commands of its part
-  alone : (p q : Part) → filter (is_on u) p.commands ≡ filter (is_on u) q.commands → filter (is_on u) (p.commands ++ []) ≡ filter (is_on u) (q.commands ++ [])
-  alone p q same = ap (filter (is_on u)) (append-nil p.commands) ∙ (same ∙ ap (filter (is_on u)) (sym (append-nil q.commands)))
+  -- ---- all lines
 
   -- where two driven runs stand alike, they are driven alike, and stand alike in the end
   pub record EndAlike (a b : State) (first second : Kept) (xs ys : List Driven) : Type 0 where
     pub commands : AreDrivenAlike u xs ys
     pub end : StandAlike (last_book a xs) (last_book b ys) (last_kept first xs) (last_kept second ys)
 
-  steps_alike : (events : List Event) (a b : Stand) (first second : Kept) → StandAlike a.book b.book first second
-      → EndAlike a.book b.book first second (drive first [] (steps_of events a)) (drive second [] (steps_of (quiet m events) b))
-  steps_alike [] a b first second s = record { commands = tt; end = s }
-  steps_alike (event ∷ events) a b first second s =
-      let after : State = effect event a.book in
-      let other : State = effect (quiet_event m event) b.book in
-      let p : Part = part_of first [] after (outputs event a.book) in
-      let q : Part = part_of second [] other (outputs (quiet_event m event) b.book) in
-      let rest = steps_alike events (core_of event a).stand (core_of (quiet_event m event) b).stand p.kept q.kept (stand_next event a.book b.book first second s) in
-      record { commands = (alone p q (same_commands event a.book b.book first second s), rest.commands); end = rest.end }
+  -- without answers the lines after a line have none
+  drive_more : (kept : Kept) (line : Line) (lines : List Line)
+      → drive kept [] (line ∷ lines) ≡ drive_line kept [] line ∷ drive (drive_line kept [] line).kept [] lines
+  drive_more kept line lines =
+      ap (λ answers. drive_line kept [] line ∷ drive (drive_line kept [] line).kept answers lines) (no_answers line.cores)
+
+  lines_alike : (xs ys : List Line) (a b : State) → AreLinesBeside c m a b xs ys → AllGo c a xs → AllGo c b ys → (first second : Kept)
+      → StandAlike a b first second → EndAlike a b first second (drive first [] xs) (drive second [] ys)
+  lines_alike [] [] a b beside go_x go_y first second s = record { commands = tt; end = s }
+  lines_alike [] (y ∷ ys) a b beside go_x go_y first second s = absurd beside
+  lines_alike (x ∷ xs) [] a b beside go_x go_y first second s = absurd beside
+  lines_alike (x ∷ xs) (y ∷ ys) a b beside go_x go_y first second s =
+      let one = cores_alike a b x.cores y.cores beside.0.cores go_x.0.cores go_y.0.cores first second s in
+      let mid : Kept = kept_after first (give first [] x.cores) in
+      let next : Kept = kept_after second (give second [] y.cores) in
+      let here : StandAlike x.after.book y.after.book mid next =
+      subst (λ book. StandAlike book y.after.book mid next) (sym go_x.0.ends)
+      (subst (λ book. StandAlike (last_after a x.cores) book mid next) (sym go_y.0.ends) one.end)
+      in
+      let rest = lines_alike xs ys x.after.book y.after.book beside.1 go_x.1 go_y.1 mid next here in
+      let whole : EndAlike a b first second (drive_line first [] x ∷ drive mid [] xs) (drive_line second [] y ∷ drive next [] ys) =
+      record { commands = (one.commands, rest.commands); end = rest.end }
+      in
+      subst (λ ds. EndAlike a b first second ds (drive second [] (y ∷ ys))) (sym (drive_more first x xs))
+      (subst (λ ds. EndAlike a b first second (drive_line first [] x ∷ drive mid [] xs) ds) (sym (drive_more second y ys)) whole)
 
   abbrev load : State
   load = load_of c.object c.topology
@@ -176,14 +183,18 @@ module _ (laws : ReachLaws) (c : Setup) (m : NodeId) (u : Unit) (object : IsObje
   pub runs_alike : (events : List Event) → EndAlike load load start start (driven c [] events) (driven c [] (quiet m events))
   runs_alike events =
       let p : Part = part_of start [] load (outputs_at_load load) in
-      let is : IsBookOf c load = laws.load c events chip in
+      let is : IsBookOf c load = laws.load c chip in
+      let keeps : (event : Event) (book : State) → IsBookOf c book → IsBookOf c (effect event book) = λ event book. laws.keeps c event book chip in
+      let worlds = laws.beside c m events object chip in
       let kept : IsRecordOf c.topology p.kept = record_next laws.part c chip start load (outputs_at_load load) is (laws.zero c.topology) in
-      let rest = steps_alike events (loaded c events) (loaded c events) p.kept p.kept (record {
+      let rest = lines_alike (lines_of c events (loaded c)) (lines_of c (quiet m events) (loaded c)) load load worlds.lines
+      (run_goes c keeps is events).1 (run_goes c keeps is (quiet m events)).1 p.kept p.kept (record {
         is_a = is;
         is_b = is;
-        agree = laws.at_load border c.object c.topology (laws.closed c.object c.topology m object chip);
+        agree = worlds.load;
         record_a = kept;
         record_b = kept;
         kept = refl;
+        reached = part_reached laws.part c chip start load (outputs_at_load load) is (laws.zero c.topology) u;
       }) in
       record { commands = (refl, rest.commands); end = rest.end }

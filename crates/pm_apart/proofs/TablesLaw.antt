@@ -1,6 +1,6 @@
 -- The closing tables of two runs that stand alike: the lines about a unit beyond are the same.
 use Rattle.std.proofs.Common.{◌≡◌, ℕ, ◌==◌, ◌&&◌, Bool, true, false, if◌then◌else◌, List, [], ◌∷◌, ◌++◌, refl, ap, sym, ◌∙◌, subst}
-use Rattle.std.specs.Prelude.{filter, flat_map}
+use Rattle.std.specs.Prelude.{codes, filter, flat_map}
 use Rattle.pm_base.specs.declared.names.NodeId.{NodeId}
 use Rattle.pm_base.specs.declared.names.Unit.{Unit}
 use Rattle.pm_base.specs.declared.names.Unit.TheVariants.{Node, Line}
@@ -13,10 +13,10 @@ use Rattle.pm_topology.specs.Units.{same_unit, units_of}
 use Rattle.pm_topology.specs.WellFormed.{IsWellFormed}
 use Rattle.pm_procs.specs.Modes.{mode_number}
 use Rattle.pm_procs.specs.Procs.{mode_at}
-use Rattle.pm_core.specs.Run.{IsBookOf, Setup}
 use Rattle.pm_core.specs.State.{Fixed, State}
 use Rattle.pm_core.specs.Units.{units}
-use Rattle.pm_core.specs.Values.{point, point_at, value, value_at}
+use Rattle.pm_core.specs.Values.{point, point_at, shown, value, value_at}
+use Rattle.pm_run.specs.Run.{IsBookOf, Setup}
 use Rattle.pm_laws.specs.Border.{unit_beyond}
 use Rattle.pm_laws.specs.ReachBorder.{border_of}
 use Rattle.pm_laws.specs.Values.{is_beyond}
@@ -24,7 +24,7 @@ use Rattle.pm_apply.specs.Part.{Kept}
 use Rattle.pm_apply.specs.Record.{kept_value}
 use Rattle.pm_trace.specs.declared.line.Word.{Word}
 use Rattle.pm_trace.specs.declared.line.Word.TheVariants as word
-use Rattle.pm_trace.specs.Closing.{kind_name, shown, unit_name}
+use Rattle.pm_trace.specs.Closing.{kind_name, unit_name}
 use Rattle.pm_trace.specs.Line.{numbers}
 use Rattle.pm_apart.specs.Apart.{IsOutOfReach}
 use Rattle.pm_apart.specs.Lines.{closing_line, end_line, is_about}
@@ -34,17 +34,17 @@ use Rattle.pm_apart.proofs.RunsLaw.{ReachLaws, StandAlike, value_beyond}
 -- ---- lines of other units
 
 -- a closing line is about its own unit alone
-pub end_about : (t : Topology) (x u : Unit) (others : List Word) → is_about u (word.End ∷ (unit_name t x ++ others)) ≡ same_unit x u
+pub end_about : (t : Topology) (x u : Unit) (others : List Word) → is_about u (word.Name (codes "end") ∷ (unit_name t x ++ others)) ≡ same_unit x u
 end_about t (Node a) (Node b) others = by (kind_of t a)
   where
-    by : (kind : Kind) → is_about (Node b) (word.End ∷ kind_name kind ∷ word.Number a.0 ∷ others) ≡ same_unit (Node a) (Node b)
+    by : (kind : Kind) → is_about (Node b) (word.Name (codes "end") ∷ kind_name kind ∷ word.Number a.0 ∷ others) ≡ same_unit (Node a) (Node b)
     by (Proc p) = refl
     by (Slave s) = refl
     by (Power w) = refl
     by Unknown = refl
 end_about t (Node a) (Line b) others = by (kind_of t a)
   where
-    by : (kind : Kind) → is_about (Line b) (word.End ∷ kind_name kind ∷ word.Number a.0 ∷ others) ≡ false
+    by : (kind : Kind) → is_about (Line b) (word.Name (codes "end") ∷ kind_name kind ∷ word.Number a.0 ∷ others) ≡ false
     by (Proc p) = refl
     by (Slave s) = refl
     by (Power w) = refl
@@ -55,9 +55,9 @@ end_about t (Line a) (Line b) others = refl
 pub other_line : (t : Topology) (x u : Unit) (book kept : ℕ) → same_unit x u ≡ false → filter (is_about u) (end_line t x book kept) ≡ []
 other_line t x u book kept other = at ((book == 0) && (kept == 0))
   where
-    at : (idle : Bool) → filter (is_about u) (if idle then [] else (word.End ∷ (unit_name t x ++ numbers (book ∷ kept ∷ []))) ∷ []) ≡ []
+    at : (idle : Bool) → filter (is_about u) (if idle then [] else (word.Name (codes "end") ∷ (unit_name t x ++ numbers (book ∷ kept ∷ []))) ∷ []) ≡ []
     at true = refl
-    at false = left_out (is_about u) (word.End ∷ (unit_name t x ++ numbers (book ∷ kept ∷ []))) [] (end_about t x u (numbers (book ∷ kept ∷ [])) ∙ other)
+    at false = left_out (is_about u) (word.Name (codes "end") ∷ (unit_name t x ++ numbers (book ∷ kept ∷ []))) [] (end_about t x u (numbers (book ∷ kept ∷ [])) ∙ other)
 
 -- ---- two runs that stand alike
 

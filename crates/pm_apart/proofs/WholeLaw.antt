@@ -1,6 +1,6 @@
 -- Of all lines of a run those about a unit of the chip are those of the commands on it, and then its closing line.
 use Rattle.std.proofs.Common.{◌≡◌, ℕ, ◌==◌, ◌&&◌, ◌||◌, Bool, true, false, if◌then◌else◌, nat_lt, List, [], ◌∷◌, ◌++◌, refl, ap, sym, ◌∙◌, arith}
-use Rattle.std.specs.Prelude.{filter, flat_map}
+use Rattle.std.specs.Prelude.{codes, filter, flat_map}
 use Rattle.std.specs.List.{list_all}
 use Rattle.std.proofs.lemmas.Bool.Decides.{nat_tests}
 use Rattle.std.proofs.lemmas.List.{append-nil}
@@ -12,20 +12,21 @@ use Rattle.pm_base.specs.declared.names.Unit.TheVariants.{Node, Line}
 use Rattle.pm_topology.specs.declared.topology.Topology.{Topology}
 use Rattle.pm_topology.specs.Units.{UnitLaws, has_in, has_unit, is_before, rises, same_unit, units_of}
 use Rattle.pm_core.specs.Load.{load_of}
-use Rattle.pm_core.specs.Run.{IsBookOf, Setup, Stand, core_of, loaded, run, step_0, step_of, steps_of}
 use Rattle.pm_core.specs.State.{Fixed, State}
 use Rattle.pm_core.specs.Step.{effect}
+use Rattle.pm_run.specs.Run.{IsBookOf, Line as ScriptLine, Setup, Stand, loaded, line_0, line_of, lines_of}
 use Rattle.pm_apply.specs.Part.{Kept, Part}
 use Rattle.pm_apply.specs.Record.{at_zero, kept_value}
 use Rattle.pm_trace.specs.declared.line.Word.{Word}
 use Rattle.pm_trace.specs.declared.line.Word.TheVariants as word
-use Rattle.pm_trace.specs.Closing.{shown, unit_name}
+use Rattle.pm_trace.specs.Closing.{unit_name}
+use Rattle.pm_core.specs.Values.{shown}
 use Rattle.pm_trace.specs.Line.{numbers}
-use Rattle.pm_drive.specs.Drive.{Driven, answers_after, drive, driven, kept_after, last_book, last_kept, parts_of}
+use Rattle.pm_drive.specs.Drive.{Driven, answers_after, drive, drive_line, driven, last_book, last_kept}
 use Rattle.pm_apart.specs.Lines.{closing_line, closing_line_of, is_about, run_lines, set_lines, step_lines, table_lines}
 use Rattle.pm_apart.proofs.FilterLemmas.{kept_in, none_of_both}
 use Rattle.pm_apart.proofs.TablesLaw.{end_about, other_line}
-use Rattle.pm_apart.proofs.TextsLaw.{run_about}
+use Rattle.pm_apart.proofs.TextsLaw.{lines_about}
 
 -- ---- one unit among those that rise
 
@@ -49,7 +50,7 @@ module _ (laws : UnitLaws) (book : State) (kept : Kept) (u : Unit) where
   about lines = filter (is_about u) lines
 
   abbrev words : List Word
-  words = word.End ∷ (unit_name t u ++ numbers (shown u book ∷ kept_value kept u ∷ []))
+  words = word.Name (codes "end") ∷ (unit_name t u ++ numbers (shown u book ∷ kept_value kept u ∷ []))
 
   by_test : (idle : Bool) → about (if idle then [] else words ∷ []) ≡ (if idle then [] else words ∷ [])
   by_test true = refl
@@ -91,15 +92,14 @@ module _ (laws : UnitLaws) (book : State) (kept : Kept) (u : Unit) where
 
 -- ---- the whole run
 
-module _ (units : UnitLaws) (c : Setup) (load : (events : List Event) → IsBookOf c (loaded c events).book)
-    (keeps : (event : Event) (book : State) → IsBookOf c book → IsBookOf c (effect event book)) where
+module _ (units : UnitLaws) (c : Setup) (load : IsBookOf c (loaded c).book) (after : (event : Event) (stand : Stand) → IsBookOf c stand.book → IsBookOf c (line_of c event stand).after.book) where
   -- the last book is one of the run
   last_is : (events : List Event) (stand : Stand) (kept : Kept) (answers : List (List Bool)) → IsBookOf c stand.book
-      → IsBookOf c (last_book stand.book (drive kept answers (steps_of events stand)))
+      → IsBookOf c (last_book stand.book (drive kept answers (lines_of c events stand)))
   last_is [] stand kept answers is = is
   last_is (event ∷ events) stand kept answers is =
-      last_is events (core_of event stand).stand (kept_after kept (parts_of kept answers (step_of event stand).cores))
-      (answers_after (step_of event stand).cores answers) (keeps event stand.book is)
+      let line : ScriptLine = line_of c event stand in
+      last_is events line.after (drive_line kept answers line).kept (answers_after line.cores answers) (after event stand is)
 
   pub whole_about : (answers : List (List Bool)) (events : List Event) (u : Unit) → has_unit c.topology u ≡ true
       → filter (is_about u) (run_lines c answers events)
@@ -108,11 +108,10 @@ module _ (units : UnitLaws) (c : Setup) (load : (events : List Event) → IsBook
       let xs : List Driven = driven c answers events in
       let book : State = last_book (load_of c.object c.topology) xs in
       let kept : Kept = last_kept (at_zero c.topology) xs in
-      let first : List Part = parts_of (at_zero c.topology) answers (step_0 c events).cores in
       let is : IsBookOf c book =
-      last_is events (loaded c events) (kept_after (at_zero c.topology) first) (answers_after (step_0 c events).cores answers) (load events)
+      last_is events (loaded c) (drive_line (at_zero c.topology) answers (line_0 c)).kept (answers_after (line_0 c).cores answers) load
       in
       let there : has_unit book.fixed.topology u ≡ true = ap (λ (f : Fixed). has_unit f.topology u) is.fixed ∙ has in
       filter-append (is_about u) (step_lines 0 xs) (table_lines c xs)
-      ∙ (ap (λ lines. lines ++ filter (is_about u) (table_lines c xs)) (run_about u c answers events)
+      ∙ (ap (λ lines. lines ++ filter (is_about u) (table_lines c xs)) (lines_about u 0 xs)
       ∙ ap (λ lines. set_lines u 0 xs ++ lines) (table_about units book kept u there))

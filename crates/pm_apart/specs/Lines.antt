@@ -1,6 +1,7 @@
 -- The text of a run as its lines, each a list of words, and which of them are about a unit: the lines of the commands on it,
 -- and its closing line.
-use Rattle.std.specs.Prelude.{ℕ, ◌+◌, ◌==◌, Bool, true, false, ◌&&◌, if◌then◌else◌, List, [], ◌∷◌, ◌++◌, filter, flat_map, map}
+use Rattle.std.specs.Prelude.{ℕ, ◌+◌, ◌==◌, Bool, true, false, ◌&&◌, ◌||◌, codes, if◌then◌else◌, List, [], ◌∷◌, ◌++◌, filter, flat_map, map}
+use Rattle.std.specs.Str.{bytes_eq}
 use Rattle.pm_base.specs.declared.events.Event.{Event}
 use Rattle.pm_base.specs.declared.names.Unit.{Unit}
 use Rattle.pm_base.specs.declared.names.Unit.TheVariants.{Node, Line}
@@ -8,41 +9,40 @@ use Rattle.pm_topology.specs.declared.topology.Topology.{Topology}
 use Rattle.pm_topology.specs.Units.{same_unit}
 use Rattle.pm_core.specs.declared.outbox.Done.{Done}
 use Rattle.pm_core.specs.Load.{load_of}
-use Rattle.pm_core.specs.Run.{Core, Setup}
 use Rattle.pm_core.specs.State.{State}
 use Rattle.pm_core.specs.Units.{units}
-use Rattle.pm_apply.specs.Part.{Kept, Part}
+use Rattle.pm_run.specs.Run.{Setup}
+use Rattle.pm_apply.specs.Part.{Kept}
 use Rattle.pm_apply.specs.Record.{at_zero, kept_value}
 use Rattle.pm_trace.specs.declared.line.Word.{Word}
 use Rattle.pm_trace.specs.declared.line.Word.TheVariants as word
-use Rattle.pm_trace.specs.Closing.{shown, unit_name}
+use Rattle.pm_trace.specs.declared.step.StepLine.TheVariants as told
+use Rattle.pm_trace.specs.Closing.{unit_name}
+use Rattle.pm_core.specs.Values.{shown}
 use Rattle.pm_trace.specs.Line.{numbers}
-use Rattle.pm_trace.specs.Step.{command_words, notices_of, output_words}
-use Rattle.pm_drive.specs.Drive.{Driven, driven, last_book, last_kept}
+use Rattle.pm_trace.specs.Step.{notices_of, output_words, step_words}
+use Rattle.pm_drive.specs.Drive.{Driven, Given, driven, last_book, last_kept}
 
 -- ---- the lines of a run
 
--- a line of step n
+-- a line of output in a script line of this number
 abbrev pub numbered : ℕ → List Word → List Word
 numbered n words = word.Number n ∷ words
 
--- the lines of a step's core steps: the commands of each, and what else it tells
-abbrev pub cores_lines : ℕ → List Core → List Part → List (List Word)
-cores_lines n [] parts = []
-cores_lines n (c ∷ cores) [] = []
-cores_lines n (c ∷ cores) (part ∷ parts) =
-    map (numbered n) (output_words part.commands (notices_of c.outputs) part.answer) ++ cores_lines n cores parts
+-- the lines of a core step in a line of this number: its commands, and what else it tells
+abbrev pub given_lines : ℕ → Given → List (List Word)
+given_lines n g = map (numbered n) (output_words g.part.commands (notices_of g.core.outputs) g.part.answer)
 
--- the lines of steps, the first of which has this number
+-- those of driven lines, the first of which has this number: of the core steps of each in order
 abbrev pub step_lines : ℕ → List Driven → List (List Word)
 step_lines n [] = []
-step_lines n (x ∷ xs) = cores_lines n x.step.cores x.parts ++ step_lines (n + 1) xs
+step_lines n (x ∷ xs) = flat_map (given_lines n) x.cores ++ step_lines (n + 1) xs
 
 -- the closing line of a unit: none where its value in the book and the kept one are 0
 abbrev pub end_line : Topology → Unit → ℕ → ℕ → List (List Word)
 end_line t unit book kept =
     if (book == 0) && (kept == 0) then []
-    else (word.End ∷ (unit_name t unit ++ numbers (book ∷ kept ∷ []))) ∷ []
+    else (word.Name (codes "end") ∷ (unit_name t unit ++ numbers (book ∷ kept ∷ []))) ∷ []
 
 -- by a book and the kept values
 abbrev pub closing_line : State → Kept → Unit → List (List Word)
@@ -62,37 +62,36 @@ run_lines c answers events = step_lines 0 (driven c answers events) ++ table_lin
 
 -- ---- the lines about a unit
 
--- the word begins the line of a command, carried out or refused, on a unit of this sort
-abbrev pub is_command : Unit → Word → Bool
-is_command (Node node) word.Set = true
-is_command (Node node) word.Fail = true
-is_command (Line line) word.Line = true
-is_command (Line line) word.LineFail = true
-is_command unit _ = false
+-- the word is this name, or this number
+abbrev pub is_name : List ℕ → Word → Bool
+is_name text (word.Name name) = bytes_eq name text
+is_name text _ = false
 
--- the word names a unit of this sort in the closing table
-abbrev pub is_named : Unit → Word → Bool
-is_named (Node node) word.Proc = true
-is_named (Node node) word.Slave = true
-is_named (Node node) word.Power = true
-is_named (Line line) word.Line = true
-is_named unit _ = false
-
--- the word is this number
 abbrev pub is_number : ℕ → Word → Bool
 is_number k (word.Number n) = n == k
 is_number k _ = false
+
+-- the word begins the line of a command, carried out or refused, on a unit of this sort
+abbrev pub is_command : Unit → Word → Bool
+is_command (Node node) word = is_name (codes "set") word || is_name (codes "fail") word
+is_command (Line line) word = is_name (codes "line") word || is_name (codes "linefail") word
+
+-- the word names a unit of this sort in the closing table
+abbrev pub is_named : Unit → Word → Bool
+is_named (Node node) word = is_name (codes "proc") word || (is_name (codes "slave") word || is_name (codes "power") word)
+is_named (Line line) word = is_name (codes "line") word
 
 -- the number of a unit
 abbrev pub number_of : Unit → ℕ
 number_of (Node node) = node.0
 number_of (Line line) = line.0
 
--- a line that begins with these three words is about the unit: it follows the number of a step and is of a command on it,
+-- a line that begins with these three words is about the unit: it follows the number of a script line and is of a command on it,
 -- or it is its closing line
 abbrev pub begins_about : Unit → Word → Word → Word → Bool
 begins_about unit (word.Number n) name number = is_command unit name && is_number (number_of unit) number
-begins_about unit word.End name number = is_named unit name && is_number (number_of unit) number
+begins_about unit (word.Name first) name number =
+    bytes_eq first (codes "end") && (is_named unit name && is_number (number_of unit) number)
 begins_about unit _ name number = false
 
 -- the line of these words is
@@ -108,16 +107,14 @@ is_about unit (first ∷ name ∷ number ∷ others) = begins_about unit first n
 abbrev pub is_on : Unit → Done → Bool
 is_on unit d = same_unit d.command.unit unit
 
--- the commands of some core steps, in order
-abbrev pub commands_of : List Part → List Done
-commands_of [] = []
-commands_of (part ∷ parts) = part.commands ++ commands_of parts
+-- the commands of a driven line on a unit, in order
+abbrev pub commands_of : List Given → List Done
+commands_of given = flat_map (λ (g : Given). g.part.commands) given
 
--- the commands of a step on a unit, in order
 abbrev pub commands_on : Unit → Driven → List Done
-commands_on unit x = filter (is_on unit) (commands_of x.parts)
+commands_on unit x = filter (is_on unit) (commands_of x.cores)
 
--- their lines, the first step of which has this number
+-- their lines, the first of which has this number
 abbrev pub set_lines : Unit → ℕ → List Driven → List (List Word)
 set_lines unit n [] = []
-set_lines unit n (x ∷ xs) = map (λ d. numbered n (command_words d)) (commands_on unit x) ++ set_lines unit (n + 1) xs
+set_lines unit n (x ∷ xs) = map (λ d. numbered n (step_words (told.Command d))) (commands_on unit x) ++ set_lines unit (n + 1) xs

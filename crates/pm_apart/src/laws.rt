@@ -1,6 +1,6 @@
 //! Laws of the lines of two runs, one of which is without the messages of a master.
 
-ghost use Rattle.std.specs.Prelude.{◌≡◌, ℕ, Bool, true, List, [], ◌++◌, filter, map};
+ghost use Rattle.std.specs.Prelude.{◌≡◌, ℕ, Bool, true, List, [], ◌++◌, filter, map, Option};
 ghost use Rattle.std.specs.List.{concat};
 ghost use Rattle.pm_base.specs.declared.events.Event.{Event};
 ghost use Rattle.pm_base.specs.declared.names.NodeId.{NodeId};
@@ -8,19 +8,19 @@ ghost use Rattle.pm_base.specs.declared.names.Unit.{Unit};
 ghost use Rattle.pm_object.specs.Grammar.{IsObject};
 ghost use Rattle.pm_topology.specs.Units.{has_unit};
 ghost use Rattle.pm_topology.specs.WellFormed.{IsWellFormed};
-ghost use Rattle.pm_core.specs.Run.{Setup};
+ghost use Rattle.pm_run.specs.Run.{Setup};
 ghost use Rattle.pm_laws.specs.Quiet.{quiet};
 ghost use Rattle.pm_trace.specs.Line.{line_text};
-ghost use Rattle.pm_drive.specs.Drive.{Driven, driven};
+ghost use Rattle.pm_drive.specs.Drive.{Driven, driven, until};
 ghost use Rattle.pm_drive.specs.Drove.{Drove, NoFailure};
 ghost use Rattle.pm_drive.specs.Text.{run_text, texts};
 ghost use Rattle.pm_apart.specs.Apart.{AreDrivenAlike, IsOutOfReach, KeepsApart, StaysApart, StepsKeepApart, StepsStayApart};
 ghost use Rattle.pm_apart.specs.Lines.{closing_line_of, is_about, run_lines, set_lines, step_lines};
 
 use pm_apply::{KeptValue, a_part_without_refusal, at_zero_is_a_record, each_part_is_safe};
-use pm_core::books_of_a_run;
 use pm_device::Device;
-use pm_laws::{books_agree, reach_is_closed, reach_keeps_apart, values_agree};
+use pm_laws::{reach_is_closed, reach_keeps_apart, values_agree};
+use pm_run::books_of_a_run;
 use pm_topology::{unit_maps, units_stand_in_order};
 
 /// The text of a run is that of its lines, one after another, and so is the text of some of its steps. Of the lines of a
@@ -30,8 +30,7 @@ pub fn texts_are_lines()
     ensures steps { (n : ℕ) (xs : List Driven) → concat (texts n xs) ≡ concat (map line_text (step_lines n xs)) }
     ensures run { (c : Setup) (answers : List (List Bool)) (events : List Event)
         → run_text c answers events ≡ concat (map line_text (run_lines c answers events)) }
-    ensures about { (c : Setup) (answers : List (List Bool)) (events : List Event) (unit : Unit)
-        → filter (is_about unit) (step_lines 0 (driven c answers events)) ≡ set_lines unit 0 (driven c answers events) }
+    ensures about { (n : ℕ) (xs : List Driven) (unit : Unit) → filter (is_about unit) (step_lines n xs) ≡ set_lines unit n xs }
     ensures whole { (c : Setup) (answers : List (List Bool)) (events : List Event) (unit : Unit) → IsWellFormed c.topology
         → has_unit c.topology unit ≡ true
         → filter (is_about unit) (run_lines c answers events)
@@ -50,14 +49,13 @@ pub fn lines_stay_apart()
         → IsOutOfReach c m unit → AreDrivenAlike unit (driven c [] events) (driven c [] (quiet m events)) }
     ensures closing { (c : Setup) (m : NodeId) (events : List Event) (unit : Unit) → IsObject c.object → IsWellFormed c.topology
         → IsOutOfReach c m unit → closing_line_of c (driven c [] events) unit ≡ closing_line_of c (driven c [] (quiet m events)) unit }
-    ensures steps { (c : Setup) (events : List Event) → IsObject c.object → IsWellFormed c.topology → StepsStayApart c [] events }
+    ensures steps { (c : Setup) (events : List Event) (cut : Option ℕ) → IsObject c.object → IsWellFormed c.topology → StepsStayApart c [] events cut }
     ensures run { (c : Setup) (events : List Event) → IsObject c.object → IsWellFormed c.topology → StaysApart c [] events }
 {
     reach_keeps_apart();
     reach_is_closed();
     values_agree();
     books_of_a_run();
-    books_agree();
     each_part_is_safe();
     a_part_without_refusal();
     at_zero_is_a_record();
@@ -69,11 +67,13 @@ pub fn lines_stay_apart()
 /// and of its steps alone, that are about a unit beyond the reach of a master are those of the run without the messages of
 /// the master.
 pub fn driven_lines_stay_apart<D: Device>()
-    ensures steps { (c : Setup) (events : List Event) (answers : List (List Bool)) (old new : D) → IsObject c.object → IsWellFormed c.topology
-        → NoFailure D.Device c.topology old new → Drove D.Device c (driven c answers events) old new
-        → StepsStayApart c answers events }
+    ensures steps { (c : Setup) (events : List Event) (answers : List (List Bool)) (cut : Option ℕ) (old new : D)
+        → IsObject c.object → IsWellFormed c.topology
+        → NoFailure D.Device c.topology (until cut (driven c answers events)) old new
+        → Drove D.Device c (until cut (driven c answers events)) old new
+        → StepsStayApart c answers events cut }
     ensures run { (c : Setup) (events : List Event) (answers : List (List Bool)) (old new : D) → IsObject c.object → IsWellFormed c.topology
-        → NoFailure D.Device c.topology old new → Drove D.Device c (driven c answers events) old new
+        → NoFailure D.Device c.topology (driven c answers events) old new → Drove D.Device c (driven c answers events) old new
         → StaysApart c answers events }
 {
     lines_stay_apart();
@@ -81,15 +81,16 @@ pub fn driven_lines_stay_apart<D: Device>()
 
 /// A device that was driven through a run keeps apart what is beyond the reach of each master: the text is that of its
 /// lines, of which those about a unit beyond are those of the run without the messages of the master, where the device
-/// reported no failure; and whatever it refused, beyond the reach the books of the run are as in that one. The same of the
-/// steps of the run alone.
+/// reported no failure; and whatever it refused, beyond the reach the books of the run are as in that one, and so are the lines
+/// of starts, drops and callbacks. The same of the script lines of the run alone, up to where the text breaks off.
 pub fn driven_runs_keep_apart<D: Device>()
     ensures run { (c : Setup) (events : List Event) (answers : List (List Bool)) (old new : D) → IsObject c.object → IsWellFormed c.topology
         → Drove D.Device c (driven c answers events) old new
         → KeepsApart D.Device c answers events old new }
-    ensures steps { (c : Setup) (events : List Event) (answers : List (List Bool)) (old new : D) → IsObject c.object → IsWellFormed c.topology
-        → Drove D.Device c (driven c answers events) old new
-        → StepsKeepApart D.Device c answers events old new }
+    ensures steps { (c : Setup) (events : List Event) (answers : List (List Bool)) (cut : Option ℕ) (old new : D)
+        → IsObject c.object → IsWellFormed c.topology
+        → Drove D.Device c (until cut (driven c answers events)) old new
+        → StepsKeepApart D.Device c answers events cut old new }
 {
     texts_are_lines();
     driven_lines_stay_apart::<D>();

@@ -6,12 +6,12 @@ use Rattle.pm_device.specs.Chains.{values_after-same}
 use Rattle.pm_device.specs.Device.{DeviceMoment}
 use Rattle.pm_core.specs.declared.outbox.Done.{Done}
 use Rattle.pm_core.specs.declared.outbox.Outbox.{Outbox}
-use Rattle.pm_core.specs.Outbox.{Outputs}
+use Rattle.pm_core.specs.Outbox.{Outputs, outputs_in}
 use Rattle.pm_core.specs.State.{State}
 use Rattle.pm_core.specs.Values.{value}
 use Rattle.pm_apply.specs.Carried.{AreMarked, KeepsRest, Takes}
 use Rattle.pm_apply.specs.Order.{IsOrdered, LagsAreExplained}
-use Rattle.pm_apply.specs.Part.{Part, answers_in, orders_in, orders_of, outputs_in, part_in, part_of}
+use Rattle.pm_apply.specs.Part.{Part, answers_in, orders_in, orders_of, part_in, part_of}
 use Rattle.pm_apply.specs.Plan.{Carried, answers_of, plan, turns_of}
 use Rattle.pm_apply.specs.Record.{IsRecordOf, Kept, StandsAs, kept_value, marked}
 

@@ -47,15 +47,5 @@ answers_in out = answers_of out.done.items
 abbrev pub orders_in : Outbox → List Act
 orders_in out = orders_of out.done.items
 
-abbrev pub outputs_in : Outbox → Outputs
-outputs_in out = record {
-  moved = out.moved.items;
-  pulse = out.pulse;
-  starts = out.starts.items;
-  late = out.late.items;
-  calls = out.calls.items;
-  answer = out.answer;
-}
-
 abbrev pub part_in : Kept → Outbox → Part
 part_in kept out = record { commands = out.done.items; kept = kept; answer = out.answer }

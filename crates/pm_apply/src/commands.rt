@@ -3,12 +3,12 @@
 ghost use Rattle.std.specs.Prelude.{◌≡◌, ◌+◌, ◌<◌, ◌≤◌, ◌∷◌, [], IfSome, length, option_to_list};
 ghost use Rattle.pm_topology.specs.WellFormed.{IsWellFormed};
 ghost use Rattle.pm_core.specs.Fed.{IsFed};
-ghost use Rattle.pm_core.specs.Outbox.{HasRoomFor, KeepsRoom};
+ghost use Rattle.pm_core.specs.Outbox.{HasRoomFor, KeepsRoom, outputs_in};
 ghost use Rattle.pm_core.specs.Values.{value};
 ghost use Rattle.pm_device.specs.Act.{AreHarmless, Chain, ShowsAll};
 ghost use Rattle.pm_apply.specs.Carried.{AreMarked, KeepsRest, Takes};
 ghost use Rattle.pm_apply.specs.Order.{IsOrdered, LagsAreExplained};
-ghost use Rattle.pm_apply.specs.Part.{answers_in, orders_in, outputs_in, part_in, part_of};
+ghost use Rattle.pm_apply.specs.Part.{answers_in, orders_in, part_in, part_of};
 ghost use Rattle.pm_apply.specs.Plan.{due, turns_of, with_pulse};
 ghost use Rattle.pm_apply.specs.Record.{IsRecordOf, StandsAs, kept_value};
 ghost use Rattle.pm_apply.specs.Room.{most_of};
@@ -79,7 +79,7 @@ fn take_turn<D: Device>(dev: &mut D, kept: &mut Kept, book: &Book, out: &mut Out
     };
     let from = kept.value(command.unit);
     let ok = dev.command(command).is_ok();
-    kept.note(command, ok);
+    kept.log(command, ok);
     out.done.push(Done { command, from, ok });
 }
 

@@ -68,7 +68,7 @@ impl Kept {
     }
 
     /// Takes down what a device answered to a command.
-    pub(crate) fn note(&mut self, command: Command, ok: bool)
+    pub(crate) fn log(&mut self, command: Command, ok: bool)
         ensures { self.new ≡ after_answer command ok self.old }
     {
         if ok {

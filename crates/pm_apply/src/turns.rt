@@ -33,6 +33,7 @@ pub(crate) fn turn_count(book: &Book) -> usize
     ensures fed { IsFed book.now.fixed.topology (λ u. value u book.now) }
 {
     units_stand_in_order();
+    book.stays_sound();
     let powers = book.topology().powers.len();
     powers + book.units() + powers
 }

@@ -1,7 +1,7 @@
--- What steps of a run that were driven come to.
+-- What lines of a run that were driven come to.
 use Rattle.std.proofs.Common.{◌≡◌, ℕ, ◌+◌, Bool, true, List, [], ◌∷◌, ◌++◌, refl, sym, ◌∙◌, ap, subst, arith}
-use Rattle.std.specs.List.{All}
-use Rattle.std.proofs.lemmas.List.Elements.{All-head, All-tail}
+use Rattle.std.specs.Prelude.{⊤}
+use Rattle.std.specs.List.{AllByRecursion as Each}
 use Rattle.pm_base.specs.declared.names.Unit.{Unit}
 use Rattle.pm_topology.specs.declared.topology.Topology.{Topology}
 use Rattle.pm_topology.specs.Places.{KindLaws}
@@ -10,14 +10,14 @@ use Rattle.pm_device.specs.Act.{Act, AreHarmless, refusals, values_after}
 use Rattle.pm_topology.specs.Units.{has_unit}
 use Rattle.pm_device.specs.Chains.{values_after-same}
 use Rattle.pm_core.specs.Outbox.{Outputs}
-use Rattle.pm_core.specs.Run.{Core, IsBookOf, Setup, Step}
 use Rattle.pm_core.specs.State.{Fixed, State}
 use Rattle.pm_core.specs.Values.{value}
+use Rattle.pm_run.specs.Run.{Core, IsBookOf, Line, Setup}
 use Rattle.pm_apply.specs.Order.{IsOrdered, LagsAreExplained}
 use Rattle.pm_apply.specs.Part.{Kept, Part, orders_of, part_of}
 use Rattle.pm_apply.specs.Record.{IsRecordOf, kept_value}
-use Rattle.pm_drive.specs.Drive.{Driven, acts, answers_after, book_after, drive, first_answers, kept_after, last_book, last_kept, later_answers, part_acts, parts_of}
-use Rattle.pm_drive.specs.Drove.{AreExplained, CoresExplained}
+use Rattle.pm_drive.specs.Drive.{Driven, Given, acts, answers_after, drive, drive_line, first_answers, give, kept_after, last_book, last_kept, later_answers, orders_in_cores}
+use Rattle.pm_drive.specs.Drove.{AreExplained, IsExplained}
 
 -- what holds of the part of each core step, whatever the device answers
 pub record PartLaws : Type 0 where
@@ -42,12 +42,28 @@ pub record Moves (t : Topology) (kept last : Kept) (done : List Act) : Type 0 wh
   pub ordered : IsOrdered t (kept_value kept) done
   pub harmless : AreHarmless t done
 
--- each core step's book is one of the run
-abbrev pub OfRun : Setup → List Core → Type 0
-OfRun c cores = All (λ core. IsBookOf c core.stand.book) cores
+-- after core steps without answers there are none
+pub no_answers : (cores : List Core) → answers_after cores [] ≡ []
+no_answers [] = refl
+no_answers (core ∷ cores) = no_answers cores
 
-abbrev pub StepsOfRun : Setup → List Step → Type 0
-StepsOfRun c steps = All (λ step. OfRun c step.cores) steps
+-- the book after the last of these core steps, or this one where there is none
+abbrev pub last_after : State → List Core → State
+last_after book [] = book
+last_after book (core ∷ cores) = last_after core.after cores
+
+-- the book after each core step is one of the run
+abbrev pub OfRun : Setup → List Core → Type 0
+OfRun c cores = Each (λ (core : Core). IsBookOf c core.after) cores
+
+-- so it is in each line, from this book on; and a line ends with the book of its last core step
+pub record Goes (c : Setup) (book : State) (line : Line) : Type 0 where
+  pub cores : OfRun c line.cores
+  pub ends : line.after.book ≡ last_after book line.cores
+
+abbrev pub AllGo : Setup → State → List Line → Type 0
+AllGo c book [] = ⊤
+AllGo c book (line ∷ lines) = Goes c book line × AllGo c line.after.book lines
 
 module _ (c : Setup) (well : IsWellFormed c.topology) (laws : PartLaws) where
   topology_is : (book : State) → IsBookOf c book → book.fixed.topology ≡ c.topology
@@ -65,58 +81,61 @@ module _ (c : Setup) (well : IsWellFormed c.topology) (laws : PartLaws) where
   }
 
   -- one core step
-  pub part_moves : (kept : Kept) (answers : List Bool) (core : Core) → IsBookOf c core.stand.book → IsRecordOf c.topology kept → Moves c.topology kept (part_of kept answers core.stand.book core.outputs).kept (orders_of (part_of kept answers core.stand.book core.outputs).commands)
+  pub part_moves : (kept : Kept) (answers : List Bool) (core : Core) → IsBookOf c core.after → IsRecordOf c.topology kept → Moves c.topology kept (part_of kept answers core.after core.outputs).kept (orders_of (part_of kept answers core.after core.outputs).commands)
   part_moves kept answers core book is =
-      let t : core.stand.book.fixed.topology ≡ c.topology = topology_is core.stand.book book in
-      let formed : IsWellFormed core.stand.book.fixed.topology = subst IsWellFormed (sym t) well in
-      let here : IsRecordOf core.stand.book.fixed.topology kept = subst (λ (t : Topology). IsRecordOf t kept) (sym t) is in
-      subst (λ (t : Topology). Moves t kept (part_of kept answers core.stand.book core.outputs).kept (orders_of (part_of kept answers core.stand.book core.outputs).commands)) t
+      let t : core.after.fixed.topology ≡ c.topology = topology_is core.after book in
+      let formed : IsWellFormed core.after.fixed.topology = subst IsWellFormed (sym t) well in
+      let here : IsRecordOf core.after.fixed.topology kept = subst (λ (t : Topology). IsRecordOf t kept) (sym t) is in
+      subst (λ (t : Topology). Moves t kept (part_of kept answers core.after core.outputs).kept (orders_of (part_of kept answers core.after core.outputs).commands)) t
       (record {
-        is_record = laws.is_record kept answers core.stand.book core.outputs formed here;
-        values = laws.values kept answers core.stand.book core.outputs formed here;
-        ordered = laws.ordered kept answers core.stand.book core.outputs formed here;
-        harmless = laws.known kept answers core.stand.book core.outputs formed;
+        is_record = laws.is_record kept answers core.after core.outputs formed here;
+        values = laws.values kept answers core.after core.outputs formed here;
+        ordered = laws.ordered kept answers core.after core.outputs formed here;
+        harmless = laws.known kept answers core.after core.outputs formed;
       })
 
-  parts_move : (cores : List Core) (kept : Kept) (answers : List (List Bool)) → OfRun c cores → IsRecordOf c.topology kept → Moves c.topology kept (kept_after kept (parts_of kept answers cores)) (part_acts (parts_of kept answers cores))
-  parts_move [] kept answers books is = Moves-refl kept is
-  parts_move (core ∷ cores) kept answers books is =
-      let p : Part = part_of kept (first_answers answers) core.stand.book core.outputs in
-      let one = part_moves kept (first_answers answers) core (All-head (λ core. IsBookOf c core.stand.book) core cores books) is in
-      Moves-trans kept p.kept (kept_after p.kept (parts_of p.kept (later_answers answers) cores)) (orders_of p.commands) (part_acts (parts_of p.kept (later_answers answers) cores)) one
-      (parts_move cores p.kept (later_answers answers) (All-tail (λ core. IsBookOf c core.stand.book) core cores books) one.is_record)
+  cores_move : (cores : List Core) (kept : Kept) (answers : List (List Bool)) → OfRun c cores → IsRecordOf c.topology kept
+      → Moves c.topology kept (kept_after kept (give kept answers cores)) (orders_in_cores (give kept answers cores))
+  cores_move [] kept answers books is = Moves-refl kept is
+  cores_move (core ∷ cores) kept answers books is =
+      let p : Part = part_of kept (first_answers answers) core.after core.outputs in
+      let one = part_moves kept (first_answers answers) core books.0 is in
+      let rest : List Given = give p.kept (later_answers answers) cores in
+      Moves-trans kept p.kept (kept_after p.kept rest) (orders_of p.commands) (orders_in_cores rest) one
+      (cores_move cores p.kept (later_answers answers) books.1 one.is_record)
 
-  pub steps_move : (steps : List Step) (kept : Kept) (answers : List (List Bool)) → StepsOfRun c steps → IsRecordOf c.topology kept → Moves c.topology kept (last_kept kept (drive kept answers steps)) (acts (drive kept answers steps))
-  steps_move [] kept answers books is = Moves-refl kept is
-  steps_move (s ∷ steps) kept answers books is =
-      let parts : List Part = parts_of kept answers s.cores in
-      let mid : Kept = kept_after kept parts in
-      let later : List (List Bool) = answers_after s.cores answers in
-      let one = parts_move s.cores kept answers (All-head (λ step. OfRun c step.cores) s steps books) is in
-      Moves-trans kept mid (last_kept mid (drive mid later steps)) (part_acts parts) (acts (drive mid later steps)) one
-      (steps_move steps mid later (All-tail (λ step. OfRun c step.cores) s steps books) one.is_record)
+  pub lines_move : (lines : List Line) (book : State) (kept : Kept) (answers : List (List Bool)) → AllGo c book lines → IsRecordOf c.topology kept
+      → Moves c.topology kept (last_kept kept (drive kept answers lines)) (acts (drive kept answers lines))
+  lines_move [] book kept answers go is = Moves-refl kept is
+  lines_move (line ∷ lines) book kept answers go is =
+      let x : Driven = drive_line kept answers line in
+      let later : List (List Bool) = answers_after line.cores answers in
+      let one = cores_move line.cores kept answers go.0.cores is in
+      Moves-trans kept x.kept (last_kept x.kept (drive x.kept later lines)) (orders_in_cores x.cores) (acts (drive x.kept later lines)) one
+      (lines_move lines line.after.book x.kept later go.1 one.is_record)
 
   -- ---- what lags is explained
 
-  cores_explained : (cores : List Core) (kept : Kept) (answers : List (List Bool)) → OfRun c cores → IsRecordOf c.topology kept → CoresExplained c.topology cores (parts_of kept answers cores)
+  cores_explained : (cores : List Core) (kept : Kept) (answers : List (List Bool)) → OfRun c cores → IsRecordOf c.topology kept
+      → Each (IsExplained c.topology) (give kept answers cores)
   cores_explained [] kept answers books is = tt
   cores_explained (core ∷ cores) kept answers books is =
-      let p : Part = part_of kept (first_answers answers) core.stand.book core.outputs in
-      let book = All-head (λ core. IsBookOf c core.stand.book) core cores books in
-      let t : core.stand.book.fixed.topology ≡ c.topology = topology_is core.stand.book book in
-      let formed : IsWellFormed core.stand.book.fixed.topology = subst IsWellFormed (sym t) well in
-      let here : IsRecordOf core.stand.book.fixed.topology kept = subst (λ (t : Topology). IsRecordOf t kept) (sym t) is in (
-        subst (λ (t : Topology). LagsAreExplained t (λ u. value u core.stand.book) p.kept p.commands) t (laws.explained kept (first_answers answers) core.stand.book core.outputs formed here),
-        cores_explained cores p.kept (later_answers answers) (All-tail (λ core. IsBookOf c core.stand.book) core cores books) (part_moves kept (first_answers answers) core book is).is_record,
+      let p : Part = part_of kept (first_answers answers) core.after core.outputs in
+      let t : core.after.fixed.topology ≡ c.topology = topology_is core.after books.0 in
+      let formed : IsWellFormed core.after.fixed.topology = subst IsWellFormed (sym t) well in
+      let here : IsRecordOf core.after.fixed.topology kept = subst (λ (t : Topology). IsRecordOf t kept) (sym t) is in (
+        subst (λ (t : Topology). LagsAreExplained t (λ u. value u core.after) p.kept p.commands) t (laws.explained kept (first_answers answers) core.after core.outputs formed here),
+        cores_explained cores p.kept (later_answers answers) books.1 (part_moves kept (first_answers answers) core books.0 is).is_record,
       )
 
-  pub steps_explained : (steps : List Step) (kept : Kept) (answers : List (List Bool)) → StepsOfRun c steps → IsRecordOf c.topology kept → AreExplained c.topology (drive kept answers steps)
-  steps_explained [] kept answers books is = tt
-  steps_explained (s ∷ steps) kept answers books is =
-      let here = All-head (λ step. OfRun c step.cores) s steps books in (
-        cores_explained s.cores kept answers here is,
-        steps_explained steps (kept_after kept (parts_of kept answers s.cores)) (answers_after s.cores answers) (All-tail (λ step. OfRun c step.cores) s steps books) (parts_move s.cores kept answers here is).is_record,
-      )
+  pub lines_explained : (lines : List Line) (book : State) (kept : Kept) (answers : List (List Bool)) → AllGo c book lines → IsRecordOf c.topology kept
+      → AreExplained c.topology (drive kept answers lines)
+  lines_explained [] book kept answers go is = tt
+  lines_explained (line ∷ lines) book kept answers go is = (
+    cores_explained line.cores kept answers go.0.cores is,
+    lines_explained lines line.after.book (drive_line kept answers line).kept (answers_after line.cores answers) go.1
+        (cores_move line.cores kept answers go.0.cores is).is_record,
+  )
 
   -- ---- nothing is refused
 
@@ -126,34 +145,33 @@ module _ (c : Setup) (well : IsWellFormed c.topology) (laws : PartLaws) where
   pub none_right : (a b sum : ℕ) → sum ≡ a + b → sum ≡ 0 → b ≡ 0
   none_right a b sum is none = omega arith
 
-  parts_same : (cores : List Core) (kept : Kept) (answers : List (List Bool)) → refusals (part_acts (parts_of kept answers cores)) ≡ 0 → parts_of kept answers cores ≡ parts_of kept [] cores
-  parts_same [] kept answers none = refl
-  parts_same (core ∷ cores) kept answers none =
-      let p : Part = part_of kept (first_answers answers) core.stand.book core.outputs in
-      let q : Part = part_of kept [] core.stand.book core.outputs in
-      let rest : List Part = parts_of p.kept (later_answers answers) cores in
-      let split = laws.refused (orders_of p.commands) (part_acts rest) in
-      let one : p ≡ q = laws.same kept (first_answers answers) core.stand.book core.outputs (none_left (refusals (orders_of p.commands)) (refusals (part_acts rest)) (refusals (orders_of p.commands ++ part_acts rest)) split none) in
-      let two : rest ≡ parts_of p.kept [] cores = parts_same cores p.kept (later_answers answers) (none_right (refusals (orders_of p.commands)) (refusals (part_acts rest)) (refusals (orders_of p.commands ++ part_acts rest)) split none) in
-      ap (λ (ps : List Part). p ∷ ps) two ∙ ap (λ (r : Part). r ∷ parts_of r.kept [] cores) one
+  cores_same : (cores : List Core) (kept : Kept) (answers : List (List Bool)) → refusals (orders_in_cores (give kept answers cores)) ≡ 0
+      → give kept answers cores ≡ give kept [] cores
+  cores_same [] kept answers none = refl
+  cores_same (core ∷ cores) kept answers none =
+      let p : Part = part_of kept (first_answers answers) core.after core.outputs in
+      let q : Part = part_of kept [] core.after core.outputs in
+      let rest : List Given = give p.kept (later_answers answers) cores in
+      let split = laws.refused (orders_of p.commands) (orders_in_cores rest) in
+      let one : p ≡ q = laws.same kept (first_answers answers) core.after core.outputs (none_left (refusals (orders_of p.commands)) (refusals (orders_in_cores rest)) (refusals (orders_of p.commands ++ orders_in_cores rest)) split none) in
+      let two : rest ≡ give p.kept [] cores = cores_same cores p.kept (later_answers answers) (none_right (refusals (orders_of p.commands)) (refusals (orders_in_cores rest)) (refusals (orders_of p.commands ++ orders_in_cores rest)) split none) in
+      ap (λ (gs : List Given). record { core = core; part = p } ∷ gs) two
+      ∙ ap (λ (r : Part). record { core = core; part = r } ∷ give r.kept [] cores) one
 
-  pub steps_same : (steps : List Step) (kept : Kept) (answers : List (List Bool)) → refusals (acts (drive kept answers steps)) ≡ 0 → drive kept answers steps ≡ drive kept [] steps
-  steps_same [] kept answers none = refl
-  steps_same (s ∷ steps) kept answers none =
-      let parts : List Part = parts_of kept answers s.cores in
-      let others : List Part = parts_of kept [] s.cores in
-      let later : List (List Bool) = answers_after s.cores answers in
-      let rest : List Driven = drive (kept_after kept parts) later steps in
-      let split = laws.refused (part_acts parts) (acts rest) in
-      let one : parts ≡ others = parts_same s.cores kept answers (none_left (refusals (part_acts parts)) (refusals (acts rest)) (refusals (part_acts parts ++ acts rest)) split none) in
-      let two : rest ≡ drive (kept_after kept parts) [] steps = steps_same steps (kept_after kept parts) later (none_right (refusals (part_acts parts)) (refusals (acts rest)) (refusals (part_acts parts ++ acts rest)) split none) in
-      ap (λ (xs : List Driven). record { step = s; parts = parts } ∷ xs) two
-      ∙ ap (λ (ps : List Part). record { step = s; parts = ps } ∷ drive (kept_after kept ps) [] steps) one
-      ∙ ap (λ (answers : List (List Bool)). record { step = s; parts = others } ∷ drive (kept_after kept others) answers steps) (sym (no_answers s.cores))
-    where
-      no_answers : (cores : List Core) → answers_after cores [] ≡ []
-      no_answers [] = refl
-      no_answers (core ∷ cores) = no_answers cores
+  pub lines_same : (lines : List Line) (kept : Kept) (answers : List (List Bool)) → refusals (acts (drive kept answers lines)) ≡ 0
+      → drive kept answers lines ≡ drive kept [] lines
+  lines_same [] kept answers none = refl
+  lines_same (line ∷ lines) kept answers none =
+      let given : List Given = give kept answers line.cores in
+      let others : List Given = give kept [] line.cores in
+      let later : List (List Bool) = answers_after line.cores answers in
+      let rest : List Driven = drive (kept_after kept given) later lines in
+      let split = laws.refused (orders_in_cores given) (acts rest) in
+      let one : given ≡ others = cores_same line.cores kept answers (none_left (refusals (orders_in_cores given)) (refusals (acts rest)) (refusals (orders_in_cores given ++ acts rest)) split none) in
+      let two : rest ≡ drive (kept_after kept given) [] lines = lines_same lines (kept_after kept given) later (none_right (refusals (orders_in_cores given)) (refusals (acts rest)) (refusals (orders_in_cores given ++ acts rest)) split none) in
+      ap (λ (xs : List Driven). drive_line kept answers line ∷ xs) two
+      ∙ ap (λ (gs : List Given). record { line = line; cores = gs; kept = kept_after kept gs } ∷ drive (kept_after kept gs) [] lines) one
+      ∙ ap (λ (answers : List (List Bool)). drive_line kept [] line ∷ drive (kept_after kept others) answers lines) (sym (no_answers line.cores))
 
   -- ---- the kept values are the book's
 
@@ -161,33 +179,33 @@ module _ (c : Setup) (well : IsWellFormed c.topology) (laws : PartLaws) where
   abbrev pub Reaches : Kept → State → Type 0
   Reaches kept book = (unit : Unit) → has_unit c.topology unit ≡ true → kept_value kept unit ≡ value unit book
 
-  pub part_reaches : (kept : Kept) (answers : List Bool) (core : Core) → IsBookOf c core.stand.book → IsRecordOf c.topology kept → refusals (orders_of (part_of kept answers core.stand.book core.outputs).commands) ≡ 0 → Reaches (part_of kept answers core.stand.book core.outputs).kept core.stand.book
+  pub part_reaches : (kept : Kept) (answers : List Bool) (core : Core) → IsBookOf c core.after → IsRecordOf c.topology kept → refusals (orders_of (part_of kept answers core.after core.outputs).commands) ≡ 0 → Reaches (part_of kept answers core.after core.outputs).kept core.after
   part_reaches kept answers core book is none unit there =
-      let t : core.stand.book.fixed.topology ≡ c.topology = topology_is core.stand.book book in
-      laws.reaches kept answers core.stand.book core.outputs (subst IsWellFormed (sym t) well) (subst (λ (t : Topology). IsRecordOf t kept) (sym t) is) none unit
+      let t : core.after.fixed.topology ≡ c.topology = topology_is core.after book in
+      laws.reaches kept answers core.after core.outputs (subst IsWellFormed (sym t) well) (subst (λ (t : Topology). IsRecordOf t kept) (sym t) is) none unit
       (ap (λ (t : Topology). has_unit t unit) t ∙ there)
 
-  parts_reach : (cores : List Core) (kept : Kept) (answers : List (List Bool)) (book : State) → Reaches kept book → OfRun c cores → IsRecordOf c.topology kept → refusals (part_acts (parts_of kept answers cores)) ≡ 0 → Reaches (kept_after kept (parts_of kept answers cores)) (book_after book cores)
-  parts_reach [] kept answers book reached books is none = reached
-  parts_reach (core ∷ cores) kept answers book reached books is none =
-      let p : Part = part_of kept (first_answers answers) core.stand.book core.outputs in
-      let rest : List Part = parts_of p.kept (later_answers answers) cores in
-      let split = laws.refused (orders_of p.commands) (part_acts rest) in
-      let here = All-head (λ core. IsBookOf c core.stand.book) core cores books in
-      parts_reach cores p.kept (later_answers answers) core.stand.book
-      (part_reaches kept (first_answers answers) core here is (none_left (refusals (orders_of p.commands)) (refusals (part_acts rest)) (refusals (orders_of p.commands ++ part_acts rest)) split none))
-      (All-tail (λ core. IsBookOf c core.stand.book) core cores books) (part_moves kept (first_answers answers) core here is).is_record
-      (none_right (refusals (orders_of p.commands)) (refusals (part_acts rest)) (refusals (orders_of p.commands ++ part_acts rest)) split none)
+  cores_reach : (cores : List Core) (kept : Kept) (answers : List (List Bool)) (book : State) → Reaches kept book → OfRun c cores → IsRecordOf c.topology kept
+      → refusals (orders_in_cores (give kept answers cores)) ≡ 0 → Reaches (kept_after kept (give kept answers cores)) (last_after book cores)
+  cores_reach [] kept answers book reached books is none = reached
+  cores_reach (core ∷ cores) kept answers book reached books is none =
+      let p : Part = part_of kept (first_answers answers) core.after core.outputs in
+      let rest : List Given = give p.kept (later_answers answers) cores in
+      let split = laws.refused (orders_of p.commands) (orders_in_cores rest) in
+      cores_reach cores p.kept (later_answers answers) core.after
+      (part_reaches kept (first_answers answers) core books.0 is (none_left (refusals (orders_of p.commands)) (refusals (orders_in_cores rest)) (refusals (orders_of p.commands ++ orders_in_cores rest)) split none))
+      books.1 (part_moves kept (first_answers answers) core books.0 is).is_record
+      (none_right (refusals (orders_of p.commands)) (refusals (orders_in_cores rest)) (refusals (orders_of p.commands ++ orders_in_cores rest)) split none)
 
-  pub steps_reach : (steps : List Step) (kept : Kept) (answers : List (List Bool)) (book : State) → Reaches kept book → StepsOfRun c steps → IsRecordOf c.topology kept → refusals (acts (drive kept answers steps)) ≡ 0 → Reaches (last_kept kept (drive kept answers steps)) (last_book book (drive kept answers steps))
-  steps_reach [] kept answers book reached books is none = reached
-  steps_reach (s ∷ steps) kept answers book reached books is none =
-      let parts : List Part = parts_of kept answers s.cores in
-      let later : List (List Bool) = answers_after s.cores answers in
-      let rest : List Driven = drive (kept_after kept parts) later steps in
-      let split = laws.refused (part_acts parts) (acts rest) in
-      let here = All-head (λ step. OfRun c step.cores) s steps books in
-      steps_reach steps (kept_after kept parts) later (book_after book s.cores)
-      (parts_reach s.cores kept answers book reached here is (none_left (refusals (part_acts parts)) (refusals (acts rest)) (refusals (part_acts parts ++ acts rest)) split none))
-      (All-tail (λ step. OfRun c step.cores) s steps books) (parts_move s.cores kept answers here is).is_record
-      (none_right (refusals (part_acts parts)) (refusals (acts rest)) (refusals (part_acts parts ++ acts rest)) split none)
+  pub lines_reach : (lines : List Line) (kept : Kept) (answers : List (List Bool)) (book : State) → Reaches kept book → AllGo c book lines → IsRecordOf c.topology kept
+      → refusals (acts (drive kept answers lines)) ≡ 0 → Reaches (last_kept kept (drive kept answers lines)) (last_book book (drive kept answers lines))
+  lines_reach [] kept answers book reached go is none = reached
+  lines_reach (line ∷ lines) kept answers book reached go is none =
+      let given : List Given = give kept answers line.cores in
+      let mid : Kept = kept_after kept given in
+      let later : List (List Bool) = answers_after line.cores answers in
+      let rest : List Driven = drive mid later lines in
+      let split = laws.refused (orders_in_cores given) (acts rest) in
+      let here : Reaches mid (last_after book line.cores) = cores_reach line.cores kept answers book reached go.0.cores is (none_left (refusals (orders_in_cores given)) (refusals (acts rest)) (refusals (orders_in_cores given ++ acts rest)) split none) in
+      lines_reach lines mid later line.after.book (subst (Reaches mid) (sym go.0.ends) here) go.1 (cores_move line.cores kept answers go.0.cores is).is_record
+      (none_right (refusals (orders_in_cores given)) (refusals (acts rest)) (refusals (orders_in_cores given ++ acts rest)) split none)

@@ -1,17 +1,23 @@
--- The device's part of a run: the steps of a run, in which no device occurs, each with the commands that make the device
--- follow it, under the device's answers.
-use Rattle.std.specs.Prelude.{ℕ, ◌+◌, Bool, List, [], ◌∷◌, ◌++◌, take, Option, Some, None}
+-- The device's part of a run: its lines, in which no device occurs, each with the commands that make the device follow it, under
+-- the device's answers.
+use Rattle.std.specs.Prelude.{ℕ, ◌+◌, Bool, List, [], ◌∷◌, ◌++◌, flat_map, take, Option, Some, None}
 use Rattle.pm_base.specs.declared.events.Event.{Event}
 use Rattle.pm_device.specs.Act.{Act}
-use Rattle.pm_core.specs.Run.{Setup, Step, Core, run}
 use Rattle.pm_core.specs.State.{State}
+use Rattle.pm_run.specs.Run.{Core, Line, Setup, run, said}
 use Rattle.pm_apply.specs.Part.{Kept, Part, orders_of, part_of}
 use Rattle.pm_apply.specs.Record.{at_zero}
 
--- a step of a run, with what the device was given in each of its core steps
+-- a core step with what the device was given in it
+pub record Given : Type 0 where
+  pub core : Core
+  pub part : Part
+
+-- a line of a run, its core steps with what the device was given in each, and the values that are kept after it
 pub record Driven : Type 0 where
-  pub step : Step
-  pub parts : List Part
+  pub line : Line
+  pub cores : List Given
+  pub kept : Kept
 
 -- the answers of a core step, and those of the core steps after it
 abbrev pub first_answers : List (List Bool) → List Bool
@@ -22,63 +28,63 @@ abbrev pub later_answers : List (List Bool) → List (List Bool)
 later_answers [] = []
 later_answers (answers ∷ later) = later
 
--- the device's parts of core steps, from the values that are kept before them
-abbrev pub parts_of : Kept → List (List Bool) → List Core → List Part
-parts_of kept answers [] = []
-parts_of kept answers (c ∷ cores) =
-    part_of kept (first_answers answers) c.stand.book c.outputs
-    ∷ parts_of (part_of kept (first_answers answers) c.stand.book c.outputs).kept (later_answers answers) cores
-
--- the kept values after some parts, and the answers that come after some core steps
-abbrev pub kept_after : Kept → List Part → Kept
-kept_after kept [] = kept
-kept_after kept (part ∷ parts) = kept_after part.kept parts
-
+-- the answers after those of these core steps
 abbrev pub answers_after : List Core → List (List Bool) → List (List Bool)
 answers_after [] answers = answers
-answers_after (c ∷ cores) answers = answers_after cores (later_answers answers)
+answers_after (core ∷ cores) answers = answers_after cores (later_answers answers)
 
--- steps that are driven, from the values that are kept before them
-abbrev pub drive : Kept → List (List Bool) → List Step → List Driven
+-- core steps with the device's parts, from the values that are kept before them, and the values that are kept after them
+abbrev pub give : Kept → List (List Bool) → List Core → List Given
+give kept answers [] = []
+give kept answers (core ∷ cores) =
+    record { core = core; part = part_of kept (first_answers answers) core.after core.outputs }
+    ∷ give (part_of kept (first_answers answers) core.after core.outputs).kept (later_answers answers) cores
+
+abbrev pub kept_after : Kept → List Given → Kept
+kept_after kept [] = kept
+kept_after kept (g ∷ given) = kept_after g.part.kept given
+
+-- a line that is driven, and lines, from the values that are kept before them
+abbrev pub drive_line : Kept → List (List Bool) → Line → Driven
+drive_line kept answers line = record {
+  line = line;
+  cores = give kept answers line.cores;
+  kept = kept_after kept (give kept answers line.cores);
+}
+
+abbrev pub drive : Kept → List (List Bool) → List Line → List Driven
 drive kept answers [] = []
-drive kept answers (s ∷ steps) =
-    record { step = s; parts = parts_of kept answers s.cores }
-    ∷ drive (kept_after kept (parts_of kept answers s.cores)) (answers_after s.cores answers) steps
+drive kept answers (line ∷ lines) =
+    drive_line kept answers line ∷ drive (drive_line kept answers line).kept (answers_after line.cores answers) lines
 
 -- the run of some events, driven from a device that stands at 0, under its answers. An answer that isn't given is a yes
 abbrev pub driven : Setup → List (List Bool) → List Event → List Driven
-driven c answers events = drive (at_zero c.topology) answers (run c events)
+driven c answers events = drive (at_zero c.topology) answers (said (run c events))
 
--- what the lines of a script do to a device beside the commands that they cause
+-- what a line of a script does to a device beside the commands that it causes
 abbrev pub rigs : Event → List Act
 rigs event = []
 
--- all that is done to the device, in order: in a step, and in all of them
-abbrev pub part_acts : List Part → List Act
-part_acts [] = []
-part_acts (part ∷ parts) = orders_of part.commands ++ part_acts parts
+-- all that is done to the device, in order: in a line, and in all of them
+abbrev pub orders_in_cores : List Given → List Act
+orders_in_cores given = flat_map (λ (g : Given). orders_of g.part.commands) given
 
 abbrev pub acts_of : Driven → List Act
-acts_of x = rigs x.step.event ++ part_acts x.parts
+acts_of x = rigs x.line.event ++ orders_in_cores x.cores
 
 abbrev pub acts : List Driven → List Act
-acts [] = []
-acts (x ∷ xs) = acts_of x ++ acts xs
+acts xs = flat_map acts_of xs
 
--- where a run stands after its last driven step: the book, and the values that are kept
-abbrev pub book_after : State → List Core → State
-book_after book [] = book
-book_after book (c ∷ cores) = book_after c.stand.book cores
-
+-- the book and the kept values after the last of these driven lines, or these where there is none
 abbrev pub last_book : State → List Driven → State
 last_book book [] = book
-last_book book (x ∷ xs) = last_book (book_after book x.step.cores) xs
+last_book book (x ∷ xs) = last_book x.line.after.book xs
 
 abbrev pub last_kept : Kept → List Driven → Kept
 last_kept kept [] = kept
-last_kept kept (x ∷ xs) = last_kept (kept_after kept x.parts) xs
+last_kept kept (x ∷ xs) = last_kept x.kept xs
 
--- the steps that are carried out where the text breaks off within this piece: that of the piece, and those before it
+-- the lines that are carried out where the text breaks off within this piece: that of the piece, and those before it
 abbrev pub until : {X : Type 0} → Option ℕ → List X → List X
 until None xs = xs
 until (Some k) xs = take (k + 1) xs

@@ -1,5 +1,6 @@
--- What a device was given and where it stands, once it was driven through some steps of a run.
-use Rattle.std.specs.Prelude.{◌≡◌, ◌⊎◌, true, List, [], ◌∷◌, map, ⊤}
+-- What a device was given and where it stands, once it was driven through some lines of a run.
+use Rattle.std.specs.Prelude.{◌≡◌, ◌⊎◌, true, List, [], map}
+use Rattle.std.specs.List.{AllByRecursion as Each}
 use Rattle.pm_base.specs.Faults.{Rose}
 use Rattle.pm_base.specs.declared.names.Unit.{Unit}
 use Rattle.pm_topology.specs.declared.topology.Topology.{Topology}
@@ -9,26 +10,21 @@ use Rattle.pm_device.specs.Act.{AllMatch, Chain, refusals, shown_by}
 use Rattle.pm_device.specs.Device.{DeviceMoment, RoseBy}
 use Rattle.pm_device.specs.Fresh.{IsWhole}
 use Rattle.pm_core.specs.Load.{load_of}
-use Rattle.pm_core.specs.Run.{Core, Setup}
 use Rattle.pm_core.specs.Sound.{MeetsRequirements}
 use Rattle.pm_core.specs.State.{State}
 use Rattle.pm_core.specs.Values.{value}
+use Rattle.pm_run.specs.Run.{Setup}
 use Rattle.pm_apply.specs.Order.{IsOrdered, LagsAreExplained}
-use Rattle.pm_apply.specs.Part.{Part}
 use Rattle.pm_apply.specs.Record.{StandsAs, at_zero}
-use Rattle.pm_drive.specs.Drive.{Driven, acts, drive, last_book, last_kept}
+use Rattle.pm_drive.specs.Drive.{Driven, Given, acts, drive, last_book, last_kept}
 
--- after each core step, a unit whose kept value isn't the book's lags for a command of that step that failed on it, above
--- it or below it
-abbrev pub CoresExplained : Topology → List Core → List Part → Type 0
-CoresExplained t [] parts = ⊤
-CoresExplained t (c ∷ cores) [] = ⊤
-CoresExplained t (c ∷ cores) (part ∷ parts) =
-    LagsAreExplained t (λ u. value u c.stand.book) part.kept part.commands × CoresExplained t cores parts
+-- after this core step, a unit whose kept value isn't the book's lags for a command of that step that failed on it, above it or
+-- below it; and so after each core step
+abbrev pub IsExplained : Topology → Given → Type 0
+IsExplained t g = LagsAreExplained t (λ u. value u g.core.after) g.part.kept g.part.commands
 
 abbrev pub AreExplained : Topology → List Driven → Type 0
-AreExplained t [] = ⊤
-AreExplained t (x ∷ xs) = CoresExplained t x.step.cores x.parts × AreExplained t xs
+AreExplained t xs = Each (λ (x : Driven). Each (IsExplained t) x.cores) xs
 
 -- the values are the book's, and so what its requirements ask for: each slave stands in the first of its states that meets
 -- all requirements in force, and each power domain is up exactly where it is held or something directly below needs it
@@ -37,11 +33,12 @@ pub record Follows (book : State) (device : DeviceMoment) : Type 0 where
   pub met : MeetsRequirements book device.value
 
 module _ {D : Type 0} (d : Device.Ghosts D) where
-  -- the device reported no failure: its count didn't rise, or it showed that nothing could fail
-  abbrev pub NoFailure : Topology → D → D → Type 0
-  NoFailure t old new = (Rose (d.state old).faults (d.state new).faults → ⊥) ⊎ (d.nodes_observable × IsWhole t (d.state old))
+  -- the device reported no failure in these lines: its count didn't rise, or it showed that nothing could fail. No line of a
+  -- script can break a node yet, so of the lines nothing is asked
+  abbrev pub NoFailure : Topology → List Driven → D → D → Type 0
+  NoFailure t xs old new = (Rose (d.state old).faults (d.state new).faults → ⊥) ⊎ (d.nodes_observable × IsWhole t (d.state old))
 
-  -- the device was driven through these steps of a run, from where it stood at 0
+  -- the device was driven through these lines of a run, from where it stood at 0
   pub record Drove (c : Setup) (xs : List Driven) (old new : D) : Type 0 where
     -- it was given these commands in this order, and nothing else was done to it
     pub given : Chain d.Does (acts xs) old new
@@ -56,7 +53,7 @@ module _ {D : Type 0} (d : Device.Ghosts D) where
     pub ordered : IsOrdered c.topology (λ unit. 0) (acts xs)
     -- a unit lags only for a command of that step that failed on it, above it or below it
     pub explained : AreExplained c.topology xs
-    -- without a failure the steps are those over a device that never fails, and the device follows the book
-    pub unfailing : NoFailure c.topology old new → xs ≡ drive (at_zero c.topology) [] (map (λ (x : Driven). x.step) xs)
-    pub follows : d.values_observable → NoFailure c.topology old new →
+    -- without a failure the lines are those over a device that never fails, and the device follows the book
+    pub unfailing : NoFailure c.topology xs old new → xs ≡ drive (at_zero c.topology) [] (map (λ (x : Driven). x.line) xs)
+    pub follows : d.values_observable → NoFailure c.topology xs old new →
         Follows (last_book (load_of c.object c.topology) xs) (d.state new)

@@ -1,33 +1,27 @@
--- The text of a run: what is written of its steps, and the closing table.
-use Rattle.std.specs.Prelude.{ℕ, ◌+◌, Bool, List, [], ◌∷◌, ◌++◌}
+-- The text of a run: what is written of its lines, and the closing table.
+use Rattle.std.specs.Prelude.{ℕ, ◌+◌, Bool, List, [], ◌∷◌, ◌++◌, flat_map}
 use Rattle.std.specs.List.{concat}
 use Rattle.pm_base.specs.declared.events.Event.{Event}
 use Rattle.pm_core.specs.Load.{load_of}
-use Rattle.pm_core.specs.Run.{Core, Setup}
-use Rattle.pm_apply.specs.Part.{Part}
+use Rattle.pm_run.specs.Run.{Setup}
 use Rattle.pm_apply.specs.Record.{at_zero}
 use Rattle.pm_trace.specs.Closing.{closing_text}
 use Rattle.pm_trace.specs.Step.{core_text}
-use Rattle.pm_drive.specs.Drive.{Driven, driven, last_book, last_kept}
+use Rattle.pm_drive.specs.Drive.{Driven, Given, driven, last_book, last_kept}
 
--- the lines of a script line's core steps, each numbered by the line
-abbrev pub cores_text : ℕ → List Core → List Part → List ℕ
-cores_text n [] parts = []
-cores_text n (c ∷ cores) [] = []
-cores_text n (c ∷ cores) (part ∷ parts) = core_text n c.outputs part ++ cores_text n cores parts
-
+-- what is written of a script line: of each of its core steps, numbered by the line
 abbrev pub driven_text : ℕ → Driven → List ℕ
-driven_text n x = cores_text n x.step.cores x.parts
+driven_text n x = flat_map (λ (g : Given). core_text n g.core.outputs g.part) x.cores
 
--- the texts of steps, the first of which has this number
+-- the texts of lines, the first of which has this number
 abbrev pub texts : ℕ → List Driven → List (List ℕ)
 texts n [] = []
 texts n (x ∷ xs) = driven_text n x ∷ texts (n + 1) xs
 
--- the closing table after some steps of a run
+-- the closing table after some lines of a run
 abbrev pub closing_after : Setup → List Driven → List ℕ
 closing_after c xs = closing_text (last_book (load_of c.object c.topology) xs) (last_kept (at_zero c.topology) xs)
 
--- the whole text of a run: that of step 0 and of each step, and the closing table
+-- the whole text of a run: that of line 0 and of each line, and the closing table
 abbrev pub run_text : Setup → List (List Bool) → List Event → List ℕ
 run_text c answers events = concat (texts 0 (driven c answers events) ++ closing_after c (driven c answers events) ∷ [])

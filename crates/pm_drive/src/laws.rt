@@ -5,17 +5,17 @@ ghost use Rattle.pm_base.specs.declared.events.Event.{Event};
 ghost use Rattle.pm_base.specs.declared.names.Unit.{Unit};
 ghost use Rattle.pm_topology.specs.WellFormed.{IsWellFormed};
 ghost use Rattle.pm_device.specs.Act.{Chain};
-ghost use Rattle.pm_core.specs.Run.{Setup};
+ghost use Rattle.pm_run.specs.Run.{Setup};
 ghost use Rattle.pm_drive.specs.Drive.{acts, driven, until};
 ghost use Rattle.pm_drive.specs.Drove.{Drove};
 
 use pm_apply::{a_part_without_refusal, at_zero_is_a_record, each_part_is_safe, orders_join};
-use pm_core::books_of_a_run;
 use pm_device::{Device, acts_append, chain_shows, none_is_refused};
+use pm_run::books_of_a_run;
 use pm_topology::kinds_are_exact;
 
-/// A device that stood at 0 everywhere and was given the commands of the first steps of a run, in
-/// their order and with its answers, was driven through these steps: they are ordered whatever it
+/// A device that stood at 0 everywhere and was given the commands of the first lines of a run, in
+/// their order and with its answers, was driven through these lines: they are ordered whatever it
 /// answers, what lags is explained, and while it reports no failure it follows the book.
 pub fn driven_follows<D: Device>()
     ensures { (c : Setup) (events : List Event) (answers : List (List Bool)) (cut : Option ℕ) (old new : D)

@@ -16,16 +16,16 @@ use Rattle.pm_perms.specs.Permits.{may_reset}
 use Rattle.pm_core.specs.Load.{load_of}
 use Rattle.pm_core.specs.Members.{owner_at}
 use Rattle.pm_core.specs.Pairs.{pairs_of}
-use Rattle.pm_core.specs.Sound.{HasMail, IsSound}
+use Rattle.pm_core.specs.Sound.{HasNotes, IsSound}
 use Rattle.pm_core.specs.State.{Fixed, TalkHalf, Now, State, in_force}
-use Rattle.pm_notify.specs.Mailbox.{Mail}
-use Rattle.pm_notify.specs.Notify.{mail_of}
+use Rattle.pm_notify.specs.MasterNotes.{MasterNotes}
+use Rattle.pm_notify.specs.Notify.{notes_for}
 use Rattle.pm_topology.specs.UnitMap.{units_in}
 use Rattle.pm_topology.specs.Units.{UnitLaws, rises}
 use Rattle.pm_core.specs.Views.{master_node}
-use Rattle.pm_laws.specs.Agree.{SameRow, IsWithin, SameRows, SameKnown, SameLine, SameMail, SamePending, SameProc, SameTalk, Same, Agree}
+use Rattle.pm_laws.specs.Agree.{SameRow, IsWithin, SameRows, SameKnown, SameLine, SameMasterNotes, SamePending, SameProc, SameTalk, Same, Agree}
 use Rattle.pm_laws.specs.Border.{Border, IsBeyond, IsPairClosed, IsUserKnown, IsClosed}
-use Rattle.pm_laws.proofs.MailFacts.{entries_self, entries_sym, entries_trans}
+use Rattle.pm_laws.proofs.MasterNotesFacts.{entries_self, entries_sym, entries_trans}
 use Rattle.pm_laws.proofs.Places.{Both-sym, Both-trans, Both-self, BothFrom-sym, BothFrom-trans, BothFrom-self, Each-of_map}
 
 -- what is so of a test can't be otherwise
@@ -68,7 +68,7 @@ line_sym border l x y same = record {
 pub talk_sym : (border : Border) (a b : TalkHalf) → SameTalk border a b → SameTalk border b a
 talk_sym border a b same = record {
   pending = BothFrom-sym (SamePending border) (λ k x y is beyond. sym (is beyond)) 0 a.pending b.pending same.pending;
-  mail = BothFrom-sym (SameMail border) (λ k x y is beyond. entries_sym border x y (is beyond)) 0 a.mail b.mail same.mail;
+  notes = BothFrom-sym (SameMasterNotes border) (λ k x y is beyond. entries_sym border x y (is beyond)) 0 a.notes b.notes same.notes;
 }
 
 pub same_sym : (fixed : Fixed) (border : Border) (a b : Now) → Same fixed border a b → Same fixed border b a
@@ -117,7 +117,7 @@ line_trans border l x y z first second = record {
 pub talk_trans : (border : Border) (a b c : TalkHalf) → SameTalk border a b → SameTalk border b c → SameTalk border a c
 talk_trans border a b c first second = record {
   pending = BothFrom-trans (SamePending border) (λ k x y z one two beyond. one beyond ∙ two beyond) 0 a.pending b.pending c.pending first.pending second.pending;
-  mail = BothFrom-trans (SameMail border) (λ k x y z one two beyond. entries_trans border x y z (one beyond) (two beyond)) 0 a.mail b.mail c.mail first.mail second.mail;
+  notes = BothFrom-trans (SameMasterNotes border) (λ k x y z one two beyond. entries_trans border x y z (one beyond) (two beyond)) 0 a.notes b.notes c.notes first.notes second.notes;
 }
 
 pub same_trans : (fixed : Fixed) (border : Border) (a b c : Now) → Same fixed border a b → Same fixed border b c → Same fixed border a c
@@ -164,11 +164,11 @@ proc_self fixed border procs nobodys p x is =
     let Q : Option Proc → Type 0 = λ o. (unwrap_or o off).mode ≡ Off in
     subst P same (record { beyond = λ m owner beyond. refl; nobodys = λ none. (subst Q is (nobodys p none), subst Q is (nobodys p none)) })
 
--- in the mail of each master the units stand in order
-mail_order : UnitLaws → (book : State) → HasMail book → (m : ℕ) (mail : Mail) → slice_get book.now.talk.mail m ≡ Some mail → rises (units_in mail) ≡ true
-mail_order units book sound m mail is =
-    let there : m < length (in_force book).masters = subst (λ n. m < n) sound.each (slice_get_within book.now.talk.mail m mail is) in
-    let own : mail_of m book.now.talk.mail ≡ mail = ap (λ o. unwrap_or o []) is in
+-- in the notes of each master the units stand in order
+master_notes_order : UnitLaws → (book : State) → HasNotes book → (m : ℕ) (notes : MasterNotes) → slice_get book.now.talk.notes m ≡ Some notes → rises (units_in notes) ≡ true
+master_notes_order units book sound m notes is =
+    let there : m < length (in_force book).masters = subst (λ n. m < n) sound.each (slice_get_within book.now.talk.notes m notes is) in
+    let own : notes_for m book.now.talk.notes ≡ notes = ap (λ o. unwrap_or o []) is in
     ap (λ x. rises (units_in x)) (sym own) ∙ (ap rises (sound.units m there) ∙ (units.are book.fixed.topology).rising)
 
 module _ (border : Border) (book : State) (closed : IsClosed book.fixed.object book.fixed.topology border) (sound : IsSound book) where
@@ -216,7 +216,7 @@ agree_self units border book closed sound =
         lines = BothFrom-self (SameLine border) 0 book.now.core.lines (line_self border book closed sound);
         talk = record {
           pending = BothFrom-self (SamePending border) 0 book.now.talk.pending (λ p x is beyond. refl);
-          mail = BothFrom-self (SameMail border) 0 book.now.talk.mail (λ m mail is beyond. entries_self border mail (mail_order units book sound.mail m mail is));
+          notes = BothFrom-self (SameMasterNotes border) 0 book.now.talk.notes (λ m notes is beyond. entries_self border notes (master_notes_order units book sound.notes m notes is));
         };
       };
     }

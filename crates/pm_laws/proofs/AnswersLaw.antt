@@ -16,12 +16,15 @@ use Rattle.pm_ipi.specs.Calls.{ack_of, call_of, node_of}
 use Rattle.pm_procs.specs.Modes.{is_awake}
 use Rattle.pm_topology.specs.Places.{KindLaws, kind_of}
 use Rattle.pm_topology.specs.WellFormed.{IsWellFormed}
-use Rattle.pm_core.specs.declared.judgement.Asked.{Asked}
+use Rattle.pm_core.specs.declared.verdict.Effects.{Effects}
+use Rattle.pm_core.specs.declared.verdict.Verdict.{Verdict}
+use Rattle.pm_core.specs.declared.verdict.Verdict.TheVariants.{Dropped, Refused, Accepted}
+use Rattle.pm_core.specs.Checks.{Cause, Fits, Stands, first_failing}
+use Rattle.pm_core.specs.Verdict.{Called, response_of, verdict_by}
 use Rattle.pm_core.specs.declared.replies.Answer.TheVariants.{Ack}
-use Rattle.pm_core.specs.Outcome.{Outcome, outcome_of}
 use Rattle.pm_core.specs.Sound.{IsSound}
 use Rattle.pm_core.specs.State.{Fixed, Now, State}
-use Rattle.pm_core.specs.Step.{acknowledged, answer_by, answered, called, effect, heard_at, heard_by, outputs, verdict, is_heard}
+use Rattle.pm_core.specs.Step.{acknowledged, answer_of, answered, call_in, called, effect, heard_at, is_heard, outputs, verdict}
 use Rattle.pm_core.specs.Values.{point_at}
 use Rattle.pm_core.specs.Views.{master_mode_at}
 use Rattle.pm_laws.specs.Agree.{Agree, Same}
@@ -42,16 +45,20 @@ acknowledged_is No master node response after = refl
 acknowledged_is Blocking master node response after = refl
 acknowledged_is NonBlocking master node response after = refl
 
-answered_is : (asked : Option Asked) (master : NodeId) (call : Call) (response : Response) (after : State) → is_dropped (answered asked master call response after) ≡ false
-answered_is None master call response after = acknowledged_is (ack_of call) master (node_of call) response after
-answered_is (Some asked) master call response after = refl
+answered_is : (response : Option Response) (master : NodeId) (call : Call) (after : State) → is_dropped (answered response master call after) ≡ false
+answered_is None master call after = refl
+answered_is (Some response) master call after = acknowledged_is (ack_of call) master (node_of call) response after
+
+verdict_is : (cause : Cause) (effects : Effects) (master : NodeId) (call : Call) (after : State) → is_dropped (answer_of (verdict_by cause effects) master call after) ≡ false
+verdict_is (Stands Fits) effects master call after = answered_is (response_of (Accepted effects)) master call after
+verdict_is _ effects master call after = acknowledged_is (ack_of call) master (node_of call) _ after
 
 -- what is dropped is what isn't heard
-dropped_is : (master : NodeId) (call : Call) (heard : Option Outcome) (after : State) → is_dropped (answer_by (heard_by master call heard) after) ≡ not (is_some heard)
+dropped_is : (master : NodeId) (call : Call) (heard : Option Called) (after : State) → is_dropped (answer_of (verdict heard) master call after) ≡ not (is_some heard)
 dropped_is master call None after = refl
-dropped_is master call (Some outcome) after = answered_is outcome.judgement.asks master call outcome.judgement.response after
+dropped_is master call (Some x) after = verdict_is (first_failing x.checks) x.effects master call after
 
-heard_if : (x y : Bool) (o p : Outcome) → x ≡ y → is_some (if x then Some o else None) ≡ is_some (if y then Some p else None)
+heard_if : (x y : Bool) (o p : Called) → x ≡ y → is_some (if x then Some o else None) ≡ is_some (if y then Some p else None)
 heard_if true true o p is = refl
 heard_if true false o p is = cc
 heard_if false true o p is = cc
@@ -65,7 +72,7 @@ module _ (laws : BelowLaws) (fixed : Fixed) (border : Border) (a b : Now) (same 
   second = book_of fixed b
 
   heard_alike : (message : Message) (place : Option ℕ) → none_within border place ≡ true
-      → is_some (option_and_then (heard_at message first) place) ≡ is_some (option_and_then (heard_at message second) place)
+      → is_some (option_and_then (heard_at (call_of message) first) place) ≡ is_some (option_and_then (heard_at (call_of message) second) place)
   heard_alike message None beyond = refl
   heard_alike message (Some m) beyond =
       heard_if (is_heard m first) (is_heard m second) (called m (call_of message) first) (called m (call_of message) second)
@@ -73,9 +80,9 @@ module _ (laws : BelowLaws) (fixed : Fixed) (border : Border) (a b : Now) (same 
 
   drops_by : (event : Event) → sender_beyond fixed.object border event ≡ true → is_dropped (outputs event first).answer ≡ is_dropped (outputs event second).answer
   drops_by (Ipi master message) beyond =
-      dropped_is master (call_of message) (verdict master message first) (effect (Ipi master message) first)
+      dropped_is master (call_of message) (call_in master (call_of message) first) (effect (Ipi master message) first)
       ∙ (ap not (heard_alike message (place_of fixed.object master) beyond)
-      ∙ sym (dropped_is master (call_of message) (verdict master message second) (effect (Ipi master message) second)))
+      ∙ sym (dropped_is master (call_of message) (call_in master (call_of message) second) (effect (Ipi master message) second)))
   drops_by _ beyond = refl
 
   -- ---- answers
@@ -83,11 +90,11 @@ module _ (laws : BelowLaws) (fixed : Fixed) (border : Border) (a b : Now) (same 
   module _ (kinds : KindLaws) (closed : IsClosed fixed.object fixed.topology border) (chip : IsWellFormed fixed.topology) where
     -- the same is heard of a message
     heard_same : (message : Message) (place : Option ℕ) → none_within border place ≡ true → names_beyond fixed.topology border (call_of message) ≡ true
-        → option_and_then (heard_at message first) place ≡ option_and_then (heard_at message second) place
+        → option_and_then (heard_at (call_of message) first) place ≡ option_and_then (heard_at (call_of message) second) place
     heard_same message None beyond is = refl
     heard_same message (Some m) beyond is =
         ap (λ heard. if heard then Some (called m (call_of message) first) else None) (heard_both laws fixed border m a b beyond same)
-        ∙ ap (λ tried. if is_heard m second then Some (outcome_of tried) else None)
+        ∙ ap (λ call. if is_heard m second then Some call else None)
         (call_same laws kinds fixed border closed chip a b same m (call_of message) beyond is)
 
     -- the same is answered in two books after it that agree
@@ -114,19 +121,19 @@ module _ (laws : BelowLaws) (fixed : Fixed) (border : Border) (a b : Now) (same 
         (point_alike fixed border closed a b same node (is refl))
         ∙ ap (λ mode. Ack master node response.status (point_at (kind_of fixed.topology node) fixed b.core) (is_awake mode)) (shown_same (place_of fixed.object master) beyond)
 
-    answered_same : (asked : Option Asked) (master : NodeId) (call : Call) (response : Response) → none_within border (place_of fixed.object master) ≡ true
+    answered_same : (response : Option Response) (master : NodeId) (call : Call) → none_within border (place_of fixed.object master) ≡ true
         → names_beyond fixed.topology border call ≡ true
-        → answered asked master call response first ≡ answered asked master call response second
-    answered_same None master call response beyond is =
+        → answered response master call first ≡ answered response master call second
+    answered_same None master call beyond is = refl
+    answered_same (Some response) master call beyond is =
         acknowledged_same (ack_of call) master (node_of call) response beyond (λ wants. node_beyond call wants is)
-    answered_same (Some asked) master call response beyond is = refl
 
-    after_same : (master : NodeId) (call : Call) (heard : Option Outcome) → none_within border (place_of fixed.object master) ≡ true
+    after_same : (v : Verdict) (master : NodeId) (call : Call) → none_within border (place_of fixed.object master) ≡ true
         → names_beyond fixed.topology border call ≡ true
-        → answer_by (heard_by master call heard) first ≡ answer_by (heard_by master call heard) second
-    after_same master call None beyond is = refl
-    after_same master call (Some outcome) beyond is =
-        answered_same outcome.judgement.asks master call outcome.judgement.response beyond is
+        → answer_of v master call first ≡ answer_of v master call second
+    after_same Dropped master call beyond is = refl
+    after_same (Refused response) master call beyond is = answered_same (Some response) master call beyond is
+    after_same (Accepted effects) master call beyond is = answered_same (response_of (Accepted effects)) master call beyond is
 
 module _ (laws : BelowLaws) (kinds : KindLaws) (fixed : Fixed) (border : Border) (closed : IsClosed fixed.object fixed.topology border)
     (chip : IsWellFormed fixed.topology) (a b : Now) (same : Same fixed border a b) where
@@ -138,10 +145,10 @@ module _ (laws : BelowLaws) (kinds : KindLaws) (fixed : Fixed) (border : Border)
       let after : Agree border (effect event (book_of fixed a)) (effect event (book_of fixed b)) =
       steps.steps_agree laws border event (book_of fixed a) (book_of fixed b) closed sound_a sound_b (record { fixed = refl; now = same })
       in
-      ap (λ heard. answer_by (heard_by master (call_of message) heard) (effect event (book_of fixed a)))
+      ap (λ heard. answer_of (verdict heard) master (call_of message) (effect event (book_of fixed a)))
       (heard_same laws fixed border a b same kinds closed chip message (place_of fixed.object master) parts.0 parts.1)
       ∙ after_same laws fixed border (effect event (book_of fixed a)).now (effect event (book_of fixed b)).now after.now kinds closed chip
-      master (call_of message) (verdict master message (book_of fixed b)) parts.0 parts.1
+      (verdict (call_in master (call_of message) (book_of fixed b))) master (call_of message) parts.0 parts.1
   answers_by _ sound_a sound_b is = refl
 
 -- ---- books

@@ -10,21 +10,21 @@ use Rattle.pm_base.specs.declared.names.NodeId.{NodeId}
 use Rattle.pm_notify.specs.declared.notes.Note.{Note}
 use Rattle.pm_notify.specs.declared.notes.Note.TheVariants.{Ack, Change, ZeroUsers}
 use Rattle.pm_notify.specs.declared.notes.Waiting.{Waiting}
-use Rattle.pm_notify.specs.Mailbox.{Mail}
-use Rattle.pm_notify.specs.Notify.{mail_of}
+use Rattle.pm_notify.specs.MasterNotes.{MasterNotes}
+use Rattle.pm_notify.specs.Notify.{notes_for}
 use Rattle.pm_object.specs.declared.object.MasterRec.{MasterRec}
 use Rattle.pm_object.specs.declared.object.Object.{Object}
 use Rattle.pm_object.specs.Grammar.{IsObject}
 use Rattle.pm_procs.specs.Modes.{is_awake}
-use Rattle.pm_core.specs.declared.judgement.Asked.{Asked}
+use Rattle.pm_core.specs.declared.verdict.Asked.{Asked}
 use Rattle.pm_core.specs.declared.outbox.Callback.{Callback}
 use Rattle.pm_core.specs.Callbacks.{News, asks_to, callback_by, callback_of, called_back, callbacks_from, init_suspend, notes_to, told_at_wake, told_to}
 use Rattle.pm_core.specs.Members.{mode_of_master}
 use Rattle.pm_core.specs.Sound.{IsSound, KnowsModes}
 use Rattle.pm_core.specs.State.{Fixed, Now, State}
-use Rattle.pm_core.specs.Step.{effect, mail_after, modes_in, news, opening, outputs}
+use Rattle.pm_core.specs.Step.{effect, notes_after, modes_in, news, opening, outputs}
 use Rattle.pm_core.specs.Values.{point}
-use Rattle.pm_laws.specs.Agree.{Agree, Same, SameEntry, SameMail}
+use Rattle.pm_laws.specs.Agree.{Agree, Same, SameEntry, SameMasterNotes}
 use Rattle.pm_laws.specs.Border.{Border, IsBeyond, IsClosed}
 use Rattle.pm_laws.specs.Both.{Both, BothFrom}
 use Rattle.pm_laws.specs.Callbacks.{calls_beyond, is_call_beyond}
@@ -37,8 +37,8 @@ use Rattle.pm_laws.proofs.HiddenLemmas.{within_by}
 use Rattle.pm_laws.proofs.EventsLaw.{hidden_fixed}
 use Rattle.pm_laws.proofs.FollowLaw.{mode_alike}
 use Rattle.pm_laws.proofs.JudgedLaw.{point_alike}
-use Rattle.pm_laws.proofs.MailFacts.{mail_same}
-use Rattle.pm_laws.proofs.MailsLaw.{NewsAlike, no_news, notes_alike, wakes_alike}
+use Rattle.pm_laws.proofs.MasterNotesFacts.{master_notes_same}
+use Rattle.pm_laws.proofs.NoteChangesLaw.{NewsAlike, no_news, notes_alike, wakes_alike}
 use Rattle.pm_laws.proofs.Places.{StandsFrom, stands_first, stands_from_start, stands_later}
 use Rattle.pm_laws.proofs.Records.{own_place}
 use Rattle.pm_laws.proofs.RowFacts.{BelowLaws}
@@ -113,19 +113,19 @@ module _ (object : Object) (border : Border) where
         at true = ap (λ b. cond b (init_suspend master asked ∷ []) []) (asked_test asked ∙ within)
         at false = refl
 
-    notes_within : (after : State) (notes : List Waiting) → border.master k ≡ false → calls_beyond object border (map (callback_of master after) notes) ≡ []
-    notes_within after notes within =
-        none_pass test (callback_of master after) (λ w. note_test w.node (point w.node after) w.note ∙ ap (λ b. b && border.node w.node.0) within) notes
+    notes_within : (after : State) (due : List Waiting) → border.master k ≡ false → calls_beyond object border (map (callback_of master after) due) ≡ []
+    notes_within after due within =
+        none_pass test (callback_of master after) (λ w. note_test w.node (point w.node after) w.note ∙ ap (λ b. b && border.node w.node.0) within) due
 
-    called_within : (a : News) (was is : Mode) (mail : Mail) (after : State) → border.master k ≡ false → calls_beyond object border (called_back a k master was is mail after) ≡ []
-    called_within a was is mail after within = at (is_awake is)
+    called_within : (a : News) (was is : Mode) (notes : MasterNotes) (after : State) → border.master k ≡ false → calls_beyond object border (called_back a k master was is notes after) ≡ []
+    called_within a was is notes after within = at (is_awake is)
       where
-        at : (awake : Bool) → calls_beyond object border (if awake then told_to a k master was is mail after else []) ≡ []
+        at : (awake : Bool) → calls_beyond object border (if awake then told_to a k master was is notes after else []) ≡ []
         at true =
-            beyond_append (map (callback_of master after) (told_at_wake was is mail)) (asks_to k master a.asked ++ map (callback_of master after) (notes_to a k mail)) [] []
-            (notes_within after (told_at_wake was is mail) within)
-            (beyond_append (asks_to k master a.asked) (map (callback_of master after) (notes_to a k mail)) [] []
-            (asks_within a.asked within) (notes_within after (notes_to a k mail) within))
+            beyond_append (map (callback_of master after) (told_at_wake was is notes)) (asks_to k master a.asked ++ map (callback_of master after) (notes_to a k notes)) [] []
+            (notes_within after (told_at_wake was is notes) within)
+            (beyond_append (asks_to k master a.asked) (map (callback_of master after) (notes_to a k notes)) [] []
+            (asks_within a.asked within) (notes_within after (notes_to a k notes) within))
         at false = refl
 
     -- ---- a master beyond
@@ -153,10 +153,10 @@ module _ (object : Object) (border : Border) where
         ∙ sym (filter_map test (is_about_beyond border) (callback_of master second)
         (λ w. note_test w.node (point w.node second) w.note ∙ ap (λ b. b && border.node w.node.0) beyond) os)))
 
-    called_alike : (a b : News) (was is : Mode) (x y : Mail) (first second : State) → IsBeyond border k → NewsAlike border a b → Both (SameEntry border) x y
+    called_alike : (a b : News) (was is : Mode) (x y : MasterNotes) (first second : State) → IsBeyond border k → NewsAlike border a b → Both (SameEntry border) x y
         → ((node : NodeId) → border.node node.0 ≡ true → point node first ≡ point node second)
         → calls_beyond object border (called_back a k master was is x first) ≡ calls_beyond object border (called_back b k master was is y second)
-    called_alike a b was is x y first second beyond news mail points = at (is_awake is)
+    called_alike a b was is x y first second beyond news notes points = at (is_awake is)
       where
         at : (awake : Bool)
             → calls_beyond object border (if awake then told_to a k master was is x first else [])
@@ -164,20 +164,20 @@ module _ (object : Object) (border : Border) where
         at true =
             beyond_append (map (callback_of master first) (told_at_wake was is x)) (asks_to k master a.asked ++ map (callback_of master first) (notes_to a k x))
             (map (callback_of master second) (told_at_wake was is y)) (asks_to k master b.asked ++ map (callback_of master second) (notes_to b k y))
-            (notes_calls first second (told_at_wake was is x) (told_at_wake was is y) beyond points (wakes_alike border was is x y mail))
+            (notes_calls first second (told_at_wake was is x) (told_at_wake was is y) beyond points (wakes_alike border was is x y notes))
             (beyond_append (asks_to k master a.asked) (map (callback_of master first) (notes_to a k x)) (asks_to k master b.asked) (map (callback_of master second) (notes_to b k y))
             (ap (calls_beyond object border)
             (asked_alone a.asked beyond ∙ (ap (asks_to k master) news.asked ∙ sym (asked_alone b.asked beyond))))
-            (notes_calls first second (notes_to a k x) (notes_to b k y) beyond points (notes_alike border a b k x y news mail)))
+            (notes_calls first second (notes_to a k x) (notes_to b k y) beyond points (notes_alike border a b k x y news notes)))
         at false = refl
 
 -- ---- all masters
 
 module _ (object : Object) (formed : IsObject object) (border : Border) (a b : News) (news : (k : ℕ) → IsBeyond border k → NewsAlike border a b)
-    (was were : ℕ → Mode) (first second : State) (xs ys : List Mail)
+    (was were : ℕ → Mode) (first second : State) (xs ys : List MasterNotes)
     (before : (k : ℕ) → IsBeyond border k → was k ≡ were k)
     (now : (k : ℕ) → IsBeyond border k → mode_of_master first.fixed first.now.core k ≡ mode_of_master second.fixed second.now.core k)
-    (mail : BothFrom (SameMail border) 0 xs ys)
+    (notes : BothFrom (SameMasterNotes border) 0 xs ys)
     (points : (node : NodeId) → border.node node.0 ≡ true → point node first ≡ point node second) where
   abbrev mode_first : ℕ → Mode
   mode_first k = mode_of_master first.fixed first.now.core k
@@ -186,39 +186,39 @@ module _ (object : Object) (formed : IsObject object) (border : Border) (a b : N
   mode_second k = mode_of_master second.fixed second.now.core k
 
   at_alike : (k : ℕ) (master : NodeId) (is : Bool) → place_of object master ≡ Some k → border.master k ≡ is
-      → calls_beyond object border (called_back a k master (was k) (mode_first k) (mail_of k xs) first)
-      ≡ calls_beyond object border (called_back b k master (were k) (mode_second k) (mail_of k ys) second)
+      → calls_beyond object border (called_back a k master (was k) (mode_first k) (notes_for k xs) first)
+      ≡ calls_beyond object border (called_back b k master (were k) (mode_second k) (notes_for k ys) second)
   at_alike k master true place is =
-      ap (λ mode. calls_beyond object border (called_back a k master mode (mode_first k) (mail_of k xs) first)) (before k is)
-      ∙ (ap (λ mode. calls_beyond object border (called_back a k master (were k) mode (mail_of k xs) first)) (now k is)
-      ∙ called_alike object border k master place a b (were k) (mode_second k) (mail_of k xs) (mail_of k ys) first second is (news k is) (mail_same border k xs ys is mail).each points)
+      ap (λ mode. calls_beyond object border (called_back a k master mode (mode_first k) (notes_for k xs) first)) (before k is)
+      ∙ (ap (λ mode. calls_beyond object border (called_back a k master (were k) mode (notes_for k xs) first)) (now k is)
+      ∙ called_alike object border k master place a b (were k) (mode_second k) (notes_for k xs) (notes_for k ys) first second is (news k is) (master_notes_same border k xs ys is notes).each points)
   at_alike k master false place is =
-      called_within object border k master place a (was k) (mode_first k) (mail_of k xs) first is
-      ∙ sym (called_within object border k master place b (were k) (mode_second k) (mail_of k ys) second is)
+      called_within object border k master place a (was k) (mode_first k) (notes_for k xs) first is
+      ∙ sym (called_within object border k master place b (were k) (mode_second k) (notes_for k ys) second is)
 
   calls_alike : (k : ℕ) (masters : List MasterRec) → StandsFrom object.masters k masters
       → calls_beyond object border (callbacks_from a was xs first k masters) ≡ calls_beyond object border (callbacks_from b were ys second k masters)
   calls_alike k [] stands = refl
   calls_alike k (master ∷ masters) stands =
-      beyond_append object border (called_back a k (record { 0 = master.node }) (was k) (mode_first k) (mail_of k xs) first) (callbacks_from a was xs first (k + 1) masters)
-      (called_back b k (record { 0 = master.node }) (were k) (mode_second k) (mail_of k ys) second) (callbacks_from b were ys second (k + 1) masters)
+      beyond_append object border (called_back a k (record { 0 = master.node }) (was k) (mode_first k) (notes_for k xs) first) (callbacks_from a was xs first (k + 1) masters)
+      (called_back b k (record { 0 = master.node }) (were k) (mode_second k) (notes_for k ys) second) (callbacks_from b were ys second (k + 1) masters)
       (at_alike k (record { 0 = master.node }) (border.master k) (own_place object formed k master (stands_first object.masters k master masters stands)) refl)
       (calls_alike (k + 1) masters (stands_later object.masters k master masters stands))
 
 -- ---- where nothing is told and no mode changes
 
-rests_at : (k : ℕ) (master : NodeId) (mode : Mode) (x : Mail) (after : State) → called_back no_news k master mode mode x after ≡ []
+rests_at : (k : ℕ) (master : NodeId) (mode : Mode) (x : MasterNotes) (after : State) → called_back no_news k master mode mode x after ≡ []
 rests_at k master Off x after = refl
 rests_at k master Active x after = refl
 rests_at k master Asleep x after = refl
 rests_at k master Suspending x after = refl
 
-calls_rest : (xs : List Mail) (still : State) (k : ℕ) (masters : List MasterRec)
+calls_rest : (xs : List MasterNotes) (still : State) (k : ℕ) (masters : List MasterRec)
     → callbacks_from no_news (mode_of_master still.fixed still.now.core) xs still k masters ≡ []
 calls_rest xs still k [] = refl
 calls_rest xs still k (master ∷ masters) =
     ap (λ calls. calls ++ callbacks_from no_news (mode_of_master still.fixed still.now.core) xs still (k + 1) masters)
-    (rests_at k (record { 0 = master.node }) (mode_of_master still.fixed still.now.core k) (mail_of k xs) still)
+    (rests_at k (record { 0 = master.node }) (mode_of_master still.fixed still.now.core k) (notes_for k xs) still)
     ∙ calls_rest xs still (k + 1) masters
 
 -- ---- events
@@ -236,7 +236,7 @@ module _ (laws : BelowLaws) (border : Border) (event : Event) (fixed : Fixed) (c
       calls_alike fixed.object formed border (news event first) (news event second)
       (λ k beyond. news_alike laws border event fixed closed a b (closed.some k beyond) sound_a sound_b is same after)
       (modes_in first) (modes_in second) (effect event first) (effect event second)
-      (mail_after (opening event first) (later event fixed a)) (mail_after (opening event second) (later event fixed b))
+      (notes_after (opening event first) (later event fixed a)) (notes_after (opening event second) (later event fixed b))
       (λ k beyond. mode_alike laws fixed border k a b beyond same)
       (λ k beyond. mode_alike laws fixed border k (effect event first).now (effect event second).now beyond ends)
       (found_alike laws border event fixed closed a b sound_a is same after)
@@ -255,13 +255,13 @@ module _ (laws : BelowLaws) (border : Border) (event : Event) (fixed : Fixed) (c
       calls_alike fixed.object formed border (news event first) no_news
       (λ k beyond. news_hidden laws border event fixed closed still now (closed.some k beyond) sound knows is same)
       (modes_in first) (modes_in second) (effect event first) second
-      (mail_after (opening event first) (later event fixed now)) still.talk.mail
+      (notes_after (opening event first) (later event fixed now)) still.talk.notes
       (λ k beyond. sym (mode_alike laws fixed border k still now beyond same))
       (λ k beyond. mode_alike laws fixed border k (effect event first).now still beyond ends)
       (found_hidden laws border event fixed closed still now knows is same)
       (λ node told. point_alike fixed border closed (effect event first).now still ends node told)
       0 fixed.object.masters (stands_from_start fixed.object.masters)
-      ∙ ap (calls_beyond fixed.object border) (calls_rest still.talk.mail second 0 fixed.object.masters)
+      ∙ ap (calls_beyond fixed.object border) (calls_rest still.talk.notes second 0 fixed.object.masters)
 
   by_shape : (a b : Now) (shape : Bool) → is_hidden border event (book_of fixed a) ≡ shape → IsSound (book_of fixed a) → IsSound (book_of fixed b) → Same fixed border a b → Calls a ≡ Calls b
   by_shape a b false is sound_a sound_b same = alike a b sound_a sound_b is same

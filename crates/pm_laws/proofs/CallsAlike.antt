@@ -20,11 +20,11 @@ use Rattle.pm_topology.specs.declared.places.Kind.{Kind}
 use Rattle.pm_topology.specs.declared.places.Kind.TheVariants.{Proc, Slave, Power, Unknown}
 use Rattle.pm_topology.specs.Places.{kind_of}
 use Rattle.pm_core.specs.Members.{is_place, mode_of_master, owner_at, owns}
-use Rattle.pm_core.specs.Outcome.{Check, judged, outcome_of, told}
 use Rattle.pm_core.specs.Prims.{Prim}
 use Rattle.pm_core.specs.State.{Fixed, Now, State}
-use Rattle.pm_core.specs.Step.{called, tried_by}
+use Rattle.pm_core.specs.Step.{called}
 use Rattle.pm_core.specs.Values.{slave_place}
+use Rattle.pm_core.specs.Verdict.{stages_of}
 use Rattle.pm_core.specs.Views.{can_suspend, can_wake, is_asked, master_node, master_timeout, named_master, names_master, proc_view, proc_view_at, rival_node, row_view, row_view_at, suspend_view, suspendable, suspendable_at, wake_view, wake_view_at, wakeable, watched_at}
 use Rattle.pm_core.specs.calls.AbortSuspend.{abort_suspend}
 use Rattle.pm_core.specs.calls.RegisterNotifier.{register_notifier}
@@ -36,6 +36,7 @@ use Rattle.pm_core.specs.calls.SelfSuspend.{self_suspend}
 use Rattle.pm_core.specs.calls.SetMaxLatency.{set_max_latency}
 use Rattle.pm_core.specs.calls.SetRequirement.{set_requirement}
 use Rattle.pm_core.specs.calls.SetWakeupSource.{set_wakeup_source}
+use Rattle.pm_core.proofs.Verdicts.{nothing_done}
 use Rattle.pm_laws.specs.Agree.{SamePending, SameRow, SameRows, Same, Agree}
 use Rattle.pm_laws.specs.Border.{Border, IsBeyond, IsClosed}
 use Rattle.pm_laws.specs.Both.{Both}
@@ -163,7 +164,7 @@ seeds_alike border m s (x ∷ xs) (y ∷ ys) same =
     ∙ ap (λ at. option_map pair_in (cond at (Some y) (find (is_at m s) ys))) (ap (λ (seed : RowSeed). (seed.master == m) && (seed.slave == s)) same.0.seed)
 
 abbrev arm_stages : NodeId → ℕ → ProcView → RowView → List (List Prim)
-arm_stages node enable target source = (outcome_of (set_wakeup_source node enable target source)).stages
+arm_stages node enable target source = stages_of (set_wakeup_source node enable target source)
 
 arm_alike : (node : NodeId) (enable : ℕ) (target : ProcView) (slave : Option ℕ) (x y : Option Entry) (r q : Option NodeId) → option_map pair_in x ≡ option_map pair_in y → arm_stages node enable target (record { slave = slave; entry = x; rival = r }) ≡ arm_stages node enable target (record { slave = slave; entry = y; rival = q })
 arm_alike node enable target slave None None r q same = refl
@@ -189,67 +190,55 @@ watched_same fixed m node Unknown a b = refl
 
 -- ---- calls
 
--- a call that only tells words changes nothing
-told_stages : (checks : List Check) (words : List ℕ) → (judged checks (told words)).stages ≡ []
-told_stages [] words = refl
-told_stages (None ∷ checks) words = told_stages checks words
-told_stages (Some response ∷ checks) words = refl
-
 -- a call that asks a master beyond to suspend, and one of a master beyond that aborts its own suspend, come to the same
 pub asks_alike : BelowLaws → (fixed : Fixed) (border : Border) (m ack latency state : ℕ) (node : NodeId) (a b : Now) → is_within border (named_master fixed node) ≡ false → Same fixed border a b → called m (RequestSuspend node ack latency state) (book_of fixed a) ≡ called m (RequestSuspend node ack latency state) (book_of fixed b)
 asks_alike laws fixed border m ack latency state node a b is same =
-    ap (λ view. outcome_of (request_suspend m node ack latency state view)) (suspend_alike laws fixed border m node a b is same)
+    ap (request_suspend m node ack latency state) (suspend_alike laws fixed border m node a b is same)
 
 pub aborts_alike : (fixed : Fixed) (border : Border) (m reason : ℕ) (node : NodeId) (a b : Now) → IsBeyond border m → Same fixed border a b → called m (AbortSuspend node reason) (book_of fixed a) ≡ called m (AbortSuspend node reason) (book_of fixed b)
 aborts_alike fixed border m reason node a b beyond same =
-    ap (λ view. outcome_of (abort_suspend m reason (is_asked m (book_of fixed a)) view)) (proc_view_alike fixed border m (kind_of fixed.topology node) a b beyond same)
-    ∙ ap (λ pending. outcome_of (abort_suspend m reason (is_some pending) (proc_view m node (book_of fixed b)))) (pending_alike fixed border m a b beyond same)
+    ap (abort_suspend m reason (is_asked m (book_of fixed a))) (proc_view_alike fixed border m (kind_of fixed.topology node) a b beyond same)
+    ∙ ap (λ pending. abort_suspend m reason (is_some pending) (proc_view m node (book_of fixed b))) (pending_alike fixed border m a b beyond same)
 
 -- a call for a notifier comes to the same, whatever it names
 pub registers_alike : (fixed : Fixed) (m event wake enable : ℕ) (node : NodeId) (a b : Now) → called m (RegisterNotifier node event wake enable) (book_of fixed a) ≡ called m (RegisterNotifier node event wake enable) (book_of fixed b)
 registers_alike fixed m event wake enable node a b =
-    ap (λ view. outcome_of (register_notifier m node event enable view)) (watched_same fixed m node (kind_of fixed.topology node) a b)
+    ap (register_notifier m node event enable) (watched_same fixed m node (kind_of fixed.topology node) a b)
 
-called_alike : BelowLaws → (fixed : Fixed) (border : Border) (m : ℕ) (call : Call) (a b : Now) → IsBeyond border m → border.some ≡ true → changes_within border call (book_of fixed a) ≡ false → Same fixed border a b → (called m call (book_of fixed a)).stages ≡ (called m call (book_of fixed b)).stages
+called_alike : BelowLaws → (fixed : Fixed) (border : Border) (m : ℕ) (call : Call) (a b : Now) → IsBeyond border m → border.some ≡ true → changes_within border call (book_of fixed a) ≡ false → Same fixed border a b → stages_of (called m call (book_of fixed a)) ≡ stages_of (called m call (book_of fixed b))
 called_alike laws fixed border m (GetNodeStatus node) a b beyond some plain same =
-    let first = tried_by m (GetNodeStatus node) (book_of fixed a) in
-    let second = tried_by m (GetNodeStatus node) (book_of fixed b) in
-    told_stages first.checks first.deed.words ∙ sym (told_stages second.checks second.deed.words)
+    nothing_done (called m (GetNodeStatus node) (book_of fixed a)) refl ∙ sym (nothing_done (called m (GetNodeStatus node) (book_of fixed b)) refl)
 called_alike laws fixed border m (RegisterNotifier node event wake enable) a b beyond some plain same =
-    ap (λ outcome. outcome.stages) (registers_alike fixed m event wake enable node a b)
+    ap stages_of (registers_alike fixed m event wake enable node a b)
 called_alike laws fixed border m (GetOpCharacteristic node characteristic) a b beyond some plain same =
-    let first = tried_by m (GetOpCharacteristic node characteristic) (book_of fixed a) in
-    let second = tried_by m (GetOpCharacteristic node characteristic) (book_of fixed b) in
-    told_stages first.checks first.deed.words ∙ sym (told_stages second.checks second.deed.words)
+    nothing_done (called m (GetOpCharacteristic node characteristic) (book_of fixed a)) refl ∙ sym (nothing_done (called m (GetOpCharacteristic node characteristic) (book_of fixed b)) refl)
 called_alike laws fixed border m (ResetGetStatus line) a b beyond some plain same =
-    let first = tried_by m (ResetGetStatus line) (book_of fixed a) in
-    let second = tried_by m (ResetGetStatus line) (book_of fixed b) in
-    told_stages first.checks first.deed.words ∙ sym (told_stages second.checks second.deed.words)
+    nothing_done (called m (ResetGetStatus line) (book_of fixed a)) refl ∙ sym (nothing_done (called m (ResetGetStatus line) (book_of fixed b)) refl)
 called_alike laws fixed border m (SelfSuspend node address) a b beyond some plain same =
-    ap (λ view. (outcome_of (self_suspend m address view)).stages) (proc_view_alike fixed border m (kind_of fixed.topology node) a b beyond same)
+    ap (λ view. stages_of (self_suspend m address view)) (proc_view_alike fixed border m (kind_of fixed.topology node) a b beyond same)
 called_alike laws fixed border m (RequestSuspend node ack latency state) a b beyond some plain same =
-    ap (λ outcome. outcome.stages) (asks_alike laws fixed border m ack latency state node a b plain same)
+    ap stages_of (asks_alike laws fixed border m ack latency state node a b plain same)
 called_alike laws fixed border m (AbortSuspend node reason) a b beyond some plain same =
-    ap (λ outcome. outcome.stages) (aborts_alike fixed border m reason node a b beyond same)
+    ap stages_of (aborts_alike fixed border m reason node a b beyond same)
 called_alike laws fixed border m (RequestWakeup node address ack) a b beyond some plain same =
-    ap (λ view. (outcome_of (request_wakeup address ack view)).stages) (wake_alike fixed border m (kind_of fixed.topology node) a b plain same)
+    ap (λ view. stages_of (request_wakeup address ack view)) (wake_alike fixed border m (kind_of fixed.topology node) a b plain same)
 called_alike laws fixed border m (SetWakeupSource target source enable) a b beyond some plain same =
     ap (λ view. arm_stages target enable view (row_view m source (book_of fixed a))) (proc_view_alike fixed border m (kind_of fixed.topology target) a b beyond same)
     ∙ source_alike fixed border m target enable (proc_view m target (book_of fixed b)) (slave_place source (book_of fixed a)) a b some same
 called_alike laws fixed border m (RequestNode node caps ack) a b beyond some plain same =
-    ap (λ view. (outcome_of (request_node caps ack view)).stages) (row_view_alike fixed border m (slave_place node (book_of fixed a)) a b some plain same)
+    ap (λ view. stages_of (request_node caps ack view)) (row_view_alike fixed border m (slave_place node (book_of fixed a)) a b some plain same)
 called_alike laws fixed border m (ReleaseNode node) a b beyond some plain same =
-    ap (λ view. (outcome_of (release_node view)).stages) (row_view_alike fixed border m (slave_place node (book_of fixed a)) a b some plain same)
+    ap (λ view. stages_of (release_node view)) (row_view_alike fixed border m (slave_place node (book_of fixed a)) a b some plain same)
 called_alike laws fixed border m (SetRequirement node caps ack) a b beyond some plain same =
-    ap (λ mode. (outcome_of (set_requirement mode caps ack (row_view m node (book_of fixed a)))).stages) (mode_alike laws fixed border m a b beyond same)
-    ∙ ap (λ view. (outcome_of (set_requirement (mode_of_master fixed b.core m) caps ack view)).stages) (row_view_alike fixed border m (slave_place node (book_of fixed a)) a b some plain same)
+    ap (λ mode. stages_of (set_requirement mode caps ack (row_view m node (book_of fixed a)))) (mode_alike laws fixed border m a b beyond same)
+    ∙ ap (λ view. stages_of (set_requirement (mode_of_master fixed b.core m) caps ack view)) (row_view_alike fixed border m (slave_place node (book_of fixed a)) a b some plain same)
 called_alike laws fixed border m (SetMaxLatency node latency) a b beyond some plain same =
-    ap (λ view. (outcome_of (set_max_latency latency view)).stages) (row_view_alike fixed border m (slave_place node (book_of fixed a)) a b some plain same)
+    ap (λ view. stages_of (set_max_latency latency view)) (row_view_alike fixed border m (slave_place node (book_of fixed a)) a b some plain same)
 called_alike laws fixed border m _ a b beyond some plain same = refl
 
-pub call_alike : BelowLaws → (fixed : Fixed) (border : Border) (m : ℕ) (call : Call) (a b : Now) → IsBeyond border m → border.some ≡ true → changes_within border call (book_of fixed a) ≡ false → Same fixed border a b → AreAlike border (called m call (book_of fixed a)).stages (called m call (book_of fixed b)).stages
+pub call_alike : BelowLaws → (fixed : Fixed) (border : Border) (m : ℕ) (call : Call) (a b : Now) → IsBeyond border m → border.some ≡ true → changes_within border call (book_of fixed a) ≡ false → Same fixed border a b → AreAlike border (stages_of (called m call (book_of fixed a))) (stages_of (called m call (book_of fixed b)))
 call_alike laws fixed border m call a b beyond some plain same =
-    alike_of border (called m call (book_of fixed a)).stages (called m call (book_of fixed b)).stages (called_alike laws fixed border m call a b beyond some plain same)
+    alike_of border (stages_of (called m call (book_of fixed a))) (stages_of (called m call (book_of fixed b))) (called_alike laws fixed border m call a b beyond some plain same)
 
 -- ---- books
 

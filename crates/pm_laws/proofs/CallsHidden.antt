@@ -22,13 +22,14 @@ use Rattle.pm_rows.specs.Rows.{entry_at, is_at}
 use Rattle.pm_core.specs.declared.views.ProcView.{ProcView}
 use Rattle.pm_core.specs.declared.views.RowView.{RowView}
 use Rattle.pm_core.specs.Members.{mode_of_master, owner_at}
-use Rattle.pm_core.specs.Outcome.{Deed, Check, Tried, judged, outcome_of, done}
-use Rattle.pm_core.specs.Prims.{At_row, Settle, Put_proc}
+use Rattle.pm_core.specs.Checks.{Cause, Fits, Stands, first_failing}
+use Rattle.pm_core.specs.Prims.{Prim, At_row, Settle, Put_proc}
 use Rattle.pm_core.specs.ProcCalls.{address_in, is_in, proc_changes, put_at}
 use Rattle.pm_core.specs.RowCalls.{changes_of, row_changes}
 use Rattle.pm_core.specs.State.{State, in_force}
-use Rattle.pm_core.specs.Step.{called, tried_by}
+use Rattle.pm_core.specs.Step.{called}
 use Rattle.pm_core.specs.Values.{slave_place}
+use Rattle.pm_core.specs.Verdict.{Called, stages_by, stages_of}
 use Rattle.pm_core.specs.Views.{can_wake, is_asked, master_node, proc_view, row_view_at, suspend_view, wake_view, wake_view_at, wakeable}
 use Rattle.pm_core.specs.calls.AbortSuspend.{abort_suspend}
 use Rattle.pm_core.specs.calls.InitFinalize.{init_finalize}
@@ -47,14 +48,13 @@ use Rattle.pm_laws.specs.Seen.{is_arming, IsUnseen, AreHidden}
 use Rattle.pm_laws.proofs.DownHidden.{force_hidden, shutdown_hidden}
 use Rattle.pm_laws.proofs.HiddenLemmas.{HasClosed, one_hidden, within_by}
 
--- a call hides where its changes do
-judged_hidden : (border : Border) (checks : List Check) (deed : Deed) → AreHidden border deed.stages → AreHidden border (judged checks deed).stages
-judged_hidden border [] deed hidden = hidden
-judged_hidden border (None ∷ checks) deed hidden = judged_hidden border checks deed hidden
-judged_hidden border (Some response ∷ checks) deed hidden = tt
+-- a call hides if its changes do
+hidden_by : (border : Border) (cause : Cause) (stages : List (List Prim)) → AreHidden border stages → AreHidden border (stages_by cause stages)
+hidden_by border (Stands Fits) stages hidden = hidden
+hidden_by border _ stages hidden = tt
 
-tried_hidden : (border : Border) (call : Tried) → AreHidden border call.deed.stages → AreHidden border (outcome_of call).stages
-tried_hidden border call hidden = judged_hidden border call.checks call.deed hidden
+call_hidden : (border : Border) (call : Called) → AreHidden border call.stages → AreHidden border (stages_of call)
+call_hidden border call hidden = hidden_by border (first_failing call.checks) call.stages hidden
 
 -- ---- rows
 
@@ -72,15 +72,13 @@ row_hidden border m s by book (Some entry) found hides =
     one_hidden border (At_row entry.seed.master entry.seed.slave by)
     (subst Q (sym (eqb-true entry.seed.slave s parts.1)) (subst P (sym (eqb-true entry.seed.master m parts.0)) hides))
 
-row_call_hidden : (border : Border) (m : ℕ) (by : Change) (call : RowView → Tried) (book : State) (slave : Option ℕ) → ((view : RowView) → (call view).deed ≡ done (row_changes by view)) → ((s : ℕ) → slave ≡ Some s → Hides border m s by) → AreHidden border (outcome_of (call (row_view_at m slave book))).stages
-row_call_hidden border m by call book None deed hides =
+row_call_hidden : (border : Border) (m : ℕ) (by : Change) (call : RowView → Called) (book : State) (slave : Option ℕ) → ((view : RowView) → (call view).stages ≡ row_changes by view ∷ []) → ((s : ℕ) → slave ≡ Some s → Hides border m s by) → AreHidden border (stages_of (call (row_view_at m slave book)))
+row_call_hidden border m by call book None does hides =
     let view : RowView = row_view_at m None book in
-    let P : Deed → Type 0 = λ d. AreHidden border d.stages in
-    tried_hidden border (call view) (subst P (sym (deed view)) (refl, tt))
-row_call_hidden border m by call book (Some s) deed hides =
+    call_hidden border (call view) (subst (AreHidden border) (sym (does view)) (refl, tt))
+row_call_hidden border m by call book (Some s) does hides =
     let view : RowView = row_view_at m (Some s) book in
-    let P : Deed → Type 0 = λ d. AreHidden border d.stages in
-    tried_hidden border (call view) (subst P (sym (deed view)) (row_hidden border m s by book (entry_at m s book.now.core.rows) refl (hides s refl), tt))
+    call_hidden border (call view) (subst (AreHidden border) (sym (does view)) (row_hidden border m s by book (entry_at m s book.now.core.rows) refl (hides s refl), tt))
 
 -- ---- processors
 
@@ -138,16 +136,16 @@ slave_hides border m s by plain within =
     ∙ (ap (λ b. border.master m && (false || b)) plain ∙ none_seen (border.master m))
 
 -- a call of a master within
-pub caller_hidden : KindLaws → (border : Border) (m : ℕ) (call : Call) (book : State) → HasClosed border book → border.master m ≡ false → AreHidden border (called m call book).stages
+pub caller_hidden : KindLaws → (border : Border) (m : ℕ) (call : Call) (book : State) → HasClosed border book → border.master m ≡ false → AreHidden border (stages_of (called m call book))
 caller_hidden laws border m (SelfSuspend node address) book closed within =
     let view = proc_view m node book in
-    tried_hidden border (self_suspend m address view) (put_hidden border m view.place Suspending address within, tt)
+    call_hidden border (self_suspend m address view) (put_hidden border m view.place Suspending address within, tt)
 caller_hidden laws border m (ForcePowerdown node ack) book closed within = force_hidden laws border m ack node book closed within
 caller_hidden laws border m (AbortSuspend node reason) book closed within =
     let view = proc_view m node book in
-    tried_hidden border (abort_suspend m reason (is_asked m book) view) (going_hidden border m view (is_in Suspending view) within, tt)
+    call_hidden border (abort_suspend m reason (is_asked m book) view) (going_hidden border m view (is_in Suspending view) within, tt)
 caller_hidden laws border m (RequestWakeup node address ack) book closed within =
-    tried_hidden border (request_wakeup address ack (wake_view m node book)) (caller_kind border m (kind_of book.fixed.topology node) address book closed within, tt)
+    call_hidden border (request_wakeup address ack (wake_view m node book)) (caller_kind border m (kind_of book.fixed.topology node) address book closed within, tt)
 caller_hidden laws border m (SetWakeupSource target source enable) book closed within =
     row_call_hidden border m (arming target enable) (set_wakeup_source target enable (proc_view m target book)) book (slave_place source book) (λ view. refl) (λ s is. master_hides border m s (arming target enable) within)
 caller_hidden laws border m (SystemShutdown shutdown_type subtype) book closed within =
@@ -163,9 +161,9 @@ caller_hidden laws border m (SetMaxLatency node latency) book closed within =
     row_call_hidden border m (Limit latency) (set_max_latency latency) book (slave_place node book) (λ view. refl) (λ s is. master_hides border m s (Limit latency) within)
 caller_hidden laws border m (ResetAssert line action) book closed within = reset_hidden border m line action book closed within
 caller_hidden laws border m InitFinalize book closed within =
-    tried_hidden border (init_finalize m) (one_hidden border (Settle m) within, tt)
+    call_hidden border (init_finalize m) (one_hidden border (Settle m) within, tt)
 caller_hidden laws border m Unknown book closed within = tt
-caller_hidden laws border m call book closed within = tried_hidden border (tried_by m call book) tt
+caller_hidden laws border m call book closed within = call_hidden border (called m call book) tt
 
 pub turned : (b : Bool) → not b ≡ true → b ≡ false
 turned true is = cc
@@ -188,11 +186,11 @@ target_kind border m (Power w) address book is = refl
 target_kind border m NoNode address book is = refl
 
 -- a call that changes a row on a slave within, or wakes a processor of a master within or asks such a master to suspend
-pub slave_hidden : (border : Border) (m : ℕ) (call : Call) (book : State) → changes_within border call book ≡ true → AreHidden border (called m call book).stages
+pub slave_hidden : (border : Border) (m : ℕ) (call : Call) (book : State) → changes_within border call book ≡ true → AreHidden border (stages_of (called m call book))
 slave_hidden border m (RequestSuspend node ack latency state) book is =
-    tried_hidden border (request_suspend m node ack latency state (suspend_view m node book)) tt
+    call_hidden border (request_suspend m node ack latency state (suspend_view m node book)) tt
 slave_hidden border m (RequestWakeup node address ack) book is =
-    tried_hidden border (request_wakeup address ack (wake_view m node book)) (target_kind border m (kind_of book.fixed.topology node) address book is, tt)
+    call_hidden border (request_wakeup address ack (wake_view m node book)) (target_kind border m (kind_of book.fixed.topology node) address book is, tt)
 slave_hidden border m (RequestNode node caps ack) book is =
     row_call_hidden border m (Request caps) (request_node caps ack) book (slave_place node book) (λ view. refl)
     (λ s at. slave_hides border m s (Request caps) refl (within_is border (slave_place node book) is s at))

@@ -1,6 +1,6 @@
 -- Nothing is seen of a force and of a shutdown by a master within reach.
-use Rattle.std.proofs.Common.{◌≡◌, ℕ, ◌+◌, Bool, true, false, ◌&&◌, ◌||◌, ◌==◌, if◌then◌else◌, List, [], ◌∷◌, ◌++◌, slice_get, Option, Some, None, is_none, is_some, nat_le, zero, suc, refl, sym, ◌∙◌, ap, inl, inr, arith}
-use Rattle.std.specs.List.{enumerate_from, list_all}
+use Rattle.std.proofs.Common.{◌≡◌, ℕ, ◌+◌, Bool, true, false, ◌&&◌, ◌||◌, ◌==◌, if◌then◌else◌, List, [], ◌∷◌, ◌++◌, slice_get, Option, Some, None, is_some, zero, suc, refl, sym, ◌∙◌, ap, inl, inr, arith}
+use Rattle.std.specs.List.{enumerate_from}
 use Rattle.std.proofs.lemmas.Bool.{eqb-true}
 use Rattle.std.proofs.lemmas.List.Elements.{filter-append}
 use Rattle.pm_base.proofs.Booleans.{both, either, first_passes, later_passes, pair_of}
@@ -15,22 +15,22 @@ use Rattle.pm_topology.specs.declared.topology.ProcDef.{ProcDef}
 use Rattle.pm_topology.specs.declared.topology.SlaveDef.{SlaveDef}
 use Rattle.pm_topology.specs.declared.topology.Topology.{Topology}
 use Rattle.pm_topology.specs.Places.{IsKind, KindLaws, is_below, kind_of}
-use Rattle.pm_ipi.specs.Calls.{ack_kind}
-use Rattle.pm_ipi.specs.Status.{invalid_node, invalid_parameter, no_access}
-use Rattle.pm_perms.specs.Permits.{can_be_forced, is_in, master_record, may_force, may_shut, pair_mask}
+use Rattle.pm_perms.specs.Permits.{is_in, master_record, may_force, may_shut, pair_mask}
 use Rattle.pm_reach.specs.Leads.{forces_above, forces_at, forces_proc}
 use Rattle.pm_core.specs.declared.scope.Scope.{Scope}
 use Rattle.pm_core.specs.declared.scope.Scope.TheVariants.{Under, Own, All}
 use Rattle.pm_core.specs.Members.{owner_at}
-use Rattle.pm_core.specs.Outcome.{Check, Deed, judged, must}
+use Rattle.pm_core.specs.Checks.{AllHold, Cause, Fits, Stands, first_failing}
 use Rattle.pm_core.specs.Prims.{Prim, Put_proc, Clear, Halt, Reload}
 use Rattle.pm_core.specs.Scope.{clear_at, clears, clears_from, is_slave_under, is_under, off_at, off_by, offs, offs_from, takes}
 use Rattle.pm_core.specs.State.{Fixed, State}
 use Rattle.pm_core.specs.Step.{called}
+use Rattle.pm_core.specs.Verdict.{Called, stages_by, stages_of}
 use Rattle.pm_core.specs.Views.{master_node}
 use Rattle.pm_core.specs.calls.ForcePowerdown.{force_powerdown}
 use Rattle.pm_core.specs.calls.SystemShutdown.{all_stages, first_own, own_stages, starting, system_shutdown, system_shutdown_checks}
 use Rattle.pm_ipi.specs.declared.calls.Call.TheVariants.{ForcePowerdown, SystemShutdown}
+use Rattle.pm_core.proofs.Verdicts.{all_hold}
 use Rattle.pm_laws.specs.Border.{Border, HasSome, IsClosed}
 use Rattle.pm_laws.specs.Seen.{seen, seen_part, IsUnseen, AreHidden}
 use Rattle.pm_laws.proofs.AgreeLaw.{clash}
@@ -38,19 +38,15 @@ use Rattle.pm_laws.proofs.HiddenLemmas.{HasClosed, one_hidden, within_by}
 use Rattle.pm_laws.proofs.Places.{StandsFrom, same_entry, stands_first, stands_from_start, stands_later}
 use Rattle.pm_laws.proofs.PrimFacts.{placed_by}
 
--- ---- a call whose checks pass
+-- ---- a call whose checks hold
 
-abbrev pub passes : Check → Bool
-passes check = is_none check
+hides_by : (border : Border) (cause : Cause) (stages : List (List Prim)) → (cause ≡ Stands Fits → AreHidden border stages) → AreHidden border (stages_by cause stages)
+hides_by border (Stands Fits) stages hides = hides refl
+hides_by border _ stages hides = tt
 
-judged_hides : (border : Border) (checks : List Check) (deed : Deed) → (list_all passes checks ≡ true → AreHidden border deed.stages) → AreHidden border (judged checks deed).stages
-judged_hides border [] deed hides = hides refl
-judged_hides border (None ∷ checks) deed hides = judged_hides border checks deed hides
-judged_hides border (Some response ∷ checks) deed hides = tt
-
-pub must_pass : (holds : Bool) (status : ℕ) → passes (must holds status) ≡ true → holds ≡ true
-must_pass true status is = refl
-must_pass false status is = cc
+pub call_hides : (border : Border) (call : Called) → (AllHold call.checks → AreHidden border call.stages) → AreHidden border (stages_of call)
+call_hides border call hides =
+    hides_by border (first_failing call.checks) call.stages (λ fits. hides (all_hold call.checks fits))
 
 -- ---- processors that go off
 
@@ -139,20 +135,15 @@ slave_forced object t master forced (Proc p) node is under may = cc
 slave_forced object t master forced (Slave s) node is under may = cc
 slave_forced object t master forced Unknown node is under may = cc
 
-pub force_hidden : KindLaws → (border : Border) (m ack : ℕ) (node : NodeId) (book : State) → HasClosed border book → border.master m ≡ false → AreHidden border (called m (ForcePowerdown node ack) book).stages
+pub force_hidden : KindLaws → (border : Border) (m ack : ℕ) (node : NodeId) (book : State) → HasClosed border book → border.master m ≡ false → AreHidden border (stages_of (called m (ForcePowerdown node ack) book))
 force_hidden laws border m ack node book closed within =
     let fixed : Fixed = book.fixed in
     let object : Object = fixed.object in
     let t : Topology = fixed.topology in
     let caller : NodeId = master_node object.masters m in
     let call = force_powerdown fixed m node ack in
-    judged_hides border call.checks call.deed (λ passing.
-    let first = passes (must (is_some (ack_kind ack)) invalid_parameter) in
-    let second = passes (must (can_be_forced (kind_of t node)) invalid_node) in
-    let third = passes (must (may_force object t caller node) no_access) in
-    let rest = both first (second && (third && true)) passing in
-    let last = both second (third && true) rest.1 in
-    let may : may_force object t caller node ≡ true = must_pass (may_force object t caller node) no_access (both third true last.1).0 in
+    call_hides border call (λ all.
+    let may : may_force object t caller node ≡ true = all.permitted in
     let takes_within : TakesWithin border fixed (Under node) = λ q proc here under k own.
     within_by (border.master k) (border.master m)
     (closed.forces m k q proc here (proc_forced object t caller node (kind_of t node) q proc (laws.is t node) here under may) own) within
@@ -201,15 +192,10 @@ more_shut object t caller subtype more may =
     ]
 
 -- the checks of a shutdown that is no scope: the caller may shut that much down
-pub may_shut_down : (fixed : Fixed) (m shutdown_type subtype : ℕ) → (shutdown_type == 2) ≡ false → list_all passes (system_shutdown_checks fixed m shutdown_type subtype) ≡ true → may_shut fixed.object fixed.topology (master_node fixed.object.masters m) subtype ≡ true
-may_shut_down fixed m shutdown_type subtype no_scope passing =
+pub may_shut_down : (fixed : Fixed) (m shutdown_type subtype : ℕ) → (shutdown_type == 2) ≡ false → AllHold (system_shutdown_checks fixed m shutdown_type subtype) → may_shut fixed.object fixed.topology (master_node fixed.object.masters m) subtype ≡ true
+may_shut_down fixed m shutdown_type subtype no_scope all =
     let may : Bool = may_shut fixed.object fixed.topology (master_node fixed.object.masters m) subtype in
-    let first = passes (must (nat_le shutdown_type 2 && nat_le subtype 2) invalid_parameter) in
-    let second = passes (must ((shutdown_type == 2) || may) no_access) in
-    let one : ((shutdown_type == 2) || may) ≡ true =
-    must_pass ((shutdown_type == 2) || may) no_access (both second true (both first (second && true) passing).1).0
-    in
-    sym (ap (λ b. b || may) no_scope) ∙ one
+    sym (ap (λ b. b || may) no_scope) ∙ all.permitted
 
 -- so where a master within may shut down more than itself, no master is beyond
 pub none_beyond : (border : Border) (fixed : Fixed) (m subtype : ℕ) → IsClosed fixed.object fixed.topology border → border.master m ≡ false → (subtype == 0) ≡ false → may_shut fixed.object fixed.topology (master_node fixed.object.masters m) subtype ≡ true → border.some ≡ false
@@ -217,16 +203,16 @@ none_beyond border fixed m subtype closed within more may =
     within_by border.some (border.master m)
     (closed.shuts m (more_shut fixed.object fixed.topology (master_node fixed.object.masters m) subtype more may)) within
 
-stages_hidden : (border : Border) (fixed : Fixed) (m shutdown_type subtype : ℕ) (scope own restarts : Bool) → IsClosed fixed.object fixed.topology border → border.master m ≡ false → (shutdown_type == 2) ≡ scope → (subtype == 0) ≡ own → list_all passes (system_shutdown_checks fixed m shutdown_type subtype) ≡ true
+stages_hidden : (border : Border) (fixed : Fixed) (m shutdown_type subtype : ℕ) (scope own restarts : Bool) → IsClosed fixed.object fixed.topology border → border.master m ≡ false → (shutdown_type == 2) ≡ scope → (subtype == 0) ≡ own → AllHold (system_shutdown_checks fixed m shutdown_type subtype)
     → AreHidden border (if scope then [] else if own then own_stages fixed m restarts else all_stages fixed restarts)
-stages_hidden border fixed m shutdown_type subtype true own restarts closed within is_scope is_own passing = tt
-stages_hidden border fixed m shutdown_type subtype false true restarts closed within is_scope is_own passing = own_hidden border fixed m restarts within
-stages_hidden border fixed m shutdown_type subtype false false restarts closed within is_scope is_own passing =
+stages_hidden border fixed m shutdown_type subtype true own restarts closed within is_scope is_own all = tt
+stages_hidden border fixed m shutdown_type subtype false true restarts closed within is_scope is_own all = own_hidden border fixed m restarts within
+stages_hidden border fixed m shutdown_type subtype false false restarts closed within is_scope is_own all =
     all_hidden border fixed restarts closed.some
-    (none_beyond border fixed m subtype closed within is_own (may_shut_down fixed m shutdown_type subtype is_scope passing))
+    (none_beyond border fixed m subtype closed within is_own (may_shut_down fixed m shutdown_type subtype is_scope all))
 
-pub shutdown_hidden : (border : Border) (m shutdown_type subtype : ℕ) (book : State) → HasClosed border book → border.master m ≡ false → AreHidden border (called m (SystemShutdown shutdown_type subtype) book).stages
+pub shutdown_hidden : (border : Border) (m shutdown_type subtype : ℕ) (book : State) → HasClosed border book → border.master m ≡ false → AreHidden border (stages_of (called m (SystemShutdown shutdown_type subtype) book))
 shutdown_hidden border m shutdown_type subtype book closed within =
     let call = system_shutdown book.fixed m shutdown_type subtype in
-    judged_hides border call.checks call.deed
+    call_hides border call
     (stages_hidden border book.fixed m shutdown_type subtype (shutdown_type == 2) (subtype == 0) (shutdown_type == 1) closed within refl refl)

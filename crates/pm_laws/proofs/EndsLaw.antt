@@ -1,41 +1,35 @@
 -- The requests to suspend that end in a step: of a hidden event nothing is seen of them, and of any other the same in two books
 -- that agree.
 use Rattle.std.proofs.Common.{◌≡◌, ℕ, ◌+◌, Bool, true, false, not, ◌&&◌, ◌||◌, if◌then◌else◌, List, [], ◌∷◌, ◌++◌, Option, Some, None, refl, sym, ◌∙◌, ap, inl, inr}
-use Rattle.std.specs.Prelude.{option_and_then}
 use Rattle.std.specs.List.{AllByRecursion as Each}
 use Rattle.std.proofs.lemmas.List.Elements.{filter-append}
 use Rattle.pm_base.specs.declared.events.Event.{Event}
-use Rattle.pm_base.specs.declared.events.Event.TheVariants.{Ipi, Tick}
-use Rattle.pm_base.specs.declared.events.Message.{Message}
+use Rattle.pm_base.specs.declared.events.Event.TheVariants.{Tick}
 use Rattle.pm_base.specs.declared.names.Mode.{Mode}
-use Rattle.pm_base.proofs.Booleans.{either, neither}
-use Rattle.pm_ipi.specs.Calls.{call_of}
 use Rattle.pm_procs.specs.declared.pending.Pending.{Pending}
 use Rattle.pm_procs.specs.Modes.{same_mode}
 use Rattle.pm_core.specs.declared.ended.Ended.{Ended}
 use Rattle.pm_core.specs.Ended.{due_after, ended_at, ended_from, ended_with, ends_with, ever, goes_down, goes_on, modes_along, turns_along, turns_of}
 use Rattle.pm_core.specs.Members.{is_place, mode_of_master}
-use Rattle.pm_core.specs.Outcome.{Outcome}
 use Rattle.pm_core.specs.Sound.{ArmsOwn, KnowsModes}
 use Rattle.pm_core.specs.State.{Fixed, Now, State}
-use Rattle.pm_core.specs.Step.{aborts, aborts_of, asks, asks_of, called, ended, heard_at, is_heard, path, registers, registers_of, stages, time_of}
+use Rattle.pm_core.specs.Step.{ended, path, says, stages, time_of}
+use Rattle.pm_core.specs.Verdict.{aborted_by}
 use Rattle.pm_core.specs.Talk.{Talk, Lower, lower_by}
-use Rattle.pm_core.specs.Values.{master_place}
 use Rattle.pm_laws.specs.Agree.{SamePending, Same, Agree}
 use Rattle.pm_laws.specs.Border.{Border, HasSome, IsBeyond}
 use Rattle.pm_laws.specs.Both.{Both, BothFrom}
-use Rattle.pm_laws.specs.Hidden.{is_within, changes_within, is_hidden}
+use Rattle.pm_laws.specs.Hidden.{is_hidden}
 use Rattle.pm_laws.specs.SeenTalk.{IsTalkUnseen, ends_beyond}
 use Rattle.pm_laws.proofs.AgreeLaw.{clash}
 use Rattle.pm_laws.proofs.CallsAlike.{book_of, kept}
 use Rattle.pm_laws.proofs.CallsHidden.{turned}
-use Rattle.pm_laws.proofs.HeardLaw.{heard_same as heard_alike}
 use Rattle.pm_laws.proofs.HiddenLemmas.{HasClosed}
-use Rattle.pm_laws.proofs.CallsTold.{OutcomeWithin, OutcomesSay, SaysAlike, SaysWithin, call_says, caller_says, nothing_said, target_says}
 use Rattle.pm_laws.proofs.EventsLaw.{event_alike, event_hidden, some_beyond}
 use Rattle.pm_laws.proofs.FollowLaw.{book_mode_alike, stays_same}
 use Rattle.pm_laws.proofs.PathLaw.{path_alike, path_hidden}
 use Rattle.pm_laws.proofs.RowFacts.{BelowLaws}
+use Rattle.pm_laws.proofs.VerdictsLaw.{event_within, none_aborts, says_alike}
 
 -- the mode of the master at place k in a book
 abbrev pub mode_in : ℕ → State → Mode
@@ -143,23 +137,6 @@ module _ (border : Border) (aborts count : Option ℕ) where
 
 -- ---- hidden events
 
-heard_within : (border : Border) (outcome : Outcome) (awake : Bool) → OutcomeWithin border outcome → SaysWithin border (asks_of (if awake then Some outcome else None)) (aborts_of (if awake then Some outcome else None)) (registers_of (if awake then Some outcome else None))
-heard_within border outcome true within = within
-heard_within border outcome false within = nothing_said border
-
-message_within : (border : Border) (message : Message) (book : State) (place : Option ℕ) → HasClosed border book → (is_within border place || changes_within border (call_of message) book) ≡ true → SaysWithin border (asks_of (option_and_then (heard_at message book) place)) (aborts_of (option_and_then (heard_at message book) place)) (registers_of (option_and_then (heard_at message book) place))
-message_within border message book None closed is = nothing_said border
-message_within border message book (Some m) closed is =
-    heard_within border (called m (call_of message) book) (is_heard m book)
-    (elim (either (not (border.master m)) (changes_within border (call_of message) book) is) [
-      | inl within ↦ caller_says border m (call_of message) book closed (turned (border.master m) within)
-      | inr target ↦ target_says border m (call_of message) book target
-    ])
-
-pub event_within : (border : Border) (event : Event) (book : State) → HasClosed border book → is_hidden border event book ≡ true → SaysWithin border (asks event book) (aborts event book) (registers event book)
-event_within border (Ipi master message) book closed is = message_within border message book (master_place master book) closed is
-event_within border _ book closed is = nothing_said border
-
 -- where a master is beyond no time passes in a hidden event
 pub no_time : (border : Border) (event : Event) (book : State) → border.some ≡ true → is_hidden border event book ≡ true → time_of event book ≡ None
 no_time border (Tick count) book some is = clash border.some some (turned border.some is)
@@ -174,7 +151,7 @@ time_unseen border (Tick count) book is = tick_unseen border count book.now.core
 time_unseen border _ book is = refl
 
 module _ (laws : BelowLaws) (border : Border) where
-  rests_by : (event : Event) (still now : State) → HasClosed border now → KnowsModes still → is_hidden border event now ≡ true → Agree border still now → (k : ℕ) → IsBeyond border k → Rests now (path event now) (aborts event now) (time_of event now) k
+  rests_by : (event : Event) (still now : State) → HasClosed border now → KnowsModes still → is_hidden border event now ≡ true → Agree border still now → (k : ℕ) → IsBeyond border k → Rests now (path event now) (aborted_by (says event now)) (time_of event now) k
   rests_by event still now closed knows is agree k beyond =
       let books : Each (Agree border still) (path event now) =
       path_hidden laws border (stages event now) still now knows (event_hidden laws.kinds border event now closed is) agree
@@ -182,36 +159,17 @@ module _ (laws : BelowLaws) (border : Border) where
       record {
         down = never laws border k beyond goes_down still now (path event now) agree books;
         on = never laws border k beyond goes_on still now (path event now) agree books;
-        aborts = (event_within border event now closed is).aborts k beyond;
+        aborts = none_aborts border (says event now) (event_within border now event closed is) k beyond;
         time = no_time border event now (closed.some k beyond) is;
       }
 
   -- no request to a master beyond ends in a hidden event
   pub ended_hidden : (event : Event) (still now : State) → HasClosed border now → KnowsModes still → is_hidden border event now ≡ true → Agree border still now → ends_beyond border (ended event now) ≡ []
   ended_hidden event still now closed knows is agree =
-      ends_unseen border (aborts event now) (time_of event now) now (path event now)
+      ends_unseen border (aborted_by (says event now)) (time_of event now) now (path event now)
       (rests_by event still now closed knows is agree) 0 now.now.talk.pending
 
 -- ---- all other events
-
-heard_same : (first second : Outcome) (x y : Bool) → x ≡ y → OutcomesSay first second → SaysAlike (asks_of (if x then Some first else None)) (asks_of (if y then Some second else None)) (aborts_of (if x then Some first else None)) (aborts_of (if y then Some second else None)) (registers_of (if x then Some first else None)) (registers_of (if y then Some second else None))
-heard_same first second true true is same = same
-heard_same first second true false is same = cc
-heard_same first second false true is same = cc
-heard_same first second false false is same = record { asks = refl; aborts = refl; puts = refl }
-
-message_same : BelowLaws → (fixed : Fixed) (border : Border) (message : Message) (place : Option ℕ) (a b : Now) → (is_within border place || changes_within border (call_of message) (book_of fixed a)) ≡ false → Same fixed border a b → SaysAlike (asks_of (option_and_then (heard_at message (book_of fixed a)) place)) (asks_of (option_and_then (heard_at message (book_of fixed b)) place)) (aborts_of (option_and_then (heard_at message (book_of fixed a)) place)) (aborts_of (option_and_then (heard_at message (book_of fixed b)) place)) (registers_of (option_and_then (heard_at message (book_of fixed a)) place)) (registers_of (option_and_then (heard_at message (book_of fixed b)) place))
-message_same laws fixed border message None a b is same = cc
-message_same laws fixed border message (Some m) a b is same =
-    let parts = neither (not (border.master m)) (changes_within border (call_of message) (book_of fixed a)) is in
-    let beyond : IsBeyond border m = kept (border.master m) parts.0 in
-    heard_same (called m (call_of message) (book_of fixed a)) (called m (call_of message) (book_of fixed b))
-    (is_heard m (book_of fixed a)) (is_heard m (book_of fixed b)) (heard_alike laws fixed border m a b beyond same)
-    (call_says laws fixed border m (call_of message) a b beyond parts.1 same)
-
-pub event_same : BelowLaws → (fixed : Fixed) (border : Border) (event : Event) (a b : Now) → is_hidden border event (book_of fixed a) ≡ false → Same fixed border a b → SaysAlike (asks event (book_of fixed a)) (asks event (book_of fixed b)) (aborts event (book_of fixed a)) (aborts event (book_of fixed b)) (registers event (book_of fixed a)) (registers event (book_of fixed b))
-event_same laws fixed border (Ipi master message) a b is same = message_same laws fixed border message (master_place master (book_of fixed a)) a b is same
-event_same laws fixed border _ a b is same = record { asks = refl; aborts = refl; puts = refl }
 
 -- the same time passes
 tick_same : (count : ℕ) (x y : Bool) → x ≡ y → (if x then None else Some count) ≡ (if y then None else Some count)
@@ -230,7 +188,7 @@ ended_alike laws fixed border event a b armed some is same =
     let books : Both (Agree border) (path event first) (path event second) =
     path_alike laws border (stages event first) (stages event second) first second (some_beyond border event first some is) (event_alike laws fixed border event a b armed some is same) agree
     in
-    ends_alike border (aborts event first) (time_of event first) first second (path event first) (path event second)
+    ends_alike border (aborted_by (says event first)) (time_of event first) first second (path event first) (path event second)
     (λ k beyond. turns_alike laws border k beyond first second (path event first) (path event second) agree books) 0 a.talk.pending b.talk.pending same.talk.pending
-    ∙ (ap (λ own. ends_beyond border (ended_from (turns_along second (path event second)) own (time_of event first) 0 b.talk.pending)) (event_same laws fixed border event a b is same).aborts
-    ∙ ap (λ count. ends_beyond border (ended_from (turns_along second (path event second)) (aborts event second) count 0 b.talk.pending)) (time_same fixed border event a b is same))
+    ∙ (ap (λ own. ends_beyond border (ended_from (turns_along second (path event second)) own (time_of event first) 0 b.talk.pending)) (ap aborted_by (says_alike laws fixed border a b same event is))
+    ∙ ap (λ count. ends_beyond border (ended_from (turns_along second (path event second)) (aborted_by (says event second)) count 0 b.talk.pending)) (time_same fixed border event a b is same))

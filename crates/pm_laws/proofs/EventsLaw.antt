@@ -17,11 +17,11 @@ use Rattle.pm_topology.specs.declared.places.Kind.TheVariants.{Proc, Slave, Powe
 use Rattle.pm_topology.specs.Places.{KindLaws, kind_of}
 use Rattle.pm_core.specs.Events.{boot, boot_at, boot_by, booted, wait, wait_at, wait_by, waits, interrupt, interrupt_at, interrupt_by, raised}
 use Rattle.pm_core.specs.Members.{is_place, owner_at, owns}
-use Rattle.pm_core.specs.Outcome.{Outcome}
+use Rattle.pm_core.specs.Verdict.{Called, stages_of}
 use Rattle.pm_core.specs.Prims.{Prim, Put_proc}
 use Rattle.pm_core.specs.Sound.{ArmsOwn}
 use Rattle.pm_core.specs.State.{Fixed, Now, State}
-use Rattle.pm_core.specs.Step.{called, heard_at, is_heard, stages_of, stages}
+use Rattle.pm_core.specs.Step.{called, heard_at, is_heard, message_stages, stages}
 use Rattle.pm_core.specs.Values.{master_place}
 use Rattle.pm_laws.specs.Agree.{Same}
 use Rattle.pm_laws.specs.Border.{Border, HasSome, IsBeyond}
@@ -37,11 +37,11 @@ use Rattle.pm_laws.proofs.RowFacts.{BelowLaws}
 
 -- ---- hidden events
 
-heard_hidden : (border : Border) (outcome : Outcome) (awake : Bool) → AreHidden border outcome.stages → AreHidden border (stages_of (if awake then Some outcome else None))
-heard_hidden border outcome true hidden = hidden
-heard_hidden border outcome false hidden = tt
+heard_hidden : (border : Border) (call : Called) (heard : Bool) → AreHidden border (stages_of call) → AreHidden border (message_stages (if heard then Some call else None))
+heard_hidden border call true hidden = hidden
+heard_hidden border call false hidden = tt
 
-message_hidden : KindLaws → (border : Border) (message : Message) (book : State) (place : Option ℕ) → HasClosed border book → (is_within border place || changes_within border (call_of message) book) ≡ true → AreHidden border (stages_of (option_and_then (heard_at message book) place))
+message_hidden : KindLaws → (border : Border) (message : Message) (book : State) (place : Option ℕ) → HasClosed border book → (is_within border place || changes_within border (call_of message) book) ≡ true → AreHidden border (message_stages (option_and_then (heard_at (call_of message) book) place))
 message_hidden laws border message book None closed is = tt
 message_hidden laws border message book (Some m) closed is =
     heard_hidden border (called m (call_of message) book) (is_heard m book)
@@ -130,13 +130,13 @@ some_beyond border (Irq slave) book some is = kept border.some is
 some_beyond border (Tick count) book some is = kept border.some is
 some_beyond border _ book some is = cc
 
-heard_alike : (border : Border) (first second : Outcome) (a b : Bool) → a ≡ b → AreAlike border first.stages second.stages → AreAlike border (stages_of (if a then Some first else None)) (stages_of (if b then Some second else None))
+heard_alike : (border : Border) (first second : Called) (a b : Bool) → a ≡ b → AreAlike border (stages_of first) (stages_of second) → AreAlike border (message_stages (if a then Some first else None)) (message_stages (if b then Some second else None))
 heard_alike border first second true true is alike = alike
 heard_alike border first second true false is alike = cc
 heard_alike border first second false true is alike = cc
 heard_alike border first second false false is alike = tt
 
-message_alike : BelowLaws → (fixed : Fixed) (border : Border) (message : Message) (place : Option ℕ) (a b : Now) → HasSome border → (is_within border place || changes_within border (call_of message) (book_of fixed a)) ≡ false → Same fixed border a b → AreAlike border (stages_of (option_and_then (heard_at message (book_of fixed a)) place)) (stages_of (option_and_then (heard_at message (book_of fixed b)) place))
+message_alike : BelowLaws → (fixed : Fixed) (border : Border) (message : Message) (place : Option ℕ) (a b : Now) → HasSome border → (is_within border place || changes_within border (call_of message) (book_of fixed a)) ≡ false → Same fixed border a b → AreAlike border (message_stages (option_and_then (heard_at (call_of message) (book_of fixed a)) place)) (message_stages (option_and_then (heard_at (call_of message) (book_of fixed b)) place))
 message_alike laws fixed border message None a b some is same = cc
 message_alike laws fixed border message (Some m) a b some is same =
     let parts = neither (not (border.master m)) (changes_within border (call_of message) (book_of fixed a)) is in

@@ -20,7 +20,7 @@ use Rattle.pm_rows.specs.declared.row.RowSeed.{RowSeed}
 use Rattle.pm_rows.specs.Rows.{is_at, is_of_other, is_used_by, is_used_by_others, entry_at, now_of}
 use Rattle.pm_core.specs.Members.{is_place, mode_of_master, owner_at, owns}
 use Rattle.pm_core.specs.State.{Fixed, Now, State}
-use Rattle.pm_core.specs.Step.{tried_by}
+use Rattle.pm_core.specs.Step.{called}
 use Rattle.pm_core.specs.Values.{point_at}
 use Rattle.pm_core.specs.Views.{can_wake, is_asked, named_master, names_master, proc_view, row_view, status_view, status_view_at, suspend_view, suspendable, wake_view_at, wakeable}
 use Rattle.pm_core.specs.calls.AbortSuspend.{abort_suspend}
@@ -198,7 +198,7 @@ module _ (laws : BelowLaws) (kinds : KindLaws) (fixed : Fixed) (border : Border)
 
   -- ---- calls
 
-  pub call_same : (m : ℕ) (call : Call) → IsBeyond border m → names_beyond fixed.topology border call ≡ true → tried_by m call first ≡ tried_by m call second
+  pub call_same : (m : ℕ) (call : Call) → IsBeyond border m → names_beyond fixed.topology border call ≡ true → called m call first ≡ called m call second
   call_same m GetApiVersion beyond is = refl
   call_same m (GetNodeStatus node) beyond is = ap get_node_status (status_same m node (closed.some m beyond) is)
   call_same m (GetOpCharacteristic node characteristic) beyond is =

@@ -16,7 +16,7 @@ use Rattle.pm_notify.specs.declared.notes.NodeEvent.TheVariants as event
 use Rattle.pm_notify.specs.declared.notes.Note.{Note}
 use Rattle.pm_notify.specs.declared.notes.Note.TheVariants.{Ack, Change, ZeroUsers}
 use Rattle.pm_notify.specs.declared.notes.Waiting.{Waiting}
-use Rattle.pm_notify.specs.Mailbox.{Mail}
+use Rattle.pm_notify.specs.MasterNotes.{MasterNotes}
 use Rattle.pm_notify.specs.NodeNotes.{asks}
 use Rattle.pm_procs.specs.declared.pending.Pending.{Pending}
 use Rattle.pm_procs.specs.Pending.{pending_at}
@@ -41,7 +41,7 @@ use Rattle.pm_laws.specs.SeenTalk.{ends_beyond, is_about_beyond, notes_beyond}
 use Rattle.pm_laws.proofs.AgreeLaw.{clash}
 use Rattle.pm_laws.proofs.CallsAlike.{book_of, rows_both}
 use Rattle.pm_laws.proofs.JudgedLaw.{on_slave, unit_named}
-use Rattle.pm_laws.proofs.MailFacts.{notes_same}
+use Rattle.pm_laws.proofs.MasterNotesFacts.{notes_same}
 use Rattle.pm_laws.proofs.Places.{Both-count, StandsFrom, stands_first, stands_from_start, stands_later}
 use Rattle.pm_laws.proofs.ValuesLaw.{kind_alike}
 
@@ -49,20 +49,20 @@ use Rattle.pm_laws.proofs.ValuesLaw.{kind_alike}
 
 -- each of these notes is about a node within
 abbrev pub AreWithin : Border → List Waiting → Type 0
-AreWithin border notes = Each (λ (w : Waiting). is_about_beyond border w ≡ false) notes
+AreWithin border due = Each (λ (w : Waiting). is_about_beyond border w ≡ false) due
 
-pub none_beyond : (border : Border) (notes : List Waiting) → AreWithin border notes → notes_beyond border notes ≡ []
+pub none_beyond : (border : Border) (due : List Waiting) → AreWithin border due → notes_beyond border due ≡ []
 none_beyond border [] within = refl
-none_beyond border (w ∷ notes) within =
-    ap (λ b. cond b (w ∷ notes_beyond border notes) (notes_beyond border notes)) within.0 ∙ none_beyond border notes within.1
+none_beyond border (w ∷ due) within =
+    ap (λ b. cond b (w ∷ notes_beyond border due) (notes_beyond border due)) within.0 ∙ none_beyond border due within.1
 
 -- those of one list and those of another after it
 pub beyond_append : (border : Border) (a b c d : List Waiting) → notes_beyond border a ≡ notes_beyond border c → notes_beyond border b ≡ notes_beyond border d
     → notes_beyond border (a ++ b) ≡ notes_beyond border (c ++ d)
 beyond_append border a b c d first second =
     filter-append (is_about_beyond border) a b
-    ∙ (ap (λ notes. notes ++ notes_beyond border b) first
-    ∙ (ap (λ notes. notes_beyond border c ++ notes) second ∙ sym (filter-append (is_about_beyond border) c d)))
+    ∙ (ap (λ due. due ++ notes_beyond border b) first
+    ∙ (ap (λ due. notes_beyond border c ++ due) second ∙ sym (filter-append (is_about_beyond border) c d)))
 
 -- ---- requests that ended
 
@@ -137,26 +137,26 @@ module _ (border : Border) where
   about_within false true n within = (within, tt)
   about_within false false n within = tt
 
-  noticed_within : (mail : Mail) (notes : List Waiting) → AreWithin border notes → notes_beyond border (flat_map (noticed_by mail) notes) ≡ []
-  noticed_within mail [] within = refl
-  noticed_within mail (w ∷ notes) within =
-      beyond_append border (noticed_by mail w) (flat_map (noticed_by mail) notes) [] [] (at (is_wanted mail w w.note)) (noticed_within mail notes within.1)
+  noticed_within : (notes : MasterNotes) (due : List Waiting) → AreWithin border due → notes_beyond border (flat_map (noticed_by notes) due) ≡ []
+  noticed_within notes [] within = refl
+  noticed_within notes (w ∷ due) within =
+      beyond_append border (noticed_by notes w) (flat_map (noticed_by notes) due) [] [] (at (is_wanted notes w w.note)) (noticed_within notes due within.1)
     where
       at : (wanted : Bool) → notes_beyond border (if wanted then w ∷ [] else []) ≡ []
       at true = none_beyond border (w ∷ []) (within.0, tt)
       at false = refl
 
-  -- the same is wanted by two mails that are alike
-  wanted_alike : (x y : Mail) → Both (SameEntry border) x y → (w : Waiting) (note : Note) → is_wanted x w note ≡ is_wanted y w note
+  -- the same is wanted by notes that are alike
+  wanted_alike : (x y : MasterNotes) → Both (SameEntry border) x y → (w : Waiting) (note : Note) → is_wanted x w note ≡ is_wanted y w note
   wanted_alike x y same w (Ack status) = refl
   wanted_alike x y same w Change = ap (asks event.Change) (notes_same border w.node x y same).notifiers
   wanted_alike x y same w ZeroUsers = ap (asks event.ZeroUsers) (notes_same border w.node x y same).notifiers
 
-  noticed_alike : (x y : Mail) → Both (SameEntry border) x y → (notes : List Waiting) → flat_map (noticed_by x) notes ≡ flat_map (noticed_by y) notes
+  noticed_alike : (x y : MasterNotes) → Both (SameEntry border) x y → (due : List Waiting) → flat_map (noticed_by x) due ≡ flat_map (noticed_by y) due
   noticed_alike x y same [] = refl
-  noticed_alike x y same (w ∷ notes) =
-      ap (λ b. (if b then w ∷ [] else []) ++ flat_map (noticed_by x) notes) (wanted_alike x y same w w.note)
-      ∙ ap (λ later. noticed_by y w ++ later) (noticed_alike x y same notes)
+  noticed_alike x y same (w ∷ due) =
+      ap (λ b. (if b then w ∷ [] else []) ++ flat_map (noticed_by x) due) (wanted_alike x y same w w.note)
+      ∙ ap (λ later. noticed_by y w ++ later) (noticed_alike x y same due)
 
 module _ (fixed : Fixed) (border : Border) (closed : IsClosed fixed.object fixed.topology border) (some : border.some ≡ true) where
   user_elsewhere : (s : ℕ) (z : Entry) → (z.seed.slave == s) ≡ false → is_user s z ≡ false
@@ -189,13 +189,13 @@ module _ (fixed : Fixed) (border : Border) (closed : IsClosed fixed.object fixed
         ∙ (ap (λ t. notes_about (not (value u (book_of fixed b) == value u (book_of fixed d))) (t && not (used u (book_of fixed c))) u) (node_used a b before n is)
         ∙ ap (λ t. notes_about (not (value u (book_of fixed b) == value u (book_of fixed d))) (used u (book_of fixed b) && not t) u) (node_used c d after n is)))
 
-    module _ (x y : Mail) (mail : Both (SameEntry border) x y) where
+    module _ (x y : MasterNotes) (notes : Both (SameEntry border) x y) where
       node_notices : (n : NodeId) (is : Bool) → border.node n.0 ≡ is
           → notes_beyond border (flat_map (noticed_by x) (happened (book_of fixed a) (book_of fixed c) (Node n)))
           ≡ notes_beyond border (flat_map (noticed_by y) (happened (book_of fixed b) (book_of fixed d) (Node n)))
       node_notices n true is =
-          ap (λ notes. notes_beyond border (flat_map (noticed_by x) notes)) (node_happened n is)
-          ∙ ap (notes_beyond border) (noticed_alike border x y mail (happened (book_of fixed b) (book_of fixed d) (Node n)))
+          ap (λ due. notes_beyond border (flat_map (noticed_by x) due)) (node_happened n is)
+          ∙ ap (notes_beyond border) (noticed_alike border x y notes (happened (book_of fixed b) (book_of fixed d) (Node n)))
       node_notices n false is =
           let changed = λ (p q : Now). not (value (Node n) (book_of fixed p) == value (Node n) (book_of fixed q)) in
           let freed = λ (p q : Now). used (Node n) (book_of fixed p) && not (used (Node n) (book_of fixed q)) in
@@ -220,7 +220,7 @@ module _ (fixed : Fixed) (border : Border) (closed : IsClosed fixed.object fixed
           (flat_map (noticed_by y) (second u)) (flat_map (noticed_by y) (flat_map second units)) (unit_notices u) (among units)
           ∙ ap (notes_beyond border) (sym (flat_map-append (noticed_by y) (second u) (flat_map second units))))
 
-      -- what the masters with these mails hear of nodes beyond
+      -- what the masters with these notes hear of nodes beyond
       pub notices_alike : notes_beyond border (flat_map (noticed_by x) (notifications (book_of fixed a) (book_of fixed c)))
           ≡ notes_beyond border (flat_map (noticed_by y) (notifications (book_of fixed b) (book_of fixed d)))
       notices_alike = among (units_of fixed.topology)
@@ -240,7 +240,7 @@ module _ (fixed : Fixed) (border : Border) (closed : IsClosed fixed.object fixed
   among_rests : (a : Now) (units : List Unit) → flat_map (happened (book_of fixed a) (book_of fixed a)) units ≡ []
   among_rests a [] = refl
   among_rests a (u ∷ units) =
-      ap (λ notes. notes ++ flat_map (happened (book_of fixed a) (book_of fixed a)) units) (unit_rests a u) ∙ among_rests a units
+      ap (λ due. due ++ flat_map (happened (book_of fixed a) (book_of fixed a)) units) (unit_rests a u) ∙ among_rests a units
 
   pub notices_rest : (a : Now) → notifications (book_of fixed a) (book_of fixed a) ≡ []
   notices_rest a = among_rests a (units_of fixed.topology)

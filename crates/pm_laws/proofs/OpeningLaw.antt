@@ -6,13 +6,12 @@ use Rattle.std.proofs.lemmas.List.Elements.{filter-append}
 use Rattle.pm_base.specs.declared.events.Event.{Event}
 use Rattle.pm_object.specs.declared.object.MasterRec.{MasterRec}
 use Rattle.pm_core.specs.declared.ended.Ended.{Ended}
-use Rattle.pm_core.specs.declared.judgement.Asked.{Asked}
-use Rattle.pm_core.specs.declared.judgement.Notifier.{Notifier}
+use Rattle.pm_core.specs.declared.verdict.Say.{Say}
 use Rattle.pm_core.specs.Ended.{goes_off, turns_along}
 use Rattle.pm_core.specs.Sound.{ArmsOwn, KnowsModes}
 use Rattle.pm_core.specs.State.{Fixed, Now, State}
-use Rattle.pm_core.specs.Step.{asks, ended, forgets, opening, path, registers, renews, stages, time_of}
-use Rattle.pm_core.specs.Talk.{End, Forget, Talk, ask_of, ends, forget_at, forgets_from, lower_by, notify_by, renew_if, talk_of}
+use Rattle.pm_core.specs.Step.{ended, forgets, opening, path, says, stages, time_of}
+use Rattle.pm_core.specs.Talk.{End, Forget, Talk, ends, forget_at, forgets_from, lower_by, renew_by, say_by, talk_of}
 use Rattle.pm_laws.specs.Agree.{Agree, Same}
 use Rattle.pm_laws.specs.Border.{Border, HasSome, IsBeyond}
 use Rattle.pm_laws.specs.Both.{Both}
@@ -20,12 +19,11 @@ use Rattle.pm_laws.specs.Hidden.{is_hidden}
 use Rattle.pm_laws.specs.SeenTalk.{IsTalkUnseen, ends_beyond, seen_talk, talk_part}
 use Rattle.pm_laws.proofs.CallsAlike.{book_of}
 use Rattle.pm_laws.proofs.HiddenLemmas.{HasClosed}
-use Rattle.pm_laws.proofs.CallsTold.{unasked}
-use Rattle.pm_laws.proofs.EndsLaw.{ended_alike, ended_hidden, event_same, event_within, never, time_same, time_unseen, turns_alike}
+use Rattle.pm_laws.proofs.EndsLaw.{ended_alike, ended_hidden, never, time_same, time_unseen, turns_alike}
 use Rattle.pm_laws.proofs.EventsLaw.{event_alike, event_hidden, some_beyond}
 use Rattle.pm_laws.proofs.PathLaw.{path_alike, path_hidden}
-use Rattle.pm_laws.proofs.RenewsLaw.{renewal_unseen, renews_same}
 use Rattle.pm_laws.proofs.RowFacts.{BelowLaws}
+use Rattle.pm_laws.proofs.VerdictsLaw.{event_within, renewal_unseen, say_unseen, says_alike}
 
 module _ (border : Border) where
   -- ---- lists
@@ -84,20 +82,18 @@ module _ (border : Border) where
 
   -- ---- all of it
 
-  opening_same : (all any : Bool) (fs gs : List Talk) (put : Option Notifier) (asked : Option Asked) (count : Option ℕ) (es : List Ended) (other : Option Notifier) (also : Option Asked) (time : Option ℕ) (ends_too : List Ended)
-      → talk_part border (renew_if all) ≡ talk_part border (renew_if any)
+  opening_same : (said other : Option Say) (fs gs : List Talk) (count time : Option ℕ) (es ends_too : List Ended)
+      → talk_part border (renew_by said) ≡ talk_part border (renew_by other)
       → talk_part border fs ≡ talk_part border gs
-      → talk_part border (notify_by put) ≡ talk_part border (notify_by other)
-      → talk_part border (ask_of asked) ≡ talk_part border (ask_of also)
+      → talk_part border (say_by said) ≡ talk_part border (say_by other)
       → talk_part border (lower_by count) ≡ talk_part border (lower_by time)
       → ends_beyond border es ≡ ends_beyond border ends_too
-      → talk_part border (talk_of all fs put asked count es) ≡ talk_part border (talk_of any gs other also time ends_too)
-  opening_same all any fs gs put asked count es other also time ends_too renewal forgets puts asks passes end =
-      parts_alike (renew_if all) (fs ++ (notify_by put ++ (ask_of asked ++ (lower_by count ++ ends es)))) (renew_if any) (gs ++ (notify_by other ++ (ask_of also ++ (lower_by time ++ ends ends_too)))) renewal
-      (parts_alike fs (notify_by put ++ (ask_of asked ++ (lower_by count ++ ends es))) gs (notify_by other ++ (ask_of also ++ (lower_by time ++ ends ends_too))) forgets
-      (parts_alike (notify_by put) (ask_of asked ++ (lower_by count ++ ends es)) (notify_by other) (ask_of also ++ (lower_by time ++ ends ends_too)) puts
-      (parts_alike (ask_of asked) (lower_by count ++ ends es) (ask_of also) (lower_by time ++ ends ends_too) asks
-      (parts_alike (lower_by count) (ends es) (lower_by time) (ends ends_too) passes (ends_seen es ends_too end)))))
+      → talk_part border (talk_of said fs count es) ≡ talk_part border (talk_of other gs time ends_too)
+  opening_same said other fs gs count time es ends_too renewal forgets says passes end =
+      parts_alike (renew_by said) (fs ++ (say_by said ++ (lower_by count ++ ends es))) (renew_by other) (gs ++ (say_by other ++ (lower_by time ++ ends ends_too))) renewal
+      (parts_alike fs (say_by said ++ (lower_by count ++ ends es)) gs (say_by other ++ (lower_by time ++ ends ends_too)) forgets
+      (parts_alike (say_by said) (lower_by count ++ ends es) (say_by other) (lower_by time ++ ends ends_too) says
+      (parts_alike (lower_by count) (ends es) (lower_by time) (ends ends_too) passes (ends_seen es ends_too end))))
 
 module _ (laws : BelowLaws) (border : Border) where
   -- of a hidden event nothing is seen
@@ -106,11 +102,11 @@ module _ (laws : BelowLaws) (border : Border) where
       let books : Each (Agree border still) (path event now) =
       path_hidden laws border (stages event now) still now knows (event_hidden laws.kinds border event now closed is) agree
       in
-      let says = event_within border event now closed is in
-      opening_same border (renews event now) false (forgets event now) [] (registers event now) (asks event now) (time_of event now) (ended event now) None None None []
-      (renewal_unseen border event now closed is)
+      let within = event_within border now event closed is in
+      opening_same border (says event now) None (forgets event now) [] (time_of event now) None (ended event now) []
+      (renewal_unseen border (says event now) within)
       (forgets_hidden border now (path event now) (λ k beyond. never laws border k beyond goes_off still now (path event now) agree books) 0 now.fixed.object.masters)
-      says.puts (unasked border (asks event now) says.asks) (time_unseen border event now is)
+      (say_unseen border (says event now) within) (time_unseen border event now is)
       (ended_hidden laws border event still now closed knows is agree)
 
   pub opening_alike : (fixed : Fixed) (event : Event) (a b : Now) → ArmsOwn (book_of fixed a) → HasSome border → is_hidden border event (book_of fixed a) ≡ false → Same fixed border a b
@@ -123,12 +119,11 @@ module _ (laws : BelowLaws) (border : Border) where
       path_alike laws border (stages event first) (stages event second) first second (some_beyond border event first some is)
       (event_alike laws fixed border event a b armed some is same) agree
       in
-      let says = event_same laws fixed border event a b is same in
-      opening_same border (renews event first) (renews event second) (forgets event first) (forgets event second) (registers event first) (asks event first) (time_of event first) (ended event first)
-      (registers event second) (asks event second) (time_of event second) (ended event second)
-      (ap (λ all. talk_part border (renew_if all)) (renews_same laws fixed border event a b is same))
+      let said = says_alike laws fixed border a b same event is in
+      opening_same border (says event first) (says event second) (forgets event first) (forgets event second) (time_of event first) (time_of event second) (ended event first) (ended event second)
+      (ap (λ x. talk_part border (renew_by x)) said)
       (forgets_alike border first second (path event first) (path event second)
       (λ k beyond. turns_alike laws border k beyond first second (path event first) (path event second) agree books) 0 fixed.object.masters)
-      (ap (λ put. talk_part border (notify_by put)) says.puts) (ap (λ asked. talk_part border (ask_of asked)) says.asks)
+      (ap (λ x. talk_part border (say_by x)) said)
       (ap (λ count. talk_part border (lower_by count)) (time_same fixed border event a b is same))
       (ended_alike laws fixed border event a b armed some is same)

@@ -39,6 +39,7 @@ use Rattle.pm_laws.specs.Border.{Border, IsBeyond, IsClosed, IsPairClosed, IsUse
 use Rattle.pm_laws.specs.ReachBorder.{border_of, brings_in, entry_beyond, master_beyond, number_beyond, place_of, reset_beyond, unit_border}
 use Rattle.pm_laws.proofs.NamedLaw.{named_beyond}
 use Rattle.pm_laws.proofs.HiddenLemmas.{within_by}
+use Rattle.pm_laws.proofs.OwnsLaw.{owner_owns}
 use Rattle.pm_laws.proofs.PairsLaw.{IsPermitted, pairs_permitted, permitted_use}
 use Rattle.pm_laws.proofs.Places.{StandsFrom, same_entry, stands_first, stands_from_start, stands_later}
 use Rattle.pm_laws.proofs.Records.{configures_there, forces_above_there, forces_there, record_place, resets_there, same_node, shuts_there, suspends_there, wakes_there}
@@ -94,7 +95,7 @@ module _ (laws : ReachLaws) (object : Object) (t : Topology) (formed : IsObject 
   owner_is p k proc is own = sym (ap (λ o. option_and_then (λ (proc : ProcDef). owner object t proc.node) o) is) ∙ own
 
   owned : (p k : ℕ) (proc : ProcDef) → slice_get t.procs p ≡ Some proc → owner_at object t p ≡ Some k → owns object t k proc.node ≡ true
-  owned p k proc is own = ap (λ o. option_map_or (λ (j : ℕ). j == k) o false) (owner_is p k proc is own) ∙ equal k k refl
+  owned p k proc is own = owner_owns object t proc.node k (owner_is p k proc is own)
 
   forces : (m k p : ℕ) (proc : ProcDef) → slice_get t.procs p ≡ Some proc
       → forces_proc object t (number m) proc.node ≡ true

@@ -3,7 +3,8 @@ use Rattle.std.proofs.Common.{◌≡◌, Bool, true, false, [], None, refl, ap, 
 use Rattle.pm_base.specs.declared.events.Event.{Event}
 use Rattle.pm_core.specs.Sound.{IsSound}
 use Rattle.pm_core.specs.State.{Fixed, Now, State}
-use Rattle.pm_core.specs.Step.{asks, ended, talk}
+use Rattle.pm_core.specs.Step.{asks, ended, says, talk}
+use Rattle.pm_core.specs.Verdict.{asked_by as asked_of_says}
 use Rattle.pm_laws.specs.Agree.{Same, Agree}
 use Rattle.pm_laws.specs.Border.{Border, IsClosed}
 use Rattle.pm_laws.specs.Hidden.{is_hidden}
@@ -11,16 +12,17 @@ use Rattle.pm_laws.specs.SeenTalk.{talk_part, IsTalkUnseen, asks_beyond, ends_be
 use Rattle.pm_laws.proofs.AgreeLaw.{agree_self}
 use Rattle.pm_laws.proofs.CallsAlike.{book_of}
 use Rattle.pm_laws.proofs.HiddenLemmas.{HasClosed}
-use Rattle.pm_laws.proofs.EndsLaw.{ended_alike, ended_hidden, event_same, event_within}
+use Rattle.pm_laws.proofs.EndsLaw.{ended_alike, ended_hidden}
 use Rattle.pm_laws.proofs.EventsLaw.{hidden_fixed}
 use Rattle.pm_laws.proofs.RowFacts.{BelowLaws}
 use Rattle.pm_laws.proofs.TellingsLaw.{talk_alike, talk_hidden}
+use Rattle.pm_laws.proofs.VerdictsLaw.{event_within, none_asked, says_alike}
 
 module _ (laws : BelowLaws) (border : Border) (event : Event) where
   -- ---- a hidden event, of one book
 
   pub asked_hidden : (book : State) → HasClosed border book → is_hidden border event book ≡ true → asks_beyond border (asks event book) ≡ None
-  asked_hidden book closed is = (event_within border event book closed is).asks
+  asked_hidden book closed is = none_asked border (says event book) (event_within border book event closed is)
 
   pub ends_hidden : (book : State) → HasClosed border book → IsSound book → is_hidden border event book ≡ true → ends_beyond border (ended event book) ≡ []
   ends_hidden book closed sound is = ended_hidden laws border event book book closed sound.knows is (agree_self laws.units border book closed sound)
@@ -33,7 +35,7 @@ module _ (laws : BelowLaws) (border : Border) (event : Event) where
   asked_by : (fixed : Fixed) (a b : Now) (hidden : Bool) → is_hidden border event (book_of fixed a) ≡ hidden → HasClosed border (book_of fixed a) → Same fixed border a b → asks_beyond border (asks event (book_of fixed a)) ≡ asks_beyond border (asks event (book_of fixed b))
   asked_by fixed a b true is closed same =
       asked_hidden (book_of fixed a) closed is ∙ sym (asked_hidden (book_of fixed b) closed (sym (hidden_fixed fixed border event a b) ∙ is))
-  asked_by fixed a b false is closed same = ap (asks_beyond border) (event_same laws fixed border event a b is same).asks
+  asked_by fixed a b false is closed same = ap (asks_beyond border) (ap asked_of_says (says_alike laws fixed border a b same event is))
 
   ends_by : (fixed : Fixed) (a b : Now) (hidden : Bool) → is_hidden border event (book_of fixed a) ≡ hidden → HasClosed border (book_of fixed a) → IsSound (book_of fixed a) → IsSound (book_of fixed b) → Same fixed border a b → ends_beyond border (ended event (book_of fixed a)) ≡ ends_beyond border (ended event (book_of fixed b))
   ends_by fixed a b true is closed sound_a sound_b same =

@@ -1,15 +1,13 @@
 -- Nothing is seen of a reset by a master within reach: the line is within, and so is the master whose processor it resets.
-use Rattle.std.proofs.Common.{◌≡◌, ℕ, ◌==◌, Bool, true, false, if◌then◌else◌, List, [], ◌∷◌, ◌++◌, slice_get, is_some, Option, Some, None, refl, sym, ◌∙◌, ap, subst}
+use Rattle.std.proofs.Common.{◌≡◌, ℕ, ◌==◌, Bool, true, false, if◌then◌else◌, List, [], ◌∷◌, ◌++◌, slice_get, Option, Some, None, refl, sym, ◌∙◌, ap, subst}
 use Rattle.std.specs.Prelude.{option_and_then}
 use Rattle.std.specs.Option.{option_map_or}
 use Rattle.std.proofs.lemmas.Bool.{eqb-true}
 use Rattle.pm_base.specs.declared.names.LineId.{LineId}
 use Rattle.pm_base.specs.declared.names.Mode.TheVariants.{Off}
 use Rattle.pm_base.specs.declared.names.NodeId.{NodeId}
-use Rattle.pm_base.proofs.Booleans.{equal}
 use Rattle.pm_base.proofs.Searches.{position-first}
 use Rattle.pm_ipi.specs.declared.calls.Call.TheVariants.{ResetAssert}
-use Rattle.pm_ipi.specs.Status.{invalid_node, invalid_parameter, no_access}
 use Rattle.pm_object.specs.declared.object.Object.{Object}
 use Rattle.pm_perms.specs.Owner.{owner}
 use Rattle.pm_perms.specs.Permits.{may_reset}
@@ -20,20 +18,21 @@ use Rattle.pm_topology.specs.declared.topology.LineDef.{LineDef}
 use Rattle.pm_topology.specs.declared.topology.ProcDef.{ProcDef}
 use Rattle.pm_topology.specs.declared.topology.Topology.{Topology}
 use Rattle.pm_topology.specs.Places.{kind_at, kind_of, proc_place}
-use Rattle.pm_core.specs.declared.lines.LineView.{LineView}
-use Rattle.pm_core.specs.declared.lines.OwnedProc.{OwnedProc}
-use Rattle.pm_core.specs.Lines.{line_view, owned_by, owned_node, owned_of, reset_at, reset_by}
+use Rattle.pm_core.specs.declared.reset_lines.OwnedProc.{OwnedProc}
+use Rattle.pm_core.specs.ResetLines.{line_view, owned_by, owned_node, owned_of, reset_at, reset_by}
 use Rattle.pm_core.specs.Members.{owner_at}
-use Rattle.pm_core.specs.Outcome.{Deed, judged, must}
+use Rattle.pm_core.specs.Verdict.{stages_of}
 use Rattle.pm_core.specs.Prims.{Prim, Put_line, Put_proc}
 use Rattle.pm_core.specs.State.{State}
 use Rattle.pm_core.specs.Step.{called}
 use Rattle.pm_core.specs.Values.{line_place}
 use Rattle.pm_core.specs.Views.{master_node}
-use Rattle.pm_core.specs.calls.ResetAssert.{is_action, line_put, reset_assert, stopped, stopped_by}
+use Rattle.pm_core.specs.calls.ResetAssert.{line_put, stopped, stopped_by}
 use Rattle.pm_laws.specs.Border.{Border, IsClosed}
 use Rattle.pm_laws.specs.Seen.{seen, seen_part, IsUnseen, AreHidden}
+use Rattle.pm_laws.proofs.DownHidden.{call_hides}
 use Rattle.pm_laws.proofs.HiddenLemmas.{within_by}
+use Rattle.pm_laws.proofs.OwnsLaw.{owner_owns}
 
 -- ---- changes
 
@@ -67,7 +66,7 @@ owner_of_node object t node p is =
 targets_owner : (object : Object) (t : Topology) (line : LineDef) (node : NodeId) (k : ℕ) → line.target ≡ Some node → owner object t node ≡ Some k → targets object t line k ≡ true
 targets_owner object t line node k target is =
     ap (λ o. option_map_or (owns object t k) o false) target
-    ∙ (ap (λ o. option_map_or (λ j. j == k) o false) is ∙ equal k k refl)
+    ∙ owner_owns object t node k is
 
 module _ (border : Border) (book : State) (closed : IsClosed book.fixed.object book.fixed.topology border) (m l : ℕ) (line : LineDef)
     (here : slice_get book.fixed.topology.lines l ≡ Some line)
@@ -130,15 +129,7 @@ placed_unseen border m line action book (Some l) closed within at may =
     (line_within border book closed m l entry.line entry.here entry.may within)
     (stops_unseen border (action == 0) (reset_at (Some l) book.fixed) (reset_within border book closed m l entry.line entry.here entry.may within))
 
--- a call with these three checks is hidden where its changes are once the last one passes
-checked_hidden : (border : Border) (a b c : Bool) (deed : Deed) → (c ≡ true → AreHidden border deed.stages) → AreHidden border (judged (must a invalid_node ∷ must b invalid_parameter ∷ must c no_access ∷ []) deed).stages
-checked_hidden border true true true deed hidden = hidden refl
-checked_hidden border true true false deed hidden = tt
-checked_hidden border true false c deed hidden = tt
-checked_hidden border false b c deed hidden = tt
-
-pub reset_hidden : (border : Border) (m : ℕ) (line : LineId) (action : ℕ) (book : State) → IsClosed book.fixed.object book.fixed.topology border → border.master m ≡ false → AreHidden border (called m (ResetAssert line action) book).stages
+pub reset_hidden : (border : Border) (m : ℕ) (line : LineId) (action : ℕ) (book : State) → IsClosed book.fixed.object book.fixed.topology border → border.master m ≡ false → AreHidden border (stages_of (called m (ResetAssert line action) book))
 reset_hidden border m line action book closed within =
-    let view : LineView = line_view m line book in
-    checked_hidden border (is_some view.place) (is_action action) view.permitted (reset_assert line action view).deed
-    (λ may. (placed_unseen border m line action book (line_place line book.fixed) closed within refl may, tt))
+    call_hides border (called m (ResetAssert line action) book)
+    (λ all. (placed_unseen border m line action book (line_place line book.fixed) closed within refl all.permitted, tt))

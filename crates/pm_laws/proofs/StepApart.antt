@@ -1,54 +1,41 @@
--- One step in two books that agree beyond the reach of a master, without its message in one of them.
-use Rattle.std.proofs.Common.{◌≡◌, ℕ, ◌==◌, Bool, true, false, not, cond, if◌then◌else◌, List, [], ◌∷◌, filter, position, Option, None, Some, refl, ap, sym, ◌∙◌, subst}
+-- One core step in two books that agree beyond the reach of a master, without its message in one of them.
+use Rattle.std.proofs.Common.{◌≡◌, ℕ, ◌==◌, Bool, true, false, not, if◌then◌else◌, position, Option, None, Some, refl, ap, sym, ◌∙◌, subst}
 use Rattle.std.specs.List.{list_any}
 use Rattle.std.proofs.lemmas.Bool.{eqb-true}
 use Rattle.pm_base.specs.declared.events.Event.{Event}
 use Rattle.pm_base.specs.declared.events.Event.TheVariants.{Ipi, Pass}
 use Rattle.pm_base.specs.declared.events.Message.{Message}
 use Rattle.pm_base.specs.declared.names.NodeId.{NodeId}
-use Rattle.pm_base.specs.declared.names.Unit.{Unit}
 use Rattle.pm_base.proofs.Booleans.{both}
 use Rattle.pm_object.specs.declared.object.MasterRec.{MasterRec}
+use Rattle.pm_object.specs.declared.object.Object.{Object}
 use Rattle.pm_object.specs.Grammar.{IsObject}
-use Rattle.pm_topology.specs.Units.{units_of}
+use Rattle.pm_topology.specs.declared.topology.Topology.{Topology}
 use Rattle.pm_topology.specs.WellFormed.{IsWellFormed}
 use Rattle.pm_reach.proofs.MembershipLaw.{is_there}
 use Rattle.pm_core.specs.Sound.{IsSound}
 use Rattle.pm_core.specs.State.{Fixed, State}
-use Rattle.pm_core.specs.Step.{effect, outputs}
-use Rattle.pm_core.specs.Values.{value}
+use Rattle.pm_core.specs.Step.{effect}
+use Rattle.pm_core.specs.Values.{master_place}
+use Rattle.pm_run.specs.Run.{core_of}
 use Rattle.pm_laws.specs.Agree.{Agree}
-use Rattle.pm_laws.specs.Answers.{is_dropped, message_beyond, sender_beyond}
-use Rattle.pm_laws.specs.Border.{Border, none_within}
-use Rattle.pm_laws.specs.Hidden.{is_within}
+use Rattle.pm_laws.specs.Beside.{IsOwn}
+use Rattle.pm_laws.specs.Border.{Border, IsClosed, none_within}
+use Rattle.pm_laws.specs.Hidden.{is_hidden, is_within}
 use Rattle.pm_laws.specs.Left.{border_in}
 use Rattle.pm_laws.specs.Quiet.{quiet_event}
-use Rattle.pm_laws.specs.ReachBorder.{place_of}
-use Rattle.pm_laws.specs.Values.{is_beyond, moves_beyond, starts_beyond}
-use Rattle.pm_laws.proofs.ReachRun.{OutputLaws}
-use Rattle.pm_laws.proofs.ReachStep.{ApartLaws, event_apart, message_apart}
+use Rattle.pm_laws.specs.ReachBorder.{border_of, place_of}
+use Rattle.pm_laws.specs.Told.{SameTold, TellsNothing}
+use Rattle.pm_laws.proofs.ToldLaw.{StepLaws, nothing_told, same_told}
 
--- ---- lists
-
--- of what passes one test, those that pass another one, where the first test is the same for these
-filter_alike : {X : Type 0} (q p r : X → Bool) → ((x : X) → q x ≡ true → p x ≡ r x) → (xs : List X) → filter q (filter p xs) ≡ filter q (filter r xs)
-filter_alike q p r same [] = refl
-filter_alike {X} q p r same (x ∷ xs) = at (q x) refl (filter_alike q p r same xs)
-  where
-    -- one that doesn't pass the second test
-    left_out : (b : Bool) (ys : List X) → q x ≡ false → filter q (cond b (x ∷ ys) ys) ≡ filter q ys
-    left_out true ys is = ap (λ t. cond t (x ∷ filter q ys) (filter q ys)) is
-    left_out false ys is = refl
-
-    -- one that does
-    taken : (b : Bool) (ys zs : List X) → filter q ys ≡ filter q zs → filter q (cond b (x ∷ ys) ys) ≡ filter q (cond b (x ∷ zs) zs)
-    taken true ys zs later = ap (λ l. cond (q x) (x ∷ l) l) later
-    taken false ys zs later = later
-
-    at : (b : Bool) → q x ≡ b → filter q (filter p xs) ≡ filter q (filter r xs) → filter q (filter p (x ∷ xs)) ≡ filter q (filter r (x ∷ xs))
-    at true is later =
-        ap (λ t. filter q (cond t (x ∷ filter p xs) (filter p xs))) (same x is) ∙ taken (r x) (filter p xs) (filter r xs) later
-    at false is later = left_out (p x) (filter p xs) is ∙ later ∙ sym (left_out (r x) (filter r xs) is)
+-- what is known of the border of a reach, and of books that agree
+pub record ReachLaws : Type 0 where
+  pub closed : (object : Object) (t : Topology) (m : NodeId) → IsObject object → IsWellFormed t → IsClosed object t (border_of object t m)
+  pub own : (m : NodeId) (book : State) → is_within (border_of book.fixed.object book.fixed.topology m) (master_place m book) ≡ true
+  pub messages : (border : Border) (master : NodeId) (message : Message) (book : State)
+      → is_within border (master_place master book) ≡ true → is_hidden border (Ipi master message) book ≡ true
+  pub turned : (border : Border) (a b : State) → Agree border a b → Agree border b a
+  pub through : (border : Border) (a b c : State) → Agree border a b → Agree border b c → Agree border a c
 
 -- ---- an event, or nothing
 
@@ -74,66 +61,87 @@ within_itself : (border : Border) (place : Option ℕ) → (place ≡ None → �
 within_itself border None there within beyond = there refl
 within_itself border (Some k) there within beyond = not_beyond (border.master k) within beyond
 
-module _ (laws : ApartLaws) (m : NodeId) (a b : State) where
-  abbrev edge : Border
-  edge = border_in a m
+module _ (reach : ReachLaws) (steps : StepLaws) (m : NodeId) where
+  -- the messages of a master are hidden from beyond its reach
+  own_hidden : (event : Event) (a : State) → IsOwn m event → is_hidden (border_in a m) event a ≡ true
+  own_hidden (Ipi master message) a is =
+      reach.messages (border_in a m) master message a
+      (ap (λ (n : ℕ). is_within (border_in a m) (position (λ (r : MasterRec). r.node == n) a.fixed.object.masters)) is ∙ reach.own m a)
+  own_hidden event a is = absurd is
 
-  abbrev IsNamed : Type 0
-  IsNamed = list_any (λ (r : MasterRec). r.node == m.0) a.fixed.object.masters ≡ true
+  module _ (a b : State) (object : IsObject a.fixed.object) (chip : IsWellFormed a.fixed.topology) (sound_a : IsSound a) (sound_b : IsSound b) (agree : Agree (border_in a m) a b) where
+    abbrev edge : Border
+    edge = border_in a m
 
-  own_beyond : IsNamed → none_within edge (place_of a.fixed.object m) ≡ true → ⊥
-  own_beyond named beyond =
-      within_itself edge (place_of a.fixed.object m) (is_there (λ (r : MasterRec). r.node == m.0) a.fixed.object.masters named) (laws.own m a) beyond
+    closed_a : IsClosed a.fixed.object a.fixed.topology edge
+    closed_a = reach.closed a.fixed.object a.fixed.topology m object chip
 
-  pub agree_after : (event : Event) → IsObject a.fixed.object → IsWellFormed a.fixed.topology → IsSound a → IsSound b → Agree edge a b
-      → Agree edge (effect event a) (effect (quiet_event m event) b)
-  agree_after event object chip sound_a sound_b agree =
-      by_quiet m (λ one other. Agree edge (effect one a) (effect other b))
-      (λ one. event_apart laws m one a b object chip sound_a sound_b agree)
-      (λ message. message_apart laws m message a b object chip sound_a sound_b agree) event
+    closed_b : IsClosed b.fixed.object b.fixed.topology edge
+    closed_b = let P : Fixed → Type 0 = λ fixed. IsClosed fixed.object fixed.topology edge in subst P agree.fixed closed_a
 
-  pub values_beyond : (unit : Unit) → IsObject a.fixed.object → IsWellFormed a.fixed.topology → Agree edge a b
-      → is_beyond a.fixed.object a.fixed.topology edge unit ≡ true → value unit a ≡ value unit b
-  values_beyond unit object chip agree beyond = laws.values edge unit a b (laws.closed a.fixed.object a.fixed.topology m object chip) beyond agree
+    pub both_apart : (event : Event) → Agree edge (effect event a) (effect event b)
+        × SameTold a.fixed.object a.fixed.topology edge (core_of event a) (core_of event b)
+    both_apart event = (
+      steps.both edge event a b closed_a sound_a sound_b agree,
+      same_told steps edge event a b closed_a sound_a sound_b agree object chip,
+    )
 
-  pub moves_after : (event : Event) → IsObject a.fixed.object → IsWellFormed a.fixed.topology → IsSound a → IsSound b → Agree edge a b
-      → moves_beyond a.fixed.object a.fixed.topology edge (outputs event a).moved
-      ≡ moves_beyond a.fixed.object a.fixed.topology edge (outputs (quiet_event m event) b).moved
-  moves_after event object chip sound_a sound_b agree =
-      let other : Event = quiet_event m event in
-      let closed = laws.closed a.fixed.object a.fixed.topology m object chip in
-      let after : Agree edge (effect event a) (effect other b) = agree_after event object chip sound_a sound_b agree in
-      let beyond : Unit → Bool = is_beyond a.fixed.object a.fixed.topology edge in
-      let moves : Unit → Bool = λ u. not (value u a == value u (effect event a)) in
-      let other_moves : Unit → Bool = λ u. not (value u b == value u (effect other b)) in
-      filter_alike beyond moves other_moves
-      (λ u is. ap (λ (n : ℕ). not (n == value u (effect event a))) (laws.values edge u a b closed is agree)
-      ∙ ap (λ (n : ℕ). not (value u b == n)) (laws.values edge u (effect event a) (effect other b) closed is after))
-      (units_of a.fixed.topology)
-      ∙ ap (λ (fixed : Fixed). filter beyond (filter other_moves (units_of fixed.topology))) agree.fixed
+    pub left_apart : (event : Event) → IsOwn m event → Agree edge (effect event a) b
+        × TellsNothing a.fixed.object a.fixed.topology edge (core_of event a)
+    left_apart event own =
+        let is = own_hidden event a own in (
+          steps.hidden edge event a b closed_a sound_a sound_b is agree,
+          nothing_told steps edge event a closed_a sound_a is object,
+        )
 
-  module _ (outs : OutputLaws) where
-    pub starts_after : (event : Event) → IsObject a.fixed.object → IsWellFormed a.fixed.topology → IsSound a → IsSound b → Agree edge a b
-        → starts_beyond a.fixed.object a.fixed.topology edge (outputs event a).starts
-        ≡ starts_beyond a.fixed.object a.fixed.topology edge (outputs (quiet_event m event) b).starts
-    starts_after event object chip sound_a sound_b agree =
-        let closed = laws.closed a.fixed.object a.fixed.topology m object chip in
-        by_quiet m
-        (λ one other. starts_beyond a.fixed.object a.fixed.topology edge (outputs one a).starts ≡ starts_beyond a.fixed.object a.fixed.topology edge (outputs other b).starts)
-        (λ one. outs.same_starts edge one a b closed sound_a sound_b agree)
-        (λ message. outs.quiet_starts edge (Ipi m message) a b closed sound_a sound_b (laws.messages edge m message a (laws.own m a)) agree)
-        event
+    -- a book in which nothing happens stays
+    pub rest_apart : Agree edge a (effect Pass b) × TellsNothing a.fixed.object a.fixed.topology edge (core_of Pass b)
+    rest_apart =
+        let stays : Agree edge (effect Pass b) b = steps.hidden edge Pass b b closed_b sound_b sound_b refl (steps.itself edge b closed_b sound_b) in
+        let P : Fixed → Type 0 = λ fixed. IsObject fixed.object in
+        let Q : Fixed → Type 0 = λ fixed. TellsNothing fixed.object fixed.topology edge (core_of Pass b) in (
+          reach.through edge a b (effect Pass b) agree (reach.turned edge (effect Pass b) b stays),
+          subst Q (sym agree.fixed) (nothing_told steps edge Pass b closed_b sound_b refl (subst P agree.fixed object)),
+        )
 
-    pub drops_after : (event : Event) → IsNamed → Agree edge a b → sender_beyond a.fixed.object edge event ≡ true
-        → is_dropped (outputs event a).answer ≡ is_dropped (outputs (quiet_event m event) b).answer
-    drops_after event named agree =
-        by_quiet m (λ one other. sender_beyond a.fixed.object edge one ≡ true → is_dropped (outputs one a).answer ≡ is_dropped (outputs other b).answer)
-        (λ one beyond. outs.drops edge one a b agree beyond) (λ message beyond. absurd (own_beyond named beyond)) event
+-- ---- an event in the one book, and in the other the same, or nothing where it is a message of the master
 
-    pub answers_after : (event : Event) → IsObject a.fixed.object → IsWellFormed a.fixed.topology → IsNamed → IsSound a → IsSound b → Agree edge a b
-        → message_beyond a.fixed.object a.fixed.topology edge event ≡ true
-        → (outputs event a).answer ≡ (outputs (quiet_event m event) b).answer
-    answers_after event object chip named sound_a sound_b agree =
-        by_quiet m (λ one other. message_beyond a.fixed.object a.fixed.topology edge one ≡ true → (outputs one a).answer ≡ (outputs other b).answer)
-        (λ one beyond. outs.answers edge one a b chip (laws.closed a.fixed.object a.fixed.topology m object chip) sound_a sound_b agree beyond)
-        (λ message beyond. absurd (own_beyond named (both _ _ beyond).0)) event
+-- who tells nothing tells the same, where the master is one of the object, whose message is of nobody beyond
+pub agree_quiet : ReachLaws → StepLaws → (m : NodeId) (event : Event) (a b : State) → IsObject a.fixed.object → IsWellFormed a.fixed.topology
+    → IsSound a → IsSound b → Agree (border_in a m) a b
+    → Agree (border_in a m) (effect event a) (effect (quiet_event m event) b)
+agree_quiet reach steps m event a b object chip sound_a sound_b agree =
+    by_quiet m (λ one other. Agree (border_in a m) (effect one a) (effect other b))
+    (λ one. (both_apart reach steps m a b object chip sound_a sound_b agree one).0)
+    (λ message.
+    let still : Agree (border_in a m) a (effect Pass b) = (rest_apart reach steps m a b object chip sound_a sound_b agree).0 in
+    let itself : Agree (border_in a m) a a = steps.itself (border_in a m) a (reach.closed a.fixed.object a.fixed.topology m object chip) sound_a in
+    reach.through (border_in a m) (effect (Ipi m message) a) a (effect Pass b)
+    (left_apart reach steps m a a object chip sound_a sound_a itself (Ipi m message) refl).0 still)
+    event
+
+pub told_quiet : ReachLaws → StepLaws → (m : NodeId) (event : Event) (a b : State) → IsObject a.fixed.object → IsWellFormed a.fixed.topology
+    → list_any (λ (r : MasterRec). r.node == m.0) a.fixed.object.masters ≡ true
+    → IsSound a → IsSound b → Agree (border_in a m) a b
+    → SameTold a.fixed.object a.fixed.topology (border_in a m) (core_of event a) (core_of (quiet_event m event) b)
+told_quiet reach steps m event a b object chip named sound_a sound_b agree =
+    by_quiet m (λ one other. SameTold a.fixed.object a.fixed.topology (border_in a m) (core_of one a) (core_of other b))
+    (λ one. (both_apart reach steps m a b object chip sound_a sound_b agree one).1)
+    (λ message.
+    let first = (left_apart reach steps m a b object chip sound_a sound_b agree (Ipi m message) refl).1 in
+    let second = (rest_apart reach steps m a b object chip sound_a sound_b agree).1 in
+    let own_beyond : none_within (border_in a m) (place_of a.fixed.object m) ≡ true → ⊥ =
+    within_itself (border_in a m) (place_of a.fixed.object m) (is_there (λ (r : MasterRec). r.node == m.0) a.fixed.object.masters named) (reach.own m a)
+    in
+    record {
+      moves = first.moves ∙ sym second.moves;
+      starts = first.starts ∙ sym second.starts;
+      pulse = first.pulse ∙ sym second.pulse;
+      asked = first.asked ∙ sym second.asked;
+      ends = first.ends ∙ sym second.ends;
+      late = first.late ∙ sym second.late;
+      calls = first.calls ∙ sym second.calls;
+      drop = λ beyond. absurd (own_beyond beyond);
+      answer = λ beyond. absurd (own_beyond (both _ _ beyond).0);
+    })
+    event

@@ -2,39 +2,39 @@
 -- and made in one alone it does so too. So do lists of changes of which the same part is seen.
 use Rattle.std.proofs.Common.{◌≡◌, ℕ, Bool, true, false, ◌&&◌, if◌then◌else◌, List, [], ◌∷◌, Some, None, unwrap_or, refl, sym, ap, subst, arith}
 use Rattle.std.specs.Prelude.{option_map, slice_set}
-use Rattle.pm_notify.specs.Mailbox.{Mail, forgotten, with_note, with_notifier, without_note}
-use Rattle.pm_notify.specs.Notify.{mail_of}
+use Rattle.pm_notify.specs.MasterNotes.{MasterNotes, forgotten, with_note, with_notifier, without_note}
+use Rattle.pm_notify.specs.Notify.{notes_for}
 use Rattle.pm_procs.specs.Pending.{dropped, lowered}
 use Rattle.pm_core.specs.State.{TalkHalf, State}
 use Rattle.pm_core.specs.Talk.{Talk, Ask, Lower, End, Renew, Forget, Notify, Take, Wait, apply_talk, talks, talked}
-use Rattle.pm_laws.specs.Agree.{SameEntries, SameMail, SamePending, SameTalk, Agree}
+use Rattle.pm_laws.specs.Agree.{SameEntries, SameMasterNotes, SamePending, SameTalk, Agree}
 use Rattle.pm_laws.specs.Border.{Border, HasSome, IsBeyond}
 use Rattle.pm_laws.specs.Both.{BothFrom}
 use Rattle.pm_laws.specs.SeenTalk.{seen_talk, talk_part, IsTalkUnseen}
 use Rattle.pm_laws.proofs.AgreeLaw.{clash, talk_sym, talk_trans}
-use Rattle.pm_laws.proofs.MailFacts.{forgotten_both, mail_same, note_both, note_left, notifier_both, take_both, take_left}
+use Rattle.pm_laws.proofs.MasterNotesFacts.{forgotten_both, master_notes_same, note_both, note_left, notifier_both, take_both, take_left}
 use Rattle.pm_laws.proofs.Places.{BothFrom-map, BothFrom-map_left, BothFrom-set, BothFrom-set_at, BothFrom-set_left}
 
 -- ---- one change
 
--- the mail of one master, made in both
-mail_set : (border : Border) (m : ℕ) (make : Mail → Mail) (a b : List Mail)
-    → ((x y : Mail) → SameEntries border x y → SameEntries border (make x) (make y))
-    → BothFrom (SameMail border) 0 a b
-    → BothFrom (SameMail border) 0 (slice_set a m (make (mail_of m a))) (slice_set b m (make (mail_of m b)))
-mail_set border m make a b each same =
-    BothFrom-set (SameMail border) 0 m m (make (mail_of m a)) (make (mail_of m b)) (omega arith)
-    (λ beyond. each (mail_of m a) (mail_of m b) (mail_same border m a b beyond same)) a b same
+-- the notes of one master, made in both
+master_notes_set : (border : Border) (m : ℕ) (make : MasterNotes → MasterNotes) (a b : List MasterNotes)
+    → ((x y : MasterNotes) → SameEntries border x y → SameEntries border (make x) (make y))
+    → BothFrom (SameMasterNotes border) 0 a b
+    → BothFrom (SameMasterNotes border) 0 (slice_set a m (make (notes_for m a))) (slice_set b m (make (notes_for m b)))
+master_notes_set border m make a b each same =
+    BothFrom-set (SameMasterNotes border) 0 m m (make (notes_for m a)) (make (notes_for m b)) (omega arith)
+    (λ beyond. each (notes_for m a) (notes_for m b) (master_notes_same border m a b beyond same)) a b same
 
 -- and made in one alone
-mail_set_left : (border : Border) (m : ℕ) (make : Mail → Mail) (a b : List Mail)
-    → (IsBeyond border m → (x y : Mail) → SameEntries border x y → SameEntries border (make x) y)
-    → BothFrom (SameMail border) 0 a b → BothFrom (SameMail border) 0 (slice_set a m (make (mail_of m a))) b
-mail_set_left border m make a b each same =
-    BothFrom-set_at (SameMail border) 0 m m (make (mail_of m a)) (omega arith) a b
+master_notes_set_left : (border : Border) (m : ℕ) (make : MasterNotes → MasterNotes) (a b : List MasterNotes)
+    → (IsBeyond border m → (x y : MasterNotes) → SameEntries border x y → SameEntries border (make x) y)
+    → BothFrom (SameMasterNotes border) 0 a b → BothFrom (SameMasterNotes border) 0 (slice_set a m (make (notes_for m a))) b
+master_notes_set_left border m make a b each same =
+    BothFrom-set_at (SameMasterNotes border) 0 m m (make (notes_for m a)) (omega arith) a b
     (λ x y is was beyond.
-    let own : mail_of m a ≡ x = ap (λ o. unwrap_or o []) is in
-    let P : Mail → Type 0 = λ z. SameEntries border (make z) y in
+    let own : notes_for m a ≡ x = ap (λ o. unwrap_or o []) is in
+    let P : MasterNotes → Type 0 = λ z. SameEntries border (make z) y in
     subst P (sym own) (each beyond x y (was beyond)))
     same
 
@@ -42,28 +42,28 @@ mail_set_left border m make a b each same =
 pub told_alike : (border : Border) (change : Talk) (a b : TalkHalf) → SameTalk border a b → SameTalk border (apply_talk change a) (apply_talk change b)
 told_alike border (Ask m request) a b same = record {
   pending = BothFrom-set (SamePending border) 0 m m (Some request) (Some request) (omega arith) (λ beyond. refl) a.pending b.pending same.pending;
-  mail = same.mail;
+  notes = same.notes;
 }
 told_alike border (Lower count) a b same = record {
   pending = BothFrom-map (SamePending border) (option_map (lowered count)) (option_map (lowered count))
       (λ k x y is beyond. ap (option_map (lowered count)) (is beyond)) 0 a.pending b.pending same.pending;
-  mail = same.mail;
+  notes = same.notes;
 }
 told_alike border (End m) a b same = record {
   pending = BothFrom-set (SamePending border) 0 m m None None (omega arith) (λ beyond. refl) a.pending b.pending same.pending;
-  mail = same.mail;
+  notes = same.notes;
 }
 told_alike border (Forget m) a b same =
-    record { pending = same.pending; mail = mail_set border m forgotten a.mail b.mail (forgotten_both border) same.mail }
+    record { pending = same.pending; notes = master_notes_set border m forgotten a.notes b.notes (forgotten_both border) same.notes }
 told_alike border (Notify m node event on) a b same =
-    record { pending = same.pending; mail = mail_set border m (with_notifier node event on) a.mail b.mail (notifier_both border node event on) same.mail }
+    record { pending = same.pending; notes = master_notes_set border m (with_notifier node event on) a.notes b.notes (notifier_both border node event on) same.notes }
 told_alike border (Take m node note) a b same =
-    record { pending = same.pending; mail = mail_set border m (without_note node note) a.mail b.mail (take_both border node note) same.mail }
+    record { pending = same.pending; notes = master_notes_set border m (without_note node note) a.notes b.notes (take_both border node note) same.notes }
 told_alike border (Wait m node note) a b same =
-    record { pending = same.pending; mail = mail_set border m (with_note node note) a.mail b.mail (note_both border node note) same.mail }
+    record { pending = same.pending; notes = master_notes_set border m (with_note node note) a.notes b.notes (note_both border node note) same.notes }
 told_alike border Renew a b same = record {
   pending = BothFrom-map (SamePending border) dropped dropped (λ k x y is beyond. refl) 0 a.pending b.pending same.pending;
-  mail = BothFrom-map (SameMail border) forgotten forgotten (λ k x y is beyond. forgotten_both border x y (is beyond)) 0 a.mail b.mail same.mail;
+  notes = BothFrom-map (SameMasterNotes border) forgotten forgotten (λ k x y is beyond. forgotten_both border x y (is beyond)) 0 a.notes b.notes same.notes;
 }
 
 -- the second of two, where not both are so and the first is
@@ -75,39 +75,39 @@ second_within false b is first = cc
 pub told_unseen : (border : Border) (change : Talk) (a b : TalkHalf) → HasSome border → seen_talk border change ≡ false → SameTalk border a b → SameTalk border (apply_talk change a) b
 told_unseen border (Ask m request) a b some is same = record {
   pending = BothFrom-set_left (SamePending border) 0 m m (Some request) (omega arith) (λ y beyond. clash (border.master m) beyond is) a.pending b.pending same.pending;
-  mail = same.mail;
+  notes = same.notes;
 }
 told_unseen border (Lower count) a b some is same = record {
   pending = BothFrom-map_left (SamePending border) (option_map (lowered count))
       (λ k x y each beyond. clash border.some (some k beyond) is) 0 a.pending b.pending same.pending;
-  mail = same.mail;
+  notes = same.notes;
 }
 told_unseen border (End m) a b some is same = record {
   pending = BothFrom-set_left (SamePending border) 0 m m None (omega arith) (λ y beyond. clash (border.master m) beyond is) a.pending b.pending same.pending;
-  mail = same.mail;
+  notes = same.notes;
 }
 told_unseen border (Forget m) a b some is same = record {
   pending = same.pending;
-  mail = mail_set_left border m forgotten a.mail b.mail (λ beyond x y each. clash (border.master m) beyond is) same.mail;
+  notes = master_notes_set_left border m forgotten a.notes b.notes (λ beyond x y each. clash (border.master m) beyond is) same.notes;
 }
 told_unseen border (Notify m node event on) a b some is same = record {
   pending = same.pending;
-  mail = mail_set_left border m (with_notifier node event on) a.mail b.mail (λ beyond x y each. clash (border.master m) beyond is) same.mail;
+  notes = master_notes_set_left border m (with_notifier node event on) a.notes b.notes (λ beyond x y each. clash (border.master m) beyond is) same.notes;
 }
 told_unseen border (Take m node note) a b some is same = record {
   pending = same.pending;
-  mail = mail_set_left border m (without_note node note) a.mail b.mail
-      (λ beyond x y each. take_left border node note x y (second_within (border.master m) (border.node node.0) is beyond) each) same.mail;
+  notes = master_notes_set_left border m (without_note node note) a.notes b.notes
+      (λ beyond x y each. take_left border node note x y (second_within (border.master m) (border.node node.0) is beyond) each) same.notes;
 }
 told_unseen border (Wait m node note) a b some is same = record {
   pending = same.pending;
-  mail = mail_set_left border m (with_note node note) a.mail b.mail
-      (λ beyond x y each. note_left border node note x y (second_within (border.master m) (border.node node.0) is beyond) each) same.mail;
+  notes = master_notes_set_left border m (with_note node note) a.notes b.notes
+      (λ beyond x y each. note_left border node note x y (second_within (border.master m) (border.node node.0) is beyond) each) same.notes;
 }
 told_unseen border Renew a b some is same = record {
   pending = BothFrom-map_left (SamePending border) dropped
       (λ k x y each beyond. clash border.some (some k beyond) is) 0 a.pending b.pending same.pending;
-  mail = BothFrom-map_left (SameMail border) forgotten (λ k x y each beyond. clash border.some (some k beyond) is) 0 a.mail b.mail same.mail;
+  notes = BothFrom-map_left (SameMasterNotes border) forgotten (λ k x y each beyond. clash border.some (some k beyond) is) 0 a.notes b.notes same.notes;
 }
 
 -- ---- lists of changes

@@ -5,7 +5,7 @@ use Rattle.pm_base.specs.declared.names.Mode.{Mode}
 use Rattle.pm_base.specs.declared.names.Mode.TheVariants.{Off}
 use Rattle.pm_base.specs.declared.names.Unit.{Unit}
 use Rattle.pm_notify.specs.declared.node_notes.NodeNotes.{NodeNotes}
-use Rattle.pm_notify.specs.Mailbox.{Mail}
+use Rattle.pm_notify.specs.MasterNotes.{MasterNotes}
 use Rattle.pm_procs.specs.declared.pending.Pending.{Pending}
 use Rattle.pm_procs.specs.declared.procs.Proc.{Proc}
 use Rattle.pm_rows.specs.declared.row.Entry.{Entry}
@@ -58,24 +58,24 @@ pub record SameNotes (told : Bool) (a b : NodeNotes) : Type 0 where
   pub notifiers : a.notifiers ≡ b.notifiers
   pub slots : told ≡ true → a.slots ≡ b.slots
 
--- two entries of mail are about the same unit, and alike
+-- two entries of notes are about the same unit, and alike
 pub record SameEntry (border : Border) (a b : Unit × NodeNotes) : Type 0 where
   pub unit : a.0 ≡ b.0
   pub notes : SameNotes (is_told border a.0) a.1 b.1
 
--- two masters' mail is about the same units, in order, and alike entry by entry
-pub record SameEntries (border : Border) (a b : Mail) : Type 0 where
+-- the notes of two masters are about the same units, in order, and alike entry by entry
+pub record SameEntries (border : Border) (a b : MasterNotes) : Type 0 where
   pub order : rises (units_in a) ≡ true
   pub each : Both (SameEntry border) a b
 
--- the mail of a master beyond is alike
-abbrev pub SameMail : Border → ℕ → Mail → Mail → Type 0
-SameMail border m a b = IsBeyond border m → SameEntries border a b
+-- the notes of a master beyond are alike
+abbrev pub SameMasterNotes : Border → ℕ → MasterNotes → MasterNotes → Type 0
+SameMasterNotes border m a b = IsBeyond border m → SameEntries border a b
 
--- what the masters beyond are told is the same: the requests to suspend that are pending on them, and their mail
+-- what the masters beyond are told is the same: the requests to suspend that are pending on them, and their notes
 pub record SameTalk (border : Border) (a b : TalkHalf) : Type 0 where
   pub pending : BothFrom (SamePending border) 0 a.pending b.pending
-  pub mail : BothFrom (SameMail border) 0 a.mail b.mail
+  pub notes : BothFrom (SameMasterNotes border) 0 a.notes b.notes
 
 -- what changes of two books with the same object and chip agrees beyond the border. Where a master is beyond, some is, and
 -- then both books are halted or neither

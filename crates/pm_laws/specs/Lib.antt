@@ -1,5 +1,6 @@
 pub mod Agree
 pub mod Answers
+pub mod Beside
 pub mod Border
 pub mod Both
 pub mod Callbacks
@@ -11,5 +12,6 @@ pub mod ReachBorder
 pub mod Runs
 pub mod Seen
 pub mod SeenTalk
-pub mod Starts
+pub mod Told
 pub mod Values
+pub mod Worlds

@@ -1,11 +1,8 @@
 -- What is seen from beyond a border of what masters are told, and of the requests to suspend that are made and that end.
-use Rattle.std.specs.Prelude.{◌≡◌, Bool, ◌&&◌, List, [], ◌∷◌, filter, Option, Some, None, if◌then◌else◌}
-use Rattle.pm_base.specs.declared.events.Event.{Event}
+use Rattle.std.specs.Prelude.{◌≡◌, Bool, ◌&&◌, List, [], filter, Option, Some, None, if◌then◌else◌}
 use Rattle.pm_notify.specs.declared.notes.Waiting.{Waiting}
 use Rattle.pm_core.specs.declared.ended.Ended.{Ended}
-use Rattle.pm_core.specs.declared.judgement.Asked.{Asked}
-use Rattle.pm_core.specs.Run.{Stand, last_stand, step_of}
-use Rattle.pm_core.specs.Step.{ended}
+use Rattle.pm_core.specs.declared.verdict.Asked.{Asked}
 use Rattle.pm_core.specs.Talk.{Talk, Ask, Lower, End, Forget, Notify, Take, Wait, Renew}
 use Rattle.pm_laws.specs.Border.{Border}
 
@@ -46,9 +43,3 @@ notes_beyond border notes = filter (is_about_beyond border) notes
 -- of these ends, those of requests to masters beyond
 abbrev pub ends_beyond : Border → List Ended → List Ended
 ends_beyond border ended = filter (λ (e : Ended). border.master e.target) ended
-
--- of the requests that end in the steps of these events, one step after another, those to masters beyond
-abbrev pub ends_along : Border → List Event → Stand → List (List Ended)
-ends_along border [] stand = []
-ends_along border (event ∷ events) stand =
-    ends_beyond border (ended event stand.book) ∷ ends_along border events (last_stand stand (step_of event stand).cores)

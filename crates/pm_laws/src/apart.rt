@@ -1,66 +1,97 @@
-//! Laws of one step in two books that agree beyond the reach of a master, without its message in one of them.
+//! Laws of two books that agree beyond the reach of a master, and of a run and the run without its messages.
 
 ghost use Rattle.std.specs.List.{list_any};
-ghost use Rattle.std.specs.Prelude.{◌≡◌, ◌==◌, IsTrue, true};
+ghost use Rattle.std.specs.Prelude.{◌==◌, IsTrue, List};
 ghost use Rattle.pm_base.specs.declared.events.Event.{Event};
+ghost use Rattle.pm_base.specs.declared.events.Event.TheVariants.{Pass};
 ghost use Rattle.pm_base.specs.declared.names.NodeId.{NodeId};
-ghost use Rattle.pm_base.specs.declared.names.Unit.{Unit};
-ghost use Rattle.pm_base.specs.declared.names.Unit.TheVariants.{Node};
 ghost use Rattle.pm_object.specs.Grammar.{IsObject};
 ghost use Rattle.pm_topology.specs.WellFormed.{IsWellFormed};
 ghost use Rattle.pm_core.specs.Sound.{IsSound};
 ghost use Rattle.pm_core.specs.State.{State};
-ghost use Rattle.pm_core.specs.Step.{effect, outputs};
-ghost use Rattle.pm_core.specs.Values.{value};
-ghost use Rattle.pm_core.specs.Views.{mode};
+ghost use Rattle.pm_core.specs.Step.{effect};
+ghost use Rattle.pm_run.specs.Run.{IsBookOf, Setup, Stand, book_after, core_of, cores_of, line_of, split};
 ghost use Rattle.pm_laws.specs.Agree.{Agree};
-ghost use Rattle.pm_laws.specs.Answers.{is_dropped, message_beyond, sender_beyond};
+ghost use Rattle.pm_laws.specs.Beside.{AreBeside, Beside, IsOwn};
 ghost use Rattle.pm_laws.specs.Left.{border_in};
 ghost use Rattle.pm_laws.specs.Quiet.{quiet_event};
-ghost use Rattle.pm_laws.specs.Values.{is_beyond, moves_beyond, starts_beyond};
+ghost use Rattle.pm_laws.specs.ReachBorder.{border_of};
+ghost use Rattle.pm_laws.specs.Told.{SameTold, TellsNothing};
+ghost use Rattle.pm_laws.specs.Values.{IsModeAlike, IsValueAlike};
+ghost use Rattle.pm_laws.specs.Worlds.{AreWorldsAlike, AreWorldsBeside, IsLineBeside};
 
-use crate::answers::answers_agree;
+use crate::answers::{answers_agree, callbacks_agree};
 use crate::laws::{
-    books_agree, reach_is_closed, reach_keeps_apart, starts_agree, steps_agree, values_agree,
+    books_agree, pulses_agree, reach_is_closed, requests_agree, starts_agree, steps_agree,
+    values_agree,
 };
+use pm_run::books_of_a_run;
 
-/// Two books that agree beyond the reach of a master have the same values and modes there, and agree after an event in
-/// the one, and in the other the same event, or nothing where it is a message of that master. Then the same units there
-/// move and the same processors there start, and where the object has the master, the same messages of masters there
-/// are dropped, and those that name nothing within are answered the same.
+/// Two books that agree beyond the reach of a master have the same values and modes there. They agree after an event in
+/// both, and then the same is told there. A message of the master in one alone leaves them in agreement, and tells nothing
+/// there; and so does a Pass. So they agree after an event in the one, and in the other the same event, or nothing where it
+/// is a message of that master; and where the object has the master, the same is told there by both.
 pub fn steps_keep_apart()
+    ensures values { (m : NodeId) (a b : State) → IsObject a.fixed.object → IsWellFormed a.fixed.topology
+        → Agree (border_in a m) a b → IsValueAlike a.fixed.object a.fixed.topology (border_in a m) a b }
+    ensures modes { (m : NodeId) (a b : State)
+        → Agree (border_in a m) a b → IsModeAlike a.fixed.object a.fixed.topology (border_in a m) a b }
+    ensures both { (m : NodeId) (event : Event) (a b : State) → IsObject a.fixed.object → IsWellFormed a.fixed.topology
+        → IsSound a → IsSound b → Agree (border_in a m) a b
+        → Agree (border_in a m) (effect event a) (effect event b)
+        × SameTold a.fixed.object a.fixed.topology (border_in a m) (core_of event a) (core_of event b) }
+    ensures left { (m : NodeId) (event : Event) (a b : State) → IsOwn m event → IsObject a.fixed.object
+        → IsWellFormed a.fixed.topology → IsSound a → IsSound b → Agree (border_in a m) a b
+        → Agree (border_in a m) (effect event a) b
+        × TellsNothing a.fixed.object a.fixed.topology (border_in a m) (core_of event a) }
+    ensures rest { (m : NodeId) (a b : State) → IsObject a.fixed.object → IsWellFormed a.fixed.topology
+        → IsSound a → IsSound b → Agree (border_in a m) a b
+        → Agree (border_in a m) a (effect Pass b)
+        × TellsNothing a.fixed.object a.fixed.topology (border_in a m) (core_of Pass b) }
     ensures agree { (m : NodeId) (event : Event) (a b : State) → IsObject a.fixed.object → IsWellFormed a.fixed.topology
         → IsSound a → IsSound b → Agree (border_in a m) a b
         → Agree (border_in a m) (effect event a) (effect (quiet_event m event) b) }
-    ensures values { (m : NodeId) (unit : Unit) (a b : State) → IsObject a.fixed.object → IsWellFormed a.fixed.topology
-        → Agree (border_in a m) a b → is_beyond a.fixed.object a.fixed.topology (border_in a m) unit ≡ true
-        → value unit a ≡ value unit b }
-    ensures modes { (m proc : NodeId) (a b : State)
-        → Agree (border_in a m) a b → is_beyond a.fixed.object a.fixed.topology (border_in a m) (Node proc) ≡ true
-        → mode proc a ≡ mode proc b }
-    ensures moves { (m : NodeId) (event : Event) (a b : State) → IsObject a.fixed.object → IsWellFormed a.fixed.topology
-        → IsSound a → IsSound b → Agree (border_in a m) a b
-        → moves_beyond a.fixed.object a.fixed.topology (border_in a m) (outputs event a).moved
-        ≡ moves_beyond a.fixed.object a.fixed.topology (border_in a m) (outputs (quiet_event m event) b).moved }
-    ensures starts { (m : NodeId) (event : Event) (a b : State) → IsObject a.fixed.object → IsWellFormed a.fixed.topology
-        → IsSound a → IsSound b → Agree (border_in a m) a b
-        → starts_beyond a.fixed.object a.fixed.topology (border_in a m) (outputs event a).starts
-        ≡ starts_beyond a.fixed.object a.fixed.topology (border_in a m) (outputs (quiet_event m event) b).starts }
-    ensures drops { (m : NodeId) (event : Event) (a b : State)
-        → IsTrue (list_any (λ r. r.node == m.0) a.fixed.object.masters) → Agree (border_in a m) a b
-        → sender_beyond a.fixed.object (border_in a m) event ≡ true
-        → is_dropped (outputs event a).answer ≡ is_dropped (outputs (quiet_event m event) b).answer }
-    ensures answers { (m : NodeId) (event : Event) (a b : State) → IsObject a.fixed.object → IsWellFormed a.fixed.topology
+    ensures told { (m : NodeId) (event : Event) (a b : State) → IsObject a.fixed.object → IsWellFormed a.fixed.topology
         → IsTrue (list_any (λ r. r.node == m.0) a.fixed.object.masters)
         → IsSound a → IsSound b → Agree (border_in a m) a b
-        → message_beyond a.fixed.object a.fixed.topology (border_in a m) event ≡ true
-        → (outputs event a).answer ≡ (outputs (quiet_event m event) b).answer }
+        → SameTold a.fixed.object a.fixed.topology (border_in a m) (core_of event a) (core_of (quiet_event m event) b) }
 {
     reach_is_closed();
-    reach_keeps_apart();
     steps_agree();
+    requests_agree();
+    pulses_agree();
     values_agree();
     starts_agree();
     answers_agree();
+    callbacks_agree();
     books_agree();
+}
+
+/// Nothing that a master sends changes what is beyond its reach. The core events of a script line, and of the same line
+/// without a message of the master, are beside one another, and then so are their core steps, from books that agree beyond
+/// the reach: what is in both tells the same there, and what is in one alone tells nothing. So a run, and the run without the
+/// messages of the master, are beside one another line by line; and line by line the same moves, starts, is pulsed, is asked
+/// of masters beyond, ends, is replied late and is called back, the same messages of others are dropped, and those that name
+/// nothing within are answered the same.
+pub fn reach_keeps_apart()
+    ensures events { (c : Setup) (m : NodeId) (event : Event) (a b : Stand)
+        → Beside m (split c event a).events (split c (quiet_event m event) b).events }
+    ensures cores { (c : Setup) (m : NodeId) (es fs : List Event) (a b : State) → IsObject c.object → IsWellFormed c.topology
+        → Beside m es fs → IsBookOf c a → IsBookOf c b → Agree (border_of c.object c.topology m) a b
+        → AreBeside c m a b (cores_of es a) (cores_of fs b) }
+    ensures after { (c : Setup) (m : NodeId) (es fs : List Event) (a b : State) → IsObject c.object → IsWellFormed c.topology
+        → Beside m es fs → IsBookOf c a → IsBookOf c b → Agree (border_of c.object c.topology m) a b
+        → Agree (border_of c.object c.topology m) (book_after es a) (book_after fs b) }
+    ensures line { (c : Setup) (m : NodeId) (event : Event) (a b : Stand) → IsObject c.object → IsWellFormed c.topology
+        → IsBookOf c a.book → IsBookOf c b.book → Agree (border_of c.object c.topology m) a.book b.book
+        → IsLineBeside c m a.book b.book (line_of c event a) (line_of c (quiet_event m event) b) }
+    ensures beside { (c : Setup) (m : NodeId) (events : List Event) → IsObject c.object → IsWellFormed c.topology
+        → AreWorldsBeside c m events }
+    ensures alike { (c : Setup) (m : NodeId) (events : List Event) → IsObject c.object → IsWellFormed c.topology
+        → AreWorldsAlike c m events }
+{
+    steps_keep_apart();
+    reach_is_closed();
+    books_agree();
+    books_of_a_run();
 }

@@ -18,7 +18,6 @@ ghost use Rattle.pm_topology.specs.WellFormed.{IsWellFormed};
 ghost use Rattle.pm_rows.specs.Wanted.{wanted_of};
 ghost use Rattle.pm_core.specs.Load.{load_of};
 ghost use Rattle.pm_core.specs.Members.{mode_of_master};
-ghost use Rattle.pm_core.specs.Run.{Setup, loaded, run};
 ghost use Rattle.pm_core.specs.Sound.{IsSound, KnowsModes};
 ghost use Rattle.pm_core.specs.Stages.{after_stage, after_stages, follow, path_from};
 ghost use Rattle.pm_core.specs.State.{State};
@@ -27,21 +26,16 @@ ghost use Rattle.pm_core.specs.Talk.{Talk, talked};
 ghost use Rattle.pm_core.specs.Values.{master_place, slave_place, value};
 ghost use Rattle.pm_core.specs.Views.{is_asked, named_master, proc_view, row_view, suspend_view, wake_view};
 ghost use Rattle.pm_laws.specs.Agree.{Agree};
-ghost use Rattle.pm_laws.specs.Answers.{HaveAnswersAlike, HaveDropsAlike};
 ghost use Rattle.pm_laws.specs.Border.{Border, HasSome, IsBeyond, IsClosed, unit_beyond};
 ghost use Rattle.pm_laws.specs.Both.{Both};
-ghost use Rattle.pm_laws.specs.Callbacks.{HaveCallsAlike, calls_beyond};
 ghost use Rattle.pm_laws.specs.Hidden.{is_hidden, is_slave_within, is_within, owner_by};
-ghost use Rattle.pm_laws.specs.Pulse.{HavePulsesAlike, pulse_beyond};
-ghost use Rattle.pm_laws.specs.Quiet.{AreRunsAlike, quiet, quiet_event};
+ghost use Rattle.pm_laws.specs.Pulse.{pulse_beyond};
 ghost use Rattle.pm_laws.specs.ReachBorder.{IsAllBeyond, IsBorderOf, border_of, place_of};
 ghost use Rattle.pm_laws.specs.Seen.{seen, seen_part, IsUnseen, AreAlike, AreHidden};
-ghost use Rattle.pm_laws.specs.SeenTalk.{seen_talk, talk_part, IsTalkUnseen, asks_beyond, ends_along, ends_beyond};
-ghost use Rattle.pm_laws.specs.Starts.{HaveStartsAlike};
-ghost use Rattle.pm_laws.specs.Values.{HaveModesAlike, HaveValuesAlike, is_beyond, starts_beyond};
+ghost use Rattle.pm_laws.specs.SeenTalk.{seen_talk, talk_part, IsTalkUnseen, asks_beyond, ends_beyond};
+ghost use Rattle.pm_laws.specs.Values.{is_beyond, starts_beyond};
 
-use crate::answers::{answers_agree, callbacks_agree};
-use pm_core::{books_of_a_run, books_stay_sound, members_are_owned};
+use pm_core::{books_stay_sound, members_are_owned};
 use pm_reach::{masters_within, parents_within, reach_is_decided, units_within};
 use pm_rows::shifts_leave_others;
 use pm_topology::{kinds_are_exact, units_stand_in_order};
@@ -277,71 +271,4 @@ pub fn reach_is_closed()
     parents_within();
     reach_is_decided();
     kinds_are_exact();
-}
-
-/// Nothing that a master sends changes what is beyond its reach: two books that agree there agree after an event in
-/// both, and after a message of the master in the one and nothing in the other; and in both ways the same is asked of
-/// masters beyond, the same requests to them end, of nodes beyond they are told the same, and the same reset line
-/// beyond is pulsed. So a run, and the run without the messages of the master, have books that agree beyond its reach
-/// after each step, and each unit beyond has the same value in both, and each processor the same mode. Step by step the
-/// same processors beyond start, the same messages of masters beyond are dropped, those that name nothing within are
-/// answered the same, the same reset lines beyond are pulsed, the same requests to masters beyond end, and the same
-/// callbacks are made to them, but for those about nodes within.
-pub fn reach_keeps_apart()
-    ensures event { (m : NodeId) (event : Event) (a b : State) → IsObject a.fixed.object → IsWellFormed a.fixed.topology
-        → IsSound a → IsSound b
-        → Agree (border_of a.fixed.object a.fixed.topology m) a b
-        → Agree (border_of a.fixed.object a.fixed.topology m) (effect event a) (effect event b) }
-    ensures message { (m : NodeId) (message : Message) (a b : State) → IsObject a.fixed.object
-        → IsWellFormed a.fixed.topology → IsSound a → IsSound b
-        → Agree (border_of a.fixed.object a.fixed.topology m) a b
-        → Agree (border_of a.fixed.object a.fixed.topology m) (effect (Ipi m message) a) (effect Pass b) }
-    ensures asked { (m : NodeId) (event : Event) (a b : State) → IsObject a.fixed.object → IsWellFormed a.fixed.topology
-        → Agree (border_of a.fixed.object a.fixed.topology m) a b
-        → asks_beyond (border_of a.fixed.object a.fixed.topology m) (asks event a)
-        ≡ asks_beyond (border_of a.fixed.object a.fixed.topology m) (asks (quiet_event m event) b) }
-    ensures ended { (m : NodeId) (event : Event) (a b : State) → IsObject a.fixed.object → IsWellFormed a.fixed.topology
-        → IsSound a → IsSound b
-        → Agree (border_of a.fixed.object a.fixed.topology m) a b
-        → ends_beyond (border_of a.fixed.object a.fixed.topology m) (ended event a)
-        ≡ ends_beyond (border_of a.fixed.object a.fixed.topology m) (ended (quiet_event m event) b) }
-    ensures calls { (m : NodeId) (event : Event) (a b : State) → IsObject a.fixed.object → IsWellFormed a.fixed.topology
-        → IsSound a → IsSound b
-        → Agree (border_of a.fixed.object a.fixed.topology m) a b
-        → calls_beyond a.fixed.object (border_of a.fixed.object a.fixed.topology m) (outputs event a).calls
-        ≡ calls_beyond a.fixed.object (border_of a.fixed.object a.fixed.topology m) (outputs (quiet_event m event) b).calls }
-    ensures pulse { (m : NodeId) (event : Event) (a b : State) → IsObject a.fixed.object → IsWellFormed a.fixed.topology
-        → Agree (border_of a.fixed.object a.fixed.topology m) a b
-        → pulse_beyond a.fixed.topology (border_of a.fixed.object a.fixed.topology m) (pulse event a)
-        ≡ pulse_beyond a.fixed.topology (border_of a.fixed.object a.fixed.topology m) (pulse (quiet_event m event) b) }
-    ensures books { (c : Setup) (m : NodeId) (events : List Event) → IsObject c.object → IsWellFormed c.topology
-        → AreRunsAlike (border_of c.object c.topology m) (run c events) (run c (quiet m events)) }
-    ensures values { (c : Setup) (m : NodeId) (events : List Event) → IsObject c.object → IsWellFormed c.topology
-        → HaveValuesAlike c.object c.topology (border_of c.object c.topology m) (run c events) (run c (quiet m events)) }
-    ensures modes { (c : Setup) (m : NodeId) (events : List Event) → IsObject c.object → IsWellFormed c.topology
-        → HaveModesAlike c.object c.topology (border_of c.object c.topology m) (run c events) (run c (quiet m events)) }
-    ensures starts { (c : Setup) (m : NodeId) (events : List Event) → IsObject c.object → IsWellFormed c.topology
-        → HaveStartsAlike c.object c.topology (border_of c.object c.topology m) (run c events) (run c (quiet m events)) }
-    ensures drops { (c : Setup) (m : NodeId) (events : List Event) → IsObject c.object → IsWellFormed c.topology
-        → HaveDropsAlike c.object (border_of c.object c.topology m) (run c events) (run c (quiet m events)) }
-    ensures answers { (c : Setup) (m : NodeId) (events : List Event) → IsObject c.object → IsWellFormed c.topology
-        → HaveAnswersAlike c.object c.topology (border_of c.object c.topology m) (run c events) (run c (quiet m events)) }
-    ensures pulses { (c : Setup) (m : NodeId) (events : List Event) → IsObject c.object → IsWellFormed c.topology
-        → HavePulsesAlike c.topology (border_of c.object c.topology m) (run c events) (run c (quiet m events)) }
-    ensures ends { (c : Setup) (m : NodeId) (events : List Event) → IsObject c.object → IsWellFormed c.topology
-        → ends_along (border_of c.object c.topology m) events (loaded c events)
-        ≡ ends_along (border_of c.object c.topology m) (quiet m events) (loaded c (quiet m events)) }
-    ensures callbacks { (c : Setup) (m : NodeId) (events : List Event) → IsObject c.object → IsWellFormed c.topology
-        → HaveCallsAlike c.object (border_of c.object c.topology m) (run c events) (run c (quiet m events)) }
-{
-    reach_is_closed();
-    steps_agree();
-    requests_agree();
-    pulses_agree();
-    values_agree();
-    starts_agree();
-    answers_agree();
-    callbacks_agree();
-    books_agree();
-    books_of_a_run();
 }

@@ -8,11 +8,10 @@ mod runs;
 mod worlds;
 
 pub use answers::{answers_agree, callbacks_agree};
-pub use apart::steps_keep_apart;
+pub use apart::{reach_keeps_apart, steps_keep_apart};
 pub use laws::{
-    books_agree, changes_agree, paths_agree, pulses_agree, reach_is_closed, reach_keeps_apart,
-    requests_agree, rows_follow_alike, starts_agree, steps_agree, talks_agree, values_agree,
-    views_agree,
+    books_agree, changes_agree, paths_agree, pulses_agree, reach_is_closed, requests_agree,
+    rows_follow_alike, starts_agree, steps_agree, talks_agree, values_agree, views_agree,
 };
 pub use runs::run;
 pub use worlds::{quiet_event, step_both};

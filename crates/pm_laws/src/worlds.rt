@@ -1,22 +1,17 @@
 //! Two books side by side, one of them without the messages of a master.
 
 ghost use Rattle.std.specs.List.{list_any};
-ghost use Rattle.std.specs.Prelude.{◌≡◌, ◌==◌, IsTrue, true};
+ghost use Rattle.std.specs.Prelude.{◌≡◌, ◌==◌, IsTrue};
 ghost use Rattle.pm_object.specs.Grammar.{IsObject};
 ghost use Rattle.pm_core.specs.Outbox.{HasRoomFor, Holds, KeepsRoom};
-ghost use Rattle.pm_core.specs.Step.{effect, ended, outputs};
+ghost use Rattle.pm_core.specs.Step.{effect, outputs};
 ghost use Rattle.pm_laws.specs.Agree.{Agree};
-ghost use Rattle.pm_laws.specs.Answers.{IsAnswerAlike, IsDropAlike, message_beyond, sender_beyond};
-ghost use Rattle.pm_laws.specs.Callbacks.{IsCallAlike};
-ghost use Rattle.pm_laws.specs.Left.{border_in, left_by};
-ghost use Rattle.pm_laws.specs.Pulse.{IsPulseAlike};
+ghost use Rattle.pm_laws.specs.Left.{border_in, stepped};
 ghost use Rattle.pm_laws.specs.Quiet.{quiet_event};
-ghost use Rattle.pm_laws.specs.SeenTalk.{ends_beyond};
-ghost use Rattle.pm_laws.specs.Starts.{IsStartAlike};
-ghost use Rattle.pm_laws.specs.Values.{IsModeAlike, IsMoveAlike, IsValueAlike};
+ghost use Rattle.pm_laws.specs.Told.{SameTold};
+ghost use Rattle.pm_laws.specs.Values.{IsModeAlike, IsValueAlike};
 
 use crate::apart::steps_keep_apart;
-use crate::laws::reach_keeps_apart;
 use pm_base::{Event, NodeId};
 use pm_core::{Book, Outbox};
 
@@ -30,7 +25,7 @@ pub fn quiet_event(m: NodeId, event: &Event) -> Event
     }
 }
 
-/// One event in the one of two books, and in the other the same event, or nothing where it is a message of a master. The
+/// One core event in the one of two books, and in the other the same event, or nothing where it is a message of a master. The
 /// books have one object, which is well formed and has the master, and one chip, and agree beyond the reach of the
 /// master; both outboxes were loaded for them. What is beyond that reach can't tell the two apart. No memory is taken.
 pub fn step_both(
@@ -57,26 +52,14 @@ pub fn step_both(
     ensures fixed { a.new.fixed ≡ a.old.fixed }
     ensures agree { Agree (border_in a.old m) a.new b.new }
 
-    // Beyond it the same units move, and have the same values; the processors are in the same modes, and the same ones
-    // start, at the same addresses; and the same reset line is pulsed, or none.
-    ensures moves { IsMoveAlike a.old.fixed.object a.old.fixed.topology (border_in a.old m) (left_by a.new oa.new) (left_by b.new ob.new) }
-    ensures values { IsValueAlike a.old.fixed.object a.old.fixed.topology (border_in a.old m) (left_by a.new oa.new) (left_by b.new ob.new) }
-    ensures modes { IsModeAlike a.old.fixed.object a.old.fixed.topology (border_in a.old m) (left_by a.new oa.new) (left_by b.new ob.new) }
-    ensures starts { IsStartAlike a.old.fixed.object a.old.fixed.topology (border_in a.old m) (left_by a.new oa.new) (left_by b.new ob.new) }
-    ensures pulse { IsPulseAlike a.old.fixed.topology (border_in a.old m) (left_by a.new oa.new) (left_by b.new ob.new) }
-
-    // The message of a master beyond is dropped in both or in neither, and where its call names nothing within, it is
-    // answered the same.
-    ensures drops { sender_beyond a.old.fixed.object (border_in a.old m) event.now ≡ true
-        → IsDropAlike (left_by a.new oa.new) (left_by b.new ob.new) }
-    ensures answers { message_beyond a.old.fixed.object a.old.fixed.topology (border_in a.old m) event.now ≡ true
-        → IsAnswerAlike (left_by a.new oa.new) (left_by b.new ob.new) }
-
-    // The same requests to masters beyond end, with the same status. The same masters beyond are asked to suspend, and of
-    // nodes beyond they are told the same, in the same order.
-    ensures ended { ends_beyond (border_in a.old m) (ended event.now a.old)
-        ≡ ends_beyond (border_in a.old m) (ended (quiet_event m event.now) b.old) }
-    ensures calls { IsCallAlike a.old.fixed.object (border_in a.old m) (left_by a.new oa.new) (left_by b.new ob.new) }
+    // Beyond it they have the same values and modes, and the same is told: the same units move, the same processors start, at
+    // the same addresses, and the same reset line is pulsed, or none; the same is asked of masters there, the same requests to
+    // them end, with the same late replies, and they are called back alike, but for what is about nodes within; the message of
+    // a master there is dropped in both or in neither, and where its call names nothing within, it is answered the same.
+    ensures values { IsValueAlike a.old.fixed.object a.old.fixed.topology (border_in a.old m) a.new b.new }
+    ensures modes { IsModeAlike a.old.fixed.object a.old.fixed.topology (border_in a.old m) a.new b.new }
+    ensures told { SameTold a.old.fixed.object a.old.fixed.topology (border_in a.old m)
+        (stepped event.now a.old a.new oa.new) (stepped (quiet_event m event.now) b.old b.new ob.new) }
 
     // Each outbox has the room that it had, which is that of the books' chip and masters.
     ensures kept_a { KeepsRoom oa.old oa.new }
@@ -84,10 +67,9 @@ pub fn step_both(
     ensures ready_a { HasRoomFor a.new oa.new }
     ensures ready_b { HasRoomFor b.new ob.new }
 {
-    reach_keeps_apart();
     steps_keep_apart();
-    a.topology();
-    b.topology();
+    a.stays_sound();
+    b.stays_sound();
     let other = quiet_event(m, event);
     a.step(event, oa);
     b.step(&other, ob);

@@ -3,3 +3,4 @@ pub mod LineLemmas
 pub mod ReachLemmas
 pub mod StepLemmas
 pub mod ReportLemmas
+pub mod ScriptsLemmas

@@ -5,7 +5,6 @@ use Rattle.std.proofs.Math.Seq.{take-suc}
 use Rattle.std.proofs.lemmas.List.{append_assoc}
 use Rattle.std.proofs.lemmas.Grind.{flat_map-append}
 use Rattle.pm_trace.specs.declared.line.Word.{Word}
-use Rattle.pm_trace.specs.declared.line.Word.TheVariants.{Number}
 use Rattle.pm_trace.specs.Line.{after_space, word_text, line_text}
 
 pub line_of : (first : Word) (rest : List Word) → line_text (first ∷ rest) ≡ (word_text first ++ flat_map after_space rest) ++ 10 ∷ []
@@ -22,11 +21,14 @@ line_is_made first rest k start begun done new empty word words all feed =
     rw (line_of first rest, feed, words, whole, word, empty) refl
 
 -- one more word, after a space
-pub word_more : (rest : List Word) (k : ℕ) (begun done spaced new : List ℕ) → k < length rest → done ≡ begun ++ flat_map after_space (take k rest) → spaced ≡ done ++ 32 ∷ [] → new ≡ spaced ++ word_text (get_or rest k (Number 0)) → new ≡ begun ++ flat_map after_space (take (k + 1) rest)
-word_more rest k begun done spaced new there so space word =
-    let next : Word = get_or rest k (Number 0) in
+pub word_more : (rest : List Word) (k : ℕ) (next : Word) (begun done spaced new : List ℕ) → next ≡ get_or rest k next → k < length rest
+    → done ≡ begun ++ flat_map after_space (take k rest) → spaced ≡ done ++ 32 ∷ [] → new ≡ spaced ++ word_text next
+    → new ≡ begun ++ flat_map after_space (take (k + 1) rest)
+word_more rest k next begun done spaced new is there so space word =
     let one_on : k + 1 ≡ suc k = omega arith in
-    let taken : take (k + 1) rest ≡ take k rest ++ next ∷ [] = ap (λ n. take n rest) one_on ∙ take-suc rest k (Number 0) there in
+    let taken : take (k + 1) rest ≡ take k rest ++ next ∷ [] =
+    ap (λ n. take n rest) one_on ∙ take-suc rest k next there ∙ ap (λ (w : Word). take k rest ++ w ∷ []) (sym is)
+    in
     let parts : flat_map after_space (take k rest ++ next ∷ []) ≡ flat_map after_space (take k rest) ++ flat_map after_space (next ∷ []) =
     flat_map-append after_space (take k rest) (next ∷ [])
     in

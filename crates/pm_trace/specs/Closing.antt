@@ -1,6 +1,6 @@
 -- The closing table, which follows the last step: each unit's value in the book, or the mode of a processor, and its kept
 -- value.
-use Rattle.std.specs.Prelude.{ℕ, ◌==◌, ◌&&◌, if◌then◌else◌, List, [], ◌∷◌, ◌++◌, map}
+use Rattle.std.specs.Prelude.{ℕ, ◌==◌, ◌&&◌, if◌then◌else◌, List, [], ◌∷◌, ◌++◌, map, codes}
 use Rattle.std.specs.List.{concat}
 use Rattle.pm_base.specs.declared.names.Unit.{Unit}
 use Rattle.pm_base.specs.declared.names.Unit.TheVariants.{Node, Line}
@@ -10,7 +10,7 @@ use Rattle.pm_topology.specs.declared.places.Kind.TheVariants as kind
 use Rattle.pm_topology.specs.Places.{kind_of}
 use Rattle.pm_core.specs.State.{State}
 use Rattle.pm_core.specs.Units.{units}
-use Rattle.pm_core.specs.Values.{point, value}
+use Rattle.pm_core.specs.Values.{shown}
 use Rattle.pm_apply.specs.Part.{Kept}
 use Rattle.pm_apply.specs.Record.{kept_value}
 use Rattle.pm_trace.specs.declared.line.Word.{Word}
@@ -19,26 +19,21 @@ use Rattle.pm_trace.specs.Line.{numbers, line_text}
 
 -- what a node of a kind is called in the closing table
 abbrev pub kind_name : Kind → Word
-kind_name (kind.Proc p) = word.Proc
-kind_name (kind.Slave s) = word.Slave
-kind_name (kind.Power w) = word.Power
-kind_name kind.Unknown = word.Slave
+kind_name (kind.Proc p) = word.Name (codes "proc")
+kind_name (kind.Slave s) = word.Name (codes "slave")
+kind_name (kind.Power w) = word.Name (codes "power")
+kind_name kind.Unknown = word.Name (codes "slave")
 
 -- what a unit is called in the closing table, and its number
 abbrev pub unit_name : Topology → Unit → List Word
 unit_name t (Node node) = kind_name (kind_of t node) ∷ word.Number node.0 ∷ []
-unit_name t (Line reset) = word.Line ∷ word.Number reset.0 ∷ []
+unit_name t (Line reset) = word.Name (codes "line") ∷ word.Number reset.0 ∷ []
 
 -- the closing line of a unit of which the book's column shows this, with this kept value: nothing where both are 0
 abbrev pub unit_line : Topology → Unit → ℕ → ℕ → List ℕ
 unit_line t unit book kept =
     if (book == 0) && (kept == 0) then []
-    else line_text (word.End ∷ (unit_name t unit ++ numbers (book ∷ kept ∷ [])))
-
--- what the book's column shows of a unit: the number of the mode of a processor, and the value of any other
-abbrev pub shown : Unit → State → ℕ
-shown (Node node) book = point node book
-shown (Line reset) book = value (Line reset) book
+    else line_text (word.Name (codes "end") ∷ (unit_name t unit ++ numbers (book ∷ kept ∷ [])))
 
 -- the closing line of a unit, by the book and the kept values
 abbrev pub unit_text : State → Kept → Unit → List ℕ

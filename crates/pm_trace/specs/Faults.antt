@@ -1,5 +1,5 @@
 -- The line that a command ends with where it fails, and the exit.
-use Rattle.std.specs.Prelude.{ℕ, List, [], ◌∷◌, Option, Some, None}
+use Rattle.std.specs.Prelude.{ℕ, List, [], ◌∷◌, Option, Some, None, codes}
 use Rattle.pm_base.specs.declared.errors.Exit.{Exit}
 use Rattle.pm_base.specs.declared.errors.Exit.TheVariants as exit
 use Rattle.pm_trace.specs.declared.faults.Fault.{Fault}
@@ -47,18 +47,18 @@ line_cause lines.NotAscii = 5
 
 -- what a fault is called, with its place
 abbrev pub fault_words : Fault → List Word
-fault_words Usage = word.Usage ∷ []
-fault_words (Object fault) = word.Object ∷ word.Number (object_cause fault.cause) ∷ word.Number fault.offset ∷ []
-fault_words (Text fault) = word.Text ∷ word.Number fault.line ∷ word.Number (text_cause fault.cause) ∷ []
-fault_words (Line n cause) = word.Line ∷ word.Number n ∷ word.Number (line_cause cause) ∷ []
-fault_words Read = word.Read ∷ []
-fault_words Memory = word.Memory ∷ []
-fault_words Size = word.Size ∷ []
-fault_words Node = word.Node ∷ []
+fault_words Usage = word.Name (codes "usage") ∷ []
+fault_words (Object fault) = word.Name (codes "object") ∷ word.Number (object_cause fault.cause) ∷ word.Number fault.offset ∷ []
+fault_words (Text fault) = word.Name (codes "text") ∷ word.Number fault.line ∷ word.Number (text_cause fault.cause) ∷ []
+fault_words (Line n cause) = word.Name (codes "line") ∷ word.Number n ∷ word.Number (line_cause cause) ∷ []
+fault_words Read = word.Name (codes "read") ∷ []
+fault_words Memory = word.Name (codes "memory") ∷ []
+fault_words Size = word.Name (codes "size") ∷ []
+fault_words Node = word.Name (codes "node") ∷ []
 
 -- the line of a fault
 abbrev pub fault_text : Fault → List ℕ
-fault_text fault = line_text (word.Fault ∷ fault_words fault)
+fault_text fault = line_text (word.Name (codes "fault") ∷ fault_words fault)
 
 -- the exit of a command that a fault stops
 abbrev pub exit_by : Fault → Exit

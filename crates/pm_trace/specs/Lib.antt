@@ -4,4 +4,5 @@ pub mod Faults
 pub mod Line
 pub mod Reach
 pub mod Report
+pub mod Scripts
 pub mod Step

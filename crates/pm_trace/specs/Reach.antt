@@ -1,5 +1,5 @@
 -- The text of a reach: a line for each member.
-use Rattle.std.specs.Prelude.{ℕ, List, ◌∷◌, map}
+use Rattle.std.specs.Prelude.{ℕ, List, ◌∷◌, map, codes}
 use Rattle.std.specs.List.{flat_map}
 use Rattle.pm_base.specs.declared.names.NodeId.{NodeId}
 use Rattle.pm_reach.specs.declared.members.Member.{Member}
@@ -13,22 +13,22 @@ use Rattle.pm_trace.specs.Line.{line_text}
 
 -- what a member is called
 abbrev pub kind_word : MemberKind → Word
-kind_word members.Master = word.Master
-kind_word members.Slave = word.Slave
-kind_word members.Power = word.Power
-kind_word members.Line = word.Line
+kind_word members.Master = word.Name (codes "master")
+kind_word members.Slave = word.Name (codes "slave")
+kind_word members.Power = word.Name (codes "power")
+kind_word members.Line = word.Name (codes "line")
 
 -- what the reason of a member is called
 abbrev pub why_word : Why → Word
-why_word why.Myself = word.Myself
-why_word why.Suspend = word.Suspend
-why_word why.Wake = word.Wake
-why_word why.Force = word.Force
-why_word why.Reset = word.Reset
-why_word why.Shutdown = word.Shutdown
-why_word why.Config = word.Config
-why_word why.Uses = word.Use
-why_word why.Above = word.Above
+why_word why.Myself = word.Name (codes "self")
+why_word why.Suspend = word.Name (codes "suspend")
+why_word why.Wake = word.Name (codes "wake")
+why_word why.Force = word.Name (codes "force")
+why_word why.Reset = word.Name (codes "reset")
+why_word why.Shutdown = word.Name (codes "shutdown")
+why_word why.Config = word.Name (codes "config")
+why_word why.Uses = word.Name (codes "use")
+why_word why.Above = word.Name (codes "above")
 
 -- the numbers of the masters of a path as words
 abbrev pub path_words : List NodeId → List Word

@@ -1,5 +1,5 @@
 -- The lines of a core step: its commands, then its starts, its late replies and its callbacks, and then its answer.
-use Rattle.std.specs.Prelude.{ℕ, Bool, if◌then◌else◌, List, [], ◌∷◌, ◌++◌, map}
+use Rattle.std.specs.Prelude.{ℕ, Bool, if◌then◌else◌, List, [], ◌∷◌, ◌++◌, map, codes, Option, Some, None}
 use Rattle.std.specs.List.{concat}
 use Rattle.pm_base.specs.declared.names.Unit.{Unit}
 use Rattle.pm_base.specs.declared.names.Unit.TheVariants.{Node, Line}
@@ -13,48 +13,49 @@ use Rattle.pm_core.specs.declared.outbox.Late.{Late}
 use Rattle.pm_core.specs.declared.outbox.Outbox.{Outbox}
 use Rattle.pm_core.specs.declared.outbox.Start.{Start}
 use Rattle.pm_core.specs.declared.replies.Answer.{Answer}
-use Rattle.pm_core.specs.declared.replies.Answer.TheVariants.{Silent, Drop, Reply, Ack}
+use Rattle.pm_core.specs.declared.replies.Answer.TheVariants as answers
 use Rattle.pm_core.specs.Outbox.{Outputs}
 use Rattle.pm_apply.specs.Part.{Part}
 use Rattle.pm_trace.specs.declared.line.Word.{Word}
 use Rattle.pm_trace.specs.declared.line.Word.TheVariants as word
+use Rattle.pm_trace.specs.declared.step.StepLine.{StepLine}
+use Rattle.pm_trace.specs.declared.step.StepLine.TheVariants as told
 use Rattle.pm_trace.specs.Line.{numbers, line_text}
 
--- what a command is called: by its unit, and whether it succeeded
+-- what a command is called, by its unit and whether it succeeded, and the number of the unit
 abbrev pub command_name : Unit → Bool → List Word
-command_name (Node node) ok = (if ok then word.Set else word.Fail) ∷ word.Number node.0 ∷ []
-command_name (Line reset) ok = (if ok then word.Line else word.LineFail) ∷ word.Number reset.0 ∷ []
+command_name (Node node) ok = word.Name (if ok then codes "set" else codes "fail") ∷ word.Number node.0 ∷ []
+command_name (Line reset) ok = word.Name (if ok then codes "line" else codes "linefail") ∷ word.Number reset.0 ∷ []
 
--- the words of a command's line after the number of its step: the unit, its value before, and the value commanded
-abbrev pub command_words : Done → List Word
-command_words d = command_name d.command.unit d.ok ++ numbers (d.from ∷ d.command.value ∷ [])
+-- the words of a line after the number of its step: of a command the unit, its value before, and the value commanded; of a
+-- start the processor, and the address at which it begins; of a reply the master, the status, and the words that it tells; of
+-- a drop the master; and of a callback the master, its number, and its arguments
+abbrev pub step_words : StepLine → List Word
+step_words (told.Command d) = command_name d.command.unit d.ok ++ numbers (d.from ∷ d.command.value ∷ [])
+step_words (told.Start start) = word.Name (codes "run") ∷ word.Number start.proc.0 ∷ word.Address start.address ∷ []
+step_words (told.Reply master response) = word.Name (codes "reply") ∷ numbers (master.0 ∷ response_words response)
+step_words (told.Drop master) = word.Name (codes "drop") ∷ word.Number master.0 ∷ []
+step_words (told.Call callback) = word.Name (codes "call") ∷ numbers (callback.master.0 ∷ callback_words callback.id callback.args)
 
--- the words of a start's line after the number of its step: the processor, and the address at which it begins
-abbrev pub start_words : Start → List Word
-start_words start = word.Run ∷ word.Number start.proc.0 ∷ word.Address start.address ∷ []
-
--- the words of a reply's line after the number of its step: the master, the status, and the words that it tells
-abbrev pub reply_words : NodeId → Response → List Word
-reply_words master response = word.Reply ∷ numbers (master.0 ∷ response_words response)
-
--- those of a late reply, which tells its status alone
-abbrev pub late_words : Late → List Word
-late_words late = reply_words late.master (record { status = late.status; words = 0 ∷ 0 ∷ 0 ∷ [] })
-
--- the words of a callback's line after the number of its step: the master, the number of the callback, and its arguments
-abbrev pub call_words : Callback → List Word
-call_words callback = word.Call ∷ numbers (callback.master.0 ∷ callback_words callback.id callback.args)
+-- a late reply tells its status alone
+abbrev pub late_line : Late → StepLine
+late_line late = told.Reply late.master (record { status = late.status; words = 0 ∷ 0 ∷ 0 ∷ [] })
 
 -- the acknowledge callback, which has no fourth argument
 abbrev pub acknowledgement : NodeId → NodeId → ℕ → ℕ → Callback
 acknowledgement master node status point = record { master = master; id = acknowledge; args = node.0 ∷ status ∷ point ∷ 0 ∷ [] }
 
--- the words of an answer's line after the number of its step: none where nothing is written
-abbrev pub answer_words : Answer → List (List Word)
-answer_words Silent = []
-answer_words (Drop master) = (word.Drop ∷ word.Number master.0 ∷ []) ∷ []
-answer_words (Reply master response) = reply_words master response ∷ []
-answer_words (Ack master node status point shown) = if shown then call_words (acknowledgement master node status point) ∷ [] else []
+-- the line of an answer: none where nothing is written
+abbrev pub answer_line : Answer → Option StepLine
+answer_line answers.Silent = None
+answer_line (answers.Drop master) = Some (told.Drop master)
+answer_line (answers.Reply master response) = Some (told.Reply master response)
+answer_line (answers.Ack master node status point shown) = if shown then Some (told.Call (acknowledgement master node status point)) else None
+
+-- the same as a list
+abbrev pub where_shown : Option StepLine → List StepLine
+where_shown None = []
+where_shown (Some line) = line ∷ []
 
 -- what a core step tells besides its answer: the processors that start, the late replies, and the callbacks
 pub record Notices : Type 0 where
@@ -62,21 +63,15 @@ pub record Notices : Type 0 where
   pub late : List Late
   pub calls : List Callback
 
--- the words of the lines from the callbacks of a core step on: those, and its answer
-abbrev pub call_lines : Notices → Answer → List (List Word)
-call_lines notices answer = map call_words notices.calls ++ answer_words answer
+-- the lines of a core step in order: its commands, its starts, its late replies, its callbacks, and its answer
+abbrev pub told_lines : List Done → Notices → Answer → List StepLine
+told_lines commands notices answer =
+    map told.Command commands
+    ++ (map told.Start notices.starts ++ (map late_line notices.late ++ (map told.Call notices.calls ++ where_shown (answer_line answer))))
 
--- the same from its late replies on
-abbrev pub late_lines : Notices → Answer → List (List Word)
-late_lines notices answer = map late_words notices.late ++ call_lines notices answer
-
--- the same from its starts on
-abbrev pub rest_words : Notices → Answer → List (List Word)
-rest_words notices answer = map start_words notices.starts ++ late_lines notices answer
-
--- the words of a core step's lines in order, each after the number of the step
+-- their words, each after the number of the step
 abbrev pub output_words : List Done → Notices → Answer → List (List Word)
-output_words commands notices answer = map command_words commands ++ rest_words notices answer
+output_words commands notices answer = map step_words (told_lines commands notices answer)
 
 -- a line of step n
 abbrev pub numbered_line : ℕ → List Word → List ℕ

@@ -1,13 +1,15 @@
 //! The closing table, which follows the last step.
 
-ghost use Rattle.std.specs.Prelude.{◌≡◌, ◌<◌, ◌↔◌, ◌∷◌, [], Some, IsTrue, length, slice_get};
+ghost use Rattle.std.specs.Prelude.{◌≡◌, ◌<◌, ◌≤◌, ◌↔◌, ◌∷◌, [], Some, IsTrue, length, slice_get};
 ghost use Rattle.std.specs.Bool.{OnFalse};
 ghost use Rattle.pm_core.specs.Units.{units};
 ghost use Rattle.pm_base.specs.declared.names.Unit.{Unit};
 ghost use Rattle.pm_trace.specs.declared.line.Word.TheVariants as word;
-ghost use Rattle.pm_trace.specs.Closing.{shown, unit_line, unit_name, kind_name};
+ghost use Rattle.pm_core.specs.Values.{shown};
+ghost use Rattle.pm_trace.specs.Closing.{unit_line, unit_name, kind_name};
+ghost use Rattle.pm_trace.specs.Line.{width};
 
-use crate::line::{TextLine, Word, write_line};
+use crate::line::{TextLine, Word, name, write_line};
 use pm_base::Unit;
 use pm_core::Book;
 use pm_topology::{Kind, Topology};
@@ -24,18 +26,7 @@ pub fn closing(book: &Book, k: usize, kept: u32, line: &mut TextLine) -> bool
     ensures hidden { OnFalse result (line.new.items ≡ []) }
 {
     let unit = book.unit(k);
-    write_unit(book.topology(), unit, shown(book, unit), kept, line)
-}
-
-/// What the book's column shows of a unit: the number of the mode of a processor, and the value of any
-/// other.
-fn shown(book: &Book, unit: Unit) -> u32
-    ensures { result ≡ shown unit book.now }
-{
-    match unit {
-        Unit::Node(node) => book.point(node),
-        Unit::Line(_) => book.value(unit),
-    }
+    write_unit(book.topology(), unit, book.shown(unit), kept, line)
 }
 
 /// Leaves in `line` the closing line of a unit of which this is shown, if it has one.
@@ -48,12 +39,12 @@ fn write_unit(t: &Topology, unit: Unit, value: u32, kept: u32, line: &mut TextLi
         line.clear();
         return false;
     }
-    let (name, number) = name_of(t, unit);
+    let (kind, number) = unit_name(t, unit);
     write_line(
         line,
-        Word::End,
+        name(b"end"),
         &[
-            name,
+            kind,
             Word::Number(number),
             Word::Number(value),
             Word::Number(kept),
@@ -62,23 +53,25 @@ fn write_unit(t: &Topology, unit: Unit, value: u32, kept: u32, line: &mut TextLi
     true
 }
 
-/// What a unit is called, and its number.
-fn name_of(t: &Topology, unit: Unit) -> (Word, u32)
-    ensures { unit_name t.now unit ≡ result.0 ∷ word.Number result.1 ∷ [] }
+/// What a unit is called in a line of output, and its number.
+pub fn unit_name(t: &Topology, unit: Unit) -> (Word, u32)
+    ensures words { unit_name t.now unit ≡ result.0 ∷ word.Number result.1 ∷ [] }
+    ensures short { width result.0 ≤ 5 }
 {
     match unit {
         Unit::Node(node) => (kind_name(t.kind(node)), node.0),
-        Unit::Line(reset) => (Word::Line, reset.0),
+        Unit::Line(reset) => (name(b"line"), reset.0),
     }
 }
 
 /// What a node of a kind is called.
 fn kind_name(kind: Kind) -> Word
-    ensures { result ≡ kind_name kind }
+    ensures name { result ≡ kind_name kind }
+    ensures short { width result ≤ 5 }
 {
     match kind {
-        Kind::Proc(_) => Word::Proc,
-        Kind::Slave(_) | Kind::Unknown => Word::Slave,
-        Kind::Power(_) => Word::Power,
+        Kind::Proc(_) => name(b"proc"),
+        Kind::Slave(_) | Kind::Unknown => name(b"slave"),
+        Kind::Power(_) => name(b"power"),
     }
 }

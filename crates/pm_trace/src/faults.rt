@@ -3,7 +3,7 @@
 ghost use Rattle.std.specs.Prelude.{◌≡◌};
 ghost use Rattle.pm_trace.specs.Faults.{fault_text, object_cause, text_cause, line_cause, exit_by};
 
-use crate::line::{TextLine, Word, write_line};
+use crate::line::{TextLine, Word, name, write_line};
 use pm_base::Exit;
 use pm_object::{ObjectCause, ObjectFault};
 use pm_objtext::{TextCause, TextFault};
@@ -35,34 +35,38 @@ pub fn write_fault(fault: Fault, line: &mut TextLine)
     ensures { line.new.items ≡ fault_text fault }
 {
     match fault {
-        Fault::Usage => write_line(line, Word::Fault, &[Word::Usage]),
+        Fault::Usage => write_line(line, name(b"fault"), &[name(b"usage")]),
         Fault::Object(fault) => write_line(
             line,
-            Word::Fault,
+            name(b"fault"),
             &[
-                Word::Object,
+                name(b"object"),
                 Word::Number(object_cause(fault.cause)),
                 Word::Number(fault.offset),
             ],
         ),
         Fault::Text(fault) => write_line(
             line,
-            Word::Fault,
+            name(b"fault"),
             &[
-                Word::Text,
+                name(b"text"),
                 Word::Number(fault.line),
                 Word::Number(text_cause(fault.cause)),
             ],
         ),
         Fault::Line(n, cause) => write_line(
             line,
-            Word::Fault,
-            &[Word::Line, Word::Number(n), Word::Number(line_cause(cause))],
+            name(b"fault"),
+            &[
+                name(b"line"),
+                Word::Number(n),
+                Word::Number(line_cause(cause)),
+            ],
         ),
-        Fault::Read => write_line(line, Word::Fault, &[Word::Read]),
-        Fault::Memory => write_line(line, Word::Fault, &[Word::Memory]),
-        Fault::Size => write_line(line, Word::Fault, &[Word::Size]),
-        Fault::Node => write_line(line, Word::Fault, &[Word::Node]),
+        Fault::Read => write_line(line, name(b"fault"), &[name(b"read")]),
+        Fault::Memory => write_line(line, name(b"fault"), &[name(b"memory")]),
+        Fault::Size => write_line(line, name(b"fault"), &[name(b"size")]),
+        Fault::Node => write_line(line, name(b"fault"), &[name(b"node")]),
     }
 }
 

@@ -10,10 +10,10 @@ pub mod reach;
 pub mod report;
 pub mod step;
 
-pub use closing_table::closing;
+pub use closing_table::{closing, unit_name};
 pub use exits::exits_say;
 pub use faults::{Fault, exit, write_fault};
-pub use line::{TextLine, Word, write_line};
+pub use line::{TextLine, Word, name, write_line};
 pub use reach::reach_text;
 pub use report::refuse;
-pub use step::{entries, entry};
+pub use step::{StepLine, entries, entry};

@@ -5,7 +5,7 @@ ghost use Rattle.std.specs.List.{flat_map};
 ghost use Rattle.pm_trace.specs.Line.{after_space, word_text};
 ghost use Rattle.pm_trace.specs.Reach.{kind_word, why_word, path_words, member_text, reach_text};
 
-use crate::line::{Word, text_of};
+use crate::line::{Word, name, text_of};
 use itoa::Buffer;
 use pm_base::{NoMemory, NodeId};
 use pm_reach::{Member, MemberKind, Reach, Why};
@@ -43,10 +43,10 @@ fn kind_word(kind: MemberKind) -> Word
     ensures { result ≡ kind_word kind }
 {
     match kind {
-        MemberKind::Master => Word::Master,
-        MemberKind::Slave => Word::Slave,
-        MemberKind::Power => Word::Power,
-        MemberKind::Line => Word::Line,
+        MemberKind::Master => name(b"master"),
+        MemberKind::Slave => name(b"slave"),
+        MemberKind::Power => name(b"power"),
+        MemberKind::Line => name(b"line"),
     }
 }
 
@@ -55,15 +55,15 @@ fn why_word(why: Why) -> Word
     ensures { result ≡ why_word why }
 {
     match why {
-        Why::Myself => Word::Myself,
-        Why::Suspend => Word::Suspend,
-        Why::Wake => Word::Wake,
-        Why::Force => Word::Force,
-        Why::Reset => Word::Reset,
-        Why::Shutdown => Word::Shutdown,
-        Why::Config => Word::Config,
-        Why::Uses => Word::Use,
-        Why::Above => Word::Above,
+        Why::Myself => name(b"self"),
+        Why::Suspend => name(b"suspend"),
+        Why::Wake => name(b"wake"),
+        Why::Force => name(b"force"),
+        Why::Reset => name(b"reset"),
+        Why::Shutdown => name(b"shutdown"),
+        Why::Config => name(b"config"),
+        Why::Uses => name(b"use"),
+        Why::Above => name(b"above"),
     }
 }
 
@@ -90,7 +90,7 @@ fn put_word(text: &mut Vec<u8>, word: Word) -> Result<(), NoMemory>
     ensures { OnOk result (text.new.items ≡ text.old.items ++ word_text word) }
 {
     let mut buffer = Buffer::new();
-    put(text, text_of(word, &mut buffer))
+    put(text, text_of(&word, &mut buffer))
 }
 
 /// Puts bytes at the end.

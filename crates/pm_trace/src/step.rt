@@ -1,13 +1,31 @@
 //! The lines of one core step.
 
-ghost use Rattle.std.specs.Prelude.{◌≡◌, ◌<◌, ◌+◌, ◌∷◌, [], Some, length, map, slice_get};
-ghost use Rattle.pm_trace.specs.Step.{output_words, rest_words, late_lines, call_lines, core_lines, notices_in, answer_words, command_words, start_words, reply_words, late_words, call_words, numbered_line};
+ghost use Rattle.std.specs.Prelude.{◌≡◌, ◌<◌, ◌≤◌, ◌+◌, ◌-◌, ◌∷◌, [], Some, None, MatchResult, length, map, slice_get};
+ghost use Rattle.pm_trace.specs.declared.line.Word.TheVariants as word;
+ghost use Rattle.pm_trace.specs.declared.step.StepLine.TheVariants as told;
+ghost use Rattle.pm_trace.specs.Line.{width};
+ghost use Rattle.pm_trace.specs.Step.{answer_line, command_name, core_lines, late_line, notices_in, numbered_line, output_words, told_lines, step_words};
 
-use crate::line::{TextLine, Word, write_line};
+use crate::line::{TextLine, Word, name, write_line};
 use pm_base::{NodeId, Unit};
 use pm_core::{Answer, Callback, Done, Late, Outbox, Start};
 use pm_ipi::callbacks::ACKNOWLEDGE;
 use pm_ipi::{Response, callback_words, respond};
+
+/// What one line of a core step tells.
+#[derive(Clone, Copy, Debug, PartialEq, Eq)]
+pub enum StepLine {
+    /// A command was issued, with this answer of the device.
+    Command(Done),
+    /// A processor starts.
+    Start(Start),
+    /// A master is answered, at once or later.
+    Reply(NodeId, Response),
+    /// The message of a master is dropped.
+    Drop(NodeId),
+    /// A master is called back, or its message acknowledged.
+    Call(Callback),
+}
 
 /// The number of lines of a core step.
 pub fn entries(out: &Outbox) -> usize
@@ -17,18 +35,7 @@ pub fn entries(out: &Outbox) -> usize
         + out.starts.as_slice().len()
         + out.late.as_slice().len()
         + out.calls.as_slice().len()
-        + answer_entries(&out.answer)
-}
-
-/// The number of lines of an answer: one where it is written.
-fn answer_entries(answer: &Answer) -> usize
-    ensures lines { result ≡ length (answer_words answer.now) }
-    ensures one { result < 2 }
-{
-    match answer {
-        Answer::Silent | Answer::Ack { shown: false, .. } => 0,
-        _ => 1,
-    }
+        + usize::from(answer_line(&out.answer).is_some())
 }
 
 /// Leaves in `line` the `k`-th line, counted from 0, of a core step of script line `n`, with its line
@@ -37,87 +44,116 @@ pub fn entry(n: u32, out: &Outbox, k: usize, line: &mut TextLine)
     requires place { k < length (output_words out.now.done.items (notices_in out.now) out.now.answer) }
     ensures { slice_get (core_lines n out.now.done.items (notices_in out.now) out.now.answer) k ≡ Some line.new.items }
 {
-    let commands = out.done.as_slice();
-    match command_at(commands, k) {
-        Some(done) => write_command(n, done, line),
-        None => write_rest(n, out, k - commands.len(), line),
+    match line_at(out, k) {
+        Some(told) => write_told(n, &told, line),
+        None => unreachable!(),
     }
 }
 
-fn command_at(done: &[Done], k: usize) -> Option<Done>
-    ensures { result ≡ slice_get done.now k }
+/// What the `k`-th line of a core step tells, if it has so many.
+fn line_at(out: &Outbox, k: usize) -> Option<StepLine>
+    ensures { result ≡ slice_get (told_lines out.now.done.items (notices_in out.now) out.now.answer) k }
 {
-    done.get(k).copied()
-}
-
-/// Leaves in `line` the `k`-th line after the commands of a core step of script line `n`: that of a
-/// start, or a later one.
-fn write_rest(n: u32, out: &Outbox, k: usize, line: &mut TextLine)
-    requires place { k < length (rest_words (notices_in out.now) out.now.answer) }
-    ensures { slice_get (map (numbered_line n) (rest_words (notices_in out.now) out.now.answer)) k ≡ Some line.new.items }
-{
-    let starts = out.starts.as_slice();
-    match start_at(starts, k) {
-        Some(start) => write_start(n, start, line),
-        None => write_from_late(n, out, k - starts.len(), line),
+    let k = match at(out.done.as_slice(), k) {
+        Ok(done) => return Some(StepLine::Command(done)),
+        Err(k) => k,
+    };
+    let k = match at(out.starts.as_slice(), k) {
+        Ok(start) => return Some(StepLine::Start(start)),
+        Err(k) => k,
+    };
+    let k = match at(out.late.as_slice(), k) {
+        Ok(late) => return Some(late_line(late)),
+        Err(k) => k,
+    };
+    let k = match at(out.calls.as_slice(), k) {
+        Ok(callback) => return Some(StepLine::Call(callback)),
+        Err(k) => k,
+    };
+    if k == 0 {
+        answer_line(&out.answer)
+    } else {
+        None
     }
 }
 
-/// The start at a place, where there is one.
-fn start_at(starts: &[Start], k: usize) -> Option<Start>
-    ensures { result ≡ slice_get starts.now k }
+/// The element at a place, or else how far the place is past the last one.
+fn at<T: Copy>(items: &[T], k: usize) -> Result<T, usize>
+    ensures { MatchResult result (λ item. slice_get items.now k ≡ Some item) (λ past. (slice_get items.now k ≡ None) × (past ≡ k - length items.now)) }
 {
-    starts.get(k).copied()
-}
-
-/// Leaves in `line` the `k`-th line after the starts of a core step of script line `n`: that of a late
-/// reply, or a later one.
-fn write_from_late(n: u32, out: &Outbox, k: usize, line: &mut TextLine)
-    requires place { k < length (late_lines (notices_in out.now) out.now.answer) }
-    ensures { slice_get (map (numbered_line n) (late_lines (notices_in out.now) out.now.answer)) k ≡ Some line.new.items }
-{
-    let replies = out.late.as_slice();
-    match late_at(replies, k) {
-        Some(late) => write_late(n, late, line),
-        None => write_from_calls(n, out, k - replies.len(), line),
+    match items.get(k) {
+        Some(item) => Ok(*item),
+        None => Err(k - items.len()),
     }
 }
 
-/// The late reply at a place, where there is one.
-fn late_at(replies: &[Late], k: usize) -> Option<Late>
-    ensures { result ≡ slice_get replies.now k }
+/// The line of a late reply, which tells its status alone.
+fn late_line(late: Late) -> StepLine
+    ensures { result ≡ late_line late }
 {
-    replies.get(k).copied()
+    StepLine::Reply(
+        late.master,
+        Response {
+            status: late.status,
+            words: [0; 3],
+        },
+    )
 }
 
-/// Leaves in `line` the `k`-th line after the late replies of a core step of script line `n`: that of a
-/// callback, or of the answer.
-fn write_from_calls(n: u32, out: &Outbox, k: usize, line: &mut TextLine)
-    requires place { k < length (call_lines (notices_in out.now) out.now.answer) }
-    ensures { slice_get (map (numbered_line n) (call_lines (notices_in out.now) out.now.answer)) k ≡ Some line.new.items }
+/// The line of an answer, where it is written.
+fn answer_line(answer: &Answer) -> Option<StepLine>
+    ensures { result ≡ answer_line answer.now }
 {
-    match call_at(out.calls.as_slice(), k) {
-        Some(callback) => write_call(n, callback, line),
-        None => write_answer(n, &out.answer, line),
+    match *answer {
+        Answer::Silent | Answer::Ack { shown: false, .. } => None,
+        Answer::Drop { master } => Some(StepLine::Drop(master)),
+        Answer::Reply { master, response } => Some(StepLine::Reply(master, response)),
+        Answer::Ack {
+            master,
+            node,
+            status,
+            point,
+            ..
+        } => Some(StepLine::Call(Callback {
+            master,
+            id: ACKNOWLEDGE,
+            args: [node.0, status, point, 0],
+        })),
     }
 }
 
-fn call_at(calls: &[Callback], k: usize) -> Option<Callback>
-    ensures { result ≡ slice_get calls.now k }
+/// Leaves in `line` what a line of step `n` tells.
+fn write_told(n: u32, told: &StepLine, line: &mut TextLine)
+    ensures { line.new.items ≡ numbered_line n (step_words told.now) }
 {
-    calls.get(k).copied()
+    match *told {
+        StepLine::Command(done) => write_command(n, done, line),
+        StepLine::Start(start) => write_line(
+            line,
+            Word::Number(n),
+            &[
+                name(b"run"),
+                Word::Number(start.proc.0),
+                Word::Address(start.address),
+            ],
+        ),
+        StepLine::Reply(master, response) => write_reply(n, master, &response, line),
+        StepLine::Drop(master) => {
+            write_line(
+                line,
+                Word::Number(n),
+                &[name(b"drop"), Word::Number(master.0)],
+            );
+        }
+        StepLine::Call(callback) => write_call(n, callback, line),
+    }
 }
 
 /// Leaves in `line` the line of a command that was issued.
 fn write_command(n: u32, done: Done, line: &mut TextLine)
-    ensures { line.new.items ≡ numbered_line n (command_words done) }
+    ensures { line.new.items ≡ numbered_line n (step_words (told.Command done)) }
 {
-    let (name, number) = match (done.command.unit, done.ok) {
-        (Unit::Node(node), true) => (Word::Set, node.0),
-        (Unit::Node(node), false) => (Word::Fail, node.0),
-        (Unit::Line(reset), true) => (Word::Line, reset.0),
-        (Unit::Line(reset), false) => (Word::LineFail, reset.0),
-    };
+    let (name, number) = command_name(done.command.unit, done.ok);
     write_line(
         line,
         Word::Number(n),
@@ -130,31 +166,29 @@ fn write_command(n: u32, done: Done, line: &mut TextLine)
     );
 }
 
-/// Leaves in `line` the line of a processor that starts.
-fn write_start(n: u32, start: Start, line: &mut TextLine)
-    ensures { line.new.items ≡ numbered_line n (start_words start) }
+/// What a command is called, by its unit and whether the device took it, and the number of the unit.
+fn command_name(unit: Unit, ok: bool) -> (Word, u32)
+    ensures words { command_name unit ok ≡ result.0 ∷ word.Number result.1 ∷ [] }
+    ensures short { width result.0 ≤ 8 }
 {
-    write_line(
-        line,
-        Word::Number(n),
-        &[
-            Word::Run,
-            Word::Number(start.proc.0),
-            Word::Address(start.address),
-        ],
-    );
+    match (unit, ok) {
+        (Unit::Node(node), true) => (name(b"set"), node.0),
+        (Unit::Node(node), false) => (name(b"fail"), node.0),
+        (Unit::Line(reset), true) => (name(b"line"), reset.0),
+        (Unit::Line(reset), false) => (name(b"linefail"), reset.0),
+    }
 }
 
 /// Leaves in `line` the line of a reply.
 fn write_reply(n: u32, master: NodeId, response: &Response, line: &mut TextLine)
-    ensures { line.new.items ≡ numbered_line n (reply_words master response.now) }
+    ensures { line.new.items ≡ numbered_line n (step_words (told.Reply master response.now)) }
 {
     let words = respond(response);
     write_line(
         line,
         Word::Number(n),
         &[
-            Word::Reply,
+            name(b"reply"),
             Word::Number(master.0),
             Word::Number(words[0]),
             Word::Number(words[1]),
@@ -164,27 +198,16 @@ fn write_reply(n: u32, master: NodeId, response: &Response, line: &mut TextLine)
     );
 }
 
-/// Leaves in `line` the line of a late reply.
-fn write_late(n: u32, late: Late, line: &mut TextLine)
-    ensures { line.new.items ≡ numbered_line n (late_words late) }
-{
-    let response = Response {
-        status: late.status,
-        words: [0; 3],
-    };
-    write_reply(n, late.master, &response, line);
-}
-
 /// Leaves in `line` the line of a callback.
 fn write_call(n: u32, callback: Callback, line: &mut TextLine)
-    ensures { line.new.items ≡ numbered_line n (call_words callback) }
+    ensures { line.new.items ≡ numbered_line n (step_words (told.Call callback)) }
 {
     let words = callback_words(callback.id, callback.args);
     write_line(
         line,
         Word::Number(n),
         &[
-            Word::Call,
+            name(b"call"),
             Word::Number(callback.master.0),
             Word::Number(words[0]),
             Word::Number(words[1]),
@@ -193,32 +216,4 @@ fn write_call(n: u32, callback: Callback, line: &mut TextLine)
             Word::Number(words[4]),
         ],
     );
-}
-
-/// Leaves in `line` the line of an answer that has one.
-fn write_answer(n: u32, answer: &Answer, line: &mut TextLine)
-    requires shown { 0 < length (answer_words answer.now) }
-    ensures { map (numbered_line n) (answer_words answer.now) ≡ line.new.items ∷ [] }
-{
-    match *answer {
-        Answer::Silent => {}
-        Answer::Drop { master } => {
-            write_line(line, Word::Number(n), &[Word::Drop, Word::Number(master.0)]);
-        }
-        Answer::Reply { master, response } => write_reply(n, master, &response, line),
-        Answer::Ack {
-            master,
-            node,
-            status,
-            point,
-            ..
-        } => {
-            let acknowledgement = Callback {
-                master,
-                id: ACKNOWLEDGE,
-                args: [node.0, status, point, 0],
-            };
-            write_call(n, acknowledgement, line);
-        }
-    }
 }

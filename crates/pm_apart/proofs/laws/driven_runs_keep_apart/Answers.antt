@@ -3,34 +3,30 @@ use Rattle.pm_base.specs.declared.names.NodeId.{NodeId}
 use Rattle.std.proofs.Common.{List}
 use Rattle.pm_object.specs.Grammar.{IsObject}
 use Rattle.pm_topology.specs.WellFormed.{IsWellFormed}
-use Rattle.pm_core.specs.Run.{Setup}
-use Rattle.pm_drive.specs.Drive.{driven}
+use Rattle.pm_run.specs.Run.{Setup}
+use Rattle.pm_drive.specs.Drive.{driven, until}
 use Rattle.pm_apart.specs.Apart.{BooksStayApart}
+use Rattle.pm_apart.proofs.TellingLaw.{telling_apart}
 use Rattle.pm_apart.proofs.laws.driven_runs_keep_apart.Goals as goal
 
 pub returns : goal.returns
 returns g c =
     let law = c.reach_keeps_apart.ensures in
     let beyond : (cs : Setup) (events : List Event) (m : NodeId) → IsObject cs.object → IsWellFormed cs.topology → BooksStayApart cs events m = λ cs events m object formed. record {
-      books = law.books cs m events object formed;
-      values = law.values cs m events object formed;
-      modes = law.modes cs m events object formed;
-      starts = law.starts cs m events object formed;
-      pulses = law.pulses cs m events object formed;
-      drops = law.drops cs m events object formed;
-      answers = law.answers cs m events object formed;
-      ends = law.ends cs m events object formed;
-      callbacks = law.callbacks cs m events object formed;
+      beside = law.beside cs m events object formed;
+      alike = law.alike cs m events object formed;
     } in
     record {
       run = λ cs events answers old new object formed drove. record {
         lines = c.texts_are_lines.ensures.run cs answers events;
         apart = λ none. c.driven_lines_stay_apart.ensures.run cs events answers old new object formed none drove;
         beyond = λ m. beyond cs events m object formed;
+        telling = λ m. telling_apart cs m events (law.alike cs m events object formed);
       };
-      steps = λ cs events answers old new object formed drove. record {
-        lines = c.texts_are_lines.ensures.steps 0 (driven cs answers events);
-        apart = λ none. c.driven_lines_stay_apart.ensures.steps cs events answers old new object formed none drove;
+      steps = λ cs events answers cut old new object formed drove. record {
+        lines = c.texts_are_lines.ensures.steps 0 (until cut (driven cs answers events));
+        apart = λ none. c.driven_lines_stay_apart.ensures.steps cs events answers cut old new object formed none drove;
         beyond = λ m. beyond cs events m object formed;
+        telling = λ m. telling_apart cs m events (law.alike cs m events object formed);
       };
     }

@@ -16,11 +16,8 @@ returns c =
       reaches = c.a_part_without_refusal.ensures.reaches;
     } in
     let laws : ReachLaws = record {
-      event = c.reach_keeps_apart.ensures.event;
-      message = c.reach_keeps_apart.ensures.message;
-      pulses = c.reach_keeps_apart.ensures.pulse;
+      beside = c.reach_keeps_apart.ensures.beside;
       closed = c.reach_is_closed.ensures.closed;
-      at_load = c.books_agree.ensures.load;
       values = c.values_agree.ensures.values;
       modes = c.values_agree.ensures.modes;
       load = c.books_of_a_run.ensures.load;
@@ -31,6 +28,6 @@ returns c =
     record {
       commands = commands_apart laws;
       closing = closing_apart laws;
-      steps = λ setup events object chip m unit beyond. steps_apart laws setup m events unit object chip beyond;
+      steps = λ setup events cut object chip m unit beyond. steps_apart laws setup m events unit object chip beyond cut;
       run = λ setup events object chip m unit beyond. run_apart laws setup m events unit object chip beyond;
     }

@@ -19,7 +19,7 @@ returns g c = λ setup events answers cut old new well idle given.
       kinds = c.kinds_are_exact.ensures;
       after = c.acts_append.ensures.values;
     })
-    (λ events. c.books_of_a_run.ensures.all setup events well)
+    (c.books_of_a_run.ensures.load setup well) (λ event book is. c.books_of_a_run.ensures.step setup event book well is)
     (c.at_zero_is_a_record.ensures.record setup.topology)
     (c.at_zero_is_a_record.ensures.values setup.topology)
     c.chain_shows.ensures c.none_is_refused.ensures.still c.none_is_refused.ensures.whole events answers cut old new idle given

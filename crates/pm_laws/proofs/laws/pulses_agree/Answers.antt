@@ -1,5 +1,6 @@
-use Rattle.pm_laws.proofs.PulseLaw.{pulse_agree, pulse_hidden}
+use Rattle.pm_laws.proofs.PulseLaw.{pulse_agree}
 use Rattle.pm_laws.proofs.RowFacts.{BelowLaws}
+use Rattle.pm_laws.proofs.VerdictsLaw.{pulse_hidden}
 use Rattle.pm_laws.proofs.laws.pulses_agree.Goals as goal
 
 pub returns : goal.returns
@@ -11,4 +12,4 @@ returns c =
       hold = c.shifts_leave_others.ensures.hold;
       units = c.units_stand_in_order.ensures;
     } in
-    record { both = pulse_agree laws; hidden = pulse_hidden }
+    record { both = pulse_agree laws; hidden = λ border event book. pulse_hidden border book event }

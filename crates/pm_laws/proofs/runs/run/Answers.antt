@@ -1,4 +1,4 @@
-use Rattle.std.proofs.Common.{List, [], drop, subst, arith}
+use Rattle.std.proofs.Common.{List, subst, arith}
 use Rattle.std.proofs.lemmas.List.{drop_all}
 use Rattle.pm_base.specs.declared.events.Event.{Event}
 use Rattle.pm_laws.proofs.RunsLaw.{IsUnderWay, runs_to_end}

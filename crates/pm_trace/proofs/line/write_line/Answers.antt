@@ -1,14 +1,14 @@
-use Rattle.std.proofs.Common.{rules, ◌≡◌, ◌<◌, ◌+◌, ℕ, List, length, drop, get_or, ap, arith}
+use Rattle.std.proofs.Common.{rules, ◌≡◌, ◌<◌, ◌+◌, ℕ, List, length, drop, get_or, ap, sym, ◌∙◌, arith}
 use Rattle.std.proofs.lemmas.List.{drop_more}
 use Rattle.pm_trace.specs.declared.line.Word.{Word}
-use Rattle.pm_trace.specs.declared.line.Word.TheVariants as word
 use Rattle.pm_trace.specs.Line.{width, widths}
 use Rattle.pm_trace.proofs.LineLemmas.{line_is_made, word_more}
 use Rattle.pm_trace.proofs.line.write_line.Goals as goal
 
 -- what the words that are left take, with the first of them
-left : (words : List Word) (k : ℕ) → k < length words → widths (drop k words) ≡ width (get_or words k (word.Number 0)) + 1 + widths (drop (k + 1) words)
-left words k there = ap widths (drop_more words k (word.Number 0) there)
+left : (words : List Word) (k : ℕ) (next : Word) → next ≡ get_or words k next → k < length words
+    → widths (drop k words) ≡ width next + 1 + widths (drop (k + 1) words)
+left words k next is there = ap widths (drop_more words k next there) ∙ ap (λ (w : Word). width w + 1 + widths (drop (k + 1) words)) (sym is)
 
 pub loop-word-init : goal.loop-word-init
 loop-word-init c =
@@ -20,15 +20,15 @@ push_text-requires c = record { room = omega (arith, c.loop-word.invariant.room)
 
 pub push_word-requires-in-loop-word : goal.push_word-requires-in-loop-word
 push_word-requires-in-loop-word c =
-    let next = left c.args.rest.now c.loop-word.word-index c.loop-word-test.true in
+    let next = left c.args.rest.now c.loop-word.word-index c.word-item.result c.word-item.is c.loop-word-test.true in
     record { room = omega (arith, next, c.loop-word.invariant.room, c.push_text.ensures.len) }
 
 pub loop-word-preserved : goal.loop-word-preserved
 loop-word-preserved c =
-    let next = left c.args.rest.now c.loop-word.word-index c.loop-word-test.true in
+    let next = left c.args.rest.now c.loop-word.word-index c.word-item.result c.word-item.is c.loop-word-test.true in
     record {
-      written = word_more c.args.rest.now c.loop-word.word-index c.push_word.new.line.items c.loop-word.line.items c.push_text.new.line.items
-          c.push_word-in-loop-word.new.line.items c.loop-word-test.true c.loop-word.invariant.written c.push_text.ensures.items
+      written = word_more c.args.rest.now c.loop-word.word-index c.word-item.result c.push_word.new.line.items c.loop-word.line.items c.push_text.new.line.items
+          c.push_word-in-loop-word.new.line.items c.word-item.is c.loop-word-test.true c.loop-word.invariant.written c.push_text.ensures.items
           c.push_word-in-loop-word.ensures.items;
       room = omega (arith, next, c.loop-word.invariant.room, c.push_text.ensures.len, c.push_word-in-loop-word.ensures.len);
     }

@@ -1,0 +1,71 @@
+-- The lines of a run, besides those of commands, that tell of what is beyond the reach of a master: which processors start, which
+-- messages of other masters are dropped, and which masters are asked to suspend or notified of a node. A reply and an
+-- acknowledgement have no words that say whether they are an answer or come later, so of these the relation of core steps speaks.
+use Rattle.std.specs.Prelude.{◌≡◌, ℕ, ◌==◌, Bool, true, false, not, ◌&&◌, ◌||◌, codes, List, [], ◌∷◌, filter, Option}
+use Rattle.pm_base.specs.declared.events.Event.{Event}
+use Rattle.pm_base.specs.declared.names.NodeId.{NodeId}
+use Rattle.pm_base.specs.declared.names.Unit.TheVariants.{Node}
+use Rattle.pm_object.specs.declared.object.Object.{Object}
+use Rattle.pm_ipi.specs.Callbacks.{init_suspend, notify}
+use Rattle.pm_run.specs.Run.{Setup}
+use Rattle.pm_laws.specs.Border.{Border, none_within}
+use Rattle.pm_laws.specs.Hidden.{is_within}
+use Rattle.pm_laws.specs.Quiet.{quiet}
+use Rattle.pm_laws.specs.ReachBorder.{border_of, place_of}
+use Rattle.pm_laws.specs.Values.{is_beyond}
+use Rattle.pm_trace.specs.declared.line.Word.{Word}
+use Rattle.pm_trace.specs.declared.line.Word.TheVariants as word
+use Rattle.pm_drive.specs.Drive.{driven, until}
+use Rattle.pm_apart.specs.Lines.{is_name, step_lines}
+
+-- a number that passes this test, with the words after it
+abbrev pub passes : (ℕ → List Word → Bool) → Word → List Word → Bool
+passes test (word.Number n) others = test n others
+passes test _ others = false
+
+-- a line that has this name after its number, and then a number that passes this test, with the words after it
+abbrev pub is_told : List ℕ → (ℕ → List Word → Bool) → List Word → Bool
+is_told text test [] = false
+is_told text test (first ∷ []) = false
+is_told text test (first ∷ name ∷ []) = false
+is_told text test (first ∷ name ∷ number ∷ others) = is_name text name && passes test number others
+
+-- a master or a node with this number
+abbrev pub numbered_node : ℕ → NodeId
+numbered_node n = record { 0 = n }
+
+-- the callback asks a master to suspend, or notifies it of a node beyond, which is its first argument
+abbrev pub is_call : Border → ℕ → ℕ → Bool
+is_call border id first = (id == init_suspend) || ((id == notify) && border.node first)
+
+abbrev pub calls_back : Border → List Word → Bool
+calls_back border [] = false
+calls_back border (id ∷ []) = false
+calls_back border (id ∷ first ∷ others) = passes (λ i words. passes (λ n more. is_call border i n) first others) id others
+
+-- a processor beyond starts
+abbrev pub tells_start : Setup → Border → List Word → Bool
+tells_start c border line = is_told (codes "run") (λ proc others. is_beyond c.object c.topology border (Node (numbered_node proc))) line
+
+-- a message of another master, which is beyond or isn't configured, is dropped
+abbrev pub tells_drop : Setup → Border → NodeId → List Word → Bool
+tells_drop c border m line =
+    is_told (codes "drop") (λ master others. not (master == m.0) && none_within border (place_of c.object (numbered_node master))) line
+
+-- a master beyond is asked to suspend, or notified of a node beyond
+abbrev pub tells_call : Setup → Border → List Word → Bool
+tells_call c border line =
+    is_told (codes "call") (λ master others. not (is_within border (place_of c.object (numbered_node master))) && calls_back border others) line
+
+-- whatever a device answers in the two runs: of the lines of a run, up to that within whose text it breaks off, if it does, those
+-- that tell of what is beyond the reach of a master are those of the run without the messages of the master
+pub record TellsApart (c : Setup) (events : List Event) (m : NodeId) : Type 0 where
+  pub starts : (answers others : List (List Bool)) (cut : Option ℕ)
+      → filter (tells_start c (border_of c.object c.topology m)) (step_lines 0 (until cut (driven c answers events)))
+      ≡ filter (tells_start c (border_of c.object c.topology m)) (step_lines 0 (until cut (driven c others (quiet m events))))
+  pub drops : (answers others : List (List Bool)) (cut : Option ℕ)
+      → filter (tells_drop c (border_of c.object c.topology m) m) (step_lines 0 (until cut (driven c answers events)))
+      ≡ filter (tells_drop c (border_of c.object c.topology m) m) (step_lines 0 (until cut (driven c others (quiet m events))))
+  pub calls : (answers others : List (List Bool)) (cut : Option ℕ)
+      → filter (tells_call c (border_of c.object c.topology m)) (step_lines 0 (until cut (driven c answers events)))
+      ≡ filter (tells_call c (border_of c.object c.topology m)) (step_lines 0 (until cut (driven c others (quiet m events))))

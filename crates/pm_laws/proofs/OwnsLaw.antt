@@ -1,0 +1,16 @@
+-- The master to which a processor belongs is one that has it.
+use Rattle.std.proofs.Common.{◌≡◌, ℕ, Bool, true, false, Option, Some, ap, ◌∙◌}
+use Rattle.std.specs.Option.{option_map_or}
+use Rattle.pm_base.specs.declared.names.NodeId.{NodeId}
+use Rattle.pm_base.proofs.Searches.{position-first}
+use Rattle.pm_object.specs.declared.object.MasterRec.{MasterRec}
+use Rattle.pm_object.specs.declared.object.Object.{Object}
+use Rattle.pm_topology.specs.declared.topology.Topology.{Topology}
+use Rattle.pm_perms.specs.Owner.{has_processor, owner}
+use Rattle.pm_reach.specs.Leads.{owns}
+
+pub owner_owns : (object : Object) (t : Topology) (node : NodeId) (k : ℕ) → owner object t node ≡ Some k → owns object t k node ≡ true
+owner_owns object t node k is =
+    let has : MasterRec → Bool = λ m. has_processor t m.node node in
+    let first = position-first has object.masters k is in
+    ap (λ o. option_map_or has o false) first.here ∙ first.passes

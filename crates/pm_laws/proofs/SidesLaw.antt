@@ -1,0 +1,41 @@
+-- Two core steps tell the same where their outboxes hold what two core steps that tell the same put out.
+use Rattle.std.proofs.Common.{◌≡◌, ◌∙◌, ap, sym}
+use Rattle.pm_base.specs.declared.events.Event.{Event}
+use Rattle.pm_base.specs.declared.names.NodeId.{NodeId}
+use Rattle.pm_core.specs.declared.outbox.Outbox.{Outbox}
+use Rattle.pm_core.specs.Callbacks.{late_replies}
+use Rattle.pm_core.specs.Outbox.{Holds}
+use Rattle.pm_core.specs.State.{State}
+use Rattle.pm_core.specs.Step.{effect, ended, outputs}
+use Rattle.pm_run.specs.Run.{core_of}
+use Rattle.pm_laws.specs.Answers.{is_dropped}
+use Rattle.pm_laws.specs.Border.{Border}
+use Rattle.pm_laws.specs.Callbacks.{calls_beyond}
+use Rattle.pm_laws.specs.Left.{border_in, stepped}
+use Rattle.pm_laws.specs.Pulse.{pulse_beyond}
+use Rattle.pm_laws.specs.SeenTalk.{ends_beyond}
+use Rattle.pm_laws.specs.Told.{SameTold}
+use Rattle.pm_laws.specs.Values.{moves_beyond, starts_beyond}
+
+pub both_stepped : (a b : State) (event other : Event) (m : NodeId) (x y : State) (oa ob : Outbox)
+    → x ≡ effect event a → y ≡ effect other b → Holds (outputs event a) oa → Holds (outputs other b) ob
+    → SameTold a.fixed.object a.fixed.topology (border_in a m) (core_of event a) (core_of other b)
+    → SameTold a.fixed.object a.fixed.topology (border_in a m) (stepped event a x oa) (stepped other b y ob)
+both_stepped a b event other m x y oa ob first second held_a held_b same =
+    let border : Border = border_in a m in
+    let moves = moves_beyond a.fixed.object a.fixed.topology border in
+    let starts = starts_beyond a.fixed.object a.fixed.topology border in
+    let pulse = pulse_beyond a.fixed.topology border in
+    let calls = calls_beyond a.fixed.object border in
+    record {
+      moves = ap moves held_a.moved ∙ same.moves ∙ sym (ap moves held_b.moved);
+      starts = ap starts held_a.starts ∙ same.starts ∙ sym (ap starts held_b.starts);
+      pulse = ap pulse held_a.pulse ∙ same.pulse ∙ sym (ap pulse held_b.pulse);
+      asked = same.asked;
+      ends = same.ends;
+      late = ap (λ (s : State). late_replies (ends_beyond border (ended event a)) s) first ∙ same.late
+          ∙ sym (ap (λ (s : State). late_replies (ends_beyond border (ended other b)) s) second);
+      calls = ap calls held_a.calls ∙ same.calls ∙ sym (ap calls held_b.calls);
+      drop = λ beyond. ap is_dropped held_a.answer ∙ same.drop beyond ∙ sym (ap is_dropped held_b.answer);
+      answer = λ beyond. held_a.answer ∙ same.answer beyond ∙ sym held_b.answer;
+    }

@@ -1,0 +1,44 @@
+-- Two lists of core events, and of core steps, set beside one another: what may be in the loud world alone, which has the messages
+-- of a master, and what in the quiet one, which doesn't. They need not be equally long.
+use Rattle.std.specs.Prelude.{◌≡◌, List, [], ◌∷◌}
+use Rattle.pm_base.specs.declared.events.Event.{Event}
+use Rattle.pm_base.specs.declared.events.Event.TheVariants.{Ipi, Pass}
+use Rattle.pm_base.specs.declared.names.NodeId.{NodeId}
+use Rattle.pm_core.specs.State.{State}
+use Rattle.pm_run.specs.Run.{Core, Setup}
+use Rattle.pm_laws.specs.Agree.{Agree}
+use Rattle.pm_laws.specs.ReachBorder.{border_of}
+use Rattle.pm_laws.specs.Told.{SameTold, TellsNothing}
+
+-- the event is a message of this master
+abbrev pub IsOwn : NodeId → Event → Type 0
+IsOwn m (Ipi master message) = master.0 ≡ m.0
+IsOwn m _ = ⊥
+
+-- of two lists of core events each event is in both, or it is the master's and in the first alone, or it is a Pass and in the
+-- second alone
+pub data Beside (m : NodeId) : List Event → List Event → Type 0 where
+  none : Beside m [] []
+  both : (event : Event) (es fs : List Event) → Beside m es fs → Beside m (event ∷ es) (event ∷ fs)
+  left : (event : Event) (es fs : List Event) → IsOwn m event → Beside m es fs → Beside m (event ∷ es) fs
+  rest : (es fs : List Event) → Beside m es fs → Beside m es (Pass ∷ fs)
+
+-- the same of core steps, from these two books on. After each of them the books of the two worlds agree beyond the reach of the
+-- master. What is in both tells the same there, and what is in one alone tells nothing
+pub data AreBeside (c : Setup) (m : NodeId) : State → State → List Core → List Core → Type 0 where
+  no_core : (a b : State) → AreBeside c m a b [] []
+  both_cores : (a b : State) (x y : Core) (xs ys : List Core)
+      → x.event ≡ y.event → x.before ≡ a → y.before ≡ b
+      → Agree (border_of c.object c.topology m) x.after y.after
+      → SameTold c.object c.topology (border_of c.object c.topology m) x y
+      → AreBeside c m x.after y.after xs ys → AreBeside c m a b (x ∷ xs) (y ∷ ys)
+  left_core : (a b : State) (x : Core) (xs ys : List Core)
+      → IsOwn m x.event → x.before ≡ a
+      → Agree (border_of c.object c.topology m) x.after b
+      → TellsNothing c.object c.topology (border_of c.object c.topology m) x
+      → AreBeside c m x.after b xs ys → AreBeside c m a b (x ∷ xs) ys
+  rest_core : (a b : State) (y : Core) (xs ys : List Core)
+      → y.event ≡ Pass → y.before ≡ b
+      → Agree (border_of c.object c.topology m) a y.after
+      → TellsNothing c.object c.topology (border_of c.object c.topology m) y
+      → AreBeside c m a y.after xs ys → AreBeside c m a b xs (y ∷ ys)

@@ -1,0 +1,71 @@
+-- Two runs side by side, line by line: one of them without the messages of a master. Beyond the reach of the master neither can be
+-- told from the other.
+use Rattle.std.specs.Prelude.{◌≡◌, ⊤, List, [], ◌∷◌, flat_map}
+use Rattle.pm_base.specs.declared.events.Event.{Event}
+use Rattle.pm_base.specs.declared.names.NodeId.{NodeId}
+use Rattle.pm_core.specs.State.{State}
+use Rattle.pm_run.specs.Run.{Core, Line, Setup, loaded, lines_of, run}
+use Rattle.pm_laws.specs.Agree.{Agree}
+use Rattle.pm_laws.specs.Beside.{AreBeside}
+use Rattle.pm_laws.specs.Border.{Border}
+use Rattle.pm_laws.specs.Both.{Both}
+use Rattle.pm_laws.specs.Quiet.{quiet}
+use Rattle.pm_laws.specs.ReachBorder.{border_of}
+use Rattle.pm_laws.specs.Told.{answers_in, asked_in, calls_in, drops_in, ends_in, late_in, listed, moves_in, pulse_in, starts_in}
+use Rattle.pm_laws.specs.Values.{IsModeAlike, IsValueAlike}
+
+-- ---- the law: how the core steps stand beside one another
+
+-- the core steps of two lines are beside one another, from these two books on, and the books after the lines agree beyond
+pub record IsLineBeside (c : Setup) (m : NodeId) (a b : State) (x y : Line) : Type 0 where
+  pub cores : AreBeside c m a b x.cores y.cores
+  pub agree : Agree (border_of c.object c.topology m) x.after.book y.after.book
+
+-- two lists of lines are equally long, and line by line so, from these two books on
+abbrev pub AreLinesBeside : Setup → NodeId → State → State → List Line → List Line → Type 0
+AreLinesBeside c m a b [] [] = ⊤
+AreLinesBeside c m a b [] (y ∷ ys) = ⊥
+AreLinesBeside c m a b (x ∷ xs) [] = ⊥
+AreLinesBeside c m a b (x ∷ xs) (y ∷ ys) =
+    IsLineBeside c m a b x y × AreLinesBeside c m x.after.book y.after.book xs ys
+
+-- the run of these events, and the run without the messages of the master: the load is the same in both, and its book agrees with
+-- itself beyond; and the lines after it are beside one another
+pub record AreWorldsBeside (c : Setup) (m : NodeId) (events : List Event) : Type 0 where
+  pub load : Agree (border_of c.object c.topology m) (loaded c).book (loaded c).book
+  pub lines : AreLinesBeside c m (loaded c).book (loaded c).book (lines_of c events (loaded c)) (lines_of c (quiet m events) (loaded c))
+
+-- ---- its consequences: what is the same of two lines
+
+-- what is made of each core step of a line, in order
+abbrev pub of_line : {X : Type 0} → (Core → List X) → Line → List X
+of_line f line = flat_map f line.cores
+
+-- by a border, and the master whose messages only the first line has
+pub record IsAlikeBeyond (c : Setup) (m : NodeId) (border : Border) (x y : Line) : Type 0 where
+  -- after both lines the books agree beyond, each unit there has the same value, and each processor the same mode
+  pub books : Agree border x.after.book y.after.book
+  pub values : IsValueAlike c.object c.topology border x.after.book y.after.book
+  pub modes : IsModeAlike c.object c.topology border x.after.book y.after.book
+  -- in both the same units move, the same processors start at the same addresses, and the same reset lines are pulsed
+  pub moves : of_line (moves_in c.object c.topology border) x ≡ of_line (moves_in c.object c.topology border) y
+  pub starts : of_line (starts_in c.object c.topology border) x ≡ of_line (starts_in c.object c.topology border) y
+  pub pulses : of_line (λ core. listed (pulse_in c.topology border core)) x ≡ of_line (λ core. listed (pulse_in c.topology border core)) y
+  -- the same is asked of masters beyond, the same requests to them end, with the same late replies, and the same callbacks are
+  -- made to them, but for those about nodes within
+  pub asked : of_line (λ core. listed (asked_in border core)) x ≡ of_line (λ core. listed (asked_in border core)) y
+  pub ends : of_line (ends_in border) x ≡ of_line (ends_in border) y
+  pub late : of_line (late_in border) x ≡ of_line (late_in border) y
+  pub calls : of_line (calls_in c.object border) x ≡ of_line (calls_in c.object border) y
+  -- the same messages of other masters that are beyond, or that aren't configured, are dropped; and those that name nothing within
+  -- are answered the same
+  pub drops : of_line (drops_in c.object border m) x ≡ of_line (drops_in c.object border m) y
+  pub answers : of_line (answers_in c.object c.topology border m) x ≡ of_line (answers_in c.object c.topology border m) y
+
+-- beyond the reach of the master
+abbrev pub IsLineAlike : Setup → NodeId → Line → Line → Type 0
+IsLineAlike c m x y = IsAlikeBeyond c m (border_of c.object c.topology m) x y
+
+-- the two runs are equally long, and line by line so
+abbrev pub AreWorldsAlike : Setup → NodeId → List Event → Type 0
+AreWorldsAlike c m events = Both (IsLineAlike c m) (run c events) (run c (quiet m events))

@@ -1,0 +1,121 @@
+-- The run: the book at load, and then one script line for each event. A line is split into core events, and each of these is a
+-- core step, which knows its own event and the books before and after it. No device occurs in it.
+use Rattle.std.specs.Prelude.{◌≡◌, List, [], ◌∷◌, flat_map}
+use Rattle.pm_base.specs.declared.events.Event.{Event}
+use Rattle.pm_base.specs.declared.events.Event.TheVariants.{Pass}
+use Rattle.pm_object.specs.declared.object.Object.{Object}
+use Rattle.pm_topology.specs.declared.topology.Topology.{Topology}
+use Rattle.pm_core.specs.Load.{load_of}
+use Rattle.pm_core.specs.Outbox.{Outputs}
+use Rattle.pm_core.specs.Sound.{IsSound, MeetsRequirements}
+use Rattle.pm_core.specs.State.{State}
+use Rattle.pm_core.specs.Step.{effect, outputs, outputs_at_load}
+use Rattle.pm_core.specs.Values.{value}
+
+-- what a run begins with
+pub record Setup : Type 0 where
+  pub object : Object
+  pub topology : Topology
+
+abbrev pub setup : Object → Topology → Setup
+setup object topology = record { object = object; topology = topology }
+
+-- the object and the chip of a book
+abbrev pub setup_of : State → Setup
+setup_of book = setup book.fixed.object book.fixed.topology
+
+-- where a run stands between two script lines
+pub record Stand : Type 0 where
+  pub book : State
+
+-- a core step: its event, the books before and after it, and what it puts out
+pub record Core : Type 0 where
+  pub event : Event
+  pub before : State
+  pub after : State
+  pub outputs : Outputs
+
+-- what a script line itself writes, beside what its core steps put out: nothing yet, so there is no kind of it
+pub data Note : Type 0 where
+
+-- a script line: its event, its core steps in order, its own notes, and where the run stands after it
+pub record Line : Type 0 where
+  pub event : Event
+  pub cores : List Core
+  pub notes : List Note
+  pub after : Stand
+
+-- what the event of a script line is split into: core events, of which there is always one, and notes
+pub record Split : Type 0 where
+  pub events : List Event
+  pub notes : List Note
+
+-- each event is its own core event
+abbrev pub split : Setup → Event → Stand → Split
+split c event stand = record { events = event ∷ []; notes = [] }
+
+abbrev pub core_of : Event → State → Core
+core_of event book = record { event = event; before = book; after = effect event book; outputs = outputs event book }
+
+-- one core step after another
+abbrev pub cores_of : List Event → State → List Core
+cores_of [] book = []
+cores_of (event ∷ events) book = core_of event book ∷ cores_of events (effect event book)
+
+-- the book after these core events
+abbrev pub book_after : List Event → State → State
+book_after [] book = book
+book_after (event ∷ events) book = book_after events (effect event book)
+
+abbrev pub line_of : Setup → Event → Stand → Line
+line_of c event stand = record {
+  event = event;
+  cores = cores_of (split c event stand).events stand.book;
+  notes = (split c event stand).notes;
+  after = record stand { book = book_after (split c event stand).events stand.book };
+}
+
+-- the lines of these events
+abbrev pub lines_of : Setup → List Event → Stand → List Line
+lines_of c [] stand = []
+lines_of c (event ∷ events) stand = line_of c event stand ∷ lines_of c events (line_of c event stand).after
+
+-- the load comes before all events
+abbrev pub loaded : Setup → Stand
+loaded c = record { book = load_of c.object c.topology }
+
+-- the load as a core step: nothing happens in it but what the load itself puts out
+abbrev pub core_0 : Setup → Core
+core_0 c = record {
+  event = Pass;
+  before = (loaded c).book;
+  after = (loaded c).book;
+  outputs = outputs_at_load (loaded c).book;
+}
+
+abbrev pub line_0 : Setup → Line
+line_0 c = record { event = Pass; cores = core_0 c ∷ []; notes = []; after = loaded c }
+
+-- the load, and then a line for each event
+abbrev pub run : Setup → List Event → List Line
+run c events = line_0 c ∷ lines_of c events (loaded c)
+
+-- what is said of a run and concerns no book: nothing yet
+abbrev pub said : List Line → List Line
+said lines = lines
+
+-- the core steps of these lines, one after another
+abbrev pub cores_in : List Line → List Core
+cores_in lines = flat_map (λ (line : Line). line.cores) lines
+
+-- what holds of each book of a run: its object and its chip are those of the setup, it is sound, and its values meet
+-- its requirements
+pub record IsBookOf (c : Setup) (book : State) : Type 0 where
+  pub fixed : book.fixed ≡ record { object = c.object; topology = c.topology }
+  pub sound : IsSound book
+  pub met : MeetsRequirements book (λ u. value u book)
+
+-- so of the books before and after a core step
+pub record HasBooksOf (c : Setup) (core : Core) : Type 0 where
+  pub before : IsBookOf c core.before
+  pub after : IsBookOf c core.after

@@ -1,0 +1,34 @@
+//! Laws of runs.
+
+ghost use Rattle.std.specs.Prelude.{◌<◌, List, length};
+ghost use Rattle.std.specs.List.{All};
+ghost use Rattle.pm_base.specs.declared.events.Event.{Event};
+ghost use Rattle.pm_topology.specs.WellFormed.{IsWellFormed};
+ghost use Rattle.pm_core.specs.State.{State};
+ghost use Rattle.pm_core.specs.Step.{effect};
+ghost use Rattle.pm_run.specs.Run.{Setup, Stand, IsBookOf, HasBooksOf, split, core_of, cores_of, book_after, line_of, loaded, cores_in, run};
+
+use pm_core::{books_stay_sound, values_meet};
+
+/// Each book of a run over a chip that passes its check has the object and the chip of the run's setup, is sound, and
+/// stands as its requirements ask for: the book at load, each that follows by an event, those along a list of core
+/// events, the one after a line, and so each one of the run. Each line has a core step.
+pub fn books_of_a_run()
+    ensures load { (c : Setup) → IsWellFormed c.topology → IsBookOf c (loaded c).book }
+    ensures step { (c : Setup) (event : Event) (book : State) → IsWellFormed c.topology
+        → IsBookOf c book → IsBookOf c (effect event book) }
+    ensures cores { (c : Setup) (events : List Event) (book : State) → IsWellFormed c.topology
+        → IsBookOf c book → All (HasBooksOf c) (cores_of events book) }
+    ensures after { (c : Setup) (events : List Event) (book : State) → IsWellFormed c.topology
+        → IsBookOf c book → IsBookOf c (book_after events book) }
+    ensures line { (c : Setup) (event : Event) (stand : Stand) → IsWellFormed c.topology
+        → IsBookOf c stand.book → IsBookOf c (line_of c event stand).after.book }
+    ensures all { (c : Setup) (events : List Event) → IsWellFormed c.topology
+        → All (λ line. IsBookOf c line.after.book) (run c events) }
+    ensures all_cores { (c : Setup) (events : List Event) → IsWellFormed c.topology
+        → All (HasBooksOf c) (cores_in (run c events)) }
+    ensures some_core { (c : Setup) (event : Event) (stand : Stand) → 0 < length (split c event stand).events }
+{
+    books_stay_sound();
+    values_meet();
+}

@@ -1,0 +1,8 @@
+//! The run of a script: its lines, the core steps of each, and the books along them.
+#![tactic(auto)]
+
+pub mod cores;
+mod laws;
+
+pub use cores::{CoreEvents, core_events};
+pub use laws::books_of_a_run;

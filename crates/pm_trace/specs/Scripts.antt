@@ -1,0 +1,48 @@
+-- A command that takes a named script: what it was asked for, where the script stops, and the exit.
+use Rattle.std.specs.Prelude.{◌≡◌, ℕ, ◌+◌, ◌⊎◌, List, [], ◌∷◌, length, Option, Some, None, Result, Ok, Err, OnErr}
+use Rattle.pm_base.specs.declared.errors.Exit.{Exit}
+use Rattle.pm_base.specs.declared.errors.Exit.TheVariants.{ReadFault}
+use Rattle.pm_base.specs.declared.inputs.Inputs as Inputs
+use Rattle.pm_base.specs.Faults.{Rose}
+use Rattle.pm_script.specs.Named.{script_in}
+use Rattle.pm_script.specs.Script.{Script, Stop}
+use Rattle.pm_script.specs.Script.Stop.{End, Bad, Past, Failed}
+use Rattle.pm_trace.specs.declared.faults.Fault.{Fault}
+use Rattle.pm_trace.specs.declared.faults.Fault.TheVariants.{Line, Memory, Read, Size}
+use Rattle.pm_trace.specs.Faults.{exit_after}
+
+-- a script that can't be begun is refused
+abbrev pub script_or_fault : Option Script → Result Script Fault
+script_or_fault None = Err Read
+script_or_fault (Some s) = Ok s
+
+-- why no line of a script follows the one before number n: it came to its end, or the fault of the line, past the limit, or
+-- where the script can't be read on
+abbrev pub fault_at : ℕ → Stop → Option Fault
+fault_at n End = None
+fault_at n (Bad cause) = Some (Line n cause)
+fault_at n Past = Some Size
+fault_at n Failed = Some Read
+
+-- the fault at which a script stops, or for which it is refused
+abbrev pub script_fault : Result Script Fault → Option Fault
+script_fault (Ok s) = fault_at (1 + length s.events) s.stop
+script_fault (Err fault) = Some fault
+
+-- the exit of a script: that of this fault, or Done
+abbrev pub script_exit : Result Script Fault → Exit
+script_exit job = exit_after (script_fault job)
+
+-- a last piece is written where the script came to its end
+abbrev pub at_end : Stop → List ℕ → List (List ℕ)
+at_end End piece = piece ∷ []
+at_end (Bad cause) piece = []
+at_end Past piece = []
+at_end Failed piece = []
+
+module _ {I : Type 0} (i : Inputs.Ghosts I) where
+  -- the script is the one that is read under the name, unless memory is wanted. On ReadFault the count of faults rose
+  pub record IsScriptOf (name : List ℕ) (old new : I) (exit : Exit) (job : Result Script Fault) : Type 0 where
+    pub shown : i.observable → (job ≡ Err Memory) ⊎ (job ≡ script_or_fault (script_in (i.state old) name))
+    pub failed : exit ≡ ReadFault → Rose (i.state old).faults (i.state new).faults
+    pub known : OnErr job ((job ≡ Err Read) ⊎ (job ≡ Err Memory))
