@@ -3,7 +3,7 @@ use Rattle.std.proofs.Common.{◌≡◌, ◌≢◌, ℕ, ◌+◌, ◌<◌, ◌==
 use Rattle.std.proofs.lemmas.Bool.Decides.{Decides-eqb}
 use Rattle.pm_base.specs.declared.names.Unit.{Unit}
 use Rattle.pm_base.proofs.Booleans.{both, equal, unequal}
-use Rattle.pm_core.specs.Run.{Step}
+use Rattle.pm_run.specs.Run.{Line}
 use Rattle.pm_isolate.specs.Transitions.{Transition, changes, differs, same_transition, same_transitions, transitions}
 
 -- at some place of two histories there are two values
@@ -110,11 +110,11 @@ not_true : (b : Bool) → not b ≡ true → b ≡ false
 not_true true is = sym is
 not_true false is = refl
 
-pub differs_not : (first second : List Step) (unit : Unit) → differs first second unit ≡ false → transitions unit first ≡ transitions unit second
+pub differs_not : (first second : List Line) (unit : Unit) → differs first second unit ≡ false → transitions unit first ≡ transitions unit second
 differs_not first second unit is =
     same_is (transitions unit first) (transitions unit second) (not_false (same_transitions (transitions unit first) (transitions unit second)) is)
 
-pub differs_only : (first second : List Step) (unit : Unit) → differs first second unit ≡ true → transitions unit first ≡ transitions unit second → ⊥
+pub differs_only : (first second : List Line) (unit : Unit) → differs first second unit ≡ true → transitions unit first ≡ transitions unit second → ⊥
 differs_only first second unit is same =
     let other = not_true (same_transitions (transitions unit first) (transitions unit second)) is in
     clash (sym (subst (λ (ts : List Transition). same_transitions (transitions unit first) ts ≡ true) same (same_itself (transitions unit first))) ∙ other)

@@ -1,43 +1,45 @@
 -- Lines of a script that are run one after another in both books.
-use Rattle.std.proofs.Common.{◌≡◌, ℕ, ◌+◌, List, [], ◌∷◌, length, Result, Ok, Err, suc, refl, sym, ◌∙◌, ap, subst, arith}
+use Rattle.std.proofs.Common.{◌≡◌, ℕ, ◌+◌, List, [], ◌∷◌, Result, Ok, Err, refl, sym, ◌∙◌, ap, arith, inl, inr}
+use Rattle.std.specs.Prelude.{⊤}
+use Rattle.pm_base.specs.declared.errors.Failed.{Failed}
 use Rattle.pm_base.specs.declared.events.Event.{Event}
 use Rattle.pm_base.specs.declared.names.NodeId.{NodeId}
-use Rattle.pm_script.specs.declared.meaning.LineFault.{LineFault}
-use Rattle.pm_script.specs.Script.{Gives, IsBad, IsOver, Script, Stop, before, over, script_from}
-use Rattle.pm_trace.specs.declared.faults.Fault.{Fault}
-use Rattle.pm_trace.specs.declared.faults.Fault.TheVariants.{Line}
+use Rattle.pm_script.specs.declared.follow.LineStop.{LineStop}
+use Rattle.pm_script.specs.declared.follow.LineStop.TheVariants as stops
+use Rattle.pm_script.specs.Follow.{FailsWithin, Followed, GoesThrough}
+use Rattle.pm_script.specs.Script.{Script, Stop}
+use Rattle.pm_isolate.specs.declared.lines.Watcher.{Watcher}
 use Rattle.pm_isolate.specs.declared.worlds.Worlds.{Worlds}
-use Rattle.pm_isolate.specs.Within.{LinesEnd, stepped}
+use Rattle.pm_isolate.specs.Within.{LinesEnd, Watches, after, stepped}
 
--- however the lines that are left are run, all lines are run so
-abbrev pub UnderWay : NodeId → ℕ → List (List ℕ) → List (List ℕ) → Stop → Worlds → Worlds → Type 0
-UnderWay m n all left stop start now =
-    (then : Worlds) (result : Result ℕ Fault)
-    → LinesEnd m n (script_from left stop) stop now then result
-    → LinesEnd m 0 (script_from all stop) stop start then result
+err_is_ok : {X Y : Type 0} {x : X} {y : Y} → Err y ≡ Ok x → ⊥
+err_is_ok e = cc
 
-pub UnderWay-start : (m : NodeId) (all : List (List ℕ)) (stop : Stop) (start : Worlds) → UnderWay m 0 all all stop start start
-UnderWay-start m all stop start then result ends = ends
+-- both books after lines, and what is watched is the same
+pub record Watched (m : NodeId) (events : List Event) (old new : Watcher) : Type 0 where
+  pub worlds : new.worlds.now ≡ after m events old.worlds.now
+  pub same : new.worlds.ghost_name ≡ old.worlds.ghost_name
 
--- how lines end that come after one more
-ends_later : (m : NodeId) (n : ℕ) (event : Event) (s : Script) (stop : Stop) (now then : Worlds) (result : Result ℕ Fault) → LinesEnd m (n + 1) s stop (stepped m event now) then result → LinesEnd m n (before (Ok event) s) stop now then result
-ends_later m n event s stop now then (Ok count) ends = (ends.0, ends.1, omega (arith, ends.2))
-ends_later m n event s stop now then (Err fault) ends =
-    let same : n + 1 + 1 + length s.events ≡ n + 1 + suc (length s.events) = omega arith in
-    (ends.0, ends.1, ends.2 ∙ ap (λ (k : ℕ). Line k ends.0) same)
+through : (m : NodeId) (n : ℕ) (events : List Event) (old new : Watcher) → old.m ≡ m → GoesThrough Watches n events old new → Watched m events old new
+through m n [] old new is same = record { worlds = ap (λ (w : Watcher). w.worlds.now) (sym same); same = ap (λ (w : Watcher). w.worlds.ghost_name) (sym same) }
+through m n (event ∷ events) old new is (mid, one, rest) =
+    let later = through m (n + 1) events mid new (one.m ∙ is) rest in
+    record {
+      worlds = later.worlds ∙ ap (λ (w : Worlds). after m events w) (one.worlds ∙ ap (λ (m : NodeId). stepped m event old.worlds.now) is);
+      same = later.same ∙ one.same;
+    }
 
-pub UnderWay-next : (m : NodeId) (n : ℕ) (all left later : List (List ℕ)) (stop : Stop) (start now mid : Worlds) (event : Event) → Gives left event later → mid ≡ stepped m event now → UnderWay m n all left stop start now → UnderWay m (n + 1) all later stop start mid
-UnderWay-next m n all left later stop start now mid event gives is so_far then result ends =
-    let from : LinesEnd m (n + 1) (script_from later stop) stop (stepped m event now) then result =
-    subst (λ (w : Worlds). LinesEnd m (n + 1) (script_from later stop) stop w then result) is ends in
-    so_far then result (subst (λ (s : Script). LinesEnd m n s stop now then result) (sym (gives stop)) (ends_later m n event (script_from later stop) stop now then result from))
+never : (n : ℕ) (events : List Event) (old new : Watcher) → FailsWithin Watches n events old new → ⊥
+never n [] old new none = none
+never n (event ∷ events) old new (inl (failed, one)) = err_is_ok one.ok
+never n (event ∷ events) old new (inr (mid, one, rest)) = never (n + 1) events mid new rest
 
-pub UnderWay-bad : (m : NodeId) (n : ℕ) (all left : List (List ℕ)) (stop : Stop) (start now : Worlds) (cause : LineFault) → IsBad left cause → UnderWay m n all left stop start now → LinesEnd m 0 (script_from all stop) stop start now (Err (Line (n + 1) cause))
-UnderWay-bad m n all left stop start now cause bad so_far =
-    let same : n + 1 ≡ n + 1 + 0 = omega arith in
-    so_far now (Err (Line (n + 1) cause)) (subst (λ (s : Script). LinesEnd m n s stop now now (Err (Line (n + 1) cause))) (sym (bad stop)) (cause, refl, ap (λ (k : ℕ). Line k cause) same))
+pub lines_end : (s : Script) (stop : Stop) (old new : Watcher) (result : Result ℕ LineStop) → Followed Watches 1 s stop old new result → LinesEnd old.m s stop old.worlds.now new.worlds.now result
+lines_end s stop old new (Ok count) did = (did.1, (through old.m 1 s.events old new refl did.0).worlds, omega (arith, did.2))
+lines_end s stop old new (Err (stops.Bad n cause)) did = (did.1, did.2)
+lines_end s stop old new (Err stops.Broken) did = never 1 s.events old new did
 
-pub UnderWay-over : (m : NodeId) (n : ℕ) (all left : List (List ℕ)) (stop : Stop) (start now : Worlds) → IsOver left → UnderWay m n all left stop start now → LinesEnd m 0 (script_from all stop) stop start now (Ok n)
-UnderWay-over m n all left stop start now none so_far =
-    let same : n ≡ n + 0 = omega arith in
-    so_far now (Ok n) (subst (λ (s : Script). LinesEnd m n s stop now now (Ok n)) (sym (none stop)) (refl, refl, same))
+pub watches_same : (s : Script) (stop : Stop) (old new : Watcher) (result : Result ℕ LineStop) → Followed Watches 1 s stop old new result → new.worlds.ghost_name ≡ old.worlds.ghost_name
+watches_same s stop old new (Ok count) did = (through old.m 1 s.events old new refl did.0).same
+watches_same s stop old new (Err (stops.Bad n cause)) did = (through old.m 1 s.events old new refl did.0).same
+watches_same s stop old new (Err stops.Broken) did = absurd (never 1 s.events old new did)

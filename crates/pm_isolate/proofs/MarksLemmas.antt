@@ -11,15 +11,14 @@ use Rattle.pm_topology.specs.declared.topology.Topology.{Topology}
 use Rattle.pm_topology.specs.UnitMap.{TablePlaceLaws, mapped, remade, with_value_at}
 use Rattle.pm_topology.specs.Units.{units_of}
 use Rattle.pm_core.specs.Load.{load_of}
-use Rattle.pm_core.specs.Run.{Setup, Stand, core_of, run, steps_of}
+use Rattle.pm_run.specs.Run.{Setup, Stand, lines_of, run}
 use Rattle.pm_core.specs.State.{Fixed, State}
-use Rattle.pm_core.specs.Step.{effect}
 use Rattle.pm_laws.specs.Quiet.{quiet, quiet_event}
-use Rattle.pm_trace.specs.Closing.{shown}
+use Rattle.pm_core.specs.Values.{shown}
 use Rattle.pm_isolate.specs.declared.worlds.Worlds.{Worlds}
 use Rattle.pm_isolate.specs.Differences.{difference_line, differences, steps_line}
 use Rattle.pm_isolate.specs.Transitions.{differs, history}
-use Rattle.pm_isolate.specs.Within.{Marks, after, begun, end_text, mark_line, noted_in, stepped}
+use Rattle.pm_isolate.specs.Within.{Marks, after, begun, end_text, line_book, mark_line, noted_in, stepped}
 use Rattle.pm_isolate.proofs.HistoryLemmas.{parts, parts_tell}
 
 -- ---- one note
@@ -52,16 +51,16 @@ mapped_marked : (f : Unit → Bool → Bool) (g : Unit → Bool) (units : List U
 mapped_marked f g [] = refl
 mapped_marked f g (u ∷ us) = ap (λ (rest : Marks). (u, f u (g u)) ∷ rest) (mapped_marked f g us)
 
--- whether a unit was found to differ after some events, where this was known of it before them
+-- whether a unit was found to differ after some lines, where this was known of it before them
 abbrev pub apart : NodeId → List Event → State → State → Unit → Bool → Bool
 apart m [] a b u before = before
 apart m (e ∷ es) a b u before =
-    apart m es (effect e a) (effect (quiet_event m e) b) u (noted_in (effect e a) (effect (quiet_event m e) b) u before)
+    apart m es (line_book e a) (line_book (quiet_event m e) b) u (noted_in (line_book e a) (line_book (quiet_event m e) b) u before)
 
 marks_after : (m : NodeId) (es : List Event) (w : Worlds) (g : Unit → Bool) (units : List Unit) → w.differs ≡ map (marked g) units → (after m es w).differs ≡ map (marked (λ u. apart m es w.loud w.quiet u (g u))) units
 marks_after m [] w g units is = is
 marks_after m (e ∷ es) w g units is =
-    let f : Unit → Bool → Bool = noted_in (effect e w.loud) (effect (quiet_event m e) w.quiet) in
+    let f : Unit → Bool → Bool = noted_in (line_book e w.loud) (line_book (quiet_event m e) w.quiet) in
     marks_after m es (stepped m e w) (λ u. f u (g u)) units (ap (λ (marks : Marks). mapped f marks) is ∙ mapped_marked f g units)
 
 fixed_after : (m : NodeId) (es : List Event) (w : Worlds) → (after m es w).loud.fixed ≡ w.loud.fixed
@@ -75,37 +74,34 @@ stand book = record { book = book }
 
 apart_true : (m : NodeId) (es : List Event) (a b : State) (u : Unit) → apart m es a b u true ≡ true
 apart_true m [] a b u = refl
-apart_true m (e ∷ es) a b u = apart_true m es (effect e a) (effect (quiet_event m e) b) u
+apart_true m (e ∷ es) a b u = apart_true m es (line_book e a) (line_book (quiet_event m e) b) u
 
 split_by : (test : Bool) (go : Bool → Bool) (rest : Bool) → go true ≡ true → go false ≡ rest → go test ≡ (test || rest)
 split_by true go rest whole later = whole
 split_by false go rest whole later = later
 
-apart_parts : (m : NodeId) (es : List Event) (a b : State) (u : Unit) (v w : ℕ) → apart m es a b u false ≡ parts (history u v (steps_of es (stand a))) (history u w (steps_of (quiet m es) (stand b)))
-apart_parts m [] a b u v w = refl
-apart_parts m (e ∷ es) a b u v w =
-    let a' : State = effect e a in
-    let b' : State = effect (quiet_event m e) b in
-    split_by (not (shown u a' == shown u b')) (λ t. apart m es a' b' u t) (parts (history u (shown u a') (steps_of es (stand a'))) (history u (shown u b') (steps_of (quiet m es) (stand b'))))
-    (apart_true m es a' b' u) (apart_parts m es a' b' u (shown u a') (shown u b'))
+apart_parts : (c : Setup) (m : NodeId) (es : List Event) (a b : State) (u : Unit) → apart m es a b u false ≡ parts (history u (lines_of c es (stand a))) (history u (lines_of c (quiet m es) (stand b)))
+apart_parts c m [] a b u = refl
+apart_parts c m (e ∷ es) a b u =
+    let a' : State = line_book e a in
+    let b' : State = line_book (quiet_event m e) b in
+    split_by (not (shown u a' == shown u b')) (λ t. apart m es a' b' u t) (parts (history u (lines_of c es (stand a'))) (history u (lines_of c (quiet m es) (stand b'))))
+    (apart_true m es a' b' u) (apart_parts c m es a' b' u)
 
-as_long : (m : NodeId) (es : List Event) (a b : State) (u : Unit) (v w : ℕ) → length (history u v (steps_of es (stand a))) ≡ length (history u w (steps_of (quiet m es) (stand b)))
-as_long m [] a b u v w = refl
-as_long m (e ∷ es) a b u v w =
-    let a' : State = effect e a in
-    let b' : State = effect (quiet_event m e) b in
-    ap suc (as_long m es a' b' u (shown u a') (shown u b'))
+as_long : (c : Setup) (m : NodeId) (es : List Event) (a b : State) (u : Unit) → length (history u (lines_of c es (stand a))) ≡ length (history u (lines_of c (quiet m es) (stand b)))
+as_long c m [] a b u = refl
+as_long c m (e ∷ es) a b u = ap suc (as_long c m es (line_book e a) (line_book (quiet_event m e) b) u)
 
--- a unit differs in the two runs where it was found to differ over the events from the load on
+-- a unit differs in the two runs where it was found to differ over the lines from the load on
 differs_apart : (c : Setup) (m : NodeId) (es : List Event) (u : Unit) → apart m es (load_of c.object c.topology) (load_of c.object c.topology) u false ≡ differs (run c es) (run c (quiet m es)) u
 differs_apart c m es u =
     let load : State = load_of c.object c.topology in
     let x : ℕ = shown u load in
-    let first : List ℕ = history u x (steps_of es (stand load)) in
-    let second : List ℕ = history u x (steps_of (quiet m es) (stand load)) in
-    apart_parts m es load load u x x
+    let first : List ℕ = history u (lines_of c es (stand load)) in
+    let second : List ℕ = history u (lines_of c (quiet m es) (stand load)) in
+    apart_parts c m es load load u
     ∙ sym (ap (λ (same : Bool). not same || parts first second) (equal x x refl))
-    ∙ sym (parts_tell 0 0 (x ∷ first) (x ∷ second) (ap suc (as_long m es load load u x x)))
+    ∙ sym (parts_tell 0 0 (x ∷ first) (x ∷ second) (ap suc (as_long c m es load load u)))
 
 -- ---- and their text
 

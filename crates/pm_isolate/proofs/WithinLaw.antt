@@ -1,7 +1,7 @@
 -- What differs between a run and the run without the messages of a master is within its reach.
-use Rattle.std.proofs.Common.{◌≡◌, ℕ, ◌<◌, ◌==◌, Bool, true, false, cond, suc, List, [], ◌∷◌, length, Option, Some, None, option_and_then, refl, sym, ◌∙◌, ap, subst}
+use Rattle.std.proofs.Common.{◌≡◌, ℕ, ◌<◌, ◌==◌, Bool, true, false, cond, suc, List, [], ◌∷◌, length, Option, Some, None, option_and_then, refl, sym, ◌∙◌, ap, subst, arith}
 use Rattle.std.specs.Prelude.{filter, slice_get}
-use Rattle.std.specs.List.{AllByRecursion as Each}
+use Rattle.std.specs.List.{All, AllByRecursion as Each}
 use Rattle.std.proofs.lemmas.Option.{slice_get_within}
 use Rattle.pm_base.specs.declared.events.Event.{Event}
 use Rattle.pm_base.specs.declared.names.LineId.{LineId}
@@ -30,19 +30,17 @@ use Rattle.pm_reach.specs.declared.members.MemberKind.TheVariants as members
 use Rattle.pm_reach.specs.Border.{IsIn}
 use Rattle.pm_reach.specs.Leads.{node_at}
 use Rattle.pm_reach.specs.Membership.{IsReach, members_of}
-use Rattle.pm_core.specs.Load.{load_of}
 use Rattle.pm_core.specs.Members.{owner_at}
-use Rattle.pm_core.specs.Run.{Setup, Stand, run, steps_of}
+use Rattle.pm_run.specs.Run.{IsBookOf, Line as RunLine, Setup, run}
 use Rattle.pm_core.specs.State.{Fixed, State}
-use Rattle.pm_core.specs.Step.{effect}
-use Rattle.pm_core.specs.Values.{point_at, value, value_at}
+use Rattle.pm_core.specs.Values.{point_at, shown, value, value_at}
 use Rattle.pm_laws.specs.Agree.{Agree}
 use Rattle.pm_laws.specs.Border.{Border, IsClosed, line_beyond, none_within, unit_beyond}
 use Rattle.pm_laws.specs.Both.{Both}
-use Rattle.pm_laws.specs.Quiet.{AreRunsAlike, IsStepAlike, quiet, quiet_event}
+use Rattle.pm_laws.specs.Quiet.{quiet}
 use Rattle.pm_laws.specs.ReachBorder.{IsBorderOf, border_of, place_of}
 use Rattle.pm_laws.specs.Values.{is_beyond}
-use Rattle.pm_trace.specs.Closing.{shown}
+use Rattle.pm_laws.specs.Worlds.{AreWorldsAlike, IsLineAlike}
 use Rattle.pm_isolate.specs.Listed.{AreListed, HasMember, IsKindListed, IsListed, IsOfMember}
 use Rattle.pm_isolate.specs.Transitions.{changes, differs, history, transitions}
 use Rattle.pm_isolate.proofs.HistoryLemmas.{differs_only, one}
@@ -54,12 +52,10 @@ pub record ReachLaws : Type 0 where
   pub exact : (object : Object) (t : Topology) (m : NodeId) (from : ℕ) → place_of object m ≡ Some from → IsBorderOf object t from (border_of object t m)
   pub values : (border : Border) (unit : Unit) (a b : State) → IsClosed a.fixed.object a.fixed.topology border → is_beyond a.fixed.object a.fixed.topology border unit ≡ true → Agree border a b → value unit a ≡ value unit b
   pub modes : (border : Border) (p : ℕ) (a b : State) → unit_beyond a.fixed.object a.fixed.topology border (Proc p) ≡ true → Agree border a b → mode_at p a.now.core.procs ≡ mode_at p b.now.core.procs
-  pub books : (c : Setup) (m : NodeId) (events : List Event) → IsObject c.object → IsWellFormed c.topology → AreRunsAlike (border_of c.object c.topology m) (run c events) (run c (quiet m events))
+  pub alike : (c : Setup) (m : NodeId) (events : List Event) → IsObject c.object → IsWellFormed c.topology → AreWorldsAlike c m events
+  pub books : (c : Setup) (events : List Event) → IsWellFormed c.topology → All (λ line. IsBookOf c line.after.book) (run c events)
   pub kinds : KindLaws
   pub units : UnitLaws
-
-abbrev stand : State → Stand
-stand book = record { book = book }
 
 module _ (laws : ReachLaws) (border : Border) where
   -- ---- a unit beyond shows the same in two books that agree
@@ -82,37 +78,27 @@ module _ (laws : ReachLaws) (border : Border) where
       point_alike node a b k refl other beyond agree (laws.values border (Node node) a b closed beyond agree)
       ∙ ap (λ (kind : Kind). point_at kind b.fixed b.now.core) (sym other)
 
-  -- ---- so its history is the same in two runs whose books agree
+  shows : (object : Object) (t : Topology) (unit : Unit) (a b : State) → IsClosed object t border → is_beyond object t border unit ≡ true → a.fixed ≡ record { object = object; topology = t } → Agree border a b → shown unit a ≡ shown unit b
+  shows object t unit a b closed beyond is agree =
+      let P : Fixed → Type 0 = λ fixed. IsClosed fixed.object fixed.topology border in
+      let Q : Fixed → Type 0 = λ fixed. is_beyond fixed.object fixed.topology border unit ≡ true in
+      shown_alike unit a b (subst P (sym is) closed) (subst Q (sym is) beyond) agree
 
-  module _ (object : Object) (t : Topology) (m : NodeId) (unit : Unit) (closed : IsClosed object t border) (beyond : is_beyond object t border unit ≡ true) where
-    abbrev IsOf : Fixed → Type 0
-    IsOf fixed = fixed ≡ record { object = object; topology = t }
-
-    shows : (a b : State) → IsOf a.fixed → Agree border a b → shown unit a ≡ shown unit b
-    shows a b is agree =
-        let P : Fixed → Type 0 = λ fixed. IsClosed fixed.object fixed.topology border in
-        let Q : Fixed → Type 0 = λ fixed. is_beyond fixed.object fixed.topology border unit ≡ true in
-        shown_alike unit a b (subst P (sym is) closed) (subst Q (sym is) beyond) agree
-
-    history_alike : (events : List Event) (a b : State) (v w : ℕ) → IsOf a.fixed
-        → Both (IsStepAlike border) (steps_of events (stand a)) (steps_of (quiet m events) (stand b))
-        → history unit v (steps_of events (stand a)) ≡ history unit w (steps_of (quiet m events) (stand b))
-    history_alike [] a b v w is alike = refl
-    history_alike (event ∷ events) a b v w is alike =
-        let a' : State = effect event a in
-        let b' : State = effect (quiet_event m event) b in
-        let later = history_alike events a' b' (shown unit a') (shown unit b') is alike.1 in
-        ap (λ (more : List ℕ). shown unit a' ∷ more) later
-        ∙ ap (λ (n : ℕ). n ∷ history unit (shown unit b') (steps_of (quiet m events) (stand b'))) (shows a' b' is alike.0.0)
+-- so its history is the same in two runs that are alike line by line
+history_alike : (laws : ReachLaws) (c : Setup) (m : NodeId) (unit : Unit) → IsClosed c.object c.topology (border_of c.object c.topology m) → is_beyond c.object c.topology (border_of c.object c.topology m) unit ≡ true → (xs ys : List RunLine) → All (λ line. IsBookOf c line.after.book) xs → Both (IsLineAlike c m) xs ys → history unit xs ≡ history unit ys
+history_alike laws c m unit closed beyond [] [] books alike = refl
+history_alike laws c m unit closed beyond [] (y ∷ ys) books alike = absurd alike
+history_alike laws c m unit closed beyond (x ∷ xs) [] books alike = absurd alike
+history_alike laws c m unit closed beyond (x ∷ xs) (y ∷ ys) books alike =
+    let same : shown unit x.after.book ≡ shown unit y.after.book = shows laws (border_of c.object c.topology m) c.object c.topology unit x.after.book y.after.book closed beyond (books 0 x (omega arith)).fixed alike.0.books in
+    ap (λ (n : ℕ). n ∷ history unit xs) same
+    ∙ ap (λ (later : List ℕ). shown unit y.after.book ∷ later) (history_alike laws c m unit closed beyond xs ys (λ k d within. books (suc k) d (omega (arith, within))) alike.1)
 
 -- a unit beyond the reach of a master doesn't differ
 within : (laws : ReachLaws) (c : Setup) (m : NodeId) (events : List Event) (unit : Unit) → IsObject c.object → IsWellFormed c.topology
     → is_beyond c.object c.topology (border_of c.object c.topology m) unit ≡ true → transitions unit (run c events) ≡ transitions unit (run c (quiet m events))
 within laws c m events unit object chip beyond =
-    let border : Border = border_of c.object c.topology m in
-    let load : State = load_of c.object c.topology in
-    let same = history_alike laws border c.object c.topology m unit (laws.closed c.object c.topology m object chip) beyond events load load (shown unit load) (shown unit load) refl (laws.books c m events object chip).1 in
-    ap (λ (more : List ℕ). changes 0 0 (shown unit load ∷ more)) same
+    ap (λ (values : List ℕ). changes 0 0 values) (history_alike laws c m unit (laws.closed c.object c.topology m object chip) beyond (run c events) (run c (quiet m events)) (laws.books c events chip) (laws.alike c m events object chip))
 
 -- ---- what isn't beyond is listed
 

@@ -1,19 +1,19 @@
 -- What a comparison of the two runs of a named script did, on every exit, and what Done means.
-use Rattle.std.specs.Prelude.{◌≡◌, ℕ, Bool, List, ◌++◌, map, Option, Result, Ok, Err, IfOk, ⊤}
+use Rattle.std.specs.Prelude.{◌≡◌, ℕ, Bool, List, ◌++◌, Option, Result, Ok, Err, IfOk, ⊤}
 use Rattle.pm_base.specs.declared.errors.Exit.{Exit}
 use Rattle.pm_base.specs.declared.events.Event.{Event}
 use Rattle.pm_base.specs.declared.inputs.Inputs as Inputs
 use Rattle.pm_base.specs.declared.names.NodeId.{NodeId}
 use Rattle.pm_base.specs.declared.sink.Sink as Sink
-use Rattle.pm_base.specs.Lines.{lines_of}
+use Rattle.pm_base.specs.Inputs.{Holds}
 use Rattle.pm_reach.specs.declared.members.Member.{Member}
 use Rattle.pm_reach.specs.Membership.{IsReach}
-use Rattle.pm_core.specs.Run.{Setup}
-use Rattle.pm_script.specs.Meaning.{meaning}
+use Rattle.pm_run.specs.Run.{Setup}
+use Rattle.pm_script.specs.Named.{IsScript}
 use Rattle.pm_script.specs.Script.{Script}
 use Rattle.pm_trace.specs.declared.faults.Fault.{Fault}
 use Rattle.pm_trace.specs.Report.{Did, Report}
-use Rattle.pm_replay.specs.Replayed.{Holds, IsScriptOf}
+use Rattle.pm_trace.specs.Scripts.{IsScriptOf}
 use Rattle.pm_isolate.specs.Differences.{isolate_report, isolate_text}
 use Rattle.pm_isolate.specs.Listed.{AreListed}
 
@@ -34,8 +34,8 @@ comparison_report c m job answers = isolate_report c m job.members job.script
 module _ {I : Type 0} (i : Inputs.Ghosts I) where
   -- the script is the one that is read under the name, unless memory is wanted, and the members are those of the reach of
   -- the master
-  pub record IsComparisonOf (c : Setup) (m : NodeId) (name : List ℕ) (old new : I) (job : Result Comparison Fault) : Type 0 where
-    pub script : IsScriptOf i name old new (script_of_job job)
+  pub record IsComparisonOf (c : Setup) (m : NodeId) (name : List ℕ) (old new : I) (exit : Exit) (job : Result Comparison Fault) : Type 0 where
+    pub script : IsScriptOf i name old new exit (script_of_job job)
     pub reach : IfOk job (λ job. IsReach c.object c.topology m job.members)
 
 -- no device is touched
@@ -46,7 +46,7 @@ module _ {I O : Type 0} (i : Inputs.Ghosts I) (o : Sink.Ghosts O) where
   -- on every exit: what was asked for, and what was written of it
   abbrev pub Compared : Setup → NodeId → List ℕ → I → I → O → O → Exit → Type 0
   Compared c m name old new sink sink' exit =
-      Did o (IsComparisonOf i c m name old new) (comparison_report c m) TouchesNothing sink sink' exit
+      Did o (IsComparisonOf i c m name old new exit) (comparison_report c m) TouchesNothing sink sink' exit
 
   -- a script was held under the name, and what was written is the reach of the master, a line for each unit whose
   -- transitions differ between the run of that script and the run without the messages of the master, and the number of its
@@ -56,7 +56,7 @@ module _ {I O : Type 0} (i : Inputs.Ghosts I) (o : Sink.Ghosts O) where
     pub events : List Event
     pub members : List Member
     pub held : Holds (i.state old) name script_bytes
-    pub means : map meaning (lines_of script_bytes) ≡ map (λ event. Ok event) events
+    pub means : IsScript script_bytes events
     pub reach : IsReach c.object c.topology m members
     pub text : (o.state sink').bytes ≡ (o.state sink).bytes ++ isolate_text c m members events
     pub listed : AreListed c m members events

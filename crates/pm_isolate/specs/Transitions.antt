@@ -1,20 +1,13 @@
 -- The transitions of a unit over a run, and whether those in two runs differ.
-use Rattle.std.specs.Prelude.{ℕ, ◌+◌, ◌==◌, ◌&&◌, Bool, true, false, not, if◌then◌else◌, List, [], ◌∷◌}
+use Rattle.std.specs.Prelude.{ℕ, ◌+◌, ◌==◌, ◌&&◌, Bool, true, false, not, if◌then◌else◌, List, [], ◌∷◌, map}
 use Rattle.pm_base.specs.declared.names.Unit.{Unit}
-use Rattle.pm_core.specs.Run.{Core, Step}
-use Rattle.pm_trace.specs.Closing.{shown}
+use Rattle.pm_core.specs.Values.{shown}
+use Rattle.pm_run.specs.Run.{Line}
 
--- what a unit shows after some core steps, and before them where there is none: of a processor the number of its mode, and
--- of any other unit its value
-abbrev pub shown_after : Unit → ℕ → List Core → ℕ
-shown_after unit before [] = before
-shown_after unit before (core ∷ cores) = shown_after unit (shown unit core.stand.book) cores
-
--- the history of a unit: what it shows after each of these steps, where it showed this before them
-abbrev pub history : Unit → ℕ → List Step → List ℕ
-history unit before [] = []
-history unit before (step ∷ steps) =
-    shown_after unit before step.cores ∷ history unit (shown_after unit before step.cores) steps
+-- the history of a unit: what it shows after each of these script lines, of a processor the number of its mode, and of any other
+-- unit its value
+abbrev pub history : Unit → List Line → List ℕ
+history unit lines = map (λ (line : Line). shown unit line.after.book) lines
 
 -- a step after which a unit shows another value than before it
 pub record Transition : Type 0 where
@@ -29,9 +22,9 @@ changes n before (value ∷ later) =
     if before == value then changes (n + 1) value later
     else record { step = n; before = before; after = value } ∷ changes (n + 1) value later
 
--- the transitions of a unit over a run: step 0 is the load, and before it each unit shows 0
-abbrev pub transitions : Unit → List Step → List Transition
-transitions unit steps = changes 0 0 (history unit 0 steps)
+-- the transitions of a unit over a run: line 0 is the load, and before it each unit shows 0
+abbrev pub transitions : Unit → List Line → List Transition
+transitions unit lines = changes 0 0 (history unit lines)
 
 -- two transitions are one, and two lists of them are the same
 abbrev pub same_transition : Transition → Transition → Bool
@@ -44,5 +37,5 @@ same_transitions (a ∷ xs) [] = false
 same_transitions (a ∷ xs) (b ∷ ys) = same_transition a b && same_transitions xs ys
 
 -- a unit differs in two runs where its transitions do
-abbrev pub differs : List Step → List Step → Unit → Bool
+abbrev pub differs : List Line → List Line → Unit → Bool
 differs first second unit = not (same_transitions (transitions unit first) (transitions unit second))

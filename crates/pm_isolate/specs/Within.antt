@@ -14,22 +14,21 @@ use Rattle.pm_topology.specs.Units.{units_of}
 use Rattle.pm_reach.specs.declared.members.Member.{Member}
 use Rattle.pm_reach.specs.Membership.{IsReach}
 use Rattle.pm_core.specs.Load.{load_of}
-use Rattle.pm_core.specs.Run.{Setup}
+use Rattle.pm_run.specs.Run.{Setup, line_of, setup_of}
 use Rattle.pm_core.specs.State.{State}
-use Rattle.pm_core.specs.Step.{effect}
+use Rattle.pm_core.specs.Values.{shown}
 use Rattle.pm_laws.specs.Quiet.{quiet_event}
-use Rattle.pm_script.specs.declared.meaning.LineFault.{LineFault}
+use Rattle.pm_script.specs.declared.follow.LineStop.{LineStop}
+use Rattle.pm_script.specs.declared.follow.LineStop.TheVariants as stops
 use Rattle.pm_script.specs.Script.{Script, Stop}
 use Rattle.pm_script.specs.Script.Stop.{Bad}
-use Rattle.pm_trace.specs.declared.faults.Fault.{Fault}
-use Rattle.pm_trace.specs.declared.faults.Fault.TheVariants.{Line}
-use Rattle.pm_trace.specs.Closing.{shown}
 use Rattle.pm_trace.specs.Reach.{reach_text}
 use Rattle.pm_trace.specs.Report.{Report}
-use Rattle.pm_replay.specs.Replay.{fault_at}
+use Rattle.pm_trace.specs.Scripts.{at_end, fault_at}
 use Rattle.pm_isolate.specs.declared.comparison.Prepared.{Prepared}
+use Rattle.pm_isolate.specs.declared.lines.Watcher.{Watcher}
 use Rattle.pm_isolate.specs.declared.worlds.Worlds.{Worlds}
-use Rattle.pm_isolate.specs.Differences.{difference_line, differences_where, steps_line}
+use Rattle.pm_isolate.specs.Differences.{difference_line, steps_line}
 
 -- each unit, with whether it was found to differ
 abbrev pub Marks : Type 0
@@ -50,22 +49,26 @@ begun c = record {
   differs = all_at false (units_of c.topology);
 }
 
--- one more event in both, but for a message of the master, which is left out of the quiet one
+-- a book after a script line, whose core events are carried out one after another
+abbrev pub line_book : Event → State → State
+line_book event book = (line_of (setup_of book) event (record { book = book })).after.book
+
+-- one more line in both, but for a message of the master, which is left out of the quiet one
 abbrev pub stepped : NodeId → Event → Worlds → Worlds
 stepped m event w = record {
-  loud = effect event w.loud;
-  quiet = effect (quiet_event m event) w.quiet;
-  differs = noted (effect event w.loud) (effect (quiet_event m event) w.quiet) w.differs;
+  loud = line_book event w.loud;
+  quiet = line_book (quiet_event m event) w.quiet;
+  differs = noted (line_book event w.loud) (line_book (quiet_event m event) w.quiet) w.differs;
 }
 
--- one event after another
+-- one line after another
 abbrev pub after : NodeId → List Event → Worlds → Worlds
 after m [] w = w
 after m (event ∷ events) w = after m events (stepped m event w)
 
 -- the object and the chip of the two books
 abbrev pub setup_in : Worlds → Setup
-setup_in w = record { object = w.loud.fixed.object; topology = w.loud.fixed.topology }
+setup_in w = setup_of w.loud
 
 -- both books are as at load, and the text of the reach of the master is there
 pub record IsPrepared (c : Setup) (m : NodeId) (p : Prepared) : Type 0 where
@@ -74,11 +77,18 @@ pub record IsPrepared (c : Setup) (m : NodeId) (p : Prepared) : Type 0 where
   pub text : p.reach.items ≡ reach_text members
   pub worlds : p.worlds ≡ begun c
 
--- how lines end that come after n others: all were carried out, or one has no meaning
-abbrev pub LinesEnd : NodeId → ℕ → Script → Stop → Worlds → Worlds → Result ℕ Fault → Type 0
-LinesEnd m n s stop now last (Ok count) = (s.stop ≡ stop) × (last ≡ after m s.events now) × (count ≡ n + length s.events)
-LinesEnd m n s stop now last (Err fault) =
-    (cause : LineFault) × (s.stop ≡ Bad cause) × (fault ≡ Line (n + 1 + length s.events) cause)
+-- what a watcher does for a line: it steps both books by its event, and watches what it watched
+pub record Watches (n : ℕ) (event : Event) (old new : Watcher) (result : Result ⊤ Failed) : Type 0 where
+  pub worlds : new.worlds.now ≡ stepped old.m event old.worlds.now
+  pub m : new.m ≡ old.m
+  pub same : new.worlds.ghost_name ≡ old.worlds.ghost_name
+  pub ok : result ≡ Ok tt
+
+-- how lines end: all were carried out, or one has no meaning
+abbrev pub LinesEnd : NodeId → Script → Stop → Worlds → Worlds → Result ℕ LineStop → Type 0
+LinesEnd m s stop now last (Ok count) = (s.stop ≡ stop) × (last ≡ after m s.events now) × (count ≡ length s.events)
+LinesEnd m s stop now last (Err (stops.Bad n cause)) = (s.stop ≡ Bad cause) × (n ≡ 1 + length s.events)
+LinesEnd m s stop now last (Err stops.Broken) = ⊥
 
 -- the line of a unit that was found to differ; that of any other is empty
 abbrev pub mark_line : Topology → Unit × Bool → List ℕ
@@ -93,12 +103,12 @@ end_text w count = concat (mark_lines w) ++ steps_line count
 
 -- what is written after the last line of a script that came to its end or could not be read on
 abbrev pub end_report : Stop → Worlds → ℕ → Report
-end_report stop w count = record { body = differences_where stop (end_text w count); fault = fault_at 0 stop }
+end_report stop w count = record { body = at_end stop (end_text w count); fault = fault_at 0 stop }
 
 -- what is written of the lines of a script, and after them
 abbrev pub rest_report : NodeId → Script → Worlds → Report
 rest_report m s w = record {
-  body = differences_where s.stop (end_text (after m s.events w) (length s.events));
+  body = at_end s.stop (end_text (after m s.events w) (length s.events));
   fault = fault_at (1 + length s.events) s.stop;
 }
 

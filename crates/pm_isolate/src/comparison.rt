@@ -9,10 +9,12 @@ ghost use Rattle.pm_base.specs.declared.prefix.StopReason.TheVariants.{Unbegun};
 ghost use Rattle.pm_object.specs.Grammar.{IsObject};
 ghost use Rattle.pm_topology.specs.Masters.{ObeysMasterRules};
 ghost use Rattle.pm_topology.specs.WellFormed.{IsWellFormed};
+ghost use Rattle.pm_script.specs.Named.{script_in};
 ghost use Rattle.pm_script.specs.Script.{script_limit, script_lines, script_from, stop_of};
 ghost use Rattle.pm_trace.specs.Exits.{EndsWith, IsStarved};
 ghost use Rattle.pm_trace.specs.Report.{Reports};
-ghost use Rattle.pm_replay.specs.Replayed.{script_exit, script_in, setup};
+ghost use Rattle.pm_trace.specs.Scripts.{script_exit, script_or_fault};
+ghost use Rattle.pm_run.specs.Run.{setup};
 ghost use Rattle.pm_isolate.specs.Compared.{Compared, IsCompared};
 ghost use Rattle.pm_isolate.specs.Within.{IsPrepared, end_report, report_behind, rest_report, setup_in};
 
@@ -25,10 +27,9 @@ use pm_base::{
 };
 use pm_object::Object;
 use pm_reach::reach;
-use pm_replay::scripts_are_read;
-use pm_script::SCRIPT_LIMIT;
+use pm_script::{LineStop, SCRIPT_LIMIT, scripts_are_read};
 use pm_topology::Topology;
-use pm_trace::{Fault, exits_say, reach_text, refuse};
+use pm_trace::{Fault, reach_text, refuse};
 use std::alloc::Global;
 
 /// Compares the run of the named script over an object with the run without the messages of the master
@@ -58,7 +59,7 @@ pub fn compare<I: Inputs, O: Sink>(
         → IsCompared I.Inputs O.Sink (setup object topology) m script.now inputs.old out.old out.new }
     // What the input holds decides the exit, unless memory is wanted or the sink fails.
     ensures decided { I.observable
-        → EndsWith O.Sink (script_exit (script_in (I.state inputs.old) script.now)) out.old out.new result }
+        → EndsWith O.Sink (script_exit (script_or_fault (script_in (I.state inputs.old) script.now))) out.old out.new result }
     // On every exit: what was asked for, and what was written of it.
     ensures ran { Compared I.Inputs O.Sink (setup object topology) m script.now
         inputs.old inputs.new out.old out.new result }
@@ -76,8 +77,6 @@ pub fn compare<I: Inputs, O: Sink>(
     ensures unfailed { result ≡ Exit.Done → IsUnfailed (O.state out.old) (O.state out.new) }
 {
     what_differs_is_reached();
-    scripts_are_read();
-    exits_say::<O>();
     compare_named(alloc, object, topology, m, inputs, script, out)
 }
 
@@ -175,7 +174,8 @@ fn run_rest<O: Sink>(worlds: &mut Worlds, m: NodeId, script: &Prefix, out: &mut 
 {
     match run_lines(worlds, m, script) {
         Ok(count) => finish(worlds, script.stop(), count, out),
-        Err(fault) => refuse(fault, out),
+        Err(LineStop::Bad(number, cause)) => refuse(Fault::Line(number, cause), out),
+        Err(LineStop::Broken) => unreachable!(),
     }
 }
 

@@ -8,20 +8,21 @@ ghost use Rattle.pm_object.specs.Grammar.{IsObject};
 ghost use Rattle.pm_topology.specs.WellFormed.{IsWellFormed};
 ghost use Rattle.pm_reach.specs.declared.members.Member.{Member};
 ghost use Rattle.pm_reach.specs.Membership.{IsReach};
-ghost use Rattle.pm_core.specs.Run.{Setup, Step, run};
+ghost use Rattle.pm_run.specs.Run.{Line, Setup, run};
 ghost use Rattle.pm_laws.specs.Quiet.{quiet};
 ghost use Rattle.pm_topology.specs.Units.{has_unit};
 ghost use Rattle.pm_isolate.specs.Listed.{AreListed, IsListed};
 ghost use Rattle.pm_isolate.specs.Transitions.{differs, transitions};
 
 use pm_laws::{reach_is_closed, reach_keeps_apart, values_agree};
+use pm_run::books_of_a_run;
 use pm_topology::{kinds_are_exact, units_stand_in_order};
 
 /// A unit differs in two runs exactly where its transitions aren't the same.
 pub fn transitions_are_exact()
-    ensures same { (first second : List Step) (unit : Unit) → differs first second unit ≡ false
+    ensures same { (first second : List Line) (unit : Unit) → differs first second unit ≡ false
         → transitions unit first ≡ transitions unit second }
-    ensures differ { (first second : List Step) (unit : Unit) → differs first second unit ≡ true
+    ensures differ { (first second : List Line) (unit : Unit) → differs first second unit ≡ true
         → transitions unit first ≡ transitions unit second → ⊥ }
 {}
 
@@ -38,6 +39,7 @@ pub fn what_differs_is_reached()
         → AreListed c m members events }
 {
     reach_keeps_apart();
+    books_of_a_run();
     reach_is_closed();
     values_agree();
     kinds_are_exact();

@@ -3,15 +3,16 @@
 ghost use Rattle.std.specs.Prelude.{◌≡◌, ◌<◌, false, IfOk, Some, length, slice_get};
 ghost use Rattle.pm_topology.specs.Masters.{ObeysMasterRules};
 ghost use Rattle.pm_topology.specs.WellFormed.{IsWellFormed};
-ghost use Rattle.pm_replay.specs.Replayed.{setup};
-ghost use Rattle.pm_trace.specs.Closing.{shown};
-ghost use Rattle.pm_isolate.specs.Within.{begun, noted, noted_in, stepped};
+ghost use Rattle.pm_core.specs.Values.{shown};
+ghost use Rattle.pm_run.specs.Run.{setup};
+ghost use Rattle.pm_isolate.specs.Within.{begun, line_book, noted, noted_in, stepped};
 
 use crate::runner::Runner;
 use pm_base::{Event, NoMemory, NodeId, Unit};
 use pm_core::Book;
 use pm_laws::quiet_event;
 use pm_object::Object;
+use pm_run::core_events;
 use pm_topology::{Topology, UnitMap, unit_map_places};
 use std::alloc::Global;
 
@@ -47,19 +48,29 @@ impl Worlds {
         })
     }
 
-    /// One event in both, but for a message of the master, in place of which nothing happens in the quiet
+    /// One line in both, but for a message of the master, in place of which nothing happens in the quiet
     /// one; and each unit that then shows different values is noted.
     pub fn step(&mut self, m: NodeId, event: &Event)
         ensures { self.new ≡ stepped m event.now self.old }
     {
-        self.loud.step(event);
-        self.quiet.step(&quiet_event(m, event));
-        note(self.loud.book(), self.quiet.book(), &mut self.differs);
+        step_line(&mut self.loud, event);
+        step_line(&mut self.quiet, &quiet_event(m, event));
+        log(self.loud.book(), self.quiet.book(), &mut self.differs);
     }
 }
 
-/// Notes each unit that shows different values in two books.
-fn note(loud: &Book, quiet: &Book, differs: &mut UnitMap<bool>)
+/// Carries out the core events of a script line in a book.
+fn step_line(runner: &mut Runner, event: &Event)
+    ensures { runner.new ≡ line_book event.now runner.old }
+{
+    let mut left = core_events(event);
+    while let Some(core) = left.next() {
+        runner.step(&core);
+    }
+}
+
+/// Logs each unit that shows different values in two books.
+fn log(loud: &Book, quiet: &Book, differs: &mut UnitMap<bool>)
     ensures { differs.new ≡ noted loud.now quiet.now differs.old }
 {
     unit_map_places::<bool>();
@@ -84,15 +95,5 @@ pub(crate) fn mark_at(differs: &UnitMap<bool>, place: usize) -> (Unit, bool)
 fn is_noted(loud: &Book, quiet: &Book, unit: Unit, before: bool) -> bool
     ensures { result ≡ noted_in loud.now quiet.now unit before }
 {
-    before || shown(loud, unit) != shown(quiet, unit)
-}
-
-/// What a book shows of a unit: the number of the mode of a processor, and the value of any other.
-fn shown(book: &Book, unit: Unit) -> u32
-    ensures { result ≡ shown unit book.now }
-{
-    match unit {
-        Unit::Node(node) => book.point(node),
-        Unit::Line(_) => book.value(unit),
-    }
+    before || loud.shown(unit) != quiet.shown(unit)
 }

@@ -1,25 +1,23 @@
 //! The differences between two runs are written: a line for each unit that differs, and the number of
 //! script lines.
 
-ghost use Rattle.std.specs.Prelude.{◌≡◌, ◌≤◌, ◌++◌, ◌∷◌, [], length};
+ghost use Rattle.std.specs.Prelude.{◌≡◌, ◌≤◌, ◌∷◌, length};
 ghost use Rattle.std.specs.List.{concat};
-ghost use Rattle.pm_trace.specs.Closing.{kind_name, unit_name};
-ghost use Rattle.pm_trace.specs.declared.line.Word.TheVariants as word;
 ghost use Rattle.pm_trace.specs.Line.{line_text, widths};
-ghost use Rattle.pm_isolate.specs.Differences.{difference_line, steps_line};
+ghost use Rattle.pm_isolate.specs.Differences.{difference_line};
 ghost use Rattle.pm_isolate.specs.Within.{Writes, end_text, mark_line, mark_lines};
 
 use crate::worlds::{Worlds, mark_at};
 use pm_base::{Failed, Sink, Unit, write_all};
-use pm_topology::{Kind, Topology};
-use pm_trace::{TextLine, Word, write_line};
+use pm_topology::Topology;
+use pm_trace::{TextLine, Word, name, unit_name, write_line};
 
 /// Writes what comes after the last script line, where there were so many.
 pub fn write_end<O: Sink>(worlds: &Worlds, count: u32, out: &mut O) -> Result<(), Failed>
     ensures { Writes O.Sink (end_text worlds.now count) out.old out.new result }
 {
     write_marks(worlds, out)?;
-    write_named(b"steps ", Word::Number(count), &[], out)
+    write_words(name(b"steps"), &[Word::Number(count)], out)
 }
 
 /// Writes a line for each unit that was found to differ.
@@ -49,38 +47,16 @@ fn write_mark<O: Sink>(t: &Topology, unit: Unit, differs: bool, out: &mut O) -> 
 fn write_unit<O: Sink>(t: &Topology, unit: Unit, out: &mut O) -> Result<(), Failed>
     ensures { Writes O.Sink (difference_line t.now unit) out.old out.new result }
 {
-    let (name, number) = name_of(t, unit);
-    write_named(b"differ ", name, &[Word::Number(number)], out)
+    let (kind, number) = unit_name(t, unit);
+    write_words(name(b"differ"), &[kind, Word::Number(number)], out)
 }
 
-/// Writes a line of these words behind a name.
-fn write_named<O: Sink>(name: &[u8], first: Word, rest: &[Word], out: &mut O) -> Result<(), Failed>
+/// Writes a line of these words.
+fn write_words<O: Sink>(first: Word, rest: &[Word], out: &mut O) -> Result<(), Failed>
     requires room { widths (first ∷ rest.now) ≤ 127 }
-    ensures { Writes O.Sink (name.now ++ line_text (first ∷ rest.now)) out.old out.new result }
+    ensures { Writes O.Sink (line_text (first ∷ rest.now)) out.old out.new result }
 {
     let mut line = TextLine::new();
     write_line(&mut line, first, rest);
-    write_all(out, name)?;
     write_all(out, line.as_slice())
-}
-
-/// What a unit is called, and its number.
-fn name_of(t: &Topology, unit: Unit) -> (Word, u32)
-    ensures { unit_name t.now unit ≡ result.0 ∷ word.Number result.1 ∷ [] }
-{
-    match unit {
-        Unit::Node(node) => (kind_name(t.kind(node)), node.0),
-        Unit::Line(reset) => (Word::Line, reset.0),
-    }
-}
-
-/// What a node of a kind is called.
-fn kind_name(kind: Kind) -> Word
-    ensures { result ≡ kind_name kind }
-{
-    match kind {
-        Kind::Proc(_) => Word::Proc,
-        Kind::Slave(_) | Kind::Unknown => Word::Slave,
-        Kind::Power(_) => Word::Power,
-    }
 }

@@ -1,44 +1,48 @@
--- One more step of a run is driven.
-use Rattle.std.proofs.Common.{◌≡◌, ℕ, ◌+◌, Bool, List, [], ◌∷◌, take, Option, Some, None, suc, refl, sym, ◌∙◌, ap, arith}
-use Rattle.std.proofs.lemmas.List.{append-nil}
+-- One more line of a run is driven.
+use Rattle.std.proofs.Common.{◌≡◌, ℕ, ◌+◌, Bool, List, [], ◌∷◌, ◌++◌, length, take, Option, Some, None, suc, refl, sym, ◌∙◌, ap, arith}
 use Rattle.pm_base.specs.declared.events.Event.{Event}
-use Rattle.pm_core.specs.Outbox.{Outputs}
-use Rattle.pm_core.specs.Run.{steps_of}
+use Rattle.pm_run.specs.Run.{Core, Line, Setup, cores_of, line_of, lines_of, split}
 use Rattle.pm_core.specs.State.{State}
-use Rattle.pm_core.specs.Step.{effect, outputs}
-use Rattle.pm_apply.specs.Part.{Kept, Part, answers_in, orders_of, part_in, part_of}
-use Rattle.pm_trace.specs.Step.{core_text}
-use Rattle.pm_drive.specs.Drive.{Driven, acts_of, drive, until}
-use Rattle.pm_drive.specs.Text.{driven_text}
-use Rattle.pm_replay.specs.Within.{Controls, driven_from}
+use Rattle.pm_core.specs.Step.{effect}
+use Rattle.pm_apply.specs.Part.{Kept, part_of}
+use Rattle.pm_drive.specs.Drive.{Driven, Given, answers_after, drive, drive_line, give, kept_after, until}
+use Rattle.pm_replay.specs.Controls.{Controls}
+use Rattle.pm_replay.specs.Within.{driven_from}
 use Rattle.pm_replay.proofs.LeavesLemmas.{behind}
 
--- a step of one core step with what the device was told for it: by the book after it, and what it puts out
-abbrev pub driven_step : Event → State → Outputs → Part → Driven
-driven_step event after out part = record {
-  step = record { event = event; cores = record { stand = record { book = after }; outputs = out } ∷ [] };
-  parts = part ∷ [];
-}
+-- ---- one line
 
--- what is driven after a step of one core step
-next_by : (kept : Kept) (event : Event) (after : State) (out : Outputs) (then : Controls) (events : List Event) (later : List (List Bool)) → then.book ≡ after → part_in then.kept then.outbox ≡ part_of kept (answers_in then.outbox) then.book out → drive kept (answers_in then.outbox ∷ later) (record { event = event; cores = record { stand = record { book = after }; outputs = out } ∷ [] } ∷ steps_of events (record { book = after })) ≡ driven_step event after out (part_in then.kept then.outbox) ∷ driven_from then later events
-next_by kept event after out then events later book part =
-    let P : Part = part_of kept (answers_in then.outbox) after out in
-    let Q : Part = part_in then.kept then.outbox in
-    let is : P ≡ Q = sym (part ∙ ap (λ b. part_of kept (answers_in then.outbox) b out) book) in
-    ap (λ (p : Part). driven_step event after out p ∷ drive P.kept later (steps_of events (record { book = after }))) is
-    ∙ ap (λ (kept : Kept). driven_step event after out Q ∷ drive kept later (steps_of events (record { book = after }))) (ap (λ (p : Part). p.kept) is)
-    ∙ ap (λ (b : State). driven_step event after out Q ∷ drive then.kept later (steps_of events (record { book = b }))) (sym book)
+-- a line that is driven from where a run stands
+abbrev pub driven_line : Setup → Event → Controls → List (List Bool) → Driven
+driven_line c event now answers = drive_line now.kept answers (line_of c event (record { book = now.book }))
 
--- the steps of more events begin with that of the first
-pub driven_next : (now then : Controls) (event : Event) (events : List Event) (later : List (List Bool)) → then.book ≡ effect event now.book → part_in then.kept then.outbox ≡ part_of now.kept (answers_in then.outbox) then.book (outputs event now.book) → driven_from now (answers_in then.outbox ∷ later) (event ∷ events) ≡ driven_step event (effect event now.book) (outputs event now.book) (part_in then.kept then.outbox) ∷ driven_from then later events
-driven_next now then event events later book part = next_by now.kept event (effect event now.book) (outputs event now.book) then events later book part
+-- so many answers as core steps are all that these take
+give_by : (kept : Kept) (answers later : List (List Bool)) (cores : List Core) → length answers ≡ length cores → give kept (answers ++ later) cores ≡ give kept answers cores
+give_by kept answers later [] fits = refl
+give_by kept [] later (core ∷ cores) fits = absurd (omega (arith, fits))
+give_by kept (first ∷ answers) later (core ∷ cores) fits =
+    ap (λ (given : List Given). record { core = core; part = part_of kept first core.after core.outputs } ∷ given) (give_by (part_of kept first core.after core.outputs).kept answers later cores (omega (arith, fits)))
 
-pub text_of_step : (n : ℕ) (event : Event) (after : State) (out : Outputs) (part : Part) → driven_text n (driven_step event after out part) ≡ core_text n out part
-text_of_step n event after out part = append-nil (core_text n out part)
+answers_left : (answers later : List (List Bool)) (cores : List Core) → length answers ≡ length cores → answers_after cores (answers ++ later) ≡ later
+answers_left [] later [] fits = refl
+answers_left (first ∷ answers) later [] fits = absurd (omega (arith, fits))
+answers_left [] later (core ∷ cores) fits = absurd (omega (arith, fits))
+answers_left (first ∷ answers) later (core ∷ cores) fits = answers_left answers later cores (omega (arith, fits))
 
-pub acts_of_step : (event : Event) (after : State) (out : Outputs) (part : Part) → acts_of (driven_step event after out part) ≡ orders_of part.commands
-acts_of_step event after out part = append-nil (orders_of part.commands)
+length-cores : (events : List Event) (book : State) → length (cores_of events book) ≡ length events
+length-cores [] book = refl
+length-cores (event ∷ events) book = ap suc (length-cores events (effect event book))
+
+-- the lines of more events begin with that of the first
+pub driven_next : (c : Setup) (event : Event) (events : List Event) (now then : Controls) (answers later : List (List Bool)) → length answers ≡ length (split c event (record { book = now.book })).events → then.book ≡ (line_of c event (record { book = now.book })).after.book → then.kept ≡ kept_after now.kept (give now.kept answers (line_of c event (record { book = now.book })).cores) → driven_from c now (answers ++ later) (event ∷ events) ≡ driven_line c event now answers ∷ driven_from c then later events
+driven_next c event events now then answers later fits book kept =
+    let line : Line = line_of c event (record { book = now.book }) in
+    let x : Driven = drive_line now.kept answers line in
+    let all : length answers ≡ length line.cores = fits ∙ sym (length-cores (split c event (record { book = now.book })).events now.book) in
+    ap (λ (given : List Given). record { line = line; cores = given; kept = kept_after now.kept given } ∷ drive (kept_after now.kept given) (answers_after line.cores (answers ++ later)) (lines_of c events line.after)) (give_by now.kept answers later line.cores all)
+    ∙ ap (λ (left : List (List Bool)). x ∷ drive x.kept left (lines_of c events line.after)) (answers_left answers later line.cores all)
+    ∙ ap (λ (k : Kept). x ∷ drive k later (lines_of c events line.after)) (sym kept)
+    ∙ ap (λ (b : State). x ∷ drive then.kept later (lines_of c events (record { book = b }))) (sym book)
 
 pub until-cons : {X : Type 0} (cut : Option ℕ) (x : X) (xs : List X) → until (behind 1 cut) (x ∷ xs) ≡ x ∷ until cut xs
 until-cons None x xs = refl

@@ -12,7 +12,6 @@ use Rattle.pm_base.specs.declared.events.Event.{Event}
 use Rattle.pm_base.specs.declared.prefix.StopReason.{StopReason}
 use Rattle.pm_base.specs.declared.prefix.StopReason.TheVariants as reason
 use Rattle.pm_base.specs.declared.sink.Sink as Sink
-use Rattle.pm_base.specs.Prefix.{HasSize, Prefix}
 use Rattle.pm_base.specs.Sink.{Wrote}
 use Rattle.pm_base.specs.Writing.{BreaksIn, Leaves}
 use Rattle.pm_base.proofs.SinkLemmas.{Wrote-is}
@@ -23,25 +22,26 @@ use Rattle.pm_device.specs.Act.{Act, Chain}
 use Rattle.pm_device.specs.Chains.{Chain-append}
 use Rattle.pm_core.specs.Load.{load_of}
 use Rattle.pm_core.specs.Outbox.{Holds}
-use Rattle.pm_core.specs.Run.{Setup, step_0, steps_of}
+use Rattle.pm_run.specs.Run.{Setup, core_0, line_0, lines_of, setup, setup_of}
 use Rattle.pm_core.specs.State.{State}
 use Rattle.pm_core.specs.Step.{outputs_at_load}
 use Rattle.pm_apply.specs.Part.{Kept, Part, answers_in, orders_in, part_in, part_of}
 use Rattle.pm_apply.specs.Record.{at_zero}
+use Rattle.pm_script.specs.declared.follow.LineStop.TheVariants as stops
 use Rattle.pm_script.specs.declared.meaning.LineFault.{LineFault}
-use Rattle.pm_script.specs.Script.{Script, Stop, script_limit, stop_of}
+use Rattle.pm_script.specs.Script.{Script, Stop, stop_of}
 use Rattle.pm_trace.specs.Closing.{closing_text}
 use Rattle.pm_trace.specs.declared.faults.Fault.{Fault}
 use Rattle.pm_trace.specs.declared.faults.Fault.TheVariants.{Line}
 use Rattle.pm_trace.specs.Faults.{exit_after}
 use Rattle.pm_trace.specs.Report.{Report, Reports, exit_of, fault_lines, pieces, refusal}
 use Rattle.pm_trace.specs.Step.{Notices, core_text, notices_in, notices_of, step_text}
-use Rattle.pm_replay.specs.declared.lines.LineStop.TheVariants as lines
 use Rattle.pm_drive.specs.Drive.{Driven, acts, acts_of, drive, driven, last_book, last_kept, until}
 use Rattle.pm_drive.specs.Text.{texts}
-use Rattle.pm_replay.specs.Replay.{closing_where, fault_at, replay_report}
-use Rattle.pm_replay.specs.Within.{Controls, IsLoaded, RanLines, RanRest, RanScript, Started, Went, closing_report, driven_from, report_from, setup_of}
-use Rattle.pm_replay.specs.Replayed.{setup}
+use Rattle.pm_trace.specs.Scripts.{at_end, fault_at}
+use Rattle.pm_replay.specs.Replay.{replay_report}
+use Rattle.pm_replay.specs.Controls.{Controls}
+use Rattle.pm_replay.specs.Within.{IsLoaded, RanLines, RanRest, RanScript, Started, Went, closing_report, driven_from, report_from}
 use Rattle.pm_replay.proofs.DriveLemmas.{until-cons}
 use Rattle.pm_replay.proofs.LeavesLemmas.{Leaves-append, Leaves-before, behind}
 
@@ -85,16 +85,6 @@ fault-anywhere m n reason.Limit = refl
 fault-anywhere m n reason.Failure = refl
 fault-anywhere m n reason.Unbegun = refl
 
--- what is read of a script is short
-pub is_short : (p : Prefix) → HasSize script_limit p.stop (length p.bytes) → length p.bytes < 2147483648
-is_short p size = by p.stop size
-  where
-    by : (r : StopReason) → HasSize script_limit r (length p.bytes) → length p.bytes < 2147483648
-    by reason.End size = omega (arith, size)
-    by reason.Limit size = omega (arith, size)
-    by reason.Failure size = omega (arith, size)
-    by reason.Unbegun size = omega (arith, size)
-
 -- the book of an object at load, a device that took nothing yet, and what the load puts out
 is_loaded : (c : Controls) (object : Object) (topology : Topology) → c.book ≡ load_of object topology → c.kept ≡ at_zero topology → Holds (outputs_at_load c.book) c.outbox → IsLoaded c
 is_loaded c object topology book kept out = record {
@@ -113,12 +103,12 @@ setup_by object topology (Err error) book = tt
 
 module _ {O D : Type 0} (o : Sink.Ghosts O) (d : Device.Ghosts D) where
   -- lines were all carried out or one is bad, and after a report was written
-  rest_by : (n : ℕ) (s : Script) (now : Controls) (old mid new : O) (from to : D) (exit : Exit) (answers : List (List Bool)) (cut : Option ℕ) (r : Report) → Went o d (texts n (driven_from now answers s.events)) (driven_from now answers s.events) cut old mid from to → cut ≡ None → Reports o r mid new exit → report_from n now s answers ≡ report_after (texts n (driven_from now answers s.events)) r → RanRest o d n s now old new from to exit
-  rest_by n s now old mid new from to exit answers cut r went whole reports is =
-      let xs : List Driven = driven_from now answers s.events in
+  rest_by : (c : Setup) (n : ℕ) (s : Script) (now : Controls) (old mid new : O) (from to : D) (exit : Exit) (answers : List (List Bool)) (cut : Option ℕ) (r : Report) → Went o d (texts n (driven_from c now answers s.events)) (driven_from c now answers s.events) cut old mid from to → cut ≡ None → Reports o r mid new exit → report_from c n now s answers ≡ report_after (texts n (driven_from c now answers s.events)) r → RanRest o d c n s now old new from to exit
+  rest_by c n s now old mid new from to exit answers cut r went whole reports is =
+      let xs : List Driven = driven_from c now answers s.events in
       let done : List (List ℕ) = texts n xs in
-      let wrote : Wrote o.observable (concat done) (o.state old) (o.state mid) = subst (λ (c : Option ℕ). Leaves o done c old mid) whole went.left in
-      let given : Chain d.Does (acts xs) from to = subst (λ (c : Option ℕ). Chain d.Does (acts (until c xs)) from to) whole went.given in
+      let wrote : Wrote o.observable (concat done) (o.state old) (o.state mid) = subst (λ (cut : Option ℕ). Leaves o done cut old mid) whole went.left in
+      let given : Chain d.Does (acts xs) from to = subst (λ (cut : Option ℕ). Chain d.Does (acts (until cut xs)) from to) whole went.given in
       record {
         answers = answers;
         cut = behind (length done) reports.cut;
@@ -130,48 +120,48 @@ module _ {O D : Type 0} (o : Sink.Ghosts O) (d : Device.Ghosts D) where
       }
 
   -- lines were carried out, and what comes after them was written
-  pub RanRest-closed : (n : ℕ) (s : Script) (r : StopReason) (now after : Controls) (old mid new : O) (from to : D) (exit : Exit) → RanLines o d n s (stop_of r) now after old mid from to (Ok tt) → Reports o (closing_report (stop_of r) after.book after.kept) mid new exit → RanRest o d n s now old new from to exit
-  RanRest-closed n s r now after old mid new from to exit ran reports =
-      let xs : List Driven = driven_from now ran.answers s.events in
+  pub RanRest-closed : (c : Setup) (n : ℕ) (s : Script) (r : StopReason) (now after : Controls) (old mid new : O) (from to : D) (exit : Exit) (count : ℕ) → RanLines o d c n s (stop_of r) now after old mid from to (Ok count) → Reports o (closing_report (stop_of r) after.book after.kept) mid new exit → RanRest o d c n s now old new from to exit
+  RanRest-closed c n s r now after old mid new from to exit count ran reports =
+      let xs : List Driven = driven_from c now ran.answers s.events in
       let number : ℕ = n + length s.events in
       let whole = ran.ends.0 in
       let stop : s.stop ≡ stop_of r = ran.ends.1 in
       let book : after.book ≡ last_book now.book xs = ran.ends.2 in
       let kept : after.kept ≡ last_kept now.kept xs = ran.ends.3 in
-      let is : report_from n now s ran.answers ≡ report_after (texts n xs) (closing_report (stop_of r) after.book after.kept) =
-      ap (λ (stop : Stop). record { body = texts n xs ++ closing_where stop (closing_text (last_book now.book xs) (last_kept now.kept xs)); fault = fault_at number stop }) stop
-      ∙ ap (λ (b : State). record { body = texts n xs ++ closing_where (stop_of r) (closing_text b (last_kept now.kept xs)); fault = fault_at number (stop_of r) }) (sym book)
-      ∙ ap (λ (k : Kept). record { body = texts n xs ++ closing_where (stop_of r) (closing_text after.book k); fault = fault_at number (stop_of r) }) (sym kept)
-      ∙ ap (λ (f : Option Fault). record { body = texts n xs ++ closing_where (stop_of r) (closing_text after.book after.kept); fault = f }) (fault-anywhere number 0 r)
+      let is : report_from c n now s ran.answers ≡ report_after (texts n xs) (closing_report (stop_of r) after.book after.kept) =
+      ap (λ (stop : Stop). record { body = texts n xs ++ at_end stop (closing_text (last_book now.book xs) (last_kept now.kept xs)); fault = fault_at number stop }) stop
+      ∙ ap (λ (b : State). record { body = texts n xs ++ at_end (stop_of r) (closing_text b (last_kept now.kept xs)); fault = fault_at number (stop_of r) }) (sym book)
+      ∙ ap (λ (k : Kept). record { body = texts n xs ++ at_end (stop_of r) (closing_text after.book k); fault = fault_at number (stop_of r) }) (sym kept)
+      ∙ ap (λ (f : Option Fault). record { body = texts n xs ++ at_end (stop_of r) (closing_text after.book after.kept); fault = f }) (fault-anywhere number 0 r)
       in
-      rest_by n s now old mid new from to exit ran.answers ran.cut (closing_report (stop_of r) after.book after.kept) ran.went whole reports is
+      rest_by c n s now old mid new from to exit ran.answers ran.cut (closing_report (stop_of r) after.book after.kept) ran.went whole reports is
 
   -- a line has no meaning, and the line of that fault was written
-  pub RanRest-bad : (n m : ℕ) (cause : LineFault) (s : Script) (stop : Stop) (now after : Controls) (old mid new : O) (from to : D) (exit : Exit) → RanLines o d n s stop now after old mid from to (Err (lines.Bad m cause)) → Reports o (refusal (Line m cause)) mid new exit → RanRest o d n s now old new from to exit
-  RanRest-bad n m cause s stop now after old mid new from to exit ran reports =
-      let xs : List Driven = driven_from now ran.answers s.events in
+  pub RanRest-bad : (c : Setup) (n m : ℕ) (cause : LineFault) (s : Script) (stop : Stop) (now after : Controls) (old mid new : O) (from to : D) (exit : Exit) → RanLines o d c n s stop now after old mid from to (Err (stops.Bad m cause)) → Reports o (refusal (Line m cause)) mid new exit → RanRest o d c n s now old new from to exit
+  RanRest-bad c n m cause s stop now after old mid new from to exit ran reports =
+      let xs : List Driven = driven_from c now ran.answers s.events in
       let table : List ℕ = closing_text (last_book now.book xs) (last_kept now.kept xs) in
-      let is : report_from n now s ran.answers ≡ report_after (texts n xs) (refusal (Line m cause)) =
-      ap (λ (stop : Stop). record { body = texts n xs ++ closing_where stop table; fault = fault_at (n + length s.events) stop }) ran.ends.1
+      let is : report_from c n now s ran.answers ≡ report_after (texts n xs) (refusal (Line m cause)) =
+      ap (λ (stop : Stop). record { body = texts n xs ++ at_end stop table; fault = fault_at (n + length s.events) stop }) ran.ends.1
       ∙ ap (λ (number : ℕ). record { body = texts n xs ++ []; fault = Some (Line number cause) }) (sym ran.ends.2)
       in
-      rest_by n s now old mid new from to exit ran.answers ran.cut (refusal (Line m cause)) ran.went ran.ends.0 reports is
+      rest_by c n s now old mid new from to exit ran.answers ran.cut (refusal (Line m cause)) ran.went ran.ends.0 reports is
 
   -- the sink broke off within the lines
-  pub RanRest-broken : (n : ℕ) (s : Script) (stop : Stop) (now after : Controls) (old new : O) (from to : D) → RanLines o d n s stop now after old new from to (Err lines.Sink) → RanRest o d n s now old new from to WriteFault
-  RanRest-broken n s stop now after old new from to ran =
-      let xs : List Driven = driven_from now ran.answers s.events in
-      let r : Report = report_from n now s ran.answers in
+  pub RanRest-broken : (c : Setup) (n : ℕ) (s : Script) (stop : Stop) (now after : Controls) (old new : O) (from to : D) → RanLines o d c n s stop now after old new from to (Err stops.Broken) → RanRest o d c n s now old new from to WriteFault
+  RanRest-broken c n s stop now after old new from to ran =
+      let xs : List Driven = driven_from c now ran.answers s.events in
+      let r : Report = report_from c n now s ran.answers in
       let k : ℕ = ran.ends.0 in
-      let tail : List (List ℕ) = closing_where s.stop (closing_text (last_book now.book xs) (last_kept now.kept xs)) in
-      let breaks : BreaksIn o k (texts n xs) old new = subst (λ (c : Option ℕ). Leaves o (texts n xs) c old new) ran.ends.1 ran.went.left in
+      let tail : List (List ℕ) = at_end s.stop (closing_text (last_book now.book xs) (last_kept now.kept xs)) in
+      let breaks : BreaksIn o k (texts n xs) old new = subst (λ (cut : Option ℕ). Leaves o (texts n xs) cut old new) ran.ends.1 ran.went.left in
       let within : k < length (texts n xs) = slice_get_within (texts n xs) k breaks.piece breaks.is in
       record {
         answers = ran.answers;
         cut = Some k;
         went = record {
           left = Leaves-before o (texts n xs ++ tail) (fault_lines r.fault) k old new (Leaves-before o (texts n xs) tail k old new breaks);
-          given = subst (λ (c : Option ℕ). Chain d.Does (acts (until c xs)) from to) ran.ends.1 ran.went.given;
+          given = subst (λ (cut : Option ℕ). Chain d.Does (acts (until cut xs)) from to) ran.ends.1 ran.went.given;
         };
         ends = ap (λ (b : Bool). if b then WriteFault else exit_after r.fault) (sym (inside k (length (texts n xs)) (length tail) (length (texts n xs ++ tail)) within (length-append (texts n xs) tail)));
       }
@@ -182,10 +172,10 @@ module _ {O D : Type 0} (o : Sink.Ghosts O) (d : Device.Ghosts D) where
   -- ---- step 0
 
   -- step 0 with what the device was told for it
-  abbrev pub first_step : Setup → List Event → Part → Driven
-  first_step c events part = record { step = step_0 c events; parts = part ∷ [] }
+  abbrev pub first_step : Setup → Part → Driven
+  first_step c part = record { line = line_0 c; cores = record { core = core_0 c; part = part } ∷ []; kept = part.kept }
 
-  driven_first : (now after : Controls) (events : List Event) (later : List (List Bool)) (from to : D) → IsLoaded now → Started o d now after from to → driven (setup_of now.book) (answers_in after.outbox ∷ later) events ≡ first_step (setup_of now.book) events (part_in after.kept after.outbox) ∷ driven_from after later events
+  driven_first : (now after : Controls) (events : List Event) (later : List (List Bool)) (from to : D) → IsLoaded now → Started o d now after from to → driven (setup_of now.book) (answers_in after.outbox ∷ later) events ≡ first_step (setup_of now.book) (part_in after.kept after.outbox) ∷ driven_from (setup_of now.book) after later events
   driven_first now after events later from to loaded started =
       let c : Setup = setup_of now.book in
       let load : State = load_of c.object c.topology in
@@ -196,31 +186,31 @@ module _ {O D : Type 0} (o : Sink.Ghosts O) (d : Device.Ghosts D) where
       ∙ ap (λ (k : Kept). part_of k (answers_in after.outbox) now.book (outputs_at_load now.book)) (sym loaded.kept)
       ∙ sym started.part
       in
-      ap (λ (p : Part). first_step c events p ∷ drive p.kept later (steps_of events (record { book = load }))) is
-      ∙ ap (λ (b : State). first_step c events Q ∷ drive after.kept later (steps_of events (record { book = b }))) (sym loaded.book ∙ sym started.book)
+      ap (λ (p : Part). first_step c p ∷ drive p.kept later (lines_of c events (record { book = load }))) is
+      ∙ ap (λ (b : State). first_step c Q ∷ drive after.kept later (lines_of c events (record { book = b }))) (sym loaded.book ∙ sym started.book)
 
   -- the report of a script is that of its lines behind the text of step 0
-  report_first : (now after : Controls) (s : Script) (later : List (List Bool)) (from to : D) → IsLoaded now → Started o d now after from to → replay_report (setup_of now.book) s (answers_in after.outbox ∷ later) ≡ report_after (step_text 0 after.outbox.done.items (notices_in after.outbox) after.outbox.answer ∷ []) (report_from 1 after s later)
+  report_first : (now after : Controls) (s : Script) (later : List (List Bool)) (from to : D) → IsLoaded now → Started o d now after from to → replay_report (setup_of now.book) s (answers_in after.outbox ∷ later) ≡ report_after (step_text 0 after.outbox.done.items (notices_in after.outbox) after.outbox.answer ∷ []) (report_from (setup_of now.book) 1 after s later)
   report_first now after s later from to loaded started =
       let c : Setup = setup_of now.book in
       let load : State = load_of c.object c.topology in
       let Q : Part = part_in after.kept after.outbox in
-      let ys : List Driven = driven_from after later s.events in
-      ap (λ (xs : List Driven). record { body = texts 0 xs ++ closing_where s.stop (closing_text (last_book load xs) (last_kept (at_zero c.topology) xs)); fault = fault_at (1 + length s.events) s.stop }) (driven_first now after s.events later from to loaded started)
-      ∙ ap (λ (text : List ℕ). record { body = text ∷ (texts 1 ys ++ closing_where s.stop (closing_text (last_book load ys) (last_kept after.kept ys))); fault = fault_at (1 + length s.events) s.stop }) (append-nil (core_text 0 (outputs_at_load load) Q))
-      ∙ ap (λ (b : State). record { body = core_text 0 (outputs_at_load load) Q ∷ (texts 1 ys ++ closing_where s.stop (closing_text (last_book b ys) (last_kept after.kept ys))); fault = fault_at (1 + length s.events) s.stop }) (sym loaded.book ∙ sym started.book)
-      ∙ ap (λ (notices : Notices). record { body = step_text 0 Q.commands notices Q.answer ∷ (texts 1 ys ++ closing_where s.stop (closing_text (last_book after.book ys) (last_kept after.kept ys))); fault = fault_at (1 + length s.events) s.stop }) (ap (λ (b : State). notices_of (outputs_at_load b)) (sym loaded.book) ∙ sym started.notices)
+      let ys : List Driven = driven_from (setup_of now.book) after later s.events in
+      ap (λ (xs : List Driven). record { body = texts 0 xs ++ at_end s.stop (closing_text (last_book load xs) (last_kept (at_zero c.topology) xs)); fault = fault_at (1 + length s.events) s.stop }) (driven_first now after s.events later from to loaded started)
+      ∙ ap (λ (text : List ℕ). record { body = text ∷ (texts 1 ys ++ at_end s.stop (closing_text (last_book load ys) (last_kept after.kept ys))); fault = fault_at (1 + length s.events) s.stop }) (append-nil (core_text 0 (outputs_at_load load) Q))
+      ∙ ap (λ (b : State). record { body = core_text 0 (outputs_at_load load) Q ∷ (texts 1 ys ++ at_end s.stop (closing_text (last_book b ys) (last_kept after.kept ys))); fault = fault_at (1 + length s.events) s.stop }) (sym loaded.book ∙ sym started.book)
+      ∙ ap (λ (notices : Notices). record { body = step_text 0 Q.commands notices Q.answer ∷ (texts 1 ys ++ at_end s.stop (closing_text (last_book after.book ys) (last_kept after.kept ys))); fault = fault_at (1 + length s.events) s.stop }) (ap (λ (b : State). notices_of (outputs_at_load b)) (sym loaded.book) ∙ sym started.notices)
 
-  acts_first : (now after : Controls) (events : List Event) → acts_of (first_step (setup_of now.book) events (part_in after.kept after.outbox)) ≡ orders_in after.outbox
-  acts_first now after events = append-nil (orders_in after.outbox)
+  acts_first : (now after : Controls) → acts_of (first_step (setup_of now.book) (part_in after.kept after.outbox)) ≡ orders_in after.outbox
+  acts_first now after = append-nil (orders_in after.outbox)
 
   -- step 0 was written, and after the rest of the script was run
-  pub RanScript-first : (s : Script) (now after : Controls) (old mid new : O) (from via to : D) (exit : Exit) → IsLoaded now → Started o d now after from via → Wrote o.observable (step_text 0 after.outbox.done.items (notices_in after.outbox) after.outbox.answer) (o.state old) (o.state mid) → RanRest o d 1 s after mid new via to exit → RanScript o d (setup_of now.book) s old new from to exit
+  pub RanScript-first : (s : Script) (now after : Controls) (old mid new : O) (from via to : D) (exit : Exit) → IsLoaded now → Started o d now after from via → Wrote o.observable (step_text 0 after.outbox.done.items (notices_in after.outbox) after.outbox.answer) (o.state old) (o.state mid) → RanRest o d (setup_of now.book) 1 s after mid new via to exit → RanScript o d (setup_of now.book) s old new from to exit
   RanScript-first s now after old mid new from via to exit loaded started wrote rest =
       let c : Setup = setup_of now.book in
       let first : List ℕ = step_text 0 after.outbox.done.items (notices_in after.outbox) after.outbox.answer in
-      let x : Driven = first_step c s.events (part_in after.kept after.outbox) in
-      let ys : List Driven = driven_from after rest.answers s.events in
+      let x : Driven = first_step c (part_in after.kept after.outbox) in
+      let ys : List Driven = driven_from (setup_of now.book) after rest.answers s.events in
       let is = report_first now after s rest.answers from via loaded started in
       let xs_are = driven_first now after s.events rest.answers from via loaded started in
       let one : Wrote o.observable (concat (first ∷ [])) (o.state old) (o.state mid) = Wrote-is o.observable first (first ++ []) (o.state old) (o.state mid) (sym (append-nil first)) wrote in
@@ -228,14 +218,14 @@ module _ {O D : Type 0} (o : Sink.Ghosts O) (d : Device.Ghosts D) where
         answers = answers_in after.outbox ∷ rest.answers;
         cut = behind 1 rest.cut;
         went = record {
-          left = subst (λ (r : Report). Leaves o (pieces r) (behind 1 rest.cut) old new) (sym is) (left-after o (first ∷ []) (report_from 1 after s rest.answers) rest.cut old mid new one rest.went.left);
+          left = subst (λ (r : Report). Leaves o (pieces r) (behind 1 rest.cut) old new) (sym is) (left-after o (first ∷ []) (report_from (setup_of now.book) 1 after s rest.answers) rest.cut old mid new one rest.went.left);
           given =
-              let step : Chain d.Does (acts_of x) from via = subst (λ (done : List Act). Chain d.Does done from via) (sym (acts_first now after s.events)) started.given in
+              let step : Chain d.Does (acts_of x) from via = subst (λ (done : List Act). Chain d.Does done from via) (sym (acts_first now after)) started.given in
               let whole = Chain-append d.Does (acts_of x) (acts (until rest.cut ys)) from via to step rest.went.given in
               let cut = subst (λ (xs : List Driven). Chain d.Does (acts xs) from to) (sym (until-cons rest.cut x ys)) whole in
               subst (λ (xs : List Driven). Chain d.Does (acts (until (behind 1 rest.cut) xs)) from to) (sym xs_are) cut;
         };
-        ends = rest.ends ∙ sym (exit-after (first ∷ []) (report_from 1 after s rest.answers) rest.cut) ∙ ap (λ (r : Report). exit_of r (behind 1 rest.cut)) (sym is);
+        ends = rest.ends ∙ sym (exit-after (first ∷ []) (report_from (setup_of now.book) 1 after s rest.answers) rest.cut) ∙ ap (λ (r : Report). exit_of r (behind 1 rest.cut)) (sym is);
       }
 
   -- the sink broke off within the text of step 0
@@ -243,9 +233,9 @@ module _ {O D : Type 0} (o : Sink.Ghosts O) (d : Device.Ghosts D) where
   RanScript-cut s now after old new from to loaded started breaks =
       let c : Setup = setup_of now.book in
       let first : List ℕ = step_text 0 after.outbox.done.items (notices_in after.outbox) after.outbox.answer in
-      let rest : Report = report_from 1 after s [] in
-      let x : Driven = first_step c s.events (part_in after.kept after.outbox) in
-      let ys : List Driven = driven_from after [] s.events in
+      let rest : Report = report_from (setup_of now.book) 1 after s [] in
+      let x : Driven = first_step c (part_in after.kept after.outbox) in
+      let ys : List Driven = driven_from (setup_of now.book) after [] s.events in
       let is = report_first now after s [] from to loaded started in
       let xs_are = driven_first now after s.events [] from to loaded started in
       record {
@@ -254,7 +244,7 @@ module _ {O D : Type 0} (o : Sink.Ghosts O) (d : Device.Ghosts D) where
         went = record {
           left = subst (λ (r : Report). Leaves o (pieces r) (Some 0) old new) (sym is) (Leaves-before o (first ∷ []) (rest.body ++ fault_lines rest.fault) 0 old new breaks);
           given =
-              let step : Chain d.Does (acts (x ∷ [])) from to = subst (λ (done : List Act). Chain d.Does done from to) (sym (append-nil (acts_of x) ∙ acts_first now after s.events)) started.given in
+              let step : Chain d.Does (acts (x ∷ [])) from to = subst (λ (done : List Act). Chain d.Does done from to) (sym (append-nil (acts_of x) ∙ acts_first now after)) started.given in
               subst (λ (xs : List Driven). Chain d.Does (acts (until (Some 0) xs)) from to) (sym xs_are) step;
         };
         ends = ap (λ (b : Bool). if b then WriteFault else exit_after rest.fault) (sym (some first rest.body)) ∙ ap (λ (r : Report). exit_of r (Some 0)) (sym is);

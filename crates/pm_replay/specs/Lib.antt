@@ -1,5 +1,6 @@
-pub mod World
 pub mod Replay
 pub mod Replayed
 pub mod Safe
+pub mod Controls
 pub mod Within
+pub mod Plays

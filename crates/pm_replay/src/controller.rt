@@ -32,7 +32,7 @@ pub struct Controller {
 impl Model for Controller {
     ghost use Rattle.pm_apply.specs.Record.{IsRecordOf};
     ghost use Rattle.pm_core.specs.Outbox.{HasRoomFor};
-    ghost use Rattle.pm_replay.specs.Within.{Controls};
+    ghost use Rattle.pm_replay.specs.Controls.{Controls};
 
     ghost Value = { Controls };
 

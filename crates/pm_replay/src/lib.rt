@@ -2,10 +2,8 @@
 #![tactic(auto)]
 
 mod controller;
-mod laws;
 mod lines;
 mod run;
 mod writing;
 
-pub use laws::{a_script_that_fails, scripts_are_read};
 pub use run::replay;

@@ -2,63 +2,86 @@
 
 ghost use Rattle.std.specs.Prelude.{◌<◌, ◌^◌, length};
 ghost use Rattle.pm_script.specs.Script.{script_lines, script_from, stop_of};
-ghost use Rattle.pm_replay.specs.Within.{RanEvent, RanLines};
+ghost use Rattle.pm_run.specs.Run.{Setup};
+ghost use Rattle.pm_trace.specs.Step.{notices_in, step_text};
+ghost use Rattle.pm_replay.specs.Within.{RanLine, RanLines, WritesOn};
 
 use crate::controller::Controller;
 use crate::writing::write_step;
 use pm_base::{Event, Failed, Prefix, Sink};
+use pm_core::Outbox;
 use pm_device::Device;
-use pm_script::{LineFault, ending_of, next_event};
+use pm_run::core_events;
+use pm_script::{Follower, LineStop, each_line};
 
-/// What stops the lines of a run.
-#[derive(Clone, Copy, Debug, PartialEq, Eq)]
-pub enum LineStop {
-    /// The line of this number, counted from 1, has no meaning: its first fault.
-    Bad(u32, LineFault),
-    /// The sink failed.
-    Sink,
+/// What carries out each line of a script, makes the device follow it, and writes its text.
+#[derive(Drop)]
+pub(crate) struct Player<'c, 'o, 'd, O: Sink, D: Device> {
+    controller: &'c mut Controller,
+    out: &'o mut O,
+    dev: &'d mut D,
 }
 
-/// Runs the lines of a script up to the first one that has no meaning.
+impl<'c, 'o, 'd, O: Sink, D: Device> Follower for Player<'c, 'o, 'd, O, D> {
+    ghost use Rattle.pm_replay.specs.Plays.{Plays};
+
+    ghost Follows = { Plays O.Sink D.Device };
+
+    fn line(&mut self, number: u32, event: &Event) -> Result<(), Failed> {
+        run_line(number, event, self.controller, self.out, self.dev)
+    }
+}
+
+/// Runs the lines of a script up to the first one that has no meaning. Answers how many were run.
 pub(crate) fn run_lines<O: Sink, D: Device>(
     controller: &mut Controller,
     script: &Prefix,
     out: &mut O,
     dev: &mut D,
-) -> Result<(), LineStop>
+) -> Result<u32, LineStop>
     requires size { length script.now.bytes < 2 ^ 31 }
-    ensures { RanLines O.Sink D.Device 1 (script_from (script_lines script.now) (stop_of script.now.stop)) (stop_of script.now.stop)
+    ensures { (c : Setup) → RanLines O.Sink D.Device c 1 (script_from (script_lines script.now) (stop_of script.now.stop)) (stop_of script.now.stop)
         controller.old controller.new out.old out.new dev.old dev.new result }
 {
-    let ending = ending_of(script.stop());
-    let mut left = script.text();
-    let mut number = 0;
-    while let Some(turn) = next_event(left, ending) {
-        number += 1;
-        match turn {
-            Ok((event, after)) => {
-                run_event(number, &event, controller, out, dev)?;
-                left = after;
-            }
-            Err(cause) => return Err(LineStop::Bad(number, cause)),
-        }
-    }
-    Ok(())
+    let mut player = Player {
+        controller,
+        out,
+        dev,
+    };
+    each_line(script, &mut player)
 }
 
-/// Carries out the event of a line, and writes the text of its step.
-fn run_event<O: Sink, D: Device>(
+/// Carries out the core events of a line to the last one, and writes the text of each while the sink takes it.
+fn run_line<O: Sink, D: Device>(
     number: u32,
     event: &Event,
     controller: &mut Controller,
     out: &mut O,
     dev: &mut D,
-) -> Result<(), LineStop>
-    ensures { RanEvent O.Sink D.Device number event.now controller.old controller.new out.old out.new dev.old dev.new result }
+) -> Result<(), Failed>
+    ensures { (c : Setup) → RanLine O.Sink D.Device c number event.now controller.old controller.new out.old out.new dev.old dev.new result }
 {
-    controller.step(event, dev);
-    match write_step(number, controller.outbox(), out) {
-        Ok(()) => Ok(()),
-        Err(Failed) => Err(LineStop::Sink),
+    let mut left = core_events(event);
+    let mut written = Ok(());
+    while let Some(core) = left.next() {
+        controller.step(&core, dev);
+        written = write_on(written, number, controller.outbox(), out);
+    }
+    written
+}
+
+/// Writes the lines of a core step. A sink that has failed before within the line is given nothing more.
+fn write_on<O: Sink>(
+    written: Result<(), Failed>,
+    number: u32,
+    outbox: &Outbox,
+    out: &mut O,
+) -> Result<(), Failed>
+    ensures { WritesOn O.Sink (step_text number outbox.now.done.items (notices_in outbox.now) outbox.now.answer)
+        written result out.old out.new }
+{
+    match written {
+        Ok(()) => write_step(number, outbox, out),
+        Err(Failed) => Err(Failed),
     }
 }

@@ -6,19 +6,22 @@ ghost use Rattle.pm_base.specs.Faults.{Rose};
 ghost use Rattle.pm_base.specs.Inputs.{MayFail};
 ghost use Rattle.pm_base.specs.Sink.{HasFailed, IsUnfailed};
 ghost use Rattle.pm_base.specs.declared.prefix.StopReason.TheVariants.{Unbegun};
+ghost use Rattle.pm_script.specs.Named.{script_in};
 ghost use Rattle.pm_script.specs.Script.{script_limit, script_lines, script_from, stop_of};
 ghost use Rattle.pm_topology.specs.Masters.{ObeysMasterRules};
 ghost use Rattle.pm_topology.specs.WellFormed.{IsWellFormed};
 ghost use Rattle.pm_object.specs.Grammar.{IsObject};
-ghost use Rattle.pm_replay.specs.Within.{IsLoaded, RanNamed, RanRest, RanScript, closing_report, setup_of};
+ghost use Rattle.pm_replay.specs.Within.{IsLoaded, RanRest, RanScript, closing_report};
 ghost use Rattle.pm_trace.specs.Exits.{EndsWith, IsStarved};
 ghost use Rattle.pm_trace.specs.Report.{Reports};
-ghost use Rattle.pm_replay.specs.Replayed.{IsRun, Replayed, script_exit, script_in, setup};
+ghost use Rattle.pm_trace.specs.Scripts.{script_exit, script_or_fault};
+ghost use Rattle.pm_replay.specs.Replayed.{AnswersHaveCauses, IsRun, Replayed, RunsKeepApart};
+ghost use Rattle.pm_run.specs.Run.{Setup, setup, setup_of};
 ghost use Rattle.pm_replay.specs.Safe.{IsSafe};
-ghost use Rattle.pm_replay.specs.World.{world};
+ghost use Rattle.pm_base.specs.World.{world};
 
 use crate::controller::Controller;
-use crate::lines::{LineStop, run_lines};
+use crate::lines::run_lines;
 use crate::writing::{write_closing, write_step};
 use pm_apart::driven_runs_keep_apart;
 use pm_base::{Exit, Failed, Inputs, NoMemory, Prefix, Sink, StopReason, gather};
@@ -26,9 +29,9 @@ use pm_causes::runs_have_causes;
 use pm_device::Device;
 use pm_drive::driven_follows;
 use pm_object::Object;
-use pm_script::SCRIPT_LIMIT;
+use pm_script::{LineStop, SCRIPT_LIMIT, scripts_are_read};
 use pm_topology::Topology;
-use pm_trace::{Fault, exits_say, refuse};
+use pm_trace::{Fault, refuse};
 use std::alloc::Global;
 
 /// Runs the named script over an object and a device. Step 0 makes the device follow the book at
@@ -51,21 +54,23 @@ pub fn replay<I: Inputs, O: Sink, D: Device>(
     requires masters { ObeysMasterRules topology }
     requires idle { D.values_observable → (unit : Unit) → (D.state dev.old).value unit ≡ 0 }
     // On Done the input held a script under the name, the whole text of its run was written, and the
-    // device was driven through that run. For each master and each unit beyond its reach, while the device
-    // reports no failure, the lines about the unit are those of the run without the messages of the master. Each answer
-    // has its causes.
+    // device was driven through that run.
     ensures done { I.observable → O.observable → result ≡ Exit.Done
         → IsRun I.Inputs O.Sink D.Device (setup object topology) script.now
         (world inputs.old out.old dev.old) (world inputs.new out.new dev.new) }
     // What the input holds decides the exit, unless memory is wanted or the sink fails.
     ensures decided { I.observable
-        → EndsWith O.Sink (script_exit (script_in (I.state inputs.old) script.now)) out.old out.new result }
+        → EndsWith O.Sink (script_exit (script_or_fault (script_in (I.state inputs.old) script.now))) out.old out.new result }
     // On every exit: nothing was used without power, and no domain went down under its users.
     ensures safe { IsSafe D.Device topology dev.old dev.new }
-    // On every exit: what was asked for, what was written of it, and what was done to the device; and of the steps
-    // of a run that isn't cut the same as on Done.
+    // On every exit: what was asked for, what was written of it, and what was done to the device.
     ensures ran { Replayed I.Inputs O.Sink D.Device (setup object topology) script.now
         (world inputs.old out.old dev.old) (world inputs.new out.new dev.new) result }
+    // On every exit, of the run that the device was driven through: nothing that a master sends changes what is
+    // beyond its reach.
+    ensures keeps { RunsKeepApart D.Device (setup object topology) dev.old dev.new }
+    // Each answer of a run has its causes in the book before its step.
+    ensures causes { AnswersHaveCauses (setup object topology) }
     // On Memory nothing was written but the fault line, as far as the sink took it.
     ensures memory { result ≡ Exit.Memory → IsStarved O.Sink out.old out.new }
     // ReadFault comes only where the inputs' count of faults rose.
@@ -79,7 +84,6 @@ pub fn replay<I: Inputs, O: Sink, D: Device>(
     // Done comes only where no write failed, and none took 0 of a piece that isn't empty.
     ensures unfailed { result ≡ Exit.Done → IsUnfailed (O.state out.old) (O.state out.new) }
 {
-    exits_say::<O>();
     driven_runs_keep_apart::<D>();
     runs_have_causes();
     run_named(alloc, object, topology, inputs, script, out, dev)
@@ -98,7 +102,7 @@ fn run_named<I: Inputs, O: Sink, D: Device>(
     requires formed { IsWellFormed topology }
     requires masters { ObeysMasterRules topology }
     requires idle { D.values_observable → (unit : Unit) → (D.state dev.old).value unit ≡ 0 }
-    ensures { RanNamed I.Inputs O.Sink D.Device (setup object topology) script.now
+    ensures { Replayed I.Inputs O.Sink D.Device (setup object topology) script.now
         (world inputs.old out.old dev.old) (world inputs.new out.new dev.new) result }
 {
     let Ok(mut controller) = load(alloc, object, topology) else {
@@ -129,7 +133,7 @@ fn run_loaded<I: Inputs, O: Sink, D: Device>(
     requires formed { IsWellFormed (setup_of controller.old.book).topology }
     requires loaded { IsLoaded controller.old }
     requires idle { D.values_observable → (unit : Unit) → (D.state dev.old).value unit ≡ 0 }
-    ensures { RanNamed I.Inputs O.Sink D.Device (setup_of controller.old.book) script.now
+    ensures { Replayed I.Inputs O.Sink D.Device (setup_of controller.old.book) script.now
         (world inputs.old out.old dev.old) (world inputs.new out.new dev.new) result }
 {
     let Ok(script) = gather(alloc, inputs, script, SCRIPT_LIMIT) else {
@@ -139,6 +143,7 @@ fn run_loaded<I: Inputs, O: Sink, D: Device>(
         return refuse(Fault::Read, out);
     }
     driven_follows::<D>();
+    scripts_are_read();
     run(controller, &script, out, dev)
 }
 
@@ -171,13 +176,13 @@ fn run_rest<O: Sink, D: Device>(
 ) -> Exit
     requires size { length script.now.bytes < 2 ^ 31 }
     requires begins { script.now.stop ≢ Unbegun }
-    ensures { RanRest O.Sink D.Device 1 (script_from (script_lines script.now) (stop_of script.now.stop))
+    ensures { (c : Setup) → RanRest O.Sink D.Device c 1 (script_from (script_lines script.now) (stop_of script.now.stop))
         controller.old out.old out.new dev.old dev.new result }
 {
     match run_lines(controller, script, out, dev) {
-        Ok(()) => finish(controller, script.stop(), out),
+        Ok(_) => finish(controller, script.stop(), out),
         Err(LineStop::Bad(number, cause)) => refuse(Fault::Line(number, cause), out),
-        Err(LineStop::Sink) => Exit::WriteFault,
+        Err(LineStop::Broken) => Exit::WriteFault,
     }
 }
 

@@ -1,7 +1,7 @@
 //! The text of a run is written: the lines of a step, and the closing table.
 
 ghost use Rattle.std.specs.Prelude.{◌≡◌, ◌<◌, Some, length, map, slice_get};
-ghost use Rattle.pm_apply.specs.Part.{outputs_in, part_in};
+ghost use Rattle.pm_apply.specs.Part.{part_in};
 ghost use Rattle.pm_core.specs.Units.{units};
 ghost use Rattle.pm_trace.specs.Closing.{closing_lines, closing_text};
 ghost use Rattle.pm_trace.specs.Step.{notices_in, step_text};

@@ -1,3 +1,5 @@
 pub mod BootLemmas
+pub mod FollowLemmas
 pub mod MeaningLemmas
+pub mod NamedLemmas
 pub mod ScriptLemmas

@@ -1,2 +1,4 @@
 pub mod Meaning
 pub mod Script
+pub mod Named
+pub mod Follow

@@ -27,9 +27,10 @@ use Rattle.pm_top.specs.declared.form.Form.{Form}
 use Rattle.pm_top.specs.declared.form.Form.TheVariants.{Print, Build}
 use Rattle.pm_top.specs.Done.{IsBuilt, IsPrinted}
 use Rattle.pm_top.specs.Form.{word}
-use Rattle.pm_top.specs.Job.{IsAsked, built_of, judged, object_limit, object_of, object_or_fault, text_limit, text_or_fault}
+use Rattle.pm_top.specs.Job.{built_of, judged, object_limit, object_of, object_or_fault, text_limit, text_or_fault}
 use Rattle.pm_top.specs.Ran.{Converted}
 use Rattle.pm_top.specs.Within.{ReadsAs}
+use Rattle.pm_top.proofs.Unread.{IsAskedFor, by_exit}
 use Rattle.pm_top.proofs.JobLemmas.{asked_build, asked_print, err_is, ok_is_err, starved}
 
 err_is_ok : {X Y : Type 0} {x : X} {y : Y} → ◌≡◌ {A = Result X Y} (Err y) (Ok x) → ⊥
@@ -93,21 +94,21 @@ module _ {O : Type 0} (o : Sink.Ghosts O) (text : List ℕ) (old new : O) where
 -- ---- the conversions
 
 module _ {I O : Type 0} (i : Inputs.Ghosts I) (o : Sink.Ghosts O) (ws : List (List ℕ)) (old new : I) (sink sink' : O) (result : Exit) where
-  pub refused : (f : Form) (fault : Fault) → IsAsked i f ws old new (Err fault) → Reports o (refusal fault) sink sink' result → Converted i o f ws old new sink sink' result
-  refused f fault asked reports = record { job = Err fault; answers = []; cut = reports.cut; asked = asked; left = reports.left; ends = reports.ends; touched = tt }
+  pub refused : (f : Form) (fault : Fault) → IsAskedFor i f ws old new (Err fault) → Reports o (refusal fault) sink sink' result → Converted i o f ws old new sink sink' result
+  refused f fault asked reports = record { job = Err fault; answers = []; cut = reports.cut; asked = by_exit i o f ws old new sink sink' result (Err fault) [] reports.cut asked reports.left reports.ends; left = reports.left; ends = reports.ends; touched = tt }
 
-  pub print_refused : (fault : Fault) → ((◌≡◌ {A = Result Object Fault} (Err fault) (Err Memory)) ⊎ ReadsAs object_of Reads object_limit i.observable (word 1 ws) (i.state old) (i.state new) (Err fault)) → IsAsked i Print ws old new (Err fault)
-  print_refused fault (inl memory) = subst (λ (fault : Fault). IsAsked i Print ws old new (Err fault)) (sym (err_is memory)) (starved i Print ws old new)
+  pub print_refused : (fault : Fault) → ((◌≡◌ {A = Result Object Fault} (Err fault) (Err Memory)) ⊎ ReadsAs object_of Reads object_limit i.observable (word 1 ws) (i.state old) (i.state new) (Err fault)) → IsAskedFor i Print ws old new (Err fault)
+  print_refused fault (inl memory) = subst (λ (fault : Fault). IsAskedFor i Print ws old new (Err fault)) (sym (err_is memory)) (starved i Print ws old new)
   print_refused fault (inr reads) = asked_print i ws old new (Err fault) reads
 
-  pub build_refused : (fault : Fault) → ((◌≡◌ {A = Result Object Fault} (Err fault) (Err Memory)) ⊎ ReadsAs built_of Means text_limit i.observable (word 1 ws) (i.state old) (i.state new) (Err fault)) → IsAsked i Build ws old new (Err fault)
-  build_refused fault (inl memory) = subst (λ (fault : Fault). IsAsked i Build ws old new (Err fault)) (sym (err_is memory)) (starved i Build ws old new)
+  pub build_refused : (fault : Fault) → ((◌≡◌ {A = Result Object Fault} (Err fault) (Err Memory)) ⊎ ReadsAs built_of Means text_limit i.observable (word 1 ws) (i.state old) (i.state new) (Err fault)) → IsAskedFor i Build ws old new (Err fault)
+  build_refused fault (inl memory) = subst (λ (fault : Fault). IsAskedFor i Build ws old new (Err fault)) (sym (err_is memory)) (starved i Build ws old new)
   build_refused fault (inr reads) = asked_build i ws old new (Err fault) reads
 
   pub print_ran : (object : Object) (text : List ℕ) → ReadsAs object_of Reads object_limit i.observable (word 1 ws) (i.state old) (i.state new) (Ok object) → text ≡ text_of object → Reports o (one_piece text) sink sink' result → Converted i o Print ws old new sink sink' result
   print_ran object text reads is reports =
       let same : Reports o (one_piece (text_of object)) sink sink' result = subst (λ (text : List ℕ). Reports o (one_piece text) sink sink' result) is reports in
-      record { job = Ok object; answers = []; cut = same.cut; asked = asked_print i ws old new (Ok object) reads; left = same.left; ends = same.ends; touched = tt }
+      record { job = Ok object; answers = []; cut = same.cut; asked = by_exit i o Print ws old new sink sink' result (Ok object) [] same.cut (asked_print i ws old new (Ok object) reads) same.left same.ends; left = same.left; ends = same.ends; touched = tt }
 
   pub print_done : (object : Object) (text : List ℕ) → ReadsAs object_of Reads object_limit i.observable (word 1 ws) (i.state old) (i.state new) (Ok object) → text ≡ text_of object → Reports o (one_piece text) sink sink' result → i.observable → o.observable → result ≡ exit.Done → IsPrinted i o ws old sink sink'
   print_done object text reads is reports seen written done = record {
@@ -121,7 +122,7 @@ module _ {I O : Type 0} (i : Inputs.Ghosts I) (o : Sink.Ghosts O) (ws : List (Li
   pub build_ran : (object : Object) (bytes : List ℕ) → ReadsAs built_of Means text_limit i.observable (word 1 ws) (i.state old) (i.state new) (Ok object) → Reads bytes object → Reports o (one_piece bytes) sink sink' result → Converted i o Build ws old new sink sink' result
   build_ran object bytes reads again reports =
       let same : Reports o (one_piece (little_endian (words_of object))) sink sink' result = subst (λ (text : List ℕ). Reports o (one_piece text) sink sink' result) again.spelling reports in
-      record { job = Ok object; answers = []; cut = same.cut; asked = asked_build i ws old new (Ok object) reads; left = same.left; ends = same.ends; touched = tt }
+      record { job = Ok object; answers = []; cut = same.cut; asked = by_exit i o Build ws old new sink sink' result (Ok object) [] same.cut (asked_build i ws old new (Ok object) reads) same.left same.ends; left = same.left; ends = same.ends; touched = tt }
 
   pub build_done : (object : Object) (bytes : List ℕ) → ReadsAs built_of Means text_limit i.observable (word 1 ws) (i.state old) (i.state new) (Ok object) → Reads bytes object → Reports o (one_piece bytes) sink sink' result → i.observable → o.observable → result ≡ exit.Done → IsBuilt i o ws old sink sink'
   build_done object bytes reads again reports seen written done = record {

@@ -16,11 +16,12 @@ use Rattle.pm_trace.specs.declared.faults.Fault.TheVariants.{Memory, Read, Usage
 use Rattle.pm_trace.specs.Exits.{EndsBy, EndsWith, ExitSays, ExitsSay, IsStarved}
 use Rattle.pm_trace.specs.Faults.{exit_after, exit_by, fault_text}
 use Rattle.pm_trace.specs.Report.{Did, exit_of, pieces, refusal, report_of}
-use Rattle.pm_replay.specs.Replay.{fault_at}
+use Rattle.pm_trace.specs.Scripts.{fault_at}
 use Rattle.pm_top.specs.declared.form.Form.{Form}
 use Rattle.pm_top.specs.declared.form.Form.TheVariants.{Replay, Reach, Isolate, Print, Build}
-use Rattle.pm_top.specs.Job.{Asked, FailsToRead, IsAsked, IsFaultOf, IsKnown, Job, Meets, job_of, report}
+use Rattle.pm_top.specs.Job.{Asked, IsAsked, IsFaultOf, IsKnown, Job, Meets, job_of, report}
 use Rattle.pm_top.specs.Ran.{FormDecides, IsBeforeRun, job_exit}
+use Rattle.pm_top.proofs.Unread.{FailsToRead, fails}
 
 some_is : {X : Type 0} {x y : X} → ◌≡◌ {A = Option X} (Some x) (Some y) → x ≡ y
 some_is e = cc
@@ -69,32 +70,6 @@ refused_exit fault (Some k) = ap (λ (b : Bool). if b then exit.WriteFault else 
     none : (k : ℕ) → nat_lt k 0 ≡ false
     none k = grind (arith, nat_tests)
 
--- ---- an input that could not be read
-
-failed_stop : (n : ℕ) (stop : Stop) → fault_at n stop ≡ Some Read → stop ≡ Failed
-failed_stop n End is = cc
-failed_stop n (Bad cause) is = cc
-failed_stop n Past is = cc
-failed_stop n Failed is = refl
-
-refusal_fails : (f : Form) (fault : Fault) → fault ≡ Read → FailsToRead f (Err fault)
-refusal_fails Replay fault is = is
-refusal_fails Reach fault is = is
-refusal_fails Isolate fault is = is
-refusal_fails Print fault is = is
-refusal_fails Build fault is = is
-
-job_fails : (f : Form) (job : Job f) (answers : List (List Bool)) → (report f job answers).fault ≡ Some Read → FailsToRead f (Ok job)
-job_fails Replay job answers is = failed_stop (1 + length job.1.events) job.1.stop is
-job_fails Reach job answers is = cc
-job_fails Isolate job answers is = failed_stop (1 + length job.2.script.events) job.2.script.stop is
-job_fails Print job answers is = cc
-job_fails Build job answers is = cc
-
-fails : (f : Form) (job : Result (Job f) Fault) (answers : List (List Bool)) → (report_of (report f) job answers).fault ≡ Some Read → FailsToRead f job
-fails f (Err fault) answers is = refusal_fails f fault (some_is is)
-fails f (Ok job) answers is = job_fails f job answers is
-
 known_fault : (f : Form) (fault : Fault) → IsKnown f (Err fault) → IsFaultOf f fault
 known_fault Replay fault known = known
 known_fault Reach fault known = known
@@ -137,7 +112,7 @@ due Build job asked answers is = due_build job asked answers is
 -- ---- what a call that did its job means
 
 module _ {I O : Type 0} (i : Inputs.Ghosts I) (o : Sink.Ghosts O) (say : ExitsSay o) (f : Form) (ws : List (List ℕ)) (old new : I) (sink sink' : O) (result : Exit) where
-  module _ (Touching : Result (Job f) Fault → List (List Bool) → Option ℕ → Type 0) (did : Did o (IsAsked i f ws old new) (report f) Touching sink sink' result) where
+  module _ (Touching : Result (Job f) Fault → List (List Bool) → Option ℕ → Type 0) (did : Did o (IsAsked i f ws old new result) (report f) Touching sink sink' result) where
     said : ExitSays o (report_of (report f) did.job did.answers) did.cut sink sink' result
     said = say (report_of (report f) did.job did.answers) did.cut sink sink' result did.left did.ends
 
@@ -163,7 +138,7 @@ module _ {I O : Type 0} (i : Inputs.Ghosts I) (o : Sink.Ghosts O) (say : ExitsSa
     unread is = fails f did.job did.answers (said.read is)
 
     pub read_fault : result ≡ exit.ReadFault → Rose (i.state old).faults (i.state new).faults
-    read_fault is = did.asked.failed (unread is)
+    read_fault = did.asked.failed
 
     pub write_fault : result ≡ exit.WriteFault → HasFailed (o.state sink) (o.state sink')
     write_fault = said.failed

@@ -3,6 +3,8 @@ use Rattle.std.proofs.Common.{◌≡◌, ℕ, ◌+◌, ◌≤◌, ◌⊎◌, ◌
 use Rattle.std.specs.Prelude.{OnErr}
 use Rattle.std.proofs.lemmas.Bool.Decides.{Decides-eqb, nat_tests}
 use Rattle.pm_base.specs.Faults.{Rose}
+use Rattle.pm_base.specs.declared.errors.Exit.{Exit}
+use Rattle.pm_base.specs.declared.errors.Exit.TheVariants.{ReadFault}
 use Rattle.pm_base.specs.declared.inputs.Inputs as Inputs
 use Rattle.pm_base.specs.declared.prefix.StopReason.{StopReason}
 use Rattle.pm_base.specs.declared.prefix.StopReason.TheVariants as reason
@@ -18,12 +20,14 @@ use Rattle.pm_objtext.specs.Meaning.{Means}
 use Rattle.pm_script.specs.Script.{Script, script_limit, script_of}
 use Rattle.pm_trace.specs.declared.faults.Fault.{Fault}
 use Rattle.pm_trace.specs.declared.faults.Fault.TheVariants.{Object as BadObject, Text as BadText, Memory, Read}
-use Rattle.pm_replay.specs.Replayed.{IsReadFault, IsScriptOf, script_in, script_or_fault}
+use Rattle.pm_script.specs.Named.{script_in}
+use Rattle.pm_trace.specs.Scripts.{IsScriptOf, script_or_fault}
 use Rattle.pm_top.specs.declared.form.Form.{Form}
 use Rattle.pm_top.specs.declared.form.Form.TheVariants.{Replay, Reach, Isolate, Print, Build}
 use Rattle.pm_top.specs.Form.{word}
-use Rattle.pm_top.specs.Job.{FailsToRead, IsAsked, IsFaultOf, IsJobOf, IsKnown, built_of, first_prefix, judged, object_limit, object_of, object_or_fault, replay_job, second_prefix, text_limit, text_or_fault, with_script}
+use Rattle.pm_top.specs.Job.{IsAsked, IsFaultOf, IsJobOf, IsKnown, built_of, first_prefix, judged, object_limit, object_of, object_or_fault, replay_job, second_prefix, text_limit, text_or_fault, with_script}
 use Rattle.pm_top.specs.Within.{ReadsAs}
+use Rattle.pm_top.proofs.Unread.{FailsToRead, IsAskedFor}
 
 read_is_bad : (fault : ObjectFault) → BadObject fault ≡ Read → ⊥
 read_is_bad fault e = cc
@@ -87,7 +91,7 @@ text_kind p fault is = by p.stop (building p.bytes) is
 pub record SecondRead (m mid : Moment) (name : List ℕ) : Type 0 where
   pub again : Bool
   pub more : 2 ≤ m.room → again ≡ true
-  pub script : script_in mid name ≡ script_or_fault (script_of (second_prefix script_limit m again name))
+  pub script : script_or_fault (script_in mid name) ≡ script_or_fault (script_of (second_prefix script_limit m again name))
 
 pub second_read : (m mid : Moment) (name : List ℕ) → m.room ≤ mid.room + 1 → mid.file name ≡ m.file name → SecondRead m mid name
 second_read m mid name room file = record {
@@ -108,14 +112,14 @@ second_read m mid name room file = record {
 -- ---- the job
 
 module _ {I : Type 0} (i : Inputs.Ghosts I) where
-  pub starved : (f : Form) (ws : List (List ℕ)) (old new : I) → IsAsked i f ws old new (Err Memory)
+  pub starved : (f : Form) (ws : List (List ℕ)) (old new : I) → IsAskedFor i f ws old new (Err Memory)
   starved Replay ws old new = record { shown = λ seen. inl refl; failed = λ e. absurd (memory_is_read e); known = tt }
   starved Reach ws old new = record { shown = λ seen. inl refl; failed = λ e. absurd (memory_is_read e); known = tt }
   starved Isolate ws old new = record { shown = λ seen. inl refl; failed = λ e. absurd (memory_is_read e); known = tt }
   starved Print ws old new = record { shown = λ seen. inl refl; failed = λ e. absurd (memory_is_read e); known = tt }
   starved Build ws old new = record { shown = λ seen. inl refl; failed = λ e. absurd (memory_is_read e); known = tt }
 
-  pub asked_print : (ws : List (List ℕ)) (old new : I) (verdict : Result Object Fault) → ReadsAs object_of Reads object_limit i.observable (word 1 ws) (i.state old) (i.state new) verdict → IsAsked i Print ws old new verdict
+  pub asked_print : (ws : List (List ℕ)) (old new : I) (verdict : Result Object Fault) → ReadsAs object_of Reads object_limit i.observable (word 1 ws) (i.state old) (i.state new) verdict → IsAskedFor i Print ws old new verdict
   asked_print ws old new verdict reads = record {
     shown = λ seen. inr (true, λ room. refl, sym reads.is ∙ ap object_of (reads.read.is seen));
     failed = failed verdict reads.is;
@@ -130,7 +134,7 @@ module _ {I : Type 0} (i : Inputs.Ghosts I) where
       known (Ok o) is = tt
       known (Err fault) is = (object_kind reads.prefix fault is).1.known
 
-  pub asked_build : (ws : List (List ℕ)) (old new : I) (verdict : Result Object Fault) → ReadsAs built_of Means text_limit i.observable (word 1 ws) (i.state old) (i.state new) verdict → IsAsked i Build ws old new verdict
+  pub asked_build : (ws : List (List ℕ)) (old new : I) (verdict : Result Object Fault) → ReadsAs built_of Means text_limit i.observable (word 1 ws) (i.state old) (i.state new) verdict → IsAskedFor i Build ws old new verdict
   asked_build ws old new verdict reads = record {
     shown = λ seen. inr (true, λ room. refl, sym reads.is ∙ ap built_of (reads.read.is seen));
     failed = failed verdict reads.is;
@@ -146,7 +150,7 @@ module _ {I : Type 0} (i : Inputs.Ghosts I) where
       known (Err fault) is = (text_kind reads.prefix fault is).known
 
   -- an object that refuses a replay
-  pub asked_refused : (ws : List (List ℕ)) (old new : I) (fault : Fault) → ReadsAs object_of Reads object_limit i.observable (word 1 ws) (i.state old) (i.state new) (Err fault) → IsAsked i Replay ws old new (Err fault)
+  pub asked_refused : (ws : List (List ℕ)) (old new : I) (fault : Fault) → ReadsAs object_of Reads object_limit i.observable (word 1 ws) (i.state old) (i.state new) (Err fault) → IsAskedFor i Replay ws old new (Err fault)
   asked_refused ws old new fault reads = record {
     shown = λ seen. inr (true, λ room. refl, ap (λ (v : Result Object Fault). replay_job v (second (i.state old))) (sym reads.is ∙ ap object_of (reads.read.is seen)));
     failed = λ read. reads.read.fault ((object_kind reads.prefix fault reads.is).0.unread read);
@@ -157,14 +161,14 @@ module _ {I : Type 0} (i : Inputs.Ghosts I) where
       second m = script_or_fault (script_of (second_prefix script_limit m true (word 2 ws)))
 
   -- an object, and the script that was read after it
-  pub asked_replay : (ws : List (List ℕ)) (old mid new : I) (object : Object) (job : Result Script Fault) → ReadsAs object_of Reads object_limit i.observable (word 1 ws) (i.state old) (i.state mid) (Ok object) → IsScriptOf i (word 2 ws) mid new job → IsAsked i Replay ws old new (with_script object job)
-  asked_replay ws old mid new object job reads script = record {
+  pub asked_replay : (ws : List (List ℕ)) (old mid new : I) (result : Exit) (object : Object) (job : Result Script Fault) → ReadsAs object_of Reads object_limit i.observable (word 1 ws) (i.state old) (i.state mid) (Ok object) → IsScriptOf i (word 2 ws) mid new result job → IsAsked i Replay ws old new result (with_script object job)
+  asked_replay ws old mid new result object job reads script = record {
     shown = λ seen. shown seen (script.shown seen);
-    failed = failed job script.failed;
+    failed = failed;
     known = known job script.known;
   }
     where
-      shown : i.observable → (job ≡ Err Memory) ⊎ (job ≡ script_in (i.state mid) (word 2 ws)) → (with_script object job ≡ Err Memory) ⊎ IsJobOf Replay ws (i.state old) (with_script object job)
+      shown : i.observable → (job ≡ Err Memory) ⊎ (job ≡ script_or_fault (script_in (i.state mid) (word 2 ws))) → (with_script object job ≡ Err Memory) ⊎ IsJobOf Replay ws (i.state old) (with_script object job)
       shown seen (inl memory) = inl (ap (with_script object) memory)
       shown seen (inr is) =
           let s = second_read (i.state old) (i.state mid) (word 2 ws) (reads.read.room seen) (reads.read.files seen (word 2 ws)) in
@@ -176,9 +180,8 @@ module _ {I : Type 0} (i : Inputs.Ghosts I) where
                 ∙ ap (λ (v : Result Object Fault). replay_job v (script_or_fault (script_of (second_prefix script_limit (i.state old) s.again (word 2 ws))))) (sym first),
           )
 
-      failed : (job : Result Script Fault) → (IsReadFault job → Rose (i.state mid).faults (i.state new).faults) → FailsToRead Replay (with_script object job) → Rose (i.state old).faults (i.state new).faults
-      failed (Ok s) rose fails = let later : (i.state old).faults ≤ (i.state mid).faults = reads.read.later in let up = rose fails in omega (arith, up)
-      failed (Err fault) rose fails = let later : (i.state old).faults ≤ (i.state mid).faults = reads.read.later in let up = rose fails in omega (arith, up)
+      failed : result ≡ ReadFault → Rose (i.state old).faults (i.state new).faults
+      failed is = let later : (i.state old).faults ≤ (i.state mid).faults = reads.read.later in let up = script.failed is in omega (arith, up)
 
       known : (job : Result Script Fault) → OnErr job ((job ≡ Err Read) ⊎ (job ≡ Err Memory)) → IsKnown Replay (with_script object job)
       known (Ok s) none = refl

@@ -6,3 +6,4 @@ pub mod JobLemmas
 pub mod MainLemmas
 pub mod ReachingLemmas
 pub mod ScriptLemmas
+pub mod Unread

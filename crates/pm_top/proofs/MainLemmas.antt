@@ -6,21 +6,19 @@ use Rattle.pm_base.specs.declared.errors.Exit.{Exit}
 use Rattle.pm_base.specs.declared.errors.Exit.TheVariants as exit
 use Rattle.pm_base.specs.declared.inputs.Inputs as Inputs
 use Rattle.pm_base.specs.declared.sink.Sink as Sink
-use Rattle.pm_base.specs.Prefix.{IsUnread, Prefix}
 use Rattle.pm_base.specs.Sink.{HasFailed, IsUnfailed}
 use Rattle.pm_device.specs.declared.device.Device as Device
-use Rattle.pm_script.specs.Script.{script_of}
 use Rattle.pm_trace.specs.declared.faults.Fault.{Fault}
 use Rattle.pm_trace.specs.declared.faults.Fault.TheVariants.{Memory, Read, Usage}
 use Rattle.pm_trace.specs.Exits.{ExitsSay, IsStarved}
 use Rattle.pm_trace.specs.Report.{exit_of, report_of}
-use Rattle.pm_replay.specs.Replayed.{IsReadFault, script_or_fault}
-use Rattle.pm_replay.specs.World.{World}
+use Rattle.pm_base.specs.World.{World}
 use Rattle.pm_top.specs.declared.form.Form.{Form}
 use Rattle.pm_top.specs.declared.form.Form.TheVariants.{Replay, Reach, Isolate, Print, Build}
 use Rattle.pm_top.specs.Form.{form}
-use Rattle.pm_top.specs.Job.{FailsToRead, Job}
+use Rattle.pm_top.specs.Job.{Job}
 use Rattle.pm_top.specs.Ran.{Decides, FormDecides, FormMayFail, InputsMayFail, IsBeforeRun, Ran, RanForm, Touches, nothing_to_do}
+use Rattle.pm_top.proofs.Unread.{FailsToRead}
 use Rattle.pm_top.proofs.CauseLemmas.{job_cause}
 use Rattle.pm_top.proofs.ExitsLemmas.{decided, not_before, not_usage, read_fault, refused_exit, starved, unfailed, unread, write_fault}
 
@@ -78,8 +76,8 @@ module _ {I O D : Type 0} (i : Inputs.Ghosts I) (o : Sink.Ghosts O) (say : Exits
   memory_fails Print is = let clash : Memory ≡ Read = is in cc
   memory_fails Build is = let clash : Memory ≡ Read = is in cc
 
-  pub read_cause : ((p : Prefix) → IsReadFault (script_or_fault (script_of p)) → IsUnread p.stop) → Ran i o d ws w w' result → i.observable → result ≡ exit.ReadFault → InputsMayFail ws (i.state w.inputs)
-  read_cause script_unread ran seen is = by (form ws) ran
+  pub read_cause : Ran i o d ws w w' result → i.observable → result ≡ exit.ReadFault → InputsMayFail ws (i.state w.inputs)
+  read_cause ran seen is = by (form ws) ran
     where
       by : (f : Option Form) → RanForm i o d f ws w w' result → FormMayFail f ws (i.state w.inputs)
       by None did = let clash : exit.Usage ≡ exit.ReadFault = sym (usage_exit did) ∙ is in cc
@@ -87,7 +85,7 @@ module _ {I O D : Type 0} (i : Inputs.Ghosts I) (o : Sink.Ghosts O) (say : Exits
           let fails : FailsToRead f did.job = unread i o say f ws w.inputs w'.inputs w.sink w'.sink result (Touches d f w.device w'.device) did is in
           elim (did.asked.shown seen) [
             | inl starved ↦ absurd (memory_fails f (subst (FailsToRead f) starved fails))
-            | inr job ↦ job_cause script_unread f ws (i.state w.inputs) job.0 job.1 did.job job.2 fails
+            | inr job ↦ job_cause f ws (i.state w.inputs) job.0 job.1 did.job job.2 fails
           ]
 
   -- ---- before a run

@@ -19,10 +19,11 @@ use Rattle.pm_trace.specs.Report.{Reports, refusal}
 use Rattle.pm_top.specs.declared.form.Form.TheVariants.{Reach, Print}
 use Rattle.pm_top.specs.Done.{IsReached}
 use Rattle.pm_top.specs.Form.{word}
-use Rattle.pm_top.specs.Job.{FailsToRead, IsAsked, IsFaultOf, IsKnown, IsReachJob, master_of, object_limit, object_of, reach_job, with_master}
+use Rattle.pm_top.specs.Job.{IsFaultOf, IsKnown, IsReachJob, master_of, object_limit, object_of, reach_job, with_master}
 use Rattle.pm_top.specs.Ran.{Converted}
 use Rattle.pm_top.specs.Within.{IsReachText, ReadsAs}
 use Rattle.pm_top.proofs.ConversionLemmas.{object_end, one_piece, refused, wrote_one}
+use Rattle.pm_top.proofs.Unread.{FailsToRead, IsAskedFor, by_exit}
 use Rattle.pm_top.proofs.JobLemmas.{err_is, object_kind, ok_is_err, starved}
 
 ok_is : {X Y : Type 0} {a b : X} → ◌≡◌ {A = Result X Y} (Ok a) (Ok b) → a ≡ b
@@ -64,7 +65,7 @@ named_by object None o m is = cc
 
 module _ {I : Type 0} (i : Inputs.Ghosts I) (ws : List (List ℕ)) (old new : I) where
   -- the object is refused
-  asked_refused : (fault : Fault) → ReadsAs object_of Reads object_limit i.observable (word 1 ws) (i.state old) (i.state new) (Err fault) → IsAsked i Reach ws old new (Err fault)
+  asked_refused : (fault : Fault) → ReadsAs object_of Reads object_limit i.observable (word 1 ws) (i.state old) (i.state new) (Err fault) → IsAskedFor i Reach ws old new (Err fault)
   asked_refused fault reads = record {
     shown = λ seen. inr (true, λ room. refl, subst (λ (v : Result Object Fault). IsReachJob (Err fault) (reach_job v (word 2 ws))) (sym reads.is ∙ ap object_of (reads.read.is seen)) refl);
     failed = λ read. reads.read.fault ((object_kind reads.prefix fault reads.is).1.unread read);
@@ -72,7 +73,7 @@ module _ {I : Type 0} (i : Inputs.Ghosts I) (ws : List (List ℕ)) (old new : I)
   }
 
   -- the object is read, and this is what its master can reach, or there is no such master
-  asked_reach : (object : Object) (job : Result Found Fault) → ReadsAs object_of Reads object_limit i.observable (word 1 ws) (i.state old) (i.state new) (Ok object) → IsReachJob job (reach_job (Ok object) (word 2 ws)) → IsAsked i Reach ws old new job
+  asked_reach : (object : Object) (job : Result Found Fault) → ReadsAs object_of Reads object_limit i.observable (word 1 ws) (i.state old) (i.state new) (Ok object) → IsReachJob job (reach_job (Ok object) (word 2 ws)) → IsAskedFor i Reach ws old new job
   asked_reach object job reads meets = record {
     shown = λ seen. inr (true, λ room. refl, subst (λ (v : Result Object Fault). IsReachJob job (reach_job v (word 2 ws))) (sym reads.is ∙ ap object_of (reads.read.is seen)) meets);
     failed = failed job (master_of object (word 2 ws)) meets;
@@ -91,22 +92,22 @@ module _ {I : Type 0} (i : Inputs.Ghosts I) (ws : List (List ℕ)) (old new : I)
       known (Err fault) None node = subst (IsFaultOf Reach) (sym node) tt
 
 module _ {I O : Type 0} (i : Inputs.Ghosts I) (o : Sink.Ghosts O) (ws : List (List ℕ)) (old new : I) (sink sink' : O) (result : Exit) where
-  pub object_refused : (fault : Fault) → ((◌≡◌ {A = Result Object Fault} (Err fault) (Err Memory)) ⊎ ReadsAs object_of Reads object_limit i.observable (word 1 ws) (i.state old) (i.state new) (Err fault)) → IsAsked i Reach ws old new (Err fault)
-  object_refused fault (inl memory) = subst (λ (fault : Fault). IsAsked i Reach ws old new (Err fault)) (sym (err_is memory)) (starved i Reach ws old new)
+  pub object_refused : (fault : Fault) → ((◌≡◌ {A = Result Object Fault} (Err fault) (Err Memory)) ⊎ ReadsAs object_of Reads object_limit i.observable (word 1 ws) (i.state old) (i.state new) (Err fault)) → IsAskedFor i Reach ws old new (Err fault)
+  object_refused fault (inl memory) = subst (λ (fault : Fault). IsAskedFor i Reach ws old new (Err fault)) (sym (err_is memory)) (starved i Reach ws old new)
   object_refused fault (inr reads) = asked_refused i ws old new fault reads
 
   -- the object names no such master, or memory is wanted
   pub master_refused : (object : Object) (fault : Fault) → ReadsAs object_of Reads object_limit i.observable (word 1 ws) (i.state old) (i.state new) (Ok object) → (fault ≡ Memory) ⊎ (reach_job (Ok object) (word 2 ws) ≡ Err fault) → Reports o (refusal fault) sink sink' result → Converted i o Reach ws old new sink sink' result
   master_refused object fault reads why reports = refused i o ws old new sink sink' result Reach fault (asked why) reports
     where
-      asked : (fault ≡ Memory) ⊎ (reach_job (Ok object) (word 2 ws) ≡ Err fault) → IsAsked i Reach ws old new (Err fault)
-      asked (inl memory) = subst (λ (fault : Fault). IsAsked i Reach ws old new (Err fault)) (sym memory) (starved i Reach ws old new)
+      asked : (fault ≡ Memory) ⊎ (reach_job (Ok object) (word 2 ws) ≡ Err fault) → IsAskedFor i Reach ws old new (Err fault)
+      asked (inl memory) = subst (λ (fault : Fault). IsAskedFor i Reach ws old new (Err fault)) (sym memory) (starved i Reach ws old new)
       asked (inr is) = asked_reach i ws old new object (Err fault) reads (subst (IsReachJob (Err fault)) (sym is) refl)
 
   pub reach_ran : (object : Object) (text : List ℕ) → ReadsAs object_of Reads object_limit i.observable (word 1 ws) (i.state old) (i.state new) (Ok object) → IsReachText text (reach_job (Ok object) (word 2 ws)) → Reports o (one_piece text) sink sink' result → Converted i o Reach ws old new sink sink' result
   reach_ran object text reads made reports =
       let same : Reports o (one_piece (reach_text made.found.members)) sink sink' result = subst (λ (text : List ℕ). Reports o (one_piece text) sink sink' result) made.text reports in
-      record { job = Ok made.found; answers = []; cut = same.cut; asked = asked_reach i ws old new object (Ok made.found) reads (subst (IsReachJob (Ok made.found)) (sym made.is) made.reach); left = same.left; ends = same.ends; touched = tt }
+      record { job = Ok made.found; answers = []; cut = same.cut; asked = by_exit i o Reach ws old new sink sink' result (Ok made.found) [] same.cut (asked_reach i ws old new object (Ok made.found) reads (subst (IsReachJob (Ok made.found)) (sym made.is) made.reach)) same.left same.ends; left = same.left; ends = same.ends; touched = tt }
 
   pub reach_done : (object : Object) (text : List ℕ) → ReadsAs object_of Reads object_limit i.observable (word 1 ws) (i.state old) (i.state new) (Ok object) → IsReachText text (reach_job (Ok object) (word 2 ws)) → Reports o (one_piece text) sink sink' result → i.observable → o.observable → result ≡ exit.Done → IsReached i o ws old sink sink'
   reach_done object text reads made reports seen written done =

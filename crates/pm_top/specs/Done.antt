@@ -1,10 +1,9 @@
--- The headline: what Done means. No limit, no reason to stop and no cut occurs in it.
-use Rattle.std.specs.Prelude.{◌≡◌, ℕ, Bool, List, ◌++◌, map, Option, Some, None, Ok}
+-- What Done means for each form of the words. No limit, no reason to stop and no cut occurs in it.
+use Rattle.std.specs.Prelude.{◌≡◌, ℕ, List, ◌++◌, Option, Some, None}
 use Rattle.pm_base.specs.declared.events.Event.{Event}
 use Rattle.pm_base.specs.declared.inputs.Inputs as Inputs
 use Rattle.pm_base.specs.declared.sink.Sink as Sink
 use Rattle.pm_base.specs.declared.names.NodeId.{NodeId}
-use Rattle.pm_base.specs.Lines.{lines_of}
 use Rattle.pm_object.specs.declared.object.Object.{Object}
 use Rattle.pm_object.specs.Grammar.{Reads, little_endian, words_of}
 use Rattle.pm_objtext.specs.Meaning.{Means}
@@ -13,22 +12,18 @@ use Rattle.pm_topology.specs.Chip.{chip}
 use Rattle.pm_reach.specs.declared.members.Member.{Member}
 use Rattle.pm_reach.specs.Membership.{IsReach}
 use Rattle.pm_device.specs.declared.device.Device as Device
-use Rattle.pm_script.specs.Meaning.{meaning}
+use Rattle.pm_script.specs.Named.{IsScript}
 use Rattle.pm_trace.specs.Reach.{reach_text}
 use Rattle.pm_isolate.specs.Differences.{isolate_text}
 use Rattle.pm_isolate.specs.Listed.{AreListed}
-use Rattle.pm_drive.specs.Drive.{driven}
-use Rattle.pm_drive.specs.Drove.{Drove}
-use Rattle.pm_drive.specs.Text.{run_text}
-use Rattle.pm_replay.specs.Replayed.{Holds, setup}
-use Rattle.pm_replay.specs.World.{World}
-use Rattle.pm_core.specs.Run.{loaded, steps_of}
-use Rattle.pm_causes.specs.Caused.{HaveCauses}
-use Rattle.pm_apart.specs.Apart.{KeepsApart}
+use Rattle.pm_base.specs.Inputs.{Holds}
+use Rattle.pm_run.specs.Run.{setup}
+use Rattle.pm_base.specs.World.{World}
 use Rattle.pm_top.specs.declared.form.Form.{Form}
 use Rattle.pm_top.specs.declared.form.Form.TheVariants.{Replay, Reach, Isolate, Print, Build}
 use Rattle.pm_top.specs.Form.{form, word}
 use Rattle.pm_top.specs.Job.{master_of}
+use Rattle.pm_top.specs.Theorem.{IsReplayed}
 
 module _ {I O : Type 0} (i : Inputs.Ghosts I) (o : Sink.Ghosts O) where
   -- an object was held under the first name, the second one names a master of it, and the text of what that master can
@@ -58,7 +53,7 @@ module _ {I O : Type 0} (i : Inputs.Ghosts I) (o : Sink.Ghosts O) where
     pub object_held : Holds (i.state inputs) (word 1 ws) object_bytes
     pub script_held : Holds (i.state inputs) (word 2 ws) script_bytes
     pub reads : Reads object_bytes object
-    pub means : map meaning (lines_of script_bytes) ≡ map (λ event. Ok event) events
+    pub means : IsScript script_bytes events
     pub named : master_of object (word 3 ws) ≡ Some master
     pub reach : IsReach object chip master members
     pub text : (o.state new).bytes ≡ (o.state old).bytes ++ isolate_text (setup object chip) master members events
@@ -82,29 +77,10 @@ module _ {I O : Type 0} (i : Inputs.Ghosts I) (o : Sink.Ghosts O) where
     pub reads : Reads (little_endian (words_of object)) object
 
 module _ {I O D : Type 0} (i : Inputs.Ghosts I) (o : Sink.Ghosts O) (d : Device.Ghosts D) where
-  -- an object and a script were held under the two names, the whole text of the run of one over the other was written under
-  -- the device's answers, and the device was driven through that run
-  pub record IsReplayed (ws : List (List ℕ)) (w w' : World I O D) : Type 0 where
-    pub object_bytes : List ℕ
-    pub script_bytes : List ℕ
-    pub object : Object
-    pub events : List Event
-    pub answers : List (List Bool)
-    pub object_held : Holds (i.state w.inputs) (word 1 ws) object_bytes
-    pub script_held : Holds (i.state w.inputs) (word 2 ws) script_bytes
-    pub reads : Reads object_bytes object
-    pub means : map meaning (lines_of script_bytes) ≡ map (λ event. Ok event) events
-    pub text : (o.state w'.sink).bytes ≡ (o.state w.sink).bytes ++ run_text (setup object chip) answers events
-    pub drove : Drove d (setup object chip) (driven (setup object chip) answers events) w.device w'.device
-    -- nothing that a master sends changes the lines or the transitions of a unit beyond its reach
-    pub keeps : KeepsApart d (setup object chip) answers events w.device w'.device
-    -- each answer has its causes in the book before its step
-    pub causes : HaveCauses (loaded (setup object chip) events) (steps_of events (loaded (setup object chip) events))
-
   -- what a form asks for was done. Only a replay touches the device
   abbrev pub FormDone : Option Form → List (List ℕ) → World I O D → World I O D → Type 0
   FormDone None ws w w' = ⊥
-  FormDone (Some Replay) ws w w' = IsReplayed ws w w'
+  FormDone (Some Replay) ws w w' = IsReplayed i o d ws w w'
   FormDone (Some Reach) ws w w' = IsReached i o ws w.inputs w.sink w'.sink × (w.device ≡ w'.device)
   FormDone (Some Isolate) ws w w' = IsIsolated i o ws w.inputs w.sink w'.sink × (w.device ≡ w'.device)
   FormDone (Some Print) ws w w' = IsPrinted i o ws w.inputs w.sink w'.sink × (w.device ≡ w'.device)

@@ -2,6 +2,8 @@
 use Rattle.std.specs.Prelude.{◌≡◌, ℕ, ◌≤◌, ◌⊎◌, ◌==◌, Bool, true, if◌then◌else◌, List, [], ◌∷◌, Option, Some, None, Result, Ok, Err, ⊤}
 use Rattle.std.specs.List.{list_any}
 use Rattle.pm_base.specs.Faults.{Rose}
+use Rattle.pm_base.specs.declared.errors.Exit.{Exit}
+use Rattle.pm_base.specs.declared.errors.Exit.TheVariants.{ReadFault}
 use Rattle.pm_base.specs.Inputs.{Moment}
 use Rattle.pm_base.specs.declared.inputs.Inputs as Inputs
 use Rattle.pm_base.specs.declared.names.NodeId.{NodeId}
@@ -20,14 +22,15 @@ use Rattle.pm_objtext.specs.Printing.{text_of}
 use Rattle.pm_topology.specs.Chip.{chip}
 use Rattle.pm_reach.specs.declared.members.Reach.{Reach as Found}
 use Rattle.pm_reach.specs.Membership.{IsReach}
-use Rattle.pm_core.specs.Run.{Setup}
+use Rattle.pm_run.specs.Run.{Setup}
 use Rattle.pm_script.specs.Script.{Script, script_limit, script_of}
 use Rattle.pm_trace.specs.declared.faults.Fault.{Fault}
 use Rattle.pm_trace.specs.declared.faults.Fault.TheVariants.{Object as BadObject, Text as BadText, Line, Memory, Node, Read, Size, Usage}
 use Rattle.pm_trace.specs.Reach.{reach_text}
 use Rattle.pm_trace.specs.Report.{Report}
 use Rattle.pm_replay.specs.Replay.{replay_report}
-use Rattle.pm_replay.specs.Replayed.{IsReadFault as ScriptFails, script_or_fault, setup}
+use Rattle.pm_trace.specs.Scripts.{script_or_fault}
+use Rattle.pm_run.specs.Run.{setup}
 use Rattle.pm_isolate.specs.Compared.{Comparison}
 use Rattle.pm_isolate.specs.Differences.{isolate_report}
 use Rattle.pm_top.specs.declared.form.Form.{Form}
@@ -180,19 +183,6 @@ IsJobOf f ws m job = (again : Bool) × (2 ≤ m.room → again ≡ true) × Meet
 
 -- ---- what is made of it
 
--- an input could not be begun, or a read of it failed
-abbrev pub FailsToRead : (f : Form) → Result (Job f) Fault → Type 0
-FailsToRead Replay (Ok job) = ScriptFails (Ok job.1)
-FailsToRead Replay (Err fault) = fault ≡ Read
-FailsToRead Reach (Ok found) = ⊥
-FailsToRead Reach (Err fault) = fault ≡ Read
-FailsToRead Isolate (Ok job) = ScriptFails (Ok job.2.script)
-FailsToRead Isolate (Err fault) = fault ≡ Read
-FailsToRead Print (Ok object) = ⊥
-FailsToRead Print (Err fault) = fault ≡ Read
-FailsToRead Build (Ok object) = ⊥
-FailsToRead Build (Err fault) = fault ≡ Read
-
 -- what is written of a job, under the device's answers
 abbrev pub report : (f : Form) → Job f → List (List Bool) → Report
 report Replay job answers = replay_report job.0 job.1 answers
@@ -234,9 +224,8 @@ IsKnown Build (Ok object) = ⊤
 IsKnown f (Err fault) = IsFaultOf f fault
 
 module _ {I : Type 0} (i : Inputs.Ghosts I) where
-  -- the job is what the words ask for, by what the inputs show, unless memory is wanted. Where an input can't be read the
-  -- inputs' count rose
-  pub record IsAsked (f : Form) (ws : List (List ℕ)) (old new : I) (job : Result (Job f) Fault) : Type 0 where
+  -- the job is what the words ask for, by what the inputs show, unless memory is wanted. On ReadFault the inputs' count rose
+  pub record IsAsked (f : Form) (ws : List (List ℕ)) (old new : I) (exit : Exit) (job : Result (Job f) Fault) : Type 0 where
     pub shown : i.observable → (job ≡ Err Memory) ⊎ IsJobOf f ws (i.state old) job
-    pub failed : FailsToRead f job → Rose (i.state old).faults (i.state new).faults
+    pub failed : exit ≡ ReadFault → Rose (i.state old).faults (i.state new).faults
     pub known : IsKnown f job

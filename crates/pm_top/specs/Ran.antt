@@ -5,6 +5,9 @@ use Rattle.pm_base.specs.declared.errors.Exit.TheVariants as exit
 use Rattle.pm_base.specs.declared.inputs.Inputs as Inputs
 use Rattle.pm_base.specs.declared.sink.Sink as Sink
 use Rattle.pm_base.specs.Inputs.{Moment, MayFail}
+use Rattle.pm_object.specs.declared.object.Object.{Object}
+use Rattle.pm_object.specs.Grammar.{IsObject}
+use Rattle.pm_topology.specs.Chip.{chip}
 use Rattle.pm_device.specs.declared.device.Device as Device
 use Rattle.pm_script.specs.Script.{script_limit}
 use Rattle.pm_trace.specs.declared.faults.Fault.{Fault}
@@ -12,8 +15,11 @@ use Rattle.pm_trace.specs.declared.faults.Fault.TheVariants.{Usage}
 use Rattle.pm_trace.specs.Exits.{EndsWith}
 use Rattle.pm_trace.specs.Faults.{exit_after}
 use Rattle.pm_trace.specs.Report.{Did, Report}
-use Rattle.pm_replay.specs.Replay.{Touched, fault_at}
-use Rattle.pm_replay.specs.World.{World}
+use Rattle.pm_trace.specs.Scripts.{fault_at}
+use Rattle.pm_replay.specs.Replay.{Touched}
+use Rattle.pm_replay.specs.Replayed.{AnswersHaveCauses, RunsKeepApart}
+use Rattle.pm_run.specs.Run.{setup}
+use Rattle.pm_base.specs.World.{World}
 use Rattle.pm_top.specs.declared.form.Form.{Form}
 use Rattle.pm_top.specs.declared.form.Form.TheVariants.{Replay, Reach, Isolate, Print, Build}
 use Rattle.pm_top.specs.Form.{form, word}
@@ -40,7 +46,7 @@ module _ {I O : Type 0} (i : Inputs.Ghosts I) (o : Sink.Ghosts O) where
   -- the device aside
   abbrev pub Converted : Form → List (List ℕ) → I → I → O → O → Exit → Type 0
   Converted f ws old new sink sink' result =
-      Did o (IsAsked i f ws old new) (report f) (λ job answers cut. ⊤) sink sink' result
+      Did o (IsAsked i f ws old new result) (report f) (λ job answers cut. ⊤) sink sink' result
 
 module _ {I O D : Type 0} (i : Inputs.Ghosts I) (o : Sink.Ghosts O) (d : Device.Ghosts D) where
   -- what was asked for, what was written of it, and what was done to the device
@@ -48,11 +54,21 @@ module _ {I O D : Type 0} (i : Inputs.Ghosts I) (o : Sink.Ghosts O) (d : Device.
   RanForm None ws w w' result =
       Did o (λ job. job ≡ Err Usage) nothing_to_do (λ job answers cut. w.device ≡ w'.device) w.sink w'.sink result
   RanForm (Some f) ws w w' result =
-      Did o (IsAsked i f ws w.inputs w'.inputs) (report f) (Touches d f w.device w'.device) w.sink w'.sink result
+      Did o (IsAsked i f ws w.inputs w'.inputs result) (report f) (Touches d f w.device w'.device) w.sink w'.sink result
 
   -- the same by the words
   abbrev pub Ran : List (List ℕ) → World I O D → World I O D → Exit → Type 0
   Ran ws w w' result = RanForm (form ws) ws w w' result
+
+-- ---- what is known of each run
+
+-- over whichever object: nothing that a master sends changes what is beyond its reach
+abbrev pub EachKeepsApart : {D : Type 0} → Device.Ghosts D → D → D → Type 0
+EachKeepsApart d old new = (object : Object) → IsObject object → RunsKeepApart d (setup object chip) old new
+
+-- over whichever object: each answer has its causes in the book before its step
+abbrev pub EachHasCauses : Type 0
+EachHasCauses = (object : Object) → AnswersHaveCauses (setup object chip)
 
 -- ---- what the exits mean
 

@@ -5,7 +5,7 @@ ghost use Rattle.std.specs.List.{list_any};
 ghost use Rattle.pm_object.specs.Grammar.{IsObject};
 ghost use Rattle.pm_topology.specs.Chip.{chip};
 ghost use Rattle.pm_isolate.specs.Compared.{Compared, IsCompared};
-ghost use Rattle.pm_replay.specs.Replayed.{setup};
+ghost use Rattle.pm_run.specs.Run.{setup};
 ghost use Rattle.pm_top.specs.declared.form.Form.TheVariants as forms;
 ghost use Rattle.pm_top.specs.Done.{IsIsolated};
 ghost use Rattle.pm_top.specs.Ran.{Converted};

@@ -7,23 +7,27 @@ ghost use Rattle.pm_base.specs.Sink.{HasFailed, IsUnfailed};
 ghost use Rattle.pm_object.specs.Grammar.{IsObject};
 ghost use Rattle.pm_topology.specs.Chip.{chip};
 ghost use Rattle.pm_trace.specs.Exits.{IsStarved};
-ghost use Rattle.pm_replay.specs.Replayed.{IsRun, Replayed, setup};
+ghost use Rattle.pm_replay.specs.Replayed.{IsRun, Replayed};
+ghost use Rattle.pm_run.specs.Run.{setup};
 ghost use Rattle.pm_replay.specs.Safe.{IsSafe};
-ghost use Rattle.pm_replay.specs.World.{world};
+ghost use Rattle.pm_base.specs.World.{world};
 ghost use Rattle.pm_top.specs.declared.form.Form.TheVariants as forms;
-ghost use Rattle.pm_top.specs.Done.{IsDone, IsReplayed};
+ghost use Rattle.pm_top.specs.Done.{IsDone};
+ghost use Rattle.pm_top.specs.Theorem.{IsReplayed};
 ghost use Rattle.pm_top.specs.Form.{form};
-ghost use Rattle.pm_top.specs.Ran.{Decides, InputsMayFail, IsBeforeRun, Ran, RanForm};
+ghost use Rattle.pm_top.specs.Ran.{Decides, EachHasCauses, EachKeepsApart, InputsMayFail, IsBeforeRun, Ran, RanForm};
 
 use crate::conversions::{build_object, print_object};
 use crate::form::{Form, form_of, word};
 use crate::isolating::isolate;
 use crate::objects::read_object;
 use crate::reaching::write_reach;
+use pm_apart::driven_runs_keep_apart;
 use pm_base::{Exit, Inputs, NoMemory, Sink};
+use pm_causes::runs_have_causes;
 use pm_device::Device;
 use pm_object::Object;
-use pm_replay::{a_script_that_fails, replay};
+use pm_replay::replay;
 use pm_topology::zynqmp;
 use pm_trace::{Fault, exits_say, refuse};
 use std::alloc::Global;
@@ -57,6 +61,11 @@ pub fn pm_main<I: Inputs, O: Sink, D: Device>(
         (world inputs.old out.old dev.old) (world inputs.new out.new dev.new) result }
     // On every exit: nothing was used without power, and no domain went down under its users.
     ensures safe { IsSafe D.Device chip dev.old dev.new }
+    // On every exit, of the run of whichever object that the device was driven through: nothing that a master sends
+    // changes what is beyond its reach.
+    ensures keeps { EachKeepsApart D.Device dev.old dev.new }
+    // Each answer of a run of whichever object has its causes in the book before its step.
+    ensures causes { EachHasCauses }
     // Before a script is run nothing is done to the device.
     ensures untouched { IsBeforeRun result → dev.old ≡ dev.new }
     // On Memory nothing was written but the fault line, as far as the sink took it.
@@ -72,8 +81,9 @@ pub fn pm_main<I: Inputs, O: Sink, D: Device>(
     // Done comes only where no write failed, and none took 0 of a piece that isn't empty.
     ensures unfailed { result ≡ Exit.Done → IsUnfailed (O.state out.old) (O.state out.new) }
 {
-    a_script_that_fails();
     exits_say::<O>();
+    driven_runs_keep_apart::<D>();
+    runs_have_causes();
     run_words(alloc, words, inputs, out, dev)
 }
 

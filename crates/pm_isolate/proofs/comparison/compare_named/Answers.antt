@@ -1,6 +1,6 @@
 use Rattle.std.proofs.Common.{ap, subst, sym}
-use Rattle.pm_core.specs.Run.{Setup}
-use Rattle.pm_replay.specs.Replayed.{setup}
+use Rattle.pm_run.specs.Run.{Setup}
+use Rattle.pm_run.specs.Run.{setup}
 use Rattle.pm_isolate.specs.Compared.{Compared}
 use Rattle.pm_isolate.specs.Within.{IsPrepared, setup_in}
 use Rattle.pm_isolate.proofs.ComparedLemmas as lemmas

@@ -13,8 +13,7 @@ returns-in_default g c =
 pub returns-in-Unbegun : goal.returns-in-Unbegun
 returns-in-Unbegun g c =
     let cs = setup_in c.args.prepared.now.worlds in
-    let laws : lemmas.ScriptLaws = record { unbegun = c.scripts_are_read.ensures.unbegun; begun = c.scripts_are_read.ensures.begun; fails = c.scripts_are_read.ensures.fails; whole = c.scripts_are_read.ensures.whole; cause = c.scripts_are_read.ensures.cause } in
-    lemmas.compare_unbegun g.I.Inputs g.O.Sink laws cs c.args.m c.args.script.now c.args.inputs.now c.gather.new.inputs c.args.out.now c.refuse-in-Unbegun.new.out c.refuse-in-Unbegun.result c.in-Ok.script c.in-Ok.ensures (sym c.stop.ensures ∙ c.in-Unbegun.is) c.refuse-in-Unbegun.ensures
+    lemmas.compare_unbegun g.I.Inputs g.O.Sink cs c.args.m c.args.script.now c.args.inputs.now c.gather.new.inputs c.args.out.now c.refuse-in-Unbegun.new.out c.refuse-in-Unbegun.result c.in-Ok.script c.in-Ok.ensures (sym c.stop.ensures ∙ c.in-Unbegun.is) c.refuse-in-Unbegun.ensures
 
 pub run-requires : goal.run-requires
 run-requires g c = record {
@@ -28,6 +27,5 @@ returns g c =
     let p = c.in-Ok.script in
     let s : Script = script_from (script_lines p) (stop_of p.stop) in
     let ready = c.requires in
-    let laws : lemmas.ScriptLaws = record { unbegun = c.scripts_are_read.ensures.unbegun; begun = c.scripts_are_read.ensures.begun; fails = c.scripts_are_read.ensures.fails; whole = c.scripts_are_read.ensures.whole; cause = c.scripts_are_read.ensures.cause } in
     let reports = subst (λ (r : Report). Reports g.O.Sink r c.args.out.now c.run.new.out c.run.result) (lemmas.report_is cs c.args.m s c.args.prepared.now ready) c.run.ensures in
-    lemmas.compare_ran g.I.Inputs g.O.Sink laws cs c.args.m c.args.script.now c.args.inputs.now c.gather.new.inputs c.args.out.now c.run.new.out c.run.result p ready.members c.in-Ok.ensures (λ is. c.in_default-stop.not-Unbegun (c.stop.ensures ∙ is)) ready.reach reports
+    lemmas.compare_ran g.I.Inputs g.O.Sink cs c.args.m c.args.script.now c.args.inputs.now c.gather.new.inputs c.args.out.now c.run.new.out c.run.result p ready.members c.in-Ok.ensures (λ is. c.in_default-stop.not-Unbegun (c.stop.ensures ∙ is)) ready.reach reports

@@ -14,8 +14,8 @@ returns-in-Ok g c =
     let ends = c.in-Ok.ensures in
     subst (λ (r : Report). Reports g.O.Sink r c.args.out.now c.finish.new.out c.finish.result) (rest_closed c.args.m s c.args.script.now.stop c.args.worlds.now then c.in-Ok.count ends.0 ends.1 ends.2) (subst P c.stop.ensures c.finish.ensures)
 
-pub returns-in-Err : goal.returns-in-Err
-returns-in-Err g c =
+pub returns-in-Err-Bad : goal.returns-in-Err-Bad
+returns-in-Err-Bad g c =
     let s : Script = script_from (script_lines c.args.script.now) (stop_of c.args.script.now.stop) in
-    let ends = c.in-Err.ensures in
-    subst (λ (r : Report). Reports g.O.Sink r c.args.out.now c.refuse.new.out c.refuse.result) (rest_bad c.args.m s c.args.worlds.now ends.0 c.in-Err.fault ends.1 ends.2) c.refuse.ensures
+    let ends = rw c.in-Err-Bad.field-0-is at c.in-Err-Bad.ensures in
+    subst (λ (r : Report). Reports g.O.Sink r c.args.out.now c.refuse.new.out c.refuse.result) (rest_bad c.args.m s c.args.worlds.now c.in-Err-Bad.number c.in-Err-Bad.cause ends.0 ends.1) c.refuse.ensures

@@ -8,7 +8,8 @@ returns c =
       exact = c.reach_is_closed.ensures.exact;
       values = c.values_agree.ensures.values;
       modes = c.values_agree.ensures.modes;
-      books = c.reach_keeps_apart.ensures.books;
+      alike = c.reach_keeps_apart.ensures.alike;
+      books = c.books_of_a_run.ensures.all;
       kinds = c.kinds_are_exact.ensures;
       units = c.units_stand_in_order.ensures;
     } in

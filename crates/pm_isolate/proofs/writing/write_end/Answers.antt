@@ -11,4 +11,4 @@ returns-in_err-write_marks g c =
     rw p.1 (Breaks-first g.O.Sink (concat (mark_lines c.args.worlds.now)) (steps_line c.args.count) c.args.out.now c.write_marks.new.out c.in_err-write_marks.ensures)
 
 pub returns : goal.returns
-returns g c = Writes-behind g.O.Sink (concat (mark_lines c.args.worlds.now)) (steps_line c.args.count) c.args.out.now c.write_marks.new.out c.write_named.new.out c.write_named.result c.in_ok-write_marks.ensures c.write_named.ensures
+returns g c = Writes-behind g.O.Sink (concat (mark_lines c.args.worlds.now)) (steps_line c.args.count) c.args.out.now c.write_marks.new.out c.write_words.new.out c.write_words.result c.in_ok-write_marks.ensures (rw c.name.ensures at c.write_words.ensures)

@@ -1,7 +1,9 @@
-use Rattle.pm_replay.specs.Replayed.{setup}
-use Rattle.pm_replay.specs.World.{world}
-use Rattle.pm_replay.proofs.ReplayLemmas as lemmas
-use Rattle.pm_replay.proofs.RunLaws.{RunLaws}
+use Rattle.pm_replay.specs.Replay.{Touched, replay_report}
+use Rattle.pm_run.specs.Run.{setup}
+use Rattle.pm_base.specs.World.{world}
+use Rattle.pm_trace.specs.Scripts.{IsScriptOf}
+use Rattle.pm_trace.proofs.ScriptsLemmas as scripts
+use Rattle.pm_replay.proofs.ReplayLemmas.{of_script, replay_done, replay_safe, script_itself}
 use Rattle.pm_replay.proofs.run.replay.Goals as goal
 
 pub returns : goal.returns
@@ -9,17 +11,21 @@ returns g c =
     let cs = setup c.args.object c.args.topology in
     let w = world c.args.inputs.now c.args.out.now c.args.dev.now in
     let w' = world c.run_named.new.inputs c.run_named.new.out c.run_named.new.dev in
-    let say = c.exits_say.ensures in
+    let name = c.args.script.now in
+    let result = c.run_named.result in
     let ran = c.run_named.ensures in
-    let laws : RunLaws g.D.Device = record { run = c.driven_runs_keep_apart.ensures.run; steps = c.driven_runs_keep_apart.ensures.steps; causes = c.runs_have_causes.ensures } in
+    let Asks = IsScriptOf g.I.Inputs name w.inputs w'.inputs result in
+    let Touching = Touched g.D.Device cs w.device w'.device in
     record {
-      done = lemmas.replay_done g.I.Inputs g.O.Sink g.D.Device cs c.args.script.now w w' c.run_named.result say ran laws c.requires.object c.requires.formed;
-      decided = lemmas.replay_decided g.I.Inputs g.O.Sink g.D.Device cs c.args.script.now w w' c.run_named.result say ran;
-      safe = lemmas.replay_safe g.I.Inputs g.O.Sink g.D.Device cs c.args.script.now w w' c.run_named.result ran;
-      ran = lemmas.replay_known g.I.Inputs g.O.Sink g.D.Device cs c.args.script.now w w' c.run_named.result laws c.requires.object c.requires.formed ran;
-      memory = lemmas.replay_memory g.I.Inputs g.O.Sink g.D.Device cs c.args.script.now w w' c.run_named.result say ran;
-      read_fault = lemmas.replay_read_fault g.I.Inputs g.O.Sink g.D.Device cs c.args.script.now w w' c.run_named.result say ran;
-      read_cause = lemmas.replay_read_cause g.I.Inputs g.O.Sink g.D.Device cs c.args.script.now w w' c.run_named.result say ran;
-      write_fault = lemmas.replay_write_fault g.I.Inputs g.O.Sink g.D.Device cs c.args.script.now w w' c.run_named.result say ran;
-      unfailed = lemmas.replay_unfailed g.I.Inputs g.O.Sink g.D.Device cs c.args.script.now w w' c.run_named.result say ran;
+      done = replay_done g.I.Inputs g.O.Sink g.D.Device cs name w w' result ran;
+      decided = scripts.did_decided g.I.Inputs g.O.Sink script_itself (replay_report cs) (of_script cs) name w.inputs w'.inputs w.sink w'.sink result Asks (λ job asked. asked) Touching ran;
+      safe = replay_safe g.I.Inputs g.O.Sink g.D.Device cs name w w' result ran;
+      ran = ran;
+      keeps = record { run = λ answers events drove. c.driven_runs_keep_apart.ensures.run cs events answers w.device w'.device c.requires.object c.requires.formed drove; steps = λ answers events cut drove. c.driven_runs_keep_apart.ensures.steps cs events answers cut w.device w'.device c.requires.object c.requires.formed drove };
+      causes = λ events. c.runs_have_causes.ensures.run cs events;
+      memory = scripts.did_memory g.I.Inputs g.O.Sink script_itself (replay_report cs) (of_script cs) name w.inputs w'.inputs w.sink w'.sink result Asks (λ job asked. asked) Touching ran;
+      read_fault = scripts.did_read_fault g.I.Inputs g.O.Sink script_itself (replay_report cs) (of_script cs) name w.inputs w'.inputs w.sink w'.sink result Asks (λ job asked. asked) Touching ran;
+      read_cause = scripts.did_read_cause g.I.Inputs g.O.Sink script_itself (replay_report cs) (of_script cs) name w.inputs w'.inputs w.sink w'.sink result Asks (λ job asked. asked) Touching ran;
+      write_fault = scripts.did_write_fault g.I.Inputs g.O.Sink script_itself (replay_report cs) (of_script cs) name w.inputs w'.inputs w.sink w'.sink result Asks (λ job asked. asked) Touching ran;
+      unfailed = scripts.did_unfailed g.I.Inputs g.O.Sink script_itself (replay_report cs) (of_script cs) name w.inputs w'.inputs w.sink w'.sink result Asks (λ job asked. asked) Touching ran;
     }

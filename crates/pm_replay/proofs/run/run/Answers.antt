@@ -2,6 +2,7 @@ use Rattle.std.proofs.Common.{[], ◌∷◌, subst}
 use Rattle.pm_base.specs.Sink.{Wrote}
 use Rattle.pm_base.specs.Writing.{BreaksIn}
 use Rattle.pm_core.specs.declared.outbox.Outbox.{Outbox}
+use Rattle.pm_run.specs.Run.{setup_of}
 use Rattle.pm_script.specs.Script.{Script, script_from, script_lines, stop_of}
 use Rattle.pm_trace.specs.Step.{notices_in, step_text}
 use Rattle.pm_replay.specs.Within.{Started}
@@ -14,7 +15,7 @@ returns-in-Ok g c =
     let then = c.start.new.self in
     let started : Started g.O.Sink g.D.Device c.args.controller.now then c.args.dev.now c.start.new.dev = record { book = c.start.ensures.book; part = c.start.ensures.part; notices = c.start.ensures.notices; given = c.start.ensures.given } in
     let P : Outbox → Type 0 = λ outbox. Wrote g.O.Sink.observable (step_text 0 outbox.done.items (notices_in outbox) outbox.answer) (g.O.Sink.state c.args.out.now) (g.O.Sink.state c.write_step.new.out) in
-    RanScript-first g.O.Sink g.D.Device s c.args.controller.now then c.args.out.now c.write_step.new.out c.run_rest.new.out c.args.dev.now c.start.new.dev c.run_rest.new.dev c.run_rest.result c.requires.loaded started (subst P c.outbox.ensures c.in-Ok.ensures) c.run_rest.ensures
+    RanScript-first g.O.Sink g.D.Device s c.args.controller.now then c.args.out.now c.write_step.new.out c.run_rest.new.out c.args.dev.now c.start.new.dev c.run_rest.new.dev c.run_rest.result c.requires.loaded started (subst P c.outbox.ensures c.in-Ok.ensures) (c.run_rest.ensures (setup_of c.args.controller.now.book))
 
 pub returns-in-Err : goal.returns-in-Err
 returns-in-Err g c =

@@ -1,18 +1,18 @@
 use Rattle.std.proofs.Common.{refl, subst, sym}
 use Rattle.pm_topology.specs.WellFormed.{IsWellFormed}
-use Rattle.pm_core.specs.Run.{Setup}
-use Rattle.pm_replay.specs.Replayed.{setup}
-use Rattle.pm_replay.specs.Within.{RanNamed}
-use Rattle.pm_replay.specs.World.{world}
-use Rattle.pm_replay.proofs.ReplayLemmas as lemmas
+use Rattle.pm_base.specs.World.{world}
+use Rattle.pm_run.specs.Run.{Setup}
+use Rattle.pm_trace.proofs.ScriptsLemmas.{asked_starved, memory_exit}
+use Rattle.pm_replay.specs.Replayed.{Replayed}
+use Rattle.pm_run.specs.Run.{setup}
+use Rattle.pm_replay.proofs.ReplayLemmas.{replay_refused}
 use Rattle.pm_replay.proofs.run.run_named.Goals as goal
 
 pub returns-in_default : goal.returns-in_default
 returns-in_default g c =
-    let cs = setup c.args.object c.args.topology in
     let w = world c.args.inputs.now c.args.out.now c.args.dev.now in
     let w' = world c.args.inputs.now c.refuse.new.out c.args.dev.now in
-    lemmas.replay_refused g.I.Inputs g.O.Sink g.D.Device cs c.args.script.now w w' c.refuse.result _ (lemmas.starved g.I.Inputs g.O.Sink g.D.Device cs c.args.script.now w w' c.refuse.result) c.refuse.ensures refl
+    replay_refused g.I.Inputs g.O.Sink g.D.Device (setup c.args.object c.args.topology) c.args.script.now w w' c.refuse.result _ (asked_starved g.I.Inputs c.args.script.now w.inputs w'.inputs c.refuse.result (memory_exit g.O.Sink w.sink w'.sink c.refuse.result c.refuse.ensures)) c.refuse.ensures refl
 
 pub run_loaded-requires : goal.run_loaded-requires
 run_loaded-requires g c = record {
@@ -25,4 +25,4 @@ pub returns : goal.returns
 returns g c =
     let w = world c.args.inputs.now c.args.out.now c.args.dev.now in
     let w' = world c.run_loaded.new.inputs c.run_loaded.new.out c.run_loaded.new.dev in
-    subst (λ (s : Setup). RanNamed g.I.Inputs g.O.Sink g.D.Device s c.args.script.now w w' c.run_loaded.result) c.in-Ok.ensures.setup c.run_loaded.ensures
+    subst (λ (s : Setup). Replayed g.I.Inputs g.O.Sink g.D.Device s c.args.script.now w w' c.run_loaded.result) c.in-Ok.ensures.setup c.run_loaded.ensures

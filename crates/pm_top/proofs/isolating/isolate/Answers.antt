@@ -5,7 +5,7 @@ use Rattle.pm_object.specs.Grammar.{Reads}
 use Rattle.pm_topology.specs.Chip.{chip}
 use Rattle.pm_trace.specs.declared.faults.Fault.{Fault}
 use Rattle.pm_trace.specs.declared.faults.Fault.TheVariants.{Memory, Node}
-use Rattle.pm_replay.specs.Replayed.{setup}
+use Rattle.pm_run.specs.Run.{setup}
 use Rattle.pm_isolate.specs.Compared.{Compared, IsCompared}
 use Rattle.pm_top.specs.declared.form.Form.TheVariants.{Isolate}
 use Rattle.pm_top.specs.Job.{master_of, object_limit, object_of}

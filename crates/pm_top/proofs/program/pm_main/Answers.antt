@@ -1,5 +1,8 @@
 use Rattle.std.proofs.Common.{map, string_bytes}
-use Rattle.pm_replay.specs.World.{world}
+use Rattle.pm_base.specs.World.{world}
+use Rattle.pm_topology.specs.Chip.{chip}
+use Rattle.pm_topology.proofs.ChipLaw.{chip_sound}
+use Rattle.pm_run.specs.Run.{setup}
 use Rattle.pm_top.proofs.MainLemmas.{decides, memory, read_cause, reading_fault, unfailing, untouched, usage, writing_fault}
 use Rattle.pm_top.proofs.program.pm_main.Goals as goal
 
@@ -19,10 +22,19 @@ pub returns-clause-read_fault : goal.returns-clause-read_fault
 returns-clause-read_fault g c = reading_fault g.I.Inputs g.O.Sink c.exits_say.ensures g.D.Device (map string_bytes c.args.words.now) (world c.args.inputs.now c.args.out.now c.args.dev.now) (world c.run_words.new.inputs c.run_words.new.out c.run_words.new.dev) c.run_words.result c.run_words.ensures.ran
 
 pub returns-clause-read_cause : goal.returns-clause-read_cause
-returns-clause-read_cause g c = read_cause g.I.Inputs g.O.Sink c.exits_say.ensures g.D.Device (map string_bytes c.args.words.now) (world c.args.inputs.now c.args.out.now c.args.dev.now) (world c.run_words.new.inputs c.run_words.new.out c.run_words.new.dev) c.run_words.result c.a_script_that_fails.ensures c.run_words.ensures.ran
+returns-clause-read_cause g c = read_cause g.I.Inputs g.O.Sink c.exits_say.ensures g.D.Device (map string_bytes c.args.words.now) (world c.args.inputs.now c.args.out.now c.args.dev.now) (world c.run_words.new.inputs c.run_words.new.out c.run_words.new.dev) c.run_words.result c.run_words.ensures.ran
 
 pub returns-clause-write_fault : goal.returns-clause-write_fault
 returns-clause-write_fault g c = writing_fault g.I.Inputs g.O.Sink c.exits_say.ensures g.D.Device (map string_bytes c.args.words.now) (world c.args.inputs.now c.args.out.now c.args.dev.now) (world c.run_words.new.inputs c.run_words.new.out c.run_words.new.dev) c.run_words.result c.run_words.ensures.ran
 
 pub returns-clause-unfailed : goal.returns-clause-unfailed
 returns-clause-unfailed g c = unfailing g.I.Inputs g.O.Sink c.exits_say.ensures g.D.Device (map string_bytes c.args.words.now) (world c.args.inputs.now c.args.out.now c.args.dev.now) (world c.run_words.new.inputs c.run_words.new.out c.run_words.new.dev) c.run_words.result c.run_words.ensures.ran
+
+pub returns-clause-keeps : goal.returns-clause-keeps
+returns-clause-keeps g c = λ object formed. record {
+  run = λ answers events drove. c.driven_runs_keep_apart.ensures.run (setup object chip) events answers c.args.dev.now c.run_words.new.dev formed chip_sound.well_formed drove;
+  steps = λ answers events cut drove. c.driven_runs_keep_apart.ensures.steps (setup object chip) events answers cut c.args.dev.now c.run_words.new.dev formed chip_sound.well_formed drove;
+}
+
+pub returns-clause-causes : goal.returns-clause-causes
+returns-clause-causes g c = λ object events. c.runs_have_causes.ensures.run (setup object chip) events

@@ -4,8 +4,9 @@ use Rattle.pm_object.specs.Grammar.{Reads}
 use Rattle.pm_topology.specs.Chip.{chip}
 use Rattle.pm_trace.specs.declared.faults.Fault.{Fault}
 use Rattle.pm_trace.specs.declared.faults.Fault.TheVariants.{Memory}
-use Rattle.pm_replay.specs.Replayed.{IsRun, Replayed, setup}
-use Rattle.pm_replay.specs.World.{world}
+use Rattle.pm_replay.specs.Replayed.{IsRun, Replayed}
+use Rattle.pm_run.specs.Run.{setup}
+use Rattle.pm_base.specs.World.{world}
 use Rattle.pm_top.specs.Job.{object_limit, object_of}
 use Rattle.pm_top.specs.Within.{ReadsAs}
 use Rattle.pm_top.proofs.ConversionLemmas.{known_read}

@@ -1,6 +1,6 @@
 use Rattle.std.proofs.Common.{◌∙◌, [], Option, Some, Err, ap, map, refl, string_bytes, subst, sym}
 use Rattle.pm_trace.specs.declared.faults.Fault.TheVariants.{Usage}
-use Rattle.pm_replay.specs.World.{world}
+use Rattle.pm_base.specs.World.{world}
 use Rattle.pm_top.specs.declared.form.Form.{Form}
 use Rattle.pm_top.specs.Ran.{RanForm}
 use Rattle.pm_top.proofs.program.run_words.Goals as goal

@@ -2,7 +2,7 @@ use Rattle.std.proofs.Common.{◌≡◌, subst, sym}
 use Rattle.pm_core.specs.Outbox.{Holds}
 use Rattle.pm_core.specs.Step.{outputs_at_load}
 use Rattle.pm_trace.specs.Step.{notices_in, notices_of}
-use Rattle.pm_replay.specs.Within.{Controls}
+use Rattle.pm_replay.specs.Controls.{Controls}
 use Rattle.pm_replay.proofs.NoticesLemmas.{notices_are}
 use Rattle.pm_replay.proofs.controller.Controller.start.Goals as goal
 

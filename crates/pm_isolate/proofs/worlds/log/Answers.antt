@@ -1,7 +1,7 @@
 use Rattle.std.proofs.Common.{◌≡◌, ◌<◌, ◌≤◌, length, ap, arith}
 use Rattle.pm_isolate.specs.Within.{Marks, noted_in}
 use Rattle.pm_isolate.proofs.MarksLemmas.{marks_long, note_step}
-use Rattle.pm_isolate.proofs.worlds.note.Goals as goal
+use Rattle.pm_isolate.proofs.worlds.log.Goals as goal
 
 pub mark_at-unit-requires : goal.mark_at-unit-requires
 mark_at-unit-requires c =
