@@ -122,7 +122,7 @@ static RESTARTED: [Case; 3] = [
 ];
 
 #[test]
-fn a_restart_of_all_releases_the_lines_and_drops_the_mail(rt: HostRuntime) -> Result<(), Fail> {
+fn a_restart_of_all_releases_the_lines_and_drops_the_notes(rt: HostRuntime) -> Result<(), Fail> {
     let mut desk = settled(rt.alloc(), &ANEW)?;
     all_right(&rt, wrong_notice(&mut desk, &RESTART));
     all_right(&rt, wrong_answer(&mut desk, &RESTARTED));

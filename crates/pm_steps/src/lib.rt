@@ -1,4 +1,4 @@
-//! Tests of a step's public calls: the book, the commands that follow it, and its lines of text.
+//! Tests of a step's public calls: the book, and the commands that follow it.
 #![tactic(auto)]
 
 #[cfg(test)]
@@ -35,7 +35,5 @@ mod resets;
 mod rows;
 #[cfg(test)]
 mod shutting;
-#[cfg(test)]
-mod traces;
 #[cfg(test)]
 mod waking;

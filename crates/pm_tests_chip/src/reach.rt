@@ -2,7 +2,7 @@
 
 use crate::chip::chip;
 use crate::rows::all_right;
-use crate::topology_lists::{LINES, Lists, MASTERS, PROCS, Power, SLAVES, built};
+use crate::topology_lists::{LINES, Lists, MASTERS, POWERS, PROCS, Power, Procs, SLAVES, built};
 use pm_base::NodeId;
 use pm_object::{Object, has_key};
 use pm_objtext::build;
@@ -234,8 +234,8 @@ const EMPTY_DOMAIN: &[Power] = &[(9, None), (10, Some(0)), (8, Some(0))];
 
 const SMALL: Lists = (EMPTY_DOMAIN, PROCS, SLAVES, LINES, MASTERS);
 
-/// Master 6 may force a power node with nothing below it, or one that has all others and the processors of master 1
-/// below it.
+/// Master 6, which has a processor in common with master 1, may force a power node with nothing below it, or one that
+/// has all others and the processors of both below it.
 static EMPTY: [Case; 2] = [
     (
         "header
@@ -246,7 +246,11 @@ section power
 power 8 2
 ",
         6,
-        &[(MemberKind::Master, 6, Why::Myself, &[6])],
+        &[
+            (MemberKind::Master, 6, Why::Myself, &[6]),
+            (MemberKind::Power, 9, Why::Above, &[6]),
+            (MemberKind::Power, 10, Why::Above, &[6]),
+        ],
     ),
     (
         "header
@@ -272,5 +276,41 @@ power 9 2
 fn a_power_node_with_nothing_below_is_never_reached(rt: HostRuntime) -> Result<(), Fail> {
     let small = Box::new(rt.alloc(), built(rt.alloc(), &SMALL)?)?;
     all_right(&rt, wrong_case(rt.alloc(), &small, &EMPTY)?);
+    Ok(())
+}
+
+/// Masters 1 and 7 both have processor 3.
+const SHARED: Lists = (
+    POWERS,
+    PROCS,
+    SLAVES,
+    LINES,
+    &[(1, Procs::Both), (7, Procs::One), (8, Procs::Nobody)],
+);
+
+/// Master 8 may force processor 3, and so each master that has it.
+static OWNERS: [Case; 1] = [(
+    "header
+section masters
+master 1 1 100 0 0
+master 7 256 100 0 0
+master 8 512 100 0 0
+section power
+power 3 512
+",
+    8,
+    &[
+        (MemberKind::Master, 1, Why::Force, &[8, 1]),
+        (MemberKind::Master, 7, Why::Force, &[8, 7]),
+        (MemberKind::Master, 8, Why::Myself, &[8]),
+        (MemberKind::Power, 9, Why::Above, &[8, 1]),
+        (MemberKind::Power, 10, Why::Above, &[8, 1]),
+    ],
+)];
+
+#[test]
+fn each_master_that_has_a_processor_is_reached_by_it(rt: HostRuntime) -> Result<(), Fail> {
+    let shared = Box::new(rt.alloc(), built(rt.alloc(), &SHARED)?)?;
+    all_right(&rt, wrong_case(rt.alloc(), &shared, &OWNERS)?);
     Ok(())
 }

@@ -110,9 +110,9 @@ static FOUR: [(&[Master], u32, &[Row]); 2] = [
             (MemberKind::Master, 1, Why::Suspend, &[6, 1]),
             (MemberKind::Master, 6, Why::Myself, &[6]),
             (MemberKind::Power, 1, Why::Above, &[6, 1]),
-            (MemberKind::Power, 6, Why::Above, &[6, 1, 8]),
+            (MemberKind::Power, 6, Why::Above, &[6]),
             (MemberKind::Power, 10, Why::Above, &[6, 1]),
-            (MemberKind::Power, 62, Why::Above, &[6, 1, 8]),
+            (MemberKind::Power, 62, Why::Above, &[6]),
         ],
     ),
     // two paths of one length to master 8: that by way of the earlier master of the object, for its reason

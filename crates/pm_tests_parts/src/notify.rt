@@ -22,7 +22,7 @@ enum Deed {
     Takes(usize, u32, Note),
     /// Nothing waits for a master.
     Empty(usize),
-    /// A master's mail is cleared.
+    /// A master's notes are cleared.
     Clear(usize),
 }
 
