@@ -1,0 +1,361 @@
+"""A fault in words: what is wrong where the exit of the program isn't 0, and in which file, line or word.
+
+The numbers are the program's own: of a bad object those of `print`, of a bad text those of `build`. Which line of a
+script is bad is looked for in the script, by the same table of lines and causes, since a run can be long.
+"""
+import errno
+import os
+import stat
+import subprocess
+
+from forms import (
+    BAD_LINE, BAD_OBJECT, BAD_TEXT, FORMS, LIMITS, NO_MEMORY, TOO_LARGE, UNREADABLE, UNWRITABLE, USAGE, files_of, form_of,
+)  # fmt: skip
+from lines import EVENTS, RECORDS, count, first_fault, form_fault, like, number_of, words_of
+
+SECTIONS = {
+    0x101: "masters", 0x102: "slaves", 0x103: "prealloc", 0x104: "power", 0x105: "reset", 0x106: "shutdown",
+    0x107: "config", 0x108: "gpo",
+}  # fmt: skip
+# The section in which a record of an object's text stands.
+HOMES = {
+    "master": "masters", "slave": "slaves", "group": "prealloc", "prefer": "prealloc", "power": "power", "reset": "reset",
+    "shutdown": "shutdown", "config": "config", "gpo": "gpo",
+}  # fmt: skip
+STANDARD_INPUT = "/dev/stdin"
+HELP = "./pmu --help has the forms"
+# The first words that the wrapper takes besides those of the program.
+OTHER_WORDS = ("--prove", "--proved", "--help", "--version", "--names", "--numbers", "--vcd", "--dot", "from-c", "lint", "policy", "diff")
+
+
+class Run:
+    """A run of the program that failed: its words as they were given to it, and as the caller wrote them."""
+
+    def __init__(self, program, words, written):
+        self.program, self.words, self.written = program, words, written
+        self.files = [(words[k], name_of(written[k]), kind) for k, kind in files_of(words)]
+
+    def file(self, wanted):
+        """The path and the name of the file of this kind."""
+        return next((path, name) for path, name, kind in self.files if kind == wanted)
+
+
+def name_of(word):
+    """What a file is called in what is said of it."""
+    return "standard input" if word in ("-", STANDARD_INPUT) else word
+
+
+def content(path, limit):
+    """The first bytes of a file; None if it can't be read, or only once, as a pipe."""
+    try:
+        if stat.S_ISFIFO(os.stat(path).st_mode):
+            return None
+        with open(path, "rb") as file:
+            return file.read(limit)
+    except OSError:
+        return None
+
+
+def written_by(program, *words):
+    """What the program writes for these words."""
+    # (a file among them may be one that is open here alone)
+    how = {"stdout": subprocess.PIPE, "stderr": subprocess.DEVNULL, "close_fds": False}
+    return subprocess.run([program, *words], **how).stdout
+
+
+def last_line(program, *words):
+    """The words of the last line that the program writes for these words."""
+    return written_by(program, *words)[-100:].decode("latin-1").strip().rpartition("\n")[2].split()
+
+
+def first_words(data):
+    """The words of the first line of a text that has any."""
+    return next(filter(None, (words_of(line) for line in data[:4096].split(b"\n"))), [])
+
+
+def kind_of(data):
+    """What a file of bytes looks like, in words, or None."""
+    word = (first_words(data) or [""])[0]
+    if not data:
+        return "is empty"
+    if data.startswith(b"\x7fELF"):
+        return "is an ELF file"
+    if b"XPm_ConfigObject" in data:
+        return "is a C file"
+    if word == "fault" and len(data) < 40:
+        return f"has nothing but the fault line of an earlier run, '{data.decode('latin-1').strip()}'"
+    if len(data) >= 8 and data[4:8] == b"\x01\x00\x00\x00" or data[8:12] == b"\x01\x00\x00\x00":
+        return "is an object"
+    if word in ("header", "section", "master"):
+        return "is the text of an object"
+    if word in EVENTS:
+        return "is a script"
+    if all(byte in b"\t\n\r" or 0x20 <= byte <= 0x7E for byte in data[:256]):
+        return "is a text"
+    return None
+
+
+def misplaced(name, data, wanted):
+    """The sentence for a file of another kind than is wanted, or None."""
+    kind = kind_of(data)
+    word = "-" if name == name_of(STANDARD_INPUT) else name
+    advice = {
+        ("is the text of an object", "an object"): f": ./pmu build {word} -o FILE makes its object",
+        ("is an object", "the text of an object"): f": ./pmu print {word} writes its text",
+        ("is a C file", "an object"): f": ./pmu from-c {word} -o FILE makes its object",
+        ("is an object", "a script"): "; the object comes before the script",
+        ("is a script", "an object"): "; the object comes before the script",
+    }
+    return kind and kind != wanted_kind(wanted) and f"{name} {kind}, and {wanted} is wanted" + advice.get((kind, wanted), "")
+
+
+def wanted_kind(wanted):
+    return f"is {wanted}"
+
+
+def usage(run):
+    written = run.written
+    if not written:
+        return f"no words are given: {HELP}"
+    first = written[0]
+    if first not in FORMS:
+        return f"no form begins with '{first}'{like(first, (*FORMS, *OTHER_WORDS))}: {HELP}"
+    if form_of(written):
+        return "the program reads no word that isn't UTF-8: " + next(word for word in written if not word.isascii())
+    names = FORMS[first]
+    given = len(written) - 1
+    return f"'{first}' takes {' '.join(names)}, which is {count(len(names), 'word')}, and {given} {'is' if given == 1 else 'are'} given"
+
+
+def object_causes(word, offset, size):
+    """The sentence of each cause of a bad object at an offset in words, with the word that stands there."""
+    return {
+        1: f"its {size} bytes are no whole number of words of four bytes",
+        2: f"it has more than {LIMITS['OBJ']} bytes",
+        3: f"it ends after {count(offset, 'word')}, in the middle of a section or of the header",
+        4: f"word 0: the header says {word}, and has at least 2 words after this one",
+        5: f"word {offset}: the type of the object is {word}, and only 1 is read",
+        6: f"word {offset}: no such section: {word:#x}",
+        7: f"word {offset}: the section {SECTIONS.get(word, word)} came before",
+        8: f"word {offset}: the first section has to be that of the masters, with one master or more",
+        9: f"word {offset}: node {word} is no master here (1, 6, 7 and 8 are, and 6 not beside 7 or 8)",
+        10: f"word {offset}: the mask {word:#x} isn't one bit that no earlier master has",
+        11: f"word {offset}: an earlier record of the section has {word} too",
+        12: f"word {offset}: the object has all its sections before it, and {count(size // 4 - offset, 'word')} too many",
+    }
+
+
+def bad_object(run):
+    path, name = run.file("OBJ")
+    data = content(path, LIMITS["OBJ"] + 1)
+    if data is None:
+        return f"{name}: the object has no reading, as the fault line says (it can't be read again for more)"
+    said = last_line(run.program, "print", path)
+    if said[:2] != ["fault", "object"] or len(said) != 4:
+        return f"{name}: the object had no reading, and has one now"
+    cause, offset = int(said[2]), int(said[3])
+    other = misplaced(name, data, "an object")
+    if other:
+        return other
+    word = int.from_bytes(data[4 * offset : 4 * offset + 4], "little")
+    header = int.from_bytes(data[:4], "little")
+    if cause == 3 and header >= offset > 0:
+        sentence = f"word 0: the header says {count(header, 'word')} after it, and the file has {offset - 1}"
+    else:
+        sentence = object_causes(word, offset, len(data))[cause]
+    turned = int.from_bytes(data[:4], "big") < 64 <= header
+    hint = " (its words have the most significant byte first, and an object's have it last)" if turned else ""
+    return f"{name}: {sentence}{hint}"
+
+
+def bad_line(run):
+    path, name = run.file("SCRIPT")
+    data = content(path, LIMITS["SCRIPT"] + 1)
+    found = data and first_fault(data)
+    if not found:
+        return f"{name}: a line has no meaning, as the fault line says (the script can't be read again for more)"
+    number, cause, sentence = found
+    kind = kind_of(data)
+    if cause in (4, 5) and kind in ("is an object", "is an ELF file") or cause == 1 and kind in ("is a C file", "is the text of an object"):
+        return misplaced(name, data, "a script")
+    if number == 1 and data.startswith(b"\xef\xbb\xbf"):
+        sentence = "the file begins with a byte order mark, and only ASCII is read"
+    return f"{name}:{number}: {sentence}"
+
+
+def unread(path, name):
+    """Why a file can't be read, or None if it can."""
+    if name == path and not os.path.lexists(path):
+        folder, wanted = os.path.split(path)
+        try:
+            near = like(wanted, os.listdir(folder or "."))
+        except OSError:
+            near = ""
+        return f"no file {name or repr(name)}{near}"
+    try:
+        if stat.S_ISFIFO(os.stat(path).st_mode):
+            return None
+        with open(path, "rb") as file:
+            file.read(1)
+    except IsADirectoryError:
+        return f"{name} is a folder, and no file"
+    except OSError as fault:
+        return f"{name} can't be read: {fault.strerror}"
+    return None
+
+
+def unreadable(run):
+    whys = [unread(path, name) for path, name, _ in run.files]
+    path, name, _ = run.files[0]
+    if whys[0] and number_of(path) is not None and "NODE" in FORMS[run.words[0]]:
+        return f"no file {name}: '{run.words[0]}' takes {' '.join(FORMS[run.words[0]])}, in this order"
+    return next(filter(None, whys), f"{' or '.join(name for _, name, _ in run.files)} couldn't be read to its end")
+
+
+def unwritable(target):
+    """Why the output couldn't be written: a write of nothing new tells it, if it still can't be."""
+    name = target.name if target else "standard output"
+    try:
+        os.write(target.number if target else 1, b"\n" if target or not os.isatty(1) else b"")
+    except OSError as fault:
+        return not_written(name, fault)
+    return f"{name} couldn't be written to its end"
+
+
+def not_written(name, fault):
+    """What is said of an output by the fault of a write."""
+    why = "whoever read it has gone" if fault.errno == errno.EPIPE else fault.strerror
+    return f"{name} can't be written: {why}"
+
+
+def too_large(run):
+    path, name = run.file("SCRIPT")
+    return f"{name}: the script has more than {LIMITS['SCRIPT']} bytes"
+
+
+def section_before(lines):
+    """The section that is open after these lines of an object's text, and the number of its line."""
+    for number in range(len(lines), 0, -1):
+        words = words_of(lines[number - 1])
+        if words[:1] == ["section"]:
+            return words[1], number
+    return None, 0
+
+
+def same_before(lines, words):
+    """The number of an earlier line that a repeated line of an object's text repeats."""
+    for number in range(len(lines), 0, -1):
+        earlier = words_of(lines[number - 1])
+        if earlier[:1] == words[:1] and keys(earlier) == keys(words):
+            return number
+    return 0
+
+
+def keys(words):
+    return [number_of(word) if number_of(word) is not None else word for word in words[:2]]
+
+
+def out_of_place(before, words):
+    section, at = section_before(before)
+    begun = any(words_of(line) for line in before)
+    first = words[0] if words else ""
+    if not begun and first != "header":
+        return "the line is out of place: a header line comes first"
+    if first == "header":
+        return "the line is out of place: a header line stands at the head, and a further one only after one of 16 words"
+    if section in ("config", "gpo") and (first in ("section", "") or HOMES.get(first) != section):
+        filled = any(words_of(line) for line in before[at:])
+        if not filled:
+            return f"the line is out of place: the section {section} of line {at} has no record yet"
+    home = HOMES.get(first)
+    if home == section and first == "prefer":
+        return "the line is out of place: 'prefer' stands after a 'group'"
+    if home == section:
+        return f"the line is out of place: the section {section} has its one record already"
+    where = f"in the section {section}" if section else "before the first section"
+    return f"the line is out of place: '{first}' stands in the section {home}, and this is {where}"
+
+
+def not_of_masters(before, words):
+    section, at = section_before(before)
+    if words[:1] == ["master"]:
+        node, mask = number_of(words[1]), number_of(words[2])
+        nodes = [number_of(words_of(line)[1]) for line in before if words_of(line)[:1] == ["master"]]
+        split = node == 6 and {7, 8} & {*nodes} or node in (7, 8) and 6 in nodes
+        if node not in (1, 6, 7, 8):
+            return f"node {node} is no master: 1, 6, 7 and 8 are"
+        if split:
+            return f"master {node} can't stand beside master {' and '.join(str(it) for it in nodes if it != 1)}"
+        return f"the mask {mask:#x} of master {node} isn't one bit that no earlier master has"
+    if section:
+        return f"the section masters of line {at} has no master"
+    return "the first section has to be that of the masters"
+
+
+def text_cause(cause, before, line, is_end):
+    """The sentence of a cause of a bad text at a line, with the lines before it."""
+    words = words_of(line)
+    if cause == 1:
+        return form_fault(line)
+    if cause == 2 and is_end and not any(words_of(it) for it in before):
+        return "the text has no header"
+    if cause == 2:
+        return out_of_place(before, words)
+    if cause == 3:
+        what = " ".join(words[:2])
+        return f"'{what}' came before, in line {same_before(before, words)}"
+    if cause == 4:
+        return "the text has no section of masters" if is_end and not section_before(before)[0] else not_of_masters(before, words)
+    return f"the object has more than {LIMITS['OBJ'] // 4} words by this line"
+
+
+def no_master(run):
+    path, name = run.file("OBJ")
+    lines = (words_of(line) for line in written_by(run.program, "print", path).split(b"\n"))
+    nodes = [words[1] for words in lines if words[:1] == ["master"]]
+    has = f"{name} (it has {' and '.join([', '.join(nodes[:-1]), nodes[-1]] if nodes[1:] else nodes)})" if nodes else name
+    node = number_of(run.words[-1])
+    if node is None or node >= 1 << 32:
+        return f"'{run.words[-1]}' is no number of a master of {has}"
+    return f"node {node} is no master of {has}"
+
+
+def bad_text(run):
+    path, name = run.file("TEXT")
+    data = content(path, LIMITS["TEXT"] + 1)
+    if data is None:
+        return f"{name}: the text has no meaning, as the fault line says (it can't be read again for more)"
+    said = last_line(run.program, "build", path)
+    if said[:2] != ["fault", "text"] or len(said) != 4:
+        return f"{name}: the text had no meaning, and has one now"
+    number, cause = int(said[2]), int(said[3])
+    kind = kind_of(data)
+    if number == 0:
+        return f"{name}: the text has more than {LIMITS['TEXT']} bytes"
+    if cause == 1 and kind in ("is an object", "is an ELF file", "is a C file", "is a script") or kind == "is empty":
+        return misplaced(name, data, "the text of an object")
+    if cause == 1 and number == 1 and data.startswith(b"\xef\xbb\xbf"):
+        return f"{name}:1: the file begins with a byte order mark, and only ASCII is read"
+    lines = data.split(b"\n")
+    if not lines[-1]:
+        lines.pop()
+    is_end = number > len(lines)
+    line = b"" if is_end else lines[number - 1]
+    where = f"{name}:{number}{' (its end)' if is_end else ''}"
+    return f"{where}: {text_cause(cause, lines[: number - 1], line, is_end)}"
+
+
+def sentence(program, words, written, status, target):
+    """What is wrong, in one line, after a run of the program with these words that ended so."""
+    run = Run(program, words, written)
+    if status == UNWRITABLE:
+        return unwritable(target)
+    if status == NO_MEMORY:
+        return "there isn't enough memory"
+    if status == BAD_TEXT and form_of(words) and words[0] != "build":
+        return no_master(run)
+    tell = {
+        USAGE: usage, BAD_OBJECT: bad_object, BAD_LINE: bad_line, UNREADABLE: unreadable, TOO_LARGE: too_large,
+        BAD_TEXT: bad_text,
+    }  # fmt: skip
+    return tell[status](run) if status in tell else f"the program ended with {status}, which is none of its exits"
