@@ -1,0 +1,299 @@
+"""`--names FORM..`: what the program writes, with the meaning of each line behind it.
+
+The lines stay as they are. Behind each one comes a comment, all in one column, which the program reads over where the
+lines are the text of an object. The script, the text and NODE may be written with names.
+"""
+
+import os
+import sys
+import tempfile
+
+import names
+import steps
+import to_numbers
+from program import BadUse, read_file, run, run_text, write_file
+
+LONGEST = 255  # bytes of a line of a text
+WIDEST = 40  # no column of comments begins further right
+
+
+def master_masks(lines):
+    """The mask of each master of the text of an object."""
+    records = [list(map(int, line.split()[1:])) for line in lines if line.startswith("master ")]
+    return {node: mask for node, mask, *_ in records}
+
+
+def masters_in(mask, masters):
+    """The masters whose bits a mask has, as names; bits of no master as a number."""
+    found = [names.node_name(node) for node, bits in masters.items() if bits & mask]
+    rest = mask & ~sum(masters.values())
+    return ", ".join(found + [f"{rest:#x} of no master"] * (rest != 0)) or "nobody"
+
+
+def capabilities(word):
+    return names.capabilities(word) if word else "nothing"
+
+
+# The text of an object.
+
+
+def meaning_of_master(masters, node, _mask, timeout, suspend, wake):
+    said = [names.node_name(node) + ":", f"may suspend {masters_in(suspend, masters)}"]
+    said += [f"and wake {masters_in(wake, masters)}"] + ["(no timeout)"] * (timeout == 0xFFFFFFFF)
+    return " ".join(said)
+
+
+def meaning_of_slave(masters, node, flags, mask):
+    return f"{named_node(node)}: {masters_in(mask, masters)}" + "; shareable" * (flags & 1)
+
+
+def meaning_of_prefer(_masters, node, flags, current, preset):
+    use = "in use with " if flags & 2 else "not in use, "
+    return f"{named_node(node)}: {use}{capabilities(current)}; preset {capabilities(preset)}"
+
+
+def named_node(node):
+    return names.node_name(node) + ", which the table lacks" * (not names.is_in_table(node))
+
+
+def named_line(line):
+    return names.line_name(line) + ", which the table lacks" * (not names.is_line(line))
+
+
+MEANING_OF_RECORD = {
+    "master": meaning_of_master,
+    "slave": meaning_of_slave,
+    "group": lambda masters, mask: masters_in(mask, masters),
+    "prefer": meaning_of_prefer,
+    "power": lambda masters, node, mask: f"{named_node(node)}: {masters_in(mask, masters)}",
+    "reset": lambda masters, line, mask: f"{named_line(line)}: {masters_in(mask, masters)}",
+    "shutdown": lambda masters, subtype, mask: f"{names.word_name('shutdown subtype', subtype)}: {masters_in(mask, masters)}",
+    "config": lambda masters, base, overlay: f"base {masters_in(base, masters)}; overlay {masters_in(overlay, masters)}",
+}
+
+
+def meanings_of_text(lines):
+    """What the lines of `print` mean."""
+    masters = master_masks(lines)
+    for line in lines:
+        word, *rest = line.split()
+        meaning = MEANING_OF_RECORD.get(word)
+        yield meaning(masters, *map(int, rest)) if meaning else ""
+
+
+# The text of a reach and of a comparison.
+
+WHY_MASTER = {
+    "suspend": "may suspend it",
+    "wake": "may wake it",
+    "force": "may force a processor of it down, or what is above one or above a slave of it",
+    "reset": "may reset a processor of it",
+    "shutdown": "may shut down all",
+    "config": "may set the configuration",
+}
+WHY_UNIT = {"use": "may use it", "force": "may force a power node above it down", "reset": "may reset it"}
+
+
+def meaning_of_reached(line):
+    """A line of a reach or of a comparison."""
+    kind, *rest = line.split()
+    if kind == "differ":
+        return named(rest[0], int(rest[1]))
+    if kind == "steps":
+        return ""
+    node, reason, path = int(rest[0]), rest[1], [names.node_name(int(master)) for master in rest[2:]]
+    if reason == "self":
+        return names.node_name(node)
+    if kind == "master":
+        return f"{names.node_name(node)}: {' -> '.join(path[:-1])} {WHY_MASTER[reason]}"
+    why = "has a processor or brings in a slave below it" if reason == "above" else WHY_UNIT[reason]
+    return f"{named(kind, node)}: {' -> '.join(path)} {why}"
+
+
+def named(kind, number):
+    """A unit by its kind: `slave`, `power`, `proc`, `line`."""
+    return f"reset line {names.line_name(number)}" if kind == "line" else names.node_name(number)
+
+
+# The output of a replay.
+
+
+def message_of(line):
+    """The message of a line of a script, as numbers: the master, the call and its words. None of any other line."""
+    words = [word for _, word in to_numbers.words_of(line)]
+    if not words or words[0] != "ipi":
+        return None
+    numbers = [to_numbers.value_of(word) for word in words[1:]]
+    return numbers + [0] * (7 - len(numbers))
+
+
+def is_answered(message):
+    """Whether the message gets a reply in its own step, as far as its words say."""
+    _, api, *words = message
+    arguments = getattr(names.CALLS.get(api), "arguments", None) or ()
+    return "ack" not in arguments or words[arguments.index("ack")] not in (1, 3)
+
+
+def answers(lines, messages):
+    """The places of the replies that answer the message of their own line; all others are late."""
+    last = {}
+    for place, words in enumerate(lines):
+        if words[0] != "end" and words[1] == "reply":
+            message = messages.get(int(words[0]))
+            if message and int(words[2]) == message[0] and is_answered(message):
+                last[words[0]] = place
+    return set(last.values())
+
+
+USAGE = {0: "used by nobody", 1: "used by it alone", 2: "used by others", 3: "used by it and others"}
+
+
+def meaning_of_words(message, words):
+    """The three words of the answer to a message that was accepted."""
+    _, api, node, *rest = message
+    kind = names.NODES[node].kind if node in names.NODES else None
+    if api == 1:
+        return [f"version {words[0] >> 16}.{words[0] & 0xFFFF}"]
+    if api == 3 and kind == "processor":
+        return [names.MODES[words[0]]]
+    if api == 3 and kind == "power":
+        return [names.state_name(node, words[0])]
+    if api == 3:
+        return [names.state_name(node, words[0]), "requires " + capabilities(words[1]), USAGE[words[2]]]
+    if api == 4:
+        return [f"{'power' if rest[0] == 1 else 'latency'} {words[0]}"]
+    if api == 18:
+        return ["asserted" if words[0] else "released"]
+    return []
+
+
+def meaning_of_answer(message, status, words):
+    """The answer to a message: its status, and the words that it has."""
+    said = [names.status_words(status)]
+    if status == 0:
+        said += meaning_of_words(message, words)
+    elif status == 2007:
+        said += [f"by {names.node_name(words[0])}"]
+    return ", ".join(said).replace("node used, by", "node used by")
+
+
+def point_of(node, value):
+    """The operating point of a node: its state, or the mode of a processor."""
+    if node in names.NODES and names.NODES[node].kind == "processor":
+        return names.MODES.get(value, str(value))
+    return names.state_name(node, value)
+
+
+def meaning_of_callback(callback, words):
+    name = names.callback_name(callback)
+    if callback == 30:
+        reason = names.word_name("suspend reason", words[0])
+        return f"{name}: {reason}, latency {words[1]}, state {words[2]}, timeout {words[3]}"
+    node = names.node_name(words[0])
+    what = names.status_words(words[1]) if callback == 31 else names.word_name("event", words[1])
+    return f"{name} {node}: {what}" + (f", {point_of(words[0], words[2])}" if names.is_in_table(words[0]) else "")
+
+
+def meaning_of_command(kind, unit, _before, value):
+    if kind in ("line", "linefail"):
+        said = f"reset line {names.line_name(unit)} {'asserted' if value else 'released'}"
+    else:
+        said = f"{names.node_name(unit)} {names.state_name(unit, value)}"
+    return said + ": refused by the device" * kind.endswith("fail")
+
+
+def meaning_of_end(kind, unit, value, kept):
+    """A line of the closing table."""
+    if kind == "line":
+        return f"reset line {names.line_name(unit)} {'asserted' if value else 'released'}"
+    shown = names.MODES[value] if kind == "proc" else names.state_name(unit, value)
+    agrees = (value in (1, 3)) == (kept == 1) if kind == "proc" else value == kept
+    return f"{names.node_name(unit)} {shown}" + f"; the device has {names.state_name(unit, kept)}" * (not agrees)
+
+
+def meanings_of_replay(lines, script):
+    """What the lines of `replay` mean; `script` is in numbers."""
+    split = [line.split() for line in lines]
+    messages = {number: message_of(line) for number, line in enumerate(script, 1)}
+    answered = answers(split, messages)
+    for place, (step, kind, *rest) in enumerate(split):
+        words = list(map(int, rest)) if step != "end" else []
+        if step == "end":
+            yield meaning_of_end(kind, *map(int, rest))
+        elif kind == "run":
+            yield f"{names.node_name(words[0])} starts at {words[1]:#x}"
+        elif kind == "drop":
+            yield f"{names.node_name(words[0])} isn't heard"
+        elif kind == "call":
+            yield f"{names.node_name(words[0])}: {meaning_of_callback(words[1], words[2:])}"
+        elif kind == "reply" and place in answered:
+            yield f"{names.node_name(words[0])}: {meaning_of_answer(messages[int(step)], words[1], words[2:])}"
+        elif kind == "reply":
+            yield f"{names.node_name(words[0])}: its request to suspend ended with {names.status_words(words[1])}"
+        else:
+            yield meaning_of_command(kind, *words)
+
+
+# The forms.
+
+
+def put_together(lines, meanings):
+    """The lines with their meanings behind them, in one column."""
+    column = min(max(map(len, lines), default=0) + 2, WIDEST)
+    for line, meaning in zip(lines, meanings):
+        whole = f"{line:<{column - 2}}  # {meaning}"
+        yield whole if meaning and len(whole) <= LONGEST else line
+
+
+def node_in_numbers(word):
+    number = names.number_of("node", word)
+    return word if number is None else str(number)
+
+
+def translated(name, room):
+    """A file in numbers: its content, and a file in the folder `room` that has it."""
+    content = to_numbers.in_numbers(read_file(name), name)
+    path = os.path.join(room, os.path.basename(name) or "file")
+    write_file(path, content)
+    return content, path
+
+
+def show(lines, meanings):
+    sys.stdout.write("".join(line + "\n" for line in put_together(lines, meanings)))
+
+
+def replay(room, obj, script):
+    content, path = translated(script, room)
+    lines = run_text(["replay", obj, path], ["replay", obj, script])
+    show(lines, meanings_of_replay(lines, steps.script_lines(content)))
+
+
+def reach(_room, obj, node):
+    lines = run_text(["reach", obj, node_in_numbers(node)], ["reach", obj, node])
+    show(lines, map(meaning_of_reached, lines))
+
+
+def isolate(room, obj, script, node):
+    words = ["isolate", obj, translated(script, room)[1], node_in_numbers(node)]
+    lines = run_text(words, ["isolate", obj, script, node])
+    show(lines, map(meaning_of_reached, lines))
+
+
+def print_text(_room, obj):
+    lines = run_text(["print", obj])
+    show(lines, meanings_of_text(lines))
+
+
+def build(room, text):
+    sys.stdout.buffer.write(run(["build", translated(text, room)[1]], ["build", text]))
+
+
+FORMS = {"replay": (replay, 2), "reach": (reach, 2), "isolate": (isolate, 3), "print": (print_text, 1), "build": (build, 1)}
+
+
+def main(words):
+    if not words or words[0] not in FORMS or len(words) - 1 != FORMS[words[0]][1]:
+        raise BadUse("--names is followed by replay, reach, isolate, print or build with its words, as in ./pmu --help")
+    with tempfile.TemporaryDirectory() as room:
+        FORMS[words[0]][0](room, *words[1:])
+    return 0

@@ -1,0 +1,237 @@
+"""`diff OBJ SCRIPT NODE`: a script with the messages of the master NODE and without them, side by side.
+
+In the second run each message of NODE is an empty line, so that lines keep their numbers. By step it shows what
+differs: units with the values from and to, starts, answers, callbacks and late replies. What is NODE's own comes after
+the rest: its processors, what no other master may use, and what it is told.
+"""
+
+import re
+import tempfile
+from typing import NamedTuple
+
+import annotate
+import names
+import objects
+import permits
+import program
+import steps
+import to_names
+import to_numbers
+
+USAGE = "usage: ./pmu diff OBJ SCRIPT NODE"
+
+NODE_USED, ACKNOWLEDGE = 2007, 31
+
+TITLES = {"answer": "answer to", "call": "callback to", "run": "start of"}
+REMARKS = ("DENIED", "REFUSED", "NOT HEARD")
+
+
+class Row(NamedTuple):
+    """What differs in a step: the two texts, empty where there is nothing."""
+
+    subject: tuple  # what it is about: a unit, or an answer or a callback with its master
+    with_it: str
+    without: str
+    remark: str
+
+
+def without_messages(content, node):
+    """A script in numbers with an empty line in place of each message of a master, and the numbers of those lines."""
+    lines, silenced = content.decode("latin-1").split("\n"), []
+    for place, line in enumerate(lines):
+        message = annotate.message_of(line)
+        if message and message[0] == node:
+            lines[place] = ""
+            silenced.append(place + 1)
+    return "\n".join(lines).encode("latin-1"), silenced
+
+
+# One run: what is in each of its steps.
+
+
+def value_name(unit, value):
+    if unit.kind == "line":
+        return "asserted" if value else "released"
+    return names.MODES[value] if permits.is_processor(unit.number) else names.state_name(unit.number, value)
+
+
+def moves_of(run):
+    """Of each step: what each unit that moves goes through, as values from the first to the last."""
+    now, moves = {}, []
+    for changes in run.changes:
+        moved = {}
+        for unit, value in changes:
+            moved.setdefault(unit, [now.get(unit, 0)]).append(value)
+            now[unit] = value
+        moves.append(moved)
+    return moves
+
+
+class Word(NamedTuple):
+    """A start, an answer or a callback."""
+
+    raw: str  # as the program writes it, without its step
+    shown: str
+    status: int  # of an answer, or -1
+
+
+def status_of(kind, words):
+    """The status of a reply or of an acknowledgement, or -1."""
+    if kind == "reply":
+        return words[1]
+    return words[3] if kind == "call" and words[1] == ACKNOWLEDGE else -1
+
+
+def words_of(run, script):
+    """Of each step: the starts, answers and callbacks by what they are about."""
+    found = [{} for _ in run.changes]
+    for line, meaning in zip(run.lines, annotate.meanings_of_replay(run.lines, script)):
+        step, kind, *rest = line.split()
+        if step != "end" and kind in ("run", "reply", "call", "drop"):
+            words = list(map(int, rest))
+            status = status_of(kind, words)
+            said = {"run": f"starts at {words[-1]:#x}", "drop": "not heard"}.get(kind) or meaning.split(": ", 1)[1]
+            shown = f"{status} {said}" if kind == "reply" else said
+            about = ("answer" if kind == "drop" else kind.replace("reply", "answer"), words[0])
+            found[int(step)].setdefault(about, []).append(Word(" ".join([kind, *rest]), shown, status))
+    return found
+
+
+# Two runs side by side.
+
+
+def joined(words, others):
+    """What is shown of starts, answers or callbacks: the program's own words if those of the others look the same."""
+    shown, beside = [word.shown for word in words], [word.shown for word in others]
+    return "; ".join([word.raw for word in words] if shown == beside else shown)
+
+
+def remark_of(words, others):
+    """What became of a message that succeeds without the messages of the master, where it doesn't with them."""
+    statuses = [word.status for word in words]
+    given = [word.status for word in others]
+    if 0 not in given or 0 in statuses:
+        return ""
+    denied, refused, unheard = REMARKS
+    if NODE_USED in statuses:
+        return denied
+    return refused if any(status > 0 for status in statuses) else unheard if words else ""
+
+
+def rows_of_units(moves, others):
+    """What differs in the values of units."""
+    for unit in {**moves, **others}:
+        texts = [" -> ".join(value_name(unit, value) for value in run.get(unit, [])) for run in (moves, others)]
+        if texts[0] != texts[1]:
+            yield Row((unit.kind, unit.number), *texts, "")
+
+
+def rows_of_words(words, others):
+    """What differs in starts, answers and callbacks."""
+    for about in {**words, **others}:
+        ours, theirs = words.get(about, []), others.get(about, [])
+        if [word.raw for word in ours] != [word.raw for word in theirs]:
+            yield Row(about, joined(ours, theirs), joined(theirs, ours), remark_of(ours, theirs))
+
+
+def rows_of_steps(runs, scripts):
+    """Of each step, what differs."""
+    moves = [moves_of(run) for run in runs]
+    words = [words_of(run, script) for run, script in zip(runs, scripts)]
+    for step in range(len(runs[0].changes)):
+        yield [*rows_of_units(*(run[step] for run in moves)), *rows_of_words(*(run[step] for run in words))]
+
+
+# What belongs to the master.
+
+
+def users(found, number):
+    """The masters that have a processor, may use a slave, or do so below a power node."""
+    if permits.is_power(number):
+        below = [node for node in names.NODES if names.is_in_table(node) and permits.is_above(number, node)]
+        return {user for node in below for user in users(found, node)}
+    if permits.is_processor(number):
+        return {permits.owner(found, number)} - {None}
+    return {node for node, record in permits.masters(found).items() if number in permits.slaves_of(found, record.mask)}
+
+
+def is_own(found, node, subject):
+    """Whether a unit is of the master alone, or an answer or callback is to it."""
+    kind, number = subject
+    if kind in ("answer", "call"):
+        return number == node
+    return users(found, number) == {node}
+
+
+# The text.
+
+
+def title(subject):
+    """What a row is about, with the words that a comparison has for units."""
+    kind, number = subject
+    if kind == "line":
+        return f"line {names.line_name(number)}"
+    if kind == "node":
+        kind = "proc" if permits.is_processor(number) else "power" if permits.is_power(number) else "slave"
+    return f"{TITLES.get(kind, kind)} {names.node_name(number)}"
+
+
+def step_title(step, script):
+    """A step by its number and its line, with names."""
+    if step == 0:
+        return "step 0: the load"
+    return f"step {step}: {to_names.line_in_names(script[step - 1], {}) or 'no event'}"
+
+
+def table(steps_with_rows, script):
+    """The rows of each step, in columns."""
+    rows = [row for _, of_step in steps_with_rows for row in of_step]
+    first = max((len(title(row.subject)) for row in rows), default=0)
+    second = max([len(row.with_it) for row in rows] + [1])
+    third = max([len(row.without) for row in rows] + [1])
+    for step, of_step in steps_with_rows:
+        yield step_title(step, script)
+        for row in of_step:
+            cells = f"  {title(row.subject):<{first}}  {row.with_it or '-':<{second}} | {row.without or '-':<{third}}"
+            yield f"{cells}  {row.remark}".rstrip()
+
+
+def part(name, steps_with_rows, script):
+    """One of the two parts of the text."""
+    return [name + (":" if steps_with_rows else ": nothing differs"), *table(steps_with_rows, script)]
+
+
+def text(found, node, rows, script, silenced):
+    """The text: of others, and then of the master itself. Answers to its own messages differ, and aren't shown."""
+    others, own = [], []
+    for step, of_step in enumerate(rows):
+        told = [row for row in of_step if step not in silenced or row.subject not in (("answer", node), ("call", node))]
+        for kept, part_of in ((others, False), (own, True)):
+            ours = [row for row in told if is_own(found, node, row.subject) == part_of]
+            if ours:
+                kept.append((step, ours))
+    name = names.node_name(node)
+    yield f"with the {len(silenced)} messages of {name} | without them"
+    yield from part("of others", others, script)
+    yield from part(f"of {name} alone", own, script)
+    remarks = [row.remark for _, of_step in others for row in of_step]
+    counts = [f"{remarks.count(remark)} {remark.lower()}" for remark in REMARKS]
+    yield f"successes that others lose: {', '.join(counts)}"
+
+
+def main(words):
+    if len(words) != 3:
+        raise program.BadUse(USAGE)
+    path, file, word = words[0], words[1], annotate.node_in_numbers(words[2])
+    with tempfile.TemporaryDirectory() as room:
+        content, script = annotate.translated(file, room)
+        # (it judges all three, and what it says of a fault is handed on)
+        program.run(["isolate", path, script, word], ["isolate", path, file, words[2]])
+        node, found = to_numbers.value_of(word), objects.read(path)
+        first = re.sub(rb"\r(?=\n|\Z)", b"", content)
+        second, silenced = without_messages(first, node)
+        runs = [steps.steps_of(path, each, room) for each in (first, second)]
+    scripts = [steps.script_lines(each) for each in (first, second)]
+    shown = text(found, node, list(rows_of_steps(runs, scripts)), scripts[0], silenced)
+    print("".join(line + "\n" for line in shown), end="")
+    return 0

@@ -1,0 +1,95 @@
+"""The words `-o FILE`, and the file: it takes what was written only if the exit is 0."""
+
+import os
+import stat
+
+from forms import NOT_RUN, UNWRITABLE
+
+
+class Refused(Exception):
+    """Why nothing is run or put into the file, and the exit for it."""
+
+    def __init__(self, sentence, status=NOT_RUN):
+        super().__init__(sentence)
+        self.status = status
+
+
+class Target:
+    """The file of `-o`: written beside its name, and moved there at the end."""
+
+    def __init__(self, name):
+        # (a link stays, and what it names is replaced)
+        self.name, self.path, self.beside = name, os.path.realpath(name), None
+        if name == "-":
+            raise Refused("standard output is written without -o (a file of that name is ./-)")
+        if not name:
+            raise Refused("-o is followed by an empty name")
+        try:
+            mode = os.stat(name).st_mode if os.path.exists(name) else stat.S_IFREG | 0o666 & ~umask()
+            if stat.S_ISDIR(mode):
+                raise Refused(f"{name} is a folder, and no file can be written there", UNWRITABLE)
+            if name.endswith("/"):
+                raise Refused(f"{name} ends with / and is no folder", UNWRITABLE)
+            if stat.S_ISREG(mode):
+                import tempfile  # (which takes a moment)
+
+                # (the name beside it isn't longer than any that a folder takes)
+                self.number, self.beside = tempfile.mkstemp(prefix=".pmu.", dir=os.path.dirname(self.path))
+                os.fchmod(self.number, stat.S_IMODE(mode))
+            else:
+                # (a device or a pipe can't be replaced: what was written is copied to it)
+                self.path, self.number = name, os.memfd_create("output")
+        except OSError as fault:
+            self.drop()
+            raise self.unwritable(fault) from fault
+
+    def put(self, data):
+        """Puts these bytes where they belong."""
+        try:
+            with open(self.number, "wb", closefd=False) as file:
+                file.write(data)
+        except OSError as fault:
+            raise self.unwritable(fault) from fault
+        self.take()
+
+    def take(self):
+        """Puts what was written where it belongs."""
+        try:
+            if self.beside:
+                os.fsync(self.number)
+                os.rename(self.beside, self.path)
+                self.beside = None
+            else:
+                with open(self.path, "wb") as file, open(self.number, "rb", closefd=False) as written:
+                    written.seek(0)
+                    file.write(written.read())
+        except OSError as fault:
+            raise self.unwritable(fault) from fault
+
+    def drop(self):
+        """Removes what was written, if it isn't where it belongs."""
+        if self.beside and os.path.lexists(self.beside):
+            os.unlink(self.beside)
+
+    def unwritable(self, fault):
+        return Refused(f"{self.name} can't be written: {fault.strerror}", UNWRITABLE)
+
+
+def umask():
+    mask = os.umask(0)
+    os.umask(mask)
+    return mask
+
+
+def take_words(words):
+    """Takes `-o FILE` out of the words, and gives FILE, or None if they haven't it."""
+    places = [k for k, word in enumerate(words) if word == "-o"]
+    if not places:
+        return None
+    if len(places) > 1:
+        raise Refused("-o is given more than once (a file of that name is ./-o)")
+    if places[0] + 1 == len(words):
+        raise Refused("-o is the last word, and no file follows it")
+    name = words[places[0] + 1]
+    del words[places[0] : places[0] + 2]
+    return name

@@ -1,0 +1,203 @@
+"""What `diff` shows of a script with and without the messages of a master."""
+
+import os
+import unittest
+
+import annotate
+import diff
+import objects
+import permits
+import program as programs
+import steps
+from common import Case, example, examples, program, view
+
+# RPU_0 asks for SATA, which one master at a time may use, while APU has it; and more.
+SCRIPT = """ipi 1 21
+boot 7 0
+ipi 1 13 28 1 0 2   # SATA
+ipi 7 13 28 1 0 2
+ipi 1 14 28
+ipi 7 13 28 1 0 3
+ipi 1 6 7 3 50 0
+ipi 1 17 33 2
+ipi 7 7 7 0 0 0x2000 0
+wfi 7
+ipi 1 10 7 0 0 2
+"""
+
+WITHOUT_APU = """with the 6 messages of APU | without them
+of others:
+step 1: ipi APU INIT_FINALIZE
+  slave OCM_BANK_0   on -> off                                                 | -
+  slave SATA         on -> off                                                 | -
+  slave SD_0         on -> off                                                 | -
+  slave GPIO         on -> off                                                 | -
+step 3: ipi APU REQUEST_NODE SATA ACCESS 0 BLOCKING
+  slave SATA         off -> on                                                 | -
+step 4: ipi RPU_0 REQUEST_NODE SATA ACCESS 0 BLOCKING
+  answer to RPU_0    2007 node used by APU                                     | 0 success                                                  DENIED
+step 5: ipi APU RELEASE_NODE SATA
+  slave SATA         on -> off                                                 | -
+step 6: ipi RPU_0 REQUEST_NODE SATA ACCESS 0 NON_BLOCKING
+  slave SATA         off -> on                                                 | -
+  callback to RPU_0  ACKNOWLEDGE_CB SATA: success, on                          | ACKNOWLEDGE_CB SATA: double request, on
+step 7: ipi APU REQUEST_SUSPEND RPU_0 NON_BLOCKING 50 0
+  callback to RPU_0  INIT_SUSPEND_CB: PU_REQ, latency 50, state 0, timeout 100 | -
+step 11: ipi APU REQUEST_WAKEUP RPU_0 0 0 BLOCKING
+  proc RPU_0         asleep -> active                                          | -
+  power RPU          off -> on                                                 | -
+  start of RPU_0     starts at 0x2000                                          | -
+of APU alone:
+step 1: ipi APU INIT_FINALIZE
+  slave UART_0     on -> off                             | -
+step 8: ipi APU RESET_ASSERT UART_0 PULSE
+  line UART_0      released -> asserted -> released      | -
+step 10: wfi RPU_0
+  callback to APU  ACKNOWLEDGE_CB RPU_0: success, asleep | -
+successes that others lose: 1 denied, 0 refused, 0 not heard
+"""
+
+
+class Text(Case):
+    def show(self, script, node, obj="laboratory.obj"):
+        return self.text("diff", example(obj), self.file("script", script), node)
+
+    def rows(self, text):
+        """The rows without their columns' spaces."""
+        return [" ".join(line.split()) for line in text.splitlines() if line.startswith("  ")]
+
+    def squeezed(self, text):
+        return [" ".join(line.split()) for line in text.splitlines()]
+
+    def test_a_script_of_two_masters(self):
+        self.assertEqual(self.squeezed(self.show(SCRIPT, "1")), self.squeezed(WITHOUT_APU))
+
+    def test_names_and_numbers_give_the_same(self):
+        self.assertEqual(self.show(SCRIPT, "APU"), self.show(SCRIPT, "0x01"))
+        named = SCRIPT.replace("ipi 1 13 28 1 0 2", "ipi APU REQUEST_NODE SATA ACCESS 0 BLOCKING").replace("\n", "\r\n")
+        self.assertEqual(self.show(named, "NODE_APU"), self.show(SCRIPT, "1"))
+        status = "boot 7 0\nipi 7 13 11 1 0 2\nipi 1 3 11\n"
+        row = "answer to APU 0 success, on, requires nothing, used by others | 0 success, on, requires nothing, used by nobody"
+        self.assertIn(row, self.rows(self.show(status, "7")))
+        self.assertEqual(self.show(status.replace("\n", "\r\n"), "7"), self.show(status, "7"))
+        asleep = "boot 7 0\nipi 7 7 7 0 0 0 0\nwfi 7"
+        self.assertIn("proc RPU_0 suspending -> asleep | -", self.rows(self.show(asleep, "7")))
+        self.assertEqual(self.show(asleep.replace("\n", "\r\n") + "\r", "7"), self.show(asleep, "7"))
+
+    def test_a_denial_a_refusal_and_a_message_that_is_not_heard(self):
+        denied = self.show("boot 7 0\nipi 7 13 28 1 0 2\nipi 1 13 28 1 0 3\n", "7")
+        self.assertIn("callback to APU ACKNOWLEDGE_CB SATA: node used, on | ACKNOWLEDGE_CB SATA: success, on DENIED", self.rows(denied))
+        refused = self.show("boot 7 0\nipi 7 7 7 0 0 0 0\nwfi 7\nipi 1 6 7 1 0 0\nipi 1 10 7 0 0 2\nipi 1 10 7 0 0 2\n", "7")
+        self.assertIn("answer to APU 0 success | 1 failure", self.rows(refused))
+        other = self.show("boot 7 0\nipi 1 15 11 1 0 2\nipi 7 8 10 1\nboot 2 0\nipi 1 13 33 1 0 2\nipi 1 15 33 0 0 2\n", "1")
+        self.assertIn("successes that others lose: 0 denied, 0 refused, 0 not heard", other)
+        lost = self.show("boot 7 0\nipi 7 8 10 1\nipi 1 1\nboot 2 0\nipi 1 14 33\n", "7", self.holding())
+        self.assertIn("answer to APU not heard | 0 success, version 1.1 NOT HEARD", self.rows(lost))
+        self.assertIn("answer to APU 2002 no access | 0 success REFUSED", self.rows(lost))
+        self.assertIn("successes that others lose: 0 denied, 1 refused, 1 not heard", lost)
+
+    def holding(self):
+        """An object as the laboratory's, in which APU has UART_0 from the start."""
+        text = programs.read_file(example("laboratory.txt")) + b"section prealloc\ngroup 1\nprefer 33 2 1 0\n"
+        status, built, _ = program("build", self.file("made.txt", text))
+        self.assertEqual(status, 0, built)
+        return self.file("made.obj", built)
+
+    def test_nothing_differs(self):
+        text = "with the 0 messages of RPU_0 | without them\nof others: nothing differs\nof RPU_0 alone: nothing differs\n"
+        self.assertEqual(self.show("ipi 1 21\n\nboot 7 0", "7"), text + "successes that others lose: 0 denied, 0 refused, 0 not heard\n")
+
+    def test_columns(self):
+        for line in self.show(SCRIPT, "1").splitlines():
+            if line.startswith("  "):
+                self.assertEqual(line.count(" | "), 1, line)
+
+    def test_what_is_of_a_master_alone(self):
+        found = objects.read(example("laboratory.obj"))
+        own = [number for number in [1, 2, 6, 7, 10, 11, 28, 33, 62] if diff.is_own(found, 1, ("node", number))]
+        self.assertEqual(own, [1, 2, 33])
+        self.assertEqual([number for number in [1, 6, 7, 8, 10, 33] if diff.is_own(found, 7, ("node", number))], [6, 7])
+        self.assertTrue(diff.is_own(found, 1, ("line", 33)) and diff.is_own(found, 7, ("run", 7)) and diff.is_own(found, 7, ("call", 7)))
+        self.assertFalse(diff.is_own(found, 7, ("line", 33)) or diff.is_own(found, 7, ("answer", 1)))
+
+    def test_bad_use(self):
+        script = self.file("script", SCRIPT)
+        for words in ([], ["a", "b"], ["a", "b", "c", "d"]):
+            self.assertEqual(self.refused("diff", *words), "pmu: usage: ./pmu diff OBJ SCRIPT NODE")
+        self.assertIn("No such file", self.refused("diff", example("laboratory.obj"), script + ".none", "1"))
+        self.assertEqual(view("diff", example("laboratory.obj"), script, "8")[:2], (8, b"fault node\n"))
+        self.assertEqual(view("diff", script, script, "1")[:2], (2, program("print", script)[1]))
+        status, output, _ = view("diff", example("two-masters.obj"), self.file("bad", "ipi 1 21\nwhat\n"), "1")
+        self.assertEqual((status, output.splitlines()[-1]), (3, b"fault line 2 1"))
+
+
+# Lines after those of SCRIPT: a reset line that stays asserted, and a processor and its domain that stay down.
+MORE = """ipi 1 17 33 1
+ipi 1 8 7 2
+"""
+
+
+class Comparison(Case):
+    """The units that move otherwise are those that the program says differ.
+
+    Each script of the examples runs over the object that most of them are for; of the other objects one script tells
+    enough, in which processors start with their presets and power domains go up and down.
+    """
+
+    def setUp(self):
+        super().setUp()
+        self.count, self.kinds, self.known = 0, set(), {}
+
+    def moves(self, path, content):
+        """What moves in the run of a script, by step: units with their first and last values."""
+        if (path, content) not in self.known:
+            steps_moves = enumerate(diff.moves_of(steps.steps_of(path, content, self._room.name)))
+            moves = {(step, unit, values[0], values[-1]) for step, moves in steps_moves for unit, values in moves.items()}
+            # (a line that is pulsed has the same value before and after)
+            self.known[path, content] = {move for move in moves if move[2] != move[3]}
+        return self.known[path, content]
+
+    def check(self, path, script, node):
+        """Compares a script and one without the messages of a master with what the program says of the two."""
+        first = programs.read_file(script)
+        second, silenced = diff.without_messages(first, node)
+        if not silenced:
+            return
+        self.count += 1
+        status, compared, _ = program("isolate", path, script, str(node))
+        self.assertEqual(status, 0)
+        wanted = {tuple(line.split()[1:]) for line in compared.decode().splitlines() if line.startswith("differ")}
+        units = {unit for _, unit, _, _ in self.moves(path, first) ^ self.moves(path, second)}
+        found = {(diff.title((unit.kind, unit.number)).split()[0], str(unit.number)) for unit in units}
+        self.assertEqual(found, wanted)
+        self.kinds |= {kind for kind, _ in found}
+
+    def check_all(self, path, script):
+        for node in permits.masters(objects.read(path)):
+            with self.subTest(f"{os.path.basename(path)} {os.path.basename(script)} {node}"):
+                self.check(path, script, node)
+
+    def test_each_script_and_each_object_of_the_examples(self):
+        main = example("laboratory.obj")
+        for script in examples(".script"):
+            self.check_all(main, script)
+        for path in examples(".obj"):
+            if path != main:
+                self.check_all(path, example("domains.script"))
+        self.assertGreater(self.count, 15)
+
+    def test_each_kind_of_unit(self):
+        self.check_all(example("laboratory.obj"), self.file("kinds.script", SCRIPT + MORE))
+        self.assertEqual(self.kinds, {"slave", "proc", "power", "line"})
+
+
+class Messages(unittest.TestCase):
+    def test_the_messages_of_a_master_are_empty_lines(self):
+        content = b"ipi 1 21\n\tipi 0x7 21 # a\nipi 8 21\nirq 7\nipi 007 3\nipi 7\n#ipi 7 21\nipi 77 21"
+        wanted = b"ipi 1 21\n\nipi 8 21\nirq 7\n\n\n#ipi 7 21\nipi 77 21"
+        self.assertEqual(diff.without_messages(content, 7), (wanted, [2, 5, 6]))
+        self.assertEqual(annotate.message_of("irq 7"), None)
+
+
+if __name__ == "__main__":
+    unittest.main()

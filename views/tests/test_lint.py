@@ -1,0 +1,187 @@
+"""What `lint` says of an object, each check by an object that has what it looks for and by one that hasn't."""
+
+import os
+import re
+import unittest
+import unittest.mock
+
+import lint
+import objects
+import program as programs
+from common import Case, example, examples, program, view
+
+TWO = ["header", "section masters", "master 1 1 100 0 0", "master 7 2 100 0 0"]
+THREE = [*TWO, "master 8 4 100 0 0"]
+SHARED = ["section slaves", "slave 33 1 3", "slave 34 0 3", "slave 15 1 2"]
+
+# Of each object: its lines after those above, and what is said of them.
+OBJECTS = {
+    "nothing": (TWO, SHARED + ["section prealloc", "group 1", "prefer 33 2 7 7", "group 2", "prefer 33 0 0 1", "prefer 34 0 0 0"], []),
+    "not-in-table": (
+        TWO,
+        ["section slaves", "slave 70 1 3", "slave 10 1 1", "slave 999 0 0", "section prealloc", "group 1", "prefer 77 2 1 1"]
+        + ["section power", "power 33 2", "power 78 0", "power 8 0", "section reset", "reset 1035 3", "reset 1119 0", "reset 62 1"]
+        + ["section shutdown", "shutdown 0 1", "shutdown 3 0"],
+        [
+            "slave 70 1 3: GEM_TSU is no slave of the table of the chip; reach and isolate don't see that APU, RPU_0 may use it",
+            "slave 10 1 1: FPD is no slave of the table of the chip; reach and isolate don't see that APU may use it",
+            "slave 999 0 0: node 999 is no slave of the table of the chip",
+            "prefer 77 2 1 1: PMU is no slave of the table of the chip",
+            "power 33 2: UART_0 is no power node or processor of the table of the chip; reach and isolate don't see that RPU_0 may force it",
+            "power 78 0: node 78 is no power node or processor of the table of the chip",
+            "reset 1035 3: RESET_UART1 is no reset line of the table of the chip; reach and isolate don't see that APU, RPU_0 may reset it",
+            "reset 1119 0: RESET_PS_PL3 is no reset line of the table of the chip",
+            "reset 62 1: line 62 is no reset line of the table of the chip; reach and isolate don't see that APU may reset it",
+            "shutdown 0 1: a master may always shut itself down",
+            "shutdown 3 0: no call has the subtype 3",
+        ],
+    ),
+    "no-master": (
+        ["header", "section masters", "master 1 1 100 0 0x30", "master 7 2 100 4 0"],
+        ["section slaves", "slave 33 1 9", "section prealloc", "group 8", "section power", "power 9 0x10000", "section reset", "reset 9 2"]
+        + ["reset 33 6", "section shutdown", "shutdown 1 8", "section config", "config 4 8"],
+        [
+            "master 1 1 100 0 48: 0x30 of its wake word is of no master",
+            "master 7 2 100 4 0: 0x4 of its suspend word is of no master",
+            "slave 33 1 9: 0x8 of its mask word is of no master",
+            "group 8: 0x8 of its mask word is of no master",
+            "power 9 65536: 0x10000 of its mask word is of no master",
+            "reset 33 6: 0x4 of its mask word is of no master",
+            "shutdown 1 8: 0x8 of its mask word is of no master",
+            "config 4 8: 0x4 of its base word is of no master",
+            "config 4 8: 0x8 of its overlay word is of no master",
+        ],
+    ),
+    "no-flag": (
+        TWO,
+        ["section slaves", "slave 33 3 1", "section prealloc", "group 1", "prefer 33 5 1 1"],
+        ["slave 33 3 1: 0x2 of its flags means nothing", "prefer 33 5 1 1: 0x5 of its flags means nothing"],
+    ),
+    "no-user": (
+        TWO,
+        ["section slaves", "slave 33 1 4", "slave 34 0 0", "slave 35 0 2", "slave 70 0 0"],
+        ["slave 33 1 4: no master may use UART_0", "slave 34 0 0: no master may use UART_1"],
+    ),
+    "no-permission": (
+        TWO,
+        SHARED + ["section prealloc", "group 3", "prefer 15 2 1 1", "prefer 36 2 1 1", "prefer 33 0 0 0"],
+        [
+            "prefer 15 2 1 1: it is for APU, which may not use TCM_0_A",
+            "prefer 36 2 1 1: it is for APU, which may not use SPI_1",
+            "prefer 36 2 1 1: it is for RPU_0, which may not use SPI_1",
+        ],
+    ),
+    "no-capability": (
+        TWO,
+        ["section slaves", "slave 11 1 1", "slave 33 1 1", "section prealloc", "group 1", "prefer 11 2 7 3", "prefer 33 2 7 0x18"],
+        ["prefer 11 2 7 3: OCM_BANK_0 lacks WAKEUP of its current word", "prefer 33 2 7 24: UART_0 lacks 0x18 of its preset word"],
+    ),
+    "preallocated-twice": (
+        TWO,
+        SHARED + ["section prealloc", "group 1", "prefer 33 2 1 1", "group 3", "prefer 33 2 7 7", "group 2", "prefer 15 0 0 1"],
+        ["prefer 33 2 7 7: an earlier one of UART_0 for APU counts"],
+    ),
+    "only-preset": (
+        ["header", "section masters", "master 7 2 100 0 0", "master 1 1 100 0 0"],
+        SHARED + ["section prealloc", "group 3", "prefer 33 2 0 7", "group 1", "prefer 34 0 1 0", "prefer 11 0 0 7", "group 2", "prefer 15 2 1 0"],
+        [
+            "prefer 33 2 0 7: for APU, which isn't the first master, its preset alone counts",
+            "prefer 34 0 1 0: for APU, which isn't the first master, its preset alone counts",
+        ],
+    ),
+    "not-shareable": (
+        TWO,
+        SHARED + ["section prealloc", "group 3", "prefer 33 2 1 1", "prefer 34 0 0 1", "group 1", "prefer 15 2 1 1"],
+        ["prefer 34 0 0 1: UART_1 isn't shareable, and is preallocated for APU and RPU_0"],
+    ),
+    "forces-a-master": (
+        THREE,
+        ["section power", "power 10 3", "power 6 6", "power 7 4", "power 8 4", "power 9 7", "power 62 1", "power 1 1"],
+        [
+            "power 10 3: RPU_0 may force FPD down, and with it APU",
+            "power 6 6: RPU_0, RPU_1 may force RPU down, and with it RPU_0, RPU_1",
+            "power 7 4: RPU_1 may force RPU_0 down, and with it RPU_0",
+            "power 62 1: APU may force LPD down, and with it RPU_0, RPU_1",
+        ],
+    ),
+    "leads-to-all": (
+        ["header", "section masters", "master 1 1 100 6 4", "master 7 2 100 5 0xd", "master 8 4 100 2 1"],
+        ["section shutdown", "shutdown 0 7", "shutdown 1 4", "shutdown 2 0", "section config", "config 3 7"],
+        [
+            "master 1 1 100 6 4: APU may suspend all others",
+            "master 7 2 100 5 13: RPU_0 may suspend and wake all others",
+            "shutdown 1 4: RPU_1 may shut all others down",
+            "config 3 7: APU, RPU_0 may set the configuration of all others",
+        ],
+    ),
+}
+
+
+class Lint(Case):
+    def object_of(self, lines):
+        """The path of the object that a text means."""
+        status, built, _ = program("build", self.file("made.txt", "\n".join(lines) + "\n"))
+        self.assertEqual(status, 0, built)
+        return self.file("made.obj", built)
+
+    def split(self, path, text):
+        """Each line as its byte, its record, its message and its check."""
+        found = [re.fullmatch(re.escape(path) + r":(\d+): (.*?): (.*) \[(.*)\]", line) for line in text.splitlines()]
+        self.assertNotIn(None, found, text)
+        return [(int(line[1]), line[2], line[3], line[4]) for line in found]
+
+    def test_each_check_finds_what_it_looks_for_and_nothing_else(self):
+        self.assertEqual([*OBJECTS][1:], [*lint.CHECKS])
+        for name, (head, lines, wanted) in OBJECTS.items():
+            with self.subTest(name):
+                path = self.object_of(head + lines)
+                found = self.split(path, self.text("lint", path))
+                ours = [f"{record}: {message}" for _, record, message, check in found if check == name]
+                self.assertEqual(ours, wanted)
+                if name in ("nothing", "no-flag", "forces-a-master"):
+                    self.assertEqual(len(found), len(wanted), found)
+
+    def test_each_record_is_at_its_byte(self):
+        for path in examples(".obj"):
+            data = programs.read_file(path)
+            for byte, record, _, _ in self.split(path, self.text("lint", path)):
+                words = objects.to_bytes(list(map(int, record.split()[1:])))
+                self.assertEqual(data[byte : byte + len(words)], words, (path, record))
+
+    def test_the_records_of_the_example_that_the_table_lacks(self):
+        path = next(path for path in examples(".obj") if path.endswith("pm_cfg_obj.obj"))
+        found = self.split(path, self.text("lint", path))
+        lines = [record.split()[1] for _, record, _, check in found if check == "not-in-table"]
+        self.assertEqual(lines, [str(line) for line in range(1000, 1120)])
+        self.assertEqual([check for *_, check in found[120:]], ["only-preset"] * 7 + ["forces-a-master"] * 2 + ["leads-to-all"] * 4)
+
+    def test_the_exit(self):
+        clean, full = self.object_of(TWO), self.file("full.obj", programs.read_file(examples("laboratory.obj")[0]))
+        self.assertEqual([view("lint", clean)[0], view("lint", "--strict", clean)[0]], [0, 0])
+        self.assertEqual([view("lint", full)[0], view("lint", full, "--strict")[0]], [0, 1])
+        self.assertEqual(view("lint", full)[1], view("lint", "--strict", full)[1])
+
+    def test_one_master_leads_to_nobody(self):
+        lines = ["header", "section masters", "master 1 1 100 1 1", "section power", "power 10 1", "section shutdown", "shutdown 2 1"]
+        self.assertEqual(self.text("lint", self.object_of(lines + ["section config", "config 1 1"])), "")
+
+    def test_bad_use(self):
+        for words in ([], ["--strict"], ["a", "b"], ["--strict", "--strict"], ["--strict", "a", "b"], ["--what", "a"]):
+            self.assertEqual(self.refused("lint", *words), "pmu: usage: ./pmu lint [--strict] OBJ")
+
+    def test_what_is_no_object_is_told(self):
+        bad = self.file("bad.obj", objects.to_bytes([2, 1, 1, 0x101, 1, 1, 3, 100, 0, 0]))
+        fault = "byte 24: the mask of a master is one bit, which no other master has (fault object 10 6)"
+        self.assertEqual(self.refused("lint", bad), f"pmu: {bad}: {fault}")
+        for name in ("laboratory.txt", "pm_cfg_obj.c"):
+            self.assertIn(f"{name}: this is a text, and no object: ", self.refused("lint", example(name)))
+        self.assertIn("missing (fault object 3 0)", self.refused("lint", self.file("empty.obj", b"")))
+        self.assertIn("none: No such file", self.refused("lint", os.path.join(os.path.dirname(bad), "none")))
+
+    def test_no_program_is_needed(self):
+        with unittest.mock.patch.dict(os.environ, {"PMU_PROGRAM": ""}):
+            self.assertEqual(len(self.text("lint", examples("laboratory.obj")[0]).splitlines()), 2)
+
+
+if __name__ == "__main__":
+    unittest.main()

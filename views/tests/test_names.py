@@ -1,0 +1,174 @@
+"""The table of names is that of the chip and of the published interface, as the sources have them."""
+
+import os
+import re
+import unittest
+
+import names
+from common import TOP, Case
+
+
+def source(path):
+    with open(os.path.join(TOP, "crates", path), encoding="utf-8") as file:
+        return file.read()
+
+
+def powers_of_the_chip():
+    """Of the chip's table: each power node with its name, and its parent's name or None."""
+    found = re.findall(r"power\((\d+), (None|Some\((\w+)\)), \w+, \d+, \d+\), // (\w+)", source("pm_topology/src/chip.rt"))
+    return {int(number): (name, parent or None) for number, _, parent, name in found}
+
+
+def slaves_of_the_chip():
+    """Of the chip's table: each slave with its parent's name, its class, and its name or what that begins with."""
+    found = re.findall(r"Group\((\d+), (\d+), (\w+), Class::(\w+)\), // (.*)", source("pm_topology/src/chip.rt"))
+    return {
+        int(first) + place: (parent, kind.lower(), (listed.split(", ") * int(count))[place])
+        for first, count, parent, kind, listed in found
+        for place in range(int(count))
+    }
+
+
+def procs_of_the_chip():
+    found = re.findall(r"proc\((\d+), (\w+), \d+, \d+\), // (\w+)", source("pm_topology/src/chip.rt"))
+    return {int(number): (name, parent) for number, parent, name in found}
+
+
+def masters_of_the_chip():
+    found = re.findall(r"master\(alloc, (\d+), &\[(.*?)\]\)", source("pm_topology/src/chip.rt"))
+    return {int(number): tuple(map(int, re.findall(r"NodeId\((\d+)\)", procs))) for number, procs in found}
+
+
+def parent_name(node):
+    return None if node.parent is None else names.NODES[node.parent].name
+
+
+def snake(name):
+    """`GetApiVersion` is GET_API_VERSION."""
+    return re.sub(r"(?<!^)([A-Z])", r"_\1", name).upper()
+
+
+class Chip(unittest.TestCase):
+    def nodes(self, *kinds):
+        return {node.number: node for node in names.NODES.values() if node.kind in kinds}
+
+    def test_the_power_nodes_are_those_of_the_chip(self):
+        ours = {number: (node.name, parent_name(node)) for number, node in self.nodes("power").items()}
+        self.assertEqual(ours, powers_of_the_chip())
+        self.assertEqual(len(ours), 5)
+
+    def test_the_processors_are_those_of_the_chip(self):
+        ours = {number: (node.name, parent_name(node)) for number, node in self.nodes("processor").items()}
+        self.assertEqual(ours, procs_of_the_chip())
+        self.assertEqual(len(ours), 6)
+
+    def test_the_slaves_are_those_of_the_chip(self):
+        ours = {number: (parent_name(node), node.kind) for number, node in self.nodes(*names.STATES).items()}
+        chip = slaves_of_the_chip()
+        self.assertEqual(ours, {number: row[:2] for number, row in chip.items()})
+        self.assertEqual(len(ours), 58)
+        for number, (_, _, listed) in chip.items():
+            name = names.NODES[number].name
+            self.assertRegex(name, f"^{listed}(_BANK)?(_[0-3])?(_[AB])?$")
+            if chip.get(number + 1, ("", "", ""))[2] == listed:
+                self.assertLess(name, names.NODES[number + 1].name)
+
+    def test_the_masters_are_those_of_the_chip(self):
+        self.assertEqual(names.MASTERS, masters_of_the_chip())
+
+    def test_each_class_has_its_number_of_states_and_its_capabilities(self):
+        text = source("pm_topology/src/classes.rt")
+        constants = {name: int(value) for name, value in re.findall(r"const (\w+): Caps = Caps\((\d)\);", text)}
+        bodies = re.findall(r"fn (\w+)_states\(.*?let states = \[(.*?)\];", text, re.DOTALL)
+        self.assertEqual({name for name, _ in bodies}, set(names.STATES))
+        for name, body in bodies:
+            states = [constants[word] for word in re.findall(r"state\((\w+),", body)]
+            self.assertEqual(len(names.STATES[name]), len(states), name)
+            self.assertEqual(names.CLASS_CAPABILITIES[name], max(states), name)
+
+    def test_what_is_published_and_not_in_the_table(self):
+        self.assertEqual(sorted(self.nodes("absent")), list(range(70, 78)))
+        self.assertEqual(sorted(names.NODES), list(range(1, 78)))
+
+
+class Interface(unittest.TestCase):
+    def test_the_calls_that_are_served_are_those_of_the_program(self):
+        found = re.findall(r"^ +(\d+) => Call::(\w+)", source("pm_ipi/src/calls.rt"), re.MULTILINE)
+        served = {number: call.name for number, call in names.CALLS.items() if call.arguments is not None}
+        self.assertEqual(served, {int(number): snake(name) for number, name in found})
+        self.assertEqual(len(served), 18)
+
+    def test_the_callbacks_are_those_of_the_program(self):
+        found = re.findall(r"pub const (\w+): u32 = (3\d);", source("pm_ipi/src/callbacks.rt"))
+        ours = {number: call.name for number, call in names.CALLBACKS.items()}
+        self.assertEqual(ours, {int(number): name + "_CB" for name, number in found})
+        self.assertEqual(len(ours), 3)
+
+    def test_the_status_words_are_those_of_the_program(self):
+        found = {int(number): name for name, number in re.findall(r"pub const (\w+): u32 = (\d+);", source("pm_ipi/src/status.rt"))}
+        self.assertGreater(len(found), 8)
+        for number, name in found.items():
+            self.assertEqual(names.STATUSES[number], name)
+        self.assertEqual(sorted(set(names.STATUSES) - set(found)), [2000, 2001])
+
+    def test_the_published_reset_lines(self):
+        self.assertEqual(sorted(names.RESETS), list(range(1000, 1120)))
+        known = {1000: "PCIE_CFG", 1028: "SOFT", 1035: "UART1", 1071: "FPD", 1081: "GPO3_PL_0", 1112: "GPO3_PL_31"}
+        known |= {1054: "RPU_R50", 1063: "USB0_APB", 1076: "APLL", 1113: "RPU_LS", 1114: "PS_ONLY", 1119: "PS_PL3"}
+        for number, name in known.items():
+            self.assertEqual(names.RESETS[number], name)
+
+
+class Words(unittest.TestCase):
+    def test_each_name_gives_its_number_again(self):
+        for number, node in names.NODES.items():
+            self.assertEqual(names.number_of("node", node.name), number)
+            self.assertEqual(names.number_of("node", "NODE_" + node.name), number)
+        for number in names.RESETS:
+            self.assertEqual(names.number_of("line", names.line_name(number)), number)
+        for number, call in names.CALLS.items():
+            self.assertEqual(names.number_of("call", call.name), number)
+        for kind, table in names.WORDS.items():
+            for number, name in table.items():
+                self.assertEqual(names.number_of(kind, name), number)
+
+    def test_no_name_of_a_kind_means_two_numbers(self):
+        for table in ([node.name for node in names.NODES.values()], list(names.RESETS.values())):
+            self.assertEqual(len(table), len(set(table)))
+        self.assertEqual(len(names.CALLS), len({call.name for call in names.CALLS.values()}))
+
+    def test_names_as_linux_and_tf_a_have_them(self):
+        for kind, name, number in [
+            ("node", "PD_UART_1", 34),
+            ("node", "PD_OCM_3", 14),
+            ("line", "ZYNQMP_RESET_UART1", 1035),
+            ("line", "XILPM_RESET_PS_PL3", 1119),
+            ("line", "UART_1", 34),
+            ("call", "PM_REQUEST_NODE", 13),
+            ("call", "PM_REQ_NODE", 13),
+            ("capabilities", "ZYNQMP_PM_CAPABILITY_WAKEUP", 4),
+            ("ack", "REQ_ACK_NON_BLOCKING", 3),
+            ("shutdown type", "ZYNQMP_PM_SHUTDOWN_TYPE_RESET", 1),
+            ("node", "UART_2", None),
+            ("node", "NODE_", None),
+        ]:
+            self.assertEqual(names.number_of(kind, name), number, name)
+
+    def test_states_and_capabilities_in_words(self):
+        self.assertEqual([names.state_name(11, value) for value in range(4)], ["off", "retention", "on", "3"])
+        self.assertEqual([names.state_name(49, 0), names.state_name(10, 1), names.state_name(2, 0)], ["on", "on", "off"])
+        self.assertEqual([names.capabilities(word) for word in (0, 1, 3, 7, 9)], ["0", "ACCESS", "ACCESS|CONTEXT", "ACCESS|CONTEXT|WAKEUP", "ACCESS|0x8"])
+        self.assertEqual([names.status_words(word) for word in (0, 2002, 7)], ["success", "no access", "status 7"])
+
+
+class Document(Case):
+    def test_the_page_of_formats_has_the_table(self):
+        with open(os.path.join(TOP, "docs", "FORMATS.md"), encoding="utf-8") as file:
+            page = file.read()
+        begin, end = page.find("\nNodes:\n"), page.find("\n## Device commands")
+        self.assertTrue(0 < begin < end)
+        self.assertEqual(page[begin + 1 : end].splitlines(), names.markdown().splitlines())
+
+
+if __name__ == "__main__":
+    unittest.main()

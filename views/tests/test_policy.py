@@ -1,0 +1,147 @@
+"""What `policy` says of rules that an object keeps, and of rules that it breaks."""
+
+import os
+import unittest
+
+from common import Case, examples, program, view
+
+TEXT = """header
+section masters
+master 1 1 100 2 0
+master 7 2 100 0 0
+master 8 4 100 1 0
+section slaves
+slave 33 1 1
+slave 34 0 2
+slave 15 0 2
+section power
+power 6 4
+section reset
+reset 34 2
+reset 1035 6
+"""
+
+UNJUDGED = "records not judged: 1, of what the table of the chip lacks; ./pmu lint names them"
+
+
+class Policy(Case):
+    def setUp(self):
+        super().setUp()
+        status, built, _ = program("build", self.file("made.txt", TEXT))
+        self.assertEqual(status, 0, built)
+        self.path = self.file("made.obj", built)
+
+    def judge(self, rules, path=None):
+        """The exit, and the lines."""
+        status, output, errors = view("policy", path or self.path, self.file("rules", rules))
+        self.assertEqual(errors, b"", rules)
+        return status, output.decode().replace(self.file("rules", rules), "FILE").splitlines()
+
+    def test_rules_that_hold(self):
+        rules = "# apart\n\nnever RPU_0 master APU  # at all\nnever RPU_0 slave UART_0\nonly RPU_1 master APU\n"
+        rules += "never RPU_0 power FPD\nnever 7 line 0x21\nonly NODE_RPU_0 power PLD\r\nnever RPU_0 slave PL\n"
+        status, lines = self.judge(rules)
+        self.assertEqual(lines, ["7 of 7 rules hold", UNJUDGED])
+        self.assertEqual(status, 0)
+
+    def test_a_rule_of_each_kind_that_is_broken(self):
+        word = "suspend: master 1 1 100 2 0 (byte 20): its suspend word has the bit of RPU_0"
+        use = "use: slave 34 0 2 (byte 100): its mask has the bit of RPU_0"
+        reset = "reset: reset 34 2 (byte 148): line 34 resets UART_1"
+        above = "above: master 1 1 100 2 0 (byte 20): FPD is above its processor APU_0"
+        for rule, step, reasons in [
+            ("never APU master RPU_0", "APU > RPU_0", [word]),
+            ("never RPU_0 slave UART_1", "RPU_0 > slave UART_1", [use, reset]),
+            ("never RPU_0 line UART_1", "RPU_0 > line UART_1", [reset]),
+            ("never APU power FPD", "APU > power FPD", [above]),
+        ]:
+            with self.subTest(rule):
+                status, lines = self.judge(rule + "\n")
+                self.assertEqual(status, 1)
+                self.assertEqual(lines[:2], [f"FILE:1: {rule}: broken by {rule.split()[1]}", f"  {step}"])
+                for reason in reasons:
+                    self.assertIn(f"  {step}: {reason}", lines[2:-2])
+                self.assertEqual(lines[-2:], ["0 of 1 rules hold", UNJUDGED])
+
+    def test_each_path_and_each_record_of_a_breach(self):
+        status, lines = self.judge("never RPU_1 slave TCM_0_A\nnever RPU_0 master APU\nnever RPU_1 slave TCM_0_A\n")
+        self.assertEqual(status, 1)
+        paths = [
+            "  RPU_1 > slave TCM_0_A",
+            "  RPU_1 > RPU_0 > slave TCM_0_A",
+            "  RPU_1 > APU > RPU_0 > slave TCM_0_A",
+        ]
+        self.assertEqual(
+            lines,
+            [
+                "FILE:1: never RPU_1 slave TCM_0_A: broken by RPU_1",
+                *paths,
+                "FILE:3: never RPU_1 slave TCM_0_A: broken by RPU_1",
+                *paths,
+                "the records that give each step:",
+                "  RPU_1 > slave TCM_0_A: force: power 6 4 (byte 132): RPU is above TCM_0_A",
+                "  RPU_1 > RPU_0: force: power 6 4 (byte 132): RPU is above processor RPU_0 and above TCM_0_A, which RPU_0 may use",
+                "  RPU_0 > slave TCM_0_A: use: slave 15 0 2 (byte 112): its mask has the bit of RPU_0",
+                "  RPU_1 > APU: suspend: master 8 4 100 1 0 (byte 60): its suspend word has the bit of APU",
+                "  APU > RPU_0: suspend: master 1 1 100 2 0 (byte 20): its suspend word has the bit of RPU_0",
+                "1 of 3 rules hold",
+                UNJUDGED,
+            ],
+        )
+
+    def test_only_speaks_of_all_others(self):
+        status, lines = self.judge("only APU slave UART_0\nonly RPU_1 slave UART_0\n")
+        self.assertEqual(status, 1)
+        broken = [line for line in lines if "broken by" in line]
+        self.assertEqual(broken, ["FILE:1: only APU slave UART_0: broken by RPU_1", "FILE:2: only RPU_1 slave UART_0: broken by APU"])
+        # (a master is in its own reach: that breaks no rule)
+        self.assertEqual(self.judge("only RPU_1 master APU\n")[0], 0)
+        self.assertEqual(self.judge("only RPU_0 master APU\n")[1][0], "FILE:1: only RPU_0 master APU: broken by RPU_1")
+
+    def test_each_member_of_each_reach_of_the_examples_breaks_its_rule(self):
+        for path in examples(".obj"):
+            with self.subTest(os.path.basename(path)):
+                status, text, _ = program("reach", path, "1")
+                self.assertEqual(status, 0)
+                members = [line.split() for line in text.decode().splitlines()]
+                members = [(kind, unit) for kind, unit, *_ in members if (kind, unit) != ("master", "1")]
+                status, lines = self.judge("".join(f"never 1 {kind} {unit}\n" for kind, unit in members), path)
+                broken = [line for line in lines if line.endswith(": broken by APU")]
+                self.assertEqual((status, len(broken)), (1, len(members)))
+                beyond = [slave for slave in range(11, 70) if ("slave", str(slave)) not in members and slave != 62]
+                if beyond:
+                    status, lines = self.judge("".join(f"never 1 slave {slave}\n" for slave in beyond), path)
+                    self.assertEqual((status, lines[0]), (0, f"{len(beyond)} of {len(beyond)} rules hold"))
+
+    def test_bad_rules(self):
+        for rules, message in [
+            ("", "rules: no rule is in it"),
+            ("# none\n", "rules: no rule is in it"),
+            ("\nnever APU UART_1\n", "rules:2: a rule is never MASTER KIND UNIT or only MASTER KIND UNIT, and KIND is master, slave, power, line"),
+            ("always APU slave UART_1\n", "rules:1: a rule is "),
+            ("never APU proc APU_0\n", "rules:1: a rule is "),
+            ("never APU slave UART_1 UART_0\n", "rules:1: a rule is "),
+            ("never APU slave UART_2\n", "rules:1: the table of the chip has no slave UART_2"),
+            ("never APU slave FPD\n", "rules:1: the table of the chip has no slave FPD"),
+            ("never APU power UART_1\n", "rules:1: the table of the chip has no power node UART_1"),
+            ("never APU line RESET_UART1\n", "rules:1: the table of the chip has no reset line RESET_UART1"),
+            ("never APU line 62\n", "rules:1: the table of the chip has no reset line 62"),
+            ("never APU_0 slave UART_1\n", "rules:1: the table of the chip has no master APU_0"),
+            ("never 0x slave UART_1\n", "rules:1: the table of the chip has no master 0x"),
+            ("never RPU slave UART_1\n", "rules:1: the object has no master RPU"),
+            ("never APU master RPU\n", "rules:1: the object has no master RPU"),
+            ("only APU master APU\n", "rules:1: each master is in its own reach"),
+            ("never APU slave \u00e9\n", "rules: byte 16 isn't ASCII"),
+        ]:
+            with self.subTest(rules):
+                self.assertIn("/" + message, self.refused("policy", self.path, self.file("rules", rules)))
+
+    def test_bad_use(self):
+        for words in ([], ["a"], ["a", "b", "c"]):
+            self.assertEqual(self.refused("policy", *words), "pmu: usage: ./pmu policy OBJ FILE")
+        self.assertIn("No such file", self.refused("policy", self.path, self.path + ".none"))
+        self.assertEqual(view("policy", self.file("bad.obj", b"abc"), "none")[:2], (2, b"fault object 1 0\n"))
+
+
+if __name__ == "__main__":
+    unittest.main()

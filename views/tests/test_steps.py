@@ -1,0 +1,83 @@
+"""The values of the units after each step are those of the closing tables."""
+
+import unittest
+
+import steps
+from common import Case, example, program
+
+# Both masters may do all to each other.
+OBJECT = """\
+header
+section masters
+master 1 1 100 257 257
+master 7 256 100 257 257
+section slaves
+slave 11 1 257
+slave 46 1 257
+section power
+power 6 257
+power 10 257
+section reset
+reset 3 257
+reset 7 257
+section shutdown
+shutdown 2 257
+"""
+
+# In most of these a processor that sleeps goes off, or one that suspends goes on, and nothing is written of it.
+SCRIPTS = {
+    "forced off asleep": "boot 7 0\nipi 7 7 7 0 0 0 0\nwfi 7\nipi 1 8 6 1\nboot 7 0\nipi 7 8 10 2\nipi 7 12 0 0\n",
+    "shut down asleep": "boot 3 0\nipi 1 7 3 0 0 0 0\nwfi 3\nboot 7 0\nipi 1 12 0 0\nipi 7 12 0 2\ngic 3\n",
+    "all shut down": "boot 3 0\nipi 1 7 3 0 0 0 0\nwfi 3\n\nipi 1 12 0 2\ngic 3\nboot 2 0\n",
+    "reset asleep": "boot 3 0\nipi 1 7 3 0 0 0 0\nwfi 3\nipi 1 17 3 2\nboot 7 0\nipi 1 17 7 1\n",
+    "restarted": "boot 3 0\nipi 1 7 3 0 0 0 0\nwfi 3\nipi 1 12 1 0\nboot 7 0\nipi 7 12 1 2\n",
+    "an interrupt of a slave": "ipi 1 11 2 46 1\nipi 1 7 2 0 0 64 0\nirq 46\nipi 1 7 2 0 0 64 0\n# asleep\nwfi 2\ntick 5\nirq 46\n",
+    "an interrupt at a processor": "ipi 1 7 2 0 0 64 0\ngic 2\nwfi 2\nipi 1 7 2 0 0 64 0\nwfi 2\ngic 2\n",
+    "woken without an answer": "boot 7 0\nipi 7 7 7 0 0 0 0\nipi 1 10 7 1 0 1\nwfi 7\nipi 7 7 7 0 0 0 0\nipi 7 9 100 7\n",
+    "the last one awake forces all": "ipi 1 7 2 0 0 0 0\nwfi 2\nboot 3 0\nipi 1 8 10 2\nboot 2 0\n",
+}
+
+
+class Steps(Case):
+    def values(self, obj, content):
+        """After each step the values that aren't 0."""
+        told, values, after = steps.steps_of(obj, content, self._room.name), {}, []
+        for step in told.changes:
+            values.update(step)
+            after.append({unit: value for unit, value in values.items() if value})
+        return told, after
+
+    def closing(self, obj, script):
+        """The values in the closing table of a script that aren't 0."""
+        status, output, _ = program("replay", obj, self.file("part", script))
+        self.assertEqual(status, 0)
+        return {unit: value for unit, value in steps.closing_of(output.decode().splitlines()).items() if value}
+
+    def check(self, obj, script):
+        told, after = self.values(obj, script.encode())
+        lines = script.splitlines(keepends=True)
+        self.assertEqual(len(after), len(lines) + 1)
+        for count, values in enumerate(after):
+            self.assertEqual(values, self.closing(obj, "".join(lines[:count])), (script, count))
+        self.assertEqual({unit: value for unit, value in told.closing.items() if value}, after[-1])
+
+    def test_the_values_after_each_line_are_those_of_the_closing_table(self):
+        status, content, _ = program("build", self.file("text", OBJECT))
+        self.assertEqual(status, 0)
+        obj = self.file("obj", content)
+        for name, script in SCRIPTS.items():
+            with self.subTest(name):
+                self.check(obj, script)
+
+    def test_the_same_of_the_example_of_the_sleep(self):
+        with open(example("sleep.script"), encoding="ascii") as file:
+            self.check(example("laboratory.obj"), file.read())
+
+    def test_the_lines_of_a_script(self):
+        self.assertEqual(steps.script_lines(b""), [])
+        self.assertEqual(steps.script_lines(b"a\n\nb"), ["a", "", "b"])
+        self.assertEqual(steps.script_lines(b"a\n\n"), ["a", ""])
+
+
+if __name__ == "__main__":
+    unittest.main()

@@ -1,0 +1,99 @@
+"""`--numbers`: a script or a text with names, in numbers."""
+
+import re
+import unittest
+
+import to_names
+import to_numbers
+from common import Case, example, examples, program
+
+
+def read(path):
+    with open(path, "rb") as file:
+        return file.read()
+
+
+def in_names(content):
+    """A script or a text with names and without its comments."""
+    lines = content.decode().split("\n")
+    masters = to_numbers.masters_of(lines)
+    return "\n".join(to_names.line_in_names(line, masters) for line in lines).encode()
+
+
+def in_plain_numbers(content):
+    """A file with decimal numbers, single spaces and no comments."""
+    lines = [[word for _, word in to_numbers.words_of(line)] for line in content.decode().split("\n")]
+    plain = [[word if (value := to_numbers.value_of(word)) is None else str(value) for word in line] for line in lines]
+    return "\n".join(" ".join(line) for line in plain)
+
+
+class Numbers(Case):
+    def test_a_file_without_names_stays_as_it_is(self):
+        for path in (*examples(".script"), *examples(".txt")):
+            self.assertEqual(self.written("--numbers", path), read(path), path)
+
+    def test_names_to_numbers_and_back_over_every_example(self):
+        for path in (*examples(".script"), *examples(".txt")):
+            named = in_names(read(path))
+            self.assertGreater(len(re.findall(rb"\b[A-Z][A-Z0-9_]+\b", named)), 3, path)
+            numbers = self.written("--numbers", self.file("named", named))
+            self.assertEqual(in_plain_numbers(numbers), in_plain_numbers(read(path)), path)
+
+    def test_every_object_built_from_its_text_with_names_is_the_same(self):
+        for path in examples(".obj"):
+            named = in_names(program("print", path)[1])
+            self.assertEqual(self.written("--names", "build", self.file("named", named)), read(path), path)
+
+    def test_what_is_no_name_is_left_for_the_program(self):
+        left = b"ipi 1 99 0x1F 0xZZ -1\r\nfoo APU\n\n# APU\nipi 1 13 33 1 0 2 9 9 # UART_0\n\ttick 5\xff\nboot"
+        self.assertEqual(self.written("--numbers", self.file("left", left)), left)
+
+    def test_spaces_and_comments_stay(self):
+        given = "\tipi  APU   REQUEST_NODE\tUART_0 ACCESS|CONTEXT|WAKEUP 0 NON_BLOCKING # APU\r\n"
+        wanted = "\tipi  1   13\t33 7 0 3 # APU\r\n"
+        self.assertEqual(self.text("--numbers", self.file("given", given)), wanted)
+
+    def test_each_kind_of_name(self):
+        for given, wanted in [
+            ("ipi RPU_0 RESET_ASSERT GPIO PULSE", "ipi 7 17 46 2"),
+            ("ipi APU RESET_GET_STATUS XILPM_RESET_UART1", "ipi 1 18 1035"),
+            ("ipi APU ABORT_SUSPEND ABORT_REASON_WKUP_EVENT APU_0", "ipi 1 9 100 2"),
+            ("ipi APU SYSTEM_SHUTDOWN RESET SUBSYSTEM", "ipi 1 12 1 0"),
+            ("ipi APU REGISTER_NOTIFIER DDR ZERO_USERS 0 1", "ipi 1 5 55 2 0 1"),
+            ("ipi APU GET_OP_CHARACTERISTIC DDR LATENCY", "ipi 1 4 55 3"),
+            ("ipi APU SET_WAKEUP_SOURCE APU_0 GPIO 1", "ipi 1 11 2 46 1"),
+            ("ipi 1 13 PD_OCM_1 0x1|CONTEXT 0 REQUEST_ACK_NO", "ipi 1 13 12 3 0 1"),
+            ("ipi APU FEATURE_CHECK 13", "ipi 1 63 13"),
+            ("wfi APU_3\nirq GPIO\ngic RPU_1\nboot RPU_0 0x0", "wfi 5\nirq 46\ngic 8\nboot 7 0x0"),
+        ]:
+            self.assertEqual(self.text("--numbers", self.file("given", given)), wanted)
+
+    def test_a_mask_has_the_bits_of_the_masters_of_its_text(self):
+        given = "header\nsection masters\nmaster APU 0x4 1 0 RPU_0\nmaster RPU_0 RPU_0 1 APU 0\nsection slaves\n"
+        given += "slave GPIO SHAREABLE APU|RPU_0|0x8000\nslave NODE_GEM_TSU 0 RPU_0\n"
+        wanted = "header\nsection masters\nmaster 1 0x4 1 0 256\nmaster 7 256 1 4 0\nsection slaves\n"
+        wanted += "slave 46 1 33028\nslave 70 0 256\n"
+        self.assertEqual(self.text("--numbers", self.file("given", given)), wanted)
+
+    def test_an_unknown_name_is_told_with_its_line(self):
+        for given, fault in [
+            ("wfi 2\nwfi APU_4\n", "given:2: no node is named APU_4"),
+            ("ipi APU REQUEST_NOD 1\n", "given:1: no call is named REQUEST_NOD"),
+            ("ipi APU REQUEST_NODE UART_0 READ\n", "given:1: no capability is named READ"),
+            ("ipi APU REQUEST_NODE UART_0 ACCESS LOW\n", "given:1: the qos is a number, not LOW"),
+            ("ipi APU RESET_ASSERT FPD ASSERT\n", "given:1: no reset line is named FPD"),
+            ("ipi APU FEATURE_CHECK REQUEST_NODE\n", "given:1: a number is wanted, not REQUEST_NODE"),
+            ("header\nsection masters\nmaster APU APU 1 0 0\nsection slaves\nslave GPIO 0 RPU_0\n", "given:5: no master line of this text has the mask of RPU_0"),
+            ("header\nsection masters\nmaster UART_0 UART_0 1 0 0\n", "given:3: no master is named UART_0"),
+        ]:
+            self.assertTrue(self.refused("--numbers", self.file("given", given)).endswith(fault), fault)
+
+    def test_bad_use(self):
+        self.assertIn("--numbers takes one FILE", self.refused("--numbers"))
+        self.assertIn("--numbers takes one FILE", self.refused("--numbers", example("a"), example("b")))
+        self.assertIn("No such file", self.refused("--numbers", example("no.script")))
+        self.assertIn("Is a directory", self.refused("--numbers", self._room.name))
+
+
+if __name__ == "__main__":
+    unittest.main()

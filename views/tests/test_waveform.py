@@ -1,0 +1,136 @@
+"""`--vcd`: the dump is read again, and gives the values and the lines of the replay."""
+
+import os
+import shutil
+import subprocess
+import unittest
+import xml.dom.minidom
+
+import names
+import picture
+from common import TOP, Case, example, examples, program, view
+
+
+def closing_values(lines):
+    """The closing table: the value of each unit in the book by its kind and name."""
+    found = {}
+    for line in lines:
+        words = line.split()
+        if words[0] == "end":
+            number = int(words[2])
+            name = names.line_name(number) if words[1] == "line" else names.node_name(number)
+            found[words[1] == "line", name] = int(words[3])
+    return found
+
+
+def last_values(dump):
+    """The last value of each unit that isn't 0, by its kind and name."""
+    units = [signal for signal in dump.signals if signal.width]
+    values = {(signal.scope[0] == "reset_lines", signal.name): signal.changes[-1][1] for signal in units}
+    return {unit: value for unit, value in values.items() if value}
+
+
+class Waveform(Case):
+    def dump(self, *words):
+        return picture.read(self.text("--vcd", "replay", *words))
+
+    def test_a_dump_gives_the_values_of_the_closing_table(self):
+        for script in examples(".script"):
+            obj = example("two-masters.obj" if "status" in script else "laboratory.obj")
+            dump = self.dump(obj, script)
+            lines = program("replay", obj, script)[1].decode().splitlines()
+            self.assertEqual(last_values(dump), {unit: value for unit, value in closing_values(lines).items() if value})
+            self.assertGreater(len(last_values(dump)), 0)
+
+    def test_each_command_is_a_change_at_its_line(self):
+        obj, script = example("laboratory.obj"), example("force.script")
+        dump = self.dump(obj, script)
+        count = 0
+        for line in program("replay", obj, script)[1].decode().splitlines():
+            step, kind, *words = line.split()
+            node = names.NODES.get(int(words[0])) if kind in ("set", "line") and step != "0" else None
+            if node and (kind == "line" or node.kind != "processor"):
+                signal = dump.named(node.name, ("reset_lines",) if kind == "line" else scope_of(node))
+                self.assertIn((int(step), int(words[2])), signal.changes, line)
+                count += 1
+        self.assertEqual(count, 13)
+
+    def test_the_modes_of_a_processor(self):
+        dump = self.dump(example("laboratory.obj"), example("sleep.script"))
+        modes = {"off": 0, "active": 1, "asleep": 2, "suspending": 3}
+        wanted = [(0, "active"), (4, "suspending"), (7, "active"), (9, "suspending"), (12, "asleep")]
+        self.assertEqual(dump.named("APU_0", ("FPD", "APU")).changes, [(time, modes[mode]) for time, mode in wanted])
+
+    def test_the_line_and_what_is_answered_are_texts(self):
+        script = self.file("names.script", "ipi APU INIT_FINALIZE # done\n\nipi 1 13 33 1 0 2\nipi RPU_0 3 33")
+        dump = self.dump(example("laboratory.obj"), script)
+        lines = ["load", "ipi APU INIT_FINALIZE", "", "ipi APU REQUEST_NODE UART_0 ACCESS 0 BLOCKING", "ipi RPU_0 GET_NODE_STATUS UART_0"]
+        self.assertEqual(dump.named("line").changes, list(enumerate(lines)))
+        answers = ["", "APU: success", "", "APU: success", "RPU_0 isn't heard"]
+        self.assertEqual(dump.named("answer").changes, list(enumerate(answers)))
+        self.assertEqual(dump.end, 5)
+
+    def test_a_script_with_carriage_returns(self):
+        with open(example("sleep.script"), "rb") as file:
+            script = file.read().replace(b"\n", b"\r\n")
+        plain = self.text("--vcd", "replay", example("laboratory.obj"), example("sleep.script"))
+        self.assertEqual(self.text("--vcd", "replay", example("laboratory.obj"), self.file("crlf", script)), plain)
+
+    def test_a_pulse_is_two_changes_at_one_time(self):
+        dump = self.dump(example("laboratory.obj"), example("force.script"))
+        self.assertEqual(dump.named("UART_0", ("reset_lines",)).changes, [(0, 0), (3, 1), (3, 0)])
+
+    def test_each_unit_of_the_table_is_a_signal(self):
+        dump = self.dump(example("two-masters.obj"), self.file("empty", ""))
+        nodes = [signal.name for signal in dump.signals if signal.width and signal.scope[0] != "reset_lines"]
+        lines = [signal.name for signal in dump.signals if signal.scope[0] == "reset_lines"]
+        self.assertEqual(sorted(nodes), sorted(node.name for node in names.NODES.values() if node.kind != "absent"))
+        self.assertEqual((len(nodes), len(lines)), (69, 64))
+
+    @unittest.skipUnless(shutil.which("vcd2fst"), "GTKWave isn't installed")
+    def test_gtkwave_reads_the_dump(self):
+        dump = self.file("dump.vcd", self.text("--vcd", "replay", example("laboratory.obj"), example("sleep.script")))
+        subprocess.run(["vcd2fst", "-v", dump, "-f", dump + ".fst"], check=True, capture_output=True)
+        again = subprocess.run(["fst2vcd", dump + ".fst"], check=True, capture_output=True).stdout.decode()
+        for text in ("sload ", "sipi\\040APU\\040INIT_FINALIZE ", "$var wire 2", "#17"):
+            self.assertIn(text, again)
+
+    def test_where_the_program_fails_its_output_and_its_exit_are_handed_on(self):
+        words = ["replay", example("laboratory.obj"), self.file("bad.script", "ipi 1 21\nipi 1\n")]
+        self.assertEqual(view("--vcd", *words)[:2], program(*words)[:2])
+        self.assertEqual(program(*words)[0], 3)
+
+    def test_bad_use(self):
+        self.assertIn("--vcd is followed by replay", self.refused("--vcd"))
+        self.assertIn("--vcd is followed by replay", self.refused("--vcd", "reach", example("laboratory.obj"), "7"))
+        self.assertIn("No such file", self.refused("--vcd", "replay", example("laboratory.obj"), example("no.script")))
+
+
+def scope_of(node):
+    """The scope of a node: the power nodes above it, and itself if it is one."""
+    path = [node.name] if node.kind == "power" else []
+    while node.parent is not None:
+        node = names.NODES[node.parent]
+        path.insert(0, node.name)
+    return tuple(path)
+
+
+class Picture(Case):
+    def test_the_picture_of_the_documents_is_that_of_the_example(self):
+        dump = picture.read(self.text("--vcd", "replay", example("laboratory.obj"), example("sleep.script")))
+        drawn = "".join(line + "\n" for line in picture.drawn(dump))
+        xml.dom.minidom.parseString(drawn)
+        with open(os.path.join(TOP, "docs", "pictures", "sleep.svg"), encoding="ascii") as file:
+            self.assertEqual(file.read(), drawn)
+
+    def test_what_is_drawn(self):
+        dump = picture.read(self.text("--vcd", "replay", example("laboratory.obj"), example("force.script")))
+        drawn = "\n".join(picture.drawn(dump))
+        for text in (">FPD<", ">RPU_0<", ">reset UART_0<", ">RPU_0 FORCE_POWERDOWN FPD BLOCKING<", ">active<"):
+            self.assertIn(text, drawn)
+        self.assertNotIn(">LPD<", drawn)
+        self.assertEqual(drawn.count(" h3 "), 1)  # the pulse
+
+
+if __name__ == "__main__":
+    unittest.main()

@@ -1,0 +1,39 @@
+"""A line of a script or of the text of an object with names in place of its numbers; `to_numbers.py` reads it again."""
+
+import names
+import to_numbers
+
+
+def mask_name(mask, masters):
+    """A mask by the masters whose bits it has, or None where it has others or none."""
+    found = [names.node_name(node) for node, bits in masters.items() if bits & mask]
+    return "|".join(found) if found and not mask & ~sum(masters.values()) else None
+
+
+def ipi_mask_name(mask):
+    """A master whose published mask this is, or None."""
+    found = [names.node_name(node) for node, published in names.IPI_MASKS.items() if published == mask]
+    return found[-1] if found else None
+
+
+def word_in_names(kind, word, masters):
+    """A number of a kind by its name, or the word as it is where it has none."""
+    value = to_numbers.value_of(word)
+    if value is None:
+        return word
+    if kind == "mask":
+        return mask_name(value, masters) or word
+    if kind == "own mask":
+        return ipi_mask_name(value) or word
+    if kind == "call":
+        return names.CALLS[value].name if value in names.CALLS else word
+    name = names.word_name(kind, value)
+    return word if name.isdigit() or "0x" in name else name
+
+
+def line_in_names(line, masters):
+    """A line without its comment, with single spaces; `masters` has the mask of each master of a text."""
+    words = [word for _, word in to_numbers.words_of(line)]
+    kinds = (to_numbers.kinds_of(words) or ()) if words else ()
+    named = [word_in_names(kind, word, masters) for kind, word in zip(kinds, words[1:])]
+    return " ".join(words[:1] + named + words[1 + len(named) :])

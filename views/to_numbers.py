@@ -1,0 +1,165 @@
+"""`--numbers FILE`: a script or the text of an object that is written with names, in numbers.
+
+A number is put in the place of each name. All else stays as it is: the spaces, the comments, the number of each line.
+A word that is no name is left for the program to judge. In a text a mask is written with the masters whose bits it
+has, by the `master` lines of that text: `slave UART_1 0 RPU_0` or `slave UART_1 SHAREABLE APU|RPU_0`.
+"""
+
+import functools
+import operator
+import re
+import sys
+
+import faults
+import names
+from program import BadUse, read_file
+
+# The words after the first one of a line of a script, by what they mean; `ipi` has its own.
+SCRIPT = {"boot": ("node", "address"), "wfi": ("node",), "irq": ("node",), "gic": ("node",), "tick": ("time",)}
+
+# The same of the text of an object.
+TEXT = {
+    "master": ("node", "own mask", "timeout", "mask", "mask"),
+    "slave": ("node", "slave flags", "mask"),
+    "group": ("mask",),
+    "prefer": ("node", "use flags", "capabilities", "capabilities"),
+    "power": ("node", "mask"),
+    "reset": ("line", "mask"),
+    "shutdown": ("shutdown subtype", "mask"),
+    "config": ("mask", "mask"),
+}
+
+# Kinds whose one is called otherwise in a fault.
+SAID = {
+    "line": "reset line",
+    "own mask": "master",
+    "ack": "acknowledge kind",
+    "capabilities": "capability",
+    "slave flags": "flag of a slave",
+    "use flags": "flag of a preallocation",
+}
+
+SETS = ("mask", *names.SETS)
+NAME = re.compile(r"[A-Za-z_][A-Za-z0-9_]*(\|[A-Za-z0-9_]+)*|\d\w*(\|\w+)+")
+
+
+class Unknown(Exception):
+    """A name that isn't known in its place."""
+
+
+def value_of(word):
+    """The value of a number as scripts and texts have it, or None."""
+    if re.fullmatch(r"0x[0-9A-Fa-f]+", word):
+        return int(word, 16)
+    return int(word) if re.fullmatch(r"[0-9]+", word) else None
+
+
+def number_of(kind, name, masters):
+    """The number of one name of a kind, or None; `masters` has the mask of each master of a text."""
+    if kind == "mask":
+        return masters.get(names.number_of("node", name))
+    if kind == "own mask":
+        return names.IPI_MASKS.get(names.number_of("node", name))
+    return names.number_of(kind, name)
+
+
+def bits_of(kind, word, masters):
+    """The bits of a set that is written `ACCESS|CONTEXT`, with numbers between the names or not; None if one is unknown."""
+    parts = [value_of(part) if part[0].isdigit() else number_of(kind, part, masters) for part in word.split("|")]
+    return None if None in parts else functools.reduce(operator.or_, parts)
+
+
+def translated(kind, word, masters):
+    """A word of a kind with a number in place of its names."""
+    if not NAME.fullmatch(word):
+        return word
+    number = bits_of(kind, word, masters) if kind in SETS else number_of(kind, word, masters)
+    if number is None:
+        raise Unknown(unknown(kind, word))
+    return str(number)
+
+
+def unknown(kind, word):
+    """What is wrong with a name that its kind doesn't have."""
+    if kind == "mask":
+        return f"no master line of this text has the mask of {word}"
+    if kind in ("node", "line", "call", "own mask") or kind in names.WORDS:
+        return f"no {SAID.get(kind, kind)} is named {word}"
+    return f"the {kind} is a number, not {word}" if kind else f"a number is wanted, not {word}"
+
+
+def kinds_of_message(words):
+    """Of a line `ipi M API ..`: what its words mean, as far as its call says."""
+    number = names.number_of("call", words[2]) if len(words) > 2 else None
+    if number is None and len(words) > 2:
+        number = value_of(words[2])
+    call = names.CALLS.get(number)
+    return ("node", "call", *(call.arguments or () if call else ()))
+
+
+def kinds_of(words):
+    """What the words after the first one of a line mean, or None of a line that has no such first word."""
+    if words[0] == "ipi":
+        return kinds_of_message(words)
+    return SCRIPT.get(words[0], TEXT.get(words[0]))
+
+
+def words_of(line):
+    """The words of a line before its comment, each with the place at which it begins."""
+    found = []
+    for match in re.finditer(r"[^ \t]+", line):
+        if match.group().startswith("#"):
+            break
+        found.append((match.start(), match.group()))
+    return found
+
+
+def line_in_numbers(line, masters):
+    """A line without its end, with numbers in place of names."""
+    body = line[:-1] if line.endswith("\r") else line
+    found = words_of(body)
+    kinds = kinds_of([word for _, word in found]) if found else None
+    if kinds is None:
+        return line
+    made, end = "", 0
+    for place, (start, word) in enumerate(found[1:]):
+        kind = kinds[place] if place < len(kinds) else ""
+        made += line[end:start] + translated(kind, word, masters)
+        end = start + len(word)
+    return made + line[end:]
+
+
+def masters_of(lines):
+    """The mask of each master, by the `master` lines of a text."""
+    masters = {}
+    for line in lines:
+        words = [word for _, word in words_of(line.rstrip("\r"))]
+        if len(words) > 2 and words[0] == "master":
+            node = names.number_of("node", words[1]) or value_of(words[1])
+            mask = names.IPI_MASKS.get(names.number_of("node", words[2])) or value_of(words[2])
+            if node is not None and mask is not None:
+                masters.setdefault(node, mask)
+    return masters
+
+
+def in_numbers(content, name):
+    """The content of a file, a script or a text, with numbers in place of names. A fault is told with its line."""
+    lines = content.decode("latin-1").split("\n")
+    masters, made = masters_of(lines), []
+    for number, line in enumerate(lines, 1):
+        try:
+            made.append(line_in_numbers(line, masters))
+        except Unknown as fault:
+            raise BadUse(f"{faults.name_of(name)}:{number}: {fault}") from None
+    return "\n".join(made).encode("latin-1")
+
+
+def main(words):
+    if len(words) != 1:
+        raise BadUse("--numbers takes one FILE, a script or the text of an object")
+    content = read_file(words[0])
+    kind = faults.kind_of(content)
+    if kind in ("is an object", "is an ELF file", "is a C file"):
+        raise BadUse(f"{faults.name_of(words[0])} {kind}, and a script or the text of an object is wanted")
+    sys.stdout.buffer.write(in_numbers(content, words[0]))
+    return 0

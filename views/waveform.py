@@ -1,0 +1,129 @@
+"""`--vcd replay OBJ SCRIPT`: the replay as a value change dump (IEEE 1364), for GTKWave.
+
+A unit is a signal by its name: of a slave its state, of a processor its mode, of a power node whether it is up, of a
+reset line whether it is asserted. They lie in the scopes of their power domains. A script line is a unit of time, and
+0 is the load; a line that is pulsed changes twice at one time. Two signals are texts, as GTKWave reads them: the line
+of the script, and what is answered in it.
+"""
+
+import sys
+import tempfile
+
+import annotate
+import names
+import steps
+import to_names
+import to_numbers
+from program import BadUse, read_file
+from steps import Unit
+
+FIRST_CODE, CODES = 33, 94  # a signal's code is made of these characters
+
+# The characters of a text that GTKWave reads escaped.
+ESCAPED = {ord(" "): "\\x20", ord("\t"): "\\t", ord("\\"): "\\\\"}
+
+ANSWERS = ("reply", "call", "drop")
+
+
+def code_of(place):
+    """The code of the signal at a place."""
+    code = ""
+    while place >= 0:
+        code += chr(FIRST_CODE + place % CODES)
+        place = place // CODES - 1
+    return code
+
+
+def width_of(unit):
+    """How many bits the value of a unit has."""
+    if unit.kind == "line":
+        return 1
+    kind = names.NODES[unit.number].kind
+    return 2 if kind == "processor" or len(names.STATES.get(kind, ())) > 2 else 1
+
+
+def scopes():
+    """The scopes with their units: each power domain without a parent, with its own, and the reset lines."""
+    nodes = [node for node in names.NODES.values() if names.is_in_table(node.number)]
+    for power in (node for node in nodes if node.kind == "power" and node.parent is None):
+        yield from scopes_below(power, nodes, ())
+    yield ("reset_lines",), [Unit("line", node.number) for node in nodes if names.is_line(node.number)]
+
+
+def scopes_below(power, nodes, above):
+    """The scope of a power node: it and what is directly below it, and then the power nodes below."""
+    below = [node for node in nodes if node.parent == power.number]
+    path = (*above, power.name)
+    yield path, [Unit("node", node.number) for node in (power, *below) if node is power or node.kind != "power"]
+    for node in below:
+        if node.kind == "power":
+            yield from scopes_below(node, nodes, path)
+
+
+def name_of(unit):
+    return names.line_name(unit.number) if unit.kind == "line" else names.node_name(unit.number)
+
+
+def value_text(unit, value, code):
+    """A value change of a unit."""
+    width = width_of(unit)
+    return f"{value}{code}" if width == 1 else f"b{value:0{width}b} {code}"
+
+
+def text_change(text, code):
+    return f"s{text.translate(ESCAPED) or chr(92) + 'x20'} {code}"
+
+
+def declarations(codes, texts):
+    """The part of a dump that declares the scopes and signals."""
+    yield from ("$comment pmu --vcd replay $end", "$timescale 1 s $end", "$scope module script $end")
+    yield from (f"$var string 1 {code} {name} $end" for name, code in texts.items())
+    yield "$upscope $end"
+    open_path = ()
+    for path, units in scopes():
+        while path[: len(open_path)] != open_path:
+            open_path = open_path[:-1]
+            yield "$upscope $end"
+        yield from (f"$scope module {name} $end" for name in path[len(open_path) :])
+        yield from (f"$var wire {width_of(unit)} {codes[unit]} {name_of(unit)} $end" for unit in units)
+        open_path = path
+    yield from ["$upscope $end"] * len(open_path)
+    yield "$enddefinitions $end"
+
+
+def answers_of(lines, script):
+    """By step what is answered and told in it, in words."""
+    found = {}
+    for line, meaning in zip(lines, annotate.meanings_of_replay(lines, script)):
+        step, kind, *_ = line.split()
+        if step != "end" and kind in ANSWERS:
+            found.setdefault(int(step), []).append(meaning)
+    return {step: "; ".join(said) for step, said in found.items()}
+
+
+def dump(told, script):
+    """The lines of the dump of the steps of a script in numbers."""
+    units = [unit for _, members in scopes() for unit in members]
+    codes = {unit: code_of(place) for place, unit in enumerate(units)}
+    texts = {"line": code_of(len(units)), "answer": code_of(len(units) + 1)}
+    yield from declarations(codes, texts)
+    first, answers = dict(told.changes[0]), answers_of(told.lines, script)
+    yield from ("#0", "$dumpvars", text_change("load", texts["line"]), text_change(answers.get(0, ""), texts["answer"]))
+    yield from (value_text(unit, first.get(unit, 0), codes[unit]) for unit in units)
+    yield "$end"
+    for step, line in enumerate(script, 1):
+        yield f"#{step}"
+        yield text_change(to_names.line_in_names(line, {}), texts["line"])
+        yield text_change(answers.get(step, ""), texts["answer"])
+        yield from (value_text(unit, value, codes[unit]) for unit, value in told.changes[step])
+    yield f"#{len(script) + 1}"
+
+
+def main(words):
+    if len(words) != 3 or words[0] != "replay":
+        raise BadUse("--vcd is followed by replay OBJ SCRIPT")
+    content = to_numbers.in_numbers(read_file(words[2]), words[2])
+    with tempfile.TemporaryDirectory() as room:
+        told = steps.steps_of(words[1], content, room, words[2])
+    sys.stdout.writelines(line + "\n" for line in dump(told, steps.script_lines(content)))
+    return 0
