@@ -7,8 +7,8 @@ use Rattle.pm_device.specs.Device.{DeviceMoment}
 use Rattle.pm_core.specs.declared.outbox.Done.{Done}
 use Rattle.pm_core.specs.declared.outbox.Outbox.{Outbox}
 use Rattle.pm_core.specs.Outbox.{Outputs, outputs_in}
-use Rattle.pm_core.specs.State.{State}
-use Rattle.pm_core.specs.Values.{value}
+use Rattle.pm_state.specs.State.{State}
+use Rattle.pm_state.specs.Values.{value}
 use Rattle.pm_apply.specs.Carried.{AreMarked, KeepsRest, Takes}
 use Rattle.pm_apply.specs.Order.{IsOrdered, LagsAreExplained}
 use Rattle.pm_apply.specs.Part.{Part, answers_in, orders_in, orders_of, part_in, part_of}

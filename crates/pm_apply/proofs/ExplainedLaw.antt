@@ -13,7 +13,7 @@ use Rattle.pm_topology.specs.declared.topology.PowerDef.{PowerDef}
 use Rattle.pm_topology.specs.Places.{parent_at, IsAtOrAbove, here as at_it, higher}
 use Rattle.pm_topology.specs.WellFormed.{IsWellFormed}
 use Rattle.pm_core.specs.declared.outbox.Done.{Done}
-use Rattle.pm_core.specs.Fed.{IsFed}
+use Rattle.pm_state.specs.Fed.{IsFed}
 use Rattle.pm_topology.specs.Units.{units_of}
 use Rattle.pm_apply.proofs.Below.{ChipLaws}
 use Rattle.pm_apply.specs.declared.turns.Turn.{Turn}

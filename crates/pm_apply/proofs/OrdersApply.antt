@@ -15,7 +15,7 @@ use Rattle.pm_topology.specs.Places.{parent_of}
 use Rattle.pm_topology.specs.WellFormed.{IsWellFormed}
 use Rattle.pm_topology.specs.Units.{needs_power, parent_of_unit, same_unit}
 use Rattle.pm_core.specs.declared.outbox.Done.{Done}
-use Rattle.pm_core.specs.Fed.{IsFed}
+use Rattle.pm_state.specs.Fed.{IsFed}
 use Rattle.pm_apply.proofs.Below.{ChipLaws}
 use Rattle.pm_apply.specs.declared.turns.Turn.TheVariants.{Pulse, Apply}
 use Rattle.pm_apply.specs.Record.{Kept, kept_value, IsRecordOf}

@@ -12,7 +12,7 @@ use Rattle.pm_topology.specs.declared.topology.PowerDef.{PowerDef}
 use Rattle.pm_topology.specs.Places.{parent_of, power_parent, IsAtOrAbove, higher}
 use Rattle.pm_topology.specs.WellFormed.{IsWellFormed}
 use Rattle.pm_core.specs.declared.outbox.Done.{Done}
-use Rattle.pm_core.specs.Fed.{IsFed}
+use Rattle.pm_state.specs.Fed.{IsFed}
 use Rattle.pm_apply.proofs.Below.{ChipLaws}
 use Rattle.pm_apply.specs.Record.{Kept, kept_value}
 use Rattle.pm_apply.specs.Plan.{is_fed, power_value}

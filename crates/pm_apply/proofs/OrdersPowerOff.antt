@@ -12,7 +12,7 @@ use Rattle.pm_topology.specs.declared.topology.PowerDef.{PowerDef}
 use Rattle.pm_topology.specs.Places.{parent_of, parent_at, power_parent, IsAtOrAbove, IsBelow, here as at_it, higher}
 use Rattle.pm_topology.specs.WellFormed.{IsWellFormed}
 use Rattle.pm_core.specs.declared.outbox.Done.{Done}
-use Rattle.pm_core.specs.Fed.{IsFed}
+use Rattle.pm_state.specs.Fed.{IsFed}
 use Rattle.pm_topology.specs.UnitMap.{units_in}
 use Rattle.pm_topology.specs.Units.{has_in, units_of}
 use Rattle.pm_apply.proofs.Below.{ChipLaws}

@@ -11,7 +11,7 @@ use Rattle.pm_topology.specs.declared.topology.PowerDef.{PowerDef}
 use Rattle.pm_topology.specs.Places.{here as at_it}
 use Rattle.pm_topology.specs.WellFormed.{IsWellFormed}
 use Rattle.pm_core.specs.declared.outbox.Done.{Done}
-use Rattle.pm_core.specs.Fed.{IsFed}
+use Rattle.pm_state.specs.Fed.{IsFed}
 use Rattle.pm_apply.proofs.Below.{ChipLaws}
 use Rattle.pm_apply.specs.declared.turns.Turn.TheVariants.{PowerOn}
 use Rattle.pm_apply.specs.Record.{Kept, kept_value, IsRecordOf}

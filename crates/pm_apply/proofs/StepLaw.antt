@@ -12,10 +12,10 @@ use Rattle.pm_device.specs.Act.{AreHarmless, refusals, values_after}
 use Rattle.pm_topology.specs.Units.{has_unit}
 use Rattle.pm_core.specs.declared.outbox.Done.{Done}
 use Rattle.pm_core.specs.Outbox.{Outputs}
-use Rattle.pm_core.specs.State.{State}
+use Rattle.pm_state.specs.State.{State}
 use Rattle.pm_topology.specs.Units.{units_of}
-use Rattle.pm_core.specs.Values.{value}
-use Rattle.pm_core.specs.Fed.{IsFed}
+use Rattle.pm_state.specs.Values.{value}
+use Rattle.pm_state.specs.Fed.{IsFed}
 use Rattle.pm_apply.proofs.Below.{ChipLaws}
 use Rattle.pm_apply.specs.declared.turns.Turn.{Turn}
 use Rattle.pm_apply.specs.Carried.{AreMarked}

@@ -30,7 +30,7 @@ KeepsRest-trans before middle after one two = record {
   pulse = two.pulse ∙ one.pulse;
   starts = two.starts ∙ one.starts;
   late = two.late ∙ one.late;
-  calls = two.calls ∙ one.calls;
+  callbacks = two.callbacks ∙ one.callbacks;
   answer = two.answer ∙ one.answer;
 }
 

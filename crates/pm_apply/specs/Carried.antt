@@ -27,7 +27,7 @@ pub record KeepsRest (before after : Outbox) : Type 0 where
   pub pulse : after.pulse ≡ before.pulse
   pub starts : after.starts ≡ before.starts
   pub late : after.late ≡ before.late
-  pub calls : after.calls ≡ before.calls
+  pub callbacks : after.callbacks ≡ before.callbacks
   pub answer : after.answer ≡ before.answer
 
 -- the marks of a record: each unit of the chip lags exactly where its value isn't this one

@@ -6,8 +6,8 @@ use Rattle.pm_core.specs.declared.outbox.Done.{Done}
 use Rattle.pm_core.specs.declared.outbox.Outbox.{Outbox}
 use Rattle.pm_core.specs.declared.replies.Answer.{Answer}
 use Rattle.pm_core.specs.Outbox.{Outputs}
-use Rattle.pm_core.specs.State.{State}
-use Rattle.pm_core.specs.Values.{value}
+use Rattle.pm_state.specs.State.{State}
+use Rattle.pm_state.specs.Values.{value}
 use Rattle.pm_apply.specs.Plan.{answers_of, plan, turns_of}
 use Rattle.pm_apply.specs.Record.{marked}
 pub use Rattle.pm_apply.specs.Record.{Kept}

@@ -37,9 +37,7 @@ pulse_turn (Some line) unit = if same_unit (Line line) unit then Pulse line ∷ 
 -- the pulse that stands before a turn: before that of a unit its own
 abbrev pub pulse_before : Option LineId → Turn → List Turn
 pulse_before pulse (Apply unit) = pulse_turn pulse unit
-pulse_before pulse (PowerOn w) = []
-pulse_before pulse (Pulse line) = []
-pulse_before pulse (PowerOff w) = []
+pulse_before pulse _ = []
 
 abbrev pub with_pulse : Option LineId → Turn → List Turn
 with_pulse pulse turn = pulse_before pulse turn ++ turn ∷ []
@@ -56,12 +54,10 @@ power_value t kept w = option_map_or (λ (p : PowerDef). kept_value kept (Node p
 
 -- by the record the power node above is up, or there is none above
 abbrev pub is_fed : Topology → Kept → Option ℕ → Bool
-is_fed t kept None = true
-is_fed t kept (Some w) = not (power_value t kept w == 0)
+is_fed t kept parent = option_map_or (λ w. not (power_value t kept w == 0)) parent true
 
 abbrev pub is_place : ℕ → Option ℕ → Bool
-is_place w None = false
-is_place w (Some v) = v == w
+is_place w place = option_map_or (λ v. v == w) place false
 
 -- by the record some unit directly below the power node at a place needs power
 abbrev pub is_used : Topology → Kept → ℕ → Bool
@@ -79,8 +75,7 @@ abbrev pub command : Unit → ℕ → Command
 command unit value = record { unit = unit; value = value }
 
 abbrev pub where_due : Bool → Command → Option Command
-where_due true c = Some c
-where_due false c = None
+where_due due c = if due then Some c else None
 
 -- a power node that is up in the book and down in the record goes up, unless its parent is down in the record
 abbrev pub power_on : Topology → (Unit → ℕ) → Kept → Option PowerDef → Option Command

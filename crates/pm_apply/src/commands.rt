@@ -2,9 +2,9 @@
 
 ghost use Rattle.std.specs.Prelude.{◌≡◌, ◌+◌, ◌<◌, ◌≤◌, ◌∷◌, [], IfSome, length, option_to_list};
 ghost use Rattle.pm_topology.specs.WellFormed.{IsWellFormed};
-ghost use Rattle.pm_core.specs.Fed.{IsFed};
+ghost use Rattle.pm_state.specs.Fed.{IsFed};
 ghost use Rattle.pm_core.specs.Outbox.{HasRoomFor, KeepsRoom, outputs_in};
-ghost use Rattle.pm_core.specs.Values.{value};
+ghost use Rattle.pm_state.specs.Values.{value};
 ghost use Rattle.pm_device.specs.Act.{AreHarmless, Chain, ShowsAll};
 ghost use Rattle.pm_apply.specs.Carried.{AreMarked, KeepsRest, Takes};
 ghost use Rattle.pm_apply.specs.Order.{IsOrdered, LagsAreExplained};
@@ -58,7 +58,7 @@ pub fn carry<D: Device>(dev: &mut D, kept: &mut Kept, book: &Book, out: &mut Out
     ensures pulse { out.new.pulse ≡ out.old.pulse }
     ensures starts { out.new.starts ≡ out.old.starts }
     ensures late { out.new.late ≡ out.old.late }
-    ensures calls { out.new.calls ≡ out.old.calls }
+    ensures callbacks { out.new.callbacks ≡ out.old.callbacks }
     ensures answer { out.new.answer ≡ out.old.answer }
 {
     each_part_is_safe();

@@ -2,7 +2,7 @@
 
 ghost use Rattle.std.specs.Prelude.{◌≡◌, IfOk, IfSome, slice_get};
 ghost use Rattle.pm_topology.specs.UnitMap.{with_value_at};
-ghost use Rattle.pm_core.specs.Values.{value};
+ghost use Rattle.pm_state.specs.Values.{value};
 ghost use Rattle.pm_apply.specs.Plan.{after_answer};
 ghost use Rattle.pm_apply.specs.Record.{IsAtZero, IsRecordOf, at_zero, idle, keep, kept_of, kept_value, lags_in, mark, marked};
 

@@ -4,8 +4,8 @@ ghost use Rattle.std.specs.Prelude.{◌≡◌, ◌<◌, ◌==◌, ◌&&◌, ◌|
 ghost use Rattle.pm_base.specs.declared.names.Unit.TheVariants.{Node};
 ghost use Rattle.pm_topology.specs.WellFormed.{IsWellFormed};
 ghost use Rattle.pm_topology.specs.Units.{needs_power, parent_of_unit};
-ghost use Rattle.pm_core.specs.Fed.{IsFed};
-ghost use Rattle.pm_core.specs.Values.{value};
+ghost use Rattle.pm_state.specs.Fed.{IsFed};
+ghost use Rattle.pm_state.specs.Values.{value};
 ghost use Rattle.pm_apply.specs.Plan.{due, is_fed, is_place, is_power, is_power_kind, is_used, power_off, power_value, power_on, apply, pulse, pulse_before, pulse_turn, unit_turns, where_due};
 ghost use Rattle.pm_apply.specs.Record.{kept_value};
 

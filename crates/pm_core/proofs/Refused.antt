@@ -4,7 +4,6 @@ use Rattle.std.specs.Prelude.{flat_map, option_and_then}
 use Rattle.std.proofs.lemmas.Bool.{eq-eqb}
 use Rattle.pm_base.specs.declared.events.Event.{Event}
 use Rattle.pm_base.specs.declared.events.Event.TheVariants.{Ipi}
-use Rattle.pm_base.specs.declared.events.Message.{Message}
 use Rattle.pm_base.specs.declared.names.Mode.{Mode}
 use Rattle.pm_base.specs.declared.names.Mode.TheVariants.{Off, Active, Asleep, Suspending}
 use Rattle.pm_base.specs.declared.names.NodeId.{NodeId}
@@ -20,24 +19,27 @@ use Rattle.pm_object.specs.declared.object.MasterRec.{MasterRec}
 use Rattle.pm_procs.specs.Modes.{is_awake, same_mode}
 use Rattle.pm_procs.specs.declared.pending.Pending.{Pending}
 use Rattle.pm_base.proofs.Booleans.{both}
-use Rattle.pm_core.specs.declared.ended.Ended.{Ended}
-use Rattle.pm_core.specs.declared.step.Served.{Served}
-use Rattle.pm_core.specs.declared.verdict.Effects.{Effects}
-use Rattle.pm_core.specs.declared.verdict.Say.{Say}
-use Rattle.pm_core.specs.Callbacks.{News, note_changes_at, note_changes_from}
-use Rattle.pm_core.specs.Ended.{ended_at, ended_from, turns_along}
-use Rattle.pm_core.specs.Served.{kept_at, kept_of, own_note}
-use Rattle.pm_core.specs.Members.{mode_of_master}
-use Rattle.pm_core.specs.Notifications.{happened, log_if, notes_about, notifications, used}
-use Rattle.pm_core.specs.Checks.{Cause, Fits, Stands, first_failing}
-use Rattle.pm_core.specs.Prims.{Prim}
-use Rattle.pm_core.specs.Stages.{after_stages, path_from}
-use Rattle.pm_core.specs.State.{State, in_force}
-use Rattle.pm_core.specs.Step.{call_in, called, effect, heard_at, is_heard, is_refused, message_stages, modes_in, served, tellings, verdict}
-use Rattle.pm_core.specs.Talk.{Talk, forgets_from, talk_of, talked, wait_of}
-use Rattle.pm_core.specs.Units.{units}
-use Rattle.pm_core.specs.Values.{master_place, value}
-use Rattle.pm_core.specs.Verdict.{Called, aborted_by, asked_by, is_refusal, response_of, says_of, stages_by, verdict_by, verdict_of}
+use Rattle.pm_tell.specs.declared.ended.Ended.{Ended}
+use Rattle.pm_tell.specs.declared.served.Served.{Served}
+use Rattle.pm_calls.specs.declared.verdict.Effects.{Effects}
+use Rattle.pm_calls.specs.declared.verdict.Say.{Say}
+use Rattle.pm_tell.specs.Callbacks.{News, note_changes_at, note_changes_from}
+use Rattle.pm_tell.specs.Ended.{ended_at, ended_from}
+use Rattle.pm_values.specs.Turns.{turns_along}
+use Rattle.pm_tell.specs.Served.{kept_at, kept_of, own_note}
+use Rattle.pm_state.specs.Members.{mode_of_master}
+use Rattle.pm_values.specs.Notifications.{happened, log_if, notes_about, notifications, used}
+use Rattle.pm_calls.specs.Checks.{Cause, Fits, Stands, first_failing}
+use Rattle.pm_state.specs.Prims.{Prim}
+use Rattle.pm_state.specs.Stages.{after_stages, path_from}
+use Rattle.pm_state.specs.State.{State, in_force}
+use Rattle.pm_core.specs.Step.{call_in, called, effect, call_at, may_call, is_refused, message_stages, modes_in, served, verdict}
+use Rattle.pm_tell.specs.Telling.{tellings}
+use Rattle.pm_state.specs.Talk.{Talk, talked, wait_of}
+use Rattle.pm_tell.specs.Opening.{forgets_from, talk_of}
+use Rattle.pm_state.specs.Units.{units}
+use Rattle.pm_state.specs.Values.{master_place, value}
+use Rattle.pm_calls.specs.Verdict.{Called, aborted_by, asked_by, is_refusal, response_of, says_of, stages_by, verdict_by, verdict_of}
 
 -- nothing comes of it
 record DoesNothing (call : Option Called) : Type 0 where
@@ -48,15 +50,15 @@ refused_by : (cause : Cause) (stages : List (List Prim)) (effects : Effects) →
 refused_by (Stands Fits) stages effects fails = cc
 refused_by _ stages effects fails = (refl, refl)
 
-heard_refused : (call : Call) (book : State) (m : ℕ) (heard : Bool) → IsTrue (is_refusal (verdict (if heard then Some (called m call book) else None))) → DoesNothing (if heard then Some (called m call book) else None)
-heard_refused call book m true fails =
+call_refused_if : (call : Call) (book : State) (m : ℕ) (heard : Bool) → IsTrue (is_refusal (verdict (if heard then Some (called m call book) else None))) → DoesNothing (if heard then Some (called m call book) else None)
+call_refused_if call book m true fails =
     let nothing = refused_by (first_failing (called m call book).checks) (called m call book).stages (called m call book).effects fails in
     record { stages = nothing.0; says = nothing.1 }
-heard_refused call book m false fails = record { stages = refl; says = refl }
+call_refused_if call book m false fails = record { stages = refl; says = refl }
 
-refused_at : (call : Call) (book : State) (place : Option ℕ) → IsTrue (is_refusal (verdict (option_and_then (heard_at call book) place))) → DoesNothing (option_and_then (heard_at call book) place)
+refused_at : (call : Call) (book : State) (place : Option ℕ) → IsTrue (is_refusal (verdict (option_and_then (call_at call book) place))) → DoesNothing (option_and_then (call_at call book) place)
 refused_at call book None fails = record { stages = refl; says = refl }
-refused_at call book (Some m) fails = heard_refused call book m (is_heard m book) fails
+refused_at call book (Some m) fails = call_refused_if call book m (may_call m book) fails
 
 -- where no mode changes, nobody aborts and no time passes, no request ends
 none_aborts : (m : ℕ) (request : Option Pending) (before : State) → ended_at (turns_along before [] m) None None m request ≡ []
@@ -104,13 +106,13 @@ none_to k Active notes = refl
 none_to k Asleep notes = refl
 none_to k Suspending notes = refl
 
-none_noted : (book : State) (notes : List MasterNotes) (k : ℕ) (masters : List MasterRec) → note_changes_from no_news (modes_in book) notes book k masters ≡ []
-none_noted book notes k [] = refl
-none_noted book notes k (master ∷ masters) =
+none_changed : (book : State) (notes : List MasterNotes) (k : ℕ) (masters : List MasterRec) → note_changes_from no_news (modes_in book) notes book k masters ≡ []
+none_changed book notes k [] = refl
+none_changed book notes k (master ∷ masters) =
     ap (λ changes. changes ++ note_changes_from no_news (modes_in book) notes book (k + 1) masters) (none_to k (modes_in book k) (notes_for k notes))
-    ∙ none_noted book notes (k + 1) masters
+    ∙ none_changed book notes (k + 1) masters
 
--- a master that is heard is awake, so nothing is kept for it where the book stays
+-- a master that may call is awake, so nothing is kept for it where the book stays
 kept_awake : (m : ℕ) (mode : Mode) (due : List Waiting) → is_awake mode ≡ true → (if same_mode mode Asleep then map (wait_of m) due else []) ≡ []
 kept_awake m Off due awake = cc
 kept_awake m Active due awake = refl
@@ -126,16 +128,16 @@ nothing_kept m Suspending = refl
 abbrev served_as : NodeId → Call → Option Called → Served
 served_as master call in_book = record { master = master; call = call; verdict = verdict in_book }
 
-kept_heard : (master : NodeId) (call : Call) (book : State) (m : ℕ) (heard : Bool) → master_place master book ≡ Some m → is_heard m book ≡ heard → kept_of (Some (served_as master call (if heard then Some (called m call book) else None))) book ≡ []
-kept_heard master call book m false place heard = ap (λ p. kept_at p [] book) place ∙ nothing_kept m (mode_of_master book.fixed book.now.core m)
-kept_heard master call book m true place heard =
+kept_if : (master : NodeId) (call : Call) (book : State) (m : ℕ) (heard : Bool) → master_place master book ≡ Some m → may_call m book ≡ heard → kept_of (Some (served_as master call (if heard then Some (called m call book) else None))) book ≡ []
+kept_if master call book m false place heard = ap (λ p. kept_at p [] book) place ∙ nothing_kept m (mode_of_master book.fixed book.now.core m)
+kept_if master call book m true place heard =
     let due : List Waiting = own_note (response_of (verdict_of (called m call book))) (ack_of call) (node_of call) in
     ap (λ p. kept_at p due book) place ∙ kept_awake m (mode_of_master book.fixed book.now.core m) due
     (both (not book.now.core.halted) (is_awake (mode_of_master book.fixed book.now.core m)) heard).1
 
-none_kept : (master : NodeId) (call : Call) (book : State) (place : Option ℕ) → master_place master book ≡ place → kept_of (Some (served_as master call (option_and_then (heard_at call book) place))) book ≡ []
+none_kept : (master : NodeId) (call : Call) (book : State) (place : Option ℕ) → master_place master book ≡ place → kept_of (Some (served_as master call (option_and_then (call_at call book) place))) book ≡ []
 none_kept master call book None is = ap (λ p. kept_at p [] book) is
-none_kept master call book (Some m) is = kept_heard master call book m (is_heard m book) is refl
+none_kept master call book (Some m) is = kept_if master call book m (may_call m book) is refl
 
 -- all that is told where nothing comes of a message
 abbrev tells : (book : State) (served : Option Served) (stages : List (List Prim)) (says : Option Say) (ended : List Ended) (notices : List Waiting) → List Talk
@@ -151,7 +153,7 @@ tells_nothing book served ended notices none_ended none_noticed kept =
     ap (λ es. tells book served [] None es notices) none_ended
     ∙ (ap (λ ns. tells book served [] None [] ns) none_noticed
     ∙ (ap (λ fs. tellings no_news (modes_in book) (talk_of None fs None []) served book) (none_forgets 0 masters book)
-    ∙ (ap (λ ms. ms ++ kept_of served book) (none_noted book book.now.talk.notes 0 masters) ∙ kept)))
+    ∙ (ap (λ ms. ms ++ kept_of served book) (none_changed book book.now.talk.notes 0 masters) ∙ kept)))
 
 -- the book after a message of which nothing comes
 abbrev after_with : (book : State) (served : Option Served) (stages : List (List Prim)) (says : Option Say) → State

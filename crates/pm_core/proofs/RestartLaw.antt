@@ -3,7 +3,6 @@ use Rattle.std.proofs.Common.{◌≡◌, ℕ, ◌+◌, ◌<◌, ◌==◌, Bool, 
 use Rattle.std.specs.Prelude.{option_and_then, slice_set}
 use Rattle.pm_base.specs.declared.events.Event.{Event}
 use Rattle.pm_base.specs.declared.events.Event.TheVariants.{Ipi}
-use Rattle.pm_base.specs.declared.events.Message.{Message}
 use Rattle.pm_base.specs.declared.names.Mode.{Mode}
 use Rattle.pm_base.specs.declared.names.Mode.TheVariants.{Off, Active, Asleep, Suspending}
 use Rattle.pm_ipi.specs.Calls.{call_of}
@@ -14,47 +13,49 @@ use Rattle.pm_procs.specs.declared.pending.Pending.{Pending}
 use Rattle.pm_procs.specs.Modes.{same_mode}
 use Rattle.pm_procs.specs.Pending.{all_ended, ended, none_pending, pending_at}
 use Rattle.pm_rows.specs.Rows.{mode_of}
-use Rattle.pm_core.specs.declared.ended.Ended.{Ended}
-use Rattle.pm_core.specs.declared.scope.Scope.TheVariants.{All}
-use Rattle.pm_core.specs.Load.{load_of}
-use Rattle.pm_core.specs.Members.{mode_of_master}
-use Rattle.pm_core.specs.Checks.{Cause, Fits, Stands, first_failing}
-use Rattle.pm_core.specs.Prims.{Prim, Shift, changed}
-use Rattle.pm_core.specs.Scope.{offs}
-use Rattle.pm_core.specs.Sound.{AreNotes, IsSound}
-use Rattle.pm_core.specs.Stages.{after_stage, after_stages, follow, follow_at, follow_from, follow_to}
-use Rattle.pm_core.specs.State.{Fixed, CoreHalf, TalkHalf, State, in_force}
-use Rattle.pm_core.specs.Step.{call_in, called, effect, heard_at, is_heard, message_stages, modes_in, news, path, renews, served, tellings, verdict}
+use Rattle.pm_tell.specs.declared.ended.Ended.{Ended}
+use Rattle.pm_state.specs.declared.scope.Scope.TheVariants.{All}
+use Rattle.pm_state.specs.Load.{load_of}
+use Rattle.pm_state.specs.Members.{mode_of_master}
+use Rattle.pm_calls.specs.Checks.{Cause, Fits, Stands, first_failing}
+use Rattle.pm_state.specs.Prims.{Prim, Shift, changed}
+use Rattle.pm_state.specs.Scope.{offs}
+use Rattle.pm_state.specs.Sound.{AreNotes, IsSound}
+use Rattle.pm_state.specs.Stages.{after_stage, after_stages, follow, follow_at, follow_from, follow_to}
+use Rattle.pm_state.specs.State.{Fixed, CoreHalf, TalkHalf, State, in_force}
+use Rattle.pm_core.specs.Step.{call_in, called, effect, call_at, may_call, message_stages, modes_in, news, path, renews, served, verdict}
+use Rattle.pm_tell.specs.Telling.{tellings}
 use Rattle.pm_core.specs.Step as step
-use Rattle.pm_core.specs.Talk.{Talk, ends, forgets_from, talk_of, talked, talks}
-use Rattle.pm_core.specs.Values.{master_place}
-use Rattle.pm_core.specs.calls.RegisterNotifier.{notifier_put}
-use Rattle.pm_core.specs.calls.RequestSuspend.{target_asked}
-use Rattle.pm_core.specs.calls.SystemShutdown.{renewal, restart_all, restarts_all}
+use Rattle.pm_state.specs.Talk.{Talk, talked, talks}
+use Rattle.pm_tell.specs.Opening.{ends, forgets_from, talk_of}
+use Rattle.pm_state.specs.Values.{master_place}
+use Rattle.pm_calls.specs.calls.RegisterNotifier.{notifier_put}
+use Rattle.pm_calls.specs.calls.RequestSuspend.{target_asked}
+use Rattle.pm_calls.specs.calls.SystemShutdown.{renewal, restart_all, restarts_all}
 use Rattle.pm_notify.specs.Notes.{event_of}
 use Rattle.std.proofs.lemmas.List.Quantifiers.{position-Some}
 use Rattle.pm_notify.specs.MasterNotes.{MasterNotes}
 use Rattle.pm_notify.specs.Notify.{all_forgotten, loaded}
 use Rattle.pm_topology.specs.declared.topology.Topology.{Topology}
-use Rattle.pm_core.specs.declared.ended.Turns.{Turns}
-use Rattle.pm_core.specs.declared.step.Served.{Served}
-use Rattle.pm_core.specs.declared.verdict.Effects.{Effects}
-use Rattle.pm_core.specs.declared.verdict.Say.{Say}
-use Rattle.pm_core.specs.declared.verdict.Say.TheVariants.{Renew as SaysRenew}
-use Rattle.pm_core.specs.Boot.{boot_master}
-use Rattle.pm_core.specs.Callbacks.{News, note_changes_from}
-use Rattle.pm_core.specs.Ended.{turns_along}
-use Rattle.pm_core.specs.Served.{kept_of}
-use Rattle.pm_core.specs.Verdict.{Called, renews_all, says_of, stages_by, verdict_by}
-use Rattle.pm_core.specs.Views.{suspend_view}
-use Rattle.pm_core.proofs.LoadLaw.{load_sound}
-use Rattle.pm_core.proofs.RenewLaw.{all_told, forgets_none, kept_none, none_asleep}
-use Rattle.pm_core.proofs.TalkLemmas.{talks_append}
-use Rattle.pm_core.proofs.PendingLaw.{RequestLaws}
-use Rattle.pm_core.proofs.ScopeSound.{KeepLaws, offs_free, reload_is, stage_kept}
-use Rattle.pm_core.proofs.ShutdownCases.{all_restart}
-use Rattle.pm_core.proofs.StageLaw.{within}
-use Rattle.pm_core.proofs.Verdicts.{mapped}
+use Rattle.pm_values.specs.declared.turns.Turns.{Turns}
+use Rattle.pm_tell.specs.declared.served.Served.{Served}
+use Rattle.pm_calls.specs.declared.verdict.Effects.{Effects}
+use Rattle.pm_calls.specs.declared.verdict.Say.{Say}
+use Rattle.pm_calls.specs.declared.verdict.Say.TheVariants.{Renew as SaysRenew}
+use Rattle.pm_state.specs.Boot.{boot_master}
+use Rattle.pm_tell.specs.Callbacks.{News, note_changes_from}
+use Rattle.pm_values.specs.Turns.{turns_along}
+use Rattle.pm_tell.specs.Served.{kept_of}
+use Rattle.pm_calls.specs.Verdict.{Called, renews_all, says_of, stages_by, verdict_by}
+use Rattle.pm_calls.specs.Views.{suspend_view}
+use Rattle.pm_state.proofs.LoadLaw.{load_sound}
+use Rattle.pm_tell.proofs.RenewLaw.{all_told, forgets_none, kept_none, none_asleep}
+use Rattle.pm_tell.proofs.TalkLemmas.{talks_append}
+use Rattle.pm_state.proofs.PendingLaw.{RequestLaws}
+use Rattle.pm_state.proofs.ScopeSound.{KeepLaws, offs_free, reload_is, stage_kept}
+use Rattle.pm_calls.proofs.ShutdownCases.{all_restart}
+use Rattle.pm_state.proofs.StageLaw.{within}
+use Rattle.pm_calls.proofs.Verdicts.{mapped}
 
 -- ---- which messages restart all
 
@@ -87,16 +88,16 @@ restarts_by : (fixed : Fixed) (cause : Cause) (stages : List (List Prim)) (effec
 restarts_by fixed (Stands Fits) stages effects restarts = restarts
 restarts_by fixed _ stages effects restarts = λ is. cc
 
-heard_restarts : (call : Call) (book : State) (m : ℕ) (heard : Bool) → renews_all (says_of (verdict (if heard then Some (called m call book) else None))) ≡ true → Restarts book.fixed (if heard then Some (called m call book) else None)
-heard_restarts call book m true is =
+call_restarts_if : (call : Call) (book : State) (m : ℕ) (heard : Bool) → renews_all (says_of (verdict (if heard then Some (called m call book) else None))) ≡ true → Restarts book.fixed (if heard then Some (called m call book) else None)
+call_restarts_if call book m true is =
     let x : Called = called m call book in
     let all = restarts_by book.fixed (first_failing x.checks) x.stages x.effects (call_restarts m call book) is in
     record { stages = all.0; says = all.1 }
-heard_restarts call book m false is = cc
+call_restarts_if call book m false is = cc
 
-message_restarts : (call : Call) (book : State) (place : Option ℕ) → renews_all (says_of (verdict (option_and_then (heard_at call book) place))) ≡ true → Restarts book.fixed (option_and_then (heard_at call book) place)
+message_restarts : (call : Call) (book : State) (place : Option ℕ) → renews_all (says_of (verdict (option_and_then (call_at call book) place))) ≡ true → Restarts book.fixed (option_and_then (call_at call book) place)
 message_restarts call book None is = cc
-message_restarts call book (Some m) is = heard_restarts call book m (is_heard m book) is
+message_restarts call book (Some m) is = call_restarts_if call book m (may_call m book) is
 
 -- ---- nothing follows the load
 

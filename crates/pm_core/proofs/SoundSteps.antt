@@ -1,11 +1,10 @@
 -- Each step keeps the book sound.
-use Rattle.std.proofs.Common.{◌≡◌, ◌≢◌, ℕ, ◌<◌, Bool, true, false, not, ◌&&◌, ◌==◌, if◌then◌else◌, IsTrue, List, [], ◌∷◌, length, is_some, Option, Some, None, refl, sym, subst, inl, inr}
+use Rattle.std.proofs.Common.{◌≡◌, ◌≢◌, ℕ, ◌<◌, Bool, true, false, not, ◌==◌, if◌then◌else◌, IsTrue, List, [], ◌∷◌, length, is_some, Option, Some, None, refl, sym, subst, inl, inr}
 use Rattle.std.specs.Prelude.{option_and_then, option_map}
 use Rattle.std.proofs.lemmas.List.Quantifiers.{position-Some}
 use Rattle.pm_base.specs.declared.caps.Caps.{Caps}
 use Rattle.pm_base.specs.declared.events.Event.{Event}
 use Rattle.pm_base.specs.declared.events.Event.TheVariants.{Ipi, Boot, Wfi, Irq, Gic}
-use Rattle.pm_base.specs.declared.events.Message.{Message}
 use Rattle.pm_base.specs.declared.names.Mode.{Mode}
 use Rattle.pm_base.specs.declared.names.Mode.TheVariants.{Off, Active, Asleep, Suspending}
 use Rattle.pm_ipi.specs.declared.calls.Call.{Call}
@@ -24,51 +23,55 @@ use Rattle.pm_rows.specs.Sound.{IsFit}
 use Rattle.pm_topology.specs.declared.places.Kind.{Kind}
 use Rattle.pm_topology.specs.declared.places.Kind.TheVariants.{Proc, Slave, Power, Unknown}
 use Rattle.pm_topology.specs.Places.{kind_of}
-use Rattle.pm_core.specs.declared.views.ProcView.{ProcView}
-use Rattle.pm_core.specs.declared.views.RowView.{RowView}
-use Rattle.pm_core.specs.declared.views.WakeView.{WakeView}
-use Rattle.pm_core.specs.Events.{boot, boot_at, boot_by, booted, interrupt, raised, wait, wait_at, wait_by, waits}
-use Rattle.pm_core.specs.ResetLines.{line_view}
-use Rattle.pm_core.specs.Members.{mode_of_master, owner_at}
-use Rattle.pm_core.specs.Checks.{AllHold, Fits, InUse}
-use Rattle.pm_core.specs.Prims.{Prim, At_row, Settle, Put_proc}
-use Rattle.pm_core.specs.ProcCalls.{address_in, is_in, proc_changes, put_at}
-use Rattle.pm_core.specs.RowCalls.{changes_of, row_changes, can_have, is_in_use}
-use Rattle.pm_core.specs.Sound.{IsSound, IsBook}
-use Rattle.pm_core.specs.Stages.{after_stage, after_stages}
-use Rattle.pm_core.specs.State.{State, in_force}
-use Rattle.pm_core.specs.Step.{called, effect, heard_at, is_heard, message_stages, stages, talk}
-use Rattle.pm_core.specs.Values.{master_place, slave_place}
-use Rattle.pm_core.specs.Verdict.{Called, stages_of}
-use Rattle.pm_core.specs.Views.{is_asked, row_view_at, proc_view, wake_view, rival_node, master_node}
-use Rattle.pm_core.specs.calls.AbortSuspend.{abort_suspend}
-use Rattle.pm_core.specs.declared.scope.Scope.TheVariants.{Under}
-use Rattle.pm_core.specs.calls.ForcePowerdown.{force_powerdown, force_stages}
-use Rattle.pm_core.specs.calls.InitFinalize.{init_finalize}
-use Rattle.pm_core.specs.calls.ReleaseNode.{release_node}
-use Rattle.pm_core.specs.calls.RequestNode.{request_checks, request_node, rivalled}
-use Rattle.pm_core.specs.calls.RequestWakeup.{request_wakeup}
-use Rattle.pm_core.specs.calls.ResetAssert.{reset_assert}
-use Rattle.pm_core.specs.calls.SelfSuspend.{self_suspend}
-use Rattle.pm_core.specs.calls.SetMaxLatency.{set_max_latency}
-use Rattle.pm_core.specs.calls.SetRequirement.{set_requirement, set_requirement_checks}
-use Rattle.pm_core.specs.calls.SetWakeupSource.{arming, set_wakeup_source, set_wakeup_source_checks}
-use Rattle.pm_core.specs.calls.SystemShutdown.{all_stages, own_stages, system_shutdown}
+use Rattle.pm_calls.specs.declared.views.ProcView.{ProcView}
+use Rattle.pm_calls.specs.declared.views.RowView.{RowView}
+use Rattle.pm_calls.specs.declared.views.WakeView.{WakeView}
+use Rattle.pm_calls.specs.Events.{boot, boot_at, boot_by, booted, interrupt, raised, wait, wait_at, wait_by, waits}
+use Rattle.pm_calls.specs.ResetLines.{line_view}
+use Rattle.pm_state.specs.Members.{mode_of_master, owner_at}
+use Rattle.pm_calls.specs.Checks.{AllHold, Fits, InUse}
+use Rattle.pm_state.specs.Prims.{Prim, At_row, Settle, Put_proc}
+use Rattle.pm_calls.specs.ProcCalls.{address_in, is_in, proc_changes, put_at}
+use Rattle.pm_calls.specs.RowCalls.{changes_of, row_changes, can_have, is_in_use}
+use Rattle.pm_state.specs.Sound.{IsSound, IsBook}
+use Rattle.pm_state.specs.Stages.{after_stage, after_stages}
+use Rattle.pm_state.specs.State.{State, in_force}
+use Rattle.pm_core.specs.Step.{called, effect, call_at, may_call, message_stages, stages, talk}
+use Rattle.pm_state.specs.Values.{master_place, slave_place}
+use Rattle.pm_calls.specs.Verdict.{Called, stages_of}
+use Rattle.pm_calls.specs.Views.{is_asked, row_view_at, proc_view, wake_view, rival_node}
+use Rattle.pm_state.specs.Nodes.{master_node}
+use Rattle.pm_calls.specs.calls.AbortSuspend.{abort_suspend}
+use Rattle.pm_state.specs.declared.scope.Scope.TheVariants.{Under}
+use Rattle.pm_calls.specs.calls.ForcePowerdown.{force_powerdown, force_stages}
+use Rattle.pm_calls.specs.calls.InitFinalize.{init_finalize}
+use Rattle.pm_calls.specs.calls.ReleaseNode.{release_node}
+use Rattle.pm_calls.specs.calls.RequestNode.{request_checks, request_node, rivalled}
+use Rattle.pm_calls.specs.calls.RequestWakeup.{request_wakeup}
+use Rattle.pm_calls.specs.calls.ResetAssert.{reset_assert}
+use Rattle.pm_calls.specs.calls.SelfSuspend.{self_suspend}
+use Rattle.pm_calls.specs.calls.SetMaxLatency.{set_max_latency}
+use Rattle.pm_calls.specs.calls.SetRequirement.{set_requirement, set_requirement_checks}
+use Rattle.pm_calls.specs.calls.SetWakeupSource.{arming, set_wakeup_source, set_wakeup_source_checks}
+use Rattle.pm_calls.specs.calls.SystemShutdown.{all_stages, own_stages, system_shutdown}
 use Rattle.std.proofs.lemmas.Bool.{eqb-true}
 use Rattle.pm_base.proofs.Booleans.{both}
 use Rattle.pm_base.proofs.Counts.{split}
 use Rattle.pm_base.specs.declared.names.NodeId.{NodeId}
-use Rattle.pm_core.proofs.ArmedLaw.{MayArm, arming_may}
-use Rattle.pm_core.proofs.Verdicts.{stages_either}
-use Rattle.pm_core.proofs.LoadLaw.{ModeLaws}
-use Rattle.pm_core.proofs.RowLaws.{RowLaws}
-use Rattle.pm_core.proofs.MasterNotesLaw.{talk_notes}
-use Rattle.pm_core.proofs.ScopeSound.{KeepLaws, all_free, clears_free, offs_free, own_free, stages_kept}
-use Rattle.pm_core.proofs.ShutdownCases.{each_shutdown}
-use Rattle.pm_core.proofs.PendingLaw.{RequestLaws, talk_keeps, talk_named}
-use Rattle.pm_core.proofs.StageLaw.{row, settle, put, stage_keeps, empty_keeps}
-use Rattle.pm_core.proofs.ResetSound.{reset_keeps}
-use Rattle.pm_core.proofs.WakeSound.{raised_keeps, interrupt_keeps, request_keeps}
+use Rattle.pm_state.proofs.ArmedLaw.{MayArm}
+use Rattle.pm_calls.proofs.ArmingLaw.{arming_may}
+use Rattle.pm_calls.proofs.Verdicts.{stages_either}
+use Rattle.pm_state.proofs.LoadLaw.{ModeLaws}
+use Rattle.pm_state.proofs.RowLaws.{RowLaws}
+use Rattle.pm_state.proofs.MasterNotesLaw.{talk_notes}
+use Rattle.pm_state.proofs.ScopeSound.{KeepLaws, clears_free, offs_free, stages_kept}
+use Rattle.pm_calls.proofs.ShutdownSound.{all_free, own_free}
+use Rattle.pm_calls.proofs.ShutdownCases.{each_shutdown}
+use Rattle.pm_state.proofs.PendingLaw.{RequestLaws, talk_keeps}
+use Rattle.pm_core.proofs.AskedLaw.{talk_named}
+use Rattle.pm_state.proofs.StageLaw.{row, settle, put, stage_keeps, empty_keeps}
+use Rattle.pm_calls.proofs.ResetSound.{reset_keeps}
+use Rattle.pm_calls.proofs.WakeSound.{raised_keeps, interrupt_keeps, request_keeps}
 
 -- ---- calls
 
@@ -81,7 +84,7 @@ call_keeps call book sound keeps =
       | inr none ↦ subst P (sym none) sound
     ]
 
--- the caller is heard: it is a configured master, and it is awake
+-- the caller may call: it is a configured master, and it is awake
 record IsHeard (book : State) (m : ℕ) : Type 0 where
   pub there : m < length (in_force book).masters
   pub awake : IsTrue (is_awake (mode_of_master book.fixed book.now.core m))
@@ -203,14 +206,14 @@ called_keeps laws m call book sound heard = call_keeps (called m call book) book
 
 -- ---- events
 
-heard_keeps : KeepLaws → (call : Call) (book : State) (m : ℕ) (heard : Bool) → IsSound book → m < length (in_force book).masters → heard ≡ is_heard m book → IsSound (after_stages (message_stages (if heard then Some (called m call book) else None)) book)
-heard_keeps laws call book m true sound there is = called_keeps laws m call book sound (record { there = there; awake = (both (not book.now.core.halted) (is_awake (mode_of_master book.fixed book.now.core m)) (sym is)).1 })
-heard_keeps laws call book m false sound there is = sound
+call_keeps_if : KeepLaws → (call : Call) (book : State) (m : ℕ) (heard : Bool) → IsSound book → m < length (in_force book).masters → heard ≡ may_call m book → IsSound (after_stages (message_stages (if heard then Some (called m call book) else None)) book)
+call_keeps_if laws call book m true sound there is = called_keeps laws m call book sound (record { there = there; awake = (both (not book.now.core.halted) (is_awake (mode_of_master book.fixed book.now.core m)) (sym is)).1 })
+call_keeps_if laws call book m false sound there is = sound
 
-message_keeps : KeepLaws → (call : Call) (book : State) (place : Option ℕ) → IsSound book → ((m : ℕ) → place ≡ Some m → m < length (in_force book).masters) → IsSound (after_stages (message_stages (option_and_then (heard_at call book) place)) book)
+message_keeps : KeepLaws → (call : Call) (book : State) (place : Option ℕ) → IsSound book → ((m : ℕ) → place ≡ Some m → m < length (in_force book).masters) → IsSound (after_stages (message_stages (option_and_then (call_at call book) place)) book)
 message_keeps laws call book None sound there = sound
 message_keeps laws call book (Some m) sound there =
-    heard_keeps laws call book m (is_heard m book) sound (there m refl) refl
+    call_keeps_if laws call book m (may_call m book) sound (there m refl) refl
 
 booted_keeps : RowLaws → (m p address : ℕ) (mode : Mode) (book : State) → IsSound book → IsSound (after_stages (booted m p address mode) book)
 booted_keeps laws m p address Off book sound = stage_keeps laws book (Put_proc m p Active address) sound (put m p Active address)

@@ -1,7 +1,7 @@
--- Most steps have one stage at most. What a step puts out follows from the values before it, what is noted along it, and the
+-- Most steps have one stage at most. What a step puts out follows from the values before it, what is logged along it, and the
 -- book after it.
 use Rattle.std.proofs.Common.{◌≡◌, ℕ, ◌<◌, if◌then◌else◌, Bool, true, false, List, [], ◌∷◌, length, map, Option, Some, None, refl, sym, subst, ap, ◌∙◌, inl, inr}
-use Rattle.std.specs.Prelude.{⊤, replicate}
+use Rattle.std.specs.Prelude.{replicate}
 use Rattle.std.proofs.lemmas.Option.{slice_get_cases, unwrap_or-slice_get}
 use Rattle.pm_base.specs.declared.names.NodeId.{NodeId}
 use Rattle.pm_base.specs.declared.names.Mode.{Mode}
@@ -18,24 +18,24 @@ use Rattle.pm_topology.specs.declared.topology.Topology.{Topology}
 use Rattle.pm_topology.specs.Places.{IsKind, KindLaws, kind_of}
 use Rattle.pm_procs.specs.declared.procs.Proc.{Proc as Processor}
 use Rattle.pm_procs.specs.Procs.{proc_at}
-use Rattle.pm_core.specs.declared.caches.UnitKind.{UnitKind}
-use Rattle.pm_core.specs.Caches.{kind_of_unit, moved_by, starts_by, value_by, valued}
-use Rattle.pm_core.specs.Events.{boot, boot_at, boot_by, booted, wait, wait_at, wait_by, waits, interrupt, interrupt_at, interrupt_by, raised, raised_at}
-use Rattle.pm_core.specs.Members.{owner_at}
-use Rattle.pm_core.specs.Along.{Trail, IsTrail, trail_at_load}
-use Rattle.pm_core.specs.Checks.{Cause, Fits, Stands, first_failing}
-use Rattle.pm_core.specs.Prims.{Prim}
-use Rattle.pm_core.specs.Stages.{after_stages}
-use Rattle.pm_core.specs.Starts.{starts, was_down}
-use Rattle.pm_core.specs.State.{State}
+use Rattle.pm_values.specs.declared.caches.UnitKind.{UnitKind}
+use Rattle.pm_values.specs.Caches.{kind_of_unit, moved_by, starts_by, value_by, valued}
+use Rattle.pm_calls.specs.Events.{boot, boot_at, boot_by, booted, wait, wait_at, wait_by, waits, interrupt, interrupt_at, interrupt_by, raised, raised_at}
+use Rattle.pm_state.specs.Members.{owner_at}
+use Rattle.pm_values.specs.Along.{Trail, IsTrail, trail_at_load}
+use Rattle.pm_calls.specs.Checks.{Cause, Fits, Stands, first_failing}
+use Rattle.pm_state.specs.Prims.{Prim}
+use Rattle.pm_state.specs.Stages.{after_stages}
+use Rattle.pm_values.specs.Starts.{starts, was_down}
+use Rattle.pm_state.specs.State.{State}
 use Rattle.pm_core.specs.Step.{called, is_ipi, is_once, stages, path, effect, served}
-use Rattle.pm_core.specs.Units.{units, moved}
-use Rattle.pm_core.specs.Values.{value, value_at}
-use Rattle.pm_core.specs.Verdict.{stages_by, stages_of}
-use Rattle.pm_core.proofs.CachesLaw.{moves_are}
-use Rattle.pm_core.proofs.LoadLaw.{get_or-replicate_any}
-use Rattle.pm_core.proofs.AlongLaw.{HasOneAtMost}
-use Rattle.pm_core.proofs.StartsLaw.{TellsDown, starts_are}
+use Rattle.pm_state.specs.Units.{units, moved}
+use Rattle.pm_state.specs.Values.{value}
+use Rattle.pm_calls.specs.Verdict.{stages_by, stages_of}
+use Rattle.pm_values.proofs.CachesLaw.{moves_are}
+use Rattle.pm_state.proofs.LoadLaw.{get_or-replicate_any}
+use Rattle.pm_values.proofs.AlongLaw.{HasOneAtMost}
+use Rattle.pm_values.proofs.StartsLaw.{TellsDown, starts_are}
 
 -- ---- one stage at most
 

@@ -1,9 +1,8 @@
 -- The step: what an event does to the book, and what it puts out.
-use Rattle.std.specs.Prelude.{ℕ, Bool, true, false, not, ◌==◌, ◌&&◌, List, [], ◌∷◌, ◌++◌, Option, Some, None, option_and_then, if◌then◌else◌}
+use Rattle.std.specs.Prelude.{ℕ, Bool, true, false, not, ◌&&◌, List, [], ◌∷◌, Option, Some, None, option_and_then, if◌then◌else◌}
 use Rattle.pm_base.specs.declared.names.LineId.{LineId}
 use Rattle.pm_base.specs.declared.names.NodeId.{NodeId}
 use Rattle.pm_base.specs.declared.names.Mode.{Mode}
-use Rattle.pm_base.specs.declared.events.Message.{Message}
 use Rattle.pm_base.specs.declared.events.Event.{Event}
 use Rattle.pm_base.specs.declared.events.Event.TheVariants.{Ipi, Boot, Wfi, Irq, Gic, Tick}
 use Rattle.pm_ipi.specs.declared.calls.Call.{Call}
@@ -13,55 +12,59 @@ use Rattle.pm_ipi.specs.declared.calls.AckKind.TheVariants.{No, Blocking, NonBlo
 use Rattle.pm_ipi.specs.declared.responses.Response.{Response}
 use Rattle.pm_ipi.specs.Calls.{call_of, ack_of, node_of}
 use Rattle.pm_notify.specs.declared.notes.Waiting.{Waiting}
-use Rattle.pm_notify.specs.MasterNotes.{MasterNotes}
 use Rattle.pm_procs.specs.Modes.{is_awake}
 use Rattle.pm_core.specs.declared.replies.Answer.{Answer}
 use Rattle.pm_core.specs.declared.replies.Answer.TheVariants.{Silent, Drop, Reply, Ack}
-use Rattle.pm_core.specs.declared.step.Served.{Served}
-use Rattle.pm_core.specs.declared.ended.Ended.{Ended}
-use Rattle.pm_core.specs.declared.verdict.Asked.{Asked}
-use Rattle.pm_core.specs.declared.verdict.Say.{Say}
-use Rattle.pm_core.specs.declared.verdict.Verdict.{Verdict}
-use Rattle.pm_core.specs.declared.verdict.Verdict.TheVariants.{Dropped, Refused, Accepted}
-use Rattle.pm_core.specs.Callbacks.{News, callbacks, late_replies, note_changes}
-use Rattle.pm_core.specs.Characteristics.{characteristics}
-use Rattle.pm_core.specs.Checks.{unchecked}
-use Rattle.pm_core.specs.Ended.{ended_from, turns_along}
-use Rattle.pm_core.specs.Events.{boot, wait, interrupt, raised}
-use Rattle.pm_core.specs.ResetLines.{line_view, line_status}
-use Rattle.pm_core.specs.Members.{mode_of_master}
-use Rattle.pm_core.specs.Notifications.{notifications}
+use Rattle.pm_tell.specs.declared.served.Served.{Served}
+use Rattle.pm_tell.specs.declared.ended.Ended.{Ended}
+use Rattle.pm_calls.specs.declared.verdict.Asked.{Asked}
+use Rattle.pm_calls.specs.declared.verdict.Say.{Say}
+use Rattle.pm_calls.specs.declared.verdict.Verdict.{Verdict}
+use Rattle.pm_calls.specs.declared.verdict.Verdict.TheVariants.{Dropped, Refused, Accepted}
+use Rattle.pm_tell.specs.Callbacks.{News, callbacks, late_replies}
+use Rattle.pm_calls.specs.Characteristics.{characteristics}
+use Rattle.pm_calls.specs.Checks.{unchecked}
+use Rattle.pm_tell.specs.Ended.{ended_from}
+use Rattle.pm_values.specs.Turns.{turns_along}
+use Rattle.pm_calls.specs.Events.{boot, wait, interrupt, raised}
+use Rattle.pm_calls.specs.ResetLines.{line_view, line_status}
+use Rattle.pm_state.specs.Members.{mode_of_master}
+use Rattle.pm_values.specs.Notifications.{notifications}
 use Rattle.pm_core.specs.Outbox.{Outputs}
-use Rattle.pm_core.specs.Prims.{Prim}
-use Rattle.pm_core.specs.Served.{kept_of, pulse_in, says_in}
-use Rattle.pm_core.specs.Stages.{after_stages, path_from}
-use Rattle.pm_core.specs.Starts.{starts, was_down}
-use Rattle.pm_core.specs.State.{State, in_force}
-use Rattle.pm_core.specs.Talk.{Talk, forgets_from, talk_of, talked, talks}
-use Rattle.pm_core.specs.Units.{moved}
-use Rattle.pm_core.specs.Values.{master_place, value, point}
-use Rattle.pm_core.specs.Verdict.{Called, asked_by, aborted_by, effecting, is_refusal, renews_all, response_of, saying, stages_of, verdict_of}
-use Rattle.pm_core.specs.Views.{is_asked, row_view, status_view, suspend_view, proc_view, wake_view, watched, master_mode}
-use Rattle.pm_core.specs.calls.AbortSuspend.{abort_suspend}
-use Rattle.pm_core.specs.calls.ForcePowerdown.{force_powerdown}
-use Rattle.pm_core.specs.calls.GetApiVersion.{get_api_version}
-use Rattle.pm_core.specs.calls.GetNodeStatus.{get_node_status}
-use Rattle.pm_core.specs.calls.GetOpCharacteristic.{get_op_characteristic}
-use Rattle.pm_core.specs.calls.InitFinalize.{init_finalize}
-use Rattle.pm_core.specs.calls.RegisterNotifier.{register_notifier}
-use Rattle.pm_core.specs.calls.ReleaseNode.{release_node}
-use Rattle.pm_core.specs.calls.RequestNode.{request_node}
-use Rattle.pm_core.specs.calls.RequestWakeup.{request_wakeup}
-use Rattle.pm_core.specs.calls.RequestSuspend.{request_suspend}
-use Rattle.pm_core.specs.calls.ResetAssert.{reset_assert}
-use Rattle.pm_core.specs.calls.ResetGetStatus.{reset_get_status}
-use Rattle.pm_core.specs.calls.SelfSuspend.{self_suspend}
-use Rattle.pm_core.specs.calls.SetMaxLatency.{set_max_latency}
-use Rattle.pm_core.specs.calls.SetRequirement.{set_requirement}
-use Rattle.pm_core.specs.calls.SetWakeupSource.{set_wakeup_source}
-use Rattle.pm_core.specs.calls.SystemShutdown.{system_shutdown}
+use Rattle.pm_state.specs.Prims.{Prim}
+use Rattle.pm_tell.specs.Served.{pulse_in, says_in}
+use Rattle.pm_state.specs.Stages.{after_stages, path_from}
+use Rattle.pm_values.specs.Starts.{starts, was_down}
+use Rattle.pm_state.specs.State.{State, in_force}
+use Rattle.pm_state.specs.Talk.{Talk, talked}
+use Rattle.pm_tell.specs.Opening.{forgets_from, talk_of}
+use Rattle.pm_state.specs.Units.{moved}
+use Rattle.pm_state.specs.Values.{master_place, value, point}
+use Rattle.pm_calls.specs.Verdict.{Called, asked_by, aborted_by, effecting, is_refusal, renews_all, response_of, saying, stages_of, verdict_of}
+use Rattle.pm_calls.specs.Views.{is_asked, row_view, status_view, suspend_view, proc_view, wake_view, watched}
+use Rattle.pm_state.specs.Nodes.{master_mode}
+use Rattle.pm_calls.specs.calls.AbortSuspend.{abort_suspend}
+use Rattle.pm_calls.specs.calls.ForcePowerdown.{force_powerdown}
+use Rattle.pm_calls.specs.calls.GetApiVersion.{get_api_version}
+use Rattle.pm_calls.specs.calls.GetNodeStatus.{get_node_status}
+use Rattle.pm_calls.specs.calls.GetOpCharacteristic.{get_op_characteristic}
+use Rattle.pm_calls.specs.calls.InitFinalize.{init_finalize}
+use Rattle.pm_calls.specs.calls.RegisterNotifier.{register_notifier}
+use Rattle.pm_calls.specs.calls.ReleaseNode.{release_node}
+use Rattle.pm_calls.specs.calls.RequestNode.{request_node}
+use Rattle.pm_calls.specs.calls.RequestWakeup.{request_wakeup}
+use Rattle.pm_calls.specs.calls.RequestSuspend.{request_suspend}
+use Rattle.pm_calls.specs.calls.ResetAssert.{reset_assert}
+use Rattle.pm_calls.specs.calls.ResetGetStatus.{reset_get_status}
+use Rattle.pm_calls.specs.calls.SelfSuspend.{self_suspend}
+use Rattle.pm_calls.specs.calls.SetMaxLatency.{set_max_latency}
+use Rattle.pm_calls.specs.calls.SetRequirement.{set_requirement}
+use Rattle.pm_calls.specs.calls.SetWakeupSource.{set_wakeup_source}
+use Rattle.pm_calls.specs.calls.SystemShutdown.{system_shutdown}
+use Rattle.pm_tell.specs.Telling.{notes_after, tellings}
 
--- a call of the configured master at place m, over what it reads of the book: its seven checks, and what it does if they hold
+-- a call of the configured master at place m, over what it reads of the book: its seven checks, and what it does if
+-- they hold
 abbrev pub called : ℕ → Call → State → Called
 called m GetApiVersion book = get_api_version
 called m (GetNodeStatus node) book = get_node_status (status_view m node book)
@@ -93,17 +96,16 @@ is_once (ForcePowerdown node ack) = false
 is_once (SystemShutdown shutdown_type subtype) = false
 is_once _ = true
 
--- only a master that is active or suspending is heard, and only while the book isn't halted
-abbrev pub is_heard : ℕ → State → Bool
-is_heard m book = not book.now.core.halted && is_awake (mode_of_master book.fixed book.now.core m)
+-- only a master that is active or suspending may call, and only while the book isn't halted
+abbrev pub may_call : ℕ → State → Bool
+may_call m book = not book.now.core.halted && is_awake (mode_of_master book.fixed book.now.core m)
 
-abbrev pub heard_at : Call → State → ℕ → Option Called
-heard_at call book m = if is_heard m book then Some (called m call book) else None
+abbrev pub call_at : Call → State → ℕ → Option Called
+call_at call book m = if may_call m book then Some (called m call book) else None
 
--- the call of a message, if it is heard: not where its sender is no configured master, where that is asleep or off, and where the
--- book is halted
+-- the call of a message: none if its sender is no configured master, or is asleep or off, or if the book is halted
 abbrev pub call_in : NodeId → Call → State → Option Called
-call_in master call book = option_and_then (heard_at call book) (master_place master book)
+call_in master call book = option_and_then (call_at call book) (master_place master book)
 
 -- the verdict on a message, by its call
 abbrev pub verdict : Option Called → Verdict
@@ -124,7 +126,8 @@ is_ipi _ = false
 abbrev pub unless_halted : State → List (List Prim) → List (List Prim)
 unless_halted book stages = if book.now.core.halted then [] else stages
 
--- the stages of a step: none for a message that is dropped or refused, or that only tells words, and for any other event
+-- the stages of a step: none for a message that is dropped or refused, or that only tells words, and for any other
+-- event
 abbrev pub stages : Event → State → List (List Prim)
 stages (Ipi master message) book = message_stages (call_in master (call_of message) book)
 stages (Boot proc address) book = unless_halted book (boot proc address book)
@@ -167,7 +170,8 @@ time_of _ book = None
 -- the requests that were pending before a step and end in it, in object order of the masters that were asked
 abbrev pub ended : Event → State → List Ended
 ended event book =
-    ended_from (turns_along book (path event book)) (aborted_by (says event book)) (time_of event book) 0 book.now.talk.pending
+    ended_from (turns_along book (path event book)) (aborted_by (says event book)) (time_of event book) 0
+    book.now.talk.pending
 
 -- the notifiers of masters that became off along a step are gone, and so is what waits for them
 abbrev pub forgets : Event → State → List Talk
@@ -186,15 +190,6 @@ notices event book = notifications book (after_stages (stages event book) book)
 abbrev pub news : Event → State → News
 news event book = record { asked = asks event book; ended = ended event book; notices = notices event book }
 
--- the notes that the masters find after what is done first
-abbrev pub notes_after : List Talk → State → List MasterNotes
-notes_after first book = (talks first book.now.talk).notes
-
--- all that is told in the book after the stages: what is done first, what telling the masters makes of their notes, and last of
--- all what is kept for the sender of a message
-abbrev pub tellings : News → (ℕ → Mode) → List Talk → Option Served → State → List Talk
-tellings news was first served after = first ++ (note_changes news was (notes_after first after) after ++ kept_of served after)
-
 -- the modes of the masters in a book
 abbrev pub modes_in : State → ℕ → Mode
 modes_in book m = mode_of_master book.fixed book.now.core m
@@ -202,14 +197,15 @@ modes_in book m = mode_of_master book.fixed book.now.core m
 -- all that is told in a step
 abbrev pub talk : Event → State → List Talk
 talk event book =
-    tellings (news event book) (modes_in book) (opening event book) (served event book) (after_stages (stages event book) book)
+    tellings (news event book) (modes_in book) (opening event book) (served event book)
+    (after_stages (stages event book) book)
 
 -- the book after an event: after its stages, and then what is told
 abbrev pub effect : Event → State → State
 effect event book = talked (talk event book) (after_stages (stages event book) book)
 
--- how a response reaches the caller, by the acknowledge kind of the call, in the book after it: the callback is written where
--- the caller is active or suspending then
+-- how a response reaches the caller, by the acknowledge kind of the call, in the book after it: the callback is
+-- written where the caller is active or suspending then
 abbrev pub acknowledged : AckKind → NodeId → NodeId → Response → State → Answer
 acknowledged No master node response after = Silent
 acknowledged Blocking master node response after = Reply master response
@@ -221,7 +217,8 @@ abbrev pub answered : Option Response → NodeId → Call → State → Answer
 answered None master call after = Silent
 answered (Some response) master call after = acknowledged (ack_of call) master (node_of call) response after
 
--- what the sender of a message gets by the verdict on it: one that asked another master to suspend is answered when that ends
+-- what the sender of a message gets by the verdict on it: one that asked another master to suspend is answered when
+-- that ends
 abbrev pub answer_of : Verdict → NodeId → Call → State → Answer
 answer_of Dropped master call after = Drop master
 answer_of (Refused response) master call after = answered (response_of (Refused response)) master call after
@@ -236,15 +233,16 @@ answer_by (Some served) after = answer_of served.verdict served.master served.ca
 abbrev pub answer_to : Event → State → Answer
 answer_to event book = answer_by (served event book) (effect event book)
 
--- what a step puts out: the units whose value it changes, the reset line that it pulses, the processors that it starts, what
--- other masters are told, and the answer
+-- what a step puts out: the units whose value it changes, the reset line that it pulses, the processors that it
+-- starts, what other masters are told, and the answer
 abbrev pub outputs : Event → State → Outputs
 outputs event book = record {
   moved = moved (λ u. value u book) (effect event book);
   pulse = pulse event book;
   starts = starts (was_down (book ∷ path event book)) (effect event book);
   late = late_replies (ended event book) (effect event book);
-  calls = callbacks (news event book) (modes_in book) (notes_after (opening event book) (after_stages (stages event book) book)) (effect event book);
+  callbacks = callbacks (news event book) (modes_in book)
+      (notes_after (opening event book) (after_stages (stages event book) book)) (effect event book);
   answer = answer_to event book;
 }
 
@@ -255,7 +253,7 @@ outputs_at_load book = record {
   pulse = None;
   starts = starts (λ p. true) book;
   late = [];
-  calls = [];
+  callbacks = [];
   answer = Silent;
 }
 

@@ -3,28 +3,27 @@
 ghost use Rattle.std.specs.Prelude.{◌≡◌, ◌<◌, IsTrue, IfOk, IfErr, Some, is_some, length, slice_get};
 ghost use Rattle.pm_topology.specs.Masters.{ObeysMasterRules};
 ghost use Rattle.pm_topology.specs.WellFormed.{IsWellFormed};
-ghost use Rattle.pm_core.specs.Fed.{IsFed};
-ghost use Rattle.pm_core.specs.Load.{load_of};
+ghost use Rattle.pm_state.specs.Fed.{IsFed};
+ghost use Rattle.pm_state.specs.Load.{load_of};
 ghost use Rattle.pm_core.specs.Outbox.{HasRoom, HasRoomFor, Holds, IsEmpty, KeepsRoom};
 ghost use Rattle.pm_perms.specs.Permits.{may_use};
 ghost use Rattle.pm_core.specs.Step.{effect, outputs, outputs_at_load, is_refused};
-ghost use Rattle.pm_core.specs.State.{in_force};
-ghost use Rattle.pm_core.specs.Sound.{IsSound, StandsAsWanted, MeetsRequirements};
-ghost use Rattle.pm_core.specs.Units.{units};
-ghost use Rattle.pm_core.specs.Values.{point, shown, value};
-ghost use Rattle.pm_core.specs.Views.{master_mode, mode, row};
+ghost use Rattle.pm_state.specs.State.{in_force};
+ghost use Rattle.pm_state.specs.Sound.{IsSound, StandsAsWanted, MeetsRequirements};
+ghost use Rattle.pm_state.specs.Units.{units};
+ghost use Rattle.pm_state.specs.Values.{point, shown, value};
+ghost use Rattle.pm_state.specs.Nodes.{master_mode, mode, row};
 
-use crate::caches::Caches;
-use crate::inner::Inner;
-use crate::laws::{books_stay_sound, values_meet};
+use crate::laws::books_stay_sound;
 use crate::outbox::Outbox;
-use crate::step::pulse_in;
-use crate::talk::tell;
-use crate::telling::Telling;
+use crate::step::{answer, take, time_of};
 use pm_base::{Event, Mode, NoMemory, NodeId, Unit};
 use pm_object::Object;
 use pm_rows::Row;
+use pm_state::Tables;
+use pm_tell::{Telling, pulse_in, tell};
 use pm_topology::{Topology, kinds_are_exact, units_stand_in_order};
+use pm_values::{Caches, point, value, values_meet};
 use std::alloc::Global;
 use std::marker::Model;
 
@@ -32,27 +31,27 @@ use std::marker::Model;
 /// of a master and a slave, the mode and resume address of each processor, whether each reset line is
 /// asserted, whether all is halted, and for each master the request to suspend that is pending on it and
 /// its notes about each unit of the chip. These contracts see. It also keeps what is found of the values,
-/// and what is noted of a step until the masters are told of it.
+/// and what is logged of a step until the masters are told of it.
 #[derive(Drop)]
 pub struct Book {
-    inner: Inner,
+    tables: Tables,
     caches: Caches,
     telling: Telling,
 }
 
 impl Model for Book {
     ghost use Rattle.std.specs.Prelude.{length};
-    ghost use Rattle.pm_core.specs.Caches.{AreKept};
-    ghost use Rattle.pm_core.specs.Sound.{IsBook};
-    ghost use Rattle.pm_core.specs.State.{State, in_force};
-    ghost use Rattle.pm_core.specs.Telling.{HasPlaces};
+    ghost use Rattle.pm_values.specs.Caches.{AreKept};
+    ghost use Rattle.pm_state.specs.Sound.{IsBook};
+    ghost use Rattle.pm_state.specs.State.{State, in_force};
+    ghost use Rattle.pm_tell.specs.Telling.{HasPlaces};
 
     ghost Value = { State };
 
-    ghost view = { λ book. book.inner };
+    ghost view = { λ book. book.tables };
 
-    ghost invariant = { λ book. IsBook book.inner × AreKept book.inner book.caches
-        × HasPlaces book.inner.fixed.topology (length (in_force book.inner).masters) book.telling };
+    ghost invariant = { λ book. IsBook book.tables × AreKept book.tables book.caches
+        × HasPlaces book.tables.fixed.topology (length (in_force book.tables).masters) book.telling };
 }
 
 impl Book {
@@ -97,19 +96,19 @@ impl Book {
         units_stand_in_order();
         values_meet();
         out.clear();
-        let inner = Inner::load(alloc, object, topology)?;
-        let mut caches = Caches::load(alloc, &inner)?;
-        let procs = inner.topology().procs.len();
-        let mut telling = Telling::load(alloc, caches.units(), inner.masters(), procs)?;
+        let tables = Tables::load(alloc, object, topology)?;
+        let mut caches = Caches::load(alloc, &tables)?;
+        let procs = tables.topology().procs.len();
+        let mut telling = Telling::load(alloc, caches.units(), tables.masters(), procs)?;
         caches.update(
-            &inner,
+            &tables,
             &telling.along,
             &mut out.moved,
             &mut out.starts,
             &mut telling.notices,
         );
         Ok(Book {
-            inner,
+            tables,
             caches,
             telling,
         })
@@ -155,38 +154,41 @@ impl Book {
         books_stay_sound();
         values_meet();
         out.clear();
-        let count = self.inner.time_of(event);
-        self.telling.log_modes(&self.inner);
-        self.telling.along.start(&self.inner);
-        let served = self
-            .inner
-            .take(&self.caches, event, &mut self.telling.along);
-        self.telling.along.log(&self.inner);
+        let count = time_of(&self.tables, event);
+        self.telling.log_modes(&self.tables);
+        self.telling.along.start(&self.tables);
+        let served = take(
+            &mut self.tables,
+            &self.caches,
+            event,
+            &mut self.telling.along,
+        );
+        self.telling.along.log(&self.tables);
         self.caches.update(
-            &self.inner,
+            &self.tables,
             &self.telling.along,
             &mut out.moved,
             &mut out.starts,
             &mut self.telling.notices,
         );
         tell(
-            &mut self.inner,
+            &mut self.tables,
             &self.caches,
             &mut self.telling,
             count,
             served,
             &mut out.late,
-            &mut out.calls,
+            &mut out.callbacks,
         );
         out.pulse = pulse_in(served);
-        out.answer = self.inner.answer(&self.caches, served);
+        out.answer = answer(&self.tables, &self.caches, served);
     }
 
     /// The configuration object.
     pub fn object(&self) -> &Object
         ensures { result.now ≡ self.now.fixed.object }
     {
-        self.inner.in_force()
+        self.tables.in_force()
     }
 
     /// The parts of the chip, which have passed their check.
@@ -194,11 +196,12 @@ impl Book {
         ensures formed { IsWellFormed result.now }
         ensures topology { result.now ≡ self.now.fixed.topology }
     {
-        self.inner.topology()
+        self.tables.topology()
     }
 
-    /// What holds of every book: its chip has passed its check and obeys the rules on masters, the book is sound and meets
-    /// its requirements, and each node that needs power in its value stands directly below a power node that is up.
+    /// What holds of every book: its chip has passed its check and obeys the rules on masters, the book is sound and
+    /// meets its requirements, and each node that needs power in its value stands directly below a power node that is
+    /// up.
     pub fn stays_sound(&self)
         ensures formed { IsWellFormed self.now.fixed.topology }
         ensures masters { ObeysMasterRules self.now.fixed.topology }
@@ -207,7 +210,7 @@ impl Book {
         ensures fed { IsFed self.now.fixed.topology (λ u. value u self.now) }
     {
         values_meet();
-        let _chip = self.inner.topology();
+        let _chip = self.tables.topology();
     }
 
     /// The number of units.
@@ -229,14 +232,14 @@ impl Book {
     }
 
     /// The value of a unit: the state of a slave, 1 for a processor that is active or suspending and for a
-    /// power node that is up, and else 0, as for a unit that isn't there; of a reset line 1 while it is asserted. The state of a
-    /// slave is its first one that has what is wanted of it.
+    /// power node that is up, and else 0, as for a unit that isn't there; of a reset line 1 while it is asserted. The
+    /// state of a slave is its first one that has what is wanted of it.
     pub fn value(&self, unit: Unit) -> u32
         ensures value { result ≡ value unit self.now }
         ensures meets { StandsAsWanted unit result self.now }
     {
         values_meet();
-        self.inner.value(&self.caches, unit)
+        value(&self.tables, &self.caches, unit)
     }
 
     /// The operating point of a node (UG1200): of a processor the number of its mode, and of any other
@@ -244,7 +247,7 @@ impl Book {
     pub fn point(&self, node: NodeId) -> u32
         ensures { result ≡ point node self.now }
     {
-        self.inner.point(&self.caches, node)
+        point(&self.tables, &self.caches, node)
     }
 
     /// What is shown of a unit: of a node its operating point, and of a reset line its value.
@@ -261,14 +264,14 @@ impl Book {
     pub fn mode(&self, proc: NodeId) -> Mode
         ensures { result ≡ mode proc self.now }
     {
-        self.inner.mode(proc)
+        self.tables.mode(proc)
     }
 
     /// The mode of a configured master, and Off for any other node.
     pub fn master_mode(&self, master: NodeId) -> Mode
         ensures { result ≡ master_mode master self.now }
     {
-        self.inner.master_mode(master)
+        self.tables.master_mode(master)
     }
 
     /// The row of a master on a slave. There is none exactly where the object doesn't permit the
@@ -280,6 +283,6 @@ impl Book {
             ≡ may_use (in_force self.now) self.now.fixed.topology master slave }
     {
         books_stay_sound();
-        self.inner.row(master, slave)
+        self.tables.row(master, slave)
     }
 }

@@ -1,12 +1,16 @@
 //! What a step puts out, with room that is reserved at load.
 
 ghost use Rattle.std.specs.Prelude.{◌≡◌, IfOk, IfSome};
-ghost use Rattle.pm_core.specs.Outbox.{HasRoom, IsEmpty, KeepsRoom, callback_count, unit_count};
+ghost use Rattle.pm_core.specs.Outbox.{HasRoom, IsEmpty, KeepsRoom};
+ghost use Rattle.pm_tell.specs.Callbacks.{callback_count};
+ghost use Rattle.pm_state.specs.Units.{unit_count};
 ghost use Rattle.pm_topology.specs.WellFormed.{IsWellFormed};
 
 use crate::replies::Answer;
-use pm_base::{BoundedList, Command, LineId, NoMemory, NodeId, Unit};
+use pm_base::{BoundedList, Command, LineId, NoMemory, Unit};
+use pm_tell::{Callback, Late};
 use pm_topology::Topology;
+use pm_values::Start;
 use std::alloc::Global;
 
 /// A device command that was issued: the value before it, and whether the device took it.
@@ -17,31 +21,9 @@ pub struct Done {
     pub ok: bool,
 }
 
-/// A processor that was off or asleep and is active now, and the address at which it begins.
-#[derive(Clone, Copy, Debug, PartialEq, Eq)]
-pub struct Start {
-    pub proc: NodeId,
-    pub address: u64,
-}
-
-/// A reply to a master whose request that another one suspends has ended, with the status of its end.
-#[derive(Clone, Copy, Debug, PartialEq, Eq)]
-pub struct Late {
-    pub master: NodeId,
-    pub status: u32,
-}
-
-/// A callback to a master: its number and its arguments (UG1200, callbacks). Missing arguments are 0.
-#[derive(Clone, Copy, Debug, PartialEq, Eq)]
-pub struct Callback {
-    pub master: NodeId,
-    pub id: u32,
-    pub args: [u32; 4],
-}
-
 /// What a step puts out: the units whose value it changed, in the order of the units, the reset line that
-/// it pulses, the processors that it started, by number, the late replies and the callbacks to masters that wait for them, and the
-/// answer. The commands that are done for it are put in by whoever drives the device.
+/// it pulses, the processors that it started, by number, the late replies and the callbacks to masters that wait for
+/// them, and the answer. The commands that are done for it are put in by whoever drives the device.
 #[derive(Drop)]
 pub struct Outbox {
     pub moved: BoundedList<Unit>,
@@ -49,7 +31,7 @@ pub struct Outbox {
     pub done: BoundedList<Done>,
     pub starts: BoundedList<Start>,
     pub late: BoundedList<Late>,
-    pub calls: BoundedList<Callback>,
+    pub callbacks: BoundedList<Callback>,
     pub answer: Answer,
 }
 
@@ -73,13 +55,13 @@ impl Outbox {
             done: BoundedList::with_room(alloc, units + t.powers.len() + 1)?,
             starts: BoundedList::with_room(alloc, t.procs.len())?,
             late: BoundedList::with_room(alloc, masters)?,
-            calls: BoundedList::with_room(alloc, callbacks)?,
+            callbacks: BoundedList::with_room(alloc, callbacks)?,
             answer: Answer::Silent,
         })
     }
 
     /// Takes out all that the last step put in.
-    pub(crate) fn clear(&mut self)
+    pub fn clear(&mut self)
         ensures empty { IsEmpty self.new }
         ensures room { KeepsRoom self.old self.new }
     {
@@ -88,7 +70,7 @@ impl Outbox {
         self.done.clear();
         self.starts.clear();
         self.late.clear();
-        self.calls.clear();
+        self.callbacks.clear();
         self.answer = Answer::Silent;
     }
 }

@@ -12,10 +12,10 @@ use Rattle.pm_device.specs.Act.{Act, AreHarmless, Chain, ShowsAll, refusals}
 use Rattle.pm_device.specs.Fresh.{IsWhole}
 use Rattle.pm_topology.specs.Units.{has_unit}
 use Rattle.pm_device.specs.Chains.{values_after-same}
-use Rattle.pm_core.specs.Load.{load_of}
-use Rattle.pm_core.specs.State.{Fixed, State}
+use Rattle.pm_state.specs.Load.{load_of}
+use Rattle.pm_state.specs.State.{Fixed, State}
 use Rattle.pm_core.specs.Step.{effect, outputs_at_load}
-use Rattle.pm_core.specs.Values.{value}
+use Rattle.pm_state.specs.Values.{value}
 use Rattle.pm_run.specs.Run.{Core, IsBookOf, Line, Setup, Stand, book_after, core_0, cores_of, line_0, line_of, lines_of, loaded, run, split}
 use Rattle.pm_apply.specs.Part.{Kept, Part, orders_of, part_of}
 use Rattle.pm_apply.specs.Record.{IsRecordOf, at_zero, kept_value}

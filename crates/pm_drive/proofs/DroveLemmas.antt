@@ -10,8 +10,8 @@ use Rattle.pm_device.specs.Act.{Act, AreHarmless, refusals, values_after}
 use Rattle.pm_topology.specs.Units.{has_unit}
 use Rattle.pm_device.specs.Chains.{values_after-same}
 use Rattle.pm_core.specs.Outbox.{Outputs}
-use Rattle.pm_core.specs.State.{Fixed, State}
-use Rattle.pm_core.specs.Values.{value}
+use Rattle.pm_state.specs.State.{Fixed, State}
+use Rattle.pm_state.specs.Values.{value}
 use Rattle.pm_run.specs.Run.{Core, IsBookOf, Line, Setup}
 use Rattle.pm_apply.specs.Order.{IsOrdered, LagsAreExplained}
 use Rattle.pm_apply.specs.Part.{Kept, Part, orders_of, part_of}

@@ -16,12 +16,12 @@ use Rattle.pm_topology.specs.declared.places.Kind.TheVariants.{Proc, Slave, Powe
 use Rattle.pm_topology.specs.FirstFault.{has_power, has_proc, has_slave}
 use Rattle.pm_topology.specs.Places.{IsKind, KindLaws, kind_of, parent_at}
 use Rattle.pm_topology.specs.Units.{has_unit}
-use Rattle.pm_core.specs.Choice.{StandsMet}
-use Rattle.pm_core.specs.Fed.{IsNeeded}
+use Rattle.pm_state.specs.Choice.{StandsMet}
+use Rattle.pm_state.specs.Fed.{IsNeeded}
 use Rattle.pm_topology.specs.Units.{needs_power, parent_of_unit}
 use Rattle.pm_rows.specs.Wanted.{wanted_of}
-use Rattle.pm_core.specs.Sound.{MeetsRequirements}
-use Rattle.pm_core.specs.State.{State}
+use Rattle.pm_state.specs.Sound.{MeetsRequirements}
+use Rattle.pm_state.specs.State.{State}
 
 -- ---- what stands in a table of the chip is one of its units
 

@@ -3,7 +3,7 @@
 use Rattle.std.specs.Prelude.{ℕ, ◌+◌, Bool, List, [], ◌∷◌, ◌++◌, flat_map, take, Option, Some, None}
 use Rattle.pm_base.specs.declared.events.Event.{Event}
 use Rattle.pm_device.specs.Act.{Act}
-use Rattle.pm_core.specs.State.{State}
+use Rattle.pm_state.specs.State.{State}
 use Rattle.pm_run.specs.Run.{Core, Line, Setup, run, said}
 use Rattle.pm_apply.specs.Part.{Kept, Part, orders_of, part_of}
 use Rattle.pm_apply.specs.Record.{at_zero}
@@ -46,11 +46,8 @@ kept_after kept (g ∷ given) = kept_after g.part.kept given
 
 -- a line that is driven, and lines, from the values that are kept before them
 abbrev pub drive_line : Kept → List (List Bool) → Line → Driven
-drive_line kept answers line = record {
-  line = line;
-  cores = give kept answers line.cores;
-  kept = kept_after kept (give kept answers line.cores);
-}
+drive_line kept answers line =
+    record { line = line; cores = give kept answers line.cores; kept = kept_after kept (give kept answers line.cores) }
 
 abbrev pub drive : Kept → List (List Bool) → List Line → List Driven
 drive kept answers [] = []

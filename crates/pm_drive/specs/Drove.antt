@@ -9,10 +9,10 @@ use Rattle.pm_device.specs.declared.device.Device as Device
 use Rattle.pm_device.specs.Act.{AllMatch, Chain, refusals, shown_by}
 use Rattle.pm_device.specs.Device.{DeviceMoment, RoseBy}
 use Rattle.pm_device.specs.Fresh.{IsWhole}
-use Rattle.pm_core.specs.Load.{load_of}
-use Rattle.pm_core.specs.Sound.{MeetsRequirements}
-use Rattle.pm_core.specs.State.{State}
-use Rattle.pm_core.specs.Values.{value}
+use Rattle.pm_state.specs.Load.{load_of}
+use Rattle.pm_state.specs.Sound.{MeetsRequirements}
+use Rattle.pm_state.specs.State.{State}
+use Rattle.pm_state.specs.Values.{value}
 use Rattle.pm_run.specs.Run.{Setup}
 use Rattle.pm_apply.specs.Order.{IsOrdered, LagsAreExplained}
 use Rattle.pm_apply.specs.Record.{StandsAs, at_zero}

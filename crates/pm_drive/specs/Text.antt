@@ -2,7 +2,7 @@
 use Rattle.std.specs.Prelude.{ℕ, ◌+◌, Bool, List, [], ◌∷◌, ◌++◌, flat_map}
 use Rattle.std.specs.List.{concat}
 use Rattle.pm_base.specs.declared.events.Event.{Event}
-use Rattle.pm_core.specs.Load.{load_of}
+use Rattle.pm_state.specs.Load.{load_of}
 use Rattle.pm_run.specs.Run.{Setup}
 use Rattle.pm_apply.specs.Record.{at_zero}
 use Rattle.pm_trace.specs.Closing.{closing_text}

@@ -8,9 +8,9 @@ use Rattle.pm_topology.specs.declared.topology.Topology.{Topology}
 use Rattle.pm_topology.specs.declared.places.Kind.{Kind}
 use Rattle.pm_topology.specs.declared.places.Kind.TheVariants as kind
 use Rattle.pm_topology.specs.Places.{kind_of}
-use Rattle.pm_core.specs.State.{State}
-use Rattle.pm_core.specs.Units.{units}
-use Rattle.pm_core.specs.Values.{shown}
+use Rattle.pm_state.specs.State.{State}
+use Rattle.pm_state.specs.Units.{units}
+use Rattle.pm_state.specs.Values.{shown}
 use Rattle.pm_apply.specs.Part.{Kept}
 use Rattle.pm_apply.specs.Record.{kept_value}
 use Rattle.pm_trace.specs.declared.line.Word.{Word}
@@ -20,9 +20,8 @@ use Rattle.pm_trace.specs.Line.{numbers, line_text}
 -- what a node of a kind is called in the closing table
 abbrev pub kind_name : Kind → Word
 kind_name (kind.Proc p) = word.Name (codes "proc")
-kind_name (kind.Slave s) = word.Name (codes "slave")
 kind_name (kind.Power w) = word.Name (codes "power")
-kind_name kind.Unknown = word.Name (codes "slave")
+kind_name _ = word.Name (codes "slave")
 
 -- what a unit is called in the closing table, and its number
 abbrev pub unit_name : Topology → Unit → List Word

@@ -1,5 +1,5 @@
 -- The lines of a core step: its commands, then its starts, its late replies and its callbacks, and then its answer.
-use Rattle.std.specs.Prelude.{ℕ, Bool, if◌then◌else◌, List, [], ◌∷◌, ◌++◌, map, codes, Option, Some, None}
+use Rattle.std.specs.Prelude.{ℕ, Bool, if◌then◌else◌, List, [], ◌∷◌, ◌++◌, map, codes, Option, Some, None, option_to_list}
 use Rattle.std.specs.List.{concat}
 use Rattle.pm_base.specs.declared.names.Unit.{Unit}
 use Rattle.pm_base.specs.declared.names.Unit.TheVariants.{Node, Line}
@@ -7,11 +7,11 @@ use Rattle.pm_base.specs.declared.names.NodeId.{NodeId}
 use Rattle.pm_ipi.specs.declared.responses.Response.{Response}
 use Rattle.pm_ipi.specs.Callbacks.{acknowledge, callback_words}
 use Rattle.pm_ipi.specs.Responses.{response_words}
-use Rattle.pm_core.specs.declared.outbox.Callback.{Callback}
+use Rattle.pm_tell.specs.declared.callbacks.Callback.{Callback}
 use Rattle.pm_core.specs.declared.outbox.Done.{Done}
-use Rattle.pm_core.specs.declared.outbox.Late.{Late}
+use Rattle.pm_tell.specs.declared.late.Late.{Late}
 use Rattle.pm_core.specs.declared.outbox.Outbox.{Outbox}
-use Rattle.pm_core.specs.declared.outbox.Start.{Start}
+use Rattle.pm_values.specs.declared.starts.Start.{Start}
 use Rattle.pm_core.specs.declared.replies.Answer.{Answer}
 use Rattle.pm_core.specs.declared.replies.Answer.TheVariants as answers
 use Rattle.pm_core.specs.Outbox.{Outputs}
@@ -52,22 +52,17 @@ answer_line (answers.Drop master) = Some (told.Drop master)
 answer_line (answers.Reply master response) = Some (told.Reply master response)
 answer_line (answers.Ack master node status point shown) = if shown then Some (told.Call (acknowledgement master node status point)) else None
 
--- the same as a list
-abbrev pub where_shown : Option StepLine → List StepLine
-where_shown None = []
-where_shown (Some line) = line ∷ []
-
 -- what a core step tells besides its answer: the processors that start, the late replies, and the callbacks
 pub record Notices : Type 0 where
   pub starts : List Start
   pub late : List Late
-  pub calls : List Callback
+  pub callbacks : List Callback
 
 -- the lines of a core step in order: its commands, its starts, its late replies, its callbacks, and its answer
 abbrev pub told_lines : List Done → Notices → Answer → List StepLine
 told_lines commands notices answer =
     map told.Command commands
-    ++ (map told.Start notices.starts ++ (map late_line notices.late ++ (map told.Call notices.calls ++ where_shown (answer_line answer))))
+    ++ (map told.Start notices.starts ++ (map late_line notices.late ++ (map told.Call notices.callbacks ++ option_to_list (answer_line answer))))
 
 -- their words, each after the number of the step
 abbrev pub output_words : List Done → Notices → Answer → List (List Word)
@@ -87,10 +82,10 @@ step_text n commands notices answer = concat (core_lines n commands notices answ
 
 -- the notices of what a step puts out, and those that an outbox holds
 abbrev pub notices_of : Outputs → Notices
-notices_of outputs = record { starts = outputs.starts; late = outputs.late; calls = outputs.calls }
+notices_of outputs = record { starts = outputs.starts; late = outputs.late; callbacks = outputs.callbacks }
 
 abbrev pub notices_in : Outbox → Notices
-notices_in out = record { starts = out.starts.items; late = out.late.items; calls = out.calls.items }
+notices_in out = record { starts = out.starts.items; late = out.late.items; callbacks = out.callbacks.items }
 
 -- the text of a core step of step n: of what it puts out, and of what was done with the device
 abbrev pub core_text : ℕ → Outputs → Part → List ℕ

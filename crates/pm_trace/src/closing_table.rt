@@ -2,10 +2,10 @@
 
 ghost use Rattle.std.specs.Prelude.{◌≡◌, ◌<◌, ◌≤◌, ◌↔◌, ◌∷◌, [], Some, IsTrue, length, slice_get};
 ghost use Rattle.std.specs.Bool.{OnFalse};
-ghost use Rattle.pm_core.specs.Units.{units};
+ghost use Rattle.pm_state.specs.Units.{units};
 ghost use Rattle.pm_base.specs.declared.names.Unit.{Unit};
 ghost use Rattle.pm_trace.specs.declared.line.Word.TheVariants as word;
-ghost use Rattle.pm_core.specs.Values.{shown};
+ghost use Rattle.pm_state.specs.Values.{shown};
 ghost use Rattle.pm_trace.specs.Closing.{unit_line, unit_name, kind_name};
 ghost use Rattle.pm_trace.specs.Line.{width};
 

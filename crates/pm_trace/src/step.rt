@@ -34,7 +34,7 @@ pub fn entries(out: &Outbox) -> usize
     out.done.as_slice().len()
         + out.starts.as_slice().len()
         + out.late.as_slice().len()
-        + out.calls.as_slice().len()
+        + out.callbacks.as_slice().len()
         + usize::from(answer_line(&out.answer).is_some())
 }
 
@@ -66,7 +66,7 @@ fn line_at(out: &Outbox, k: usize) -> Option<StepLine>
         Ok(late) => return Some(late_line(late)),
         Err(k) => k,
     };
-    let k = match at(out.calls.as_slice(), k) {
+    let k = match at(out.callbacks.as_slice(), k) {
         Ok(callback) => return Some(StepLine::Call(callback)),
         Err(k) => k,
     };

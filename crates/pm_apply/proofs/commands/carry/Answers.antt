@@ -40,6 +40,6 @@ returns g c =
       pulse = search rules;
       starts = search rules;
       late = search rules;
-      calls = search rules;
+      callbacks = search rules;
       answer = search rules;
     }

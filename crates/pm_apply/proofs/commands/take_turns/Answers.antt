@@ -1,6 +1,6 @@
 use Rattle.std.proofs.Common.{◌≡◌, ◌≤◌, ◌+◌, length, Option, sym, ap, subst, arith}
 use Rattle.pm_base.specs.declared.names.LineId.{LineId}
-use Rattle.pm_core.specs.Values.{value}
+use Rattle.pm_state.specs.Values.{value}
 use Rattle.pm_apply.specs.Carried.{Takes}
 use Rattle.pm_apply.specs.Plan.{unit_turns, with_pulse}
 use Rattle.pm_apply.specs.Room.{most_of}

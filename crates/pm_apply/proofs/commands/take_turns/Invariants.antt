@@ -1,6 +1,6 @@
 use Rattle.std.proofs.Common.{take}
 use Rattle.std.specs.Prelude.{flat_map}
-use Rattle.pm_core.specs.Values.{value}
+use Rattle.pm_state.specs.Values.{value}
 use Rattle.pm_apply.specs.Carried.{KeepsRest, Takes}
 use Rattle.pm_apply.specs.Plan.{unit_turns, with_pulse}
 use Rattle.pm_apply.proofs.commands.take_turns.Given as goal

@@ -1,5 +1,5 @@
 use Rattle.std.proofs.Common.{◌<◌, length, arith}
-use Rattle.pm_core.specs.Values.{value}
+use Rattle.pm_state.specs.Values.{value}
 use Rattle.pm_apply.proofs.MarksLemmas.{mark_step}
 use Rattle.pm_apply.proofs.kept.mark_all.Goals as goal
 

@@ -1,6 +1,6 @@
 use Rattle.std.proofs.Common.{◌≡◌, ◌++◌, take, drop}
 use Rattle.pm_topology.specs.UnitMap.{mapped}
-use Rattle.pm_core.specs.Values.{value}
+use Rattle.pm_state.specs.Values.{value}
 use Rattle.pm_apply.specs.Record.{mark}
 use Rattle.pm_apply.proofs.kept.mark_all.Given as goal
 

@@ -2,7 +2,7 @@ use Rattle.std.proofs.Common.{◌≡◌, ◌&&◌, true, false, sym, ap, ◌∙�
 use Rattle.pm_topology.specs.Units.{needs_power, parent_of_unit}
 use Rattle.pm_base.specs.declared.names.Unit.{Unit}
 use Rattle.pm_topology.specs.declared.topology.Topology.{Topology}
-use Rattle.pm_core.specs.Units.{units}
+use Rattle.pm_state.specs.Units.{units}
 use Rattle.pm_apply.specs.Plan.{is_place, is_used}
 use Rattle.pm_apply.specs.Record.{kept_value}
 use Rattle.pm_apply.proofs.UsedLemmas.{any_here, any_later}

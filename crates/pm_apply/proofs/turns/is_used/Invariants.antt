@@ -1,7 +1,7 @@
 use Rattle.std.proofs.Common.{◌≡◌, ◌&&◌, drop}
 use Rattle.std.specs.List.{list_any}
 use Rattle.pm_topology.specs.Units.{needs_power, parent_of_unit}
-use Rattle.pm_core.specs.Units.{units}
+use Rattle.pm_state.specs.Units.{units}
 use Rattle.pm_apply.specs.Plan.{is_place, is_used}
 use Rattle.pm_apply.specs.Record.{kept_value}
 use Rattle.pm_apply.proofs.turns.is_used.Given as goal

@@ -1,8 +1,7 @@
 use Rattle.pm_notify.specs.Laws.{OrderLaws}
-use Rattle.pm_core.proofs.LoadLaw.{ModeLaws, load_sound}
-use Rattle.pm_core.proofs.PendingLaw.{RequestLaws}
-use Rattle.pm_core.proofs.Permitted.{row_permitted}
-use Rattle.pm_core.proofs.RowLaws.{RowLaws}
+use Rattle.pm_state.proofs.LoadLaw.{ModeLaws}
+use Rattle.pm_state.proofs.PendingLaw.{RequestLaws}
+use Rattle.pm_state.proofs.RowLaws.{RowLaws}
 use Rattle.pm_core.proofs.SoundSteps.{effect_sound}
 use Rattle.pm_core.proofs.laws.books_stay_sound.Goals as goal
 
@@ -40,7 +39,7 @@ returns c =
     } in
     let orders : OrderLaws = c.notes_stand_in_order.ensures in
     record {
-      load = load_sound rows modes requests orders;
+      load = c.loads_are_sound.ensures.load;
       step = effect_sound rows modes requests orders;
-      permitted = row_permitted rows;
+      permitted = c.loads_are_sound.ensures.permitted;
     }

@@ -1,7 +1,7 @@
-use Rattle.pm_core.proofs.LoadLaw.{ModeLaws}
-use Rattle.pm_core.proofs.PendingLaw.{RequestLaws}
+use Rattle.pm_state.proofs.LoadLaw.{ModeLaws}
+use Rattle.pm_state.proofs.PendingLaw.{RequestLaws}
 use Rattle.pm_core.proofs.RestartLaw.{restart_loads}
-use Rattle.pm_core.proofs.RowLaws.{RowLaws}
+use Rattle.pm_state.proofs.RowLaws.{RowLaws}
 use Rattle.pm_core.proofs.laws.restarts_load.Goals as goal
 
 pub returns : goal.returns

@@ -7,22 +7,22 @@ use Rattle.pm_topology.specs.declared.topology.Topology.{Topology}
 use Rattle.pm_topology.specs.Masters.{ObeysMasterRules}
 use Rattle.pm_topology.specs.Units.{units_of, entry_count}
 use Rattle.pm_topology.specs.WellFormed.{IsWellFormed}
-use Rattle.pm_core.specs.Caches.{moved_by, value_by}
+use Rattle.pm_values.specs.Caches.{moved_by, value_by}
 use Rattle.pm_base.specs.BoundedList.{Bounded}
-use Rattle.pm_core.specs.State.{State}
-use Rattle.pm_core.specs.declared.outbox.Start.{Start}
-use Rattle.pm_core.proofs.AlongLaw.{load_places}
-use Rattle.pm_core.proofs.CachesLaw.{moves_are}
+use Rattle.pm_state.specs.State.{State}
+use Rattle.pm_values.specs.declared.starts.Start.{Start}
+use Rattle.pm_values.proofs.AlongLaw.{load_places}
+use Rattle.pm_values.proofs.CachesLaw.{moves_are}
 use Rattle.pm_core.proofs.StepLaw.{load_starts}
 use Rattle.pm_core.proofs.book.Book.load.Goals as goal
 
 pub update-requires-clause-room : goal.update-requires-clause-room
 update-requires-clause-room c =
-    let zeros : length c.in_ok-caches.caches.values ≡ length (units_of c.in_ok-inner.inner.fixed.topology) =
-    ap length c.in_ok-caches.ensures.zeros ∙ length-map (units_of c.in_ok-inner.inner.fixed.topology) (λ u. (u, 0))
+    let zeros : length c.in_ok-caches.caches.values ≡ length (units_of c.in_ok-tables.tables.fixed.topology) =
+    ap length c.in_ok-caches.ensures.zeros ∙ length-map (units_of c.in_ok-tables.tables.fixed.topology) (λ u. (u, 0))
     in
-    let topology : length (units_of c.in_ok-inner.inner.fixed.topology) ≡ length (units_of c.args.topology) =
-    ap (λ (b : State). length (units_of b.fixed.topology)) c.in_ok-inner.ensures.book
+    let topology : length (units_of c.in_ok-tables.tables.fixed.topology) ≡ length (units_of c.args.topology) =
+    ap (λ (b : State). length (units_of b.fixed.topology)) c.in_ok-tables.ensures.book
     in
     let few : length (units_of c.args.topology) ≤ entry_count c.args.topology = c.units_stand_in_order.ensures.few c.args.topology in
     let none = ap length c.clear.ensures.empty.moved in
@@ -42,16 +42,16 @@ returns-in_err-telling-clause-nothing c = if_err c.from_residual-in_err-telling.
 
 pub invariant_of-result : goal.invariant_of-result
 invariant_of-result c =
-    let book = c.in_ok-inner.inner in
+    let book = c.in_ok-tables.tables in
     let P : State → Type 0 = λ b. IsWellFormed b.fixed.topology in
     let Q : State → Type 0 = λ b. ObeysMasterRules b.fixed.topology in
     let zeros : length c.in_ok-caches.caches.values ≡ length (units_of book.fixed.topology) =
     ap length c.in_ok-caches.ensures.zeros ∙ length-map (units_of book.fixed.topology) (λ u. (u, 0))
     in (
       record {
-        formed = subst P (sym c.in_ok-inner.ensures.book) c.requires.formed;
-        masters = subst Q (sym c.in_ok-inner.ensures.book) c.requires.masters;
-        sound = c.in_ok-inner.ensures.sound;
+        formed = subst P (sym c.in_ok-tables.ensures.book) c.requires.formed;
+        masters = subst Q (sym c.in_ok-tables.ensures.book) c.requires.masters;
+        sound = c.in_ok-tables.ensures.sound;
       },
       c.update.ensures.kept,
       record {
@@ -66,11 +66,11 @@ invariant_of-result c =
 pub returns-clause-met : goal.returns-clause-met
 returns-clause-met c =
     let P : State → Type 0 = λ b. IsWellFormed b.fixed.topology in
-    c.values_meet.ensures.met c.in_ok-inner.inner (subst P (sym c.in_ok-inner.ensures.book) c.requires.formed) c.in_ok-inner.ensures.sound
+    c.values_meet.ensures.met c.in_ok-tables.tables (subst P (sym c.in_ok-tables.ensures.book) c.requires.formed) c.in_ok-tables.ensures.sound
 
 pub returns-clause-out : goal.returns-clause-out
 returns-clause-out c =
-    let book = c.in_ok-inner.inner in
+    let book = c.in_ok-tables.tables in
     let caches = c.in_ok-caches.caches in
     record {
       moved = ap (λ (s : Bounded Unit). s.items) c.update.ensures.moved ∙ (
@@ -80,7 +80,7 @@ returns-clause-out c =
           ∙ load_starts book _ _ c.in_ok-telling.telling.along caches.kinds.items caches.values c.in_ok-telling.ensures.along c.in_ok-caches.ensures.places.kinds c.in_ok-caches.ensures.zeros;
       pulse = c.clear.ensures.empty.pulse;
       late = c.clear.ensures.empty.late;
-      calls = c.clear.ensures.empty.calls;
+      callbacks = c.clear.ensures.empty.callbacks;
       answer = c.clear.ensures.empty.answer;
       done = c.clear.ensures.empty.done;
     }

@@ -1,7 +1,7 @@
 use Rattle.std.proofs.Common.{◌∙◌, ap, is_some, subst}
-use Rattle.pm_core.specs.Sound.{IsSound}
-use Rattle.pm_core.specs.State.{State}
-use Rattle.pm_core.specs.Views.{row}
+use Rattle.pm_state.specs.Sound.{IsSound}
+use Rattle.pm_state.specs.State.{State}
+use Rattle.pm_state.specs.Nodes.{row}
 use Rattle.pm_core.proofs.book.Book.row.Goals as goal
 
 pub returns-clause-permitted : goal.returns-clause-permitted

@@ -1,33 +1,32 @@
-use Rattle.std.proofs.Common.{◌≡◌, ◌≤◌, ◌++◌, ◌∷◌, List, length, sym, ◌∙◌, ap, subst, arith}
+use Rattle.std.proofs.Common.{◌≡◌, ◌≤◌, ◌++◌, ◌∷◌, length, sym, ◌∙◌, ap, subst, arith}
 use Rattle.std.proofs.lemmas.List.{length-map}
-use Rattle.pm_base.specs.declared.names.Mode.{Mode}
 use Rattle.pm_base.specs.declared.names.Unit.{Unit}
 use Rattle.pm_notify.specs.declared.notes.Waiting.{Waiting}
 use Rattle.pm_topology.specs.Units.{units_of, entry_count}
-use Rattle.pm_core.specs.Caches.{AreKept, moved_by, value_by}
-use Rattle.pm_core.specs.Callbacks.{callbacks, late_replies}
-use Rattle.pm_core.specs.Along.{HasPlaces as HasTrail, IsTrail, Trail, mode_beside, mode_logged, turns_logged}
-use Rattle.pm_core.specs.Served.{pulse_in, says_in}
+use Rattle.pm_values.specs.Caches.{AreKept, moved_by, value_by}
+use Rattle.pm_tell.specs.Callbacks.{callbacks, late_replies}
+use Rattle.pm_values.specs.Along.{HasPlaces as HasTrail, IsTrail, Trail, mode_beside, mode_logged, turns_logged}
+use Rattle.pm_tell.specs.Served.{pulse_in, says_in}
 use Rattle.pm_base.specs.BoundedList.{Bounded}
-use Rattle.pm_core.specs.Sound.{AreNotes, IsBook}
-use Rattle.pm_core.specs.declared.outbox.Callback.{Callback}
-use Rattle.pm_core.specs.declared.outbox.Late.{Late}
-use Rattle.pm_core.specs.declared.outbox.Start.{Start}
-use Rattle.pm_core.specs.Stages.{after_stages}
-use Rattle.pm_core.specs.Starts.{starts, was_down}
-use Rattle.pm_core.specs.State.{Fixed, State, in_force}
-use Rattle.pm_core.specs.Step.{effect, ended, served, notes_after, modes_in, news, opening, path, pulse, stages, answer_by, answer_to, tellings}
-use Rattle.pm_core.specs.Ended.{ended_from}
-use Rattle.pm_core.specs.Notifications.{notifications}
-use Rattle.pm_core.specs.Telling.{HasPlaces, news_in, opening_in, turns_in}
-use Rattle.pm_core.specs.Units.{units, moved}
-use Rattle.pm_core.specs.Values.{value}
-use Rattle.pm_core.specs.Verdict.{aborted_by}
-use Rattle.pm_core.proofs.CachesLaw.{kept_places}
-use Rattle.pm_core.proofs.AlongLaw.{completed, trailed_places}
-use Rattle.pm_core.proofs.EndedLaw.{IsTold, kept_talked, stages_talk, step_told}
-use Rattle.pm_core.proofs.NoticesLaw.{notices_are}
-use Rattle.pm_core.proofs.PlacedLemmas.{length-placed}
+use Rattle.pm_state.specs.Sound.{AreNotes, IsBook}
+use Rattle.pm_tell.specs.declared.callbacks.Callback.{Callback}
+use Rattle.pm_tell.specs.declared.late.Late.{Late}
+use Rattle.pm_values.specs.declared.starts.Start.{Start}
+use Rattle.pm_state.specs.Stages.{after_stages}
+use Rattle.pm_values.specs.Starts.{starts, was_down}
+use Rattle.pm_state.specs.State.{Fixed, State, in_force}
+use Rattle.pm_core.specs.Step.{effect, ended, served, modes_in, news, opening, path, pulse, stages, answer_by, answer_to}
+use Rattle.pm_tell.specs.Telling.{notes_after, tellings, HasPlaces, news_in, opening_in}
+use Rattle.pm_tell.specs.Ended.{ended_from}
+use Rattle.pm_values.specs.Notifications.{notifications}
+use Rattle.pm_state.specs.Units.{units, moved}
+use Rattle.pm_state.specs.Values.{value}
+use Rattle.pm_calls.specs.Verdict.{aborted_by}
+use Rattle.pm_values.proofs.CachesLaw.{kept_places, kept_talked}
+use Rattle.pm_values.proofs.AlongLaw.{completed, trailed_places}
+use Rattle.pm_core.proofs.EndedLaw.{IsTold, stages_talk, step_told}
+use Rattle.pm_values.proofs.NoticesLaw.{notices_are}
+use Rattle.pm_state.proofs.PlacedLemmas.{length-placed}
 use Rattle.pm_core.proofs.Refused.{refused_stays}
 use Rattle.pm_core.proofs.SoundSteps.{kept_by}
 use Rattle.pm_core.proofs.StepLaw.{step_moves, step_starts}
@@ -35,12 +34,12 @@ use Rattle.pm_core.proofs.book.Book.step.Goals as goal
 
 pub update-requires-clause-places : goal.update-requires-clause-places
 update-requires-clause-places c =
-    kept_places c.self.inside.inner c.self.inside.caches c.take-served.new.self.fixed.topology
+    kept_places c.self.inside.tables c.self.inside.caches c.take-served.new.tables.fixed.topology
     (ap (λ (b : State). b.fixed.topology) c.take-served.ensures.book) c.self.invariant.1
 
 pub update-requires-clause-room : goal.update-requires-clause-room
 update-requires-clause-room c =
-    let old = c.self.inside.inner in
+    let old = c.self.inside.tables in
     let values : length c.self.inside.caches.values ≡ length (units old) =
     ap length c.self.invariant.1.values ∙ length-map (units old) (λ u. (u, value u old))
     in
@@ -49,7 +48,7 @@ update-requires-clause-room c =
     let none = ap length c.clear.ensures.empty.moved in
     omega (arith, values, same, few, none, c.requires.room.moved, c.clear.ensures.room.moved)
 
--- the places of the trail stay while it is noted
+-- the places of the trail stay while it is logged
 pub log-requires : goal.log-requires
 log-requires c =
     let Q : Fixed → Type 0 = λ f. HasTrail (length f.object.masters) (length f.topology.procs) c.take-served.new.along in
@@ -57,7 +56,7 @@ log-requires c =
 
 pub tell-requires-clause-each : goal.tell-requires-clause-each
 tell-requires-clause-each c =
-    let old = c.self.inside.inner in
+    let old = c.self.inside.tables in
     ap (λ (b : State). length b.now.talk.pending) c.take-served.ensures.book
     ∙ (ap (λ t. length t.pending) (stages_talk (stages c.args.event.now old) old)
     ∙ (c.self.invariant.0.sound.pending.each
@@ -65,7 +64,7 @@ tell-requires-clause-each c =
 
 pub update-requires-clause-notices : goal.update-requires-clause-notices
 update-requires-clause-notices c =
-    let old = c.self.inside.inner in
+    let old = c.self.inside.tables in
     let values : length c.self.inside.caches.values ≡ length (units old) =
     ap length c.self.invariant.1.values ∙ length-map (units old) (λ u. (u, value u old))
     in
@@ -73,27 +72,27 @@ update-requires-clause-notices c =
 
 pub tell-requires-clause-notes : goal.tell-requires-clause-notes
 tell-requires-clause-notes c =
-    let old = c.self.inside.inner in
+    let old = c.self.inside.tables in
     let P : State → Type 0 = λ b. AreNotes b.fixed.topology (length (in_force b).masters) b.now.talk.notes in
     let Q : _ → Type 0 = λ t. AreNotes old.fixed.topology (length (in_force old).masters) t.notes in
     subst P (sym c.take-served.ensures.book) (subst Q (sym (stages_talk (stages c.args.event.now old) old)) c.self.invariant.0.sound.notes)
 
 pub tell-requires-clause-few : goal.tell-requires-clause-few
 tell-requires-clause-few c =
-    let old = c.self.inside.inner in
+    let old = c.self.inside.tables in
     let values : length c.self.inside.caches.values ≡ length (units old) =
     ap length c.self.invariant.1.values ∙ length-map (units old) (λ u. (u, value u old))
     in
-    let same : length (units c.take-served.new.self) ≡ length (units old) = ap (λ (b : State). length (units b)) c.take-served.ensures.book in
-    let few : length (units c.take-served.new.self) ≤ entry_count c.take-served.new.self.fixed.topology = c.units_stand_in_order.ensures.few c.take-served.new.self.fixed.topology in
+    let same : length (units c.take-served.new.tables) ≡ length (units old) = ap (λ (b : State). length (units b)) c.take-served.ensures.book in
+    let few : length (units c.take-served.new.tables) ≤ entry_count c.take-served.new.tables.fixed.topology = c.units_stand_in_order.ensures.few c.take-served.new.tables.fixed.topology in
     omega (arith, values, same, few, c.update.ensures.few)
 
 pub tell-requires-clause-places : goal.tell-requires-clause-places
 tell-requires-clause-places c =
-    let old = c.self.inside.inner in
-    let count : length (in_force c.take-served.new.self).masters ≡ length (in_force old).masters = ap (λ (b : State). length (in_force b).masters) c.take-served.ensures.book in
-    let all : length (units c.take-served.new.self) ≡ length (units old) = ap (λ (b : State). length (units b)) c.take-served.ensures.book in
-    let mid = c.take-served.new.self in
+    let old = c.self.inside.tables in
+    let count : length (in_force c.take-served.new.tables).masters ≡ length (in_force old).masters = ap (λ (b : State). length (in_force b).masters) c.take-served.ensures.book in
+    let all : length (units c.take-served.new.tables) ≡ length (units old) = ap (λ (b : State). length (units b)) c.take-served.ensures.book in
+    let mid = c.take-served.new.tables in
     let Q : Trail → Type 0 = λ n. HasTrail (length (in_force mid).masters) (length mid.fixed.topology.procs) n in
     record {
       along = subst Q (sym c.log.ensures) (trailed_places mid c.take-served.new.along);
@@ -108,19 +107,19 @@ tell-requires-clause-places c =
       );
     }
 
--- what was noted until the masters were told
-told : (c : goal.After-out-2-1) → IsTold c.args.event.now c.self.inside.inner c.take-served.new.self c.tell.new.inner c.take-served.result c.time_of-count.result c.tell.new.telling
+-- what was logged until the masters were told
+told : (c : goal.After-out-2-1) → IsTold c.args.event.now c.self.inside.tables c.take-served.new.tables c.tell.new.tables c.take-served.result c.time_of-count.result c.tell.new.telling
 told c =
     let event = c.args.event.now in
-    let old = c.self.inside.inner in
-    let mid = c.take-served.new.self in
+    let old = c.self.inside.tables in
+    let mid = c.take-served.new.tables in
     let caches = c.self.inside.caches in
     let fixed : old.fixed ≡ mid.fixed = sym (ap (λ (b : State). b.fixed) c.take-served.ensures.book) in
     let trail : IsTrail old (path event old) c.log.new.self =
     completed old (path event old) mid c.take-served.new.along c.log.new.self c.take-served.ensures.along c.log.ensures
     in
     let Along : Trail → Type 0 = λ n. IsTrail old (path event old) n in
-    step_told event old mid c.tell.new.inner c.take-served.result c.time_of-count.result c.tell.new.telling
+    step_told event old mid c.tell.new.tables c.take-served.result c.time_of-count.result c.tell.new.telling
     (record {
       mid_is = c.take-served.ensures.book;
       served_is = c.take-served.ensures.served;
@@ -139,7 +138,7 @@ told c =
 
 pub answer-out-requires : goal.answer-out-requires
 answer-out-requires c =
-    let mid = c.take-served.new.self in
+    let mid = c.take-served.new.tables in
     let telling = c.tell.new.telling in
     let changes = tellings (news_in telling) (mode_logged telling.modes.items) (opening_in telling (says_in c.take-served.result) c.time_of-count.result mid) c.take-served.result mid in
     let P : State → Type 0 = λ b. AreKept b c.update.new.self in
@@ -148,9 +147,9 @@ answer-out-requires c =
 pub invariant_of-self : goal.invariant_of-self
 invariant_of-self c =
     let event = c.args.event.now in
-    let old = c.self.inside.inner in
-    let mid = c.take-served.new.self in
-    let new = c.tell.new.inner in
+    let old = c.self.inside.tables in
+    let mid = c.take-served.new.tables in
+    let new = c.tell.new.tables in
     let telling = c.tell.new.telling in
     let changes = tellings (news_in telling) (mode_logged telling.modes.items) (opening_in telling (says_in c.take-served.result) c.time_of-count.result mid) c.take-served.result mid in
     let P : State → Type 0 = λ b. AreKept b c.update.new.self in
@@ -170,24 +169,24 @@ returns-clause-refused c =
 
 pub returns-clause-sound : goal.returns-clause-sound
 returns-clause-sound c =
-    (kept_by c.books_stay_sound.ensures.step c.args.event.now c.self.inside.inner c.tell.new.inner (told c).book c.self.invariant.0).sound
+    (kept_by c.books_stay_sound.ensures.step c.args.event.now c.self.inside.tables c.tell.new.tables (told c).book c.self.invariant.0).sound
 
 pub returns-clause-met : goal.returns-clause-met
 returns-clause-met c =
-    let new = c.tell.new.inner in
-    let kept : IsBook new = kept_by c.books_stay_sound.ensures.step c.args.event.now c.self.inside.inner new (told c).book c.self.invariant.0 in
+    let new = c.tell.new.tables in
+    let kept : IsBook new = kept_by c.books_stay_sound.ensures.step c.args.event.now c.self.inside.tables new (told c).book c.self.invariant.0 in
     c.values_meet.ensures.met new kept.formed kept.sound
 
 pub returns-clause-out : goal.returns-clause-out
 returns-clause-out c =
     let event = c.args.event.now in
-    let old = c.self.inside.inner in
-    let new = c.tell.new.inner in
-    let mid = c.take-served.new.self in
+    let old = c.self.inside.tables in
+    let new = c.tell.new.tables in
+    let mid = c.take-served.new.tables in
     let telling = c.tell.new.telling in
     let found = telling.ended.items in
     let caches = c.self.inside.caches in
-    let told_calls = callbacks (news_in telling) (mode_logged telling.modes.items) (notes_after (opening_in telling (says_in c.take-served.result) c.time_of-count.result mid) mid) new in
+    let told_callbacks = callbacks (news_in telling) (mode_logged telling.modes.items) (notes_after (opening_in telling (says_in c.take-served.result) c.time_of-count.result mid) mid) new in
     record {
       moved = ap (λ (s : Bounded Unit). s.items) c.update.ensures.moved ∙ (
           ap (λ xs. xs ++ moved_by (value_by mid.fixed mid.now.core) caches.kinds.items caches.values) c.clear.ensures.empty.moved
@@ -202,9 +201,9 @@ returns-clause-out c =
           ∙ (ap (λ es. late_replies es new) (told c).ended
           ∙ (ap (late_replies (ended event old)) (told c).book
           ∙ ap (λ (b : State). late_replies (ended event b) (effect event b)) c.self.view_is)));
-      calls = ap (λ (s : Bounded Callback). s.items) c.tell.ensures.calls
-          ∙ (ap (λ xs. xs ++ told_calls) c.clear.ensures.empty.calls
-          ∙ ((told c).calls
+      callbacks = ap (λ (s : Bounded Callback). s.items) c.tell.ensures.callbacks
+          ∙ (ap (λ xs. xs ++ told_callbacks) c.clear.ensures.empty.callbacks
+          ∙ ((told c).callbacks
           ∙ ap (λ (b : State). callbacks (news event b) (modes_in b) (notes_after (opening event b) (after_stages (stages event b) b)) (effect event b)) c.self.view_is));
       answer = c.answer-out.ensures ∙ (ap (λ h. answer_by h new) c.take-served.ensures.served ∙ (
           ap (λ b. answer_by (served event old) b) (told c).book ∙ ap (answer_to event) c.self.view_is));

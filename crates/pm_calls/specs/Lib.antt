@@ -1,0 +1,9 @@
+pub mod Characteristics
+pub mod Checks
+pub mod Events
+pub mod ProcCalls
+pub mod ResetLines
+pub mod RowCalls
+pub mod Verdict
+pub mod Views
+pub mod calls

@@ -1,0 +1,36 @@
+-- What calls on a processor look at, and how they change it.
+use Rattle.std.specs.Prelude.{ℕ, Bool, is_some, List, [], ◌∷◌, Option, Some, None}
+use Rattle.std.specs.Option.{option_map_or}
+use Rattle.pm_base.specs.declared.names.Mode.{Mode}
+use Rattle.pm_base.specs.declared.names.Mode.TheVariants.{Off}
+use Rattle.pm_procs.specs.declared.procs.Proc.{Proc}
+use Rattle.pm_procs.specs.Modes.{same_mode}
+use Rattle.pm_calls.specs.declared.views.ProcView.{ProcView}
+use Rattle.pm_calls.specs.Checks.{Checks, Standing, Fits, unchecked}
+use Rattle.pm_state.specs.Prims.{Prim, Put_proc}
+
+-- the node is a processor, and the caller's
+abbrev pub on_own : ProcView → Checks
+on_own view = record unchecked { node = is_some view.place; permitted = is_some view.own }
+
+-- what the mode of its own processor says; of another one the permission fails before
+abbrev pub by_mode : (Mode → Standing) → Option Proc → Standing
+by_mode says None = Fits
+by_mode says (Some proc) = says proc.mode
+
+-- the processor is the caller's, and in this mode
+abbrev pub is_in : Mode → ProcView → Bool
+is_in mode view = same_mode (option_map_or (λ (proc : Proc). proc.mode) view.own Off) mode
+
+-- where it resumes
+abbrev pub address_in : ProcView → ℕ
+address_in view = option_map_or (λ (proc : Proc). proc.address) view.own 0
+
+-- a processor of the master at place m, if there is one, goes to this mode
+abbrev pub put_at : ℕ → Option ℕ → Mode → ℕ → List Prim
+put_at m None mode address = []
+put_at m (Some p) mode address = Put_proc m p mode address ∷ []
+
+-- the processor of the master at place m goes to this mode, with this resume address
+abbrev pub proc_changes : ℕ → Mode → ℕ → ProcView → List Prim
+proc_changes m mode address view = put_at m view.place mode address

@@ -1,0 +1,51 @@
+-- What the calls read of a reset line.
+use Rattle.std.specs.Prelude.{ℕ, slice_get, Option, Some, None, option_map}
+use Rattle.pm_base.specs.declared.names.LineId.{LineId}
+use Rattle.pm_base.specs.declared.names.NodeId.{NodeId}
+use Rattle.pm_topology.specs.declared.places.Kind.{Kind}
+use Rattle.pm_topology.specs.declared.places.Kind.TheVariants.{Proc}
+use Rattle.pm_topology.specs.declared.topology.LineDef.{LineDef}
+use Rattle.pm_topology.specs.Places.{kind_of}
+use Rattle.pm_perms.specs.Permits.{may_reset}
+use Rattle.pm_resets.specs.Resets.{value_of}
+use Rattle.pm_calls.specs.declared.reset_lines.LineView.{LineView}
+use Rattle.pm_calls.specs.declared.reset_lines.OwnedProc.{OwnedProc}
+use Rattle.pm_state.specs.Members.{owner_at}
+use Rattle.pm_state.specs.State.{Fixed, State, in_force}
+use Rattle.pm_state.specs.Values.{line_place}
+use Rattle.pm_state.specs.Nodes.{master_node}
+
+-- the processor at place p with the configured master that has it
+abbrev pub owned_by : Option ℕ → ℕ → Option OwnedProc
+owned_by None p = None
+owned_by (Some m) p = Some (record { owner = m; proc = p })
+
+-- the same for a node of this kind: a slave and a power node is no processor
+abbrev pub owned_of : Kind → Fixed → Option OwnedProc
+owned_of (Proc p) fixed = owned_by (owner_at fixed.object fixed.topology p) p
+owned_of _ fixed = None
+
+abbrev pub owned_node : Option NodeId → Fixed → Option OwnedProc
+owned_node None fixed = None
+owned_node (Some node) fixed = owned_of (kind_of fixed.topology node) fixed
+
+-- the processor that this line resets, where it resets one that a configured master has
+abbrev pub reset_by : Option LineDef → Fixed → Option OwnedProc
+reset_by None fixed = None
+reset_by (Some line) fixed = owned_node line.target fixed
+
+abbrev pub reset_at : Option ℕ → Fixed → Option OwnedProc
+reset_at None fixed = None
+reset_at (Some l) fixed = reset_by (slice_get fixed.topology.lines l) fixed
+
+-- what the master at place m sees of a reset line: its place, whether it may reset it, and the processor that the line resets
+abbrev pub line_view : ℕ → LineId → State → LineView
+line_view m line book = record {
+  place = line_place line book.fixed;
+  permitted = may_reset (in_force book) book.fixed.topology (master_node (in_force book).masters m) line;
+  target = reset_at (line_place line book.fixed) book.fixed;
+}
+
+-- the value of a reset line, where the chip has it
+abbrev pub line_status : LineId → State → Option ℕ
+line_status line book = option_map (λ l. value_of l book.now.core.lines) (line_place line book.fixed)

@@ -1,0 +1,63 @@
+-- PM_SYSTEM_SHUTDOWN (UG1200).
+use Rattle.std.specs.Prelude.{ℕ, ◌==◌, ◌&&◌, ◌||◌, nat_le, Bool, true, false, not, if◌then◌else◌, List, [], ◌∷◌, Option, Some, None}
+use Rattle.pm_base.specs.declared.names.Mode.TheVariants.{Active}
+use Rattle.pm_perms.specs.Permits.{may_shut}
+use Rattle.pm_state.specs.declared.scope.Scope.TheVariants.{Own, All}
+use Rattle.pm_calls.specs.declared.verdict.Say.{Say}
+use Rattle.pm_calls.specs.declared.verdict.Say.TheVariants.{Renew}
+use Rattle.pm_calls.specs.Checks.{Checks, in_range, unchecked}
+use Rattle.pm_state.specs.Prims.{Prim, Put_proc, Halt, Reload}
+use Rattle.pm_state.specs.Scope.{offs}
+use Rattle.pm_state.specs.State.{Fixed}
+use Rattle.pm_calls.specs.Verdict.{Called, saying, staged}
+use Rattle.pm_state.specs.Nodes.{master_node}
+use Rattle.pm_state.specs.Members.{first_own}
+
+-- the type and the subtype are known, and the caller may shut that much down; a scope (type 2) needs no permission
+abbrev pub system_shutdown_checks : Fixed → (m shutdown_type subtype : ℕ) → Checks
+system_shutdown_checks fixed m shutdown_type subtype = record unchecked {
+  arguments = in_range (nat_le shutdown_type 2 && nat_le subtype 2);
+  permitted = (shutdown_type == 2) || may_shut fixed.object fixed.topology (master_node fixed.object.masters m) subtype;
+}
+
+-- this processor of the master starts at address 0, if there is one
+abbrev pub starting : ℕ → Option ℕ → List Prim
+starting m None = []
+starting m (Some p) = Put_proc m p Active 0 ∷ []
+
+-- the caller's processors go off; and then its first one starts, where it restarts
+abbrev pub own_stages : Fixed → ℕ → (restarts : Bool) → List (List Prim)
+own_stages fixed m false = offs fixed (Own m) ∷ []
+own_stages fixed m true = offs fixed (Own m) ∷ starting m (first_own fixed m) ∷ []
+
+-- all processors go off, and then the book is halted, or is as at load
+abbrev pub stop_all : Fixed → List (List Prim)
+stop_all fixed = offs fixed All ∷ (Halt ∷ []) ∷ []
+
+abbrev pub restart_all : Fixed → List (List Prim)
+restart_all fixed = offs fixed All ∷ (Reload ∷ []) ∷ []
+
+abbrev pub all_stages : Fixed → (restarts : Bool) → List (List Prim)
+all_stages fixed false = stop_all fixed
+all_stages fixed true = restart_all fixed
+
+-- what the call does, by its type (0 shutdown, 1 restart, 2 scope) and subtype (0 the caller, 1 and 2 all)
+abbrev pub shutdown_stages : Fixed → (m shutdown_type subtype : ℕ) → List (List Prim)
+shutdown_stages fixed m shutdown_type subtype =
+    if shutdown_type == 2 then []
+    else if subtype == 0 then own_stages fixed m (shutdown_type == 1)
+    else all_stages fixed (shutdown_type == 1)
+
+-- whether it restarts all
+abbrev pub restarts_all : (shutdown_type subtype : ℕ) → Bool
+restarts_all shutdown_type subtype = (shutdown_type == 1) && not (subtype == 0)
+
+-- then what the masters are told is as at load
+abbrev pub renewal : Bool → Option Say
+renewal all = if all then Some Renew else None
+
+abbrev pub system_shutdown : Fixed → (m shutdown_type subtype : ℕ) → Called
+system_shutdown fixed m shutdown_type subtype =
+    record (staged (system_shutdown_checks fixed m shutdown_type subtype) (shutdown_stages fixed m shutdown_type subtype)) {
+      effects = saying (renewal (restarts_all shutdown_type subtype));
+    }

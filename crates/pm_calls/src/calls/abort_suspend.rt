@@ -1,0 +1,47 @@
+//! PM_ABORT_SUSPEND (UG1200).
+
+ghost use Rattle.std.specs.Prelude.{◌≡◌};
+ghost use Rattle.pm_calls.specs.Verdict.{stages_of, verdict_of};
+ghost use Rattle.pm_state.specs.Stages.{after_stages};
+ghost use Rattle.pm_calls.specs.Views.{is_asked, proc_view};
+ghost use Rattle.pm_calls.specs.calls.AbortSuspend.{abort_suspend, is_reason};
+
+use crate::verdict::{Say, Verdict};
+use crate::views::{is_asked, proc_view};
+use pm_base::{Mode, NodeId};
+use pm_ipi::status::{FAILURE, INVALID_NODE, INVALID_PARAMETER, NO_ACCESS};
+use pm_state::Tables;
+
+/// Whether a word is a reason for which a suspend is aborted.
+fn is_reason(reason: u32) -> bool
+    ensures { result ≡ is_reason reason }
+{
+    (100..=103).contains(&reason)
+}
+
+/// The caller's processor doesn't suspend any more, and a request that the caller suspends ends.
+pub fn abort_suspend(tables: &mut Tables, master: usize, node: NodeId, reason: u32) -> Verdict
+    ensures verdict { result
+        ≡ verdict_of (abort_suspend master reason (is_asked master tables.old) (proc_view master node tables.old)) }
+    ensures book { tables.new
+        ≡ after_stages (stages_of
+        (abort_suspend master reason (is_asked master tables.old) (proc_view master node tables.old))) tables.old }
+{
+    let view = proc_view(tables, master, node);
+    let pending = is_asked(tables, master);
+    let Some(p) = view.place else {
+        return Verdict::refused(INVALID_NODE);
+    };
+    if !is_reason(reason) {
+        return Verdict::refused(INVALID_PARAMETER);
+    }
+    let Some(proc) = view.own else {
+        return Verdict::refused(NO_ACCESS);
+    };
+    match proc.mode {
+        Mode::Suspending => tables.proc_stage(master, p, Mode::Active, proc.address),
+        Mode::Active if pending => tables.follow(),
+        Mode::Active | Mode::Off | Mode::Asleep => return Verdict::refused(FAILURE),
+    }
+    Verdict::saying(Say::Abort(master))
+}

@@ -1,0 +1,78 @@
+//! PM_FORCE_POWERDOWN (UG1200).
+
+ghost use Rattle.std.specs.Prelude.{◌≡◌};
+ghost use Rattle.pm_perms.specs.Permits.{can_be_forced, may_force};
+ghost use Rattle.pm_values.specs.Along.{Completes, trail_from};
+ghost use Rattle.pm_calls.specs.Verdict.{stages_of, verdict_of};
+ghost use Rattle.pm_state.specs.Stages.{after_stages, path_from};
+ghost use Rattle.pm_state.specs.Nodes.{master_node};
+ghost use Rattle.pm_calls.specs.calls.ForcePowerdown.{force_powerdown, force_stages};
+
+use crate::verdict::Verdict;
+use pm_base::NodeId;
+use pm_ipi::ack_kind;
+use pm_ipi::status::{INVALID_NODE, INVALID_PARAMETER, NO_ACCESS};
+use pm_perms::may_force;
+use pm_state::{Scope, Tables, master_node};
+use pm_topology::Kind;
+use pm_values::Along;
+
+/// Each processor that is the node or is below it goes off, and then all rows on the slaves below it are
+/// cleared but for their presets.
+pub fn force_powerdown(
+    tables: &mut Tables,
+    master: usize,
+    node: NodeId,
+    ack: u32,
+    along: &mut Along,
+) -> Verdict
+    requires { along.old ≡ trail_from tables.old }
+    ensures verdict { result ≡ verdict_of (force_powerdown tables.old.fixed master node ack) }
+    ensures book { tables.new ≡ after_stages (stages_of (force_powerdown tables.old.fixed master node ack)) tables.old }
+    ensures along { Completes tables.old
+        (path_from (stages_of (force_powerdown tables.old.fixed master node ack)) tables.old) tables.new along.new }
+{
+    if ack_kind(ack).is_none() {
+        return Verdict::refused(INVALID_PARAMETER);
+    }
+    if !can_be_forced(tables.kind(node)) {
+        return Verdict::refused(INVALID_NODE);
+    }
+    if !permits_force(tables, master, node) {
+        return Verdict::refused(NO_ACCESS);
+    }
+    force(tables, node, along);
+    Verdict::done()
+}
+
+/// Whether the object permits a master to force a node.
+fn permits_force(tables: &Tables, master: usize, node: NodeId) -> bool
+    ensures { result ≡ may_force tables.now.fixed.object tables.now.fixed.topology
+        (master_node tables.now.fixed.object.masters master) node }
+{
+    let caller = master_node(tables.in_force().masters.as_slice(), master);
+    may_force(tables.in_force(), tables.topology(), caller, node)
+}
+
+/// The stages of a force. The modes are noted between them.
+fn force(tables: &mut Tables, node: NodeId, along: &mut Along)
+    requires { along.old ≡ trail_from tables.old }
+    ensures book { tables.new ≡ after_stages (force_stages tables.old.fixed node) tables.old }
+    ensures along { Completes tables.old (path_from (force_stages tables.old.fixed node) tables.old) tables.new
+        along.new }
+{
+    tables.take_off(Scope::Under(node));
+    tables.follow();
+    along.log(tables);
+    tables.clear_below(node);
+    tables.follow();
+}
+
+fn can_be_forced(kind: Kind) -> bool
+    ensures { result ≡ can_be_forced kind }
+{
+    match kind {
+        Kind::Proc(_) | Kind::Power(_) => true,
+        Kind::Slave(_) | Kind::Unknown => false,
+    }
+}

@@ -1,0 +1,41 @@
+//! PM_GET_OP_CHARACTERISTIC (UG1200).
+
+ghost use Rattle.std.specs.Prelude.{◌≡◌};
+ghost use Rattle.pm_values.specs.Caches.{AreKept};
+ghost use Rattle.pm_calls.specs.Characteristics.{characteristics};
+ghost use Rattle.pm_calls.specs.Verdict.{verdict_of};
+ghost use Rattle.pm_calls.specs.calls.GetOpCharacteristic.{get_op_characteristic};
+
+use crate::characteristics::characteristics_of;
+use crate::verdict::Verdict;
+use pm_base::NodeId;
+use pm_ipi::status::{INVALID_NODE, INVALID_PARAMETER, NO_FEATURE};
+use pm_state::Tables;
+use pm_values::Caches;
+
+const POWER: u32 = 1;
+
+const TEMPERATURE: u32 = 2;
+
+const LATENCY: u32 = 3;
+
+/// Tells the power figure or the latency of a node as it stands. Of a temperature nothing is known.
+pub fn get_op_characteristic(
+    tables: &Tables,
+    caches: &Caches,
+    node: NodeId,
+    characteristic: u32,
+) -> Verdict
+    requires { AreKept tables.now caches.now }
+    ensures { result ≡ verdict_of (get_op_characteristic characteristic (characteristics node tables.now)) }
+{
+    let Some(has) = characteristics_of(tables, caches, node) else {
+        return Verdict::refused(INVALID_NODE);
+    };
+    match characteristic {
+        POWER => Verdict::told([has.figure, 0, 0]),
+        TEMPERATURE => Verdict::refused(NO_FEATURE),
+        LATENCY => Verdict::told([has.latency, 0, 0]),
+        _ => Verdict::refused(INVALID_PARAMETER),
+    }
+}

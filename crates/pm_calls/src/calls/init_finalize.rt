@@ -1,0 +1,18 @@
+//! PM_INIT_FINALIZE (UG1200).
+
+ghost use Rattle.std.specs.Prelude.{◌≡◌};
+ghost use Rattle.pm_calls.specs.Verdict.{stages_of, verdict_of};
+ghost use Rattle.pm_state.specs.Stages.{after_stages};
+ghost use Rattle.pm_calls.specs.calls.InitFinalize.{init_finalize};
+
+use crate::verdict::Verdict;
+use pm_state::Tables;
+
+/// The caller's holds are dropped.
+pub fn init_finalize(tables: &mut Tables, master: usize) -> Verdict
+    ensures verdict { result ≡ verdict_of (init_finalize master) }
+    ensures book { tables.new ≡ after_stages (stages_of (init_finalize master)) tables.old }
+{
+    tables.settle_stage(master);
+    Verdict::done()
+}

@@ -1,0 +1,65 @@
+//! PM_REGISTER_NOTIFIER (UG1200).
+
+ghost use Rattle.std.specs.Prelude.{◌≡◌};
+ghost use Rattle.pm_calls.specs.Verdict.{verdict_of};
+ghost use Rattle.pm_calls.specs.Views.{watched};
+ghost use Rattle.pm_calls.specs.calls.RegisterNotifier.{can_happen, may_watch, register_notifier};
+
+use crate::verdict::{Notifier, Say, Verdict};
+use crate::views::{Watched, watched_node};
+use pm_base::NodeId;
+use pm_ipi::status::{INVALID_NODE, INVALID_PARAMETER, NO_ACCESS};
+use pm_notify::NodeEvent;
+use pm_state::Tables;
+
+/// Whether the event can happen to the node: any node changes, and only a slave has users.
+fn can_happen(event: NodeEvent, view: &Watched) -> bool
+    ensures { result ≡ can_happen (Some event) view.now }
+{
+    match event {
+        NodeEvent::Change => true,
+        NodeEvent::ZeroUsers => matches!(view, Watched::SlaveNode { .. }),
+    }
+}
+
+/// Whether the caller may be told of it: a slave needs a permission, and a power node none.
+fn may_watch(view: &Watched) -> bool
+    ensures { result ≡ may_watch view.now }
+{
+    match view {
+        Watched::Nothing => false,
+        Watched::PowerNode => true,
+        Watched::SlaveNode { permitted } => *permitted,
+    }
+}
+
+/// The caller is told of the event of the node from now on, or not any more.
+pub fn register_notifier(
+    tables: &Tables,
+    master: usize,
+    node: NodeId,
+    event: u32,
+    enable: u32,
+) -> Verdict
+    ensures { result ≡ verdict_of (register_notifier master node event enable (watched master node tables.now)) }
+{
+    let view = watched_node(tables, master, node);
+    if matches!(view, Watched::Nothing) {
+        return Verdict::refused(INVALID_NODE);
+    }
+    let Some(event) = NodeEvent::from_number(event) else {
+        return Verdict::refused(INVALID_PARAMETER);
+    };
+    if !can_happen(event, &view) || enable > 1 {
+        return Verdict::refused(INVALID_PARAMETER);
+    }
+    if !may_watch(&view) {
+        return Verdict::refused(NO_ACCESS);
+    }
+    Verdict::saying(Say::Register(Notifier {
+        master,
+        node,
+        event,
+        on: enable == 1,
+    }))
+}

@@ -1,0 +1,33 @@
+//! PM_RELEASE_NODE (UG1200).
+
+ghost use Rattle.std.specs.Prelude.{◌≡◌};
+ghost use Rattle.pm_calls.specs.Verdict.{stages_of, verdict_of};
+ghost use Rattle.pm_calls.specs.calls.ReleaseNode.{release_node};
+ghost use Rattle.pm_state.specs.Stages.{after_stages};
+ghost use Rattle.pm_calls.specs.Views.{row_view};
+
+use crate::verdict::Verdict;
+use crate::views::row_view;
+use pm_base::NodeId;
+use pm_ipi::status::{INVALID_NODE, NO_ACCESS};
+use pm_rows::Change;
+use pm_state::Tables;
+
+/// The caller doesn't use the slave any more.
+pub fn release_node(tables: &mut Tables, master: usize, node: NodeId) -> Verdict
+    ensures verdict { result ≡ verdict_of (release_node (row_view master node tables.old)) }
+    ensures book { tables.new ≡ after_stages (stages_of (release_node (row_view master node tables.old))) tables.old }
+{
+    let view = row_view(tables, master, node);
+    if view.slave.is_none() {
+        return Verdict::refused(INVALID_NODE);
+    }
+    let Some(entry) = view.entry else {
+        return Verdict::refused(NO_ACCESS);
+    };
+    if !entry.row.used {
+        return Verdict::refused(NO_ACCESS);
+    }
+    tables.row_stage(entry.seed.master, entry.seed.slave, Change::Release);
+    Verdict::done()
+}

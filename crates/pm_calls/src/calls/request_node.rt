@@ -1,0 +1,51 @@
+//! PM_REQUEST_NODE (UG1200).
+
+ghost use Rattle.std.specs.Prelude.{◌≡◌};
+ghost use Rattle.pm_calls.specs.Verdict.{stages_of, verdict_of};
+ghost use Rattle.pm_calls.specs.calls.RequestNode.{request_node};
+ghost use Rattle.pm_state.specs.Stages.{after_stages};
+ghost use Rattle.pm_calls.specs.Views.{row_view};
+
+use crate::verdict::Verdict;
+use crate::views::row_view;
+use bitflags::Flags;
+use pm_base::{Caps, NodeId};
+use pm_ipi::status::{DOUBLE_REQUEST, INVALID_NODE, INVALID_PARAMETER, NO_ACCESS, NO_FEATURE};
+use pm_ipi::{Response, ack_kind};
+use pm_rows::Change;
+use pm_state::Tables;
+
+/// The caller uses the slave from now on, with these capabilities.
+pub fn request_node(
+    tables: &mut Tables,
+    master: usize,
+    node: NodeId,
+    caps: Caps,
+    ack: u32,
+) -> Verdict
+    ensures verdict { result ≡ verdict_of (request_node caps ack (row_view master node tables.old)) }
+    ensures book { tables.new
+        ≡ after_stages (stages_of (request_node caps ack (row_view master node tables.old))) tables.old }
+{
+    let view = row_view(tables, master, node);
+    if ack_kind(ack).is_none() {
+        return Verdict::refused(INVALID_PARAMETER);
+    }
+    if view.slave.is_none() {
+        return Verdict::refused(INVALID_NODE);
+    }
+    let Some(entry) = view.entry else {
+        return Verdict::refused(NO_ACCESS);
+    };
+    if !entry.seed.all.contains(caps) {
+        return Verdict::refused(NO_FEATURE);
+    }
+    if entry.row.used {
+        return Verdict::refused(DOUBLE_REQUEST);
+    }
+    if let Some(rival) = view.rival {
+        return Verdict::Refused(Response::used_by(rival));
+    }
+    tables.row_stage(entry.seed.master, entry.seed.slave, Change::Request(caps));
+    Verdict::done()
+}

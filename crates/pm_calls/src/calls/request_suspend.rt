@@ -1,0 +1,52 @@
+//! PM_REQUEST_SUSPEND (UG1200).
+
+ghost use Rattle.std.specs.Prelude.{◌≡◌};
+ghost use Rattle.pm_calls.specs.Verdict.{verdict_of};
+ghost use Rattle.pm_calls.specs.Views.{suspend_view};
+ghost use Rattle.pm_calls.specs.calls.RequestSuspend.{request_suspend};
+
+use crate::verdict::{Asked, Say, Verdict};
+use crate::views::suspend_view;
+use pm_base::{Mode, NodeId};
+use pm_ipi::ack_kind;
+use pm_ipi::status::{DOUBLE_REQUEST, FAILURE, INVALID_NODE, INVALID_PARAMETER, NO_ACCESS};
+use pm_procs::{Pending, same_mode};
+use pm_state::Tables;
+
+/// The target is asked to suspend. The caller is answered when the request ends. The target hears how
+/// long it may take to be back, and the state that is asked for.
+pub fn request_suspend(
+    tables: &Tables,
+    master: usize,
+    node: NodeId,
+    ack: u32,
+    latency: u32,
+    state: u32,
+) -> Verdict
+    ensures { result ≡ verdict_of
+        (request_suspend master node ack latency state (suspend_view master node tables.now)) }
+{
+    let view = suspend_view(tables, master, node);
+    let Some(ack) = ack_kind(ack) else {
+        return Verdict::refused(INVALID_PARAMETER);
+    };
+    if !view.named {
+        return Verdict::refused(INVALID_NODE);
+    }
+    let Some(target) = view.target else {
+        return Verdict::refused(NO_ACCESS);
+    };
+    if target.pending {
+        return Verdict::refused(DOUBLE_REQUEST);
+    }
+    if !same_mode(target.mode, Mode::Active) {
+        return Verdict::refused(FAILURE);
+    }
+    Verdict::saying(Say::Ask(Asked {
+        target: target.master,
+        request: Pending::new(master, ack, node, target.timeout),
+        latency,
+        state,
+        timeout: target.timeout,
+    }))
+}

@@ -1,0 +1,47 @@
+//! PM_REQUEST_WAKEUP (UG1200).
+
+ghost use Rattle.std.specs.Prelude.{◌≡◌};
+ghost use Rattle.pm_calls.specs.Verdict.{stages_of, verdict_of};
+ghost use Rattle.pm_state.specs.Stages.{after_stages};
+ghost use Rattle.pm_calls.specs.Views.{wake_view};
+ghost use Rattle.pm_calls.specs.calls.RequestWakeup.{request_wakeup};
+
+use crate::verdict::Verdict;
+use crate::views::wake_view;
+use pm_base::{Mode, NodeId};
+use pm_ipi::ack_kind;
+use pm_ipi::status::{FAILURE, INVALID_NODE, INVALID_PARAMETER, NO_ACCESS};
+use pm_state::Tables;
+
+/// A processor of the caller, or of a master that it may wake, is active from now on. It resumes at
+/// the address, or where it was to resume if there is none.
+pub fn request_wakeup(
+    tables: &mut Tables,
+    master: usize,
+    node: NodeId,
+    address: Option<u64>,
+    ack: u32,
+) -> Verdict
+    ensures verdict { result ≡ verdict_of (request_wakeup address ack (wake_view master node tables.old)) }
+    ensures book { tables.new
+        ≡ after_stages (stages_of (request_wakeup address ack (wake_view master node tables.old))) tables.old }
+{
+    let view = wake_view(tables, master, node);
+    if ack_kind(ack).is_none() {
+        return Verdict::refused(INVALID_PARAMETER);
+    }
+    let Some(p) = view.place else {
+        return Verdict::refused(INVALID_NODE);
+    };
+    let Some(target) = view.target else {
+        return Verdict::refused(NO_ACCESS);
+    };
+    match target.proc.mode {
+        Mode::Active => Verdict::refused(FAILURE),
+        Mode::Off | Mode::Asleep | Mode::Suspending => {
+            let address = address.unwrap_or(target.proc.address);
+            tables.proc_stage(target.owner, p, Mode::Active, address);
+            Verdict::done()
+        }
+    }
+}

@@ -1,0 +1,22 @@
+//! PM_RESET_GET_STATUS (UG1200).
+
+ghost use Rattle.std.specs.Prelude.{◌≡◌};
+ghost use Rattle.pm_calls.specs.ResetLines.{line_status};
+ghost use Rattle.pm_calls.specs.Verdict.{verdict_of};
+ghost use Rattle.pm_calls.specs.calls.ResetGetStatus.{reset_get_status};
+
+use crate::reset_lines::line_status;
+use crate::verdict::Verdict;
+use pm_base::LineId;
+use pm_ipi::status::INVALID_NODE;
+use pm_state::Tables;
+
+/// Tells the value of a reset line.
+pub fn reset_get_status(tables: &Tables, line: LineId) -> Verdict
+    ensures { result ≡ verdict_of (reset_get_status (line_status line tables.now)) }
+{
+    match line_status(tables, line) {
+        Some(value) => Verdict::told([value, 0, 0]),
+        None => Verdict::refused(INVALID_NODE),
+    }
+}

@@ -1,0 +1,36 @@
+//! PM_SELF_SUSPEND (UG1200).
+
+ghost use Rattle.std.specs.Prelude.{◌≡◌};
+ghost use Rattle.pm_calls.specs.Verdict.{stages_of, verdict_of};
+ghost use Rattle.pm_state.specs.Stages.{after_stages};
+ghost use Rattle.pm_calls.specs.Views.{proc_view};
+ghost use Rattle.pm_calls.specs.calls.SelfSuspend.{self_suspend};
+
+use crate::verdict::Verdict;
+use crate::views::proc_view;
+use pm_base::{Mode, NodeId};
+use pm_ipi::status::{DOUBLE_REQUEST, FAILURE, INVALID_NODE, NO_ACCESS};
+use pm_state::Tables;
+
+/// The caller's processor suspends from now on, and is to resume at the address.
+pub fn self_suspend(tables: &mut Tables, master: usize, node: NodeId, address: u64) -> Verdict
+    ensures verdict { result ≡ verdict_of (self_suspend master address (proc_view master node tables.old)) }
+    ensures book { tables.new
+        ≡ after_stages (stages_of (self_suspend master address (proc_view master node tables.old))) tables.old }
+{
+    let view = proc_view(tables, master, node);
+    let Some(p) = view.place else {
+        return Verdict::refused(INVALID_NODE);
+    };
+    let Some(proc) = view.own else {
+        return Verdict::refused(NO_ACCESS);
+    };
+    match proc.mode {
+        Mode::Suspending => Verdict::refused(DOUBLE_REQUEST),
+        Mode::Off | Mode::Asleep => Verdict::refused(FAILURE),
+        Mode::Active => {
+            tables.proc_stage(master, p, Mode::Suspending, address);
+            Verdict::done()
+        }
+    }
+}

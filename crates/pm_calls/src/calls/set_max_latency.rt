@@ -1,0 +1,34 @@
+//! PM_SET_MAX_LATENCY (UG1200).
+
+ghost use Rattle.std.specs.Prelude.{◌≡◌};
+ghost use Rattle.pm_calls.specs.Verdict.{stages_of, verdict_of};
+ghost use Rattle.pm_state.specs.Stages.{after_stages};
+ghost use Rattle.pm_calls.specs.Views.{row_view};
+ghost use Rattle.pm_calls.specs.calls.SetMaxLatency.{set_max_latency};
+
+use crate::verdict::Verdict;
+use crate::views::row_view;
+use pm_base::NodeId;
+use pm_ipi::status::{INVALID_NODE, NO_ACCESS};
+use pm_rows::Change;
+use pm_state::Tables;
+
+/// The caller allows this latency at most of a slave that it uses.
+pub fn set_max_latency(tables: &mut Tables, master: usize, node: NodeId, latency: u32) -> Verdict
+    ensures verdict { result ≡ verdict_of (set_max_latency latency (row_view master node tables.old)) }
+    ensures book { tables.new
+        ≡ after_stages (stages_of (set_max_latency latency (row_view master node tables.old))) tables.old }
+{
+    let view = row_view(tables, master, node);
+    if view.slave.is_none() {
+        return Verdict::refused(INVALID_NODE);
+    }
+    let Some(entry) = view.entry else {
+        return Verdict::refused(NO_ACCESS);
+    };
+    if !entry.row.used {
+        return Verdict::refused(NO_ACCESS);
+    }
+    tables.row_stage(entry.seed.master, entry.seed.slave, Change::Limit(latency));
+    Verdict::done()
+}

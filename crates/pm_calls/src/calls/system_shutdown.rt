@@ -1,0 +1,122 @@
+//! PM_SYSTEM_SHUTDOWN (UG1200).
+
+ghost use Rattle.std.specs.Prelude.{◌≡◌};
+ghost use Rattle.pm_perms.specs.Permits.{may_shut};
+ghost use Rattle.pm_values.specs.Along.{Completes, trail_from};
+ghost use Rattle.pm_calls.specs.Verdict.{stages_of, verdict_of};
+ghost use Rattle.pm_state.specs.Prims.{changed};
+ghost use Rattle.pm_state.specs.Stages.{after_stages, path_from};
+ghost use Rattle.pm_state.specs.Nodes.{master_node};
+ghost use Rattle.pm_state.specs.Members.{first_own};
+ghost use Rattle.pm_calls.specs.calls.SystemShutdown.{own_stages, restart_all, starting, stop_all, system_shutdown};
+
+use crate::verdict::{Say, Verdict};
+use pm_base::Mode;
+use pm_ipi::status::{INVALID_PARAMETER, NO_ACCESS};
+use pm_perms::may_shut;
+use pm_state::{Scope, Tables, master_node};
+use pm_values::Along;
+
+/// The type that asks for a restart, and the one that only says what a later shutdown is to mean.
+const RESTART: u32 = 1;
+
+const SCOPE: u32 = 2;
+
+/// The caller's processors, or all, go off. The caller restarts with its first processor, and all of it
+/// with the book at load; where all is shut down the book is halted.
+pub fn system_shutdown(
+    tables: &mut Tables,
+    master: usize,
+    shutdown_type: u32,
+    subtype: u32,
+    along: &mut Along,
+) -> Verdict
+    requires { along.old ≡ trail_from tables.old }
+    ensures verdict { result ≡ verdict_of (system_shutdown tables.old.fixed master shutdown_type subtype) }
+    ensures book { tables.new
+        ≡ after_stages (stages_of (system_shutdown tables.old.fixed master shutdown_type subtype)) tables.old }
+    ensures along { Completes tables.old
+        (path_from (stages_of (system_shutdown tables.old.fixed master shutdown_type subtype)) tables.old)
+        tables.new along.new }
+{
+    if shutdown_type > 2 || subtype > 2 {
+        return Verdict::refused(INVALID_PARAMETER);
+    }
+    if shutdown_type == SCOPE {
+        return Verdict::done();
+    }
+    if !permits_shutdown(tables, master, subtype) {
+        return Verdict::refused(NO_ACCESS);
+    }
+    if subtype == 0 {
+        shut_own(tables, master, shutdown_type == RESTART, along);
+        return Verdict::done();
+    }
+    if shutdown_type == RESTART {
+        restart_all(tables, along);
+        return Verdict::saying(Say::Renew);
+    }
+    stop_all(tables, along);
+    Verdict::done()
+}
+
+/// Whether a master may shut down what a subtype names.
+fn permits_shutdown(tables: &Tables, master: usize, subtype: u32) -> bool
+    ensures { result ≡ may_shut tables.now.fixed.object tables.now.fixed.topology
+        (master_node tables.now.fixed.object.masters master) subtype }
+{
+    let caller = master_node(tables.in_force().masters.as_slice(), master);
+    may_shut(tables.in_force(), tables.topology(), caller, subtype)
+}
+
+/// A master's processors go off, and then its first one starts, where it restarts. The modes are noted
+/// between the stages.
+fn shut_own(tables: &mut Tables, m: usize, restarts: bool, along: &mut Along)
+    requires { along.old ≡ trail_from tables.old }
+    ensures book { tables.new ≡ after_stages (own_stages tables.old.fixed m restarts) tables.old }
+    ensures along { Completes tables.old (path_from (own_stages tables.old.fixed m restarts) tables.old) tables.new
+        along.new }
+{
+    tables.take_off(Scope::Own(m));
+    tables.follow();
+    if restarts {
+        along.log(tables);
+        start_own(tables, m);
+        tables.follow();
+    }
+}
+
+/// The first processor of a master starts at address 0.
+fn start_own(tables: &mut Tables, m: usize)
+    ensures { tables.new ≡ changed (starting m (first_own tables.old.fixed m)) tables.old }
+{
+    if let Some(p) = tables.first_proc(m) {
+        tables.put_proc(m, p, Mode::Active, 0);
+    }
+}
+
+/// All processors go off, and then the book is halted.
+fn stop_all(tables: &mut Tables, along: &mut Along)
+    requires { along.old ≡ trail_from tables.old }
+    ensures book { tables.new ≡ after_stages (stop_all tables.old.fixed) tables.old }
+    ensures along { Completes tables.old (path_from (stop_all tables.old.fixed) tables.old) tables.new along.new }
+{
+    tables.take_off(Scope::All);
+    tables.follow();
+    along.log(tables);
+    tables.halt();
+    tables.follow();
+}
+
+/// All processors go off, and then the book is as at load.
+fn restart_all(tables: &mut Tables, along: &mut Along)
+    requires { along.old ≡ trail_from tables.old }
+    ensures book { tables.new ≡ after_stages (restart_all tables.old.fixed) tables.old }
+    ensures along { Completes tables.old (path_from (restart_all tables.old.fixed) tables.old) tables.new along.new }
+{
+    tables.take_off(Scope::All);
+    tables.follow();
+    along.log(tables);
+    tables.reload();
+    tables.follow();
+}

@@ -1,0 +1,317 @@
+//! What the calls read of the book.
+
+ghost use Rattle.std.specs.Prelude.{◌≡◌};
+ghost use Rattle.pm_rows.specs.Rows.{now_of};
+ghost use Rattle.pm_perms.specs.Permits.{may_use};
+ghost use Rattle.pm_values.specs.Caches.{AreKept};
+ghost use Rattle.pm_state.specs.State.{in_force};
+ghost use Rattle.pm_calls.specs.Views;
+ghost use Rattle.pm_calls.specs.Views.{row_view, own_proc, proc_view, can_wake, wakeable, wake_view, can_suspend, is_asked, names_master, suspendable, suspendable_at, suspend_view, watched, status_view};
+ghost use Rattle.pm_state.specs.Nodes;
+
+use pm_base::{Caps, Mode, NodeId};
+use pm_object::{MasterRec, is_master_node};
+use pm_perms::{may_suspend, may_use, may_wake};
+use pm_procs::Proc;
+use pm_rows::Entry;
+use pm_state::{Tables, master_node};
+use pm_topology::Kind;
+use pm_values::{Caches, point};
+
+/// What a master sees of its row on a slave: the slave's place, the row where the pair is permitted,
+/// and the other master that uses the slave where it can't be shared.
+#[derive(Clone, Copy, Debug, PartialEq, Eq)]
+pub struct RowView {
+    pub slave: Option<usize>,
+    pub entry: Option<Entry>,
+    pub rival: Option<NodeId>,
+}
+
+/// What a master is told of a node: its operating point, and for a slave the capabilities that the master
+/// wants of it now and who uses it (0 nobody, 1 only the master, 2 only others, 3 both). There is no
+/// state where no node has the number.
+#[derive(Clone, Copy, Debug, PartialEq, Eq)]
+pub struct StatusView {
+    pub state: Option<u32>,
+    pub requested: Caps,
+    pub usage: u32,
+}
+
+/// What a master sees of a processor: its place, where the node is one, and its mode and resume address
+/// where it is the master's own.
+#[derive(Clone, Copy, Debug, PartialEq, Eq)]
+pub struct ProcView {
+    pub place: Option<usize>,
+    pub own: Option<Proc>,
+}
+
+/// A processor that may be woken: the place of the master that has it, and its mode and resume address.
+#[derive(Clone, Copy, Debug, PartialEq, Eq)]
+pub struct Wakeable {
+    pub owner: usize,
+    pub proc: Proc,
+}
+
+/// What a master sees of a processor that it wants to wake: its place, where the node is one, and the
+/// processor where the master may wake it.
+#[derive(Clone, Copy, Debug, PartialEq, Eq)]
+pub struct WakeView {
+    pub place: Option<usize>,
+    pub target: Option<Wakeable>,
+}
+
+/// A master that may be asked to suspend: its place, whether a request is pending on it, its mode, and the
+/// time that the object gives it.
+#[derive(Clone, Copy, Debug, PartialEq, Eq)]
+pub struct Suspendable {
+    pub master: usize,
+    pub pending: bool,
+    pub mode: Mode,
+    pub timeout: u32,
+}
+
+/// What a master sees of one that it asks to suspend: whether the node can name a master, and the master
+/// that it names where that may be asked.
+#[derive(Clone, Copy, Debug, PartialEq, Eq)]
+pub struct SuspendView {
+    pub named: bool,
+    pub target: Option<Suspendable>,
+}
+
+/// What a master sees of a node of which it wants to be told: a slave, and whether the master may use it, a
+/// power node, or nothing.
+#[derive(Clone, Copy, Debug, PartialEq, Eq)]
+pub enum Watched {
+    Nothing,
+    PowerNode,
+    SlaveNode { permitted: bool },
+}
+
+fn now_of(entry: Option<Entry>) -> Caps
+    ensures { result ≡ now_of entry }
+{
+    match entry {
+        Some(entry) if entry.row.used => entry.row.now,
+        _ => Caps(0),
+    }
+}
+
+pub(crate) fn row_view(tables: &Tables, master: usize, node: NodeId) -> RowView
+    ensures { result ≡ row_view master node tables.now }
+{
+    match tables.slave_place(node) {
+        None => RowView {
+            slave: None,
+            entry: None,
+            rival: None,
+        },
+        Some(slave) => RowView {
+            slave: Some(slave),
+            entry: tables.rows().entry_at(master, slave),
+            rival: rival_node(tables, master, slave),
+        },
+    }
+}
+
+fn rival_node(tables: &Tables, master: usize, slave: usize) -> Option<NodeId>
+    ensures { result ≡ Views.rival_node master slave tables.now }
+{
+    match tables.rows().rival(master, slave) {
+        Some(rival) => Some(master_node(tables.in_force().masters.as_slice(), rival)),
+        None => None,
+    }
+}
+
+pub(crate) fn proc_view(tables: &Tables, master: usize, node: NodeId) -> ProcView
+    ensures { result ≡ proc_view master node tables.now }
+{
+    match tables.kind(node) {
+        Kind::Proc(p) => ProcView {
+            place: Some(p),
+            own: own_proc(tables, master, p),
+        },
+        Kind::Slave(_) | Kind::Power(_) | Kind::Unknown => ProcView {
+            place: None,
+            own: None,
+        },
+    }
+}
+
+fn own_proc(tables: &Tables, master: usize, p: usize) -> Option<Proc>
+    ensures { result ≡ own_proc master p tables.now }
+{
+    if tables.owns(master, p) {
+        Some(tables.procs().proc(p))
+    } else {
+        None
+    }
+}
+
+pub(crate) fn wake_view(tables: &Tables, master: usize, node: NodeId) -> WakeView
+    ensures { result ≡ wake_view master node tables.now }
+{
+    match tables.kind(node) {
+        Kind::Proc(p) => WakeView {
+            place: Some(p),
+            target: wake_target(tables, master, p, tables.owner(p)),
+        },
+        Kind::Slave(_) | Kind::Power(_) | Kind::Unknown => WakeView {
+            place: None,
+            target: None,
+        },
+    }
+}
+
+fn wake_target(tables: &Tables, master: usize, p: usize, owner: Option<usize>) -> Option<Wakeable>
+    ensures { result ≡ wakeable master p owner tables.now }
+{
+    let owner = owner?;
+    if can_wake(tables, master, owner) {
+        Some(Wakeable {
+            owner,
+            proc: tables.procs().proc(p),
+        })
+    } else {
+        None
+    }
+}
+
+/// Whether a master may wake the processors of another: they are its own, or the object permits it.
+fn can_wake(tables: &Tables, master: usize, owner: usize) -> bool
+    ensures { result ≡ can_wake master owner tables.now }
+{
+    let masters = tables.in_force().masters.as_slice();
+    owner == master
+        || may_wake(
+            tables.in_force(),
+            tables.topology(),
+            master_node(masters, master),
+            master_node(masters, owner),
+        )
+}
+
+fn master_timeout(masters: &[MasterRec], place: usize) -> u32
+    ensures { result ≡ Views.master_timeout masters.now place }
+{
+    masters.get(place).map_or(0, |master| master.timeout)
+}
+
+/// Whether a request to suspend is pending on the master at a place.
+pub(crate) fn is_asked(tables: &Tables, m: usize) -> bool
+    ensures { result ≡ is_asked m tables.now }
+{
+    tables.procs().pending(m).is_some()
+}
+
+pub(crate) fn suspend_view(tables: &Tables, master: usize, node: NodeId) -> SuspendView
+    ensures { result ≡ suspend_view master node tables.now }
+{
+    SuspendView {
+        named: names_master(tables, node),
+        target: suspend_target(tables, master, tables.named_master(node)),
+    }
+}
+
+/// Whether a node can name a master: it is a processor, or a number that masters have.
+fn names_master(tables: &Tables, node: NodeId) -> bool
+    ensures { result ≡ names_master tables.now.fixed node }
+{
+    matches!(tables.kind(node), Kind::Proc(_)) || is_master_node(node.0)
+}
+
+fn suspend_target(tables: &Tables, master: usize, target: Option<usize>) -> Option<Suspendable>
+    ensures { result ≡ suspendable master target tables.now }
+{
+    let target = target?;
+    if can_suspend(tables, master, target) {
+        Some(suspendable_at(tables, target))
+    } else {
+        None
+    }
+}
+
+fn suspendable_at(tables: &Tables, target: usize) -> Suspendable
+    ensures { result ≡ suspendable_at target tables.now }
+{
+    Suspendable {
+        master: target,
+        pending: is_asked(tables, target),
+        mode: tables.mode_of_master(target),
+        timeout: master_timeout(tables.in_force().masters.as_slice(), target),
+    }
+}
+
+/// Whether the object permits a master to ask another one that it suspends.
+fn can_suspend(tables: &Tables, master: usize, target: usize) -> bool
+    ensures { result ≡ can_suspend master target tables.now }
+{
+    let masters = tables.in_force().masters.as_slice();
+    may_suspend(
+        tables.in_force(),
+        tables.topology(),
+        master_node(masters, master),
+        master_node(masters, target),
+    )
+}
+
+pub(crate) fn watched_node(tables: &Tables, master: usize, node: NodeId) -> Watched
+    ensures { result ≡ watched master node tables.now }
+{
+    match tables.kind(node) {
+        Kind::Slave(_) => Watched::SlaveNode {
+            permitted: permits_use(tables, master, node),
+        },
+        Kind::Power(_) => Watched::PowerNode,
+        Kind::Proc(_) | Kind::Unknown => Watched::Nothing,
+    }
+}
+
+/// Whether the object permits a master to use a slave.
+fn permits_use(tables: &Tables, master: usize, slave: NodeId) -> bool
+    ensures { result ≡ may_use (in_force tables.now) tables.now.fixed.topology
+        (Nodes.master_node (in_force tables.now).masters master) slave }
+{
+    let masters = tables.in_force().masters.as_slice();
+    may_use(
+        tables.in_force(),
+        tables.topology(),
+        master_node(masters, master),
+        slave,
+    )
+}
+
+/// What is told of a node that isn't a slave: its operating point alone.
+fn plain(value: u32) -> StatusView
+    ensures { result ≡ Views.plain value }
+{
+    StatusView {
+        state: Some(value),
+        requested: Caps(0),
+        usage: 0,
+    }
+}
+
+pub(crate) fn status_view(
+    tables: &Tables,
+    caches: &Caches,
+    master: usize,
+    node: NodeId,
+) -> StatusView
+    requires { AreKept tables.now caches.now }
+    ensures { result ≡ status_view master node tables.now }
+{
+    let value = point(tables, caches, node);
+    match tables.kind(node) {
+        Kind::Unknown => StatusView {
+            state: None,
+            requested: Caps(0),
+            usage: 0,
+        },
+        Kind::Proc(_) | Kind::Power(_) => plain(value),
+        Kind::Slave(slave) => StatusView {
+            state: Some(value),
+            requested: now_of(tables.rows().entry_at(master, slave)),
+            usage: tables.rows().usage(master, slave),
+        },
+    }
+}

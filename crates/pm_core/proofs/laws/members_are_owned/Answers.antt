@@ -1,5 +1,0 @@
-use Rattle.pm_core.proofs.MembersLaw.{members_owned}
-use Rattle.pm_core.proofs.laws.members_are_owned.Goals as goal
-
-pub returns : goal.returns
-returns c = λ object topology m p is. (members_owned object topology m p is).own

@@ -1,4 +1,0 @@
-use Rattle.pm_core.proofs.laws.values_are_fed.Goals as goal
-
-pub returns : goal.returns
-returns c = c.values_meet.ensures.fed

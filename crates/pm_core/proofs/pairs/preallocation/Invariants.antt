@@ -1,8 +1,0 @@
-use Rattle.std.proofs.Common.{◌≡◌, drop}
-use Rattle.pm_core.specs.Pairs.{first_among}
-use Rattle.pm_core.proofs.pairs.preallocation.Given as goal
-
--- no group that was looked at has one
-abbrev pub invariant-loop-group : goal.invariant-loop-group
-invariant-loop-group l =
-    first_among l.master l.slave (drop l.group-index l.object.groups) ≡ first_among l.master l.slave l.object.groups

@@ -1,0 +1,16 @@
+use Rattle.pm_core.specs.Step.{called}
+use Rattle.pm_calls.specs.Verdict.{stages_of}
+use Rattle.pm_values.proofs.AlongLaw.{once_trailed}
+use Rattle.pm_core.proofs.StepLaw.{called_once, once_of}
+use Rattle.pm_core.proofs.step.serve.Goals as goal
+
+pub returns-in_default : goal.returns-in_default
+returns-in_default c =
+    let book = c.args.tables.now in
+    record {
+      verdict = c.serve_once.ensures.verdict;
+      book = c.serve_once.ensures.book;
+      along = once_trailed (stages_of (called c.args.master c.args.call book)) book c.serve_once.new.tables c.args.along.now
+          (called_once c.args.master c.args.call book (once_of c.args.call c.in_default.not-ForcePowerdown c.in_default.not-SystemShutdown))
+          c.requires.along c.serve_once.ensures.book;
+    }

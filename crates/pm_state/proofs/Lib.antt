@@ -1,0 +1,14 @@
+pub mod ArmedLaw
+pub mod Each
+pub mod FollowLemmas
+pub mod LoadLaw
+pub mod MasterNotesLaw
+pub mod MembersLaw
+pub mod PairsLaw
+pub mod PendingLaw
+pub mod Permitted
+pub mod PlacedLemmas
+pub mod RowLaws
+pub mod ScopeLemmas
+pub mod ScopeSound
+pub mod StageLaw

@@ -1,0 +1,36 @@
+use Rattle.std.proofs.Common.{◌≡◌, List, [], length, drop, refl, sym, ◌∙◌, ap, arith}
+use Rattle.std.proofs.lemmas.List.{drop_all}
+use Rattle.pm_object.specs.declared.object.MasterRec.{MasterRec}
+use Rattle.pm_state.specs.Prims.{changed}
+use Rattle.pm_state.specs.Stages.{follow_from}
+use Rattle.pm_state.specs.State.{State}
+use Rattle.pm_state.proofs.FollowLemmas.{follow_step}
+use Rattle.pm_state.proofs.tables.Tables.follow.Goals as goal
+
+nobody : MasterRec
+nobody = record { node = 0; mask = 0; timeout = 0; suspend = 0; wake = 0 }
+
+pub loop-m-init : goal.loop-m-init
+loop-m-init c = record { fixed = refl; whole = refl }
+
+pub loop-m-preserved : goal.loop-m-preserved
+loop-m-preserved c =
+    let masters = c.args.self.now.fixed.object.masters in
+    let count : c.len-m-end.result ≡ length masters =
+    c.len-m-end.ensures ∙ ap (λ (b : State). length b.fixed.object.masters) c.self.view_is
+    in
+    record {
+      fixed = ap (λ (b : State). b.fixed) c.follow_master.ensures ∙ c.loop-m.invariant.fixed;
+      whole = follow_step c.loop-m.self c.follow_master.new.self c.loop-m.m nobody masters c.follow_master.ensures (omega (arith, count, c.loop-m-test.true))
+          ∙ c.loop-m.invariant.whole;
+    }
+
+pub returns : goal.returns
+returns c =
+    let masters = c.args.self.now.fixed.object.masters in
+    let count : c.len-m-end.result ≡ length masters =
+    c.len-m-end.ensures ∙ ap (λ (b : State). length b.fixed.object.masters) c.self.view_is
+    in
+    let none : drop c.loop-m.m masters ≡ [] = drop_all c.loop-m.m masters (omega (arith, count, c.loop-m-test.false)) in
+    sym (ap (λ (left : List MasterRec). changed (follow_from c.loop-m.self.fixed c.loop-m.self.now.core c.loop-m.m left) c.loop-m.self) none)
+    ∙ c.loop-m.invariant.whole

@@ -1,0 +1,15 @@
+pub mod Boot
+pub mod Choice
+pub mod Fed
+pub mod Load
+pub mod Members
+pub mod Nodes
+pub mod Pairs
+pub mod Prims
+pub mod Scope
+pub mod Sound
+pub mod Stages
+pub mod State
+pub mod Talk
+pub mod Units
+pub mod Values

@@ -1,0 +1,18 @@
+//! The state of the book of requirements: its object and its chip, the rows, the processors, the reset lines and the
+//! notes of the masters, and each change of it, one method each.
+#![tactic(auto)]
+
+mod laws;
+mod load;
+mod members;
+mod nodes;
+mod pairs;
+mod scope;
+mod stages;
+mod tables;
+mod talk;
+
+pub use laws::{loads_are_sound, members_are_owned};
+pub use nodes::master_node;
+pub use scope::Scope;
+pub use tables::Tables;

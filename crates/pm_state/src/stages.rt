@@ -1,0 +1,123 @@
+//! The stages of a step: changes of the book, after which the rows follow the masters whose mode changed.
+
+ghost use Rattle.std.specs.Prelude.{◌≡◌, ◌∷◌, []};
+ghost use Rattle.pm_state.specs.Members.{mode_of_master, owner_at, owns, first_own};
+ghost use Rattle.pm_state.specs.Prims.{changed, At_row, Halt, Put_proc, Reload, Settle, Put_line};
+ghost use Rattle.pm_state.specs.Stages.{after_stage, follow_at, followed};
+
+use crate::load::start;
+use crate::members::owner_at;
+use crate::tables::Tables;
+use pm_base::Mode;
+use pm_procs::{Proc, same_mode};
+use pm_rows::Change;
+
+impl Tables {
+    /// The place of the configured master that has the processor at a place.
+    pub fn owner(&self, p: usize) -> Option<usize>
+        ensures { result ≡ owner_at self.now.fixed.object self.now.fixed.topology p }
+    {
+        owner_at(&self.object, &self.topology, p)
+    }
+
+    /// Whether the processor at place `p` is that of the master at place `m`.
+    pub fn owns(&self, m: usize, p: usize) -> bool
+        ensures { result ≡ owns self.now.fixed.object self.now.fixed.topology m p }
+    {
+        self.owner(p) == Some(m)
+    }
+
+    /// The mode of the master at a place, by its processors.
+    pub fn mode_of_master(&self, m: usize) -> Mode
+        ensures { result ≡ mode_of_master self.now.fixed self.now.now.core m }
+    {
+        self.procs.master_mode(m)
+    }
+
+    /// A processor of a master goes to a mode, with a resume address.
+    pub fn put_proc(&mut self, m: usize, p: usize, mode: Mode, address: u64)
+        ensures { self.new ≡ changed (Put_proc m p mode address ∷ []) self.old }
+    {
+        if self.owns(m, p) {
+            self.procs.set(p, Proc { mode, address }.gone(mode));
+        }
+    }
+
+    /// The rows of the master at a place shift where the mode that they know isn't the one that its
+    /// processors give.
+    fn follow_master(&mut self, m: usize)
+        ensures { self.new ≡ changed (follow_at self.old.fixed self.old.now.core m) self.old }
+    {
+        let mode = self.mode_of_master(m);
+        if !same_mode(self.rows.mode(m), mode) {
+            self.rows.shift(m, mode);
+        }
+    }
+
+    /// The rows of each master follow it, in object order.
+    pub fn follow(&mut self)
+        ensures { self.new ≡ followed self.old }
+    {
+        for m in 0..self.object.masters.len() {
+            self.follow_master(m);
+        }
+    }
+
+    /// The stage that changes the row of a pair.
+    pub fn row_stage(&mut self, master: usize, slave: usize, by: Change)
+        ensures { self.new ≡ after_stage (At_row master slave by ∷ []) self.old }
+    {
+        self.rows.change(master, slave, by);
+        self.follow();
+    }
+
+    /// The stage in which a master drops its holds.
+    pub fn settle_stage(&mut self, master: usize)
+        ensures { self.new ≡ after_stage (Settle master ∷ []) self.old }
+    {
+        self.rows.settle(master);
+        self.follow();
+    }
+
+    /// The reset line at a place is asserted or released.
+    pub fn put_line(&mut self, place: usize, asserted: bool)
+        ensures { self.new ≡ changed (Put_line place asserted ∷ []) self.old }
+    {
+        self.resets.put(place, asserted);
+    }
+
+    /// The book is halted, and each of its rows is cleared but for its preset.
+    pub fn halt(&mut self)
+        ensures { self.new ≡ changed (Halt ∷ []) self.old }
+    {
+        self.rows.clear();
+        self.halted = true;
+    }
+
+    /// The rows, the processors and the reset lines are as at load, and the book isn't halted.
+    pub fn reload(&mut self)
+        ensures { self.new ≡ changed (Reload ∷ []) self.old }
+    {
+        self.rows.restart();
+        self.procs.put_all_off();
+        let boot = self.first_proc(0);
+        start(&mut self.procs, boot);
+        self.resets.restart();
+        self.halted = false;
+    }
+
+    /// The place of the first processor of the master at a place.
+    pub fn first_proc(&self, m: usize) -> Option<usize>
+        ensures { result ≡ first_own self.now.fixed m }
+    {
+        self.procs.members(m).first().copied()
+    }
+
+    /// The stage in which a processor of a master goes to a mode, with a resume address.
+    pub fn proc_stage(&mut self, m: usize, p: usize, mode: Mode, address: u64)
+        ensures { self.new ≡ after_stage (Put_proc m p mode address ∷ []) self.old }
+    {
+        self.put_proc(m, p, mode, address);
+        self.follow();
+    }
+}

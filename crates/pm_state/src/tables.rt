@@ -1,0 +1,148 @@
+//! The tables of a book: all of it but what is kept of its values and logged along a step.
+
+ghost use Rattle.std.specs.Prelude.{◌≡◌, length};
+ghost use Rattle.pm_topology.specs.WellFormed.{IsWellFormed};
+ghost use Rattle.pm_topology.specs.Places.{kind_of};
+ghost use Rattle.pm_procs.specs.Pending.{pending_at};
+ghost use Rattle.pm_state.specs.State.{in_force};
+ghost use Rattle.pm_state.specs.Values.{slave_place, master_place};
+
+use pm_base::NodeId;
+use pm_notify::Notify;
+use pm_object::Object;
+use pm_procs::{Pending, Procs};
+use pm_resets::Resets;
+use pm_rows::Rows;
+use pm_topology::{Kind, Topology};
+use std::marker::Model;
+
+/// The object, the parts of the chip, a row for each permitted pair of a master and a slave, the
+/// processors, the reset lines, whether the book is halted, and the notes of each master. A change of it owes
+/// nothing to what is kept of the book's values.
+#[derive(Drop)]
+pub struct Tables {
+    pub(crate) object: Object,
+    pub(crate) topology: Topology,
+    pub(crate) rows: Rows,
+    pub(crate) procs: Procs,
+    pub(crate) notify: Notify,
+    pub(crate) resets: Resets,
+    pub(crate) halted: bool,
+}
+
+impl Model for Tables {
+    ghost use Rattle.pm_topology.specs.WellFormed.{IsWellFormed};
+    ghost use Rattle.std.specs.Prelude.{◌≡◌};
+    ghost use Rattle.pm_state.specs.Members.{members_of};
+    ghost use Rattle.pm_state.specs.State.{State};
+
+    ghost Value = { State };
+
+    ghost view = { λ tables. record {
+      fixed = record { object = tables.object; topology = tables.topology };
+      now = record {
+        core = record {
+          rows = tables.rows;
+          procs = tables.procs.procs;
+          lines = tables.resets;
+          halted = tables.halted;
+        };
+        talk = record { pending = tables.procs.pending; notes = tables.notify };
+      };
+    } };
+
+    ghost invariant = { λ tables. IsWellFormed tables.topology
+        × (tables.procs.members ≡ members_of tables.object tables.topology) };
+}
+
+impl Tables {
+    /// The configuration object in force.
+    pub fn in_force(&self) -> &Object
+        ensures { result.now ≡ in_force self.now }
+    {
+        &self.object
+    }
+
+    pub fn topology(&self) -> &Topology
+        ensures formed { IsWellFormed result.now }
+        ensures topology { result.now ≡ self.now.fixed.topology }
+    {
+        &self.topology
+    }
+
+    /// The number of configured masters.
+    pub fn masters(&self) -> usize
+        ensures { result ≡ length (in_force self.now).masters }
+    {
+        self.object.masters.len()
+    }
+
+    /// The request to suspend that is pending on the master at a place.
+    pub fn pending(&self, m: usize) -> Option<Pending>
+        ensures { result ≡ pending_at m self.now.now.talk.pending }
+    {
+        self.procs.pending(m)
+    }
+
+    pub fn kind(&self, node: NodeId) -> Kind
+        ensures { result ≡ kind_of self.now.fixed.topology node }
+    {
+        self.topology.kind(node)
+    }
+
+    pub fn slave_place(&self, node: NodeId) -> Option<usize>
+        ensures { result ≡ slave_place node self.now }
+    {
+        self.topology
+            .slaves
+            .as_slice()
+            .iter()
+            .position(|slave| slave.node.0 == node.0)
+    }
+
+    pub fn master_place(&self, node: NodeId) -> Option<usize>
+        ensures { result ≡ master_place node self.now }
+    {
+        self.object
+            .masters
+            .as_slice()
+            .iter()
+            .position(|master| master.node == node.0)
+    }
+
+    /// The rows of the permitted pairs.
+    pub fn rows(&self) -> &Rows
+        ensures { result.now ≡ self.now.now.core.rows }
+    {
+        &self.rows
+    }
+
+    /// The processors, what is pending on the masters, and which processors each master has.
+    pub fn procs(&self) -> &Procs
+        ensures procs { result.now.procs ≡ self.now.now.core.procs }
+        ensures pending { result.now.pending ≡ self.now.now.talk.pending }
+    {
+        &self.procs
+    }
+
+    /// The reset lines.
+    pub fn resets(&self) -> &Resets
+        ensures { result.now ≡ self.now.now.core.lines }
+    {
+        &self.resets
+    }
+
+    /// The notes of each master.
+    pub fn notify(&self) -> &Notify
+        ensures { result.now ≡ self.now.now.talk.notes }
+    {
+        &self.notify
+    }
+
+    /// Whether the book is halted.
+    pub fn is_halted(&self) -> bool
+        ensures { result ≡ self.now.now.core.halted }
+    {
+        self.halted
+    }
+}

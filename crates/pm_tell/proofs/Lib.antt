@@ -1,0 +1,5 @@
+pub mod EndedLemmas
+pub mod OtherNotesLaw
+pub mod RenewLaw
+pub mod TalkLemmas
+pub mod TellLemmas

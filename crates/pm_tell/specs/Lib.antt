@@ -1,0 +1,5 @@
+pub mod Callbacks
+pub mod Ended
+pub mod Opening
+pub mod Served
+pub mod Telling

@@ -1,0 +1,54 @@
+-- What is kept of a step until the masters are told of it: their modes before it, what is logged along it, and what
+-- there is to tell.
+use Rattle.std.specs.Prelude.{ℕ, ◌≤◌, ◌≡◌, List, length, Option, ◌++◌}
+use Rattle.pm_topology.specs.declared.topology.Topology.{Topology}
+use Rattle.pm_topology.specs.Units.{units_of}
+use Rattle.pm_calls.specs.declared.verdict.Say.{Say}
+use Rattle.pm_tell.specs.declared.telling.Telling.{Telling}
+use Rattle.pm_values.specs.declared.turns.Turns.{Turns}
+use Rattle.pm_values.specs.Along as along
+use Rattle.pm_values.specs.Along.{mode_logged, turns_logged}
+use Rattle.pm_tell.specs.Callbacks.{News, note_changes}
+use Rattle.pm_values.specs.Notifications.{notice_count}
+use Rattle.pm_state.specs.State.{State, in_force}
+use Rattle.pm_state.specs.Talk.{Talk, talks}
+use Rattle.pm_tell.specs.Opening.{forgets_from, talk_of}
+use Rattle.pm_base.specs.declared.names.Mode.{Mode}
+use Rattle.pm_notify.specs.MasterNotes.{MasterNotes}
+use Rattle.pm_tell.specs.declared.served.Served.{Served}
+use Rattle.pm_tell.specs.Served.{kept_of}
+
+-- what became of the mode of the master at place m along the step
+abbrev pub turns_in : Telling → ℕ → Turns
+turns_in telling m = turns_logged m telling.along.turns
+
+-- the mode of the master at place m before the step
+abbrev pub mode_before : Telling → ℕ → Mode
+mode_before telling = mode_logged telling.modes.items
+
+-- what there is to tell
+abbrev pub news_in : Telling → News
+news_in telling = record { asked = telling.asks; ended = telling.ended.items; notices = telling.notices.items }
+
+-- what is done before any master is told, in the book after the stages
+abbrev pub opening_in : Telling → Option Say → Option ℕ → State → List Talk
+opening_in telling says count after =
+    talk_of says (forgets_from (turns_in telling) 0 (in_force after).masters) count telling.ended.items
+
+-- room for the modes of so many masters, for what is logged of them and of the processors, for the end of a request to
+-- each, and for what happens to the units of a chip
+pub record HasPlaces (t : Topology) (masters : ℕ) (telling : Telling) : Type 0 where
+  pub modes : length telling.modes.items ≡ masters
+  pub along : along.HasPlaces masters (length t.procs) telling.along
+  pub ended : masters ≤ telling.ended.room
+  pub notices : notice_count (length (units_of t)) ≤ telling.notices.room
+
+-- the notes that the masters find after what is done first
+abbrev pub notes_after : List Talk → State → List MasterNotes
+notes_after first book = (talks first book.now.talk).notes
+
+-- all that is told in the book after the stages: what is done first, what telling the masters makes of their notes,
+-- and last of all what is kept for the sender of a message
+abbrev pub tellings : News → (ℕ → Mode) → List Talk → Option Served → State → List Talk
+tellings news was first served after =
+    first ++ (note_changes news was (notes_after first after) after ++ kept_of served after)

@@ -1,0 +1,78 @@
+//! What is done before any master is told of a step.
+
+ghost use Rattle.std.specs.Prelude.{◌≡◌};
+ghost use Rattle.pm_state.specs.State.{in_force};
+ghost use Rattle.pm_tell.specs.Opening.{ends, forget_at, forgets_from, lower_by, renew_by, say_by};
+ghost use Rattle.pm_state.specs.Talk.{talked};
+ghost use Rattle.pm_tell.specs.Telling.{opening_in, turns_in};
+
+use crate::ended::Ended;
+use crate::telling::Telling;
+use pm_calls::Say;
+use pm_state::Tables;
+
+/// What is done before any master is told: all is as at load, if all is restarted, masters that became
+/// off forget what they asked for, a notifier is put or a master is asked, time passes, and requests end.
+pub(crate) fn open(tables: &mut Tables, telling: &Telling, says: Option<Say>, count: Option<u32>)
+    ensures { tables.new ≡ talked (opening_in telling.now says count tables.old) tables.old }
+{
+    renew(tables, says);
+    forget(tables, telling);
+    say(tables, says);
+    pass_time(tables, count);
+    end_requests(tables, telling.ended());
+}
+
+/// What the masters are told is as at load, if all is restarted.
+fn renew(tables: &mut Tables, says: Option<Say>)
+    ensures { tables.new ≡ talked (renew_by says) tables.old }
+{
+    if let Some(Say::Renew) = says {
+        tables.renew_talk();
+    }
+}
+
+/// Each master that became off along the step forgets what it asked for, and what waits for it is lost.
+fn forget(tables: &mut Tables, telling: &Telling)
+    ensures { tables.new ≡ talked (forgets_from (turns_in telling.now) 0 (in_force tables.old).masters) tables.old }
+{
+    for m in 0..tables.masters() {
+        forget_master(tables, telling, m);
+    }
+}
+
+fn forget_master(tables: &mut Tables, telling: &Telling, m: usize)
+    ensures { tables.new ≡ talked (forget_at (turns_in telling.now m) m) tables.old }
+{
+    if telling.turns(m).off {
+        tables.forget_notes(m);
+    }
+}
+
+/// A master is asked, or a notifier is put.
+fn say(tables: &mut Tables, says: Option<Say>)
+    ensures { tables.new ≡ talked (say_by says) tables.old }
+{
+    match says {
+        Some(Say::Ask(asked)) => tables.ask(asked.target, asked.request),
+        Some(Say::Register(put)) => { tables.register(put.master, put.node, put.event, put.on) }
+        Some(Say::Abort(_) | Say::Renew) | None => {}
+    }
+}
+
+fn pass_time(tables: &mut Tables, count: Option<u32>)
+    ensures { tables.new ≡ talked (lower_by count) tables.old }
+{
+    if let Some(count) = count {
+        tables.lower(count);
+    }
+}
+
+/// These requests end.
+fn end_requests(tables: &mut Tables, ended: &[Ended])
+    ensures { tables.new ≡ talked (ends ended.now) tables.old }
+{
+    for end in ended {
+        tables.end_request(end.target);
+    }
+}

@@ -1,0 +1,141 @@
+//! What is kept of a step until the masters are told of it: their modes before it, what is logged along it, and
+//! what there is to tell.
+
+ghost use Rattle.std.specs.Prelude.{◌≡◌, ◌+◌, ◌<◌, ◌≤◌, ◌++◌, IfOk, length};
+ghost use Rattle.pm_procs.specs.Pending.{pending_at};
+ghost use Rattle.pm_values.specs.Along.{mode_logged, modes_of, trail_at_load};
+ghost use Rattle.pm_tell.specs.Ended.{ended_at, ended_from};
+ghost use Rattle.pm_values.specs.Notifications.{notice_count};
+ghost use Rattle.pm_state.specs.State.{in_force};
+ghost use Rattle.pm_tell.specs.Telling.{turns_in};
+ghost use Rattle.pm_calls.specs.Verdict.{aborted_by, asked_by};
+
+use crate::ended::{Ended, ended_at};
+use pm_base::{BoundedList, Mode, NoMemory, at_or};
+use pm_calls::{Asked, Say, aborted_by, asked_by};
+use pm_notify::Waiting;
+use pm_state::Tables;
+use pm_values::{Along, Turns, log_modes};
+use std::alloc::Global;
+
+/// The modes of the masters before a step, what is logged along it, the master that is asked to suspend in
+/// it, the requests that end in it, with room for one for each master, and what happens to nodes in it,
+/// with room for two notes about each unit.
+#[derive(Drop)]
+pub struct Telling {
+    modes: Vec<Mode>,
+    pub along: Along,
+    asks: Option<Asked>,
+    ended: BoundedList<Ended>,
+    pub notices: BoundedList<Waiting>,
+}
+
+impl Telling {
+    /// Room for so many units, masters and processors.
+    pub fn load(
+        alloc: Global,
+        units: usize,
+        masters: usize,
+        procs: usize,
+    ) -> Result<Telling, NoMemory>
+        ensures modes { IfOk result (λ telling. length telling.modes.items ≡ masters) }
+        ensures along { IfOk result (λ telling. telling.along ≡ trail_at_load masters procs) }
+        ensures ended { IfOk result (λ telling. masters ≤ telling.ended.room) }
+        ensures notices { IfOk result (λ telling. notice_count units ≤ telling.notices.room) }
+    {
+        let notices = units.checked_mul(2).ok_or(NoMemory)?;
+        Ok(Telling {
+            modes: Vec::from_elem(alloc, Mode::Off, masters).map_err(|_| NoMemory)?,
+            along: Along::load(alloc, masters, procs)?,
+            asks: None,
+            ended: BoundedList::with_room(alloc, masters)?,
+            notices: BoundedList::with_room(alloc, notices)?,
+        })
+    }
+
+    /// The master that is asked to suspend in the step.
+    pub(crate) fn asks(&self) -> Option<Asked>
+        ensures { result ≡ self.now.asks }
+    {
+        self.asks
+    }
+
+    /// The requests that end in the step, in object order of the masters that were asked.
+    pub(crate) fn ended(&self) -> &[Ended]
+        ensures { result.now ≡ self.now.ended.items }
+    {
+        self.ended.as_slice()
+    }
+
+    /// What happens to nodes in the step.
+    pub(crate) fn notices(&self) -> &[Waiting]
+        ensures { result.now ≡ self.now.notices.items }
+    {
+        self.notices.as_slice()
+    }
+
+    /// Logs the mode of each master before the step.
+    pub fn log_modes(&mut self, tables: &Tables)
+        requires places { length self.old.modes.items ≡ length (in_force tables.now).masters }
+        ensures modes { self.new.modes.items ≡ modes_of tables.now }
+        ensures along { self.new.along ≡ self.old.along }
+        ensures ended { self.new.ended ≡ self.old.ended }
+        ensures notices { self.new.notices ≡ self.old.notices }
+    {
+        log_modes(tables, &mut self.modes);
+    }
+
+    /// Logs the master that is asked, and the requests that end: by what became of the modes along the
+    /// step, by the master that aborts its suspend, and by the time that passes.
+    pub(crate) fn log_ended(&mut self, tables: &Tables, says: Option<Say>, count: Option<u32>)
+        requires each { length tables.now.now.talk.pending ≡ length (in_force tables.now).masters }
+        requires room { length (in_force tables.now).masters ≤ self.old.ended.room }
+        ensures modes { self.new.modes ≡ self.old.modes }
+        ensures along { self.new.along ≡ self.old.along }
+        ensures asks { self.new.asks ≡ asked_by says }
+        ensures notices { self.new.notices ≡ self.old.notices }
+        ensures ended { self.new.ended ≡ record self.old.ended {
+          items = ended_from (turns_in self.old) (aborted_by says) count 0 tables.now.now.talk.pending;
+        } }
+        ensures few { length self.new.ended.items ≤ length (in_force tables.now).masters }
+    {
+        self.asks = asked_by(says);
+        self.ended.clear();
+        let aborts = aborted_by(says);
+        for m in 0..tables.masters() {
+            self.log_end(tables, aborts, count, m);
+        }
+    }
+
+    /// Logs the end of what is pending on the master at a place.
+    fn log_end(&mut self, tables: &Tables, aborts: Option<usize>, count: Option<u32>, m: usize)
+        requires room { length self.old.ended.items < self.old.ended.room }
+        ensures modes { self.new.modes ≡ self.old.modes }
+        ensures along { self.new.along ≡ self.old.along }
+        ensures asks { self.new.asks ≡ self.old.asks }
+        ensures notices { self.new.notices ≡ self.old.notices }
+        ensures ended { self.new.ended ≡ record self.old.ended {
+          items = self.old.ended.items
+              ++ ended_at (turns_in self.old m) aborts count m (pending_at m tables.now.now.talk.pending);
+        } }
+    {
+        let turns = self.turns(m);
+        if let Some(end) = ended_at(turns, aborts, count, m, tables.pending(m)) {
+            self.ended.push(end);
+        }
+    }
+
+    /// What became of the mode of the master at a place along the step.
+    pub(crate) fn turns(&self, m: usize) -> Turns
+        ensures { result ≡ turns_in self.now m }
+    {
+        self.along.turns(m)
+    }
+
+    /// The mode of the master at a place before the step.
+    pub(crate) fn mode(&self, m: usize) -> Mode
+        ensures { result ≡ mode_logged self.now.modes.items m }
+    {
+        at_or(&self.modes, m, Mode::Off)
+    }
+}

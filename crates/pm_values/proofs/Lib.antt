@@ -1,0 +1,11 @@
+pub mod AlongLaw
+pub mod Below
+pub mod CachesLaw
+pub mod FedLaw
+pub mod Full
+pub mod MetLaw
+pub mod MovesLemmas
+pub mod NeededLaw
+pub mod NoticesLaw
+pub mod StartsLaw
+pub mod Wants

@@ -1,0 +1,14 @@
+use Rattle.std.proofs.Common.{◌≡◌, ◌+◌, ◌≤◌, ◌++◌, length, take, drop}
+use Rattle.pm_values.specs.Caches.{moved_by, revalued, unit_value}
+use Rattle.pm_values.proofs.moves.log_moves.Given as goal
+
+-- the values before place k are written, and the values and the units that moved so far and those that are left make the
+-- whole
+abbrev pub invariant-loop-k : goal.invariant-loop-k
+invariant-loop-k l = record {
+  places : length l.values ≡ length l.kinds;
+  room : l.moved.room ≡ l.fn.moved.room;
+  count : length l.moved.items + length (drop l.k l.kinds) ≤ l.moved.room;
+  written : take l.k l.values ++ revalued (unit_value l.states l.procs.procs l.ups l.resets) (drop l.k l.kinds) (drop l.k l.values) ≡ revalued (unit_value l.states l.procs.procs l.ups l.resets) l.kinds l.fn.values;
+  moved : l.moved.items ++ moved_by (unit_value l.states l.procs.procs l.ups l.resets) (drop l.k l.kinds) (drop l.k l.values) ≡ l.fn.moved.items ++ moved_by (unit_value l.states l.procs.procs l.ups l.resets) l.kinds l.fn.values;
+}

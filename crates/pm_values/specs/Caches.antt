@@ -1,0 +1,154 @@
+-- What a book keeps of its values, so that they needn't be found again. Each of it is a function of the book.
+use Rattle.std.specs.Prelude.{◌≡◌, ℕ, ◌==◌, ◌&&◌, Bool, false, not, cond, if◌then◌else◌, List, [], ◌∷◌, ◌++◌, map, length, slice_get, unwrap_or, Option, Some, None}
+use Rattle.pm_base.specs.declared.names.Unit.{Unit}
+use Rattle.pm_base.specs.declared.names.Unit.TheVariants.{Node, Line}
+use Rattle.pm_topology.specs.declared.topology.SlaveDef.{SlaveDef}
+use Rattle.pm_topology.specs.declared.topology.Topology.{Topology}
+use Rattle.pm_topology.specs.declared.places.Kind.{Kind}
+use Rattle.pm_topology.specs.declared.places.Kind.TheVariants.{Proc, Slave, Power, Unknown}
+use Rattle.pm_topology.specs.Places.{kind_of, line_place}
+use Rattle.pm_topology.specs.Units.{units_of}
+use Rattle.pm_topology.specs.UnitMap.{units_in, value_of}
+use Rattle.pm_power.specs.declared.child.Child.{Child}
+use Rattle.pm_power.specs.Needs.{child, children_of}
+use Rattle.pm_base.specs.declared.names.Mode.TheVariants.{Active}
+use Rattle.pm_procs.specs.declared.procs.Proc.{Proc as Processor}
+use Rattle.pm_procs.specs.Modes.{is_awake, same_mode}
+use Rattle.pm_procs.specs.Procs.{mode_at, proc_at}
+use Rattle.pm_values.specs.declared.caches.Caches.{Caches}
+use Rattle.pm_values.specs.declared.caches.UnitKind.{UnitKind}
+use Rattle.pm_values.specs.declared.caches.UnitKind.TheVariants.{Entry, Reset}
+use Rattle.pm_values.specs.declared.starts.Start.{Start}
+use Rattle.pm_notify.specs.declared.notes.Waiting.{Waiting}
+use Rattle.pm_rows.specs.Rows.{Rows}
+use Rattle.pm_values.specs.Notifications.{is_used, notes_about, used_at}
+use Rattle.pm_values.specs.Along.{down_logged}
+use Rattle.pm_state.specs.State.{Fixed, CoreHalf, State}
+use Rattle.pm_state.specs.Units.{units}
+use Rattle.pm_state.specs.Values.{placed, chosen, need_of, run_of, forest, line_at, value, value_at}
+
+-- what the value of a unit is found by: the kind of a node, and the place of a reset line
+abbrev pub kind_of_unit : Topology → Unit → UnitKind
+kind_of_unit t (Node node) = Entry (kind_of t node)
+kind_of_unit t (Line line) = Reset (line_place t.lines line.0)
+
+-- the value of a node of this kind, by the states of the slaves, the processors, and which power nodes are up
+abbrev pub kind_value : List ℕ → List Processor → List Bool → Kind → ℕ
+kind_value states procs ups (Slave s) = unwrap_or (slice_get states s) 0
+kind_value states procs ups (Power w) = cond (unwrap_or (slice_get ups w) false) 1 0
+kind_value states procs ups (Proc p) = cond (is_awake (mode_at p procs)) 1 0
+kind_value states procs ups Unknown = 0
+
+-- the same of a unit, by the reset lines too
+abbrev pub unit_value : List ℕ → List Processor → List Bool → List Bool → UnitKind → ℕ
+unit_value states procs ups lines (Entry kind) = kind_value states procs ups kind
+unit_value states procs ups lines (Reset place) = line_at place lines
+
+-- the value of a unit of this kind in a book
+abbrev pub value_by : Fixed → CoreHalf → UnitKind → ℕ
+value_by fixed core (Entry kind) = value_at kind fixed core
+value_by fixed core (Reset place) = line_at place core.lines
+
+-- a table of units with new values, by the kinds of its units
+abbrev pub revalued : (UnitKind → ℕ) → List UnitKind → List (Unit × ℕ) → List (Unit × ℕ)
+revalued new [] entries = entries
+revalued new (kind ∷ kinds) [] = []
+revalued new (kind ∷ kinds) (e ∷ entries) = (e.0, new kind) ∷ revalued new kinds entries
+
+-- the unit of an entry, if its value isn't the new one
+abbrev pub moved_at : ℕ → Option (Unit × ℕ) → List Unit
+moved_at value None = []
+moved_at value (Some e) = if e.1 == value then [] else e.0 ∷ []
+
+-- the units of a table whose value isn't the new one
+abbrev pub moved_by : (UnitKind → ℕ) → List UnitKind → List (Unit × ℕ) → List Unit
+moved_by new [] entries = []
+moved_by new (kind ∷ kinds) [] = []
+moved_by new (kind ∷ kinds) (e ∷ entries) = moved_at (new kind) (Some e) ++ moved_by new kinds entries
+
+-- the start of this unit, where the processor was down and is active now
+abbrev pub start_if : Bool → Unit → Processor → List Start
+start_if down (Node node) proc =
+    if down && same_mode proc.mode Active then record { proc = node; address = proc.address } ∷ [] else []
+start_if down (Line line) proc = []
+
+-- the start of an entry's node of this kind, if it is a processor that starts
+abbrev pub start_in : List Bool → List Processor → Kind → Unit × ℕ → List Start
+start_in downs procs (Proc p) e = start_if (down_logged p downs) e.0 (proc_at p procs)
+start_in downs procs (Slave s) e = []
+start_in downs procs (Power w) e = []
+start_in downs procs Unknown e = []
+
+-- the start of the unit of an entry
+abbrev pub started_at : List Bool → List Processor → UnitKind → Option (Unit × ℕ) → List Start
+started_at downs procs kind None = []
+started_at downs procs (Entry kind) (Some e) = start_in downs procs kind e
+started_at downs procs (Reset place) (Some e) = []
+
+-- the starts of the units of a table, by the processors that were down
+abbrev pub starts_by : List Bool → List Processor → List UnitKind → List (Unit × ℕ) → List Start
+starts_by downs procs [] entries = []
+starts_by downs procs (kind ∷ kinds) [] = []
+starts_by downs procs (kind ∷ kinds) (e ∷ entries) =
+    started_at downs procs kind (Some e) ++ starts_by downs procs kinds entries
+
+-- a node of this kind is a slave that was used, by what is kept of each slave
+abbrev pub used_kept : List Bool → Kind → Bool
+used_kept used (Slave s) = unwrap_or (slice_get used s) false
+used_kept used (Proc p) = false
+used_kept used (Power w) = false
+used_kept used Unknown = false
+
+-- a unit of this kind was used, and by these rows is used no more
+abbrev pub freed_by : List Bool → Rows → UnitKind → Bool
+freed_by used rows (Entry kind) = used_kept used kind && not (used_at kind rows)
+freed_by used rows (Reset place) = false
+
+-- what happened to the unit of an entry, by its value before
+abbrev pub noticed_at : ℕ → Bool → Option (Unit × ℕ) → List Waiting
+noticed_at value freed None = []
+noticed_at value freed (Some e) = notes_about (not (e.1 == value)) freed e.0
+
+-- what happened to the units of a table
+abbrev pub noticed_by : (UnitKind → ℕ) → (UnitKind → Bool) → List UnitKind → List (Unit × ℕ) → List Waiting
+noticed_by new freed [] entries = []
+noticed_by new freed (kind ∷ kinds) [] = []
+noticed_by new freed (kind ∷ kinds) (e ∷ entries) =
+    noticed_at (new kind) (freed kind) (Some e) ++ noticed_by new freed kinds entries
+
+-- whether each slave is used, beside its entry in the table
+abbrev pub use_of : CoreHalf → ℕ → SlaveDef → Bool
+use_of core s slave = is_used s core.rows
+
+-- each unit with its value
+abbrev pub valued : State → List (Unit × ℕ)
+valued book = map (λ u. (u, value u book)) (units book)
+
+-- the value of a unit in a table, and 0 where it isn't there
+abbrev pub value_kept : Unit → List (Unit × ℕ) → ℕ
+value_kept unit entries = unwrap_or (value_of entries unit) 0
+
+-- a processor or slave, as it is before its need is set
+abbrev pub idle : Child → Child
+idle c = child c.node c.parent false
+
+-- caches of a chip, whatever is kept in them
+pub record HasPlaces (t : Topology) (caches : Caches) : Type 0 where
+  pub kinds : caches.kinds.items ≡ map (kind_of_unit t) (units_of t)
+  pub states : length caches.states.items ≡ length t.slaves
+  pub needs : length caches.needs.items ≡ length t.slaves
+  pub runs : length caches.runs.items ≡ length t.procs
+  pub used : length caches.used.items ≡ length t.slaves
+  pub powers : caches.power.powers ≡ t.powers
+  pub children : map idle caches.power.children ≡ children_of t (λ _. false)
+  pub units : units_in caches.values ≡ units_of t
+
+-- the caches are those of the book
+pub record AreKept (book : State) (caches : Caches) : Type 0 where
+  pub kinds : caches.kinds.items ≡ map (kind_of_unit book.fixed.topology) (units book)
+  pub states : caches.states.items ≡ placed (chosen book.now.core) 0 book.fixed.topology.slaves
+  pub needs : caches.needs.items ≡ placed (need_of book.now.core) 0 book.fixed.topology.slaves
+  pub runs : caches.runs.items ≡ placed (run_of book.now.core) 0 book.fixed.topology.procs
+  pub used : caches.used.items ≡ placed (use_of book.now.core) 0 book.fixed.topology.slaves
+  pub power : caches.power ≡ forest book.fixed book.now.core
+  pub values : caches.values ≡ valued book

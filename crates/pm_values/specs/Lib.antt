@@ -1,0 +1,5 @@
+pub mod Along
+pub mod Caches
+pub mod Notifications
+pub mod Starts
+pub mod Turns

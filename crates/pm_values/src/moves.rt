@@ -1,0 +1,95 @@
+//! Which units a step moves.
+
+ghost use Rattle.std.specs.Prelude.{◌≡◌, ◌+◌, ◌<◌, ◌≤◌, ◌++◌, length, slice_get};
+ghost use Rattle.pm_topology.specs.UnitMap.{with_value_at};
+ghost use Rattle.pm_values.specs.Caches.{kind_value, moved_at, moved_by, revalued, unit_value};
+ghost use Rattle.pm_state.specs.Values.{line_at};
+
+use crate::caches::UnitKind;
+use pm_base::{BoundedList, Unit, at_or};
+use pm_procs::{Proc, Procs, is_awake};
+use pm_resets::Resets;
+use pm_topology::{Kind, UnitMap};
+
+/// Writes the value of each unit by its kind, and puts those units into `moved` whose value isn't the
+/// one before.
+pub(crate) fn log_moves(
+    kinds: &[UnitKind],
+    states: &[u32],
+    procs: &Procs,
+    ups: &[bool],
+    resets: &Resets,
+    values: &mut UnitMap<u32>,
+    moved: &mut BoundedList<Unit>,
+)
+    requires places { length kinds.now ≡ length values.old }
+    requires room { length moved.old.items + length values.old ≤ moved.old.room }
+    ensures values { values.new
+        ≡ revalued (unit_value states.now procs.now.procs ups.now resets.now) kinds.now values.old }
+    ensures moved { moved.new ≡ record moved.old {
+      items = moved.old.items
+          ++ moved_by (unit_value states.now procs.now.procs ups.now resets.now) kinds.now values.old;
+    } }
+{
+    for (k, kind) in kinds.iter().enumerate() {
+        log_move(
+            k,
+            unit_value(*kind, states, procs, ups, resets),
+            values,
+            moved,
+        );
+    }
+}
+
+/// Writes the value of the unit at a place, and puts the unit into `moved` if that isn't the one before.
+fn log_move(k: usize, value: u32, values: &mut UnitMap<u32>, moved: &mut BoundedList<Unit>)
+    requires { length moved.old.items < moved.old.room }
+    ensures values { values.new ≡ with_value_at k value values.old }
+    ensures moved { moved.new
+        ≡ record moved.old { items = moved.old.items ++ moved_at value (slice_get values.old k) } }
+{
+    if let Some((unit, before)) = values.entry(k) {
+        if before != value {
+            moved.push(unit);
+        }
+    }
+    values.set_at(k, value);
+}
+
+/// The value of a unit of this kind.
+pub(crate) fn unit_value(
+    kind: UnitKind,
+    states: &[u32],
+    procs: &Procs,
+    ups: &[bool],
+    resets: &Resets,
+) -> u32
+    ensures { result ≡ unit_value states.now procs.now.procs ups.now resets.now kind }
+{
+    match kind {
+        UnitKind::Entry(kind) => kind_value(kind, states, procs, ups),
+        UnitKind::Reset(place) => line_at(place, resets),
+    }
+}
+
+fn line_at(place: Option<usize>, resets: &Resets) -> u32
+    ensures { result ≡ line_at place resets.now }
+{
+    match place {
+        Some(place) => resets.value(place),
+        None => 0,
+    }
+}
+
+/// The value of a node of this kind: the state of a slave, 1 for a processor that runs and for a power
+/// node that is up, and else 0.
+fn kind_value(kind: Kind, states: &[u32], procs: &Procs, ups: &[bool]) -> u32
+    ensures { result ≡ kind_value states.now procs.now.procs ups.now kind }
+{
+    match kind {
+        Kind::Slave(place) => at_or(states, place, 0),
+        Kind::Power(place) => { if at_or(ups, place, false) { 1 } else { 0 } }
+        Kind::Proc(place) => { if is_awake(procs.mode(place)) { 1 } else { 0 } }
+        Kind::Unknown => 0,
+    }
+}

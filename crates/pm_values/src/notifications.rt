@@ -1,0 +1,103 @@
+//! What happens to nodes in a step: which change, and which have no users any more.
+
+ghost use Rattle.std.specs.Prelude.{◌≡◌, ◌+◌, ◌<◌, ◌≤◌, ◌++◌, length};
+ghost use Rattle.pm_values.specs.Caches.{freed_by, noticed_at, noticed_by, unit_value, use_of};
+ghost use Rattle.pm_values.specs.Notifications as spec;
+ghost use Rattle.pm_values.specs.Notifications.{notice_count};
+ghost use Rattle.pm_state.specs.Values.{value, placed};
+
+use crate::caches::UnitKind;
+use crate::moves::unit_value;
+use pm_base::{BoundedList, NodeId, Unit, at_or};
+use pm_notify::{Note, Waiting};
+use pm_procs::Procs;
+use pm_resets::Resets;
+use pm_rows::Rows;
+use pm_state::Tables;
+use pm_topology::{Kind, UnitMap};
+
+/// Puts what happened to each unit into `notices`, in the order of the units: that its value isn't the one
+/// before, and then that it was used and is used no more.
+pub(crate) fn log_notices(
+    kinds: &[UnitKind],
+    states: &[u32],
+    procs: &Procs,
+    ups: &[bool],
+    resets: &Resets,
+    used: &[bool],
+    rows: &Rows,
+    values: &UnitMap<u32>,
+    notices: &mut BoundedList<Waiting>,
+)
+    requires places { length kinds.now ≡ length values.now }
+    requires room { length notices.old.items + notice_count (length values.now) ≤ notices.old.room }
+    ensures notices { notices.new ≡ record notices.old {
+      items = notices.old.items
+          ++ noticed_by (unit_value states.now procs.now.procs ups.now resets.now) (freed_by used.now rows.now)
+          kinds.now values.now;
+    } }
+    ensures few { length notices.new.items ≤ length notices.old.items + notice_count (length values.now) }
+{
+    for (k, kind) in kinds.iter().enumerate() {
+        let value = unit_value(*kind, states, procs, ups, resets);
+        let freed = freed(*kind, used, rows);
+        log_notice(values.entry(k), value, freed, notices);
+    }
+}
+
+/// Whether a unit of this kind was used, and is used no more.
+fn freed(kind: UnitKind, used: &[bool], rows: &Rows) -> bool
+    ensures { result ≡ freed_by used.now rows.now kind }
+{
+    match kind {
+        UnitKind::Entry(Kind::Slave(s)) => at_or(used, s, false) && !is_used(s, rows),
+        UnitKind::Entry(Kind::Proc(_) | Kind::Power(_) | Kind::Unknown) => false,
+        UnitKind::Reset(_) => false,
+    }
+}
+
+/// Whether some master uses the slave at a place.
+fn is_used(s: usize, rows: &Rows) -> bool
+    ensures { result ≡ spec.is_used s rows.now }
+{
+    rows.users(s) != 0
+}
+
+/// Puts what happened to the unit of an entry into `notices`, by its value before.
+fn log_notice(
+    entry: Option<(Unit, u32)>,
+    value: u32,
+    freed: bool,
+    notices: &mut BoundedList<Waiting>,
+)
+    requires { length notices.old.items + 2 ≤ notices.old.room }
+    ensures notices { notices.new ≡ record notices.old { items = notices.old.items ++ noticed_at value freed entry } }
+    ensures few { length notices.new.items ≤ length notices.old.items + 2 }
+{
+    if let Some((Unit::Node(node), before)) = entry {
+        log_if(before != value, node, Note::Change, notices);
+        log_if(freed, node, Note::ZeroUsers, notices);
+    }
+}
+
+/// Puts a note about a node into `notices`, if that happened to it.
+fn log_if(happened: bool, node: NodeId, note: Note, notices: &mut BoundedList<Waiting>)
+    requires { length notices.old.items < notices.old.room }
+    ensures notices { notices.new ≡ record notices.old { items = notices.old.items ++ spec.log_if happened node note } }
+    ensures few { length notices.new.items ≤ length notices.old.items + 1 }
+{
+    if happened {
+        notices.push(Waiting { node, note });
+    }
+}
+
+/// Writes whether some master uses each slave.
+pub(crate) fn log_uses(tables: &Tables, used: &mut [bool])
+    requires { length used.old ≡ length tables.now.fixed.topology.slaves }
+    ensures { used.new ≡ placed (use_of tables.now.now.core) 0 tables.now.fixed.topology.slaves }
+{
+    let t = tables.topology();
+    for s in 0..t.slaves.len() {
+        used[s] = is_used(s, tables.rows());
+    }
+}
