@@ -1,5 +1,5 @@
 -- Only a message is dropped, and the answer names its sender.
-use Rattle.std.proofs.Common.{◌≡◌, List, [], ◌∷◌, Option, Some, None, refl, ap}
+use Rattle.std.proofs.Common.{◌≡◌, List, [], ◌∷◌, Option, Some, None, ap}
 use Rattle.std.specs.List.{AllByRecursion as Each}
 use Rattle.pm_base.specs.declared.events.Event.{Event}
 use Rattle.pm_base.specs.declared.events.Event.TheVariants.{Ipi}
@@ -7,16 +7,16 @@ use Rattle.pm_base.specs.declared.events.Message.{Message}
 use Rattle.pm_base.specs.declared.names.NodeId.{NodeId}
 use Rattle.pm_ipi.specs.declared.calls.Call.{Call}
 use Rattle.pm_ipi.specs.declared.calls.AckKind.{AckKind}
-use Rattle.pm_ipi.specs.declared.calls.AckKind.TheVariants.{No, Blocking, NonBlocking}
+use Rattle.pm_ipi.specs.declared.calls.AckKind.TheVariants.{No}
 use Rattle.pm_ipi.specs.declared.responses.Response.{Response}
 use Rattle.pm_ipi.specs.Calls.{ack_of, call_of, node_of}
 use Rattle.pm_core.specs.declared.replies.Answer.{Answer}
-use Rattle.pm_core.specs.declared.replies.Answer.TheVariants.{Silent, Drop, Reply, Ack}
-use Rattle.pm_core.specs.declared.verdict.Verdict.{Verdict}
-use Rattle.pm_core.specs.declared.verdict.Verdict.TheVariants.{Dropped, Refused, Accepted}
-use Rattle.pm_core.specs.State.{State}
+use Rattle.pm_core.specs.declared.replies.Answer.TheVariants.{Silent, Drop}
+use Rattle.pm_calls.specs.declared.verdict.Verdict.{Verdict}
+use Rattle.pm_calls.specs.declared.verdict.Verdict.TheVariants.{Dropped, Refused, Accepted}
+use Rattle.pm_state.specs.State.{State}
 use Rattle.pm_core.specs.Step.{acknowledged, answer_by, answer_of, answered, call_in, effect, served, verdict}
-use Rattle.pm_core.specs.Verdict.{response_of}
+use Rattle.pm_calls.specs.Verdict.{response_of}
 use Rattle.pm_run.specs.Run.{Core, Line, Setup, Stand, cores_of, line_of, lines_of, loaded, run, split}
 
 -- a core step in which a message is dropped has a message of the master that the answer names
@@ -25,8 +25,7 @@ Drops core = (d : NodeId) → core.outputs.answer ≡ Drop d → (sent : Message
 
 never_dropped : (kind : AckKind) (master node : NodeId) (response : Response) (after : State) (d : NodeId) → acknowledged kind master node response after ≡ Drop d → ⊥
 never_dropped No master node response after d is = cc
-never_dropped Blocking master node response after d is = cc
-never_dropped NonBlocking master node response after d is = cc
+never_dropped _ master node response after d is = cc
 
 never_told : (response : Option Response) (master : NodeId) (call : Call) (after : State) (d : NodeId) → answered response master call after ≡ Drop d → ⊥
 never_told None master call after d is = cc

@@ -61,9 +61,7 @@ module _ (t : Topology) (border : Border) (l : LineId) (beyond : line_beyond bor
     before_alike : (turn : Turn) → concerning (pulse_before first turn) ≡ concerning (pulse_before second turn)
     before_alike (Apply unit) =
         seen_pulse first unit ∙ (ap (λ pulse. concerning (pulse_turn pulse unit)) same ∙ sym (seen_pulse second unit))
-    before_alike (PowerOn w) = refl
-    before_alike (Pulse line) = refl
-    before_alike (PowerOff w) = refl
+    before_alike _ = refl
 
     -- where the same line beyond is pulsed, the same turns concern one
     pub turns_alike : concerning (turns_of t first) ≡ concerning (turns_of t second)

@@ -6,8 +6,8 @@ use Rattle.pm_base.specs.declared.names.NodeId.{NodeId}
 use Rattle.pm_base.specs.declared.names.Unit.{Unit}
 use Rattle.pm_object.specs.Grammar.{IsObject}
 use Rattle.pm_topology.specs.WellFormed.{IsWellFormed}
-use Rattle.pm_core.specs.Load.{load_of}
-use Rattle.pm_core.specs.State.{State}
+use Rattle.pm_state.specs.Load.{load_of}
+use Rattle.pm_state.specs.State.{State}
 use Rattle.pm_run.specs.Run.{Line, Setup, run}
 use Rattle.pm_laws.specs.Quiet.{quiet}
 use Rattle.pm_apply.specs.Part.{Kept}

@@ -15,8 +15,8 @@ use Rattle.pm_topology.specs.WellFormed.{IsWellFormed}
 use Rattle.pm_device.specs.Act.{AreHarmless, refusals, value_by, values_after}
 use Rattle.pm_core.specs.declared.outbox.Done.{Done}
 use Rattle.pm_core.specs.Outbox.{Outputs}
-use Rattle.pm_core.specs.State.{Fixed, State}
-use Rattle.pm_core.specs.Values.{value}
+use Rattle.pm_state.specs.State.{Fixed, State}
+use Rattle.pm_state.specs.Values.{value}
 use Rattle.pm_run.specs.Run.{IsBookOf, Setup}
 use Rattle.pm_laws.specs.Border.{Border}
 use Rattle.pm_laws.specs.Pulse.{pulse_beyond}

@@ -1,8 +1,7 @@
 -- Two runs over a device that never fails, one of them without the messages of a master, set beside one another: on a unit beyond
 -- its reach the same commands are given line by line, and in the end it stands alike.
-use Rattle.std.proofs.Common.{◌≡◌, ℕ, true, List, [], ◌∷◌, ◌++◌, None, refl, ap, sym, ◌∙◌, subst}
+use Rattle.std.proofs.Common.{◌≡◌, ℕ, true, List, [], ◌∷◌, refl, ap, sym, ◌∙◌, subst}
 use Rattle.std.specs.Prelude.{filter}
-use Rattle.std.proofs.lemmas.List.Elements.{filter-append}
 use Rattle.pm_base.specs.declared.events.Event.{Event}
 use Rattle.pm_base.specs.declared.names.NodeId.{NodeId}
 use Rattle.pm_base.specs.declared.names.Unit.{Unit}
@@ -13,10 +12,10 @@ use Rattle.pm_topology.specs.declared.places.Kind.TheVariants.{Proc}
 use Rattle.pm_topology.specs.Units.{has_unit}
 use Rattle.pm_topology.specs.WellFormed.{IsWellFormed}
 use Rattle.pm_procs.specs.Procs.{mode_at}
-use Rattle.pm_core.specs.Load.{load_of}
-use Rattle.pm_core.specs.State.{Fixed, State}
+use Rattle.pm_state.specs.Load.{load_of}
+use Rattle.pm_state.specs.State.{Fixed, State}
 use Rattle.pm_core.specs.Step.{effect, outputs_at_load}
-use Rattle.pm_core.specs.Values.{value}
+use Rattle.pm_state.specs.Values.{value}
 use Rattle.pm_run.specs.Run.{Core, IsBookOf, Line, Setup, loaded, lines_of}
 use Rattle.pm_laws.specs.Agree.{Agree}
 use Rattle.pm_laws.specs.Beside.{AreBeside, no_core, both_cores, left_core, rest_core}

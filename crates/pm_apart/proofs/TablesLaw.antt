@@ -13,9 +13,9 @@ use Rattle.pm_topology.specs.Units.{same_unit, units_of}
 use Rattle.pm_topology.specs.WellFormed.{IsWellFormed}
 use Rattle.pm_procs.specs.Modes.{mode_number}
 use Rattle.pm_procs.specs.Procs.{mode_at}
-use Rattle.pm_core.specs.State.{Fixed, State}
-use Rattle.pm_core.specs.Units.{units}
-use Rattle.pm_core.specs.Values.{point, point_at, shown, value, value_at}
+use Rattle.pm_state.specs.State.{Fixed, State}
+use Rattle.pm_state.specs.Units.{units}
+use Rattle.pm_state.specs.Values.{point, point_at, shown, value, value_at}
 use Rattle.pm_run.specs.Run.{IsBookOf, Setup}
 use Rattle.pm_laws.specs.Border.{unit_beyond}
 use Rattle.pm_laws.specs.ReachBorder.{border_of}

@@ -1,6 +1,6 @@
 -- The lines that tell of what is beyond the reach of a master, besides those of commands, are those of the run without its messages.
-use Rattle.std.proofs.Common.{◌≡◌, ℕ, ◌+◌, ◌==◌, zero, suc, Bool, true, false, not, ◌&&◌, ◌||◌, cond, if◌then◌else◌, List, [], ◌∷◌, ◌++◌, take, Option, Some, None, refl, ap, sym, ◌∙◌, subst}
-use Rattle.std.specs.Prelude.{codes, filter, flat_map, map, slice_index}
+use Rattle.std.proofs.Common.{◌≡◌, ℕ, ◌+◌, ◌==◌, Bool, true, false, not, ◌&&◌, ◌||◌, cond, if◌then◌else◌, List, [], ◌∷◌, ◌++◌, Option, refl, ap, sym, ◌∙◌}
+use Rattle.std.specs.Prelude.{filter, flat_map, map, option_to_list, slice_index}
 use Rattle.std.specs.List.{AllByRecursion as Each}
 use Rattle.std.proofs.lemmas.List.{append-nil, map-append}
 use Rattle.std.proofs.lemmas.List.Elements.{filter-append}
@@ -12,21 +12,21 @@ use Rattle.pm_base.specs.declared.names.NodeId.{NodeId}
 use Rattle.pm_base.specs.declared.names.Unit.{Unit}
 use Rattle.pm_base.specs.declared.names.Unit.TheVariants.{Node, Line}
 use Rattle.pm_ipi.specs.Callbacks.{init_suspend, notify}
-use Rattle.pm_core.specs.declared.outbox.Callback.{Callback}
+use Rattle.pm_tell.specs.declared.callbacks.Callback.{Callback}
 use Rattle.pm_core.specs.declared.outbox.Done.{Done}
-use Rattle.pm_core.specs.declared.outbox.Late.{Late}
-use Rattle.pm_core.specs.declared.outbox.Start.{Start}
+use Rattle.pm_tell.specs.declared.late.Late.{Late}
+use Rattle.pm_values.specs.declared.starts.Start.{Start}
 use Rattle.pm_core.specs.declared.replies.Answer.{Answer}
 use Rattle.pm_core.specs.declared.replies.Answer.TheVariants.{Silent, Drop, Reply, Ack}
 use Rattle.pm_run.specs.Run.{Core, Line as ScriptLine, Setup, run}
 use Rattle.pm_laws.specs.Answers.{is_dropped}
 use Rattle.pm_laws.specs.Border.{Border, none_within}
 use Rattle.pm_laws.specs.Both.{Both}
-use Rattle.pm_laws.specs.Callbacks.{calls_beyond, is_call_beyond}
+use Rattle.pm_laws.specs.Callbacks.{is_callback_beyond}
 use Rattle.pm_laws.specs.Hidden.{is_within}
 use Rattle.pm_laws.specs.Quiet.{quiet}
 use Rattle.pm_laws.specs.ReachBorder.{border_of, place_of}
-use Rattle.pm_laws.specs.Told.{calls_in, drops_in, is_others, starts_in}
+use Rattle.pm_laws.specs.Told.{callbacks_in, drops_in, is_others, starts_in}
 use Rattle.pm_laws.specs.Values.{is_beyond}
 use Rattle.pm_laws.specs.Worlds.{AreWorldsAlike, IsLineAlike}
 use Rattle.pm_apply.specs.Part.{Kept, Part, part_of}
@@ -35,14 +35,14 @@ use Rattle.pm_trace.specs.declared.line.Word.{Word}
 use Rattle.pm_trace.specs.declared.step.StepLine.{StepLine}
 use Rattle.pm_trace.specs.declared.step.StepLine.TheVariants as told
 use Rattle.pm_trace.specs.Line.{numbers}
-use Rattle.pm_trace.specs.Step.{acknowledgement, answer_line, command_name, late_line, notices_of, told_lines, step_words, where_shown}
+use Rattle.pm_trace.specs.Step.{acknowledgement, answer_line, command_name, late_line, notices_of, told_lines, step_words}
 use Rattle.pm_drive.specs.Drive.{Given, answers_after, drive, driven, first_answers, give, kept_after, later_answers, until}
 use Rattle.pm_drive.proofs.DroveLaw.{until-drive}
 use Rattle.pm_apart.specs.Lines.{given_lines, numbered, step_lines}
 use Rattle.pm_apart.specs.Telling.{TellsApart, is_call, tells_call, tells_drop, tells_start}
 use Rattle.pm_apart.proofs.Cuts.{both_map, until_both, until_each}
 use Rattle.pm_apart.proofs.DropFacts.{Drops, LineDrops, run_drops}
-use Rattle.pm_apart.proofs.FilterLemmas.{filter_made, kept_in, left_out, none_of_both}
+use Rattle.pm_apart.proofs.FilterLemmas.{filter_made, kept_in, left_out}
 use Rattle.pm_apart.proofs.TextsLaw.{made_twice, none_made}
 
 -- ---- lines that a test finds
@@ -123,75 +123,110 @@ module _ (T : List Word → Bool) (n : ℕ) (p : StepLine → Bool) (same : (lin
 
 -- ---- the three tests
 
+-- a line tells of a start, of a message that is dropped, or of a callback
+data Tells : Type 0 where
+  Starts : Tells
+  Drops_sent : Tells
+  Calls : Tells
+
 fails_anyway : (b : Bool) → (b && false) ≡ false
 fails_anyway true = refl
 fails_anyway false = refl
 
-none_first : {X : Type 0} (p : X → Bool) (a b : List X) → filter p a ≡ [] → filter p (a ++ b) ≡ filter p b
-none_first p a b none = filter-append p a b ∙ ap (λ xs. xs ++ filter p b) none
+two_parts : (p : StepLine → Bool) (a b c d : List StepLine) → filter p a ≡ c → filter p b ≡ d → filter p (a ++ b) ≡ c ++ d
+two_parts p a b c d first second = filter-append p a b ∙ (ap (λ xs. xs ++ filter p b) first ∙ ap (λ xs. c ++ xs) second)
 
--- of a test that only one part of the lines of a core step passes
-module _ (p : StepLine → Bool) (commands : (d : Done) → p (told.Command d) ≡ false) where
-  only_starts : (late : (l : Late) → p (late_line l) ≡ false) → (calls : (x : Callback) → p (told.Call x) ≡ false)
-      → (g : Given) → filter p (where_shown (answer_line g.part.answer)) ≡ []
-      → filter p (told_lines g.part.commands (notices_of g.core.outputs) g.part.answer) ≡ filter p (map told.Start g.core.outputs.starts)
-  only_starts late calls g answer =
-      let out = g.core.outputs in
-      filter-append p (map told.Command g.part.commands) (map told.Start out.starts ++ (map late_line out.late ++ (map told.Call out.calls ++ where_shown (answer_line g.part.answer))))
-      ∙ (ap (λ lines. lines ++ filter p (map told.Start out.starts ++ (map late_line out.late ++ (map told.Call out.calls ++ where_shown (answer_line g.part.answer))))) (none_made p told.Command commands g.part.commands)
-      ∙ (filter-append p (map told.Start out.starts) (map late_line out.late ++ (map told.Call out.calls ++ where_shown (answer_line g.part.answer)))
-      ∙ (ap (λ lines. filter p (map told.Start out.starts) ++ lines)
-      (none_of_both p (map late_line out.late) (map told.Call out.calls ++ where_shown (answer_line g.part.answer)) (none_made p late_line late out.late)
-      (none_of_both p (map told.Call out.calls) (where_shown (answer_line g.part.answer)) (none_made p told.Call calls out.calls) answer))
-      ∙ append-nil (filter p (map told.Start out.starts)))))
-
-  only_calls : (starts : (s : Start) → p (told.Start s) ≡ false) → (late : (l : Late) → p (late_line l) ≡ false)
-      → (g : Given) → filter p (where_shown (answer_line g.part.answer)) ≡ []
-      → filter p (told_lines g.part.commands (notices_of g.core.outputs) g.part.answer) ≡ filter p (map told.Call g.core.outputs.calls)
-  only_calls starts late g answer =
-      let out = g.core.outputs in
-      none_first p (map told.Command g.part.commands) (map told.Start out.starts ++ (map late_line out.late ++ (map told.Call out.calls ++ where_shown (answer_line g.part.answer)))) (none_made p told.Command commands g.part.commands)
-      ∙ (none_first p (map told.Start out.starts) (map late_line out.late ++ (map told.Call out.calls ++ where_shown (answer_line g.part.answer))) (none_made p told.Start starts out.starts)
-      ∙ (none_first p (map late_line out.late) (map told.Call out.calls ++ where_shown (answer_line g.part.answer)) (none_made p late_line late out.late)
-      ∙ (filter-append p (map told.Call out.calls) (where_shown (answer_line g.part.answer))
-      ∙ (ap (λ lines. filter p (map told.Call out.calls) ++ lines) answer ∙ append-nil (filter p (map told.Call out.calls))))))
-
-  only_answer : (starts : (s : Start) → p (told.Start s) ≡ false) → (late : (l : Late) → p (late_line l) ≡ false) → (calls : (x : Callback) → p (told.Call x) ≡ false)
-      → (g : Given) → filter p (told_lines g.part.commands (notices_of g.core.outputs) g.part.answer) ≡ filter p (where_shown (answer_line g.part.answer))
-  only_answer starts late calls g =
-      let out = g.core.outputs in
-      none_first p (map told.Command g.part.commands) (map told.Start out.starts ++ (map late_line out.late ++ (map told.Call out.calls ++ where_shown (answer_line g.part.answer)))) (none_made p told.Command commands g.part.commands)
-      ∙ (none_first p (map told.Start out.starts) (map late_line out.late ++ (map told.Call out.calls ++ where_shown (answer_line g.part.answer))) (none_made p told.Start starts out.starts)
-      ∙ (none_first p (map late_line out.late) (map told.Call out.calls ++ where_shown (answer_line g.part.answer)) (none_made p late_line late out.late)
-      ∙ none_first p (map told.Call out.calls) (where_shown (answer_line g.part.answer)) (none_made p told.Call calls out.calls)))
+-- of the lines of a core step those pass that pass of its five parts
+five_parts : (p : StepLine → Bool) (g : Given) (commands starts late calls answer : List StepLine)
+    → filter p (map told.Command g.part.commands) ≡ commands → filter p (map told.Start g.core.outputs.starts) ≡ starts
+    → filter p (map late_line g.core.outputs.late) ≡ late → filter p (map told.Call g.core.outputs.callbacks) ≡ calls
+    → filter p (option_to_list (answer_line g.part.answer)) ≡ answer
+    → filter p (told_lines g.part.commands (notices_of g.core.outputs) g.part.answer) ≡ commands ++ (starts ++ (late ++ (calls ++ answer)))
+five_parts p g commands starts late calls answer first second third fourth fifth =
+    let xs : List StepLine = map told.Start g.core.outputs.starts in
+    let ys : List StepLine = map late_line g.core.outputs.late in
+    let zs : List StepLine = map told.Call g.core.outputs.callbacks in
+    let ws : List StepLine = option_to_list (answer_line g.part.answer) in
+    two_parts p (map told.Command g.part.commands) (xs ++ (ys ++ (zs ++ ws))) commands (starts ++ (late ++ (calls ++ answer))) first
+    (two_parts p xs (ys ++ (zs ++ ws)) starts (late ++ (calls ++ answer)) second
+    (two_parts p ys (zs ++ ws) late (calls ++ answer) third (two_parts p zs ws calls answer fourth fifth)))
 
 module _ (c : Setup) (m : NodeId) (events : List Event) (alike : AreWorldsAlike c m events) where
   abbrev border : Border
   border = border_of c.object c.topology m
 
-  -- ---- starts
+  -- ---- which lines tell of what
 
   abbrev start_beyond : Start → Bool
   start_beyond start = is_beyond c.object c.topology border (Node start.proc)
 
-  abbrev of_start : StepLine → Bool
-  of_start (told.Start start) = start_beyond start
-  of_start _ = false
+  abbrev call_beyond : Callback → Bool
+  call_beyond call = not (is_within border (place_of c.object call.master)) && is_call border call.id (slice_index call.args 0)
 
-  start_command : (n : ℕ) (x : Unit) (ok : Bool) (others : List Word) → tells_start c border (numbered n (command_name x ok ++ others)) ≡ false
-  start_command n (Node a) true others = refl
-  start_command n (Node a) false others = refl
-  start_command n (Line a) true others = refl
-  start_command n (Line a) false others = refl
+  abbrev sender_beyond : NodeId → Bool
+  sender_beyond master = not (master.0 == m.0) && none_within border (place_of c.object master)
 
-  start_told : (n : ℕ) (line : StepLine) → tells_start c border (line_of n line) ≡ of_start line
-  start_told n (told.Command d) = start_command n d.command.unit d.ok (numbers (d.from ∷ d.command.value ∷ []))
-  start_told n (told.Start start) = refl
-  start_told n (told.Reply master response) = refl
-  start_told n (told.Drop master) = refl
-  start_told n (told.Call call) = refl
+  abbrev tells : Tells → List Word → Bool
+  tells Starts line = tells_start c border line
+  tells Drops_sent line = tells_drop c border m line
+  tells Calls line = tells_call c border line
 
-  no_start : (answer : Answer) → filter of_start (where_shown (answer_line answer)) ≡ []
+  abbrev tells_of : Tells → StepLine → Bool
+  tells_of Starts (told.Start start) = start_beyond start
+  tells_of Drops_sent (told.Drop master) = sender_beyond master
+  tells_of Calls (told.Call call) = call_beyond call
+  tells_of what _ = false
+
+  no_command : (what : Tells) (n : ℕ) (x : Unit) (ok : Bool) (others : List Word) → tells what (numbered n (command_name x ok ++ others)) ≡ false
+  no_command Starts n (Node a) true others = refl
+  no_command Starts n (Node a) false others = refl
+  no_command Starts n (Line a) true others = refl
+  no_command Starts n (Line a) false others = refl
+  no_command _ n (Node a) true others = refl
+  no_command _ n (Node a) false others = refl
+  no_command _ n (Line a) true others = refl
+  no_command _ n (Line a) false others = refl
+
+  of_command : (what : Tells) (d : Done) → tells_of what (told.Command d) ≡ false
+  of_command Starts d = refl
+  of_command _ d = refl
+
+  of_line : (what : Tells) (n : ℕ) (line : StepLine) → tells what (line_of n line) ≡ tells_of what line
+  of_line what n (told.Command d) =
+      no_command what n d.command.unit d.ok (numbers (d.from ∷ d.command.value ∷ [])) ∙ sym (of_command what d)
+  of_line Starts n (told.Start start) = refl
+  of_line Starts n (told.Reply master response) = refl
+  of_line Starts n (told.Drop master) = refl
+  of_line Starts n (told.Call call) = refl
+  of_line _ n (told.Start start) = refl
+  of_line _ n (told.Reply master response) = refl
+  of_line _ n (told.Drop master) = refl
+  of_line _ n (told.Call call) = refl
+
+  abbrev told_of : Tells → Given → List StepLine
+  told_of what g = filter (tells_of what) (told_lines g.part.commands (notices_of g.core.outputs) g.part.answer)
+
+  -- of the lines of a core step the test finds those that tell of it
+  found_of : (what : Tells) (F : Core → List StepLine) → ((g : Given) → g.part.answer ≡ g.core.outputs.answer → Drops g.core → told_of what g ≡ F g.core)
+      → Finds (tells what) F
+  found_of what F found n g answer drops =
+      by_line (tells what) n (tells_of what) (of_line what n) (told_lines g.part.commands (notices_of g.core.outputs) g.part.answer)
+      ∙ ap (map (line_of n)) (found g answer drops)
+
+  -- of commands and of late replies none passes
+  no_done : (what : Tells) (g : Given) → filter (tells_of what) (map told.Command g.part.commands) ≡ []
+  no_done what g = none_made (tells_of what) told.Command (of_command what) g.part.commands
+
+  no_late : (what : Tells) (g : Given) → filter (tells_of what) (map late_line g.core.outputs.late) ≡ []
+  no_late what g = none_made (tells_of what) late_line (none_of what) g.core.outputs.late
+    where
+      none_of : (what : Tells) (l : Late) → tells_of what (late_line l) ≡ false
+      none_of Starts l = refl
+      none_of _ l = refl
+
+  -- ---- starts
+
+  no_start : (answer : Answer) → filter (tells_of Starts) (option_to_list (answer_line answer)) ≡ []
   no_start Silent = refl
   no_start (Drop master) = refl
   no_start (Reply master response) = refl
@@ -201,48 +236,21 @@ module _ (c : Setup) (m : NodeId) (events : List Event) (alike : AreWorldsAlike 
   abbrev starts_told : Core → List StepLine
   starts_told core = map told.Start (starts_in c.object c.topology border core)
 
-  starts_found : Finds (tells_start c border) starts_told
-  starts_found n g answer drops =
-      by_line (tells_start c border) n of_start (start_told n) (told_lines g.part.commands (notices_of g.core.outputs) g.part.answer)
-      ∙ ap (map (line_of n)) (only_starts of_start (λ d. refl) (λ l. refl) (λ x. refl) g (no_start g.part.answer)
-      ∙ filter_made of_start start_beyond told.Start (λ s. refl) g.core.outputs.starts)
-
-  starts_same : Both (IsFound (tells_start c border) starts_told starts_found) (run c events) (run c (quiet m events))
-  starts_same =
-      both_map (IsLineAlike c m) (IsFound (tells_start c border) starts_told starts_found) (λ x y same.
-      made_flat (starts_in c.object c.topology border) (map told.Start) refl (map-append told.Start) x.cores
-      ∙ (ap (map told.Start) same.starts ∙ sym (made_flat (starts_in c.object c.topology border) (map told.Start) refl (map-append told.Start) y.cores)))
-      (run c events) (run c (quiet m events)) alike
+  starts_found : Finds (tells Starts) starts_told
+  starts_found = found_of Starts starts_told (λ g answer drops.
+      five_parts (tells_of Starts) g [] (starts_told g.core) [] [] [] (no_done Starts g) (filter_made (tells_of Starts) start_beyond told.Start (λ s. refl) g.core.outputs.starts)
+      (no_late Starts g) (none_made (tells_of Starts) told.Call (λ x. refl) g.core.outputs.callbacks) (no_start g.part.answer)
+      ∙ append-nil (starts_told g.core))
 
   -- ---- callbacks
 
-  abbrev call_beyond : Callback → Bool
-  call_beyond call = not (is_within border (place_of c.object call.master)) && is_call border call.id (slice_index call.args 0)
-
-  abbrev of_call : StepLine → Bool
-  of_call (told.Call call) = call_beyond call
-  of_call _ = false
-
-  call_command : (n : ℕ) (x : Unit) (ok : Bool) (others : List Word) → tells_call c border (numbered n (command_name x ok ++ others)) ≡ false
-  call_command n (Node a) true others = refl
-  call_command n (Node a) false others = refl
-  call_command n (Line a) true others = refl
-  call_command n (Line a) false others = refl
-
-  call_told : (n : ℕ) (line : StepLine) → tells_call c border (line_of n line) ≡ of_call line
-  call_told n (told.Command d) = call_command n d.command.unit d.ok (numbers (d.from ∷ d.command.value ∷ []))
-  call_told n (told.Start start) = refl
-  call_told n (told.Reply master response) = refl
-  call_told n (told.Drop master) = refl
-  call_told n (told.Call call) = refl
-
-  no_call : (answer : Answer) → filter of_call (where_shown (answer_line answer)) ≡ []
+  no_call : (answer : Answer) → filter (tells_of Calls) (option_to_list (answer_line answer)) ≡ []
   no_call Silent = refl
   no_call (Drop master) = refl
   no_call (Reply master response) = refl
   no_call (Ack master node status point false) = refl
   no_call (Ack master node status point true) =
-      left_out of_call (told.Call (acknowledgement master node status point)) [] (fails_anyway (not (is_within border (place_of c.object master))))
+      left_out (tells_of Calls) (told.Call (acknowledgement master node status point)) [] (fails_anyway (not (is_within border (place_of c.object master))))
 
   -- a callback that asks a master to suspend, or notifies it
   abbrev is_news : Callback → Bool
@@ -256,69 +264,42 @@ module _ (c : Setup) (m : NodeId) (events : List Event) (alike : AreWorldsAlike 
   split_test true false false true = refl
   split_test true false false false = refl
 
-  by_both : (calls : List Callback) → filter call_beyond calls ≡ filter is_news (filter (is_call_beyond c.object border) calls)
+  by_both : (calls : List Callback) → filter call_beyond calls ≡ filter is_news (filter (is_callback_beyond c.object border) calls)
   by_both [] = refl
-  by_both (call ∷ calls) = at (is_call_beyond c.object border call) refl (by_both calls)
+  by_both (call ∷ calls) = at (is_callback_beyond c.object border call) refl (by_both calls)
     where
-      same : call_beyond call ≡ (is_call_beyond c.object border call && is_news call)
+      same : call_beyond call ≡ (is_callback_beyond c.object border call && is_news call)
       same = split_test (not (is_within border (place_of c.object call.master))) (call.id == init_suspend) (border.node (slice_index call.args 0)) (call.id == notify)
 
       beyond : List Callback
-      beyond = filter (is_call_beyond c.object border) calls
+      beyond = filter (is_callback_beyond c.object border) calls
 
-      at : (is : Bool) → is_call_beyond c.object border call ≡ is → filter call_beyond calls ≡ filter is_news beyond
-          → filter call_beyond (call ∷ calls) ≡ filter is_news (filter (is_call_beyond c.object border) (call ∷ calls))
+      at : (is : Bool) → is_callback_beyond c.object border call ≡ is → filter call_beyond calls ≡ filter is_news beyond
+          → filter call_beyond (call ∷ calls) ≡ filter is_news (filter (is_callback_beyond c.object border) (call ∷ calls))
       at true is later =
           ap (λ b. cond b (call ∷ filter call_beyond calls) (filter call_beyond calls)) (same ∙ ap (λ b. b && is_news call) is)
           ∙ (ap (λ found. cond (is_news call) (call ∷ found) found) later
-          ∙ ap (filter is_news) (sym (kept_in (is_call_beyond c.object border) call calls is)))
+          ∙ ap (filter is_news) (sym (kept_in (is_callback_beyond c.object border) call calls is)))
       at false is later =
           ap (λ b. cond b (call ∷ filter call_beyond calls) (filter call_beyond calls)) (same ∙ ap (λ b. b && is_news call) is)
-          ∙ (later ∙ ap (filter is_news) (sym (left_out (is_call_beyond c.object border) call calls is)))
+          ∙ (later ∙ ap (filter is_news) (sym (left_out (is_callback_beyond c.object border) call calls is)))
 
-  abbrev as_calls : List Callback → List StepLine
-  as_calls calls = map told.Call (filter is_news calls)
+  abbrev as_callbacks : List Callback → List StepLine
+  as_callbacks calls = map told.Call (filter is_news calls)
 
-  abbrev calls_told : Core → List StepLine
-  calls_told core = as_calls (calls_in c.object border core)
+  abbrev callbacks_told : Core → List StepLine
+  callbacks_told core = as_callbacks (callbacks_in c.object border core)
 
-  calls_found : Finds (tells_call c border) calls_told
-  calls_found n g answer drops =
-      by_line (tells_call c border) n of_call (call_told n) (told_lines g.part.commands (notices_of g.core.outputs) g.part.answer)
-      ∙ ap (map (line_of n)) (only_calls of_call (λ d. refl) (λ s. refl) (λ l. refl) g (no_call g.part.answer)
-      ∙ (filter_made of_call call_beyond told.Call (λ x. refl) g.core.outputs.calls ∙ ap (map told.Call) (by_both g.core.outputs.calls)))
+  callbacks_found : Finds (tells Calls) callbacks_told
+  callbacks_found = found_of Calls callbacks_told (λ g answer drops.
+      five_parts (tells_of Calls) g [] [] [] (callbacks_told g.core) [] (no_done Calls g) (none_made (tells_of Calls) told.Start (λ s. refl) g.core.outputs.starts) (no_late Calls g)
+      (filter_made (tells_of Calls) call_beyond told.Call (λ x. refl) g.core.outputs.callbacks ∙ ap (map told.Call) (by_both g.core.outputs.callbacks)) (no_call g.part.answer)
+      ∙ append-nil (callbacks_told g.core))
 
-  calls_join : (xs ys : List Callback) → as_calls (xs ++ ys) ≡ as_calls xs ++ as_calls ys
-  calls_join xs ys = ap (map told.Call) (filter-append is_news xs ys) ∙ map-append told.Call (filter is_news xs) (filter is_news ys)
-
-  calls_same : Both (IsFound (tells_call c border) calls_told calls_found) (run c events) (run c (quiet m events))
-  calls_same =
-      both_map (IsLineAlike c m) (IsFound (tells_call c border) calls_told calls_found) (λ x y same.
-      made_flat (calls_in c.object border) as_calls refl calls_join x.cores
-      ∙ (ap as_calls same.calls ∙ sym (made_flat (calls_in c.object border) as_calls refl calls_join y.cores)))
-      (run c events) (run c (quiet m events)) alike
+  callbacks_join : (xs ys : List Callback) → as_callbacks (xs ++ ys) ≡ as_callbacks xs ++ as_callbacks ys
+  callbacks_join xs ys = ap (map told.Call) (filter-append is_news xs ys) ∙ map-append told.Call (filter is_news xs) (filter is_news ys)
 
   -- ---- drops
-
-  abbrev sender_beyond : NodeId → Bool
-  sender_beyond master = not (master.0 == m.0) && none_within border (place_of c.object master)
-
-  abbrev of_drop : StepLine → Bool
-  of_drop (told.Drop master) = sender_beyond master
-  of_drop _ = false
-
-  drop_command : (n : ℕ) (x : Unit) (ok : Bool) (others : List Word) → tells_drop c border m (numbered n (command_name x ok ++ others)) ≡ false
-  drop_command n (Node a) true others = refl
-  drop_command n (Node a) false others = refl
-  drop_command n (Line a) true others = refl
-  drop_command n (Line a) false others = refl
-
-  drop_told : (n : ℕ) (line : StepLine) → tells_drop c border m (line_of n line) ≡ of_drop line
-  drop_told n (told.Command d) = drop_command n d.command.unit d.ok (numbers (d.from ∷ d.command.value ∷ []))
-  drop_told n (told.Start start) = refl
-  drop_told n (told.Reply master response) = refl
-  drop_told n (told.Drop master) = refl
-  drop_told n (told.Call call) = refl
 
   -- the line of a message with whether it is dropped
   abbrev sender_line : Event → List StepLine
@@ -342,11 +323,11 @@ module _ (c : Setup) (m : NodeId) (events : List Event) (alike : AreWorldsAlike 
   dropped_here d message true = refl
   dropped_here d message false = refl
 
-  drop_answer : (core : Core) (answer : Answer) → answer ≡ core.outputs.answer → Drops core → filter of_drop (where_shown (answer_line answer)) ≡ drops_told core
+  drop_answer : (core : Core) (answer : Answer) → answer ≡ core.outputs.answer → Drops core → filter (tells_of Drops_sent) (option_to_list (answer_line answer)) ≡ drops_told core
   drop_answer core answer is drops = by answer is ∙ ap (λ a. as_drops (if is_others c.object border m core.event then (core.event, is_dropped a) ∷ [] else [])) is
     where
       by : (answer : Answer) → answer ≡ core.outputs.answer
-          → filter of_drop (where_shown (answer_line answer)) ≡ as_drops (if is_others c.object border m core.event then (core.event, is_dropped answer) ∷ [] else [])
+          → filter (tells_of Drops_sent) (option_to_list (answer_line answer)) ≡ as_drops (if is_others c.object border m core.event then (core.event, is_dropped answer) ∷ [] else [])
       by Silent is = kept_here core.event (is_others c.object border m core.event)
       by (Reply master response) is = kept_here core.event (is_others c.object border m core.event)
       by (Ack master node status point false) is = kept_here core.event (is_others c.object border m core.event)
@@ -356,24 +337,27 @@ module _ (c : Setup) (m : NodeId) (events : List Event) (alike : AreWorldsAlike 
           dropped_here d own.0 (sender_beyond d)
           ∙ ap (λ event. as_drops (if is_others c.object border m event then (event, true) ∷ [] else [])) (sym own.1)
 
-  drops_found : Finds (tells_drop c border m) drops_told
-  drops_found n g answer drops =
-      by_line (tells_drop c border m) n of_drop (drop_told n) (told_lines g.part.commands (notices_of g.core.outputs) g.part.answer)
-      ∙ ap (map (line_of n)) (only_answer of_drop (λ d. refl) (λ s. refl) (λ l. refl) (λ x. refl) g
-      ∙ drop_answer g.core g.part.answer answer drops)
-
-  drops_same : Both (IsFound (tells_drop c border m) drops_told drops_found) (run c events) (run c (quiet m events))
-  drops_same =
-      both_map (IsLineAlike c m) (IsFound (tells_drop c border m) drops_told drops_found) (λ x y same.
-      made_flat (drops_in c.object border m) as_drops refl (flat_map-append dropped_line) x.cores
-      ∙ (ap as_drops same.drops ∙ sym (made_flat (drops_in c.object border m) as_drops refl (flat_map-append dropped_line) y.cores)))
-      (run c events) (run c (quiet m events)) alike
+  drops_found : Finds (tells Drops_sent) drops_told
+  drops_found = found_of Drops_sent drops_told (λ g answer drops.
+      five_parts (tells_of Drops_sent) g [] [] [] [] (drops_told g.core) (no_done Drops_sent g) (none_made (tells_of Drops_sent) told.Start (λ s. refl) g.core.outputs.starts)
+      (no_late Drops_sent g) (none_made (tells_of Drops_sent) told.Call (λ x. refl) g.core.outputs.callbacks) (drop_answer g.core g.part.answer answer drops))
 
   -- ---- all of them
 
+  -- so it is in two runs
+  found_apart : {X : Type 0} (what : Tells) (f : Core → List X) (G : List X → List StepLine) → G [] ≡ [] → ((xs ys : List X) → G (xs ++ ys) ≡ G xs ++ G ys)
+      → ((x y : ScriptLine) → IsLineAlike c m x y → flat_map f x.cores ≡ flat_map f y.cores) → Finds (tells what) (λ core. G (f core))
+      → (answers others : List (List Bool)) (cut : Option ℕ)
+      → filter (tells what) (step_lines 0 (until cut (driven c answers events))) ≡ filter (tells what) (step_lines 0 (until cut (driven c others (quiet m events))))
+  found_apart what f G none parts same finds answers others cut =
+      runs_found (tells what) (λ core. G (f core)) finds c m events answers others cut
+      (both_map (IsLineAlike c m) (IsFound (tells what) (λ core. G (f core)) finds)
+      (λ x y alike. made_flat f G none parts x.cores ∙ (ap G (same x y alike) ∙ sym (made_flat f G none parts y.cores)))
+      (run c events) (run c (quiet m events)) alike)
+
   pub telling_apart : TellsApart c events m
   telling_apart = record {
-    starts = λ answers others cut. runs_found (tells_start c border) starts_told starts_found c m events answers others cut starts_same;
-    drops = λ answers others cut. runs_found (tells_drop c border m) drops_told drops_found c m events answers others cut drops_same;
-    calls = λ answers others cut. runs_found (tells_call c border) calls_told calls_found c m events answers others cut calls_same;
+    starts = found_apart Starts (starts_in c.object c.topology border) (map told.Start) refl (map-append told.Start) (λ x y same. same.starts) starts_found;
+    drops = found_apart Drops_sent (drops_in c.object border m) as_drops refl (flat_map-append dropped_line) (λ x y same. same.drops) drops_found;
+    callbacks = found_apart Calls (callbacks_in c.object border) as_callbacks refl callbacks_join (λ x y same. same.callbacks) callbacks_found;
   }

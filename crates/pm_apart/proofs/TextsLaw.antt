@@ -1,6 +1,6 @@
 -- The text of a run is that of its lines, and those of its script lines that are about a unit are the lines of the commands on it.
 use Rattle.std.proofs.Common.{◌≡◌, ℕ, ◌+◌, ◌==◌, ◌&&◌, Bool, true, false, if◌then◌else◌, List, [], ◌∷◌, ◌++◌, refl, ap, sym, ◌∙◌}
-use Rattle.std.specs.Prelude.{codes, filter, flat_map, map}
+use Rattle.std.specs.Prelude.{codes, filter, flat_map, map, option_to_list}
 use Rattle.std.specs.List.{concat}
 use Rattle.std.proofs.lemmas.List.{append-nil, map-append}
 use Rattle.std.proofs.lemmas.List.Elements.{filter-append}
@@ -12,9 +12,9 @@ use Rattle.pm_topology.specs.Units.{same_unit}
 use Rattle.pm_core.specs.declared.outbox.Done.{Done}
 use Rattle.pm_core.specs.declared.replies.Answer.{Answer}
 use Rattle.pm_core.specs.declared.replies.Answer.TheVariants.{Silent, Drop, Reply, Ack}
-use Rattle.pm_core.specs.Load.{load_of}
-use Rattle.pm_core.specs.State.{State}
-use Rattle.pm_core.specs.Units.{units}
+use Rattle.pm_state.specs.Load.{load_of}
+use Rattle.pm_state.specs.State.{State}
+use Rattle.pm_state.specs.Units.{units}
 use Rattle.pm_run.specs.Run.{Setup}
 use Rattle.pm_apply.specs.Part.{Kept}
 use Rattle.pm_apply.specs.Record.{at_zero, kept_value}
@@ -23,9 +23,9 @@ use Rattle.pm_trace.specs.declared.line.Word.TheVariants as word
 use Rattle.pm_trace.specs.declared.step.StepLine.{StepLine}
 use Rattle.pm_trace.specs.declared.step.StepLine.TheVariants as told
 use Rattle.pm_trace.specs.Closing.{closing_text, unit_name, unit_text}
-use Rattle.pm_core.specs.Values.{shown}
+use Rattle.pm_state.specs.Values.{shown}
 use Rattle.pm_trace.specs.Line.{line_text, numbers}
-use Rattle.pm_trace.specs.Step.{Notices, answer_line, command_name, core_text, late_line, notices_of, numbered_line, output_words, told_lines, step_words, where_shown}
+use Rattle.pm_trace.specs.Step.{Notices, answer_line, command_name, core_text, late_line, notices_of, numbered_line, output_words, told_lines, step_words}
 use Rattle.pm_drive.specs.Drive.{Driven, Given, driven, last_book, last_kept}
 use Rattle.pm_drive.specs.Text.{driven_text, run_text, texts}
 use Rattle.pm_apart.specs.Lines.{closing_line, commands_of, commands_on, given_lines, is_about, is_on, numbered, run_lines, set_lines, step_lines, table_lines}
@@ -101,7 +101,7 @@ made_twice f g [] = refl
 made_twice f g (x ∷ xs) = ap (λ zs. g (f x) ∷ zs) (made_twice f g xs)
 
 module _ (u : Unit) where
-  answer_apart : (answer : Answer) → filter (tells_on u) (where_shown (answer_line answer)) ≡ []
+  answer_apart : (answer : Answer) → filter (tells_on u) (option_to_list (answer_line answer)) ≡ []
   answer_apart Silent = refl
   answer_apart (Drop master) = refl
   answer_apart (Reply master response) = refl
@@ -112,13 +112,13 @@ module _ (u : Unit) where
   commands_told : (ds : List Done) (notices : Notices) (answer : Answer)
       → filter (tells_on u) (told_lines ds notices answer) ≡ map told.Command (filter (is_on u) ds)
   commands_told ds notices answer =
-      let calls = map told.Call notices.calls ++ where_shown (answer_line answer) in
+      let calls = map told.Call notices.callbacks ++ option_to_list (answer_line answer) in
       let late = map late_line notices.late ++ calls in
       let rest = map told.Start notices.starts ++ late in
       let none : filter (tells_on u) rest ≡ [] =
       none_of_both (tells_on u) (map told.Start notices.starts) late (none_made (tells_on u) told.Start (λ x. refl) notices.starts)
       (none_of_both (tells_on u) (map late_line notices.late) calls (none_made (tells_on u) late_line (λ x. refl) notices.late)
-      (none_of_both (tells_on u) (map told.Call notices.calls) (where_shown (answer_line answer)) (none_made (tells_on u) told.Call (λ x. refl) notices.calls)
+      (none_of_both (tells_on u) (map told.Call notices.callbacks) (option_to_list (answer_line answer)) (none_made (tells_on u) told.Call (λ x. refl) notices.callbacks)
       (answer_apart answer)))
       in
       filter-append (tells_on u) (map told.Command ds) rest

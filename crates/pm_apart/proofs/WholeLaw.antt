@@ -11,16 +11,15 @@ use Rattle.pm_base.specs.declared.names.Unit.{Unit}
 use Rattle.pm_base.specs.declared.names.Unit.TheVariants.{Node, Line}
 use Rattle.pm_topology.specs.declared.topology.Topology.{Topology}
 use Rattle.pm_topology.specs.Units.{UnitLaws, has_in, has_unit, is_before, rises, same_unit, units_of}
-use Rattle.pm_core.specs.Load.{load_of}
-use Rattle.pm_core.specs.State.{Fixed, State}
-use Rattle.pm_core.specs.Step.{effect}
+use Rattle.pm_state.specs.Load.{load_of}
+use Rattle.pm_state.specs.State.{Fixed, State}
 use Rattle.pm_run.specs.Run.{IsBookOf, Line as ScriptLine, Setup, Stand, loaded, line_0, line_of, lines_of}
-use Rattle.pm_apply.specs.Part.{Kept, Part}
+use Rattle.pm_apply.specs.Part.{Kept}
 use Rattle.pm_apply.specs.Record.{at_zero, kept_value}
 use Rattle.pm_trace.specs.declared.line.Word.{Word}
 use Rattle.pm_trace.specs.declared.line.Word.TheVariants as word
 use Rattle.pm_trace.specs.Closing.{unit_name}
-use Rattle.pm_core.specs.Values.{shown}
+use Rattle.pm_state.specs.Values.{shown}
 use Rattle.pm_trace.specs.Line.{numbers}
 use Rattle.pm_drive.specs.Drive.{Driven, answers_after, drive, drive_line, driven, last_book, last_kept}
 use Rattle.pm_apart.specs.Lines.{closing_line, closing_line_of, is_about, run_lines, set_lines, step_lines, table_lines}

@@ -66,6 +66,6 @@ pub record TellsApart (c : Setup) (events : List Event) (m : NodeId) : Type 0 wh
   pub drops : (answers others : List (List Bool)) (cut : Option ℕ)
       → filter (tells_drop c (border_of c.object c.topology m) m) (step_lines 0 (until cut (driven c answers events)))
       ≡ filter (tells_drop c (border_of c.object c.topology m) m) (step_lines 0 (until cut (driven c others (quiet m events))))
-  pub calls : (answers others : List (List Bool)) (cut : Option ℕ)
+  pub callbacks : (answers others : List (List Bool)) (cut : Option ℕ)
       → filter (tells_call c (border_of c.object c.topology m)) (step_lines 0 (until cut (driven c answers events)))
       ≡ filter (tells_call c (border_of c.object c.topology m)) (step_lines 0 (until cut (driven c others (quiet m events))))

@@ -15,25 +15,26 @@ use Rattle.pm_ipi.specs.declared.calls.Call.{Call}
 use Rattle.pm_ipi.specs.declared.calls.Call.TheVariants.{RegisterNotifier, RequestSuspend, SystemShutdown}
 use Rattle.pm_ipi.specs.declared.responses.Response.{Response}
 use Rattle.pm_ipi.specs.Calls.{ack_kind, ack_of, acknowledge_of, call_of, kind_by, kind_or_reply, node_of}
-use Rattle.pm_core.specs.declared.verdict.Asked.{Asked}
-use Rattle.pm_core.specs.declared.verdict.Effects.{Effects}
-use Rattle.pm_core.specs.declared.verdict.Say.{Say}
-use Rattle.pm_core.specs.declared.verdict.Say.TheVariants.{Abort, Ask, Register, Renew}
-use Rattle.pm_core.specs.Checks.{AllHold, Cause, Fits, Stands}
-use Rattle.pm_core.specs.Verdict.{Called, asked_by, response_of, response_to, verdict_by, verdict_of}
-use Rattle.pm_core.specs.calls.RegisterNotifier.{notifier_put}
-use Rattle.pm_core.specs.calls.RequestSuspend.{asked_of}
-use Rattle.pm_core.specs.calls.SystemShutdown.{renewal, restarts_all}
-use Rattle.pm_core.proofs.Verdicts.{all_hold, mapped, none_fails}
+use Rattle.pm_calls.specs.declared.verdict.Asked.{Asked}
+use Rattle.pm_calls.specs.declared.verdict.Effects.{Effects}
+use Rattle.pm_calls.specs.declared.verdict.Say.{Say}
+use Rattle.pm_calls.specs.declared.verdict.Say.TheVariants.{Abort, Ask, Register, Renew}
+use Rattle.pm_calls.specs.Checks.{AllHold, Cause, Fits, Stands}
+use Rattle.pm_calls.specs.Verdict.{Called, asked_by, response_of, response_to, verdict_by, verdict_of}
+use Rattle.pm_calls.specs.calls.RegisterNotifier.{notifier_put}
+use Rattle.pm_calls.specs.calls.RequestSuspend.{asked_of}
+use Rattle.pm_calls.specs.calls.SystemShutdown.{renewal, restarts_all}
+use Rattle.pm_calls.proofs.Verdicts.{all_hold, mapped, none_fails}
 use Rattle.pm_notify.specs.Notes.{event_of}
 use Rattle.pm_ipi.specs.Responses.{success}
 use Rattle.pm_core.specs.declared.replies.Answer.{Answer}
 use Rattle.pm_core.specs.declared.replies.Answer.TheVariants.{Silent, Drop}
-use Rattle.pm_core.specs.Members.{mode_of_master}
-use Rattle.pm_core.specs.State.{State}
-use Rattle.pm_core.specs.Step.{acknowledged, answer_of, answer_to, answered, call_in, called, effect, heard_at, verdict}
-use Rattle.pm_core.specs.Values.{master_place}
-use Rattle.pm_core.specs.Views.{master_mode, master_mode_at, suspend_view}
+use Rattle.pm_state.specs.Members.{mode_of_master}
+use Rattle.pm_state.specs.State.{State}
+use Rattle.pm_core.specs.Step.{acknowledged, answer_of, answer_to, answered, call_in, called, effect, call_at, verdict}
+use Rattle.pm_state.specs.Values.{master_place}
+use Rattle.pm_state.specs.Nodes.{master_mode, master_mode_at}
+use Rattle.pm_calls.specs.Views.{suspend_view}
 use Rattle.pm_causes.specs.Answers.{IsDropped, IsHeard, IsSilent, IsUnanswered, IsUnheard, is_request_to_suspend, told}
 use Rattle.pm_causes.specs.Causes.{cause, checks_of, response as told_response, status, status_in, words_in}
 
@@ -62,8 +63,7 @@ one_acknowledges call is = ap kind_by is
 module _ (master : NodeId) (call : Call) (after : State) where
   silent_kind : (response : Response) (kind : AckKind) (node : NodeId) → acknowledged kind master node response after ≡ Silent → kind ≡ No
   silent_kind response No node is = refl
-  silent_kind response Blocking node is = cc
-  silent_kind response NonBlocking node is = cc
+  silent_kind response _ node is = cc
 
   silent_by : (response : Option Response) → answered response master call after ≡ Silent → (response ≡ None) ⊎ (ack_of call ≡ No)
   silent_by None is = inl refl
@@ -75,8 +75,7 @@ module _ (master : NodeId) (call : Call) (after : State) where
 
   kind_stays : (response : Response) (kind : AckKind) (node to : NodeId) → acknowledged kind master node response after ≡ Drop to → ⊥
   kind_stays response No node to is = cc
-  kind_stays response Blocking node to is = cc
-  kind_stays response NonBlocking node to is = cc
+  kind_stays response _ node to is = cc
 
   -- it isn't dropped
   stays : (response : Option Response) (to : NodeId) → answered response master call after ≡ Drop to → ⊥
@@ -89,15 +88,11 @@ module _ (master : NodeId) (call : Call) (after : State) where
 
   kind_told : (response : Response) (kind : AckKind) (node : NodeId) → Tells (acknowledged kind master node response after) response.status
   kind_told response No node = inl refl
-  kind_told response Blocking node = inr refl
-  kind_told response NonBlocking node = inr refl
+  kind_told response _ node = inr refl
 
   accepted_told : (says : Option Say) (words : List ℕ) → Tells (answered (response_to says words) master call after) 0
   accepted_told (Some (Ask asked)) words = inl refl
-  accepted_told (Some (Abort m)) words = kind_told (success words) (ack_of call) (node_of call)
-  accepted_told (Some (Register put)) words = kind_told (success words) (ack_of call) (node_of call)
-  accepted_told (Some Renew) words = kind_told (success words) (ack_of call) (node_of call)
-  accepted_told None words = kind_told (success words) (ack_of call) (node_of call)
+  accepted_told _ words = kind_told (success words) (ack_of call) (node_of call)
 
   tells : (cause : Cause) (effects : Effects) → Tells (answered (response_of (verdict_by cause effects)) master call after) (status_in (verdict_by cause effects))
   tells (Stands Fits) effects = accepted_told effects.says effects.words
@@ -109,10 +104,7 @@ module _ (master : NodeId) (call : Call) (after : State) where
 
   accepted_forms : (says : Option Say) (words : List ℕ) → Forms (answered (response_to says words) master call after) (success words)
   accepted_forms (Some (Ask asked)) words = inl refl
-  accepted_forms (Some (Abort m)) words = inr refl
-  accepted_forms (Some (Register put)) words = inr refl
-  accepted_forms (Some Renew) words = inr refl
-  accepted_forms None words = inr refl
+  accepted_forms _ words = inr refl
 
   forms : (cause : Cause) (effects : Effects)
       → Forms (answered (response_of (verdict_by cause effects)) master call after)
@@ -128,10 +120,7 @@ module _ (master : NodeId) (call : Call) (after : State) where
 
 asks_none : (says : Option Say) (words : List ℕ) → response_to says words ≡ None → is_some (asked_by says) ≡ true
 asks_none (Some (Ask asked)) words is = refl
-asks_none (Some (Abort m)) words is = cc
-asks_none (Some (Register put)) words is = cc
-asks_none (Some Renew) words is = cc
-asks_none None words is = cc
+asks_none _ words is = cc
 
 none_by : (cause : Cause) (effects : Effects) → response_of (verdict_by cause effects) ≡ None → (cause ≡ Stands Fits) × (is_some (asked_by effects.says) ≡ true)
 none_by (Stands Fits) effects is = (refl, asks_none effects.says effects.words is)
@@ -200,7 +189,7 @@ module _ (sender : NodeId) (message : Message) (book : State) where
 
   heard_call : (m : ℕ) → IsHeard sender m book → call_in sender call book ≡ Some (called m call book)
   heard_call m heard =
-      ap (option_and_then (heard_at call book)) heard.place
+      ap (option_and_then (call_at call book)) heard.place
       ∙ heard_if book.now.core.halted (is_awake (mode_of_master book.fixed book.now.core m)) (called m call book) heard.running (by heard.mode)
     where
       by : (master_mode sender book ≡ Active) ⊎ (master_mode sender book ≡ Suspending) → is_awake (mode_of_master book.fixed book.now.core m) ≡ true
@@ -214,7 +203,7 @@ module _ (sender : NodeId) (message : Message) (book : State) where
 
   unheard_at : (place : Option ℕ)
       → (place ≡ None) ⊎ (master_mode_at place book ≡ Asleep) ⊎ (master_mode_at place book ≡ Off) ⊎ (book.now.core.halted ≡ true)
-      → option_and_then (heard_at call book) place ≡ None
+      → option_and_then (call_at call book) place ≡ None
   unheard_at None is = refl
   unheard_at (Some m) (inl is) = cc
   unheard_at (Some m) (inr (inl is)) = unheard_if book.now.core.halted _ (called m call book) (inr (ap is_awake is))

@@ -3,7 +3,7 @@ use Rattle.std.proofs.Common.{List, [], ◌∷◌}
 use Rattle.std.proofs.lemmas.List.Elements.{All-nil, All-cons, All-append}
 use Rattle.pm_base.specs.declared.events.Event.{Event}
 use Rattle.pm_base.specs.declared.events.Event.TheVariants.{Pass}
-use Rattle.pm_core.specs.State.{State}
+use Rattle.pm_state.specs.State.{State}
 use Rattle.pm_core.specs.Step.{answer_to, effect}
 use Rattle.pm_run.specs.Run.{Setup, Stand, core_0, core_of, cores_of, cores_in, line_of, lines_of, loaded, run, split}
 use Rattle.pm_causes.specs.Caused.{HasCauses, HasOwnCauses, HaveCauses}

@@ -4,12 +4,12 @@ use Rattle.pm_base.specs.declared.names.NodeId.{NodeId}
 use Rattle.pm_base.proofs.Booleans.{differs}
 use Rattle.pm_ipi.specs.declared.calls.Call.{Call}
 use Rattle.pm_ipi.specs.Status.{failure, invalid_parameter, no_feature, no_access, invalid_node, double_request, node_used}
-use Rattle.pm_core.specs.declared.verdict.Effects.{Effects}
-use Rattle.pm_core.specs.Checks.{AllHold, Acknowledge, Arguments, Capable, Cause, Fits, InUse, Known, Node, NotUsed, Permitted, Stands, UsedBy, WrongMode}
-use Rattle.pm_core.specs.State.{State}
+use Rattle.pm_calls.specs.declared.verdict.Effects.{Effects}
+use Rattle.pm_calls.specs.Checks.{AllHold, Acknowledge, Arguments, Capable, Cause, Fits, InUse, Known, Node, NotUsed, Permitted, Stands, UsedBy, WrongMode}
+use Rattle.pm_state.specs.State.{State}
 use Rattle.pm_core.specs.Step.{called}
-use Rattle.pm_core.specs.Verdict.{verdict_by}
-use Rattle.pm_core.proofs.Verdicts.{all_hold, none_fails}
+use Rattle.pm_calls.specs.Verdict.{verdict_by}
+use Rattle.pm_calls.proofs.Verdicts.{all_hold, none_fails}
 use Rattle.pm_causes.specs.Causes.{cause, checks_of, status, status_in, words, words_in}
 
 -- the status by the check that fails

@@ -10,10 +10,10 @@ use Rattle.pm_ipi.specs.declared.calls.Call.TheVariants.{RequestSuspend}
 use Rattle.pm_ipi.specs.Calls.{acknowledge_of, call_of}
 use Rattle.pm_core.specs.declared.replies.Answer.{Answer}
 use Rattle.pm_core.specs.declared.replies.Answer.TheVariants.{Silent, Drop, Reply, Ack}
-use Rattle.pm_core.specs.Checks.{AllHold}
-use Rattle.pm_core.specs.State.{State}
-use Rattle.pm_core.specs.Values.{master_place}
-use Rattle.pm_core.specs.Views.{master_mode}
+use Rattle.pm_calls.specs.Checks.{AllHold}
+use Rattle.pm_state.specs.State.{State}
+use Rattle.pm_state.specs.Values.{master_place}
+use Rattle.pm_state.specs.Nodes.{master_mode}
 use Rattle.pm_causes.specs.Causes.{checks_of}
 
 -- ---- who is heard

@@ -11,12 +11,12 @@ use Rattle.pm_ipi.specs.Calls.{ack_of, call_of, node_of}
 use Rattle.pm_ipi.specs.Status
 use Rattle.pm_core.specs.declared.replies.Answer.{Answer}
 use Rattle.pm_core.specs.declared.replies.Answer.TheVariants.{Drop, Silent}
-use Rattle.pm_core.specs.State.{State}
+use Rattle.pm_state.specs.State.{State}
 use Rattle.pm_core.specs.Step.{acknowledged, effect}
 use Rattle.pm_run.specs.Run.{Core}
 use Rattle.pm_causes.specs.Answers.{IsDropped, IsHeard, IsSilent, told as told_by}
 use Rattle.pm_causes.specs.Causes.{cause, checks_of, response, status, words}
-use Rattle.pm_core.specs.Checks.{AllHold, Acknowledge, Arguments, Capable, InUse, Known, Node, NotUsed, Permitted, Stands, UsedBy, WrongMode}
+use Rattle.pm_calls.specs.Checks.{AllHold, Acknowledge, Arguments, Capable, InUse, Known, Node, NotUsed, Permitted, Stands, UsedBy, WrongMode}
 
 -- each status that a call of the master at place m gets in a book comes exactly where its causes are the first of the seven
 -- checks of the call that fails

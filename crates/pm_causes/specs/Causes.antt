@@ -2,12 +2,12 @@
 use Rattle.std.specs.Prelude.{ℕ, List, []}
 use Rattle.pm_ipi.specs.declared.calls.Call.{Call}
 use Rattle.pm_ipi.specs.declared.responses.Response.{Response}
-use Rattle.pm_core.specs.declared.verdict.Verdict.{Verdict}
-use Rattle.pm_core.specs.declared.verdict.Verdict.TheVariants.{Dropped, Refused, Accepted}
-use Rattle.pm_core.specs.Checks.{Cause, Checks, first_failing}
-use Rattle.pm_core.specs.State.{State}
+use Rattle.pm_calls.specs.declared.verdict.Verdict.{Verdict}
+use Rattle.pm_calls.specs.declared.verdict.Verdict.TheVariants.{Dropped, Refused, Accepted}
+use Rattle.pm_calls.specs.Checks.{Cause, Checks, first_failing}
+use Rattle.pm_state.specs.State.{State}
 use Rattle.pm_core.specs.Step.{called}
-use Rattle.pm_core.specs.Verdict.{verdict_of}
+use Rattle.pm_calls.specs.Verdict.{verdict_of}
 
 -- the seven checks of a call of the configured master at place m
 abbrev pub checks_of : ℕ → Call → State → Checks

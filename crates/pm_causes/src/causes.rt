@@ -2,7 +2,7 @@
 
 ghost use Rattle.std.specs.Prelude.{List};
 ghost use Rattle.pm_base.specs.declared.events.Event.{Event};
-ghost use Rattle.pm_core.specs.State.{State};
+ghost use Rattle.pm_state.specs.State.{State};
 ghost use Rattle.pm_core.specs.Step.{answer_to};
 ghost use Rattle.pm_run.specs.Run.{Setup, Stand, cores_of, cores_in, lines_of, run};
 ghost use Rattle.pm_causes.specs.Caused.{HasCauses, HaveCauses};

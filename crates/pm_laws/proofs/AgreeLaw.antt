@@ -3,28 +3,17 @@ use Rattle.std.proofs.Common.{◌≡◌, ℕ, ◌+◌, ◌<◌, Bool, true, fals
 use Rattle.std.specs.List.{AllByRecursion as Each}
 use Rattle.std.proofs.lemmas.List.Elements.{recursion_from_All}
 use Rattle.std.proofs.lemmas.Option.{slice_get_cases, slice_get_within}
-use Rattle.pm_base.specs.declared.names.Mode.TheVariants.{Off}
+use Rattle.pm_laws.proofs.Common.{Agree, Border, Entry, Fixed, HasNotes, IsBeyond, IsClosed, IsPairClosed, IsSound, IsUserKnown, IsWithin, Now, Object, Off, RowSeed, Same, SameKnown, SameLine, SameMasterNotes, SamePending, SameProc, SameRow, SameRows, SameTalk, State, TalkHalf, Topology, in_force, master_node, mode_at, off, owner_at}
 use Rattle.pm_procs.specs.declared.procs.Proc.{Proc}
-use Rattle.pm_procs.specs.Procs.{mode_at, off}
-use Rattle.pm_rows.specs.declared.row.RowSeed.{RowSeed}
-use Rattle.pm_rows.specs.declared.row.Entry.{Entry}
 use Rattle.pm_rows.specs.Sound.{pair_in}
-use Rattle.pm_object.specs.declared.object.Object.{Object}
 use Rattle.pm_topology.specs.declared.topology.LineDef.{LineDef}
-use Rattle.pm_topology.specs.declared.topology.Topology.{Topology}
 use Rattle.pm_perms.specs.Permits.{may_reset}
-use Rattle.pm_core.specs.Load.{load_of}
-use Rattle.pm_core.specs.Members.{owner_at}
-use Rattle.pm_core.specs.Pairs.{pairs_of}
-use Rattle.pm_core.specs.Sound.{HasNotes, IsSound}
-use Rattle.pm_core.specs.State.{Fixed, TalkHalf, Now, State, in_force}
+use Rattle.pm_state.specs.Load.{load_of}
+use Rattle.pm_state.specs.Pairs.{pairs_of}
 use Rattle.pm_notify.specs.MasterNotes.{MasterNotes}
 use Rattle.pm_notify.specs.Notify.{notes_for}
 use Rattle.pm_topology.specs.UnitMap.{units_in}
 use Rattle.pm_topology.specs.Units.{UnitLaws, rises}
-use Rattle.pm_core.specs.Views.{master_node}
-use Rattle.pm_laws.specs.Agree.{SameRow, IsWithin, SameRows, SameKnown, SameLine, SameMasterNotes, SamePending, SameProc, SameTalk, Same, Agree}
-use Rattle.pm_laws.specs.Border.{Border, IsBeyond, IsPairClosed, IsUserKnown, IsClosed}
 use Rattle.pm_laws.proofs.MasterNotesFacts.{entries_self, entries_sym, entries_trans}
 use Rattle.pm_laws.proofs.Places.{Both-sym, Both-trans, Both-self, BothFrom-sym, BothFrom-trans, BothFrom-self, Each-of_map}
 

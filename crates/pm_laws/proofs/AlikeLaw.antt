@@ -1,23 +1,14 @@
 -- What is the same of two lines whose core steps are beside one another: list by list, over the core steps of each.
 use Rattle.std.proofs.Common.{◌≡◌, ◌==◌, Bool, true, false, not, ◌&&◌, if◌then◌else◌, List, [], ◌∷◌, ◌++◌, flat_map, refl, ap, sym, ◌∙◌, subst}
-use Rattle.pm_base.specs.declared.events.Event.{Event}
-use Rattle.pm_base.specs.declared.events.Event.TheVariants.{Ipi, Pass}
-use Rattle.pm_base.specs.declared.names.NodeId.{NodeId}
+use Rattle.pm_laws.proofs.Common.{Agree, Border, Both, Event, Fixed, Ipi, IsObject, IsWellFormed, NodeId, Pass, State, border_of, none_within, place_of}
 use Rattle.pm_base.proofs.Booleans.{equal, pair_of, both as both_pass}
 use Rattle.pm_ipi.specs.Calls.{call_of}
-use Rattle.pm_object.specs.Grammar.{IsObject}
-use Rattle.pm_topology.specs.WellFormed.{IsWellFormed}
 use Rattle.pm_core.specs.declared.replies.Answer.{Answer}
-use Rattle.pm_core.specs.State.{Fixed, State}
 use Rattle.pm_run.specs.Run.{Core, IsBookOf, Line, Setup, Stand, line_of, lines_of, loaded}
-use Rattle.pm_laws.specs.Agree.{Agree}
 use Rattle.pm_laws.specs.Answers.{is_dropped, message_beyond, names_beyond, sender_beyond}
 use Rattle.pm_laws.specs.Beside.{AreBeside, IsOwn, no_core, both_cores, left_core, rest_core}
-use Rattle.pm_laws.specs.Border.{Border, none_within}
-use Rattle.pm_laws.specs.Both.{Both}
 use Rattle.pm_laws.specs.Quiet.{quiet, quiet_event}
-use Rattle.pm_laws.specs.ReachBorder.{border_of, place_of}
-use Rattle.pm_laws.specs.Told.{SameTold, TellsNothing, answers_in, asked_in, calls_in, drops_in, ends_in, is_beyond_all, is_others, late_in, listed, moves_in, pulse_in, starts_in}
+use Rattle.pm_laws.specs.Told.{SameTold, TellsNothing, answers_in, asked_in, callbacks_in, drops_in, ends_in, is_beyond_all, is_others, late_in, listed, moves_in, pulse_in, starts_in}
 use Rattle.pm_laws.specs.Values.{IsModeAlike, IsValueAlike}
 use Rattle.pm_laws.specs.Worlds.{AreWorldsAlike, AreWorldsBeside, IsLineAlike, IsLineBeside}
 use Rattle.pm_laws.proofs.BesideLaw.{CoreLaws, line_beside, lines_beside}
@@ -137,7 +128,7 @@ module _ (c : Setup) (m : NodeId) where
         asked = told (λ core. listed (asked_in border core)) (λ x y is. ap listed is.asked) (λ x is. ap listed is.asked) a b x.cores y.cores beside.cores;
         ends = told (ends_in border) (λ x y is. is.ends) (λ x is. is.ends) a b x.cores y.cores beside.cores;
         late = told (late_in border) (λ x y is. is.late) (λ x is. is.late) a b x.cores y.cores beside.cores;
-        calls = told (calls_in c.object border) (λ x y is. is.calls) (λ x is. is.calls) a b x.cores y.cores beside.cores;
+        callbacks = told (callbacks_in c.object border) (λ x y is. is.callbacks) (λ x is. is.callbacks) a b x.cores y.cores beside.cores;
         drops = drops_flat a b x.cores y.cores beside.cores;
         answers = answers_flat a b x.cores y.cores beside.cores;
       }
@@ -175,7 +166,7 @@ module _ (c : Setup) (m : NodeId) where
             asked = refl;
             ends = refl;
             late = refl;
-            calls = refl;
+            callbacks = refl;
             drops = refl;
             answers = refl;
           },

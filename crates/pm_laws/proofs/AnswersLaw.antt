@@ -1,49 +1,34 @@
 -- What masters beyond are answered in two books that agree: a message is dropped in both or in neither, and one that names
 -- nothing within is answered the same.
-use Rattle.std.proofs.Common.{◌≡◌, ℕ, Bool, true, false, not, if◌then◌else◌, Option, Some, None, refl, sym, ◌∙◌, ap, subst}
+use Rattle.std.proofs.Common.{◌≡◌, ℕ, Bool, true, false, not, if◌then◌else◌, List, [], ◌∷◌, Option, Some, None, refl, sym, ◌∙◌, ap, subst}
 use Rattle.std.specs.Prelude.{is_some, option_and_then}
-use Rattle.pm_base.specs.declared.events.Event.{Event}
-use Rattle.pm_base.specs.declared.events.Event.TheVariants.{Ipi}
+use Rattle.pm_laws.proofs.Common.{Agree, BelowLaws, Border, Called, Event, Fixed, Ipi, IsClosed, IsSound, IsWellFormed, KindLaws, Node, NodeId, Now, Same, State, Topology, Unit, acknowledged, answer_of, answered, call_in, called, effect, call_at, is_awake, may_call, kind_of, master_mode_at, none_within, outputs, place_of, point_at, response_of, verdict, verdict_by}
 use Rattle.pm_base.specs.declared.events.Message.{Message}
-use Rattle.pm_base.specs.declared.names.NodeId.{NodeId}
+use Rattle.pm_base.specs.declared.names.Unit.TheVariants.{Line}
 use Rattle.pm_base.proofs.Booleans.{both}
 use Rattle.pm_ipi.specs.declared.calls.AckKind.{AckKind}
 use Rattle.pm_ipi.specs.declared.calls.AckKind.TheVariants.{No, Blocking, NonBlocking}
 use Rattle.pm_ipi.specs.declared.calls.Call.{Call}
-use Rattle.pm_ipi.specs.declared.calls.Call.TheVariants.{ForcePowerdown, RequestSuspend, RequestWakeup, RequestNode, SetRequirement}
+use Rattle.pm_ipi.specs.declared.calls.Call.TheVariants.{GetApiVersion}
 use Rattle.pm_ipi.specs.declared.responses.Response.{Response}
-use Rattle.pm_ipi.specs.Calls.{ack_of, call_of, node_of}
-use Rattle.pm_procs.specs.Modes.{is_awake}
-use Rattle.pm_topology.specs.Places.{KindLaws, kind_of}
-use Rattle.pm_topology.specs.WellFormed.{IsWellFormed}
-use Rattle.pm_core.specs.declared.verdict.Effects.{Effects}
-use Rattle.pm_core.specs.declared.verdict.Verdict.{Verdict}
-use Rattle.pm_core.specs.declared.verdict.Verdict.TheVariants.{Dropped, Refused, Accepted}
-use Rattle.pm_core.specs.Checks.{Cause, Fits, Stands, first_failing}
-use Rattle.pm_core.specs.Verdict.{Called, response_of, verdict_by}
+use Rattle.pm_ipi.specs.Calls.{ack_of, acknowledge_of, call_of, kind_by, node_by, node_of, row_of}
+use Rattle.pm_calls.specs.declared.verdict.Effects.{Effects}
+use Rattle.pm_calls.specs.declared.verdict.Verdict.{Verdict}
+use Rattle.pm_calls.specs.declared.verdict.Verdict.TheVariants.{Dropped, Refused, Accepted}
+use Rattle.pm_calls.specs.Checks.{Cause, Fits, Stands, first_failing}
 use Rattle.pm_core.specs.declared.replies.Answer.TheVariants.{Ack}
-use Rattle.pm_core.specs.Sound.{IsSound}
-use Rattle.pm_core.specs.State.{Fixed, Now, State}
-use Rattle.pm_core.specs.Step.{acknowledged, answer_of, answered, call_in, called, effect, heard_at, is_heard, outputs, verdict}
-use Rattle.pm_core.specs.Values.{point_at}
-use Rattle.pm_core.specs.Views.{master_mode_at}
-use Rattle.pm_laws.specs.Agree.{Agree, Same}
-use Rattle.pm_laws.specs.Answers.{is_dropped, message_beyond, names_beyond, sender_beyond}
-use Rattle.pm_laws.specs.Border.{Border, IsClosed, none_within}
-use Rattle.pm_laws.specs.ReachBorder.{place_of}
+use Rattle.pm_laws.specs.Answers.{all_beyond, is_dropped, message_beyond, names_beyond, sender_beyond}
 use Rattle.pm_laws.proofs.CallsAlike.{book_of}
 use Rattle.pm_laws.proofs.FollowLaw.{mode_alike}
-use Rattle.pm_laws.proofs.HeardLaw.{heard_same as heard_both}
-use Rattle.pm_laws.proofs.JudgedLaw.{call_same, point_alike}
-use Rattle.pm_laws.proofs.RowFacts.{BelowLaws}
+use Rattle.pm_laws.proofs.MayCallLaw.{heard_same as heard_both}
+use Rattle.pm_laws.proofs.CalledAlike.{call_same, point_alike}
 use Rattle.pm_laws.proofs.StepLaw as steps
 
 -- ---- drops
 
 acknowledged_is : (kind : AckKind) (master node : NodeId) (response : Response) (after : State) → is_dropped (acknowledged kind master node response after) ≡ false
 acknowledged_is No master node response after = refl
-acknowledged_is Blocking master node response after = refl
-acknowledged_is NonBlocking master node response after = refl
+acknowledged_is _ master node response after = refl
 
 answered_is : (response : Option Response) (master : NodeId) (call : Call) (after : State) → is_dropped (answered response master call after) ≡ false
 answered_is None master call after = refl
@@ -64,6 +49,26 @@ heard_if true false o p is = cc
 heard_if false true o p is = cc
 heard_if false false o p is = refl
 
+-- ---- the node of an acknowledgement
+
+-- a call with an acknowledge kind names a node first
+abbrev is_node_first : Option ℕ → List Unit → Bool
+is_node_first None names = true
+is_node_first (Some word) (Node node ∷ names) = true
+is_node_first (Some word) _ = false
+
+names_node : (call : Call) → is_node_first (acknowledge_of call) (row_of call).names ≡ true
+names_node GetApiVersion = refl
+names_node _ = refl
+
+first_beyond : (t : Topology) (border : Border) (acknowledge : Option ℕ) (names : List Unit) → is_node_first acknowledge names ≡ true
+    → kind_by acknowledge ≡ NonBlocking → all_beyond t border names ≡ true → border.node (node_by acknowledge names).0 ≡ true
+first_beyond t border None names named wants is = cc
+first_beyond t border (Some word) [] named wants is = cc
+first_beyond t border (Some word) (Line line ∷ names) named wants is = cc
+first_beyond t border (Some word) (Node node ∷ []) named wants is = is
+first_beyond t border (Some word) (Node node ∷ next ∷ names) named wants is = (both (border.node node.0) (all_beyond t border (next ∷ names)) is).0
+
 module _ (laws : BelowLaws) (fixed : Fixed) (border : Border) (a b : Now) (same : Same fixed border a b) where
   abbrev first : State
   first = book_of fixed a
@@ -72,10 +77,10 @@ module _ (laws : BelowLaws) (fixed : Fixed) (border : Border) (a b : Now) (same 
   second = book_of fixed b
 
   heard_alike : (message : Message) (place : Option ℕ) → none_within border place ≡ true
-      → is_some (option_and_then (heard_at (call_of message) first) place) ≡ is_some (option_and_then (heard_at (call_of message) second) place)
+      → is_some (option_and_then (call_at (call_of message) first) place) ≡ is_some (option_and_then (call_at (call_of message) second) place)
   heard_alike message None beyond = refl
   heard_alike message (Some m) beyond =
-      heard_if (is_heard m first) (is_heard m second) (called m (call_of message) first) (called m (call_of message) second)
+      heard_if (may_call m first) (may_call m second) (called m (call_of message) first) (called m (call_of message) second)
       (heard_both laws fixed border m a b beyond same)
 
   drops_by : (event : Event) → sender_beyond fixed.object border event ≡ true → is_dropped (outputs event first).answer ≡ is_dropped (outputs event second).answer
@@ -90,11 +95,11 @@ module _ (laws : BelowLaws) (fixed : Fixed) (border : Border) (a b : Now) (same 
   module _ (kinds : KindLaws) (closed : IsClosed fixed.object fixed.topology border) (chip : IsWellFormed fixed.topology) where
     -- the same is heard of a message
     heard_same : (message : Message) (place : Option ℕ) → none_within border place ≡ true → names_beyond fixed.topology border (call_of message) ≡ true
-        → option_and_then (heard_at (call_of message) first) place ≡ option_and_then (heard_at (call_of message) second) place
+        → option_and_then (call_at (call_of message) first) place ≡ option_and_then (call_at (call_of message) second) place
     heard_same message None beyond is = refl
     heard_same message (Some m) beyond is =
         ap (λ heard. if heard then Some (called m (call_of message) first) else None) (heard_both laws fixed border m a b beyond same)
-        ∙ ap (λ call. if is_heard m second then Some call else None)
+        ∙ ap (λ call. if may_call m second then Some call else None)
         (call_same laws kinds fixed border closed chip a b same m (call_of message) beyond is)
 
     -- the same is answered in two books after it that agree
@@ -104,12 +109,8 @@ module _ (laws : BelowLaws) (fixed : Fixed) (border : Border) (a b : Now) (same 
 
     -- a call that wants an acknowledgement names its node
     node_beyond : (call : Call) → ack_of call ≡ NonBlocking → names_beyond fixed.topology border call ≡ true → border.node (node_of call).0 ≡ true
-    node_beyond (RequestSuspend node ack latency state) wants is = is
-    node_beyond (ForcePowerdown node ack) wants is = is
-    node_beyond (RequestWakeup node address ack) wants is = is
-    node_beyond (RequestNode node caps ack) wants is = is
-    node_beyond (SetRequirement node caps ack) wants is = is
-    node_beyond _ wants is = cc
+    node_beyond call wants is =
+        first_beyond fixed.topology border (acknowledge_of call) (row_of call).names (names_node call) wants is
 
     acknowledged_same : (kind : AckKind) (master node : NodeId) (response : Response) → none_within border (place_of fixed.object master) ≡ true
         → (kind ≡ NonBlocking → border.node node.0 ≡ true)

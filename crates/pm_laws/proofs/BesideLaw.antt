@@ -1,20 +1,10 @@
 -- Core events that are beside one another have core steps that are: from books that agree beyond the reach of a master on. So it
 -- is line by line of a run and of the run without the messages of the master.
 use Rattle.std.proofs.Common.{List, [], ◌∷◌, refl, subst}
-use Rattle.pm_base.specs.declared.events.Event.{Event}
-use Rattle.pm_base.specs.declared.events.Event.TheVariants.{Pass}
-use Rattle.pm_base.specs.declared.names.NodeId.{NodeId}
-use Rattle.pm_object.specs.Grammar.{IsObject}
-use Rattle.pm_topology.specs.WellFormed.{IsWellFormed}
-use Rattle.pm_core.specs.Sound.{IsSound}
-use Rattle.pm_core.specs.State.{Fixed, State}
-use Rattle.pm_core.specs.Step.{effect}
+use Rattle.pm_laws.proofs.Common.{Agree, Border, Event, Fixed, IsObject, IsSound, IsWellFormed, NodeId, Pass, State, border_of, effect}
 use Rattle.pm_run.specs.Run.{IsBookOf, Setup, Stand, book_after, core_of, cores_of, line_of, lines_of, split}
-use Rattle.pm_laws.specs.Agree.{Agree}
 use Rattle.pm_laws.specs.Beside.{AreBeside, Beside, IsOwn, none, both, left, rest, no_core, both_cores, left_core, rest_core}
-use Rattle.pm_laws.specs.Border.{Border}
 use Rattle.pm_laws.specs.Quiet.{quiet, quiet_event}
-use Rattle.pm_laws.specs.ReachBorder.{border_of}
 use Rattle.pm_laws.specs.Told.{SameTold, TellsNothing}
 use Rattle.pm_laws.specs.Worlds.{AreLinesBeside, IsLineBeside}
 use Rattle.pm_laws.proofs.StepApart.{by_quiet}

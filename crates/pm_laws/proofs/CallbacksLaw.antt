@@ -3,45 +3,26 @@ use Rattle.std.proofs.Common.{◌≡◌, ℕ, ◌+◌, Bool, true, false, not, �
 use Rattle.std.specs.Prelude.{filter, map}
 use Rattle.std.proofs.lemmas.Bool.{eqb-true}
 use Rattle.std.proofs.lemmas.List.Elements.{filter-append}
-use Rattle.pm_base.specs.declared.events.Event.{Event}
-use Rattle.pm_base.specs.declared.names.Mode.{Mode}
-use Rattle.pm_base.specs.declared.names.Mode.TheVariants.{Off, Active, Asleep, Suspending}
-use Rattle.pm_base.specs.declared.names.NodeId.{NodeId}
+use Rattle.pm_laws.proofs.Common.{Agree, BelowLaws, Border, Both, BothFrom, Event, Fixed, IsBeyond, IsClosed, IsObject, IsSound, KnowsModes, MasterRec, Mode, NodeId, Now, Object, Off, Same, SameEntry, SameMasterNotes, State, asks_beyond, effect, is_about_beyond, is_awake, is_hidden, is_within, mode_of_master, modes_in, news, notes_after, notes_beyond, opening, outputs, place_of, point}
 use Rattle.pm_notify.specs.declared.notes.Note.{Note}
-use Rattle.pm_notify.specs.declared.notes.Note.TheVariants.{Ack, Change, ZeroUsers}
+use Rattle.pm_notify.specs.declared.notes.Note.TheVariants.{Ack}
 use Rattle.pm_notify.specs.declared.notes.Waiting.{Waiting}
 use Rattle.pm_notify.specs.MasterNotes.{MasterNotes}
 use Rattle.pm_notify.specs.Notify.{notes_for}
-use Rattle.pm_object.specs.declared.object.MasterRec.{MasterRec}
-use Rattle.pm_object.specs.declared.object.Object.{Object}
-use Rattle.pm_object.specs.Grammar.{IsObject}
-use Rattle.pm_procs.specs.Modes.{is_awake}
-use Rattle.pm_core.specs.declared.verdict.Asked.{Asked}
-use Rattle.pm_core.specs.declared.outbox.Callback.{Callback}
-use Rattle.pm_core.specs.Callbacks.{News, asks_to, callback_by, callback_of, called_back, callbacks_from, init_suspend, notes_to, told_at_wake, told_to}
-use Rattle.pm_core.specs.Members.{mode_of_master}
-use Rattle.pm_core.specs.Sound.{IsSound, KnowsModes}
-use Rattle.pm_core.specs.State.{Fixed, Now, State}
-use Rattle.pm_core.specs.Step.{effect, notes_after, modes_in, news, opening, outputs}
-use Rattle.pm_core.specs.Values.{point}
-use Rattle.pm_laws.specs.Agree.{Agree, Same, SameEntry, SameMasterNotes}
-use Rattle.pm_laws.specs.Border.{Border, IsBeyond, IsClosed}
-use Rattle.pm_laws.specs.Both.{Both, BothFrom}
-use Rattle.pm_laws.specs.Callbacks.{calls_beyond, is_call_beyond}
-use Rattle.pm_laws.specs.Hidden.{is_hidden, is_within}
-use Rattle.pm_laws.specs.ReachBorder.{place_of}
-use Rattle.pm_laws.specs.SeenTalk.{asks_beyond, is_about_beyond, notes_beyond}
+use Rattle.pm_calls.specs.declared.verdict.Asked.{Asked}
+use Rattle.pm_tell.specs.declared.callbacks.Callback.{Callback}
+use Rattle.pm_tell.specs.Callbacks.{News, asks_to, callback_by, callback_of, called_back, callbacks_from, init_suspend, notes_to, told_at_wake, told_to}
+use Rattle.pm_laws.specs.Callbacks.{callbacks_beyond, is_callback_beyond}
 use Rattle.pm_laws.proofs.AgreeLaw.{agree_self, same_sym}
 use Rattle.pm_laws.proofs.CallsAlike.{book_of}
 use Rattle.pm_laws.proofs.HiddenLemmas.{within_by}
 use Rattle.pm_laws.proofs.EventsLaw.{hidden_fixed}
 use Rattle.pm_laws.proofs.FollowLaw.{mode_alike}
-use Rattle.pm_laws.proofs.JudgedLaw.{point_alike}
+use Rattle.pm_laws.proofs.CalledAlike.{point_alike}
 use Rattle.pm_laws.proofs.MasterNotesFacts.{master_notes_same}
 use Rattle.pm_laws.proofs.NoteChangesLaw.{NewsAlike, no_news, notes_alike, wakes_alike}
 use Rattle.pm_laws.proofs.Places.{StandsFrom, stands_first, stands_from_start, stands_later}
 use Rattle.pm_laws.proofs.Records.{own_place}
-use Rattle.pm_laws.proofs.RowFacts.{BelowLaws}
 use Rattle.pm_laws.proofs.StepLaw.{effect_alike, effect_hidden}
 use Rattle.pm_laws.proofs.TellingsLaw.{after_alike, found_alike, found_hidden, later, news_alike, news_hidden}
 
@@ -79,22 +60,21 @@ twice false = refl
 
 module _ (object : Object) (border : Border) where
   abbrev test : Callback → Bool
-  test call = is_call_beyond object border call
+  test call = is_callback_beyond object border call
 
-  beyond_append : (a b c d : List Callback) → calls_beyond object border a ≡ calls_beyond object border c → calls_beyond object border b ≡ calls_beyond object border d
-      → calls_beyond object border (a ++ b) ≡ calls_beyond object border (c ++ d)
+  beyond_append : (a b c d : List Callback) → callbacks_beyond object border a ≡ callbacks_beyond object border c → callbacks_beyond object border b ≡ callbacks_beyond object border d
+      → callbacks_beyond object border (a ++ b) ≡ callbacks_beyond object border (c ++ d)
   beyond_append a b c d first second =
       filter-append test a b
-      ∙ (ap (λ calls. calls ++ calls_beyond object border b) first
-      ∙ (ap (λ calls. calls_beyond object border c ++ calls) second ∙ sym (filter-append test c d)))
+      ∙ (ap (λ calls. calls ++ callbacks_beyond object border b) first
+      ∙ (ap (λ calls. callbacks_beyond object border c ++ calls) second ∙ sym (filter-append test c d)))
 
   module _ (k : ℕ) (master : NodeId) (place : place_of object master ≡ Some k) where
     -- ---- one callback to the master at place k
 
     note_test : (node : NodeId) (now : ℕ) (note : Note) → test (callback_by master node now note) ≡ (border.master k && border.node node.0)
     note_test node now (Ack status) = ap (λ at. not (is_within border at) && border.node node.0) place ∙ ap (λ b. b && border.node node.0) (twice (border.master k))
-    note_test node now Change = ap (λ at. not (is_within border at) && border.node node.0) place ∙ ap (λ b. b && border.node node.0) (twice (border.master k))
-    note_test node now ZeroUsers = ap (λ at. not (is_within border at) && border.node node.0) place ∙ ap (λ b. b && border.node node.0) (twice (border.master k))
+    note_test node now _ = ap (λ at. not (is_within border at) && border.node node.0) place ∙ ap (λ b. b && border.node node.0) (twice (border.master k))
 
     all : (b : Bool) → (b && true) ≡ b
     all true = refl
@@ -105,22 +85,22 @@ module _ (object : Object) (border : Border) where
 
     -- ---- a master within
 
-    asks_within : (asked : Option Asked) → border.master k ≡ false → calls_beyond object border (asks_to k master asked) ≡ []
+    asks_within : (asked : Option Asked) → border.master k ≡ false → callbacks_beyond object border (asks_to k master asked) ≡ []
     asks_within None within = refl
     asks_within (Some asked) within = at (asked.target == k)
       where
-        at : (own : Bool) → calls_beyond object border (if own then init_suspend master asked ∷ [] else []) ≡ []
+        at : (own : Bool) → callbacks_beyond object border (if own then init_suspend master asked ∷ [] else []) ≡ []
         at true = ap (λ b. cond b (init_suspend master asked ∷ []) []) (asked_test asked ∙ within)
         at false = refl
 
-    notes_within : (after : State) (due : List Waiting) → border.master k ≡ false → calls_beyond object border (map (callback_of master after) due) ≡ []
+    notes_within : (after : State) (due : List Waiting) → border.master k ≡ false → callbacks_beyond object border (map (callback_of master after) due) ≡ []
     notes_within after due within =
         none_pass test (callback_of master after) (λ w. note_test w.node (point w.node after) w.note ∙ ap (λ b. b && border.node w.node.0) within) due
 
-    called_within : (a : News) (was is : Mode) (notes : MasterNotes) (after : State) → border.master k ≡ false → calls_beyond object border (called_back a k master was is notes after) ≡ []
+    called_within : (a : News) (was is : Mode) (notes : MasterNotes) (after : State) → border.master k ≡ false → callbacks_beyond object border (called_back a k master was is notes after) ≡ []
     called_within a was is notes after within = at (is_awake is)
       where
-        at : (awake : Bool) → calls_beyond object border (if awake then told_to a k master was is notes after else []) ≡ []
+        at : (awake : Bool) → callbacks_beyond object border (if awake then told_to a k master was is notes after else []) ≡ []
         at true =
             beyond_append (map (callback_of master after) (told_at_wake was is notes)) (asks_to k master a.asked ++ map (callback_of master after) (notes_to a k notes)) [] []
             (notes_within after (told_at_wake was is notes) within)
@@ -141,10 +121,10 @@ module _ (object : Object) (border : Border) where
             ap (λ own. if own then init_suspend master asked ∷ [] else [])
             (within_by (asked.target == k) (border.master asked.target) (λ same. ap border.master (eqb-true asked.target k same) ∙ beyond) is)
 
-    notes_calls : (first second : State) (ns os : List Waiting) → IsBeyond border k → ((node : NodeId) → border.node node.0 ≡ true → point node first ≡ point node second)
+    notes_called_back : (first second : State) (ns os : List Waiting) → IsBeyond border k → ((node : NodeId) → border.node node.0 ≡ true → point node first ≡ point node second)
         → notes_beyond border ns ≡ notes_beyond border os
-        → calls_beyond object border (map (callback_of master first) ns) ≡ calls_beyond object border (map (callback_of master second) os)
-    notes_calls first second ns os beyond points same =
+        → callbacks_beyond object border (map (callback_of master first) ns) ≡ callbacks_beyond object border (map (callback_of master second) os)
+    notes_called_back first second ns os beyond points same =
         filter_map test (is_about_beyond border) (callback_of master first)
         (λ w. note_test w.node (point w.node first) w.note ∙ ap (λ b. b && border.node w.node.0) beyond) ns
         ∙ (ap (map (callback_of master first)) same
@@ -155,20 +135,20 @@ module _ (object : Object) (border : Border) where
 
     called_alike : (a b : News) (was is : Mode) (x y : MasterNotes) (first second : State) → IsBeyond border k → NewsAlike border a b → Both (SameEntry border) x y
         → ((node : NodeId) → border.node node.0 ≡ true → point node first ≡ point node second)
-        → calls_beyond object border (called_back a k master was is x first) ≡ calls_beyond object border (called_back b k master was is y second)
+        → callbacks_beyond object border (called_back a k master was is x first) ≡ callbacks_beyond object border (called_back b k master was is y second)
     called_alike a b was is x y first second beyond news notes points = at (is_awake is)
       where
         at : (awake : Bool)
-            → calls_beyond object border (if awake then told_to a k master was is x first else [])
-            ≡ calls_beyond object border (if awake then told_to b k master was is y second else [])
+            → callbacks_beyond object border (if awake then told_to a k master was is x first else [])
+            ≡ callbacks_beyond object border (if awake then told_to b k master was is y second else [])
         at true =
             beyond_append (map (callback_of master first) (told_at_wake was is x)) (asks_to k master a.asked ++ map (callback_of master first) (notes_to a k x))
             (map (callback_of master second) (told_at_wake was is y)) (asks_to k master b.asked ++ map (callback_of master second) (notes_to b k y))
-            (notes_calls first second (told_at_wake was is x) (told_at_wake was is y) beyond points (wakes_alike border was is x y notes))
+            (notes_called_back first second (told_at_wake was is x) (told_at_wake was is y) beyond points (wakes_alike border was is x y notes))
             (beyond_append (asks_to k master a.asked) (map (callback_of master first) (notes_to a k x)) (asks_to k master b.asked) (map (callback_of master second) (notes_to b k y))
-            (ap (calls_beyond object border)
+            (ap (callbacks_beyond object border)
             (asked_alone a.asked beyond ∙ (ap (asks_to k master) news.asked ∙ sym (asked_alone b.asked beyond))))
-            (notes_calls first second (notes_to a k x) (notes_to b k y) beyond points (notes_alike border a b k x y news notes)))
+            (notes_called_back first second (notes_to a k x) (notes_to b k y) beyond points (notes_alike border a b k x y news notes)))
         at false = refl
 
 -- ---- all masters
@@ -186,46 +166,44 @@ module _ (object : Object) (formed : IsObject object) (border : Border) (a b : N
   mode_second k = mode_of_master second.fixed second.now.core k
 
   at_alike : (k : ℕ) (master : NodeId) (is : Bool) → place_of object master ≡ Some k → border.master k ≡ is
-      → calls_beyond object border (called_back a k master (was k) (mode_first k) (notes_for k xs) first)
-      ≡ calls_beyond object border (called_back b k master (were k) (mode_second k) (notes_for k ys) second)
+      → callbacks_beyond object border (called_back a k master (was k) (mode_first k) (notes_for k xs) first)
+      ≡ callbacks_beyond object border (called_back b k master (were k) (mode_second k) (notes_for k ys) second)
   at_alike k master true place is =
-      ap (λ mode. calls_beyond object border (called_back a k master mode (mode_first k) (notes_for k xs) first)) (before k is)
-      ∙ (ap (λ mode. calls_beyond object border (called_back a k master (were k) mode (notes_for k xs) first)) (now k is)
+      ap (λ mode. callbacks_beyond object border (called_back a k master mode (mode_first k) (notes_for k xs) first)) (before k is)
+      ∙ (ap (λ mode. callbacks_beyond object border (called_back a k master (were k) mode (notes_for k xs) first)) (now k is)
       ∙ called_alike object border k master place a b (were k) (mode_second k) (notes_for k xs) (notes_for k ys) first second is (news k is) (master_notes_same border k xs ys is notes).each points)
   at_alike k master false place is =
       called_within object border k master place a (was k) (mode_first k) (notes_for k xs) first is
       ∙ sym (called_within object border k master place b (were k) (mode_second k) (notes_for k ys) second is)
 
-  calls_alike : (k : ℕ) (masters : List MasterRec) → StandsFrom object.masters k masters
-      → calls_beyond object border (callbacks_from a was xs first k masters) ≡ calls_beyond object border (callbacks_from b were ys second k masters)
-  calls_alike k [] stands = refl
-  calls_alike k (master ∷ masters) stands =
+  callbacks_alike : (k : ℕ) (masters : List MasterRec) → StandsFrom object.masters k masters
+      → callbacks_beyond object border (callbacks_from a was xs first k masters) ≡ callbacks_beyond object border (callbacks_from b were ys second k masters)
+  callbacks_alike k [] stands = refl
+  callbacks_alike k (master ∷ masters) stands =
       beyond_append object border (called_back a k (record { 0 = master.node }) (was k) (mode_first k) (notes_for k xs) first) (callbacks_from a was xs first (k + 1) masters)
       (called_back b k (record { 0 = master.node }) (were k) (mode_second k) (notes_for k ys) second) (callbacks_from b were ys second (k + 1) masters)
       (at_alike k (record { 0 = master.node }) (border.master k) (own_place object formed k master (stands_first object.masters k master masters stands)) refl)
-      (calls_alike (k + 1) masters (stands_later object.masters k master masters stands))
+      (callbacks_alike (k + 1) masters (stands_later object.masters k master masters stands))
 
 -- ---- where nothing is told and no mode changes
 
 rests_at : (k : ℕ) (master : NodeId) (mode : Mode) (x : MasterNotes) (after : State) → called_back no_news k master mode mode x after ≡ []
 rests_at k master Off x after = refl
-rests_at k master Active x after = refl
-rests_at k master Asleep x after = refl
-rests_at k master Suspending x after = refl
+rests_at k master _ x after = refl
 
-calls_rest : (xs : List MasterNotes) (still : State) (k : ℕ) (masters : List MasterRec)
+callbacks_rest : (xs : List MasterNotes) (still : State) (k : ℕ) (masters : List MasterRec)
     → callbacks_from no_news (mode_of_master still.fixed still.now.core) xs still k masters ≡ []
-calls_rest xs still k [] = refl
-calls_rest xs still k (master ∷ masters) =
+callbacks_rest xs still k [] = refl
+callbacks_rest xs still k (master ∷ masters) =
     ap (λ calls. calls ++ callbacks_from no_news (mode_of_master still.fixed still.now.core) xs still (k + 1) masters)
     (rests_at k (record { 0 = master.node }) (mode_of_master still.fixed still.now.core k) (notes_for k xs) still)
-    ∙ calls_rest xs still (k + 1) masters
+    ∙ callbacks_rest xs still (k + 1) masters
 
 -- ---- events
 
 module _ (laws : BelowLaws) (border : Border) (event : Event) (fixed : Fixed) (closed : IsClosed fixed.object fixed.topology border) (formed : IsObject fixed.object) where
   abbrev Calls : Now → List Callback
-  Calls now = calls_beyond fixed.object border (outputs event (book_of fixed now)).calls
+  Calls now = callbacks_beyond fixed.object border (outputs event (book_of fixed now)).callbacks
 
   alike : (a b : Now) → IsSound (book_of fixed a) → IsSound (book_of fixed b) → is_hidden border event (book_of fixed a) ≡ false → Same fixed border a b → Calls a ≡ Calls b
   alike a b sound_a sound_b is same =
@@ -233,7 +211,7 @@ module _ (laws : BelowLaws) (border : Border) (event : Event) (fixed : Fixed) (c
       let second : State = book_of fixed b in
       let after = after_alike laws border event fixed closed a b sound_a is same in
       let ends : Same fixed border (effect event first).now (effect event second).now = (effect_alike laws fixed border closed event a b sound_a sound_b is same).now in
-      calls_alike fixed.object formed border (news event first) (news event second)
+      callbacks_alike fixed.object formed border (news event first) (news event second)
       (λ k beyond. news_alike laws border event fixed closed a b (closed.some k beyond) sound_a sound_b is same after)
       (modes_in first) (modes_in second) (effect event first) (effect event second)
       (notes_after (opening event first) (later event fixed a)) (notes_after (opening event second) (later event fixed b))
@@ -252,7 +230,7 @@ module _ (laws : BelowLaws) (border : Border) (event : Event) (fixed : Fixed) (c
       let ends : Same fixed border (effect event first).now still =
       same_sym fixed border still (effect event first).now (effect_hidden laws fixed border closed event still now sound knows is same).now
       in
-      calls_alike fixed.object formed border (news event first) no_news
+      callbacks_alike fixed.object formed border (news event first) no_news
       (λ k beyond. news_hidden laws border event fixed closed still now (closed.some k beyond) sound knows is same)
       (modes_in first) (modes_in second) (effect event first) second
       (notes_after (opening event first) (later event fixed now)) still.talk.notes
@@ -261,7 +239,7 @@ module _ (laws : BelowLaws) (border : Border) (event : Event) (fixed : Fixed) (c
       (found_hidden laws border event fixed closed still now knows is same)
       (λ node told. point_alike fixed border closed (effect event first).now still ends node told)
       0 fixed.object.masters (stands_from_start fixed.object.masters)
-      ∙ ap (calls_beyond fixed.object border) (calls_rest still.talk.notes second 0 fixed.object.masters)
+      ∙ ap (callbacks_beyond fixed.object border) (callbacks_rest still.talk.notes second 0 fixed.object.masters)
 
   by_shape : (a b : Now) (shape : Bool) → is_hidden border event (book_of fixed a) ≡ shape → IsSound (book_of fixed a) → IsSound (book_of fixed b) → Same fixed border a b → Calls a ≡ Calls b
   by_shape a b false is sound_a sound_b same = alike a b sound_a sound_b is same
@@ -272,16 +250,16 @@ module _ (laws : BelowLaws) (border : Border) (event : Event) (fixed : Fixed) (c
 -- the same callbacks are made in both
 pub callbacks_agree : BelowLaws → (border : Border) (event : Event) (a b : State) → IsObject a.fixed.object → IsClosed a.fixed.object a.fixed.topology border
     → IsSound a → IsSound b → Agree border a b
-    → calls_beyond a.fixed.object border (outputs event a).calls ≡ calls_beyond a.fixed.object border (outputs event b).calls
+    → callbacks_beyond a.fixed.object border (outputs event a).callbacks ≡ callbacks_beyond a.fixed.object border (outputs event b).callbacks
 callbacks_agree laws border event a b formed closed sound_a sound_b agree =
     let P : Fixed → Type 0 = λ fixed. IsSound (book_of fixed b.now)
-    → calls_beyond a.fixed.object border (outputs event a).calls ≡ calls_beyond a.fixed.object border (outputs event (book_of fixed b.now)).calls
+    → callbacks_beyond a.fixed.object border (outputs event a).callbacks ≡ callbacks_beyond a.fixed.object border (outputs event (book_of fixed b.now)).callbacks
     in
     subst P agree.fixed (λ sound. by_shape laws border event a.fixed closed formed a.now b.now (is_hidden border event a) refl sound_a sound agree.now) sound_b
 
 -- and a hidden event makes none
 pub callbacks_hidden : BelowLaws → (border : Border) (event : Event) (book : State) → IsObject book.fixed.object → IsClosed book.fixed.object book.fixed.topology border
     → IsSound book → is_hidden border event book ≡ true
-    → calls_beyond book.fixed.object border (outputs event book).calls ≡ []
+    → callbacks_beyond book.fixed.object border (outputs event book).callbacks ≡ []
 callbacks_hidden laws border event book formed closed sound is =
     hidden laws border event book.fixed closed formed book.now book.now sound sound.knows is (agree_self laws.units border book closed sound).now

@@ -2,49 +2,31 @@
 use Rattle.std.proofs.Common.{◌≡◌, ℕ, Bool, true, false, not, ◌&&◌, ◌==◌, if◌then◌else◌, List, [], ◌∷◌, Option, Some, None, refl, sym, ◌∙◌, ap, subst, arith}
 use Rattle.std.specs.Prelude.{find, is_some, option_map, cond}
 use Rattle.std.proofs.lemmas.Bool.{eqb-true}
-use Rattle.pm_base.specs.declared.names.NodeId.{NodeId}
+use Rattle.pm_laws.proofs.Common.{Agree, AreAlike, BelowLaws, Border, Both, Entry, Fixed, IsBeyond, IsClosed, IsSeenAlike, Kind, NodeId, Now, Prim, RowSeed, Same, SamePending, SameRow, SameRows, State, called, can_suspend, can_wake, changes_within, changing, is_asked, is_place, is_slave_within, is_within, kind_of, master_node, master_timeout, mode_of_master, named_master, names_master, owner_at, owner_by, proc_at, proc_view, proc_view_at, rival_node, row_view, row_view_at, shape_within, stages_of, suspend_view, suspendable, suspendable_at, wake_view, wake_view_at, wakeable, watched_at}
 use Rattle.pm_base.proofs.Booleans.{both, equal}
 use Rattle.pm_ipi.specs.declared.calls.Call.{Call}
-use Rattle.pm_ipi.specs.declared.calls.Call.TheVariants.{GetNodeStatus, RegisterNotifier, GetOpCharacteristic, ResetGetStatus, RequestSuspend, SelfSuspend, AbortSuspend, RequestWakeup, SetWakeupSource, RequestNode, ReleaseNode, SetRequirement, SetMaxLatency}
 use Rattle.pm_procs.specs.declared.procs.Proc.{Proc as Processor}
 use Rattle.pm_procs.specs.Pending.{pending_at}
-use Rattle.pm_procs.specs.Procs.{proc_at}
-use Rattle.pm_rows.specs.declared.row.Entry.{Entry}
 use Rattle.pm_rows.specs.declared.row.Row.{Row}
-use Rattle.pm_rows.specs.declared.row.RowSeed.{RowSeed}
 use Rattle.pm_rows.specs.Rows.{entry_at, is_at, is_rival}
 use Rattle.pm_rows.specs.Sound.{pair_in}
-use Rattle.pm_core.specs.declared.views.ProcView.{ProcView}
-use Rattle.pm_core.specs.declared.views.RowView.{RowView}
-use Rattle.pm_topology.specs.declared.places.Kind.{Kind}
-use Rattle.pm_topology.specs.declared.places.Kind.TheVariants.{Proc, Slave, Power, Unknown}
-use Rattle.pm_topology.specs.Places.{kind_of}
-use Rattle.pm_core.specs.Members.{is_place, mode_of_master, owner_at, owns}
-use Rattle.pm_core.specs.Prims.{Prim}
-use Rattle.pm_core.specs.State.{Fixed, Now, State}
-use Rattle.pm_core.specs.Step.{called}
-use Rattle.pm_core.specs.Values.{slave_place}
-use Rattle.pm_core.specs.Verdict.{stages_of}
-use Rattle.pm_core.specs.Views.{can_suspend, can_wake, is_asked, master_node, master_timeout, named_master, names_master, proc_view, proc_view_at, rival_node, row_view, row_view_at, suspend_view, suspendable, suspendable_at, wake_view, wake_view_at, wakeable, watched_at}
-use Rattle.pm_core.specs.calls.AbortSuspend.{abort_suspend}
-use Rattle.pm_core.specs.calls.RegisterNotifier.{register_notifier}
-use Rattle.pm_core.specs.calls.ReleaseNode.{release_node}
-use Rattle.pm_core.specs.calls.RequestNode.{request_node}
-use Rattle.pm_core.specs.calls.RequestSuspend.{request_suspend}
-use Rattle.pm_core.specs.calls.RequestWakeup.{request_wakeup}
-use Rattle.pm_core.specs.calls.SelfSuspend.{self_suspend}
-use Rattle.pm_core.specs.calls.SetMaxLatency.{set_max_latency}
-use Rattle.pm_core.specs.calls.SetRequirement.{set_requirement}
-use Rattle.pm_core.specs.calls.SetWakeupSource.{set_wakeup_source}
-use Rattle.pm_core.proofs.Verdicts.{nothing_done}
-use Rattle.pm_laws.specs.Agree.{SamePending, SameRow, SameRows, Same, Agree}
-use Rattle.pm_laws.specs.Border.{Border, IsBeyond, IsClosed}
-use Rattle.pm_laws.specs.Both.{Both}
-use Rattle.pm_laws.specs.Hidden.{is_slave_within, is_within, owner_by, changes_within}
-use Rattle.pm_laws.specs.Seen.{AreAlike, IsSeenAlike}
+use Rattle.pm_calls.specs.declared.views.ProcView.{ProcView}
+use Rattle.pm_calls.specs.declared.views.RowView.{RowView}
+use Rattle.pm_topology.specs.declared.places.Kind.TheVariants.{Proc}
+use Rattle.pm_state.specs.Members.{owns}
+use Rattle.pm_state.specs.Values.{slave_place}
+use Rattle.pm_calls.specs.RowCalls.{row_changes}
+use Rattle.pm_calls.specs.calls.AbortSuspend.{abort_suspend}
+use Rattle.pm_calls.specs.calls.RegisterNotifier.{register_notifier}
+use Rattle.pm_calls.specs.calls.RequestSuspend.{request_suspend}
+use Rattle.pm_calls.specs.calls.RequestWakeup.{request_wakeup}
+use Rattle.pm_calls.specs.calls.SelfSuspend.{self_suspend}
+use Rattle.pm_calls.specs.calls.SetWakeupSource.{set_wakeup_source}
+use Rattle.pm_calls.proofs.Verdicts.{nothing_done}
+use Rattle.pm_laws.specs.Shapes.{Shape, Node_status, Node_figures, Line_value, Own_row, Own_arming, Own_suspend, Own_abort, Own_notifier, Other_wakeup, Other_suspend, shape_of, shaped}
+use Rattle.pm_laws.proofs.ShapesLaw.{called_shaped, reads_within}
 use Rattle.pm_laws.proofs.AgreeLaw.{clash}
 use Rattle.pm_laws.proofs.FollowLaw.{mode_alike, proc_alike}
-use Rattle.pm_laws.proofs.RowFacts.{BelowLaws}
 use Rattle.pm_laws.proofs.Places.{Both-find, Both-refl, BothFrom-get}
 use Rattle.pm_laws.proofs.RowFacts.{no_rival, rival_alike}
 
@@ -107,9 +89,7 @@ own_alike fixed border m p a b false is beyond same = refl
 proc_view_alike : (fixed : Fixed) (border : Border) (m : ℕ) (kind : Kind) (a b : Now) → IsBeyond border m → Same fixed border a b → proc_view_at m kind (book_of fixed a) ≡ proc_view_at m kind (book_of fixed b)
 proc_view_alike fixed border m (Proc p) a b beyond same =
     ap (λ (own : Option Processor). record { place = Some p; own = own }) (own_alike fixed border m p a b (owns fixed.object fixed.topology m p) refl beyond same)
-proc_view_alike fixed border m (Slave s) a b beyond same = refl
-proc_view_alike fixed border m (Power w) a b beyond same = refl
-proc_view_alike fixed border m Unknown a b beyond same = refl
+proc_view_alike fixed border m _ a b beyond same = refl
 
 -- ---- the view of a processor that is to wake
 
@@ -123,9 +103,7 @@ wake_owner fixed border m p (Some k) a b owner is same =
 pub wake_alike : (fixed : Fixed) (border : Border) (m : ℕ) (kind : Kind) (a b : Now) → is_within border (owner_by kind (book_of fixed a)) ≡ false → Same fixed border a b → wake_view_at m kind (book_of fixed a) ≡ wake_view_at m kind (book_of fixed b)
 wake_alike fixed border m (Proc p) a b is same =
     ap (λ target. record { place = Some p; target = target }) (wake_owner fixed border m p (owner_at fixed.object fixed.topology p) a b refl is same)
-wake_alike fixed border m (Slave s) a b is same = refl
-wake_alike fixed border m (Power w) a b is same = refl
-wake_alike fixed border m Unknown a b is same = refl
+wake_alike fixed border m _ a b is same = refl
 
 -- ---- the view of a master that is asked to suspend
 
@@ -184,61 +162,61 @@ source_alike fixed border m node enable target (Some s) a b some same =
 
 pub watched_same : (fixed : Fixed) (m : ℕ) (node : NodeId) (kind : Kind) (a b : Now) → watched_at m node kind (book_of fixed a) ≡ watched_at m node kind (book_of fixed b)
 watched_same fixed m node (Proc p) a b = refl
-watched_same fixed m node (Slave s) a b = refl
-watched_same fixed m node (Power w) a b = refl
-watched_same fixed m node Unknown a b = refl
+watched_same fixed m node _ a b = refl
 
 -- ---- calls
 
--- a call that asks a master beyond to suspend, and one of a master beyond that aborts its own suspend, come to the same
-pub asks_alike : BelowLaws → (fixed : Fixed) (border : Border) (m ack latency state : ℕ) (node : NodeId) (a b : Now) → is_within border (named_master fixed node) ≡ false → Same fixed border a b → called m (RequestSuspend node ack latency state) (book_of fixed a) ≡ called m (RequestSuspend node ack latency state) (book_of fixed b)
-asks_alike laws fixed border m ack latency state node a b is same =
-    ap (request_suspend m node ack latency state) (suspend_alike laws fixed border m node a b is same)
+module _ (laws : BelowLaws) (fixed : Fixed) (border : Border) (m : ℕ) (a b : Now) (beyond : IsBeyond border m)
+    (same : Same fixed border a b) where
+  abbrev first : State
+  first = book_of fixed a
 
-pub aborts_alike : (fixed : Fixed) (border : Border) (m reason : ℕ) (node : NodeId) (a b : Now) → IsBeyond border m → Same fixed border a b → called m (AbortSuspend node reason) (book_of fixed a) ≡ called m (AbortSuspend node reason) (book_of fixed b)
-aborts_alike fixed border m reason node a b beyond same =
-    ap (abort_suspend m reason (is_asked m (book_of fixed a))) (proc_view_alike fixed border m (kind_of fixed.topology node) a b beyond same)
-    ∙ ap (λ pending. abort_suspend m reason (is_some pending) (proc_view m node (book_of fixed b))) (pending_alike fixed border m a b beyond same)
+  abbrev second : State
+  second = book_of fixed b
 
--- a call for a notifier comes to the same, whatever it names
-pub registers_alike : (fixed : Fixed) (m event wake enable : ℕ) (node : NodeId) (a b : Now) → called m (RegisterNotifier node event wake enable) (book_of fixed a) ≡ called m (RegisterNotifier node event wake enable) (book_of fixed b)
-registers_alike fixed m event wake enable node a b =
-    ap (register_notifier m node event enable) (watched_same fixed m node (kind_of fixed.topology node) a b)
+  -- a call of a master beyond that changes nothing within, and can read nothing there
+  shape_same : (shape : Shape) → reads_within shape ≡ false → shape_within border shape first ≡ false → shaped m shape first ≡ shaped m shape second
+  shape_same (Own_row node by call) blind plain =
+      ap (λ mode. changing (call mode (row_view m node first)).checks (row_changes (by mode) (row_view m node first))) (mode_alike laws fixed border m a b beyond same)
+      ∙ ap (λ view. changing (call (mode_of_master fixed b.core m) view).checks (row_changes (by (mode_of_master fixed b.core m)) view))
+      (row_view_alike fixed border m (slave_place node first) a b (same.some m beyond) plain same)
+  shape_same (Own_suspend node address) blind plain =
+      ap (self_suspend m address) (proc_view_alike fixed border m (kind_of fixed.topology node) a b beyond same)
+  shape_same (Own_abort node reason) blind plain =
+      ap (abort_suspend m reason (is_asked m first)) (proc_view_alike fixed border m (kind_of fixed.topology node) a b beyond same)
+      ∙ ap (λ pending. abort_suspend m reason (is_some pending) (proc_view m node second)) (pending_alike fixed border m a b beyond same)
+  shape_same (Own_notifier node event enable) blind plain =
+      ap (register_notifier m node event enable) (watched_same fixed m node (kind_of fixed.topology node) a b)
+  shape_same (Other_wakeup node address ack) blind plain =
+      ap (request_wakeup address ack) (wake_alike fixed border m (kind_of fixed.topology node) a b plain same)
+  shape_same (Other_suspend node ack latency state) blind plain =
+      ap (request_suspend m node ack latency state) (suspend_alike laws fixed border m node a b plain same)
+  shape_same (Node_status node call) blind plain = cc
+  shape_same (Node_figures node call) blind plain = cc
+  shape_same (Line_value line call) blind plain = cc
+  shape_same (Own_arming target source enable) blind plain = cc
+  shape_same _ blind plain = refl
 
-called_alike : BelowLaws → (fixed : Fixed) (border : Border) (m : ℕ) (call : Call) (a b : Now) → IsBeyond border m → border.some ≡ true → changes_within border call (book_of fixed a) ≡ false → Same fixed border a b → stages_of (called m call (book_of fixed a)) ≡ stages_of (called m call (book_of fixed b))
-called_alike laws fixed border m (GetNodeStatus node) a b beyond some plain same =
-    nothing_done (called m (GetNodeStatus node) (book_of fixed a)) refl ∙ sym (nothing_done (called m (GetNodeStatus node) (book_of fixed b)) refl)
-called_alike laws fixed border m (RegisterNotifier node event wake enable) a b beyond some plain same =
-    ap stages_of (registers_alike fixed m event wake enable node a b)
-called_alike laws fixed border m (GetOpCharacteristic node characteristic) a b beyond some plain same =
-    nothing_done (called m (GetOpCharacteristic node characteristic) (book_of fixed a)) refl ∙ sym (nothing_done (called m (GetOpCharacteristic node characteristic) (book_of fixed b)) refl)
-called_alike laws fixed border m (ResetGetStatus line) a b beyond some plain same =
-    nothing_done (called m (ResetGetStatus line) (book_of fixed a)) refl ∙ sym (nothing_done (called m (ResetGetStatus line) (book_of fixed b)) refl)
-called_alike laws fixed border m (SelfSuspend node address) a b beyond some plain same =
-    ap (λ view. stages_of (self_suspend m address view)) (proc_view_alike fixed border m (kind_of fixed.topology node) a b beyond same)
-called_alike laws fixed border m (RequestSuspend node ack latency state) a b beyond some plain same =
-    ap stages_of (asks_alike laws fixed border m ack latency state node a b plain same)
-called_alike laws fixed border m (AbortSuspend node reason) a b beyond some plain same =
-    ap stages_of (aborts_alike fixed border m reason node a b beyond same)
-called_alike laws fixed border m (RequestWakeup node address ack) a b beyond some plain same =
-    ap (λ view. stages_of (request_wakeup address ack view)) (wake_alike fixed border m (kind_of fixed.topology node) a b plain same)
-called_alike laws fixed border m (SetWakeupSource target source enable) a b beyond some plain same =
-    ap (λ view. arm_stages target enable view (row_view m source (book_of fixed a))) (proc_view_alike fixed border m (kind_of fixed.topology target) a b beyond same)
-    ∙ source_alike fixed border m target enable (proc_view m target (book_of fixed b)) (slave_place source (book_of fixed a)) a b some same
-called_alike laws fixed border m (RequestNode node caps ack) a b beyond some plain same =
-    ap (λ view. stages_of (request_node caps ack view)) (row_view_alike fixed border m (slave_place node (book_of fixed a)) a b some plain same)
-called_alike laws fixed border m (ReleaseNode node) a b beyond some plain same =
-    ap (λ view. stages_of (release_node view)) (row_view_alike fixed border m (slave_place node (book_of fixed a)) a b some plain same)
-called_alike laws fixed border m (SetRequirement node caps ack) a b beyond some plain same =
-    ap (λ mode. stages_of (set_requirement mode caps ack (row_view m node (book_of fixed a)))) (mode_alike laws fixed border m a b beyond same)
-    ∙ ap (λ view. stages_of (set_requirement (mode_of_master fixed b.core m) caps ack view)) (row_view_alike fixed border m (slave_place node (book_of fixed a)) a b some plain same)
-called_alike laws fixed border m (SetMaxLatency node latency) a b beyond some plain same =
-    ap (λ view. stages_of (set_max_latency latency view)) (row_view_alike fixed border m (slave_place node (book_of fixed a)) a b some plain same)
-called_alike laws fixed border m _ a b beyond some plain same = refl
+  pub called_same : (call : Call) → reads_within (shape_of call) ≡ false → changes_within border call first ≡ false → called m call first ≡ called m call second
+  called_same call blind plain = called_shaped m call first ∙ (shape_same (shape_of call) blind plain ∙ sym (called_shaped m call second))
 
-pub call_alike : BelowLaws → (fixed : Fixed) (border : Border) (m : ℕ) (call : Call) (a b : Now) → IsBeyond border m → border.some ≡ true → changes_within border call (book_of fixed a) ≡ false → Same fixed border a b → AreAlike border (stages_of (called m call (book_of fixed a))) (stages_of (called m call (book_of fixed b)))
-call_alike laws fixed border m call a b beyond some plain same =
-    alike_of border (stages_of (called m call (book_of fixed a))) (stages_of (called m call (book_of fixed b))) (called_alike laws fixed border m call a b beyond some plain same)
+  -- its stages are the same, whatever it reads
+  shape_stages : (shape : Shape) → shape_within border shape first ≡ false → stages_of (shaped m shape first) ≡ stages_of (shaped m shape second)
+  shape_stages (Own_arming target source enable) plain =
+      ap (λ view. arm_stages target enable view (row_view m source first)) (proc_view_alike fixed border m (kind_of fixed.topology target) a b beyond same)
+      ∙ source_alike fixed border m target enable (proc_view m target second) (slave_place source first) a b (same.some m beyond) same
+  shape_stages (Node_status node call) plain =
+      nothing_done (shaped m (Node_status node call) first) refl ∙ sym (nothing_done (shaped m (Node_status node call) second) refl)
+  shape_stages (Node_figures node call) plain =
+      nothing_done (shaped m (Node_figures node call) first) refl ∙ sym (nothing_done (shaped m (Node_figures node call) second) refl)
+  shape_stages (Line_value line call) plain =
+      nothing_done (shaped m (Line_value line call) first) refl ∙ sym (nothing_done (shaped m (Line_value line call) second) refl)
+  shape_stages shape plain = ap stages_of (shape_same shape refl plain)
+
+  pub call_alike : (call : Call) → changes_within border call first ≡ false → AreAlike border (stages_of (called m call first)) (stages_of (called m call second))
+  call_alike call plain =
+      alike_of border (stages_of (called m call first)) (stages_of (called m call second))
+      (ap stages_of (called_shaped m call first) ∙ (shape_stages (shape_of call) plain ∙ sym (ap stages_of (called_shaped m call second))))
 
 -- ---- books
 

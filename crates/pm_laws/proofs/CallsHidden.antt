@@ -3,50 +3,32 @@
 use Rattle.std.proofs.Common.{◌≡◌, ℕ, Bool, true, false, not, ◌&&◌, ◌||◌, ◌==◌, if◌then◌else◌, List, [], ◌∷◌, Option, Some, None, refl, sym, ◌∙◌, ap, subst, inl, inr}
 use Rattle.std.specs.Prelude.{unwrap_or}
 use Rattle.std.proofs.lemmas.Bool.{eqb-true}
-use Rattle.pm_base.specs.declared.names.Mode.{Mode}
-use Rattle.pm_base.specs.declared.names.Mode.TheVariants.{Active, Suspending}
+use Rattle.pm_laws.proofs.Common.{Active, AreHidden, At_row, Border, Called, Entry, IsUnseen, Kind, KindLaws, Mode, Prim, Put_proc, Settle, State, Suspending, called, can_wake, changes_within, changing, in_force, is_arming, is_asked, is_slave_within, is_within, kind_of, master_node, mode_of_master, owner_at, owner_by, proc_at, proc_view, row_view_at, shape_within, stages_by, stages_of, suspend_view, wake_view, wake_view_at, wakeable}
 use Rattle.pm_base.proofs.Booleans.{both, either}
-use Rattle.pm_topology.specs.declared.places.Kind.{Kind}
-use Rattle.pm_topology.specs.declared.places.Kind.TheVariants.{Proc, Slave, Power, Unknown as NoNode}
-use Rattle.pm_topology.specs.Places.{KindLaws, kind_of}
+use Rattle.pm_topology.specs.declared.places.Kind.TheVariants.{Proc}
 use Rattle.pm_procs.specs.declared.procs.Proc.{Proc as Processor}
-use Rattle.pm_procs.specs.Procs.{proc_at}
 use Rattle.pm_perms.specs.Permits.{may_wake}
 use Rattle.pm_base.proofs.Counts.{split}
 use Rattle.pm_ipi.specs.declared.calls.Call.{Call}
-use Rattle.pm_ipi.specs.declared.calls.Call.TheVariants.{RequestSuspend, SelfSuspend, ForcePowerdown, AbortSuspend, RequestWakeup, SetWakeupSource, SystemShutdown, RequestNode, ReleaseNode, SetRequirement, SetMaxLatency, ResetAssert, InitFinalize, Unknown}
 use Rattle.pm_rows.specs.declared.row.Change.{Change}
-use Rattle.pm_rows.specs.declared.row.Change.TheVariants.{Request, Release, Set, Limit}
-use Rattle.pm_rows.specs.declared.row.Entry.{Entry}
 use Rattle.pm_rows.specs.Rows.{entry_at, is_at}
-use Rattle.pm_core.specs.declared.views.ProcView.{ProcView}
-use Rattle.pm_core.specs.declared.views.RowView.{RowView}
-use Rattle.pm_core.specs.Members.{mode_of_master, owner_at}
-use Rattle.pm_core.specs.Checks.{Cause, Fits, Stands, first_failing}
-use Rattle.pm_core.specs.Prims.{Prim, At_row, Settle, Put_proc}
-use Rattle.pm_core.specs.ProcCalls.{address_in, is_in, proc_changes, put_at}
-use Rattle.pm_core.specs.RowCalls.{changes_of, row_changes}
-use Rattle.pm_core.specs.State.{State, in_force}
-use Rattle.pm_core.specs.Step.{called}
-use Rattle.pm_core.specs.Values.{slave_place}
-use Rattle.pm_core.specs.Verdict.{Called, stages_by, stages_of}
-use Rattle.pm_core.specs.Views.{can_wake, is_asked, master_node, proc_view, row_view_at, suspend_view, wake_view, wake_view_at, wakeable}
-use Rattle.pm_core.specs.calls.AbortSuspend.{abort_suspend}
-use Rattle.pm_core.specs.calls.InitFinalize.{init_finalize}
-use Rattle.pm_core.specs.calls.ReleaseNode.{release_node}
-use Rattle.pm_core.specs.calls.RequestNode.{request_node}
-use Rattle.pm_core.specs.calls.RequestSuspend.{request_suspend}
-use Rattle.pm_core.specs.calls.RequestWakeup.{request_wakeup, woken_to}
-use Rattle.pm_core.specs.calls.SelfSuspend.{self_suspend}
-use Rattle.pm_core.specs.calls.SetMaxLatency.{set_max_latency}
-use Rattle.pm_core.specs.calls.SetRequirement.{set_requirement}
-use Rattle.pm_core.specs.calls.SetWakeupSource.{arming, set_wakeup_source}
-use Rattle.pm_laws.specs.Border.{Border}
-use Rattle.pm_laws.specs.Hidden.{is_slave_within, is_within, owner_by, changes_within}
+use Rattle.pm_calls.specs.declared.views.ProcView.{ProcView}
+use Rattle.pm_calls.specs.declared.views.RowView.{RowView}
+use Rattle.pm_calls.specs.Checks.{Cause, Fits, Stands, first_failing}
+use Rattle.pm_calls.specs.ProcCalls.{address_in, is_in, proc_changes, put_at}
+use Rattle.pm_calls.specs.RowCalls.{changes_of, row_changes}
+use Rattle.pm_state.specs.Values.{slave_place}
+use Rattle.pm_calls.specs.calls.AbortSuspend.{abort_suspend}
+use Rattle.pm_calls.specs.calls.InitFinalize.{init_finalize}
+use Rattle.pm_calls.specs.calls.RequestSuspend.{request_suspend}
+use Rattle.pm_calls.specs.calls.RequestWakeup.{request_wakeup, woken_to}
+use Rattle.pm_calls.specs.calls.SelfSuspend.{self_suspend}
+use Rattle.pm_calls.specs.calls.SetWakeupSource.{arming, set_wakeup_source}
 use Rattle.pm_laws.proofs.ResetLaw.{reset_hidden}
-use Rattle.pm_laws.specs.Seen.{is_arming, IsUnseen, AreHidden}
 use Rattle.pm_laws.proofs.DownHidden.{force_hidden, shutdown_hidden}
 use Rattle.pm_laws.proofs.HiddenLemmas.{HasClosed, one_hidden, within_by}
+use Rattle.pm_laws.specs.Shapes.{Shape, Own_row, Own_arming, Own_holds, Own_suspend, Own_abort, Other_wakeup, Other_suspend, All_forced, All_shut, All_reset, shape_of, shaped}
+use Rattle.pm_laws.proofs.ShapesLaw.{IsUnarmed, called_shaped, shape_unarmed}
 
 -- a call hides if its changes do
 hidden_by : (border : Border) (cause : Cause) (stages : List (List Prim)) → AreHidden border stages → AreHidden border (stages_by cause stages)
@@ -55,6 +37,10 @@ hidden_by border _ stages hidden = tt
 
 call_hidden : (border : Border) (call : Called) → AreHidden border call.stages → AreHidden border (stages_of call)
 call_hidden border call hidden = hidden_by border (first_failing call.checks) call.stages hidden
+
+-- nothing is seen of the stages of a call
+abbrev AreStagesHidden : Border → Called → Type 0
+AreStagesHidden border call = AreHidden border (stages_of call)
 
 -- ---- rows
 
@@ -117,9 +103,7 @@ caller_owner border m p (Some k) address book closed within = caller_wakes borde
 caller_kind : (border : Border) (m : ℕ) (kind : Kind) (address : Option ℕ) (book : State) → HasClosed border book → border.master m ≡ false → IsUnseen border (woken_to address (wake_view_at m kind book).place (wake_view_at m kind book).target)
 caller_kind border m (Proc p) address book closed within =
     caller_owner border m p (owner_at book.fixed.object book.fixed.topology p) address book closed within
-caller_kind border m (Slave s) address book closed within = refl
-caller_kind border m (Power w) address book closed within = refl
-caller_kind border m NoNode address book closed within = refl
+caller_kind border m _ address book closed within = refl
 
 -- ---- the two reasons
 
@@ -135,35 +119,32 @@ slave_hides border m s by plain within =
     ap (λ b. border.master m && (b || is_arming by)) within
     ∙ (ap (λ b. border.master m && (false || b)) plain ∙ none_seen (border.master m))
 
--- a call of a master within
-pub caller_hidden : KindLaws → (border : Border) (m : ℕ) (call : Call) (book : State) → HasClosed border book → border.master m ≡ false → AreHidden border (stages_of (called m call book))
-caller_hidden laws border m (SelfSuspend node address) book closed within =
+caller_shape : KindLaws → (border : Border) (m : ℕ) (shape : Shape) (book : State) → HasClosed border book → border.master m ≡ false → AreHidden border (stages_of (shaped m shape book))
+caller_shape laws border m (Own_row node by call) book closed within =
+    let mode : Mode = mode_of_master book.fixed book.now.core m in
+    row_call_hidden border m (by mode) (λ view. changing (call mode view).checks (row_changes (by mode) view)) book (slave_place node book) (λ view. refl)
+    (λ s is. master_hides border m s (by mode) within)
+caller_shape laws border m (Own_arming target source enable) book closed within =
+    row_call_hidden border m (arming target enable) (set_wakeup_source target enable (proc_view m target book)) book (slave_place source book) (λ view. refl)
+    (λ s is. master_hides border m s (arming target enable) within)
+caller_shape laws border m Own_holds book closed within = call_hidden border (init_finalize m) (one_hidden border (Settle m) within, tt)
+caller_shape laws border m (Own_suspend node address) book closed within =
     let view = proc_view m node book in
     call_hidden border (self_suspend m address view) (put_hidden border m view.place Suspending address within, tt)
-caller_hidden laws border m (ForcePowerdown node ack) book closed within = force_hidden laws border m ack node book closed within
-caller_hidden laws border m (AbortSuspend node reason) book closed within =
+caller_shape laws border m (Own_abort node reason) book closed within =
     let view = proc_view m node book in
     call_hidden border (abort_suspend m reason (is_asked m book) view) (going_hidden border m view (is_in Suspending view) within, tt)
-caller_hidden laws border m (RequestWakeup node address ack) book closed within =
+caller_shape laws border m (Other_wakeup node address ack) book closed within =
     call_hidden border (request_wakeup address ack (wake_view m node book)) (caller_kind border m (kind_of book.fixed.topology node) address book closed within, tt)
-caller_hidden laws border m (SetWakeupSource target source enable) book closed within =
-    row_call_hidden border m (arming target enable) (set_wakeup_source target enable (proc_view m target book)) book (slave_place source book) (λ view. refl) (λ s is. master_hides border m s (arming target enable) within)
-caller_hidden laws border m (SystemShutdown shutdown_type subtype) book closed within =
-    shutdown_hidden border m shutdown_type subtype book closed within
-caller_hidden laws border m (RequestNode node caps ack) book closed within =
-    row_call_hidden border m (Request caps) (request_node caps ack) book (slave_place node book) (λ view. refl) (λ s is. master_hides border m s (Request caps) within)
-caller_hidden laws border m (ReleaseNode node) book closed within =
-    row_call_hidden border m Release release_node book (slave_place node book) (λ view. refl) (λ s is. master_hides border m s Release within)
-caller_hidden laws border m (SetRequirement node caps ack) book closed within =
-    let mode : Mode = mode_of_master book.fixed book.now.core m in
-    row_call_hidden border m (Set mode caps) (set_requirement mode caps ack) book (slave_place node book) (λ view. refl) (λ s is. master_hides border m s (Set mode caps) within)
-caller_hidden laws border m (SetMaxLatency node latency) book closed within =
-    row_call_hidden border m (Limit latency) (set_max_latency latency) book (slave_place node book) (λ view. refl) (λ s is. master_hides border m s (Limit latency) within)
-caller_hidden laws border m (ResetAssert line action) book closed within = reset_hidden border m line action book closed within
-caller_hidden laws border m InitFinalize book closed within =
-    call_hidden border (init_finalize m) (one_hidden border (Settle m) within, tt)
-caller_hidden laws border m Unknown book closed within = tt
-caller_hidden laws border m call book closed within = call_hidden border (called m call book) tt
+caller_shape laws border m (All_forced node ack) book closed within = force_hidden laws border m ack node book closed within
+caller_shape laws border m (All_shut shutdown_type subtype) book closed within = shutdown_hidden border m shutdown_type subtype book closed within
+caller_shape laws border m (All_reset line action) book closed within = reset_hidden border m line action book closed within
+caller_shape laws border m shape book closed within = call_hidden border (shaped m shape book) tt
+
+-- a call of a master within
+pub caller_hidden : KindLaws → (border : Border) (m : ℕ) (call : Call) (book : State) → HasClosed border book → border.master m ≡ false → AreHidden border (stages_of (called m call book))
+caller_hidden laws border m call book closed within =
+    subst (AreStagesHidden border) (sym (called_shaped m call book)) (caller_shape laws border m (shape_of call) book closed within)
 
 pub turned : (b : Bool) → not b ≡ true → b ≡ false
 turned true is = cc
@@ -181,27 +162,20 @@ target_owner border m p (Some k) address book is =
 
 target_kind : (border : Border) (m : ℕ) (kind : Kind) (address : Option ℕ) (book : State) → is_within border (owner_by kind book) ≡ true → IsUnseen border (woken_to address (wake_view_at m kind book).place (wake_view_at m kind book).target)
 target_kind border m (Proc p) address book is = target_owner border m p (owner_at book.fixed.object book.fixed.topology p) address book is
-target_kind border m (Slave s) address book is = refl
-target_kind border m (Power w) address book is = refl
-target_kind border m NoNode address book is = refl
+target_kind border m _ address book is = refl
+
+target_shape : (border : Border) (m : ℕ) (shape : Shape) (book : State) → IsUnarmed shape → shape_within border shape book ≡ true → AreHidden border (stages_of (shaped m shape book))
+target_shape border m (Own_row node by call) book unarmed is =
+    let mode : Mode = mode_of_master book.fixed book.now.core m in
+    row_call_hidden border m (by mode) (λ view. changing (call mode view).checks (row_changes (by mode) view)) book (slave_place node book) (λ view. refl)
+    (λ s at. slave_hides border m s (by mode) (unarmed mode) (within_is border (slave_place node book) is s at))
+target_shape border m (Other_wakeup node address ack) book unarmed is =
+    call_hidden border (request_wakeup address ack (wake_view m node book)) (target_kind border m (kind_of book.fixed.topology node) address book is, tt)
+target_shape border m (Other_suspend node ack latency state) book unarmed is =
+    call_hidden border (request_suspend m node ack latency state (suspend_view m node book)) tt
+target_shape border m _ book unarmed is = cc
 
 -- a call that changes a row on a slave within, or wakes a processor of a master within or asks such a master to suspend
 pub slave_hidden : (border : Border) (m : ℕ) (call : Call) (book : State) → changes_within border call book ≡ true → AreHidden border (stages_of (called m call book))
-slave_hidden border m (RequestSuspend node ack latency state) book is =
-    call_hidden border (request_suspend m node ack latency state (suspend_view m node book)) tt
-slave_hidden border m (RequestWakeup node address ack) book is =
-    call_hidden border (request_wakeup address ack (wake_view m node book)) (target_kind border m (kind_of book.fixed.topology node) address book is, tt)
-slave_hidden border m (RequestNode node caps ack) book is =
-    row_call_hidden border m (Request caps) (request_node caps ack) book (slave_place node book) (λ view. refl)
-    (λ s at. slave_hides border m s (Request caps) refl (within_is border (slave_place node book) is s at))
-slave_hidden border m (ReleaseNode node) book is =
-    row_call_hidden border m Release release_node book (slave_place node book) (λ view. refl)
-    (λ s at. slave_hides border m s Release refl (within_is border (slave_place node book) is s at))
-slave_hidden border m (SetRequirement node caps ack) book is =
-    let mode : Mode = mode_of_master book.fixed book.now.core m in
-    row_call_hidden border m (Set mode caps) (set_requirement mode caps ack) book (slave_place node book) (λ view. refl)
-    (λ s at. slave_hides border m s (Set mode caps) refl (within_is border (slave_place node book) is s at))
-slave_hidden border m (SetMaxLatency node latency) book is =
-    row_call_hidden border m (Limit latency) (set_max_latency latency) book (slave_place node book) (λ view. refl)
-    (λ s at. slave_hides border m s (Limit latency) refl (within_is border (slave_place node book) is s at))
-slave_hidden border m _ book is = cc
+slave_hidden border m call book is =
+    subst (AreStagesHidden border) (sym (called_shaped m call book)) (target_shape border m (shape_of call) book (shape_unarmed call) is)

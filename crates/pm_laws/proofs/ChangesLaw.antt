@@ -1,13 +1,8 @@
 -- Lists of changes of which the same part is seen keep two books alike.
 use Rattle.std.proofs.Common.{◌≡◌, Bool, true, false, if◌then◌else◌, List, [], ◌∷◌, refl, subst}
-use Rattle.pm_core.specs.Prims.{Prim, apply, applies, changed}
-use Rattle.pm_core.specs.State.{Fixed, Now, State}
-use Rattle.pm_laws.specs.Agree.{Same, Agree}
-use Rattle.pm_laws.specs.Border.{Border}
-use Rattle.pm_laws.specs.Seen.{seen, seen_part, IsUnseen}
+use Rattle.pm_laws.proofs.Common.{Agree, BelowLaws, Border, Fixed, IsUnseen, Now, Prim, Same, State, applies, apply, changed, seen, seen_part}
 use Rattle.pm_laws.proofs.AgreeLaw.{same_sym, same_trans}
 use Rattle.pm_laws.proofs.PrimFacts.{prim_alike, prim_unseen}
-use Rattle.pm_laws.proofs.RowFacts.{BelowLaws}
 
 -- what is left of the changes is made in both alike, if the first one is
 first_made : BelowLaws → (fixed : Fixed) (border : Border) (prim : Prim) (seen_later later : List Prim) (a b : Now) (is : Bool) → border.some ≡ true → seen border prim ≡ is → Same fixed border a b → ((x y : Now) → Same fixed border x y → Same fixed border (applies fixed later x) (applies fixed seen_later y)) → Same fixed border (applies fixed later (apply fixed prim a)) (applies fixed (if is then prim ∷ seen_later else seen_later) b)

@@ -5,34 +5,22 @@ use Rattle.std.proofs.lemmas.Bool.{eqb-true}
 use Rattle.std.proofs.lemmas.List.Elements.{filter-append}
 use Rattle.pm_base.proofs.Booleans.{both, either, first_passes, later_passes, pair_of}
 use Rattle.pm_base.proofs.Tests.{present_from}
-use Rattle.pm_base.specs.declared.names.Mode.TheVariants.{Off, Active}
-use Rattle.pm_base.specs.declared.names.NodeId.{NodeId}
-use Rattle.pm_object.specs.declared.object.Object.{Object}
-use Rattle.pm_topology.specs.declared.places.Kind.{Kind}
-use Rattle.pm_topology.specs.declared.places.Kind.TheVariants.{Proc, Slave, Power, Unknown}
+use Rattle.pm_laws.proofs.Common.{Active, AreHidden, Border, Called, Clear, Fixed, Halt, HasSome, IsClosed, IsKind, IsUnseen, Kind, KindLaws, NodeId, Object, Off, Power, Prim, Put_proc, Reload, State, Topology, called, is_below, kind_of, master_node, owner_at, seen, seen_part, stages_by, stages_of}
+use Rattle.pm_topology.specs.declared.places.Kind.TheVariants.{Proc}
 use Rattle.pm_topology.specs.declared.topology.PowerDef.{PowerDef}
 use Rattle.pm_topology.specs.declared.topology.ProcDef.{ProcDef}
 use Rattle.pm_topology.specs.declared.topology.SlaveDef.{SlaveDef}
-use Rattle.pm_topology.specs.declared.topology.Topology.{Topology}
-use Rattle.pm_topology.specs.Places.{IsKind, KindLaws, is_below, kind_of}
 use Rattle.pm_perms.specs.Permits.{is_in, master_record, may_force, may_shut, pair_mask}
 use Rattle.pm_reach.specs.Leads.{forces_above, forces_at, forces_proc}
-use Rattle.pm_core.specs.declared.scope.Scope.{Scope}
-use Rattle.pm_core.specs.declared.scope.Scope.TheVariants.{Under, Own, All}
-use Rattle.pm_core.specs.Members.{owner_at}
-use Rattle.pm_core.specs.Checks.{AllHold, Cause, Fits, Stands, first_failing}
-use Rattle.pm_core.specs.Prims.{Prim, Put_proc, Clear, Halt, Reload}
-use Rattle.pm_core.specs.Scope.{clear_at, clears, clears_from, is_slave_under, is_under, off_at, off_by, offs, offs_from, takes}
-use Rattle.pm_core.specs.State.{Fixed, State}
-use Rattle.pm_core.specs.Step.{called}
-use Rattle.pm_core.specs.Verdict.{Called, stages_by, stages_of}
-use Rattle.pm_core.specs.Views.{master_node}
-use Rattle.pm_core.specs.calls.ForcePowerdown.{force_powerdown}
-use Rattle.pm_core.specs.calls.SystemShutdown.{all_stages, first_own, own_stages, starting, system_shutdown, system_shutdown_checks}
+use Rattle.pm_state.specs.declared.scope.Scope.{Scope}
+use Rattle.pm_state.specs.declared.scope.Scope.TheVariants.{Under, Own, All}
+use Rattle.pm_calls.specs.Checks.{AllHold, Cause, Fits, Stands, first_failing}
+use Rattle.pm_state.specs.Scope.{clear_at, clears, clears_from, is_slave_under, is_under, off_at, off_by, offs, offs_from, takes}
+use Rattle.pm_calls.specs.calls.ForcePowerdown.{force_powerdown}
+use Rattle.pm_calls.specs.calls.SystemShutdown.{all_stages, own_stages, starting, system_shutdown, system_shutdown_checks}
+use Rattle.pm_state.specs.Members.{first_own}
 use Rattle.pm_ipi.specs.declared.calls.Call.TheVariants.{ForcePowerdown, SystemShutdown}
-use Rattle.pm_core.proofs.Verdicts.{all_hold}
-use Rattle.pm_laws.specs.Border.{Border, HasSome, IsClosed}
-use Rattle.pm_laws.specs.Seen.{seen, seen_part, IsUnseen, AreHidden}
+use Rattle.pm_calls.proofs.Verdicts.{all_hold}
 use Rattle.pm_laws.proofs.AgreeLaw.{clash}
 use Rattle.pm_laws.proofs.HiddenLemmas.{HasClosed, one_hidden, within_by}
 use Rattle.pm_laws.proofs.Places.{StandsFrom, same_entry, stands_first, stands_from_start, stands_later}
@@ -126,14 +114,11 @@ proc_forced object t master forced (Proc r) q proc is here under may =
 proc_forced object t master forced (Power w) q proc is here under may =
     later_passes (may_force object t master proc.node) (forces_above object t master proc.node)
     (above_forced object t master proc.node forced w is under may)
-proc_forced object t master forced (Slave s) q proc is here under may = cc
-proc_forced object t master forced Unknown q proc is here under may = cc
+proc_forced object t master forced _ q proc is here under may = cc
 
 slave_forced : (object : Object) (t : Topology) (master forced : NodeId) (kind : Kind) (node : NodeId) → IsKind t forced kind → is_slave_under t kind node ≡ true → may_force object t master forced ≡ true → forces_above object t master node ≡ true
 slave_forced object t master forced (Power w) node is under may = above_forced object t master node forced w is under may
-slave_forced object t master forced (Proc p) node is under may = cc
-slave_forced object t master forced (Slave s) node is under may = cc
-slave_forced object t master forced Unknown node is under may = cc
+slave_forced object t master forced _ node is under may = cc
 
 pub force_hidden : KindLaws → (border : Border) (m ack : ℕ) (node : NodeId) (book : State) → HasClosed border book → border.master m ≡ false → AreHidden border (stages_of (called m (ForcePowerdown node ack) book))
 force_hidden laws border m ack node book closed within =

@@ -1,26 +1,15 @@
 -- The requests to suspend that end in a step: of a hidden event nothing is seen of them, and of any other the same in two books
 -- that agree.
-use Rattle.std.proofs.Common.{◌≡◌, ℕ, ◌+◌, Bool, true, false, not, ◌&&◌, ◌||◌, if◌then◌else◌, List, [], ◌∷◌, ◌++◌, Option, Some, None, refl, sym, ◌∙◌, ap, inl, inr}
+use Rattle.std.proofs.Common.{◌≡◌, ℕ, ◌+◌, Bool, true, false, not, ◌&&◌, ◌||◌, if◌then◌else◌, List, [], ◌∷◌, ◌++◌, Option, Some, None, refl, sym, ◌∙◌, ap}
 use Rattle.std.specs.List.{AllByRecursion as Each}
 use Rattle.std.proofs.lemmas.List.Elements.{filter-append}
-use Rattle.pm_base.specs.declared.events.Event.{Event}
-use Rattle.pm_base.specs.declared.events.Event.TheVariants.{Tick}
-use Rattle.pm_base.specs.declared.names.Mode.{Mode}
+use Rattle.pm_laws.proofs.Common.{Agree, ArmsOwn, BelowLaws, Border, Both, BothFrom, Event, Fixed, HasSome, IsBeyond, IsTalkUnseen, KnowsModes, Mode, Now, Same, SamePending, State, Tick, aborted_by, ended, ends_beyond, is_hidden, is_place, mode_of_master, path, same_mode, says, stages, time_of}
 use Rattle.pm_procs.specs.declared.pending.Pending.{Pending}
-use Rattle.pm_procs.specs.Modes.{same_mode}
-use Rattle.pm_core.specs.declared.ended.Ended.{Ended}
-use Rattle.pm_core.specs.Ended.{due_after, ended_at, ended_from, ended_with, ends_with, ever, goes_down, goes_on, modes_along, turns_along, turns_of}
-use Rattle.pm_core.specs.Members.{is_place, mode_of_master}
-use Rattle.pm_core.specs.Sound.{ArmsOwn, KnowsModes}
-use Rattle.pm_core.specs.State.{Fixed, Now, State}
-use Rattle.pm_core.specs.Step.{ended, path, says, stages, time_of}
-use Rattle.pm_core.specs.Verdict.{aborted_by}
-use Rattle.pm_core.specs.Talk.{Talk, Lower, lower_by}
-use Rattle.pm_laws.specs.Agree.{SamePending, Same, Agree}
-use Rattle.pm_laws.specs.Border.{Border, HasSome, IsBeyond}
-use Rattle.pm_laws.specs.Both.{Both, BothFrom}
-use Rattle.pm_laws.specs.Hidden.{is_hidden}
-use Rattle.pm_laws.specs.SeenTalk.{IsTalkUnseen, ends_beyond}
+use Rattle.pm_tell.specs.declared.ended.Ended.{Ended}
+use Rattle.pm_tell.specs.Ended.{due_after, ended_at, ended_from, ended_with, ends_with}
+use Rattle.pm_values.specs.Turns.{ever, goes_down, goes_on, modes_along, turns_along, turns_of}
+use Rattle.pm_state.specs.Talk.{Talk, Lower}
+use Rattle.pm_tell.specs.Opening.{lower_by}
 use Rattle.pm_laws.proofs.AgreeLaw.{clash}
 use Rattle.pm_laws.proofs.CallsAlike.{book_of, kept}
 use Rattle.pm_laws.proofs.CallsHidden.{turned}
@@ -28,7 +17,6 @@ use Rattle.pm_laws.proofs.HiddenLemmas.{HasClosed}
 use Rattle.pm_laws.proofs.EventsLaw.{event_alike, event_hidden, some_beyond}
 use Rattle.pm_laws.proofs.FollowLaw.{book_mode_alike, stays_same}
 use Rattle.pm_laws.proofs.PathLaw.{path_alike, path_hidden}
-use Rattle.pm_laws.proofs.RowFacts.{BelowLaws}
 use Rattle.pm_laws.proofs.VerdictsLaw.{event_within, none_aborts, says_alike}
 
 -- the mode of the master at place k in a book

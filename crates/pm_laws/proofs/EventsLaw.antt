@@ -1,39 +1,21 @@
 -- Nothing is seen of the stages of a hidden event, and those of any other are alike in two books that agree.
 use Rattle.std.proofs.Common.{◌≡◌, ℕ, Bool, true, false, not, ◌||◌, if◌then◌else◌, List, [], Option, Some, None, refl, ◌∙◌, ap, inl, inr}
 use Rattle.std.specs.Prelude.{option_and_then}
-use Rattle.pm_base.specs.declared.events.Event.{Event}
-use Rattle.pm_base.specs.declared.events.Event.TheVariants.{Ipi, Boot, Wfi, Irq, Gic, Tick}
+use Rattle.pm_laws.proofs.Common.{Active, AreAlike, AreHidden, ArmsOwn, Asleep, BelowLaws, Boot, Border, Called, Event, Fixed, Gic, HasSome, Ipi, Irq, IsBeyond, Kind, KindLaws, Mode, Now, Off, Prim, Put_proc, Same, State, Suspending, Tick, Wfi, called, changes_within, call_at, may_call, is_hidden, is_place, is_within, kind_of, master_place, message_stages, owner_at, owner_by, proc_at, shape_within, stages, stages_of}
 use Rattle.pm_base.specs.declared.events.Message.{Message}
-use Rattle.pm_base.specs.declared.names.Mode.{Mode}
-use Rattle.pm_base.specs.declared.names.Mode.TheVariants.{Off, Active, Asleep, Suspending}
 use Rattle.pm_base.proofs.Booleans.{either, equal, neither}
-use Rattle.pm_ipi.specs.declared.calls.Call.{Call}
-use Rattle.pm_ipi.specs.declared.calls.Call.TheVariants.{RequestSuspend, RequestWakeup, RequestNode, ReleaseNode, SetRequirement, SetMaxLatency}
 use Rattle.pm_ipi.specs.Calls.{call_of}
 use Rattle.pm_procs.specs.declared.procs.Proc.{Proc as Processor}
-use Rattle.pm_procs.specs.Procs.{proc_at}
-use Rattle.pm_topology.specs.declared.places.Kind.{Kind}
-use Rattle.pm_topology.specs.declared.places.Kind.TheVariants.{Proc, Slave, Power, Unknown}
-use Rattle.pm_topology.specs.Places.{KindLaws, kind_of}
-use Rattle.pm_core.specs.Events.{boot, boot_at, boot_by, booted, wait, wait_at, wait_by, waits, interrupt, interrupt_at, interrupt_by, raised}
-use Rattle.pm_core.specs.Members.{is_place, owner_at, owns}
-use Rattle.pm_core.specs.Verdict.{Called, stages_of}
-use Rattle.pm_core.specs.Prims.{Prim, Put_proc}
-use Rattle.pm_core.specs.Sound.{ArmsOwn}
-use Rattle.pm_core.specs.State.{Fixed, Now, State}
-use Rattle.pm_core.specs.Step.{called, heard_at, is_heard, message_stages, stages}
-use Rattle.pm_core.specs.Values.{master_place}
-use Rattle.pm_laws.specs.Agree.{Same}
-use Rattle.pm_laws.specs.Border.{Border, HasSome, IsBeyond}
-use Rattle.pm_laws.specs.Hidden.{is_within, changes_within, owner_by, is_hidden}
-use Rattle.pm_laws.specs.Seen.{AreAlike, AreHidden}
+use Rattle.pm_topology.specs.declared.places.Kind.TheVariants.{Proc}
+use Rattle.pm_calls.specs.Events.{boot, boot_at, boot_by, booted, wait, wait_at, wait_by, waits, interrupt, interrupt_at, interrupt_by, raised}
+use Rattle.pm_state.specs.Members.{owns}
+use Rattle.pm_laws.specs.Shapes.{Shape, Own_row, Other_wakeup, shape_of}
 use Rattle.pm_laws.proofs.CallsAlike.{alike_of, book_of, call_alike, kept}
 use Rattle.pm_laws.proofs.CallsHidden.{caller_hidden, slave_hidden, turned}
-use Rattle.pm_laws.proofs.HeardLaw.{heard_same}
+use Rattle.pm_laws.proofs.MayCallLaw.{heard_same}
 use Rattle.pm_laws.proofs.HiddenLemmas.{HasClosed, one_hidden}
 use Rattle.pm_laws.proofs.WakeLaw.{raised_alike, raised_hidden, woken_unseen}
 use Rattle.pm_laws.proofs.FollowLaw.{proc_alike}
-use Rattle.pm_laws.proofs.RowFacts.{BelowLaws}
 
 -- ---- hidden events
 
@@ -41,10 +23,10 @@ heard_hidden : (border : Border) (call : Called) (heard : Bool) → AreHidden bo
 heard_hidden border call true hidden = hidden
 heard_hidden border call false hidden = tt
 
-message_hidden : KindLaws → (border : Border) (message : Message) (book : State) (place : Option ℕ) → HasClosed border book → (is_within border place || changes_within border (call_of message) book) ≡ true → AreHidden border (message_stages (option_and_then (heard_at (call_of message) book) place))
+message_hidden : KindLaws → (border : Border) (message : Message) (book : State) (place : Option ℕ) → HasClosed border book → (is_within border place || changes_within border (call_of message) book) ≡ true → AreHidden border (message_stages (option_and_then (call_at (call_of message) book) place))
 message_hidden laws border message book None closed is = tt
 message_hidden laws border message book (Some m) closed is =
-    heard_hidden border (called m (call_of message) book) (is_heard m book)
+    heard_hidden border (called m (call_of message) book) (may_call m book)
     (elim (either (not (border.master m)) (changes_within border (call_of message) book) is) [
       | inl within ↦ caller_hidden laws border m (call_of message) book closed (turned (border.master m) within)
       | inr slave ↦ slave_hidden border m (call_of message) book slave
@@ -52,9 +34,7 @@ message_hidden laws border message book (Some m) closed is =
 
 booted_hidden : (border : Border) (m p address : ℕ) (mode : Mode) → border.master m ≡ false → AreHidden border (booted m p address mode)
 booted_hidden border m p address Off within = (one_hidden border (Put_proc m p Active address) within, tt)
-booted_hidden border m p address Active within = tt
-booted_hidden border m p address Asleep within = tt
-booted_hidden border m p address Suspending within = tt
+booted_hidden border m p address _ within = tt
 
 waits_hidden : (border : Border) (m p address : ℕ) (mode : Mode) → border.master m ≡ false → AreHidden border (waits m p address mode)
 waits_hidden border m p address Off within = tt
@@ -73,16 +53,12 @@ wait_by_hidden border (Some m) p proc is = waits_hidden border m p proc.address 
 boot_hidden : (border : Border) (kind : Kind) (address : ℕ) (book : State) → is_within border (owner_by kind book) ≡ true → AreHidden border (boot_at kind address book)
 boot_hidden border (Proc p) address book is =
     boot_by_hidden border (owner_at book.fixed.object book.fixed.topology p) p address (proc_at p book.now.core.procs) is
-boot_hidden border (Slave s) address book is = tt
-boot_hidden border (Power w) address book is = tt
-boot_hidden border Unknown address book is = tt
+boot_hidden border _ address book is = tt
 
 wait_hidden : (border : Border) (kind : Kind) (book : State) → is_within border (owner_by kind book) ≡ true → AreHidden border (wait_at kind book)
 wait_hidden border (Proc p) book is =
     wait_by_hidden border (owner_at book.fixed.object book.fixed.topology p) p (proc_at p book.now.core.procs) is
-wait_hidden border (Slave s) book is = tt
-wait_hidden border (Power w) book is = tt
-wait_hidden border Unknown book is = tt
+wait_hidden border _ book is = tt
 
 interrupt_by_hidden : (border : Border) (owner : Option ℕ) (p : ℕ) (proc : Processor) → is_within border owner ≡ true → AreHidden border (interrupt_by owner p proc)
 interrupt_by_hidden border None p proc is = tt
@@ -91,9 +67,7 @@ interrupt_by_hidden border (Some m) p proc is = (woken_unseen border m p proc.ad
 interrupt_hidden : (border : Border) (kind : Kind) (book : State) → is_within border (owner_by kind book) ≡ true → AreHidden border (interrupt_at kind book)
 interrupt_hidden border (Proc p) book is =
     interrupt_by_hidden border (owner_at book.fixed.object book.fixed.topology p) p (proc_at p book.now.core.procs) is
-interrupt_hidden border (Slave s) book is = tt
-interrupt_hidden border (Power w) book is = tt
-interrupt_hidden border Unknown book is = tt
+interrupt_hidden border _ book is = tt
 
 halted_hidden : (border : Border) (halted : Bool) (stages : List (List Prim)) → AreHidden border stages → AreHidden border (if halted then [] else stages)
 halted_hidden border true stages hidden = tt
@@ -136,14 +110,14 @@ heard_alike border first second true false is alike = cc
 heard_alike border first second false true is alike = cc
 heard_alike border first second false false is alike = tt
 
-message_alike : BelowLaws → (fixed : Fixed) (border : Border) (message : Message) (place : Option ℕ) (a b : Now) → HasSome border → (is_within border place || changes_within border (call_of message) (book_of fixed a)) ≡ false → Same fixed border a b → AreAlike border (message_stages (option_and_then (heard_at (call_of message) (book_of fixed a)) place)) (message_stages (option_and_then (heard_at (call_of message) (book_of fixed b)) place))
+message_alike : BelowLaws → (fixed : Fixed) (border : Border) (message : Message) (place : Option ℕ) (a b : Now) → HasSome border → (is_within border place || changes_within border (call_of message) (book_of fixed a)) ≡ false → Same fixed border a b → AreAlike border (message_stages (option_and_then (call_at (call_of message) (book_of fixed a)) place)) (message_stages (option_and_then (call_at (call_of message) (book_of fixed b)) place))
 message_alike laws fixed border message None a b some is same = cc
 message_alike laws fixed border message (Some m) a b some is same =
     let parts = neither (not (border.master m)) (changes_within border (call_of message) (book_of fixed a)) is in
     let beyond : IsBeyond border m = kept (border.master m) parts.0 in
     heard_alike border (called m (call_of message) (book_of fixed a)) (called m (call_of message) (book_of fixed b))
-    (is_heard m (book_of fixed a)) (is_heard m (book_of fixed b)) (heard_same laws fixed border m a b beyond same)
-    (call_alike laws fixed border m (call_of message) a b beyond (some m beyond) parts.1 same)
+    (may_call m (book_of fixed a)) (may_call m (book_of fixed b)) (heard_same laws fixed border m a b beyond same)
+    (call_alike laws fixed border m a b beyond same (call_of message) parts.1)
 
 -- the processor of a master beyond is the same in both
 owned_alike : (fixed : Fixed) (border : Border) (m p : ℕ) (a b : Now) → owner_at fixed.object fixed.topology p ≡ Some m → is_within border (Some m) ≡ false → Same fixed border a b → proc_at p a.core.procs ≡ proc_at p b.core.procs
@@ -168,21 +142,15 @@ interrupt_alike fixed border (Some m) p a b owner is same =
 
 interrupts_alike : (fixed : Fixed) (border : Border) (kind : Kind) (a b : Now) → is_within border (owner_by kind (book_of fixed a)) ≡ false → Same fixed border a b → interrupt_at kind (book_of fixed a) ≡ interrupt_at kind (book_of fixed b)
 interrupts_alike fixed border (Proc p) a b is same = interrupt_alike fixed border (owner_at fixed.object fixed.topology p) p a b refl is same
-interrupts_alike fixed border (Slave s) a b is same = refl
-interrupts_alike fixed border (Power w) a b is same = refl
-interrupts_alike fixed border Unknown a b is same = refl
+interrupts_alike fixed border _ a b is same = refl
 
 boots_alike : (fixed : Fixed) (border : Border) (kind : Kind) (address : ℕ) (a b : Now) → is_within border (owner_by kind (book_of fixed a)) ≡ false → Same fixed border a b → boot_at kind address (book_of fixed a) ≡ boot_at kind address (book_of fixed b)
 boots_alike fixed border (Proc p) address a b is same = boot_alike fixed border (owner_at fixed.object fixed.topology p) p address a b refl is same
-boots_alike fixed border (Slave s) address a b is same = refl
-boots_alike fixed border (Power w) address a b is same = refl
-boots_alike fixed border Unknown address a b is same = refl
+boots_alike fixed border _ address a b is same = refl
 
 waits_alike : (fixed : Fixed) (border : Border) (kind : Kind) (a b : Now) → is_within border (owner_by kind (book_of fixed a)) ≡ false → Same fixed border a b → wait_at kind (book_of fixed a) ≡ wait_at kind (book_of fixed b)
 waits_alike fixed border (Proc p) a b is same = wait_alike fixed border (owner_at fixed.object fixed.topology p) p a b refl is same
-waits_alike fixed border (Slave s) a b is same = refl
-waits_alike fixed border (Power w) a b is same = refl
-waits_alike fixed border Unknown a b is same = refl
+waits_alike fixed border _ a b is same = refl
 
 halted_alike : (border : Border) (x y : Bool) (first second : List (List Prim)) → x ≡ y → AreAlike border first second → AreAlike border (if x then [] else first) (if y then [] else second)
 halted_alike border true true first second is alike = tt
@@ -225,22 +193,16 @@ event_alike laws fixed border _ a b armed some is same = cc
 
 owner_fixed : (fixed : Fixed) (kind : Kind) (a b : Now) → owner_by kind (book_of fixed a) ≡ owner_by kind (book_of fixed b)
 owner_fixed fixed (Proc p) a b = refl
-owner_fixed fixed (Slave s) a b = refl
-owner_fixed fixed (Power w) a b = refl
-owner_fixed fixed Unknown a b = refl
+owner_fixed fixed _ a b = refl
 
-changes_fixed : (fixed : Fixed) (border : Border) (call : Call) (a b : Now) → changes_within border call (book_of fixed a) ≡ changes_within border call (book_of fixed b)
-changes_fixed fixed border (RequestSuspend node ack latency state) a b = refl
-changes_fixed fixed border (RequestWakeup node address ack) a b = ap (is_within border) (owner_fixed fixed (kind_of fixed.topology node) a b)
-changes_fixed fixed border (RequestNode node caps ack) a b = refl
-changes_fixed fixed border (ReleaseNode node) a b = refl
-changes_fixed fixed border (SetRequirement node caps ack) a b = refl
-changes_fixed fixed border (SetMaxLatency node latency) a b = refl
+changes_fixed : (fixed : Fixed) (border : Border) (shape : Shape) (a b : Now) → shape_within border shape (book_of fixed a) ≡ shape_within border shape (book_of fixed b)
+changes_fixed fixed border (Own_row node by call) a b = refl
+changes_fixed fixed border (Other_wakeup node address ack) a b = ap (is_within border) (owner_fixed fixed (kind_of fixed.topology node) a b)
 changes_fixed fixed border _ a b = refl
 
 pub hidden_fixed : (fixed : Fixed) (border : Border) (event : Event) (a b : Now) → is_hidden border event (book_of fixed a) ≡ is_hidden border event (book_of fixed b)
 hidden_fixed fixed border (Ipi master message) a b =
-    ap (λ changes. is_within border (master_place master (book_of fixed a)) || changes) (changes_fixed fixed border (call_of message) a b)
+    ap (λ changes. is_within border (master_place master (book_of fixed a)) || changes) (changes_fixed fixed border (shape_of (call_of message)) a b)
 hidden_fixed fixed border (Boot proc address) a b = ap (is_within border) (owner_fixed fixed (kind_of fixed.topology proc) a b)
 hidden_fixed fixed border (Wfi proc) a b = ap (is_within border) (owner_fixed fixed (kind_of fixed.topology proc) a b)
 hidden_fixed fixed border (Gic proc) a b = ap (is_within border) (owner_fixed fixed (kind_of fixed.topology proc) a b)

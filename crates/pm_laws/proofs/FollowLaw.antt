@@ -2,27 +2,16 @@
 use Rattle.std.proofs.Common.{◌≡◌, ℕ, ◌+◌, ◌<◌, Bool, true, false, ◌==◌, if◌then◌else◌, List, [], ◌∷◌, ◌++◌, length, Option, Some, None, refl, sym, ◌∙◌, ap, subst, arith}
 use Rattle.std.proofs.lemmas.Bool.{eqb-true}
 use Rattle.std.proofs.lemmas.List.Elements.{filter-append}
-use Rattle.pm_base.specs.declared.names.Mode.{Mode}
-use Rattle.pm_base.specs.declared.names.Mode.TheVariants.{Off, Active, Asleep, Suspending}
+use Rattle.pm_laws.proofs.Common.{Agree, BelowLaws, Border, CoreHalf, Fixed, IsBeyond, IsUnseen, KnowsModes, MasterRec, Mode, Now, Off, Prim, Same, SameProc, Shift, State, changed, in_force, is_place, members_at, members_of, mode_among, mode_at, mode_of_master, off, owner_at, proc_at, same_mode, seen, seen_part}
 use Rattle.pm_base.proofs.Booleans.{equal}
-use Rattle.pm_object.specs.declared.object.MasterRec.{MasterRec}
 use Rattle.pm_procs.specs.declared.procs.Proc.{Proc}
-use Rattle.pm_procs.specs.Modes.{mode_among, same_mode}
-use Rattle.pm_procs.specs.Procs.{members_at, mode_at, off, proc_at}
 use Rattle.pm_rows.specs.Rows.{mode_of}
-use Rattle.pm_core.specs.Members.{is_place, members_of, mode_of_master, owner_at, owns}
-use Rattle.pm_core.specs.Prims.{Prim, Shift, changed}
-use Rattle.pm_core.specs.Sound.{KnowsModes}
-use Rattle.pm_core.specs.Stages.{follow_to, follow_at, follow_from, follow, followed, after_stage}
-use Rattle.pm_core.specs.State.{Fixed, CoreHalf, Now, State, in_force}
-use Rattle.pm_laws.specs.Agree.{SameProc, Same, Agree}
-use Rattle.pm_laws.specs.Border.{Border, IsBeyond}
-use Rattle.pm_laws.specs.Seen.{seen, seen_part, IsUnseen}
+use Rattle.pm_state.specs.Members.{owns}
+use Rattle.pm_state.specs.Stages.{follow_to, follow_at, follow_from, follow, followed, after_stage}
 use Rattle.pm_laws.proofs.AgreeLaw.{agree_sym}
 use Rattle.pm_laws.proofs.ChangesLaw.{changes_agree, unseen_agree}
 use Rattle.pm_laws.proofs.Places.{BothFrom-get, map_among}
 use Rattle.pm_laws.proofs.PrimFacts.{known_alike}
-use Rattle.pm_laws.proofs.RowFacts.{BelowLaws}
 
 -- ---- modes
 
@@ -80,9 +69,7 @@ follow_alike laws border a b agree =
 
 pub stays_same : (mode : Mode) → same_mode mode mode ≡ true
 stays_same Off = refl
-stays_same Active = refl
-stays_same Asleep = refl
-stays_same Suspending = refl
+stays_same _ = refl
 
 at_rest : (m : ℕ) (known mode : Mode) → known ≡ mode → follow_to m known mode ≡ []
 at_rest m known mode is =

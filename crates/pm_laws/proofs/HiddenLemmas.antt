@@ -1,9 +1,6 @@
 -- A change that isn't seen, and what a closed border keeps within.
 use Rattle.std.proofs.Common.{◌≡◌, Bool, true, false, if◌then◌else◌, List, [], ◌∷◌, refl, sym, ◌∙◌, ap}
-use Rattle.pm_core.specs.Prims.{Prim}
-use Rattle.pm_core.specs.State.{State}
-use Rattle.pm_laws.specs.Border.{Border, IsClosed}
-use Rattle.pm_laws.specs.Seen.{seen, IsUnseen}
+use Rattle.pm_laws.proofs.Common.{Border, IsClosed, IsUnseen, Prim, State, seen}
 
 pub one_hidden : (border : Border) (prim : Prim) → seen border prim ≡ false → IsUnseen border (prim ∷ [])
 one_hidden border prim is = let prims : List Prim = prim ∷ [] in ap (λ b. if b then prims else []) is

@@ -1,3 +1,4 @@
+pub mod Common
 pub mod AgreeLaw
 pub mod AlikeLaw
 pub mod AnswersLaw
@@ -10,7 +11,7 @@ pub mod DownHidden
 pub mod EndsLaw
 pub mod EventsLaw
 pub mod FollowLaw
-pub mod JudgedLaw
+pub mod CalledAlike
 pub mod MasterNotesFacts
 pub mod NoteChangesLaw
 pub mod ModesLaw
@@ -18,7 +19,7 @@ pub mod NamedLaw
 pub mod NoticesLaw
 pub mod OwnsLaw
 pub mod OpeningLaw
-pub mod HeardLaw
+pub mod MayCallLaw
 pub mod HiddenLemmas
 pub mod PairsLaw
 pub mod PathLaw
@@ -32,6 +33,7 @@ pub mod RequestsLaw
 pub mod ResetLaw
 pub mod RowFacts
 pub mod RunsLaw
+pub mod ShapesLaw
 pub mod SidesLaw
 pub mod StartsLaw
 pub mod StepApart

@@ -5,9 +5,8 @@ use Rattle.std.specs.Prelude.{map}
 use Rattle.std.specs.List.{list_all}
 use Rattle.std.proofs.lemmas.Bool.{eqb-true}
 use Rattle.std.proofs.lemmas.Bool.Decides.{nat_tests}
-use Rattle.pm_base.specs.declared.names.NodeId.{NodeId}
-use Rattle.pm_base.specs.declared.names.Unit.{Unit}
-use Rattle.pm_base.specs.declared.names.Unit.TheVariants.{Node, Line}
+use Rattle.pm_laws.proofs.Common.{Border, Both, BothFrom, IsBeyond, Node, NodeId, SameEntries, SameEntry, SameMasterNotes, SameNotes, Unit, is_told}
+use Rattle.pm_base.specs.declared.names.Unit.TheVariants.{Line}
 use Rattle.pm_base.proofs.Booleans.{both}
 use Rattle.pm_notify.specs.declared.node_notes.NodeNotes.{NodeNotes}
 use Rattle.pm_notify.specs.declared.notes.NodeEvent.{NodeEvent}
@@ -17,9 +16,6 @@ use Rattle.pm_notify.specs.NodeNotes.{emptied, filled, no_notes, with_asked}
 use Rattle.pm_notify.specs.Notify.{notes_for}
 use Rattle.pm_topology.specs.UnitMap.{remade, set_entry, units_in, value_of}
 use Rattle.pm_topology.specs.Units.{is_before, rises, same_unit}
-use Rattle.pm_laws.specs.Agree.{SameEntries, SameEntry, SameMasterNotes, SameNotes}
-use Rattle.pm_laws.specs.Border.{Border, IsBeyond, is_told}
-use Rattle.pm_laws.specs.Both.{Both, BothFrom}
 use Rattle.pm_laws.proofs.Places.{Both-map, Both-sym, Both-trans, BothFrom-get}
 
 abbrev Entry : Type 0

@@ -3,22 +3,14 @@ use Rattle.std.proofs.Common.{◌≡◌, ℕ, ◌&&◌, ◌==◌, true, slice_ge
 use Rattle.std.specs.Prelude.{option_and_then}
 use Rattle.std.specs.List.{list_any}
 use Rattle.std.proofs.lemmas.Bool.{eqb-true}
-use Rattle.pm_base.specs.declared.names.NodeId.{NodeId}
+use Rattle.pm_laws.proofs.Common.{Border, IsWellFormed, KindLaws, MasterRec, NodeId, Object, Topology, first_place, kind_of, named_master, node_beyond, none_within, owner_at, unit_beyond}
 use Rattle.pm_base.proofs.Booleans.{both}
 use Rattle.pm_base.proofs.Searches.{position-first}
 use Rattle.pm_base.proofs.Tests.{present_at}
-use Rattle.pm_object.specs.declared.object.MasterRec.{MasterRec}
-use Rattle.pm_object.specs.declared.object.Object.{Object}
 use Rattle.pm_topology.specs.declared.places.Kind.TheVariants.{Proc}
 use Rattle.pm_topology.specs.declared.topology.MasterDef.{MasterDef}
 use Rattle.pm_topology.specs.declared.topology.ProcDef.{ProcDef}
-use Rattle.pm_topology.specs.declared.topology.Topology.{Topology}
-use Rattle.pm_topology.specs.Places.{KindLaws, kind_of}
-use Rattle.pm_topology.specs.WellFormed.{IsWellFormed}
 use Rattle.pm_perms.specs.Owner.{has_processor, owner}
-use Rattle.pm_core.specs.Members.{owner_at}
-use Rattle.pm_core.specs.Views.{first_place, named_master}
-use Rattle.pm_laws.specs.Border.{Border, node_beyond, none_within, unit_beyond}
 
 module _ (kinds : KindLaws) (object : Object) (t : Topology) (well : IsWellFormed t) where
   number_is : (a b c : ℕ) → a ≡ b → (b == c) ≡ true → a ≡ c

@@ -2,26 +2,16 @@
 use Rattle.std.proofs.Common.{◌≡◌, ℕ, ◌+◌, Bool, true, false, ◌&&◌, cond, if◌then◌else◌, List, [], ◌∷◌, ◌++◌, None, refl, sym, ◌∙◌, ap}
 use Rattle.std.specs.Prelude.{flat_map, map}
 use Rattle.std.proofs.lemmas.List.Elements.{filter-append}
-use Rattle.pm_base.specs.declared.names.Mode.{Mode}
-use Rattle.pm_base.specs.declared.names.Mode.TheVariants.{Off, Active, Asleep, Suspending}
-use Rattle.pm_base.specs.declared.names.NodeId.{NodeId}
-use Rattle.pm_base.specs.declared.names.Unit.{Unit}
-use Rattle.pm_base.specs.declared.names.Unit.TheVariants.{Node, Line}
+use Rattle.pm_laws.proofs.Common.{Active, Asleep, Border, Both, BothFrom, IsBeyond, MasterRec, Mode, Node, NodeId, Off, SameEntry, SameMasterNotes, State, Suspending, Unit, asks_beyond, is_about_beyond, is_told, mode_of_master, notes_beyond, seen_talk, talk_part}
+use Rattle.pm_base.specs.declared.names.Unit.TheVariants.{Line}
 use Rattle.pm_notify.specs.declared.node_notes.Slots.{Slots}
 use Rattle.pm_notify.specs.declared.notes.Note.{Note}
 use Rattle.pm_notify.specs.declared.notes.Waiting.{Waiting}
 use Rattle.pm_notify.specs.MasterNotes.{MasterNotes, waiting_about, waiting_in}
 use Rattle.pm_notify.specs.NodeNotes.{notes_in}
 use Rattle.pm_notify.specs.Notify.{notes_for}
-use Rattle.pm_object.specs.declared.object.MasterRec.{MasterRec}
-use Rattle.pm_core.specs.Callbacks.{News, acknowledged_to, note_changes_at, note_changes_from, noticed_by, notes_to, told_at_wake, wakes}
-use Rattle.pm_core.specs.Members.{mode_of_master}
-use Rattle.pm_core.specs.State.{State}
-use Rattle.pm_core.specs.Talk.{Talk, take_of, wait_of}
-use Rattle.pm_laws.specs.Agree.{SameEntry, SameMasterNotes}
-use Rattle.pm_laws.specs.Border.{Border, IsBeyond, is_told}
-use Rattle.pm_laws.specs.Both.{Both, BothFrom}
-use Rattle.pm_laws.specs.SeenTalk.{is_about_beyond, notes_beyond, seen_talk, talk_part, asks_beyond}
+use Rattle.pm_tell.specs.Callbacks.{News, acknowledged_to, note_changes_at, note_changes_from, noticed_by, notes_to, told_at_wake, wakes}
+use Rattle.pm_state.specs.Talk.{Talk, take_of, wait_of}
 use Rattle.pm_laws.proofs.MasterNotesFacts.{master_notes_same}
 use Rattle.pm_laws.proofs.NoticesLaw.{AreWithin, beyond_append, none_beyond}
 
@@ -169,9 +159,7 @@ module _ (border : Border) where
 
 rests_at : (k : ℕ) (mode : Mode) (x : MasterNotes) → note_changes_at no_news k mode mode x ≡ []
 rests_at k Off x = refl
-rests_at k Active x = refl
-rests_at k Asleep x = refl
-rests_at k Suspending x = refl
+rests_at k _ x = refl
 
 pub note_changes_rest : (xs : List MasterNotes) (still : State) (k : ℕ) (masters : List MasterRec)
     → note_changes_from no_news (mode_of_master still.fixed still.now.core) xs still k masters ≡ []

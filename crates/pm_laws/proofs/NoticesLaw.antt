@@ -5,9 +5,8 @@ use Rattle.std.specs.Prelude.{flat_map, unwrap_or}
 use Rattle.std.specs.List.{AllByRecursion as Each}
 use Rattle.std.proofs.lemmas.Grind.{flat_map-append}
 use Rattle.std.proofs.lemmas.List.Elements.{filter-append}
-use Rattle.pm_base.specs.declared.names.NodeId.{NodeId}
-use Rattle.pm_base.specs.declared.names.Unit.{Unit}
-use Rattle.pm_base.specs.declared.names.Unit.TheVariants.{Node, Line}
+use Rattle.pm_laws.proofs.Common.{AreNamed, Border, Both, Entry, Fixed, IsClosed, Kind, Node, NodeId, Now, Same, SameEntry, SameRow, Slave, State, Unit, ends_beyond, is_about_beyond, kind_of, named_master, none_within, notes_beyond, unit_beyond, value}
+use Rattle.pm_base.specs.declared.names.Unit.TheVariants.{Line}
 use Rattle.pm_base.proofs.Booleans.{equal}
 use Rattle.pm_base.proofs.Elements.{AllByRecursion-append}
 use Rattle.pm_ipi.specs.declared.calls.AckKind.{AckKind}
@@ -20,27 +19,16 @@ use Rattle.pm_notify.specs.MasterNotes.{MasterNotes}
 use Rattle.pm_notify.specs.NodeNotes.{asks}
 use Rattle.pm_procs.specs.declared.pending.Pending.{Pending}
 use Rattle.pm_procs.specs.Pending.{pending_at}
-use Rattle.pm_rows.specs.declared.row.Entry.{Entry}
 use Rattle.pm_rows.specs.Rows.{is_user}
-use Rattle.pm_topology.specs.declared.places.Kind.{Kind}
-use Rattle.pm_topology.specs.declared.places.Kind.TheVariants.{Proc, Slave, Power, Unknown}
-use Rattle.pm_topology.specs.Places.{kind_of}
 use Rattle.pm_topology.specs.Units.{units_of}
-use Rattle.pm_core.specs.declared.ended.Ended.{Ended}
-use Rattle.pm_core.specs.Callbacks.{acknowledged_by, acknowledged_to, is_wanted, noticed_by}
-use Rattle.pm_core.specs.Ended.{end_of, ended_at, ended_from, ended_with, turns_along}
-use Rattle.pm_core.specs.Notifications.{happened, notes_about, notifications, used, used_at}
-use Rattle.pm_core.specs.Sound.{AreNamed}
-use Rattle.pm_core.specs.State.{Fixed, Now, State}
-use Rattle.pm_core.specs.Values.{value}
-use Rattle.pm_core.specs.Views.{named_master}
-use Rattle.pm_laws.specs.Agree.{Same, SameEntry, SameRow}
-use Rattle.pm_laws.specs.Border.{Border, IsClosed, none_within, unit_beyond}
-use Rattle.pm_laws.specs.Both.{Both}
-use Rattle.pm_laws.specs.SeenTalk.{ends_beyond, is_about_beyond, notes_beyond}
+use Rattle.pm_tell.specs.declared.ended.Ended.{Ended}
+use Rattle.pm_tell.specs.Callbacks.{acknowledged_by, acknowledged_to, is_wanted, noticed_by}
+use Rattle.pm_tell.specs.Ended.{end_of, ended_at, ended_from, ended_with}
+use Rattle.pm_values.specs.Turns.{turns_along}
+use Rattle.pm_values.specs.Notifications.{happened, notes_about, notifications, used, used_at}
 use Rattle.pm_laws.proofs.AgreeLaw.{clash}
 use Rattle.pm_laws.proofs.CallsAlike.{book_of, rows_both}
-use Rattle.pm_laws.proofs.JudgedLaw.{on_slave, unit_named}
+use Rattle.pm_laws.proofs.CalledAlike.{on_slave, unit_named}
 use Rattle.pm_laws.proofs.MasterNotesFacts.{notes_same}
 use Rattle.pm_laws.proofs.Places.{Both-count, StandsFrom, stands_first, stands_from_start, stands_later}
 use Rattle.pm_laws.proofs.ValuesLaw.{kind_alike}
@@ -168,9 +156,7 @@ module _ (fixed : Fixed) (border : Border) (closed : IsClosed fixed.object fixed
       ap (λ users. not (users == 0))
       (Both-count (SameRow border) (is_user s) (λ x y is. on_slave border (is_user s) s x y beyond (user_elsewhere s) is)
       a.core.rows.entries b.core.rows.entries (rows_both border a.core.rows.entries b.core.rows.entries some same.rows))
-  kind_used a b same (Proc p) beyond = refl
-  kind_used a b same (Power w) beyond = refl
-  kind_used a b same Unknown beyond = refl
+  kind_used a b same _ beyond = refl
 
   node_value : (a b : Now) → Same fixed border a b → (n : NodeId) → border.node n.0 ≡ true → value (Node n) (book_of fixed a) ≡ value (Node n) (book_of fixed b)
   node_value a b same n is = kind_alike fixed border closed a b same (kind_of fixed.topology n) (unit_named fixed border closed n is)

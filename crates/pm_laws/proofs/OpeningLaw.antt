@@ -3,26 +3,17 @@
 use Rattle.std.proofs.Common.{◌≡◌, ℕ, ◌+◌, Bool, true, false, if◌then◌else◌, List, [], ◌∷◌, ◌++◌, Option, None, refl, sym, ◌∙◌, ap}
 use Rattle.std.specs.List.{AllByRecursion as Each}
 use Rattle.std.proofs.lemmas.List.Elements.{filter-append}
-use Rattle.pm_base.specs.declared.events.Event.{Event}
-use Rattle.pm_object.specs.declared.object.MasterRec.{MasterRec}
-use Rattle.pm_core.specs.declared.ended.Ended.{Ended}
-use Rattle.pm_core.specs.declared.verdict.Say.{Say}
-use Rattle.pm_core.specs.Ended.{goes_off, turns_along}
-use Rattle.pm_core.specs.Sound.{ArmsOwn, KnowsModes}
-use Rattle.pm_core.specs.State.{Fixed, Now, State}
-use Rattle.pm_core.specs.Step.{ended, forgets, opening, path, says, stages, time_of}
-use Rattle.pm_core.specs.Talk.{End, Forget, Talk, ends, forget_at, forgets_from, lower_by, renew_by, say_by, talk_of}
-use Rattle.pm_laws.specs.Agree.{Agree, Same}
-use Rattle.pm_laws.specs.Border.{Border, HasSome, IsBeyond}
-use Rattle.pm_laws.specs.Both.{Both}
-use Rattle.pm_laws.specs.Hidden.{is_hidden}
-use Rattle.pm_laws.specs.SeenTalk.{IsTalkUnseen, ends_beyond, seen_talk, talk_part}
+use Rattle.pm_laws.proofs.Common.{Agree, ArmsOwn, BelowLaws, Border, Both, Event, Fixed, HasSome, IsBeyond, IsTalkUnseen, KnowsModes, MasterRec, Now, Same, State, ended, ends_beyond, forgets, is_hidden, opening, path, says, seen_talk, stages, talk_part, time_of}
+use Rattle.pm_tell.specs.declared.ended.Ended.{Ended}
+use Rattle.pm_calls.specs.declared.verdict.Say.{Say}
+use Rattle.pm_values.specs.Turns.{goes_off, turns_along}
+use Rattle.pm_state.specs.Talk.{End, Forget, Talk}
+use Rattle.pm_tell.specs.Opening.{ends, forget_at, forgets_from, lower_by, renew_by, say_by, talk_of}
 use Rattle.pm_laws.proofs.CallsAlike.{book_of}
 use Rattle.pm_laws.proofs.HiddenLemmas.{HasClosed}
 use Rattle.pm_laws.proofs.EndsLaw.{ended_alike, ended_hidden, never, time_same, time_unseen, turns_alike}
 use Rattle.pm_laws.proofs.EventsLaw.{event_alike, event_hidden, some_beyond}
 use Rattle.pm_laws.proofs.PathLaw.{path_alike, path_hidden}
-use Rattle.pm_laws.proofs.RowFacts.{BelowLaws}
 use Rattle.pm_laws.proofs.VerdictsLaw.{event_within, renewal_unseen, say_unseen, says_alike}
 
 module _ (border : Border) where

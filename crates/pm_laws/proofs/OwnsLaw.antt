@@ -1,11 +1,8 @@
 -- The master to which a processor belongs is one that has it.
-use Rattle.std.proofs.Common.{◌≡◌, ℕ, Bool, true, false, Option, Some, ap, ◌∙◌}
+use Rattle.std.proofs.Common.{◌≡◌, ℕ, Bool, true, false, Some, ap, ◌∙◌}
 use Rattle.std.specs.Option.{option_map_or}
-use Rattle.pm_base.specs.declared.names.NodeId.{NodeId}
+use Rattle.pm_laws.proofs.Common.{MasterRec, NodeId, Object, Topology}
 use Rattle.pm_base.proofs.Searches.{position-first}
-use Rattle.pm_object.specs.declared.object.MasterRec.{MasterRec}
-use Rattle.pm_object.specs.declared.object.Object.{Object}
-use Rattle.pm_topology.specs.declared.topology.Topology.{Topology}
 use Rattle.pm_perms.specs.Owner.{has_processor, owner}
 use Rattle.pm_reach.specs.Leads.{owns}
 

@@ -1,22 +1,17 @@
 -- Each permitted pair is one of a master of the object and a slave of the chip which that master may use.
 use Rattle.std.proofs.Common.{◌≡◌, ℕ, ◌+◌, ◌==◌, Bool, true, false, if◌then◌else◌, is_some, List, [], ◌∷◌, slice_get, Option, Some, None, refl, ap, ◌∙◌}
 use Rattle.std.specs.List.{AllByRecursion as Each}
-use Rattle.pm_base.specs.declared.names.NodeId.{NodeId}
+use Rattle.pm_laws.proofs.Common.{IsObject, MasterRec, NodeId, Object, RowSeed, Topology}
 use Rattle.pm_base.proofs.Booleans.{differs, pair_of}
 use Rattle.pm_base.proofs.Elements.{AllByRecursion-append}
 use Rattle.pm_base.proofs.Searches.{position-none}
-use Rattle.pm_object.specs.declared.object.MasterRec.{MasterRec}
-use Rattle.pm_object.specs.declared.object.Object.{Object}
 use Rattle.pm_object.specs.declared.object.SlaveRec.{SlaveRec}
-use Rattle.pm_object.specs.Grammar.{IsObject}
 use Rattle.pm_topology.specs.declared.topology.SlaveDef.{SlaveDef}
-use Rattle.pm_topology.specs.declared.topology.Topology.{Topology}
 use Rattle.pm_topology.specs.Places.{slave_place}
 use Rattle.pm_perms.specs.Permits.{mask_has, may_use, may_use_by, slave_record}
 use Rattle.pm_reach.specs.Leads.{node_at}
-use Rattle.pm_rows.specs.declared.row.RowSeed.{RowSeed}
-use Rattle.pm_core.specs.Boot.{boot_master}
-use Rattle.pm_core.specs.Pairs.{pairs_from, pairs_of, pairs_of_masters, pairs_on, seed_of}
+use Rattle.pm_state.specs.Boot.{boot_master}
+use Rattle.pm_state.specs.Pairs.{pairs_from, pairs_of, pairs_of_masters, pairs_on, seed_of}
 use Rattle.pm_laws.proofs.Places.{StandsFrom, stands_first, stands_from_start, stands_later}
 use Rattle.pm_laws.proofs.Records.{node_is, own_record}
 

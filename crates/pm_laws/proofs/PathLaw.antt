@@ -1,16 +1,9 @@
 -- The books along a step: in the hidden shape all agree with the book before, and in the alike shape they agree one by one.
 use Rattle.std.proofs.Common.{◌≡◌, true, List, [], ◌∷◌, refl, subst}
 use Rattle.std.specs.List.{AllByRecursion as Each}
-use Rattle.pm_core.specs.Prims.{Prim}
-use Rattle.pm_core.specs.Sound.{KnowsModes}
-use Rattle.pm_core.specs.Stages.{after_stage, after_stages, last_of, path_from}
-use Rattle.pm_core.specs.State.{Fixed, State}
-use Rattle.pm_laws.specs.Agree.{Same, Agree}
-use Rattle.pm_laws.specs.Border.{Border}
-use Rattle.pm_laws.specs.Both.{Both}
-use Rattle.pm_laws.specs.Seen.{AreHidden, AreAlike}
+use Rattle.pm_laws.proofs.Common.{Agree, AreAlike, AreHidden, BelowLaws, Border, Both, Fixed, KnowsModes, Prim, Same, State}
+use Rattle.pm_state.specs.Stages.{after_stage, after_stages, last_of, path_from}
 use Rattle.pm_laws.proofs.FollowLaw.{stage_agrees, stage_hidden}
-use Rattle.pm_laws.proofs.RowFacts.{BelowLaws}
 
 -- ---- hidden
 

@@ -4,7 +4,7 @@ use Rattle.std.specs.Prelude.{slice_set, find, fold, ◌||◌, count_by}
 use Rattle.std.specs.List.{list_any, AllByRecursion as Each}
 use Rattle.pm_base.proofs.Booleans.{first_passes, later_passes}
 use Rattle.pm_base.proofs.Counts.{count_by-cons}
-use Rattle.pm_laws.specs.Both.{Both, BothFrom}
+use Rattle.pm_laws.proofs.Common.{Both, BothFrom}
 
 -- ---- Both
 

@@ -6,25 +6,51 @@ use Rattle.std.proofs.lemmas.Bool.{eqb-true}
 use Rattle.std.proofs.lemmas.List.{length-replicate, length-set}
 use Rattle.pm_base.proofs.Booleans.{equal}
 use Rattle.pm_base.proofs.Tests.{present_from}
-use Rattle.pm_base.specs.declared.names.Mode.{Mode}
-use Rattle.pm_base.specs.declared.names.Mode.TheVariants.{Off, Active}
+use Rattle.pm_laws.proofs.Common.{Active, At_row, BelowLaws, Border, BothFrom, Clear, Entry, Fixed, Halt, HasSome, IsBeyond, Mode, Now, Off, Prim, Put_line, Put_proc, Reload, Same, SameKnown, SameLine, SameProc, SameRows, Settle, Shift, all_turned_off, apply, gone, is_place, members_at, members_of, owner_at, proc_put, procs_with, seen, turned_off}
 use Rattle.pm_procs.specs.declared.procs.Proc.{Proc}
-use Rattle.pm_procs.specs.Procs.{all_turned_off, gone, members_at, turned_off}
-use Rattle.pm_resets.specs.Resets.{all_released}
+use Rattle.pm_resets.specs.Resets.{all_released, with_line}
 use Rattle.pm_rows.specs.Modes.{loaded_modes}
-use Rattle.pm_rows.specs.Rows.{cleared_entry, mode_of, reloaded}
+use Rattle.pm_rows.specs.Rows.{change_at, cleared_entry, dropped_at, mode_of, reloaded, settled_at}
 use Rattle.pm_rows.specs.Shift.{shift_at}
-use Rattle.pm_core.specs.Boot.{boot_proc}
-use Rattle.pm_core.specs.Members.{is_place, members_of, owner_at, owns}
-use Rattle.pm_core.specs.Prims.{Prim, At_row, Settle, Put_proc, Put_line, Shift, Clear, Halt, Reload, apply, proc_put, procs_with}
-use Rattle.pm_core.specs.State.{Fixed, Now}
-use Rattle.pm_laws.specs.Agree.{SameKnown, SameLine, SameProc, SameRows, Same}
-use Rattle.pm_laws.specs.Border.{Border, HasSome, IsBeyond}
-use Rattle.pm_laws.specs.Both.{BothFrom}
-use Rattle.pm_laws.specs.Seen.{seen}
+use Rattle.pm_state.specs.Boot.{boot_proc}
+use Rattle.pm_state.specs.Members.{owns}
 use Rattle.pm_laws.proofs.AgreeLaw.{clash}
 use Rattle.pm_laws.proofs.Places.{BothFrom-any, BothFrom-equal, BothFrom-get, BothFrom-length, BothFrom-map, BothFrom-map_left, BothFrom-set, BothFrom-set_left}
-use Rattle.pm_laws.proofs.RowFacts.{BelowLaws, rows_alone, rows_changed_alike, rows_changed_unseen, rows_cleared_alike, rows_dropped_alike, rows_dropped_unseen, rows_reloaded_alike, rows_settled_alike, rows_settled_unseen, rows_shifted_alike, rows_shifted_unseen}
+use Rattle.pm_laws.proofs.RowFacts.{rows_alone, rows_changed_alike, rows_changed_unseen, rows_cleared_alike, rows_dropped_alike, rows_dropped_unseen, rows_reloaded_alike, rows_settled_alike, rows_settled_unseen, rows_shifted_alike, rows_shifted_unseen}
+
+-- ---- new rows, processors and reset lines
+
+abbrev remade : List Entry → List Proc → List Bool → Now → Now
+remade rows procs lines now = record now { core = record now.core { rows = record now.core.rows { entries = rows }; procs = procs; lines = lines } }
+
+-- where these are alike the two books stay so
+made_alike : (fixed : Fixed) (border : Border) (a b : Now) → Same fixed border a b → (xs ys : List Entry) → SameRows border border.some xs ys
+    → (ps qs : List Proc) → BothFrom (SameProc fixed border) 0 ps qs → (ls ms : List Bool) → BothFrom (SameLine border) 0 ls ms
+    → Same fixed border (remade xs ps ls a) (remade ys qs ms b)
+made_alike fixed border a b same xs ys rows ps qs procs ls ms lines = record {
+  some = same.some;
+  boot = same.boot;
+  halted = same.halted;
+  rows = rows;
+  known = same.known;
+  procs = procs;
+  lines = lines;
+  talk = same.talk;
+}
+
+module _ (fixed : Fixed) (border : Border) (a b : Now) (same : Same fixed border a b) where
+  -- new rows alone, new processors alone and new reset lines alone
+  rows_made : (xs ys : List Entry) → SameRows border border.some xs ys
+      → Same fixed border (remade xs a.core.procs a.core.lines a) (remade ys b.core.procs b.core.lines b)
+  rows_made xs ys rows = made_alike fixed border a b same xs ys rows a.core.procs b.core.procs same.procs a.core.lines b.core.lines same.lines
+
+  procs_made : (ps qs : List Proc) → BothFrom (SameProc fixed border) 0 ps qs
+      → Same fixed border (remade a.core.rows.entries ps a.core.lines a) (remade b.core.rows.entries qs b.core.lines b)
+  procs_made ps qs procs = made_alike fixed border a b same a.core.rows.entries b.core.rows.entries same.rows ps qs procs a.core.lines b.core.lines same.lines
+
+  lines_made : (ls ms : List Bool) → BothFrom (SameLine border) 0 ls ms
+      → Same fixed border (remade a.core.rows.entries a.core.procs ls a) (remade b.core.rows.entries b.core.procs ms b)
+  lines_made ls ms lines = made_alike fixed border a b same a.core.rows.entries b.core.rows.entries same.rows a.core.procs b.core.procs same.procs ls ms lines
 
 -- ---- a processor is put
 
@@ -56,31 +82,15 @@ puts_alike : (fixed : Fixed) (border : Border) (m p : ℕ) (mode : Mode) (addres
 puts_alike fixed border m p mode address a b false is same = same
 puts_alike fixed border m p mode address a b true is same =
     let proc : Proc = gone mode (record { mode = mode; address = address }) in
-    record {
-      some = same.some;
-      boot = same.boot;
-      halted = same.halted;
-      rows = same.rows;
-      known = same.known;
-      procs = BothFrom-set (SameProc fixed border) 0 p p proc proc (omega arith) (put_alike fixed border m p proc is) a.core.procs b.core.procs same.procs;
-      lines = same.lines;
-      talk = same.talk;
-    }
+    procs_made fixed border a b same (proc_put p mode address a.core.procs) (proc_put p mode address b.core.procs)
+    (BothFrom-set (SameProc fixed border) 0 p p proc proc (omega arith) (put_alike fixed border m p proc is) a.core.procs b.core.procs same.procs)
 
 puts_unseen : (fixed : Fixed) (border : Border) (m p : ℕ) (mode : Mode) (address : ℕ) (a b : Now) (own : Bool) → owns fixed.object fixed.topology m p ≡ own → border.master m ≡ false → Same fixed border a b → Same fixed border (put_if own p mode address a) b
 puts_unseen fixed border m p mode address a b false is within same = same
 puts_unseen fixed border m p mode address a b true is within same =
     let proc : Proc = gone mode (record { mode = mode; address = address }) in
-    record {
-      some = same.some;
-      boot = same.boot;
-      halted = same.halted;
-      rows = same.rows;
-      known = same.known;
-      procs = BothFrom-set_left (SameProc fixed border) 0 p p proc (omega arith) (λ y. put_unseen fixed border m p proc y is within) a.core.procs b.core.procs same.procs;
-      lines = same.lines;
-      talk = same.talk;
-    }
+    procs_made fixed border a b same (proc_put p mode address a.core.procs) b.core.procs
+    (BothFrom-set_left (SameProc fixed border) 0 p p proc (omega arith) (λ y. put_unseen fixed border m p proc y is within) a.core.procs b.core.procs same.procs)
 
 -- ---- the processors are as at load
 
@@ -158,39 +168,18 @@ known_alike fixed border m a b beyond same =
 
 -- a change that is seen, made in both, where some master is beyond
 pub prim_alike : BelowLaws → (fixed : Fixed) (border : Border) (prim : Prim) (a b : Now) → border.some ≡ true → seen border prim ≡ true → Same fixed border a b → Same fixed border (apply fixed prim a) (apply fixed prim b)
-prim_alike laws fixed border (At_row m s by) a b some is same = record {
-  some = same.some;
-  boot = same.boot;
-  halted = same.halted;
-  rows = rows_changed_alike border m s by a.core.rows.entries b.core.rows.entries same.rows;
-  known = same.known;
-  procs = same.procs;
-  lines = same.lines;
-  talk = same.talk;
-}
-prim_alike laws fixed border (Settle m) a b some is same = record {
-  some = same.some;
-  boot = same.boot;
-  halted = same.halted;
-  rows = rows_settled_alike border m a.core.rows.entries b.core.rows.entries same.rows;
-  known = same.known;
-  procs = same.procs;
-  lines = same.lines;
-  talk = same.talk;
-}
+prim_alike laws fixed border (At_row m s by) a b some is same =
+    rows_made fixed border a b same (map (change_at m s by) a.core.rows.entries) (map (change_at m s by) b.core.rows.entries)
+    (rows_changed_alike border m s by a.core.rows.entries b.core.rows.entries same.rows)
+prim_alike laws fixed border (Settle m) a b some is same =
+    rows_made fixed border a b same (map (settled_at m) a.core.rows.entries) (map (settled_at m) b.core.rows.entries)
+    (rows_settled_alike border m a.core.rows.entries b.core.rows.entries same.rows)
 prim_alike laws fixed border (Put_proc m p mode address) a b some is same =
     puts_alike fixed border m p mode address a b (owns fixed.object fixed.topology m p) refl same
-prim_alike laws fixed border (Put_line l asserted) a b some is same = record {
-  some = same.some;
-  boot = same.boot;
-  halted = same.halted;
-  rows = same.rows;
-  known = same.known;
-  procs = same.procs;
-  lines = BothFrom-set (SameLine border) 0 l l asserted asserted (omega arith)
-      (record { beyond = λ beyond. refl; released = λ none beyond. clash border.some some none }) a.core.lines b.core.lines same.lines;
-  talk = same.talk;
-}
+prim_alike laws fixed border (Put_line l asserted) a b some is same =
+    lines_made fixed border a b same (with_line l asserted a.core.lines) (with_line l asserted b.core.lines)
+    (BothFrom-set (SameLine border) 0 l l asserted asserted (omega arith)
+    (record { beyond = λ beyond. refl; released = λ none beyond. clash border.some some none }) a.core.lines b.core.lines same.lines)
 prim_alike laws fixed border (Shift m to) a b some is same =
     let P : Mode → Type 0 = λ from. SameRows border border.some (map (shift_at a.core.rows.entries m (mode_of m a.core.rows) to) a.core.rows.entries) (map (shift_at b.core.rows.entries m from to) b.core.rows.entries) in
     record {
@@ -203,16 +192,9 @@ prim_alike laws fixed border (Shift m to) a b some is same =
       lines = same.lines;
       talk = same.talk;
     }
-prim_alike laws fixed border (Clear s) a b some is same = record {
-  some = same.some;
-  boot = same.boot;
-  halted = same.halted;
-  rows = rows_dropped_alike border s a.core.rows.entries b.core.rows.entries same.rows;
-  known = same.known;
-  procs = same.procs;
-  lines = same.lines;
-  talk = same.talk;
-}
+prim_alike laws fixed border (Clear s) a b some is same =
+    rows_made fixed border a b same (map (dropped_at s) a.core.rows.entries) (map (dropped_at s) b.core.rows.entries)
+    (rows_dropped_alike border s a.core.rows.entries b.core.rows.entries same.rows)
 prim_alike laws fixed border Halt a b some is same = record {
   some = same.some;
   boot = same.boot;
@@ -239,39 +221,18 @@ prim_alike laws fixed border Reload a b some is same = record {
 
 -- a change that isn't seen, made in one alone
 pub prim_unseen : BelowLaws → (fixed : Fixed) (border : Border) (prim : Prim) (a b : Now) → seen border prim ≡ false → Same fixed border a b → Same fixed border (apply fixed prim a) b
-prim_unseen laws fixed border (At_row m s by) a b is same = record {
-  some = same.some;
-  boot = same.boot;
-  halted = same.halted;
-  rows = rows_changed_unseen border m s by a.core.rows.entries b.core.rows.entries is same.rows;
-  known = same.known;
-  procs = same.procs;
-  lines = same.lines;
-  talk = same.talk;
-}
-prim_unseen laws fixed border (Settle m) a b is same = record {
-  some = same.some;
-  boot = same.boot;
-  halted = same.halted;
-  rows = rows_settled_unseen border m a.core.rows.entries b.core.rows.entries is same.rows;
-  known = same.known;
-  procs = same.procs;
-  lines = same.lines;
-  talk = same.talk;
-}
+prim_unseen laws fixed border (At_row m s by) a b is same =
+    rows_made fixed border a b same (map (change_at m s by) a.core.rows.entries) b.core.rows.entries
+    (rows_changed_unseen border m s by a.core.rows.entries b.core.rows.entries is same.rows)
+prim_unseen laws fixed border (Settle m) a b is same =
+    rows_made fixed border a b same (map (settled_at m) a.core.rows.entries) b.core.rows.entries
+    (rows_settled_unseen border m a.core.rows.entries b.core.rows.entries is same.rows)
 prim_unseen laws fixed border (Put_proc m p mode address) a b is same =
     puts_unseen fixed border m p mode address a b (owns fixed.object fixed.topology m p) refl is same
-prim_unseen laws fixed border (Put_line l asserted) a b is same = record {
-  some = same.some;
-  boot = same.boot;
-  halted = same.halted;
-  rows = same.rows;
-  known = same.known;
-  procs = same.procs;
-  lines = BothFrom-set_left (SameLine border) 0 l l asserted (omega arith)
-      (λ y. record { beyond = λ beyond. clash (border.line l) beyond is; released = λ none beyond. clash (border.line l) beyond is }) a.core.lines b.core.lines same.lines;
-  talk = same.talk;
-}
+prim_unseen laws fixed border (Put_line l asserted) a b is same =
+    lines_made fixed border a b same (with_line l asserted a.core.lines) b.core.lines
+    (BothFrom-set_left (SameLine border) 0 l l asserted (omega arith)
+    (λ y. record { beyond = λ beyond. clash (border.line l) beyond is; released = λ none beyond. clash (border.line l) beyond is }) a.core.lines b.core.lines same.lines)
 prim_unseen laws fixed border (Shift m to) a b is same = record {
   some = same.some;
   boot = same.boot;
@@ -282,16 +243,9 @@ prim_unseen laws fixed border (Shift m to) a b is same = record {
   lines = same.lines;
   talk = same.talk;
 }
-prim_unseen laws fixed border (Clear s) a b is same = record {
-  some = same.some;
-  boot = same.boot;
-  halted = same.halted;
-  rows = rows_dropped_unseen border s a.core.rows.entries b.core.rows.entries is same.rows;
-  known = same.known;
-  procs = same.procs;
-  lines = same.lines;
-  talk = same.talk;
-}
+prim_unseen laws fixed border (Clear s) a b is same =
+    rows_made fixed border a b same (map (dropped_at s) a.core.rows.entries) b.core.rows.entries
+    (rows_dropped_unseen border s a.core.rows.entries b.core.rows.entries is same.rows)
 prim_unseen laws fixed border Halt a b is same = record {
   some = same.some;
   boot = same.boot;

@@ -1,25 +1,10 @@
 -- A hidden event pulses no reset line beyond, and any other pulses the same one in two books that agree.
-use Rattle.std.proofs.Common.{◌≡◌, ℕ, ◌==◌, ◌||◌, Bool, true, false, not, if◌then◌else◌, List, [], ◌∷◌, is_some, Option, Some, None, position, refl, sym, ◌∙◌, ap, subst, inl, inr}
-use Rattle.std.proofs.lemmas.Bool.{eqb-true}
-use Rattle.pm_base.specs.declared.events.Event.{Event}
-use Rattle.pm_base.specs.declared.events.Event.TheVariants.{Ipi, Pass}
-use Rattle.pm_base.specs.declared.events.Message.{Message}
-use Rattle.pm_base.specs.declared.names.NodeId.{NodeId}
-use Rattle.pm_object.specs.declared.object.MasterRec.{MasterRec}
-use Rattle.pm_object.specs.Grammar.{IsObject}
-use Rattle.pm_topology.specs.WellFormed.{IsWellFormed}
-use Rattle.pm_core.specs.State.{Fixed, Now, State}
-use Rattle.pm_core.specs.Step.{pulse}
-use Rattle.pm_laws.specs.Agree.{Agree, Same}
-use Rattle.pm_laws.specs.Border.{Border}
-use Rattle.pm_laws.specs.Hidden.{is_hidden, is_within}
+use Rattle.std.proofs.Common.{◌≡◌, Bool, true, false, refl, sym, ◌∙◌, ap, subst}
+use Rattle.pm_laws.proofs.Common.{Agree, BelowLaws, Border, Event, Fixed, Now, Same, State, is_hidden, pulse}
 use Rattle.pm_laws.specs.Pulse.{pulse_beyond}
-use Rattle.pm_laws.specs.Quiet.{quiet_event}
-use Rattle.pm_laws.specs.ReachBorder.{border_of}
 use Rattle.pm_laws.proofs.CallsAlike.{book_of}
 use Rattle.pm_laws.proofs.HiddenLemmas.{HasClosed}
 use Rattle.pm_laws.proofs.EventsLaw.{hidden_fixed}
-use Rattle.pm_laws.proofs.RowFacts.{BelowLaws}
 use Rattle.pm_laws.proofs.VerdictsLaw.{pulse_alike, pulse_hidden}
 
 -- ---- any event, of two books

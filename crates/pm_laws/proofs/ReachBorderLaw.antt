@@ -1,42 +1,30 @@
 -- The border of a reach is closed.
 use Rattle.std.proofs.Common.{◌≡◌, ℕ, ◌+◌, ◌<◌, ◌&&◌, ◌||◌, ◌==◌, Bool, true, false, not, zero, suc, List, [], ◌∷◌, length, slice_get, position, Option, Some, None, refl, ap, subst, sym, ◌∙◌, arith}
 use Rattle.std.specs.Prelude.{option_and_then}
-use Rattle.std.specs.Option.{option_map, option_map_or}
+use Rattle.std.specs.Option.{option_map}
 use Rattle.std.specs.List.{AllByRecursion as Each, list_any}
 use Rattle.std.proofs.lemmas.List.Elements.{All-from_recursion}
 use Rattle.std.proofs.lemmas.Option.{slice_get_within}
 use Rattle.pm_base.specs.declared.names.LineId.{LineId}
-use Rattle.pm_base.specs.declared.names.NodeId.{NodeId}
-use Rattle.pm_base.specs.declared.names.Unit.TheVariants.{Node, Line}
+use Rattle.pm_laws.proofs.Common.{Border, IsBeyond, IsClosed, IsObject, IsPairClosed, IsUserKnown, IsWellFormed, Kind, MasterRec, Node, NodeId, Object, RowSeed, Topology, border_of, brings_in, entry_beyond, kind_of, master_beyond, master_node, named_master, node_beyond, none_within, number_beyond, owner_at, place_of, reset_beyond, unit_beyond, unit_border}
+use Rattle.pm_base.specs.declared.names.Unit.TheVariants.{Line}
 use Rattle.std.proofs.lemmas.Bool.{eqb-true}
 use Rattle.pm_base.proofs.Booleans.{both, equal, pair_of}
 use Rattle.pm_base.proofs.Options.{holds_of}
 use Rattle.pm_base.proofs.Searches.{position-first}
 use Rattle.pm_base.proofs.Tests.{present_at, present_from}
-use Rattle.pm_object.specs.declared.object.MasterRec.{MasterRec}
-use Rattle.pm_object.specs.declared.object.Object.{Object}
-use Rattle.pm_object.specs.Grammar.{IsObject}
-use Rattle.pm_topology.specs.declared.places.Kind.{Kind}
 use Rattle.pm_topology.specs.declared.places.Kind.TheVariants as kinds
 use Rattle.pm_topology.specs.declared.topology.LineDef.{LineDef}
 use Rattle.pm_topology.specs.declared.topology.PowerDef.{PowerDef}
 use Rattle.pm_topology.specs.declared.topology.ProcDef.{ProcDef}
 use Rattle.pm_topology.specs.declared.topology.SlaveDef.{SlaveDef}
-use Rattle.pm_topology.specs.declared.topology.Topology.{Topology}
-use Rattle.pm_topology.specs.Places.{kind_of}
-use Rattle.pm_topology.specs.WellFormed.{IsWellFormed}
 use Rattle.pm_perms.specs.Owner.{has_processor, owner}
 use Rattle.pm_perms.specs.Permits.{may_configure, may_reset, may_shut, may_suspend, may_use, may_wake}
 use Rattle.pm_reach.specs.declared.members.MemberKind.{MemberKind}
 use Rattle.pm_reach.specs.declared.members.MemberKind.TheVariants as members
 use Rattle.pm_reach.specs.Border.{Reaches}
 use Rattle.pm_reach.specs.Leads.{forces_above, forces_proc, node_at, owns, targets}
-use Rattle.pm_rows.specs.declared.row.RowSeed.{RowSeed}
-use Rattle.pm_core.specs.Members.{owner_at}
-use Rattle.pm_core.specs.Pairs.{pairs_of}
-use Rattle.pm_core.specs.Views.{master_node, named_master}
-use Rattle.pm_laws.specs.Border.{Border, IsBeyond, IsClosed, IsPairClosed, IsUserKnown, node_beyond, none_within, unit_beyond}
-use Rattle.pm_laws.specs.ReachBorder.{border_of, brings_in, entry_beyond, master_beyond, number_beyond, place_of, reset_beyond, unit_border}
+use Rattle.pm_state.specs.Pairs.{pairs_of}
 use Rattle.pm_laws.proofs.NamedLaw.{named_beyond}
 use Rattle.pm_laws.proofs.HiddenLemmas.{within_by}
 use Rattle.pm_laws.proofs.OwnsLaw.{owner_owns}

@@ -3,24 +3,17 @@ use Rattle.std.proofs.Common.{◌≡◌, ℕ, ◌<◌, ◌&&◌, Bool, true, fal
 use Rattle.std.specs.Option.{option_map}
 use Rattle.std.proofs.lemmas.Bool.{lt-ltb}
 use Rattle.pm_base.specs.declared.names.LineId.{LineId}
-use Rattle.pm_base.specs.declared.names.NodeId.{NodeId}
-use Rattle.pm_base.specs.declared.names.Unit.TheVariants.{Node, Line}
-use Rattle.pm_object.specs.declared.object.Object.{Object}
+use Rattle.pm_laws.proofs.Common.{Border, IsAllBeyond, IsBorderOf, Node, NodeId, Object, State, Topology, border_of, brings_in, entry_beyond, is_within, master_beyond, master_place, place_of, reset_beyond}
+use Rattle.pm_base.specs.declared.names.Unit.TheVariants.{Line}
 use Rattle.pm_topology.specs.declared.topology.LineDef.{LineDef}
 use Rattle.pm_topology.specs.declared.topology.PowerDef.{PowerDef}
 use Rattle.pm_topology.specs.declared.topology.SlaveDef.{SlaveDef}
-use Rattle.pm_topology.specs.declared.topology.Topology.{Topology}
 use Rattle.pm_reach.specs.declared.members.MemberKind.{MemberKind}
 use Rattle.pm_reach.specs.declared.members.MemberKind.TheVariants as members
 use Rattle.pm_reach.specs.declared.members.Why.TheVariants.{Myself}
 use Rattle.pm_reach.specs.Border.{IsIn}
 use Rattle.pm_reach.specs.Paths.{start}
 use Rattle.pm_reach.specs.Reached.{is_reached}
-use Rattle.pm_core.specs.State.{State}
-use Rattle.pm_core.specs.Values.{master_place}
-use Rattle.pm_laws.specs.Border.{Border}
-use Rattle.pm_laws.specs.Hidden.{is_within}
-use Rattle.pm_laws.specs.ReachBorder.{IsAllBeyond, IsBorderOf, border_of, brings_in, entry_beyond, master_beyond, place_of, reset_beyond}
 use Rattle.pm_laws.proofs.ReachBorderLaw.{edge, place_starts}
 use Rattle.pm_laws.proofs.WithinReach.{ReachLaws, Starts, beyond_parts}
 

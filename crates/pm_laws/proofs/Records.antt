@@ -7,22 +7,16 @@ use Rattle.std.proofs.lemmas.Bool.{cases_lt, eqb-true}
 use Rattle.std.proofs.lemmas.List.Elements.{recursion_from_All}
 use Rattle.std.proofs.lemmas.Option.{get_or_from_slice_get, slice_get_within}
 use Rattle.pm_base.specs.declared.names.LineId.{LineId}
-use Rattle.pm_base.specs.declared.names.NodeId.{NodeId}
+use Rattle.pm_laws.proofs.Common.{AreMasters, IsMaster, IsObject, MasterRec, NodeId, Object, Topology, is_below, is_master_node, kind_of, master_node}
 use Rattle.pm_base.proofs.Booleans.{both, differs, either}
 use Rattle.pm_base.proofs.ListLemmas.{find-Some}
 use Rattle.pm_base.proofs.Searches.{position-first, position-none}
 use Rattle.pm_base.proofs.Tests.{present_at}
-use Rattle.pm_object.specs.declared.object.MasterRec.{MasterRec}
-use Rattle.pm_object.specs.declared.object.Object.{Object}
 use Rattle.pm_object.specs.declared.object.Section.TheVariants.{Masters}
 use Rattle.pm_object.specs.declared.object.SlaveRec.{SlaveRec}
-use Rattle.pm_object.specs.Grammar.{AreMasters, IsMaster, IsObject, is_master_node}
 use Rattle.pm_topology.specs.declared.topology.PowerDef.{PowerDef}
-use Rattle.pm_topology.specs.declared.topology.Topology.{Topology}
-use Rattle.pm_topology.specs.Places.{is_below, kind_of}
 use Rattle.pm_perms.specs.Permits.{can_be_forced, is_in, master_record, may_configure, may_force, may_reset, may_shut, may_suspend, may_use, may_use_by, may_wake, pair_mask, slave_record}
 use Rattle.pm_reach.specs.Leads.{forces_above, forces_at, forces_proc, node_at}
-use Rattle.pm_core.specs.Views.{master_node}
 
 -- ---- the number of the master at a place
 

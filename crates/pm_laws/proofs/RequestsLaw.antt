@@ -1,20 +1,13 @@
 -- The requests to suspend that are made and that end in two sound books that agree, and what is told there.
 use Rattle.std.proofs.Common.{◌≡◌, Bool, true, false, [], None, refl, ap, sym, ◌∙◌, subst}
-use Rattle.pm_base.specs.declared.events.Event.{Event}
-use Rattle.pm_core.specs.Sound.{IsSound}
-use Rattle.pm_core.specs.State.{Fixed, Now, State}
-use Rattle.pm_core.specs.Step.{asks, ended, says, talk}
-use Rattle.pm_core.specs.Verdict.{asked_by as asked_of_says}
-use Rattle.pm_laws.specs.Agree.{Same, Agree}
-use Rattle.pm_laws.specs.Border.{Border, IsClosed}
-use Rattle.pm_laws.specs.Hidden.{is_hidden}
-use Rattle.pm_laws.specs.SeenTalk.{talk_part, IsTalkUnseen, asks_beyond, ends_beyond}
+use Rattle.pm_laws.proofs.Common.{Agree, BelowLaws, Border, Event, Fixed, IsClosed, IsSound, IsTalkUnseen, Now, Same, State, asks_beyond, ended, ends_beyond, is_hidden, says, talk, talk_part}
+use Rattle.pm_core.specs.Step.{asks}
+use Rattle.pm_calls.specs.Verdict.{asked_by as asked_of_says}
 use Rattle.pm_laws.proofs.AgreeLaw.{agree_self}
 use Rattle.pm_laws.proofs.CallsAlike.{book_of}
 use Rattle.pm_laws.proofs.HiddenLemmas.{HasClosed}
 use Rattle.pm_laws.proofs.EndsLaw.{ended_alike, ended_hidden}
 use Rattle.pm_laws.proofs.EventsLaw.{hidden_fixed}
-use Rattle.pm_laws.proofs.RowFacts.{BelowLaws}
 use Rattle.pm_laws.proofs.TellingsLaw.{talk_alike, talk_hidden}
 use Rattle.pm_laws.proofs.VerdictsLaw.{event_within, none_asked, says_alike}
 

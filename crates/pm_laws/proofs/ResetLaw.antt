@@ -4,32 +4,19 @@ use Rattle.std.specs.Prelude.{option_and_then}
 use Rattle.std.specs.Option.{option_map_or}
 use Rattle.std.proofs.lemmas.Bool.{eqb-true}
 use Rattle.pm_base.specs.declared.names.LineId.{LineId}
-use Rattle.pm_base.specs.declared.names.Mode.TheVariants.{Off}
-use Rattle.pm_base.specs.declared.names.NodeId.{NodeId}
+use Rattle.pm_laws.proofs.Common.{AreHidden, Border, IsClosed, IsUnseen, Kind, NodeId, Object, Off, Prim, Put_line, Put_proc, State, Topology, called, kind_at, kind_of, master_node, owner_at, proc_place, seen, seen_part, stages_of}
 use Rattle.pm_base.proofs.Searches.{position-first}
 use Rattle.pm_ipi.specs.declared.calls.Call.TheVariants.{ResetAssert}
-use Rattle.pm_object.specs.declared.object.Object.{Object}
 use Rattle.pm_perms.specs.Owner.{owner}
 use Rattle.pm_perms.specs.Permits.{may_reset}
 use Rattle.pm_reach.specs.Leads.{owns, targets}
-use Rattle.pm_topology.specs.declared.places.Kind.{Kind}
-use Rattle.pm_topology.specs.declared.places.Kind.TheVariants.{Proc, Slave, Power, Unknown}
+use Rattle.pm_topology.specs.declared.places.Kind.TheVariants.{Proc}
 use Rattle.pm_topology.specs.declared.topology.LineDef.{LineDef}
 use Rattle.pm_topology.specs.declared.topology.ProcDef.{ProcDef}
-use Rattle.pm_topology.specs.declared.topology.Topology.{Topology}
-use Rattle.pm_topology.specs.Places.{kind_at, kind_of, proc_place}
-use Rattle.pm_core.specs.declared.reset_lines.OwnedProc.{OwnedProc}
-use Rattle.pm_core.specs.ResetLines.{line_view, owned_by, owned_node, owned_of, reset_at, reset_by}
-use Rattle.pm_core.specs.Members.{owner_at}
-use Rattle.pm_core.specs.Verdict.{stages_of}
-use Rattle.pm_core.specs.Prims.{Prim, Put_line, Put_proc}
-use Rattle.pm_core.specs.State.{State}
-use Rattle.pm_core.specs.Step.{called}
-use Rattle.pm_core.specs.Values.{line_place}
-use Rattle.pm_core.specs.Views.{master_node}
-use Rattle.pm_core.specs.calls.ResetAssert.{line_put, stopped, stopped_by}
-use Rattle.pm_laws.specs.Border.{Border, IsClosed}
-use Rattle.pm_laws.specs.Seen.{seen, seen_part, IsUnseen, AreHidden}
+use Rattle.pm_calls.specs.declared.reset_lines.OwnedProc.{OwnedProc}
+use Rattle.pm_calls.specs.ResetLines.{line_view, owned_by, owned_node, owned_of, reset_at, reset_by}
+use Rattle.pm_state.specs.Values.{line_place}
+use Rattle.pm_calls.specs.calls.ResetAssert.{line_put, stopped, stopped_by}
 use Rattle.pm_laws.proofs.DownHidden.{call_hides}
 use Rattle.pm_laws.proofs.HiddenLemmas.{within_by}
 use Rattle.pm_laws.proofs.OwnsLaw.{owner_owns}
@@ -88,9 +75,7 @@ module _ (border : Border) (book : State) (closed : IsClosed book.fixed.object b
   kind_within : (node : NodeId) (kind : Kind) (x : OwnedProc) → line.target ≡ Some node → kind_of book.fixed.topology node ≡ kind
       → owned_of kind book.fixed ≡ Some x → border.master x.owner ≡ false
   kind_within node (Proc p) x target kind is = owner_within node p (owner_at book.fixed.object book.fixed.topology p) x target kind refl is
-  kind_within node (Slave s) x target kind is = cc
-  kind_within node (Power w) x target kind is = cc
-  kind_within node Unknown x target kind is = cc
+  kind_within node _ x target kind is = cc
 
   target_within : (target : Option NodeId) (x : OwnedProc) → line.target ≡ target → owned_node target book.fixed ≡ Some x → border.master x.owner ≡ false
   target_within None x target is = cc

@@ -4,37 +4,15 @@ use Rattle.std.proofs.Common.{◌≡◌, ℕ, Bool, true, false, not, ◌&&◌, 
 use Rattle.std.specs.List.{list_any, AllByRecursion as Each}
 use Rattle.std.proofs.lemmas.Bool.{eqb-true}
 use Rattle.pm_base.specs.declared.caps.Caps.{Caps}
-use Rattle.pm_base.specs.declared.names.Mode.{Mode}
-use Rattle.pm_base.specs.declared.names.Mode.TheVariants.{Off, Active, Asleep, Suspending}
+use Rattle.pm_laws.proofs.Common.{BelowLaws, Border, Both, Entry, IsBeyond, IsWithin, Mode, Off, RowSeed, SameRow, SameRows, is_arming}
 use Rattle.pm_base.proofs.Booleans.{both}
 use Rattle.pm_rows.specs.declared.row.Change.{Change}
 use Rattle.pm_rows.specs.declared.row.Change.TheVariants.{Request, Release, Set, Limit, Arm}
-use Rattle.pm_rows.specs.declared.row.Entry.{Entry}
 use Rattle.pm_rows.specs.declared.row.Row.{Row}
-use Rattle.pm_rows.specs.declared.row.RowSeed.{RowSeed}
 use Rattle.pm_rows.specs.Rows.{applied, cleared, cleared_entry, dropped_at, loaded, reloaded, set_in, is_at, is_rival, change_at, settled_at}
 use Rattle.pm_rows.specs.Shift.{shifted_row, is_taken, shift_at}
-use Rattle.pm_laws.specs.Agree.{SameRow, IsWithin, SameRows}
-use Rattle.pm_laws.specs.Border.{Border, IsBeyond}
-use Rattle.pm_laws.specs.Both.{Both}
-use Rattle.pm_object.specs.declared.object.Object.{Object}
-use Rattle.pm_topology.specs.declared.topology.Topology.{Topology}
-use Rattle.pm_topology.specs.Units.{UnitLaws}
-use Rattle.pm_topology.specs.Places.{KindLaws}
-use Rattle.pm_procs.specs.Procs.{has_member}
-use Rattle.pm_core.specs.Members.{members_of, owns}
-use Rattle.pm_laws.specs.Seen.{is_arming}
 use Rattle.pm_laws.proofs.AgreeLaw.{clash}
 use Rattle.pm_laws.proofs.Places.{Both-map, Both-map_left, Both-any, Each-map}
-
--- what the crates below promise: the kind of a node is that of its entry, a shift arms and holds by the two modes alone, a
--- master's processors are its own, and the units of a chip stand in order
-pub record BelowLaws : Type 0 where
-  pub kinds : KindLaws
-  pub armed : (from to : Mode) (taken other : Bool) (a b : Row) → a.armed ≡ b.armed → (shifted_row from to taken a).armed ≡ (shifted_row from to other b).armed
-  pub owned : (object : Object) (t : Topology) (m p : ℕ) → has_member m p (members_of object t) ≡ true → owns object t m p ≡ true
-  pub hold : (from to : Mode) (taken other : Bool) (a b : Row) → a.hold ≡ b.hold → (shifted_row from to taken a).hold ≡ (shifted_row from to other b).hold
-  pub units : UnitLaws
 
 -- ---- one row
 
@@ -104,9 +82,7 @@ rows_map_left border false f a b pair each same =
 
 set_armed : (mode : Mode) (a b : Row) (caps : Caps) → a.armed ≡ b.armed → (set_in mode caps a).armed ≡ (set_in mode caps b).armed
 set_armed Off a b caps is = is
-set_armed Active a b caps is = is
-set_armed Asleep a b caps is = is
-set_armed Suspending a b caps is = is
+set_armed _ a b caps is = is
 
 applied_armed : (by : Change) (a b : Row) → a.armed ≡ b.armed → (applied by a).armed ≡ (applied by b).armed
 applied_armed (Request caps) a b is = is
@@ -117,22 +93,17 @@ applied_armed (Arm target) a b is = refl
 
 set_hold : (mode : Mode) (a : Row) (caps : Caps) → (set_in mode caps a).hold ≡ a.hold
 set_hold Off a caps = refl
-set_hold Active a caps = refl
-set_hold Asleep a caps = refl
-set_hold Suspending a caps = refl
+set_hold _ a caps = refl
 
 applied_hold : (by : Change) (a : Row) → (applied by a).hold ≡ a.hold
 applied_hold (Request caps) a = refl
 applied_hold Release a = refl
 applied_hold (Set mode caps) a = set_hold mode a caps
-applied_hold (Limit latency) a = refl
-applied_hold (Arm target) a = refl
+applied_hold _ a = refl
 
 set_arming : (mode : Mode) (a : Row) (caps : Caps) → (set_in mode caps a).armed ≡ a.armed
 set_arming Off a caps = refl
-set_arming Active a caps = refl
-set_arming Asleep a caps = refl
-set_arming Suspending a caps = refl
+set_arming _ a caps = refl
 
 unarmed : (by : Change) (a : Row) → is_arming by ≡ false → (applied by a).armed ≡ a.armed
 unarmed (Request caps) a is = refl

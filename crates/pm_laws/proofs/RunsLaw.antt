@@ -1,11 +1,8 @@
 -- Events one after another: what holds part of the way through them, and how their end is that of a run.
 use Rattle.std.proofs.Common.{◌≡◌, List, [], ◌∷◌, Option, None, Some, MatchOption, refl, ap, sym, ◌∙◌, subst}
-use Rattle.pm_base.specs.declared.events.Event.{Event}
+use Rattle.pm_laws.proofs.Common.{Event, IsSound, MeetsRequirements, State, value}
 use Rattle.pm_core.specs.declared.outbox.Outbox.{Outbox}
 use Rattle.pm_core.specs.Outbox.{HasRoomFor, Holds, KeepsRoom, Outputs}
-use Rattle.pm_core.specs.Sound.{IsSound, MeetsRequirements}
-use Rattle.pm_core.specs.State.{State}
-use Rattle.pm_core.specs.Values.{value}
 use Rattle.pm_run.specs.Run.{Core, Setup, book_after, core_0, core_of, cores_of}
 use Rattle.pm_laws.specs.Runs.{IsLeftBy, end_of_run, last_core, last_outputs}
 

@@ -1,19 +1,14 @@
 -- Two core steps tell the same where their outboxes hold what two core steps that tell the same put out.
 use Rattle.std.proofs.Common.{◌≡◌, ◌∙◌, ap, sym}
-use Rattle.pm_base.specs.declared.events.Event.{Event}
-use Rattle.pm_base.specs.declared.names.NodeId.{NodeId}
+use Rattle.pm_laws.proofs.Common.{Border, Event, NodeId, State, effect, ended, ends_beyond, outputs}
 use Rattle.pm_core.specs.declared.outbox.Outbox.{Outbox}
-use Rattle.pm_core.specs.Callbacks.{late_replies}
+use Rattle.pm_tell.specs.Callbacks.{late_replies}
 use Rattle.pm_core.specs.Outbox.{Holds}
-use Rattle.pm_core.specs.State.{State}
-use Rattle.pm_core.specs.Step.{effect, ended, outputs}
 use Rattle.pm_run.specs.Run.{core_of}
 use Rattle.pm_laws.specs.Answers.{is_dropped}
-use Rattle.pm_laws.specs.Border.{Border}
-use Rattle.pm_laws.specs.Callbacks.{calls_beyond}
+use Rattle.pm_laws.specs.Callbacks.{callbacks_beyond}
 use Rattle.pm_laws.specs.Left.{border_in, stepped}
 use Rattle.pm_laws.specs.Pulse.{pulse_beyond}
-use Rattle.pm_laws.specs.SeenTalk.{ends_beyond}
 use Rattle.pm_laws.specs.Told.{SameTold}
 use Rattle.pm_laws.specs.Values.{moves_beyond, starts_beyond}
 
@@ -26,7 +21,7 @@ both_stepped a b event other m x y oa ob first second held_a held_b same =
     let moves = moves_beyond a.fixed.object a.fixed.topology border in
     let starts = starts_beyond a.fixed.object a.fixed.topology border in
     let pulse = pulse_beyond a.fixed.topology border in
-    let calls = calls_beyond a.fixed.object border in
+    let calls = callbacks_beyond a.fixed.object border in
     record {
       moves = ap moves held_a.moved ∙ same.moves ∙ sym (ap moves held_b.moved);
       starts = ap starts held_a.starts ∙ same.starts ∙ sym (ap starts held_b.starts);
@@ -35,7 +30,7 @@ both_stepped a b event other m x y oa ob first second held_a held_b same =
       ends = same.ends;
       late = ap (λ (s : State). late_replies (ends_beyond border (ended event a)) s) first ∙ same.late
           ∙ sym (ap (λ (s : State). late_replies (ends_beyond border (ended other b)) s) second);
-      calls = ap calls held_a.calls ∙ same.calls ∙ sym (ap calls held_b.calls);
+      callbacks = ap calls held_a.callbacks ∙ same.callbacks ∙ sym (ap calls held_b.callbacks);
       drop = λ beyond. ap is_dropped held_a.answer ∙ same.drop beyond ∙ sym (ap is_dropped held_b.answer);
       answer = λ beyond. held_a.answer ∙ same.answer beyond ∙ sym held_b.answer;
     }

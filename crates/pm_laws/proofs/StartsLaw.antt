@@ -3,39 +3,22 @@ use Rattle.std.proofs.Common.{◌≡◌, Bool, true, false, not, ℕ, ◌&&◌, 
 use Rattle.std.specs.Prelude.{filter}
 use Rattle.std.specs.List.{AllByRecursion as Each}
 use Rattle.std.proofs.lemmas.List.Elements.{filter-append}
-use Rattle.pm_base.specs.declared.events.Event.{Event}
-use Rattle.pm_base.specs.declared.events.Event.TheVariants.{Pass}
-use Rattle.pm_base.specs.declared.names.Mode.TheVariants.{Off, Active}
-use Rattle.pm_base.specs.declared.names.NodeId.{NodeId}
-use Rattle.pm_base.specs.declared.names.Unit.{Unit}
-use Rattle.pm_base.specs.declared.names.Unit.TheVariants.{Node, Line}
+use Rattle.pm_laws.proofs.Common.{Active, Agree, BelowLaws, Border, Both, Event, Fixed, IsClosed, IsSound, Kind, Node, NodeId, Now, Off, Pass, Prim, Same, State, Unit, effect, is_awake, is_hidden, is_place, kind_of, mode_at, none_within, outputs, owner_at, path, proc_at, same_mode, stages, unit_beyond}
+use Rattle.pm_base.specs.declared.names.Unit.TheVariants.{Line}
 use Rattle.pm_base.proofs.Booleans.{equal}
-use Rattle.pm_topology.specs.declared.places.Kind.{Kind}
-use Rattle.pm_topology.specs.declared.places.Kind.TheVariants.{Proc, Slave, Power, Unknown}
-use Rattle.pm_topology.specs.Places.{kind_of}
+use Rattle.pm_topology.specs.declared.places.Kind.TheVariants.{Proc}
 use Rattle.pm_topology.specs.Units.{units_of}
 use Rattle.pm_procs.specs.declared.procs.Proc.{Proc as Processor}
-use Rattle.pm_procs.specs.Modes.{is_awake, same_mode}
-use Rattle.pm_procs.specs.Procs.{mode_at, proc_at}
-use Rattle.pm_core.specs.declared.outbox.Start.{Start}
-use Rattle.pm_core.specs.Members.{is_place, owner_at, owns}
-use Rattle.pm_core.specs.Prims.{Prim}
-use Rattle.pm_core.specs.Sound.{IsSound}
-use Rattle.pm_core.specs.Stages.{after_stage, path_from}
-use Rattle.pm_core.specs.Starts.{start_by, start_of, starts_among, was_down}
-use Rattle.pm_core.specs.State.{Fixed, Now, State}
-use Rattle.pm_core.specs.Step.{effect, outputs, path, stages}
-use Rattle.pm_laws.specs.Agree.{Agree, Same}
-use Rattle.pm_laws.specs.Border.{Border, IsClosed, none_within, unit_beyond}
-use Rattle.pm_laws.specs.Both.{Both}
-use Rattle.pm_laws.specs.Hidden.{is_hidden}
+use Rattle.pm_values.specs.declared.starts.Start.{Start}
+use Rattle.pm_state.specs.Members.{owns}
+use Rattle.pm_state.specs.Stages.{after_stage, path_from}
+use Rattle.pm_values.specs.Starts.{start_by, start_of, starts_among, was_down}
 use Rattle.pm_laws.specs.Values.{is_beyond, starts_beyond}
 use Rattle.pm_laws.proofs.AgreeLaw.{agree_sym, agree_trans, same_sym}
 use Rattle.pm_laws.proofs.CallsAlike.{book_of}
 use Rattle.pm_laws.proofs.EventsLaw.{event_alike, event_hidden, hidden_fixed, some_beyond}
 use Rattle.pm_laws.proofs.FollowLaw.{proc_alike}
 use Rattle.pm_laws.proofs.PathLaw.{path_alike, path_hidden}
-use Rattle.pm_laws.proofs.RowFacts.{BelowLaws}
 use Rattle.pm_laws.proofs.StepLaw.{effect_alike, effect_hidden}
 use Rattle.pm_laws.proofs.ValuesLaw.{mode_same, nobody_off}
 
@@ -87,9 +70,7 @@ module _ (fixed : Fixed) (border : Border) where
         → Alike (start_by down_a (book_of fixed a) node kind) (start_by down_b (book_of fixed b) node kind)
     kind_starts node (Proc p) is =
         proc_starts node p (owner_at fixed.object fixed.topology p) (none_within border (owner_at fixed.object fixed.topology p)) is refl refl
-    kind_starts node (Slave s) is = refl
-    kind_starts node (Power w) is = refl
-    kind_starts node Unknown is = refl
+    kind_starts node _ is = refl
 
     unit_starts : (unit : Unit) → Alike (start_of down_a (book_of fixed a) unit) (start_of down_b (book_of fixed b) unit)
     unit_starts (Node node) = kind_starts node (kind_of fixed.topology node) refl

@@ -2,40 +2,23 @@
 use Rattle.std.proofs.Common.{◌≡◌, ℕ, ◌==◌, Bool, true, false, not, if◌then◌else◌, position, Option, None, Some, refl, ap, sym, ◌∙◌, subst}
 use Rattle.std.specs.List.{list_any}
 use Rattle.std.proofs.lemmas.Bool.{eqb-true}
-use Rattle.pm_base.specs.declared.events.Event.{Event}
-use Rattle.pm_base.specs.declared.events.Event.TheVariants.{Ipi, Pass}
+use Rattle.pm_laws.proofs.Common.{Agree, BelowLaws, Border, Event, Fixed, Ipi, IsClosed, IsObject, IsSound, IsWellFormed, MasterRec, NodeId, Object, Pass, State, Topology, border_of, effect, is_hidden, is_within, master_place, none_within, place_of}
 use Rattle.pm_base.specs.declared.events.Message.{Message}
-use Rattle.pm_base.specs.declared.names.NodeId.{NodeId}
 use Rattle.pm_base.proofs.Booleans.{both}
-use Rattle.pm_object.specs.declared.object.MasterRec.{MasterRec}
-use Rattle.pm_object.specs.declared.object.Object.{Object}
-use Rattle.pm_object.specs.Grammar.{IsObject}
-use Rattle.pm_topology.specs.declared.topology.Topology.{Topology}
-use Rattle.pm_topology.specs.WellFormed.{IsWellFormed}
 use Rattle.pm_reach.proofs.MembershipLaw.{is_there}
-use Rattle.pm_core.specs.Sound.{IsSound}
-use Rattle.pm_core.specs.State.{Fixed, State}
-use Rattle.pm_core.specs.Step.{effect}
-use Rattle.pm_core.specs.Values.{master_place}
 use Rattle.pm_run.specs.Run.{core_of}
-use Rattle.pm_laws.specs.Agree.{Agree}
 use Rattle.pm_laws.specs.Beside.{IsOwn}
-use Rattle.pm_laws.specs.Border.{Border, IsClosed, none_within}
-use Rattle.pm_laws.specs.Hidden.{is_hidden, is_within}
 use Rattle.pm_laws.specs.Left.{border_in}
 use Rattle.pm_laws.specs.Quiet.{quiet_event}
-use Rattle.pm_laws.specs.ReachBorder.{border_of, place_of}
 use Rattle.pm_laws.specs.Told.{SameTold, TellsNothing}
-use Rattle.pm_laws.proofs.ToldLaw.{StepLaws, nothing_told, same_told}
+use Rattle.pm_laws.proofs.AgreeLaw.{agree_self, agree_sym, agree_trans}
+use Rattle.pm_laws.proofs.StepLaw.{message_within, step_hidden, steps_agree}
+use Rattle.pm_laws.proofs.ToldLaw.{nothing_told, same_told}
 
--- what is known of the border of a reach, and of books that agree
+-- what is known of the border of a reach
 pub record ReachLaws : Type 0 where
   pub closed : (object : Object) (t : Topology) (m : NodeId) → IsObject object → IsWellFormed t → IsClosed object t (border_of object t m)
   pub own : (m : NodeId) (book : State) → is_within (border_of book.fixed.object book.fixed.topology m) (master_place m book) ≡ true
-  pub messages : (border : Border) (master : NodeId) (message : Message) (book : State)
-      → is_within border (master_place master book) ≡ true → is_hidden border (Ipi master message) book ≡ true
-  pub turned : (border : Border) (a b : State) → Agree border a b → Agree border b a
-  pub through : (border : Border) (a b c : State) → Agree border a b → Agree border b c → Agree border a c
 
 -- ---- an event, or nothing
 
@@ -61,11 +44,11 @@ within_itself : (border : Border) (place : Option ℕ) → (place ≡ None → �
 within_itself border None there within beyond = there refl
 within_itself border (Some k) there within beyond = not_beyond (border.master k) within beyond
 
-module _ (reach : ReachLaws) (steps : StepLaws) (m : NodeId) where
+module _ (reach : ReachLaws) (laws : BelowLaws) (m : NodeId) where
   -- the messages of a master are hidden from beyond its reach
   own_hidden : (event : Event) (a : State) → IsOwn m event → is_hidden (border_in a m) event a ≡ true
   own_hidden (Ipi master message) a is =
-      reach.messages (border_in a m) master message a
+      message_within (border_in a m) master message a
       (ap (λ (n : ℕ). is_within (border_in a m) (position (λ (r : MasterRec). r.node == n) a.fixed.object.masters)) is ∙ reach.own m a)
   own_hidden event a is = absurd is
 
@@ -82,54 +65,54 @@ module _ (reach : ReachLaws) (steps : StepLaws) (m : NodeId) where
     pub both_apart : (event : Event) → Agree edge (effect event a) (effect event b)
         × SameTold a.fixed.object a.fixed.topology edge (core_of event a) (core_of event b)
     both_apart event = (
-      steps.both edge event a b closed_a sound_a sound_b agree,
-      same_told steps edge event a b closed_a sound_a sound_b agree object chip,
+      steps_agree laws edge event a b closed_a sound_a sound_b agree,
+      same_told laws edge event a b closed_a sound_a sound_b agree object chip,
     )
 
     pub left_apart : (event : Event) → IsOwn m event → Agree edge (effect event a) b
         × TellsNothing a.fixed.object a.fixed.topology edge (core_of event a)
     left_apart event own =
         let is = own_hidden event a own in (
-          steps.hidden edge event a b closed_a sound_a sound_b is agree,
-          nothing_told steps edge event a closed_a sound_a is object,
+          step_hidden laws edge event a b closed_a sound_a sound_b is agree,
+          nothing_told laws edge event a closed_a sound_a is object,
         )
 
     -- a book in which nothing happens stays
     pub rest_apart : Agree edge a (effect Pass b) × TellsNothing a.fixed.object a.fixed.topology edge (core_of Pass b)
     rest_apart =
-        let stays : Agree edge (effect Pass b) b = steps.hidden edge Pass b b closed_b sound_b sound_b refl (steps.itself edge b closed_b sound_b) in
+        let stays : Agree edge (effect Pass b) b = step_hidden laws edge Pass b b closed_b sound_b sound_b refl (agree_self laws.units edge b closed_b sound_b) in
         let P : Fixed → Type 0 = λ fixed. IsObject fixed.object in
         let Q : Fixed → Type 0 = λ fixed. TellsNothing fixed.object fixed.topology edge (core_of Pass b) in (
-          reach.through edge a b (effect Pass b) agree (reach.turned edge (effect Pass b) b stays),
-          subst Q (sym agree.fixed) (nothing_told steps edge Pass b closed_b sound_b refl (subst P agree.fixed object)),
+          agree_trans edge a b (effect Pass b) agree (agree_sym edge (effect Pass b) b stays),
+          subst Q (sym agree.fixed) (nothing_told laws edge Pass b closed_b sound_b refl (subst P agree.fixed object)),
         )
 
 -- ---- an event in the one book, and in the other the same, or nothing where it is a message of the master
 
 -- who tells nothing tells the same, where the master is one of the object, whose message is of nobody beyond
-pub agree_quiet : ReachLaws → StepLaws → (m : NodeId) (event : Event) (a b : State) → IsObject a.fixed.object → IsWellFormed a.fixed.topology
+pub agree_quiet : ReachLaws → BelowLaws → (m : NodeId) (event : Event) (a b : State) → IsObject a.fixed.object → IsWellFormed a.fixed.topology
     → IsSound a → IsSound b → Agree (border_in a m) a b
     → Agree (border_in a m) (effect event a) (effect (quiet_event m event) b)
-agree_quiet reach steps m event a b object chip sound_a sound_b agree =
+agree_quiet reach laws m event a b object chip sound_a sound_b agree =
     by_quiet m (λ one other. Agree (border_in a m) (effect one a) (effect other b))
-    (λ one. (both_apart reach steps m a b object chip sound_a sound_b agree one).0)
+    (λ one. (both_apart reach laws m a b object chip sound_a sound_b agree one).0)
     (λ message.
-    let still : Agree (border_in a m) a (effect Pass b) = (rest_apart reach steps m a b object chip sound_a sound_b agree).0 in
-    let itself : Agree (border_in a m) a a = steps.itself (border_in a m) a (reach.closed a.fixed.object a.fixed.topology m object chip) sound_a in
-    reach.through (border_in a m) (effect (Ipi m message) a) a (effect Pass b)
-    (left_apart reach steps m a a object chip sound_a sound_a itself (Ipi m message) refl).0 still)
+    let still : Agree (border_in a m) a (effect Pass b) = (rest_apart reach laws m a b object chip sound_a sound_b agree).0 in
+    let itself : Agree (border_in a m) a a = agree_self laws.units (border_in a m) a (reach.closed a.fixed.object a.fixed.topology m object chip) sound_a in
+    agree_trans (border_in a m) (effect (Ipi m message) a) a (effect Pass b)
+    (left_apart reach laws m a a object chip sound_a sound_a itself (Ipi m message) refl).0 still)
     event
 
-pub told_quiet : ReachLaws → StepLaws → (m : NodeId) (event : Event) (a b : State) → IsObject a.fixed.object → IsWellFormed a.fixed.topology
+pub told_quiet : ReachLaws → BelowLaws → (m : NodeId) (event : Event) (a b : State) → IsObject a.fixed.object → IsWellFormed a.fixed.topology
     → list_any (λ (r : MasterRec). r.node == m.0) a.fixed.object.masters ≡ true
     → IsSound a → IsSound b → Agree (border_in a m) a b
     → SameTold a.fixed.object a.fixed.topology (border_in a m) (core_of event a) (core_of (quiet_event m event) b)
-told_quiet reach steps m event a b object chip named sound_a sound_b agree =
+told_quiet reach laws m event a b object chip named sound_a sound_b agree =
     by_quiet m (λ one other. SameTold a.fixed.object a.fixed.topology (border_in a m) (core_of one a) (core_of other b))
-    (λ one. (both_apart reach steps m a b object chip sound_a sound_b agree one).1)
+    (λ one. (both_apart reach laws m a b object chip sound_a sound_b agree one).1)
     (λ message.
-    let first = (left_apart reach steps m a b object chip sound_a sound_b agree (Ipi m message) refl).1 in
-    let second = (rest_apart reach steps m a b object chip sound_a sound_b agree).1 in
+    let first = (left_apart reach laws m a b object chip sound_a sound_b agree (Ipi m message) refl).1 in
+    let second = (rest_apart reach laws m a b object chip sound_a sound_b agree).1 in
     let own_beyond : none_within (border_in a m) (place_of a.fixed.object m) ≡ true → ⊥ =
     within_itself (border_in a m) (place_of a.fixed.object m) (is_there (λ (r : MasterRec). r.node == m.0) a.fixed.object.masters named) (reach.own m a)
     in
@@ -140,7 +123,7 @@ told_quiet reach steps m event a b object chip named sound_a sound_b agree =
       asked = first.asked ∙ sym second.asked;
       ends = first.ends ∙ sym second.ends;
       late = first.late ∙ sym second.late;
-      calls = first.calls ∙ sym second.calls;
+      callbacks = first.callbacks ∙ sym second.callbacks;
       drop = λ beyond. absurd (own_beyond beyond);
       answer = λ beyond. absurd (own_beyond (both _ _ beyond).0);
     })

@@ -1,25 +1,15 @@
 -- A step keeps two books in agreement, and one of a hidden event is not seen.
 use Rattle.std.proofs.Common.{◌≡◌, Bool, true, false, sym, ◌∙◌, refl, subst}
-use Rattle.pm_base.specs.declared.events.Event.{Event}
-use Rattle.pm_base.specs.declared.events.Event.TheVariants.{Ipi}
+use Rattle.pm_laws.proofs.Common.{Agree, BelowLaws, Border, Event, Fixed, Ipi, IsClosed, IsSound, KnowsModes, NodeId, Now, Same, State, changes_within, effect, is_hidden, is_within, master_place, stages, talk}
 use Rattle.pm_base.specs.declared.events.Message.{Message}
-use Rattle.pm_base.specs.declared.names.NodeId.{NodeId}
 use Rattle.pm_base.proofs.Booleans.{first_passes}
 use Rattle.pm_ipi.specs.Calls.{call_of}
-use Rattle.pm_core.specs.Sound.{IsSound, KnowsModes}
-use Rattle.pm_core.specs.Stages.{after_stages}
-use Rattle.pm_core.specs.State.{Fixed, Now, State}
-use Rattle.pm_core.specs.Step.{effect, stages, talk}
-use Rattle.pm_core.specs.Values.{master_place}
-use Rattle.pm_laws.specs.Agree.{Same, Agree}
-use Rattle.pm_laws.specs.Border.{Border, IsClosed}
-use Rattle.pm_laws.specs.Hidden.{is_within, changes_within, is_hidden}
+use Rattle.pm_state.specs.Stages.{after_stages}
 use Rattle.pm_laws.proofs.AgreeLaw.{agree_sym, agree_trans, same_sym}
 use Rattle.pm_laws.proofs.CallsAlike.{book_of}
 use Rattle.pm_laws.proofs.HiddenLemmas.{HasClosed}
 use Rattle.pm_laws.proofs.EventsLaw.{event_alike, event_hidden, hidden_fixed, some_beyond}
 use Rattle.pm_laws.proofs.PathLaw.{stages_alike, stages_hidden}
-use Rattle.pm_laws.proofs.RowFacts.{BelowLaws}
 use Rattle.pm_laws.proofs.TalkFacts.{talked_alike, talked_unseen}
 use Rattle.pm_laws.proofs.TellingsLaw.{talk_alike, talk_hidden}
 

@@ -5,12 +5,8 @@ use Rattle.std.specs.Prelude.{option_map, slice_set}
 use Rattle.pm_notify.specs.MasterNotes.{MasterNotes, forgotten, with_note, with_notifier, without_note}
 use Rattle.pm_notify.specs.Notify.{notes_for}
 use Rattle.pm_procs.specs.Pending.{dropped, lowered}
-use Rattle.pm_core.specs.State.{TalkHalf, State}
-use Rattle.pm_core.specs.Talk.{Talk, Ask, Lower, End, Renew, Forget, Notify, Take, Wait, apply_talk, talks, talked}
-use Rattle.pm_laws.specs.Agree.{SameEntries, SameMasterNotes, SamePending, SameTalk, Agree}
-use Rattle.pm_laws.specs.Border.{Border, HasSome, IsBeyond}
-use Rattle.pm_laws.specs.Both.{BothFrom}
-use Rattle.pm_laws.specs.SeenTalk.{seen_talk, talk_part, IsTalkUnseen}
+use Rattle.pm_laws.proofs.Common.{Agree, Border, BothFrom, HasSome, IsBeyond, IsTalkUnseen, SameEntries, SameMasterNotes, SamePending, SameTalk, State, TalkHalf, seen_talk, talk_part}
+use Rattle.pm_state.specs.Talk.{Talk, Ask, Lower, End, Renew, Forget, Notify, Take, Wait, apply_talk, talks, talked}
 use Rattle.pm_laws.proofs.AgreeLaw.{clash, talk_sym, talk_trans}
 use Rattle.pm_laws.proofs.MasterNotesFacts.{forgotten_both, master_notes_same, note_both, note_left, notifier_both, take_both, take_left}
 use Rattle.pm_laws.proofs.Places.{BothFrom-map, BothFrom-map_left, BothFrom-set, BothFrom-set_at, BothFrom-set_left}

@@ -1,50 +1,29 @@
 -- All that is told in a step: of a hidden event nothing is seen of it, and of any other the same in two books that agree.
 use Rattle.std.proofs.Common.{◌≡◌, ℕ, Bool, true, false, not, ◌||◌, if◌then◌else◌, List, [], ◌++◌, Option, Some, None, refl, sym, ◌∙◌, ap}
 use Rattle.std.specs.Prelude.{flat_map, map, option_and_then}
-use Rattle.pm_base.specs.declared.events.Event.{Event}
-use Rattle.pm_base.specs.declared.events.Event.TheVariants.{Ipi}
-use Rattle.pm_base.specs.declared.names.Mode.{Mode}
-use Rattle.pm_base.specs.declared.names.Mode.TheVariants.{Off, Active, Asleep, Suspending}
-use Rattle.pm_base.specs.declared.names.NodeId.{NodeId}
+use Rattle.pm_laws.proofs.Common.{Active, Agree, Asleep, BelowLaws, Border, BothFrom, Called, Event, Fixed, HasSome, Ipi, IsBeyond, IsClosed, IsSound, IsTalkUnseen, KnowsModes, Mode, NodeId, Now, Off, Same, SameMasterNotes, State, Suspending, aborted_by, asked_by, asks_beyond, called, changes_within, ended, ends_beyond, call_at, is_awake, may_call, is_hidden, is_within, master_place, mode_of_master, modes_in, news, notes_after, notes_beyond, opening, path, response_of, same_mode, says, served, stages, talk, talk_part, time_of, verdict, verdict_of}
 use Rattle.pm_base.proofs.Booleans.{both, neither}
 use Rattle.pm_ipi.specs.declared.calls.AckKind.TheVariants.{Blocking}
 use Rattle.pm_ipi.specs.declared.calls.Call.{Call}
-use Rattle.pm_ipi.specs.declared.calls.Call.TheVariants.{RequestNode, RequestSuspend, ForcePowerdown, RequestWakeup, SetRequirement}
 use Rattle.pm_ipi.specs.Calls.{ack_of, call_of, node_of}
 use Rattle.pm_notify.specs.declared.notes.Waiting.{Waiting}
-use Rattle.pm_procs.specs.Modes.{is_awake, same_mode}
-use Rattle.pm_topology.specs.Places.{kind_of}
 use Rattle.pm_ipi.specs.declared.responses.Response.{Response}
-use Rattle.pm_core.specs.calls.RequestNode.{request_node}
-use Rattle.pm_core.specs.calls.RequestWakeup.{request_wakeup}
-use Rattle.pm_core.specs.calls.SetRequirement.{set_requirement}
-use Rattle.pm_core.specs.Callbacks.{acknowledged_to, note_changes, noticed_by}
-use Rattle.pm_core.specs.Served.{kept_at, kept_of, own_note}
-use Rattle.pm_core.specs.Members.{mode_of_master}
-use Rattle.pm_core.specs.Sound.{IsSound, KnowsModes}
-use Rattle.pm_core.specs.Stages.{after_stages}
-use Rattle.pm_core.specs.State.{Fixed, Now, State}
-use Rattle.pm_core.specs.Step.{called, ended, heard_at, is_heard, notes_after, modes_in, news, opening, path, says, served, stages, talk, time_of, verdict}
-use Rattle.pm_core.specs.Talk.{Talk, wait_of}
-use Rattle.pm_core.specs.Values.{master_place, slave_place}
-use Rattle.pm_core.specs.Verdict.{Called, aborted_by, asked_by, response_of, verdict_of}
-use Rattle.pm_core.specs.Views.{row_view}
-use Rattle.pm_laws.specs.Agree.{Agree, Same, SameMasterNotes}
-use Rattle.pm_laws.specs.Border.{Border, HasSome, IsBeyond, IsClosed}
-use Rattle.pm_laws.specs.Both.{BothFrom}
-use Rattle.pm_laws.specs.Hidden.{changes_within, is_hidden, is_within}
-use Rattle.pm_laws.specs.SeenTalk.{IsTalkUnseen, asks_beyond, ends_beyond, notes_beyond, talk_part}
+use Rattle.pm_tell.specs.Callbacks.{acknowledged_to, note_changes, noticed_by}
+use Rattle.pm_tell.specs.Served.{kept_at, kept_of, own_note}
+use Rattle.pm_state.specs.Stages.{after_stages}
+use Rattle.pm_state.specs.Talk.{Talk, wait_of}
 use Rattle.pm_laws.proofs.AgreeLaw.{agree_sym, agree_trans, same_sym}
-use Rattle.pm_laws.proofs.CallsAlike.{asks_alike, book_of, kept, row_view_alike, wake_alike}
+use Rattle.pm_laws.proofs.CallsAlike.{book_of, called_same, kept}
 use Rattle.pm_laws.proofs.EndsLaw.{ended_alike, ended_hidden}
 use Rattle.pm_laws.proofs.EventsLaw.{event_alike, event_hidden, some_beyond}
 use Rattle.pm_laws.proofs.FollowLaw.{book_mode_alike, mode_alike}
 use Rattle.pm_laws.proofs.NoteChangesLaw.{NewsAlike, master_notes_alike, note_changes_rest, no_news, waits_within}
 use Rattle.pm_laws.proofs.NoticesLaw.{acks_beyond, ended_names, notices_alike, notices_rest}
-use Rattle.pm_laws.proofs.HeardLaw.{heard_same}
+use Rattle.pm_laws.proofs.MayCallLaw.{heard_same}
 use Rattle.pm_laws.proofs.OpeningLaw.{opening_alike, opening_hidden, parts_alike}
 use Rattle.pm_laws.proofs.PathLaw.{stages_alike, stages_hidden}
-use Rattle.pm_laws.proofs.RowFacts.{BelowLaws}
+use Rattle.pm_laws.specs.Shapes.{shape_of}
+use Rattle.pm_laws.proofs.ShapesLaw.{reader_replies, reads_within}
 use Rattle.pm_laws.proofs.TalkFacts.{talks_alike}
 use Rattle.pm_laws.proofs.VerdictsLaw.{event_within, none_asked, says_alike}
 
@@ -86,7 +65,7 @@ module _ (laws : BelowLaws) (border : Border) where
       keeps_within m (same_mode (mode_of_master after.fixed after.now.core m) Asleep) due is
 
   heard_hidden : (master : NodeId) (call : Call) (m : ℕ) (now after : State) (heard : Bool)
-      → is_heard m now ≡ heard
+      → may_call m now ≡ heard
       → master_place master after ≡ Some m → Agree border now after
       → IsTalkUnseen border (kept_for master call (if heard then Some (called m call now) else None) after)
   heard_hidden master call m now after false is place agree =
@@ -98,10 +77,10 @@ module _ (laws : BelowLaws) (border : Border) where
       ∙ at_hidden m now after due (border.master m) refl agree (both (not now.now.core.halted) (is_awake (mode_of_master now.fixed now.now.core m)) is).1
 
   place_hidden : (master : NodeId) (call : Call) (now after : State) (place : Option ℕ) → master_place master after ≡ place → Agree border now after
-      → IsTalkUnseen border (kept_for master call (option_and_then (heard_at call now) place) after)
+      → IsTalkUnseen border (kept_for master call (option_and_then (call_at call now) place) after)
   place_hidden master call now after None is agree = ap (λ at. talk_part border (kept_at at [] after)) is
   place_hidden master call now after (Some m) is agree =
-      heard_hidden master call m now after (is_heard m now) refl is agree
+      heard_hidden master call m now after (may_call m now) refl is agree
 
   -- beside the book after the stages, which is of the same object
   pub kept_hidden : (event : Event) (now : State) → Agree border now (after_stages (stages event now) now)
@@ -130,22 +109,15 @@ module _ (laws : BelowLaws) (border : Border) where
 
     notes_same : (m : ℕ) (call : Call) → IsBeyond border m → border.some ≡ true → changes_within border call first ≡ false
         → note call (called m call first) ≡ note call (called m call second)
-    notes_same m (RequestSuspend node ack latency state) beyond some plain =
-        ap (note (RequestSuspend node ack latency state)) (asks_alike laws fixed border m ack latency state node a b plain same)
-    notes_same m (ForcePowerdown node ack) beyond some plain = refl
-    notes_same m (RequestWakeup node address ack) beyond some plain =
-        ap (λ view. note (RequestWakeup node address ack) (request_wakeup address ack view))
-        (wake_alike fixed border m (kind_of fixed.topology node) a b plain same)
-    notes_same m (RequestNode node caps ack) beyond some plain =
-        ap (λ view. note (RequestNode node caps ack) (request_node caps ack view))
-        (row_view_alike fixed border m (slave_place node first) a b some plain same)
-    notes_same m (SetRequirement node caps ack) beyond some plain =
-        ap (λ mode. note (SetRequirement node caps ack) (set_requirement mode caps ack (row_view m node first))) (mode_alike laws fixed border m a b beyond same)
-        ∙ ap (λ view. note (SetRequirement node caps ack) (set_requirement (mode_of_master fixed b.core m) caps ack view))
-        (row_view_alike fixed border m (slave_place node first) a b some plain same)
-    notes_same m call beyond some plain =
-        quiet_note (response_of (verdict_of (called m call first))) (node_of call)
-        ∙ sym (quiet_note (response_of (verdict_of (called m call second))) (node_of call))
+    notes_same m call beyond some plain = by (reads_within (shape_of call)) refl
+      where
+        by : (reads : Bool) → reads_within (shape_of call) ≡ reads → note call (called m call first) ≡ note call (called m call second)
+        by false blind = ap (note call) (called_same laws fixed border m a b beyond same call blind plain)
+        by true reads =
+            ap (λ kind. own_note (response_of (verdict_of (called m call first))) kind (node_of call)) (reader_replies call reads)
+            ∙ (quiet_note (response_of (verdict_of (called m call first))) (node_of call)
+            ∙ (sym (quiet_note (response_of (verdict_of (called m call second))) (node_of call))
+            ∙ sym (ap (λ kind. own_note (response_of (verdict_of (called m call second))) kind (node_of call)) (reader_replies call reads))))
 
     keeps_alike : (m : ℕ) (c d : Now) (ns os : List Waiting) → IsBeyond border m → Same fixed border c d → ns ≡ os
         → kept_at (Some m) ns (book_of fixed c) ≡ kept_at (Some m) os (book_of fixed d)
@@ -172,12 +144,12 @@ module _ (laws : BelowLaws) (border : Border) where
 
     place_alike : (master : NodeId) (call : Call) (c d : Now) (place : Option ℕ) → master_place master first ≡ place → HasSome border
         → (is_within border place || changes_within border call first) ≡ false → Same fixed border c d
-        → kept_for master call (option_and_then (heard_at call first) place) (book_of fixed c) ≡ kept_for master call (option_and_then (heard_at call second) place) (book_of fixed d)
+        → kept_for master call (option_and_then (call_at call first) place) (book_of fixed c) ≡ kept_for master call (option_and_then (call_at call second) place) (book_of fixed d)
     place_alike master call c d None at some is after = cc
     place_alike master call c d (Some m) at some is after =
         let parts = neither (not (border.master m)) (changes_within border call first) is in
         let beyond : IsBeyond border m = kept (border.master m) parts.0 in
-        heard_alike master call m c d (is_heard m first) (is_heard m second) (heard_same laws fixed border m a b beyond same) at
+        heard_alike master call m c d (may_call m first) (may_call m second) (heard_same laws fixed border m a b beyond same) at
         (keeps_alike m c d (notes_of call (Some (called m call first))) (notes_of call (Some (called m call second))) beyond after
         (notes_same m call beyond (some m beyond) parts.1))
 

@@ -4,34 +4,23 @@ use Rattle.std.specs.Prelude.{fold}
 use Rattle.std.specs.List.{list_any, AllByRecursion as Each}
 use Rattle.std.proofs.lemmas.Bool.{eqb-true}
 use Rattle.std.proofs.lemmas.List.Folds.{list_any-append}
-use Rattle.pm_base.specs.declared.names.Mode.{Mode}
-use Rattle.pm_base.specs.declared.names.Mode.TheVariants.{Off}
-use Rattle.pm_base.specs.declared.names.Unit.{Unit}
-use Rattle.pm_base.specs.declared.names.Unit.TheVariants.{Node, Line}
+use Rattle.pm_laws.proofs.Common.{Agree, Border, BothFrom, Entry, Fixed, IsClosed, IsWithin, Kind, Mode, Node, Now, Off, Power, Same, SameLine, SameProc, SameRows, Slave, State, Unit, Unknown, chosen, forest, is_awake, is_place, kind_of, line_at, line_beyond, mode_at, need_of, none_within, off, owner_at, proc_child, runs, slave_child, state_at, unit_beyond, value, value_at, value_in}
+use Rattle.pm_base.specs.declared.names.Unit.TheVariants.{Line}
 use Rattle.pm_base.proofs.Booleans.{equal}
-use Rattle.pm_topology.specs.declared.places.Kind.{Kind}
-use Rattle.pm_topology.specs.declared.places.Kind.TheVariants.{Proc, Slave, Power, Unknown}
+use Rattle.pm_topology.specs.declared.places.Kind.TheVariants.{Proc}
 use Rattle.pm_topology.specs.declared.topology.PowerDef.{PowerDef}
 use Rattle.pm_topology.specs.declared.topology.ProcDef.{ProcDef}
 use Rattle.pm_topology.specs.declared.topology.SlaveDef.{SlaveDef}
-use Rattle.pm_topology.specs.Places.{kind_of}
 use Rattle.pm_topology.specs.Units.{needs_in}
 use Rattle.pm_power.specs.declared.child.Child.{Child}
 use Rattle.pm_power.specs.Forest.{child_needs, is_parent, is_up, power_needs, ups_from}
-use Rattle.pm_procs.specs.Modes.{is_awake}
 use Rattle.pm_procs.specs.declared.procs.Proc.{Proc as Processor}
-use Rattle.pm_procs.specs.Procs.{mode_at, off}
 use Rattle.pm_resets.specs.Resets.{line_value}
-use Rattle.pm_rows.specs.declared.row.Entry.{Entry}
 use Rattle.pm_rows.specs.declared.wanted.Wanted.{Wanted}
 use Rattle.pm_rows.specs.Wanted.{nothing_wanted, wanted_of, with_row}
-use Rattle.pm_core.specs.Choice.{state_for}
-use Rattle.pm_core.specs.Members.{is_place, owner_at, owns}
-use Rattle.pm_core.specs.State.{Fixed, Now, State}
-use Rattle.pm_core.specs.Values.{chosen, forest, line_at, line_place, need_of, placed, proc_child, runs, slave_child, state_at, value, value_at, value_in}
-use Rattle.pm_laws.specs.Agree.{Agree, IsWithin, Same, SameLine, SameProc, SameRows}
-use Rattle.pm_laws.specs.Border.{Border, IsClosed, line_beyond, none_within, unit_beyond}
-use Rattle.pm_laws.specs.Both.{BothFrom}
+use Rattle.pm_state.specs.Choice.{state_for}
+use Rattle.pm_state.specs.Members.{owns}
+use Rattle.pm_state.specs.Values.{line_place, placed}
 use Rattle.pm_laws.specs.Values.{is_beyond}
 use Rattle.pm_laws.proofs.AgreeLaw.{clash}
 use Rattle.pm_laws.proofs.CallsAlike.{book_of}

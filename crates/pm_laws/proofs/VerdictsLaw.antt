@@ -1,48 +1,37 @@
 -- What a message has the masters told, and which reset line it pulses: of a hidden one nothing is seen, and any other does the same
 -- in two books that agree.
-use Rattle.std.proofs.Common.{◌≡◌, ℕ, ◌==◌, ◌||◌, Bool, true, false, not, if◌then◌else◌, List, [], ◌∷◌, is_some, Option, Some, None, refl, sym, ◌∙◌, ap, inl, inr}
+use Rattle.std.proofs.Common.{◌≡◌, ℕ, ◌==◌, ◌||◌, Bool, true, false, not, if◌then◌else◌, [], ◌∷◌, is_some, Option, Some, None, refl, sym, ◌∙◌, ap, subst, inl, inr}
 use Rattle.std.specs.Prelude.{⊤, option_and_then, option_map}
 use Rattle.std.proofs.lemmas.Bool.{eqb-true}
-use Rattle.pm_base.specs.declared.events.Event.{Event}
-use Rattle.pm_base.specs.declared.events.Event.TheVariants.{Ipi}
+use Rattle.pm_laws.proofs.Common.{BelowLaws, Border, Called, Event, Fixed, Ipi, IsBeyond, IsTalkUnseen, NodeId, Now, Same, State, Topology, aborted_by, asked_by, asks_beyond, called, can_suspend, changes_within, call_at, may_call, is_hidden, is_place, is_within, line_beyond, master_place, named_master, pulse, pulse_of, says, says_of, shape_within, suspendable, suspendable_at, verdict, verdict_by, verdict_of}
 use Rattle.pm_base.specs.declared.names.LineId.{LineId}
-use Rattle.pm_base.specs.declared.names.NodeId.{NodeId}
 use Rattle.pm_base.proofs.Booleans.{both, either, neither}
 use Rattle.pm_ipi.specs.declared.calls.Call.{Call}
-use Rattle.pm_ipi.specs.declared.calls.Call.TheVariants.{AbortSuspend, RegisterNotifier, RequestSuspend, ResetAssert, SystemShutdown}
 use Rattle.pm_ipi.specs.Calls.{call_of}
 use Rattle.pm_notify.specs.Notes.{event_of}
-use Rattle.pm_topology.specs.declared.topology.Topology.{Topology}
-use Rattle.pm_core.specs.declared.verdict.Effects.{Effects}
-use Rattle.pm_core.specs.declared.verdict.Say.{Say}
-use Rattle.pm_core.specs.declared.verdict.Say.TheVariants.{Ask as SaysAsk, Abort as SaysAbort, Register as SaysRegister, Renew as SaysRenew}
-use Rattle.pm_core.specs.declared.verdict.Verdict.{Verdict}
-use Rattle.pm_core.specs.Checks.{AllHold, Cause, Fits, Stands, first_failing}
-use Rattle.pm_core.specs.ResetLines.{line_view}
-use Rattle.pm_core.specs.Members.{is_place}
-use Rattle.pm_core.specs.State.{Fixed, Now, State}
-use Rattle.pm_core.specs.Step.{called, heard_at, is_heard, pulse, says, verdict}
-use Rattle.pm_core.specs.Talk.{Ask, Notify, Renew, Talk, renew_by, say_by}
-use Rattle.pm_core.specs.Values.{line_place, master_place}
-use Rattle.pm_core.specs.Verdict.{Called, aborted_by, asked_by, pulse_of, says_of, verdict_by, verdict_of}
-use Rattle.pm_core.specs.Views.{can_suspend, named_master, suspendable, suspendable_at}
-use Rattle.pm_core.specs.calls.RegisterNotifier.{notifier_put}
-use Rattle.pm_core.specs.calls.RequestSuspend.{target_asked}
-use Rattle.pm_core.specs.calls.ResetAssert.{pulsed}
-use Rattle.pm_core.specs.calls.SystemShutdown.{renewal, restarts_all}
-use Rattle.pm_core.proofs.Verdicts.{all_hold, mapped}
-use Rattle.pm_laws.specs.Agree.{Same}
-use Rattle.pm_laws.specs.Border.{Border, IsBeyond, line_beyond}
-use Rattle.pm_laws.specs.Hidden.{changes_within, is_hidden, is_within}
+use Rattle.pm_calls.specs.declared.verdict.Effects.{Effects}
+use Rattle.pm_calls.specs.declared.verdict.Say.{Say}
+use Rattle.pm_calls.specs.declared.verdict.Say.TheVariants.{Ask as SaysAsk, Abort as SaysAbort, Register as SaysRegister, Renew as SaysRenew}
+use Rattle.pm_calls.specs.declared.verdict.Verdict.{Verdict}
+use Rattle.pm_calls.specs.Checks.{AllHold, Cause, Fits, Stands, first_failing}
+use Rattle.pm_calls.specs.ResetLines.{line_view}
+use Rattle.pm_state.specs.Talk.{Ask, Notify, Renew, Talk}
+use Rattle.pm_tell.specs.Opening.{renew_by, say_by}
+use Rattle.pm_state.specs.Values.{line_place}
+use Rattle.pm_calls.specs.calls.RegisterNotifier.{notifier_put}
+use Rattle.pm_calls.specs.calls.RequestSuspend.{target_asked}
+use Rattle.pm_calls.specs.calls.ResetAssert.{pulsed}
+use Rattle.pm_calls.specs.calls.SystemShutdown.{renewal, restarts_all}
+use Rattle.pm_calls.proofs.Verdicts.{all_hold, mapped}
 use Rattle.pm_laws.specs.Pulse.{pulse_beyond}
-use Rattle.pm_laws.specs.SeenTalk.{IsTalkUnseen, asks_beyond}
-use Rattle.pm_laws.proofs.CallsAlike.{aborts_alike, asks_alike, book_of, kept, registers_alike}
+use Rattle.pm_laws.specs.Shapes.{Shape, Node_status, Node_figures, Line_value, Own_row, Own_arming, Own_abort, Own_notifier, Other_wakeup, Other_suspend, All_shut, All_reset, shape_of, shaped}
+use Rattle.pm_laws.proofs.ShapesLaw.{called_shaped, reads_within}
+use Rattle.pm_laws.proofs.CallsAlike.{book_of, called_same, kept}
 use Rattle.pm_laws.proofs.CallsHidden.{turned}
 use Rattle.pm_laws.proofs.DownHidden.{may_shut_down, none_beyond}
-use Rattle.pm_laws.proofs.HeardLaw.{heard_same}
+use Rattle.pm_laws.proofs.MayCallLaw.{heard_same}
 use Rattle.pm_laws.proofs.HiddenLemmas.{HasClosed, within_by}
 use Rattle.pm_laws.proofs.ResetLaw.{IsPlaced, line_within, placed}
-use Rattle.pm_laws.proofs.RowFacts.{BelowLaws}
 
 -- ---- what is told within
 
@@ -75,16 +64,13 @@ say_unseen border (Some SaysRenew) within = refl
 pub none_asked : (border : Border) (says : Option Say) → SaysWithin border says → asks_beyond border (asked_by says) ≡ None
 none_asked border None within = refl
 none_asked border (Some (SaysAsk asked)) within = ap (λ b. if b then Some asked else None) within
-none_asked border (Some (SaysAbort m)) within = refl
-none_asked border (Some (SaysRegister put)) within = refl
-none_asked border (Some SaysRenew) within = refl
+none_asked border _ within = refl
 
 pub none_aborts : (border : Border) (says : Option Say) → SaysWithin border says → (k : ℕ) → IsBeyond border k → is_place k (aborted_by says) ≡ false
 none_aborts border None within k beyond = refl
 none_aborts border (Some (SaysAsk asked)) within k beyond = refl
 none_aborts border (Some (SaysAbort m)) within k beyond = within_by (m == k) (border.master m) (λ same. ap border.master (eqb-true m k same) ∙ beyond) within
-none_aborts border (Some (SaysRegister put)) within k beyond = refl
-none_aborts border (Some SaysRenew) within k beyond = refl
+none_aborts border _ within k beyond = refl
 
 -- ---- one call
 
@@ -135,17 +121,17 @@ module _ (border : Border) (book : State) where
       pulse_within line l (action == 2) at (line_within border book closed m l entry.line entry.here entry.may within)
 
   -- a call of a master within
-  caller_within : (m : ℕ) (call : Call) → HasClosed border book → border.master m ≡ false → IsWithin book.fixed.topology border (verdict_of (called m call book))
-  caller_within m (RequestSuspend node ack latency state) closed within =
-      call_within book.fixed.topology border (called m (RequestSuspend node ack latency state) book)
+  caller_within : (m : ℕ) (shape : Shape) → HasClosed border book → border.master m ≡ false → IsWithin book.fixed.topology border (verdict_of (shaped m shape book))
+  caller_within m (Other_suspend node ack latency state) closed within =
+      call_within book.fixed.topology border (shaped m (Other_suspend node ack latency state) book)
       (λ all. (asks_within m ack latency state node (named_master book.fixed node) (λ k named may. within_by (border.master k) (border.master m) (closed.suspends m k may) within), refl))
-  caller_within m (AbortSuspend node reason) closed within =
-      call_within book.fixed.topology border (called m (AbortSuspend node reason) book) (λ all. (within, refl))
-  caller_within m (RegisterNotifier node event wake enable) closed within =
-      call_within book.fixed.topology border (called m (RegisterNotifier node event wake enable) book)
+  caller_within m (Own_abort node reason) closed within =
+      call_within book.fixed.topology border (shaped m (Own_abort node reason) book) (λ all. (within, refl))
+  caller_within m (Own_notifier node event enable) closed within =
+      call_within book.fixed.topology border (shaped m (Own_notifier node event enable) book)
       (λ all. (mapped (SaysWithin border) (notifier_put m node enable) (event_of event) tt (λ put. within), refl))
-  caller_within m (SystemShutdown shutdown_type subtype) closed within =
-      call_within book.fixed.topology border (called m (SystemShutdown shutdown_type subtype) book)
+  caller_within m (All_shut shutdown_type subtype) closed within =
+      call_within book.fixed.topology border (shaped m (All_shut shutdown_type subtype) book)
       (λ all. (
         renewal_within (restarts_all shutdown_type subtype)
             (λ restart. let parts = both (shutdown_type == 1) (not (subtype == 0)) restart in
@@ -153,33 +139,36 @@ module _ (border : Border) (book : State) where
             (may_shut_down book.fixed m shutdown_type subtype (no_scope shutdown_type parts.0) all)),
         refl,
       ))
-  caller_within m (ResetAssert line action) closed within =
-      call_within book.fixed.topology border (called m (ResetAssert line action) book)
+  caller_within m (All_reset line action) closed within =
+      call_within book.fixed.topology border (shaped m (All_reset line action) book)
       (λ all. (tt, placed_pulse m line action (line_place line book.fixed) closed within refl all.node all.permitted))
-  caller_within m call closed within = call_within book.fixed.topology border (called m call book) (λ all. (tt, refl))
+  caller_within m shape closed within = call_within book.fixed.topology border (shaped m shape book) (λ all. (tt, refl))
 
   -- a call that changes a row on a slave within, or wakes or asks a master within
-  target_within : (m : ℕ) (call : Call) → changes_within border call book ≡ true → IsWithin book.fixed.topology border (verdict_of (called m call book))
-  target_within m (RequestSuspend node ack latency state) is =
-      call_within book.fixed.topology border (called m (RequestSuspend node ack latency state) book)
+  target_within : (m : ℕ) (shape : Shape) → shape_within border shape book ≡ true → IsWithin book.fixed.topology border (verdict_of (shaped m shape book))
+  target_within m (Own_row node by call) is = call_within book.fixed.topology border (shaped m (Own_row node by call) book) (λ all. (tt, refl))
+  target_within m (Other_wakeup node address ack) is =
+      call_within book.fixed.topology border (shaped m (Other_wakeup node address ack) book) (λ all. (tt, refl))
+  target_within m (Other_suspend node ack latency state) is =
+      call_within book.fixed.topology border (shaped m (Other_suspend node ack latency state) book)
       (λ all. (asks_within m ack latency state node (named_master book.fixed node) (λ k named may. turned (border.master k) (ap (is_within border) (sym named) ∙ is)), refl))
-  target_within m (AbortSuspend node reason) is = cc
-  target_within m (RegisterNotifier node event wake enable) is = cc
-  target_within m (SystemShutdown shutdown_type subtype) is = cc
-  target_within m (ResetAssert line action) is = cc
-  target_within m call is = call_within book.fixed.topology border (called m call book) (λ all. (tt, refl))
+  target_within m _ is = cc
+
+  by_shape : (m : ℕ) (call : Call) → IsWithin book.fixed.topology border (verdict_of (shaped m (shape_of call) book)) → IsWithin book.fixed.topology border (verdict_of (called m call book))
+  by_shape m call within =
+      subst (λ x. IsWithin book.fixed.topology border (verdict_of x)) (sym (called_shaped m call book)) within
 
   heard_within : (call : Called) (heard : Bool) → IsWithin book.fixed.topology border (verdict_of call) → IsWithin book.fixed.topology border (verdict (if heard then Some call else None))
   heard_within call true within = within
   heard_within call false within = record { says = tt; pulse = refl }
 
-  message_within : (call : Call) (place : Option ℕ) → HasClosed border book → (is_within border place || changes_within border call book) ≡ true → IsWithin book.fixed.topology border (verdict (option_and_then (heard_at call book) place))
+  message_within : (call : Call) (place : Option ℕ) → HasClosed border book → (is_within border place || changes_within border call book) ≡ true → IsWithin book.fixed.topology border (verdict (option_and_then (call_at call book) place))
   message_within call None closed is = record { says = tt; pulse = refl }
   message_within call (Some m) closed is =
-      heard_within (called m call book) (is_heard m book)
+      heard_within (called m call book) (may_call m book)
       (elim (either (not (border.master m)) (changes_within border call book) is) [
-        | inl within ↦ caller_within m call closed (turned (border.master m) within)
-        | inr target ↦ target_within m call target
+        | inl within ↦ by_shape m call (caller_within m (shape_of call) closed (turned (border.master m) within))
+        | inr target ↦ by_shape m call (target_within m (shape_of call) target)
       ])
 
   -- a hidden event
@@ -223,27 +212,32 @@ heard_alike x y true false is same = cc
 heard_alike x y false true is same = cc
 heard_alike x y false false is same = record { says = refl; pulse = refl }
 
+-- a call that can read what is within has nothing told, and pulses nothing
+quiet_shape : (m : ℕ) (shape : Shape) (a b : State) → reads_within shape ≡ true → AreSame (verdict_of (shaped m shape a)) (verdict_of (shaped m shape b))
+quiet_shape m (Node_status node call) a b reads = both_quiet (shaped m (Node_status node call) a) (shaped m (Node_status node call) b) refl refl refl refl
+quiet_shape m (Node_figures node call) a b reads = both_quiet (shaped m (Node_figures node call) a) (shaped m (Node_figures node call) b) refl refl refl refl
+quiet_shape m (Line_value line call) a b reads = both_quiet (shaped m (Line_value line call) a) (shaped m (Line_value line call) b) refl refl refl refl
+quiet_shape m (Own_arming target source enable) a b reads =
+    both_quiet (shaped m (Own_arming target source enable) a) (shaped m (Own_arming target source enable) b) refl refl refl refl
+quiet_shape m _ a b reads = cc
+
 module _ (laws : BelowLaws) (fixed : Fixed) (border : Border) (a b : Now) (same : Same fixed border a b) where
   calls_alike : (m : ℕ) (call : Call) → IsBeyond border m → changes_within border call (book_of fixed a) ≡ false → AreSame (verdict_of (called m call (book_of fixed a))) (verdict_of (called m call (book_of fixed b)))
-  calls_alike m (RequestSuspend node ack latency state) beyond plain =
-      equal_calls (called m (RequestSuspend node ack latency state) (book_of fixed a)) (called m (RequestSuspend node ack latency state) (book_of fixed b))
-      (asks_alike laws fixed border m ack latency state node a b plain same)
-  calls_alike m (AbortSuspend node reason) beyond plain =
-      equal_calls (called m (AbortSuspend node reason) (book_of fixed a)) (called m (AbortSuspend node reason) (book_of fixed b))
-      (aborts_alike fixed border m reason node a b beyond same)
-  calls_alike m (RegisterNotifier node event wake enable) beyond plain =
-      equal_calls (called m (RegisterNotifier node event wake enable) (book_of fixed a)) (called m (RegisterNotifier node event wake enable) (book_of fixed b))
-      (registers_alike fixed m event wake enable node a b)
-  calls_alike m (SystemShutdown shutdown_type subtype) beyond plain = record { says = refl; pulse = refl }
-  calls_alike m (ResetAssert line action) beyond plain = record { says = refl; pulse = refl }
-  calls_alike m call beyond plain = both_quiet (called m call (book_of fixed a)) (called m call (book_of fixed b)) refl refl refl refl
+  calls_alike m call beyond plain = by (reads_within (shape_of call)) refl
+    where
+      by : (reads : Bool) → reads_within (shape_of call) ≡ reads → AreSame (verdict_of (called m call (book_of fixed a))) (verdict_of (called m call (book_of fixed b)))
+      by false blind = equal_calls (called m call (book_of fixed a)) (called m call (book_of fixed b)) (called_same laws fixed border m a b beyond same call blind plain)
+      by true reads =
+          subst (λ y. AreSame (verdict_of (called m call (book_of fixed a))) (verdict_of y)) (sym (called_shaped m call (book_of fixed b)))
+          (subst (λ x. AreSame (verdict_of x) (verdict_of (shaped m (shape_of call) (book_of fixed b)))) (sym (called_shaped m call (book_of fixed a)))
+          (quiet_shape m (shape_of call) (book_of fixed a) (book_of fixed b) reads))
 
-  message_alike : (call : Call) (place : Option ℕ) → (is_within border place || changes_within border call (book_of fixed a)) ≡ false → AreSame (verdict (option_and_then (heard_at call (book_of fixed a)) place)) (verdict (option_and_then (heard_at call (book_of fixed b)) place))
+  message_alike : (call : Call) (place : Option ℕ) → (is_within border place || changes_within border call (book_of fixed a)) ≡ false → AreSame (verdict (option_and_then (call_at call (book_of fixed a)) place)) (verdict (option_and_then (call_at call (book_of fixed b)) place))
   message_alike call None is = cc
   message_alike call (Some m) is =
       let parts = neither (not (border.master m)) (changes_within border call (book_of fixed a)) is in
       let beyond : IsBeyond border m = kept (border.master m) parts.0 in
-      heard_alike (called m call (book_of fixed a)) (called m call (book_of fixed b)) (is_heard m (book_of fixed a)) (is_heard m (book_of fixed b))
+      heard_alike (called m call (book_of fixed a)) (called m call (book_of fixed b)) (may_call m (book_of fixed a)) (may_call m (book_of fixed b))
       (heard_same laws fixed border m a b beyond same) (calls_alike m call beyond parts.1)
 
   -- any other event

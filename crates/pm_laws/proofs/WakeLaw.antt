@@ -3,25 +3,11 @@ use Rattle.std.proofs.Common.{◌≡◌, ℕ, ◌==◌, Bool, true, false, not, 
 use Rattle.std.specs.Prelude.{flat_map}
 use Rattle.std.specs.List.{list_all}
 use Rattle.std.proofs.lemmas.List.Elements.{filter-append}
-use Rattle.pm_base.specs.declared.names.Mode.{Mode}
-use Rattle.pm_base.specs.declared.names.Mode.TheVariants.{Off, Active, Asleep, Suspending}
-use Rattle.pm_base.specs.declared.names.NodeId.{NodeId}
+use Rattle.pm_laws.proofs.Common.{Active, AreAlike, AreHidden, ArmsOwn, Border, Both, Entry, Fixed, IsBeyond, IsUnseen, Kind, Mode, NodeId, Now, Off, Put_proc, RowSeed, Same, SameRow, Slave, State, arms_own, is_armed_own, is_own, kind_of, proc_at, seen, seen_part}
 use Rattle.pm_base.proofs.Booleans.{both}
 use Rattle.pm_procs.specs.declared.procs.Proc.{Proc as Processor}
-use Rattle.pm_procs.specs.Procs.{proc_at}
-use Rattle.pm_rows.specs.declared.row.Entry.{Entry}
-use Rattle.pm_rows.specs.declared.row.RowSeed.{RowSeed}
-use Rattle.pm_topology.specs.declared.places.Kind.{Kind}
-use Rattle.pm_topology.specs.declared.places.Kind.TheVariants.{Proc, Slave, Power, Unknown}
-use Rattle.pm_topology.specs.Places.{kind_of}
-use Rattle.pm_core.specs.Events.{raised_at, woken, woken_at, woken_by, woken_from, woken_in}
-use Rattle.pm_core.specs.Prims.{Put_proc}
-use Rattle.pm_core.specs.Sound.{ArmsOwn, arms_own, is_armed_own, is_own}
-use Rattle.pm_core.specs.State.{Fixed, Now, State}
-use Rattle.pm_laws.specs.Agree.{SameRow, Same}
-use Rattle.pm_laws.specs.Border.{Border, IsBeyond}
-use Rattle.pm_laws.specs.Both.{Both}
-use Rattle.pm_laws.specs.Seen.{seen, seen_part, IsUnseen, AreAlike, AreHidden}
+use Rattle.pm_topology.specs.declared.places.Kind.TheVariants.{Proc}
+use Rattle.pm_calls.specs.Events.{raised_at, woken, woken_at, woken_by, woken_from, woken_in}
 use Rattle.pm_laws.proofs.CallsAlike.{book_of, rows_both}
 use Rattle.pm_laws.proofs.CallsHidden.{turned}
 use Rattle.pm_laws.proofs.HiddenLemmas.{one_hidden, within_by}
@@ -32,14 +18,11 @@ use Rattle.pm_laws.proofs.FollowLaw.{proc_alike}
 pub woken_unseen : (border : Border) (m p address : ℕ) (mode : Mode) → border.master m ≡ false → IsUnseen border (woken_in m p address mode)
 woken_unseen border m p address Off within = refl
 woken_unseen border m p address Active within = refl
-woken_unseen border m p address Asleep within = one_hidden border (Put_proc m p Active address) within
-woken_unseen border m p address Suspending within = one_hidden border (Put_proc m p Active address) within
+woken_unseen border m p address _ within = one_hidden border (Put_proc m p Active address) within
 
 kind_unseen : (border : Border) (m : ℕ) (kind : Kind) (book : State) → border.master m ≡ false → IsUnseen border (woken_at m kind book)
 kind_unseen border m (Proc p) book within = woken_unseen border m p (proc_at p book.now.core.procs).address (proc_at p book.now.core.procs).mode within
-kind_unseen border m (Slave s) book within = refl
-kind_unseen border m (Power w) book within = refl
-kind_unseen border m Unknown book within = refl
+kind_unseen border m _ book within = refl
 
 armed_unseen : (border : Border) (m : ℕ) (armed : Option NodeId) (book : State) → border.master m ≡ false → IsUnseen border (woken_by m armed book)
 armed_unseen border m None book within = refl
@@ -63,17 +46,13 @@ rows_unseen border s (e ∷ es) book within =
 pub raised_hidden : (border : Border) (kind : Kind) (book : State) → ((m : ℕ) → IsBeyond border m → border.some ≡ true) → not border.some ≡ true → AreHidden border (raised_at kind book)
 raised_hidden border (Slave s) book some is =
     (rows_unseen border s book.now.core.rows.entries book (λ m. within_by (border.master m) border.some (some m) (turned border.some is)), tt)
-raised_hidden border (Proc p) book some is = tt
-raised_hidden border (Power w) book some is = tt
-raised_hidden border Unknown book some is = tt
+raised_hidden border _ book some is = tt
 
 -- ---- alike
 
 kind_alike : (fixed : Fixed) (border : Border) (m : ℕ) (kind : Kind) (a b : Now) → is_own fixed m kind ≡ true → IsBeyond border m → Same fixed border a b → woken_at m kind (book_of fixed a) ≡ woken_at m kind (book_of fixed b)
 kind_alike fixed border m (Proc p) a b own beyond same = ap (λ (proc : Processor). woken m p proc) (proc_alike fixed border m p a b beyond own same)
-kind_alike fixed border m (Slave s) a b own beyond same = refl
-kind_alike fixed border m (Power w) a b own beyond same = refl
-kind_alike fixed border m Unknown a b own beyond same = refl
+kind_alike fixed border m _ a b own beyond same = refl
 
 armed_alike : (fixed : Fixed) (border : Border) (m : ℕ) (armed : Option NodeId) (a b : Now) → arms_own fixed m armed ≡ true → IsBeyond border m → Same fixed border a b → woken_by m armed (book_of fixed a) ≡ woken_by m armed (book_of fixed b)
 armed_alike fixed border m None a b own beyond same = refl
@@ -106,6 +85,4 @@ rows_alike fixed border s (x ∷ xs) (y ∷ ys) a b rows own same =
 pub raised_alike : (fixed : Fixed) (border : Border) (kind : Kind) (a b : Now) → ArmsOwn (book_of fixed a) → border.some ≡ true → Same fixed border a b → AreAlike border (raised_at kind (book_of fixed a)) (raised_at kind (book_of fixed b))
 raised_alike fixed border (Slave s) a b armed some same =
     (rows_alike fixed border s a.core.rows.entries b.core.rows.entries a b (rows_both border a.core.rows.entries b.core.rows.entries some same.rows) armed same, tt)
-raised_alike fixed border (Proc p) a b armed some same = tt
-raised_alike fixed border (Power w) a b armed some same = tt
-raised_alike fixed border Unknown a b armed some same = tt
+raised_alike fixed border _ a b armed some same = tt

@@ -1,15 +1,10 @@
 -- What is wanted of a slave beyond is equal in two books that agree.
 use Rattle.std.proofs.Common.{◌≡◌, ℕ, Bool, true, false, ◌==◌, if◌then◌else◌, List, refl, ◌∙◌, ap}
 use Rattle.std.proofs.lemmas.Bool.{eqb-true}
-use Rattle.pm_base.specs.declared.names.Mode.{Mode}
-use Rattle.pm_rows.specs.declared.row.Entry.{Entry}
-use Rattle.pm_rows.specs.declared.row.RowSeed.{RowSeed}
+use Rattle.pm_laws.proofs.Common.{Agree, Border, Entry, IsBeyond, Mode, RowSeed, SameRow, State}
 use Rattle.pm_rows.specs.declared.wanted.Wanted.{Wanted}
 use Rattle.pm_rows.specs.Modes.{mode_in}
 use Rattle.pm_rows.specs.Wanted.{both, least, limit_by, nothing_wanted, required_by, wanted_of, with_row}
-use Rattle.pm_core.specs.State.{State}
-use Rattle.pm_laws.specs.Agree.{SameRow, Agree}
-use Rattle.pm_laws.specs.Border.{Border, IsBeyond}
 use Rattle.pm_laws.proofs.CallsAlike.{entry_alike, rows_both}
 use Rattle.pm_laws.proofs.Places.{Both-fold}
 use Rattle.pm_laws.proofs.PrimFacts.{known_alike}

@@ -2,15 +2,11 @@
 use Rattle.std.proofs.Common.{◌≡◌, ℕ, ◌<◌, Bool, true, false, not, nat_lt, length, Option, Some, None, refl}
 use Rattle.std.specs.Prelude.{⊤}
 use Rattle.std.proofs.lemmas.Bool.{ltb-true, lt-ltb}
-use Rattle.pm_base.specs.declared.names.Unit.{Unit}
+use Rattle.pm_laws.proofs.Common.{KindLaws, Object, Topology, Unit, brings_in, master_beyond, reaches}
 use Rattle.pm_base.proofs.Booleans.{both, pair_of}
-use Rattle.pm_object.specs.declared.object.Object.{Object}
-use Rattle.pm_topology.specs.declared.topology.Topology.{Topology}
-use Rattle.pm_topology.specs.Places.{KindLaws}
 use Rattle.pm_reach.specs.declared.members.MemberKind.{MemberKind}
 use Rattle.pm_reach.specs.Border.{IsClosedToMasters, IsClosedToUnits, IsClosedUpwards, Reaches, IsIn}
 use Rattle.pm_reach.specs.Reached.{ReachTests}
-use Rattle.pm_laws.specs.ReachBorder.{brings_in, master_beyond, reaches}
 
 -- what is known of every reach and of every chip
 pub record ReachLaws : Type 0 where

@@ -11,8 +11,8 @@ use Rattle.pm_procs.specs.declared.procs.Proc.{Proc}
 use Rattle.pm_rows.specs.declared.row.Entry.{Entry}
 use Rattle.pm_topology.specs.UnitMap.{units_in}
 use Rattle.pm_topology.specs.Units.{rises}
-use Rattle.pm_core.specs.Members.{owner_at}
-use Rattle.pm_core.specs.State.{Fixed, TalkHalf, Now, State}
+use Rattle.pm_state.specs.Members.{owner_at}
+use Rattle.pm_state.specs.State.{Fixed, TalkHalf, Now, State}
 use Rattle.pm_laws.specs.Border.{Border, HasSome, IsBeyond, is_told}
 use Rattle.pm_laws.specs.Both.{Both, BothFrom}
 

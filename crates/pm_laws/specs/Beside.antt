@@ -4,7 +4,7 @@ use Rattle.std.specs.Prelude.{◌≡◌, List, [], ◌∷◌}
 use Rattle.pm_base.specs.declared.events.Event.{Event}
 use Rattle.pm_base.specs.declared.events.Event.TheVariants.{Ipi, Pass}
 use Rattle.pm_base.specs.declared.names.NodeId.{NodeId}
-use Rattle.pm_core.specs.State.{State}
+use Rattle.pm_state.specs.State.{State}
 use Rattle.pm_run.specs.Run.{Core, Setup}
 use Rattle.pm_laws.specs.Agree.{Agree}
 use Rattle.pm_laws.specs.ReachBorder.{border_of}

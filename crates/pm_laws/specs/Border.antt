@@ -15,9 +15,9 @@ use Rattle.pm_topology.specs.declared.topology.PowerDef.{PowerDef}
 use Rattle.pm_topology.specs.declared.topology.ProcDef.{ProcDef}
 use Rattle.pm_topology.specs.declared.topology.SlaveDef.{SlaveDef}
 use Rattle.pm_topology.specs.declared.topology.Topology.{Topology}
-use Rattle.pm_core.specs.Members.{owner_at}
-use Rattle.pm_core.specs.Pairs.{pairs_of}
-use Rattle.pm_core.specs.Views.{master_node, named_master}
+use Rattle.pm_state.specs.Members.{owner_at}
+use Rattle.pm_state.specs.Pairs.{pairs_of}
+use Rattle.pm_state.specs.Nodes.{master_node, named_master}
 use Rattle.pm_perms.specs.Permits.{may_configure, may_reset, may_shut, may_suspend, may_use, may_wake}
 use Rattle.pm_reach.specs.Leads.{forces_above, forces_proc, targets}
 

@@ -2,16 +2,16 @@
 use Rattle.std.specs.Prelude.{Bool, not, ◌&&◌, ◌||◌, ◌==◌, List, filter, slice_index}
 use Rattle.pm_ipi.specs.Callbacks.{init_suspend}
 use Rattle.pm_object.specs.declared.object.Object.{Object}
-use Rattle.pm_core.specs.declared.outbox.Callback.{Callback}
+use Rattle.pm_tell.specs.declared.callbacks.Callback.{Callback}
 use Rattle.pm_laws.specs.Border.{Border}
 use Rattle.pm_laws.specs.Hidden.{is_within}
 use Rattle.pm_laws.specs.ReachBorder.{place_of}
 
 -- a callback is to a master beyond, and asks it to suspend or is about a node beyond, which is its first word
-abbrev pub is_call_beyond : Object → Border → Callback → Bool
-is_call_beyond object border call =
+abbrev pub is_callback_beyond : Object → Border → Callback → Bool
+is_callback_beyond object border call =
     not (is_within border (place_of object call.master)) && ((call.id == init_suspend) || border.node (slice_index call.args 0))
 
 -- of these callbacks, those
-abbrev pub calls_beyond : Object → Border → List Callback → List Callback
-calls_beyond object border calls = filter (is_call_beyond object border) calls
+abbrev pub callbacks_beyond : Object → Border → List Callback → List Callback
+callbacks_beyond object border calls = filter (is_callback_beyond object border) calls

@@ -3,16 +3,16 @@ use Rattle.std.specs.Prelude.{ℕ, Bool, true, false, not, ◌||◌, Option, Som
 use Rattle.pm_base.specs.declared.events.Event.{Event}
 use Rattle.pm_base.specs.declared.events.Event.TheVariants.{Ipi, Boot, Wfi, Irq, Gic, Tick}
 use Rattle.pm_ipi.specs.declared.calls.Call.{Call}
-use Rattle.pm_ipi.specs.declared.calls.Call.TheVariants.{RequestSuspend, RequestWakeup, RequestNode, ReleaseNode, SetRequirement, SetMaxLatency}
 use Rattle.pm_ipi.specs.Calls.{call_of}
 use Rattle.pm_topology.specs.declared.places.Kind.{Kind}
 use Rattle.pm_topology.specs.declared.places.Kind.TheVariants.{Proc, Slave, Power, Unknown}
 use Rattle.pm_topology.specs.Places.{kind_of}
-use Rattle.pm_core.specs.Members.{owner_at}
-use Rattle.pm_core.specs.State.{State, in_force}
-use Rattle.pm_core.specs.Values.{master_place, slave_place}
-use Rattle.pm_core.specs.Views.{named_master}
+use Rattle.pm_state.specs.Members.{owner_at}
+use Rattle.pm_state.specs.State.{State, in_force}
+use Rattle.pm_state.specs.Values.{master_place, slave_place}
+use Rattle.pm_state.specs.Nodes.{named_master}
 use Rattle.pm_laws.specs.Border.{Border}
+use Rattle.pm_laws.specs.Shapes.{Shape, Own_row, Other_wakeup, Other_suspend, shape_of}
 
 -- the master at this place is within reach, or there is none
 abbrev pub is_within : Border → Option ℕ → Bool
@@ -31,17 +31,17 @@ owner_by (Slave s) book = None
 owner_by (Power w) book = None
 owner_by Unknown book = None
 
--- the call changes a row on a slave within reach, wakes a processor whose owner is within reach or that nobody has, or asks a
--- master within reach to suspend, or none
-abbrev pub changes_within : Border → Call → State → Bool
-changes_within border (RequestSuspend node ack latency state) book = is_within border (named_master book.fixed node)
-changes_within border (RequestWakeup node address ack) book =
+-- a call of the shape changes a row on a slave within reach, wakes a processor whose owner is within reach or that nobody has, or
+-- asks a master within reach to suspend, or none
+abbrev pub shape_within : Border → Shape → State → Bool
+shape_within border (Own_row node by call) book = is_slave_within border (slave_place node book)
+shape_within border (Other_wakeup node address ack) book =
     is_within border (owner_by (kind_of book.fixed.topology node) book)
-changes_within border (RequestNode node caps ack) book = is_slave_within border (slave_place node book)
-changes_within border (ReleaseNode node) book = is_slave_within border (slave_place node book)
-changes_within border (SetRequirement node caps ack) book = is_slave_within border (slave_place node book)
-changes_within border (SetMaxLatency node latency) book = is_slave_within border (slave_place node book)
-changes_within border _ book = false
+shape_within border (Other_suspend node ack latency state) book = is_within border (named_master book.fixed node)
+shape_within border _ book = false
+
+abbrev pub changes_within : Border → Call → State → Bool
+changes_within border call book = shape_within border (shape_of call) book
 
 -- an event is hidden where its caller is within reach or isn't configured, where it changes what is within reach, where the
 -- owner of its processor is within reach or nobody is; and the interrupt of a slave and the time that passes are hidden where no

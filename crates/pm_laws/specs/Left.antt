@@ -3,7 +3,7 @@ use Rattle.pm_base.specs.declared.events.Event.{Event}
 use Rattle.pm_base.specs.declared.names.NodeId.{NodeId}
 use Rattle.pm_core.specs.declared.outbox.Outbox.{Outbox}
 use Rattle.pm_core.specs.Outbox.{outputs_in}
-use Rattle.pm_core.specs.State.{State}
+use Rattle.pm_state.specs.State.{State}
 use Rattle.pm_run.specs.Run.{Core}
 use Rattle.pm_laws.specs.Border.{Border}
 use Rattle.pm_laws.specs.ReachBorder.{border_of}

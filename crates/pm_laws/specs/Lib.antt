@@ -1,5 +1,6 @@
 pub mod Agree
 pub mod Answers
+pub mod Below
 pub mod Beside
 pub mod Border
 pub mod Both
@@ -12,6 +13,7 @@ pub mod ReachBorder
 pub mod Runs
 pub mod Seen
 pub mod SeenTalk
+pub mod Shapes
 pub mod Told
 pub mod Values
 pub mod Worlds

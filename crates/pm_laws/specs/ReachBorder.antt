@@ -17,7 +17,7 @@ use Rattle.pm_reach.specs.declared.members.MemberKind.{MemberKind}
 use Rattle.pm_reach.specs.declared.members.MemberKind.TheVariants as members
 use Rattle.pm_reach.specs.Border.{Reaches, IsIn}
 use Rattle.pm_reach.specs.Reached.{some_master, is_reached, is_brought_in}
-use Rattle.pm_core.specs.Pairs.{pairs_of}
+use Rattle.pm_state.specs.Pairs.{pairs_of}
 use Rattle.pm_laws.specs.Border.{Border, IsBeyond, node_beyond}
 
 -- the place of a configured master

@@ -3,7 +3,7 @@ use Rattle.std.specs.Prelude.{◌≡◌, List, [], ◌∷◌, Option, Some}
 use Rattle.pm_base.specs.declared.events.Event.{Event}
 use Rattle.pm_core.specs.declared.outbox.Outbox.{Outbox}
 use Rattle.pm_core.specs.Outbox.{Holds, Outputs}
-use Rattle.pm_core.specs.State.{State}
+use Rattle.pm_state.specs.State.{State}
 use Rattle.pm_core.specs.Step.{effect, outputs}
 use Rattle.pm_run.specs.Run.{Core, Setup, core_0, cores_of, loaded}
 

@@ -3,7 +3,7 @@ use Rattle.std.specs.Prelude.{◌≡◌, Bool, true, false, ◌&&◌, ◌||◌, 
 use Rattle.std.specs.List.{AllByRecursion as Each}
 use Rattle.pm_rows.specs.declared.row.Change.{Change}
 use Rattle.pm_rows.specs.declared.row.Change.TheVariants.{Request, Release, Set, Limit, Arm}
-use Rattle.pm_core.specs.Prims.{Prim, At_row, Settle, Put_proc, Put_line, Shift, Clear, Halt, Reload}
+use Rattle.pm_state.specs.Prims.{Prim, At_row, Settle, Put_proc, Put_line, Shift, Clear, Halt, Reload}
 use Rattle.pm_laws.specs.Border.{Border}
 use Rattle.pm_laws.specs.Both.{Both}
 

@@ -1,9 +1,9 @@
 -- What is seen from beyond a border of what masters are told, and of the requests to suspend that are made and that end.
 use Rattle.std.specs.Prelude.{◌≡◌, Bool, ◌&&◌, List, [], filter, Option, Some, None, if◌then◌else◌}
 use Rattle.pm_notify.specs.declared.notes.Waiting.{Waiting}
-use Rattle.pm_core.specs.declared.ended.Ended.{Ended}
-use Rattle.pm_core.specs.declared.verdict.Asked.{Asked}
-use Rattle.pm_core.specs.Talk.{Talk, Ask, Lower, End, Forget, Notify, Take, Wait, Renew}
+use Rattle.pm_tell.specs.declared.ended.Ended.{Ended}
+use Rattle.pm_calls.specs.declared.verdict.Asked.{Asked}
+use Rattle.pm_state.specs.Talk.{Talk, Ask, Lower, End, Forget, Notify, Take, Wait, Renew}
 use Rattle.pm_laws.specs.Border.{Border}
 
 -- a request, and its end, are seen where the master that is asked is beyond; and the time that passes, and a restart of all,

@@ -8,18 +8,18 @@ use Rattle.pm_base.specs.declared.names.Unit.{Unit}
 use Rattle.pm_ipi.specs.Calls.{call_of}
 use Rattle.pm_object.specs.declared.object.Object.{Object}
 use Rattle.pm_topology.specs.declared.topology.Topology.{Topology}
-use Rattle.pm_core.specs.declared.ended.Ended.{Ended}
-use Rattle.pm_core.specs.declared.verdict.Asked.{Asked}
-use Rattle.pm_core.specs.declared.outbox.Callback.{Callback}
-use Rattle.pm_core.specs.declared.outbox.Late.{Late}
-use Rattle.pm_core.specs.declared.outbox.Start.{Start}
+use Rattle.pm_tell.specs.declared.ended.Ended.{Ended}
+use Rattle.pm_calls.specs.declared.verdict.Asked.{Asked}
+use Rattle.pm_tell.specs.declared.callbacks.Callback.{Callback}
+use Rattle.pm_tell.specs.declared.late.Late.{Late}
+use Rattle.pm_values.specs.declared.starts.Start.{Start}
 use Rattle.pm_core.specs.declared.replies.Answer.{Answer}
-use Rattle.pm_core.specs.Callbacks.{late_replies}
+use Rattle.pm_tell.specs.Callbacks.{late_replies}
 use Rattle.pm_core.specs.Step.{asks, ended}
 use Rattle.pm_run.specs.Run.{Core}
 use Rattle.pm_laws.specs.Answers.{is_dropped, message_beyond, names_beyond, sender_beyond}
 use Rattle.pm_laws.specs.Border.{Border, none_within}
-use Rattle.pm_laws.specs.Callbacks.{calls_beyond}
+use Rattle.pm_laws.specs.Callbacks.{callbacks_beyond}
 use Rattle.pm_laws.specs.Pulse.{pulse_beyond}
 use Rattle.pm_laws.specs.ReachBorder.{place_of}
 use Rattle.pm_laws.specs.SeenTalk.{asks_beyond, ends_beyond}
@@ -49,8 +49,8 @@ abbrev pub late_in : Border → Core → List Late
 late_in border core = late_replies (ends_in border core) core.after
 
 -- the callbacks to masters beyond, but for those about nodes within
-abbrev pub calls_in : Object → Border → Core → List Callback
-calls_in object border core = calls_beyond object border core.outputs.calls
+abbrev pub callbacks_in : Object → Border → Core → List Callback
+callbacks_in object border core = callbacks_beyond object border core.outputs.callbacks
 
 -- ---- of two core steps
 
@@ -63,7 +63,7 @@ pub record SameTold (object : Object) (t : Topology) (border : Border) (x y : Co
   pub asked : asked_in border x ≡ asked_in border y
   pub ends : ends_in border x ≡ ends_in border y
   pub late : late_in border x ≡ late_in border y
-  pub calls : calls_in object border x ≡ calls_in object border y
+  pub callbacks : callbacks_in object border x ≡ callbacks_in object border y
   pub drop : sender_beyond object border x.event ≡ true → is_dropped x.outputs.answer ≡ is_dropped y.outputs.answer
   pub answer : message_beyond object t border x.event ≡ true → x.outputs.answer ≡ y.outputs.answer
 
@@ -75,7 +75,7 @@ pub record TellsNothing (object : Object) (t : Topology) (border : Border) (x : 
   pub asked : asked_in border x ≡ None
   pub ends : ends_in border x ≡ []
   pub late : late_in border x ≡ []
-  pub calls : calls_in object border x ≡ []
+  pub callbacks : callbacks_in object border x ≡ []
 
 -- ---- the messages of other masters
 

@@ -6,10 +6,10 @@ use Rattle.pm_base.specs.declared.names.Unit.TheVariants.{Node, Line}
 use Rattle.pm_object.specs.declared.object.Object.{Object}
 use Rattle.pm_topology.specs.declared.topology.Topology.{Topology}
 use Rattle.pm_topology.specs.Places.{kind_of, line_place}
-use Rattle.pm_core.specs.declared.outbox.Start.{Start}
-use Rattle.pm_core.specs.State.{State}
-use Rattle.pm_core.specs.Values.{value}
-use Rattle.pm_core.specs.Views.{mode}
+use Rattle.pm_values.specs.declared.starts.Start.{Start}
+use Rattle.pm_state.specs.State.{State}
+use Rattle.pm_state.specs.Values.{value}
+use Rattle.pm_state.specs.Nodes.{mode}
 use Rattle.pm_laws.specs.Border.{Border, line_beyond, unit_beyond}
 
 -- a unit is beyond: a processor where its owner is, or where it has none

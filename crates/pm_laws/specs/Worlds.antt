@@ -3,7 +3,7 @@
 use Rattle.std.specs.Prelude.{◌≡◌, ⊤, List, [], ◌∷◌, flat_map}
 use Rattle.pm_base.specs.declared.events.Event.{Event}
 use Rattle.pm_base.specs.declared.names.NodeId.{NodeId}
-use Rattle.pm_core.specs.State.{State}
+use Rattle.pm_state.specs.State.{State}
 use Rattle.pm_run.specs.Run.{Core, Line, Setup, loaded, lines_of, run}
 use Rattle.pm_laws.specs.Agree.{Agree}
 use Rattle.pm_laws.specs.Beside.{AreBeside}
@@ -11,7 +11,7 @@ use Rattle.pm_laws.specs.Border.{Border}
 use Rattle.pm_laws.specs.Both.{Both}
 use Rattle.pm_laws.specs.Quiet.{quiet}
 use Rattle.pm_laws.specs.ReachBorder.{border_of}
-use Rattle.pm_laws.specs.Told.{answers_in, asked_in, calls_in, drops_in, ends_in, late_in, listed, moves_in, pulse_in, starts_in}
+use Rattle.pm_laws.specs.Told.{answers_in, asked_in, callbacks_in, drops_in, ends_in, late_in, listed, moves_in, pulse_in, starts_in}
 use Rattle.pm_laws.specs.Values.{IsModeAlike, IsValueAlike}
 
 -- ---- the law: how the core steps stand beside one another
@@ -56,7 +56,7 @@ pub record IsAlikeBeyond (c : Setup) (m : NodeId) (border : Border) (x y : Line)
   pub asked : of_line (λ core. listed (asked_in border core)) x ≡ of_line (λ core. listed (asked_in border core)) y
   pub ends : of_line (ends_in border) x ≡ of_line (ends_in border) y
   pub late : of_line (late_in border) x ≡ of_line (late_in border) y
-  pub calls : of_line (calls_in c.object border) x ≡ of_line (calls_in c.object border) y
+  pub callbacks : of_line (callbacks_in c.object border) x ≡ of_line (callbacks_in c.object border) y
   -- the same messages of other masters that are beyond, or that aren't configured, are dropped; and those that name nothing within
   -- are answered the same
   pub drops : of_line (drops_in c.object border m) x ≡ of_line (drops_in c.object border m) y

@@ -4,18 +4,16 @@ ghost use Rattle.std.specs.Prelude.{◌≡◌, [], true};
 ghost use Rattle.pm_base.specs.declared.events.Event.{Event};
 ghost use Rattle.pm_object.specs.Grammar.{IsObject};
 ghost use Rattle.pm_topology.specs.WellFormed.{IsWellFormed};
-ghost use Rattle.pm_core.specs.Sound.{IsSound};
-ghost use Rattle.pm_core.specs.State.{State};
+ghost use Rattle.pm_state.specs.Sound.{IsSound};
+ghost use Rattle.pm_state.specs.State.{State};
 ghost use Rattle.pm_core.specs.Step.{outputs};
 ghost use Rattle.pm_laws.specs.Agree.{Agree};
 ghost use Rattle.pm_laws.specs.Answers.{is_dropped, message_beyond, sender_beyond};
 ghost use Rattle.pm_laws.specs.Border.{Border, IsClosed};
-ghost use Rattle.pm_laws.specs.Callbacks.{calls_beyond};
+ghost use Rattle.pm_laws.specs.Callbacks.{callbacks_beyond};
 ghost use Rattle.pm_laws.specs.Hidden.{is_hidden};
 
-use pm_core::members_are_owned;
-use pm_rows::shifts_leave_others;
-use pm_topology::{kinds_are_exact, units_stand_in_order};
+use crate::laws::laws_below;
 
 /// A message of a master beyond, or of one that isn't configured, is dropped in both of two books that agree, or in neither.
 /// Where these are sound, and the call names nothing within, it is answered the same in both: by the same response, and by an
@@ -29,10 +27,7 @@ pub fn answers_agree()
         → message_beyond a.fixed.object a.fixed.topology border event ≡ true
         → (outputs event a).answer ≡ (outputs event b).answer }
 {
-    shifts_leave_others();
-    members_are_owned();
-    kinds_are_exact();
-    units_stand_in_order();
+    laws_below();
 }
 
 /// In two sound books that agree the same masters beyond are asked to suspend, and of nodes beyond they are told the same, in the
@@ -41,13 +36,10 @@ pub fn answers_agree()
 pub fn callbacks_agree()
     ensures both { (border : Border) (event : Event) (a b : State) → IsObject a.fixed.object
         → IsClosed a.fixed.object a.fixed.topology border → IsSound a → IsSound b → Agree border a b
-        → calls_beyond a.fixed.object border (outputs event a).calls ≡ calls_beyond a.fixed.object border (outputs event b).calls }
+        → callbacks_beyond a.fixed.object border (outputs event a).callbacks ≡ callbacks_beyond a.fixed.object border (outputs event b).callbacks }
     ensures hidden { (border : Border) (event : Event) (book : State) → IsObject book.fixed.object
         → IsClosed book.fixed.object book.fixed.topology border → IsSound book
-        → is_hidden border event book ≡ true → calls_beyond book.fixed.object border (outputs event book).calls ≡ [] }
+        → is_hidden border event book ≡ true → callbacks_beyond book.fixed.object border (outputs event book).callbacks ≡ [] }
 {
-    kinds_are_exact();
-    shifts_leave_others();
-    members_are_owned();
-    units_stand_in_order();
+    laws_below();
 }

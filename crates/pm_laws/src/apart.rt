@@ -7,8 +7,8 @@ ghost use Rattle.pm_base.specs.declared.events.Event.TheVariants.{Pass};
 ghost use Rattle.pm_base.specs.declared.names.NodeId.{NodeId};
 ghost use Rattle.pm_object.specs.Grammar.{IsObject};
 ghost use Rattle.pm_topology.specs.WellFormed.{IsWellFormed};
-ghost use Rattle.pm_core.specs.Sound.{IsSound};
-ghost use Rattle.pm_core.specs.State.{State};
+ghost use Rattle.pm_state.specs.Sound.{IsSound};
+ghost use Rattle.pm_state.specs.State.{State};
 ghost use Rattle.pm_core.specs.Step.{effect};
 ghost use Rattle.pm_run.specs.Run.{IsBookOf, Setup, Stand, book_after, core_of, cores_of, line_of, split};
 ghost use Rattle.pm_laws.specs.Agree.{Agree};
@@ -20,11 +20,7 @@ ghost use Rattle.pm_laws.specs.Told.{SameTold, TellsNothing};
 ghost use Rattle.pm_laws.specs.Values.{IsModeAlike, IsValueAlike};
 ghost use Rattle.pm_laws.specs.Worlds.{AreWorldsAlike, AreWorldsBeside, IsLineBeside};
 
-use crate::answers::{answers_agree, callbacks_agree};
-use crate::laws::{
-    books_agree, pulses_agree, reach_is_closed, requests_agree, starts_agree, steps_agree,
-    values_agree,
-};
+use crate::laws::{books_agree, laws_below, reach_is_closed};
 use pm_run::books_of_a_run;
 
 /// Two books that agree beyond the reach of a master have the same values and modes there. They agree after an event in
@@ -56,15 +52,8 @@ pub fn steps_keep_apart()
         → IsSound a → IsSound b → Agree (border_in a m) a b
         → SameTold a.fixed.object a.fixed.topology (border_in a m) (core_of event a) (core_of (quiet_event m event) b) }
 {
+    laws_below();
     reach_is_closed();
-    steps_agree();
-    requests_agree();
-    pulses_agree();
-    values_agree();
-    starts_agree();
-    answers_agree();
-    callbacks_agree();
-    books_agree();
 }
 
 /// Nothing that a master sends changes what is beyond its reach. The core events of a script line, and of the same line

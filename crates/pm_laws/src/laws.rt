@@ -2,7 +2,7 @@
 
 ghost use Rattle.std.specs.List.{AllByRecursion as Each};
 ghost use Rattle.std.specs.Prelude.{◌≡◌, ℕ, List, [], ◌∷◌, true, false, Some, None};
-ghost use Rattle.pm_core.specs.Prims.{Prim, changed};
+ghost use Rattle.pm_state.specs.Prims.{Prim, changed};
 ghost use Rattle.pm_base.specs.declared.events.Event.{Event};
 ghost use Rattle.pm_base.specs.declared.events.Event.TheVariants.{Ipi, Pass};
 ghost use Rattle.pm_base.specs.declared.events.Message.{Message};
@@ -16,16 +16,18 @@ ghost use Rattle.pm_topology.specs.declared.places.Kind.TheVariants.{Proc};
 ghost use Rattle.pm_topology.specs.declared.topology.Topology.{Topology};
 ghost use Rattle.pm_topology.specs.WellFormed.{IsWellFormed};
 ghost use Rattle.pm_rows.specs.Wanted.{wanted_of};
-ghost use Rattle.pm_core.specs.Load.{load_of};
-ghost use Rattle.pm_core.specs.Members.{mode_of_master};
-ghost use Rattle.pm_core.specs.Sound.{IsSound, KnowsModes};
-ghost use Rattle.pm_core.specs.Stages.{after_stage, after_stages, follow, path_from};
-ghost use Rattle.pm_core.specs.State.{State};
+ghost use Rattle.pm_state.specs.Load.{load_of};
+ghost use Rattle.pm_state.specs.Members.{mode_of_master};
+ghost use Rattle.pm_state.specs.Sound.{IsSound, KnowsModes};
+ghost use Rattle.pm_state.specs.Stages.{after_stage, after_stages, follow, path_from};
+ghost use Rattle.pm_state.specs.State.{State};
 ghost use Rattle.pm_core.specs.Step.{asks, effect, ended, outputs, pulse, stages, talk};
-ghost use Rattle.pm_core.specs.Talk.{Talk, talked};
-ghost use Rattle.pm_core.specs.Values.{master_place, slave_place, value};
-ghost use Rattle.pm_core.specs.Views.{is_asked, named_master, proc_view, row_view, suspend_view, wake_view};
+ghost use Rattle.pm_state.specs.Talk.{Talk, talked};
+ghost use Rattle.pm_state.specs.Values.{master_place, slave_place, value};
+ghost use Rattle.pm_calls.specs.Views.{is_asked, proc_view, row_view, suspend_view, wake_view};
+ghost use Rattle.pm_state.specs.Nodes.{named_master};
 ghost use Rattle.pm_laws.specs.Agree.{Agree};
+ghost use Rattle.pm_laws.specs.Below.{BelowLaws};
 ghost use Rattle.pm_laws.specs.Border.{Border, HasSome, IsBeyond, IsClosed, unit_beyond};
 ghost use Rattle.pm_laws.specs.Both.{Both};
 ghost use Rattle.pm_laws.specs.Hidden.{is_hidden, is_slave_within, is_within, owner_by};
@@ -39,6 +41,16 @@ use pm_core::{books_stay_sound, members_are_owned};
 use pm_reach::{masters_within, parents_within, reach_is_decided, units_within};
 use pm_rows::shifts_leave_others;
 use pm_topology::{kinds_are_exact, units_stand_in_order};
+
+/// What the crates below promise of kinds, rows, processors and units.
+pub fn laws_below()
+    ensures { BelowLaws }
+{
+    kinds_are_exact();
+    shifts_leave_others();
+    members_are_owned();
+    units_stand_in_order();
+}
 
 /// A sound book agrees with itself beyond each closed border, as the book at load does; two books that agree do so either way, and
 /// so do two that agree with a third one.
@@ -68,10 +80,7 @@ pub fn changes_agree()
     ensures hidden { (border : Border) (prims : List Prim) (a b : State) → IsUnseen border prims
         → Agree border a b → Agree border (changed prims a) b }
 {
-    kinds_are_exact();
-    shifts_leave_others();
-    members_are_owned();
-    units_stand_in_order();
+    laws_below();
 }
 
 /// The two facts of each change of what masters are told: made in both books it leaves them in agreement,
@@ -104,10 +113,7 @@ pub fn rows_follow_alike()
         → seen_part border first ≡ seen_part border second
         → Agree border a b → Agree border (after_stage first a) (after_stage second b) }
 {
-    kinds_are_exact();
-    shifts_leave_others();
-    members_are_owned();
-    units_stand_in_order();
+    laws_below();
 }
 
 /// The books along a step. Where nothing in its stages is seen each of them agrees with a book that stays,
@@ -124,10 +130,7 @@ pub fn paths_agree()
         → AreAlike border first second → Agree border a b
         → Agree border (after_stages first a) (after_stages second b) }
 {
-    kinds_are_exact();
-    shifts_leave_others();
-    members_are_owned();
-    units_stand_in_order();
+    laws_below();
 }
 
 /// What a master beyond sees in two books that agree is equal: its row on a slave beyond, with the other
@@ -152,10 +155,7 @@ pub fn views_agree()
     ensures wanted { (border : Border) (s : ℕ) (a b : State) → border.some ≡ true → border.slave s ≡ true
         → Agree border a b → wanted_of s a.now.core.rows ≡ wanted_of s b.now.core.rows }
 {
-    kinds_are_exact();
-    shifts_leave_others();
-    members_are_owned();
-    units_stand_in_order();
+    laws_below();
 }
 
 /// A unit beyond has the same value in two books that agree: a slave, a power node, a reset line, a processor of a master
@@ -185,10 +185,7 @@ pub fn steps_agree()
         → IsClosed book.fixed.object book.fixed.topology border
         → is_hidden border event book ≡ true → AreHidden border (stages event book) }
 {
-    kinds_are_exact();
-    shifts_leave_others();
-    members_are_owned();
-    units_stand_in_order();
+    laws_below();
 }
 
 /// The same is asked of masters beyond in two books that agree, and, where they are sound, the same requests
@@ -214,10 +211,7 @@ pub fn requests_agree()
         → IsClosed book.fixed.object book.fixed.topology border → IsSound book
         → is_hidden border event book ≡ true → IsTalkUnseen border (talk event book) }
 {
-    kinds_are_exact();
-    shifts_leave_others();
-    members_are_owned();
-    units_stand_in_order();
+    laws_below();
 }
 
 /// The same processors beyond start in two books that agree, at the same addresses, whether an event does the same in
@@ -233,10 +227,7 @@ pub fn starts_agree()
         → starts_beyond a.fixed.object a.fixed.topology border (outputs event a).starts
         ≡ starts_beyond a.fixed.object a.fixed.topology border (outputs Pass b).starts }
 {
-    kinds_are_exact();
-    shifts_leave_others();
-    members_are_owned();
-    units_stand_in_order();
+    laws_below();
 }
 
 /// The same reset line beyond is pulsed in two books that agree, and a hidden event pulses none.
@@ -248,10 +239,7 @@ pub fn pulses_agree()
         → IsClosed book.fixed.object book.fixed.topology border
         → is_hidden border event book ≡ true → pulse_beyond book.fixed.topology border (pulse event book) ≡ None }
 {
-    kinds_are_exact();
-    shifts_leave_others();
-    members_are_owned();
-    units_stand_in_order();
+    laws_below();
 }
 
 /// Over a well-formed object and a chip that passes its check the border of the reach of a master is closed, and it is

@@ -2,8 +2,8 @@
 
 ghost use Rattle.std.specs.Prelude.{◌≡◌, [], None, MatchOption};
 ghost use Rattle.pm_core.specs.Outbox.{HasRoomFor, Holds, KeepsRoom};
-ghost use Rattle.pm_core.specs.Sound.{IsSound, MeetsRequirements};
-ghost use Rattle.pm_core.specs.Values.{value};
+ghost use Rattle.pm_state.specs.Sound.{IsSound, MeetsRequirements};
+ghost use Rattle.pm_state.specs.Values.{value};
 ghost use Rattle.pm_run.specs.Run.{Setup, book_after, core_0};
 ghost use Rattle.pm_laws.specs.Runs.{IsLeftBy, end_of_run, last_outputs};
 

@@ -6,8 +6,8 @@ use Rattle.pm_object.specs.declared.object.MasterRec.{MasterRec}
 use Rattle.pm_object.specs.declared.object.Object.{Object}
 use Rattle.pm_object.specs.Grammar.{IsObject}
 use Rattle.pm_topology.specs.declared.topology.Topology.{Topology}
-use Rattle.pm_core.specs.Load.{load_of}
-use Rattle.pm_core.specs.State.{State}
+use Rattle.pm_state.specs.Load.{load_of}
+use Rattle.pm_state.specs.State.{State}
 use Rattle.pm_laws.specs.Agree.{Agree}
 use Rattle.pm_laws.specs.ReachBorder.{border_of}
 use Rattle.pm_sides.specs.Sides.{AreSides}

@@ -4,7 +4,7 @@ use Rattle.std.specs.Prelude.{◌==◌, IsTrue}
 use Rattle.pm_base.specs.declared.names.NodeId.{NodeId}
 use Rattle.pm_object.specs.declared.object.MasterRec.{MasterRec}
 use Rattle.pm_object.specs.Grammar.{IsObject}
-use Rattle.pm_core.specs.State.{State}
+use Rattle.pm_state.specs.State.{State}
 use Rattle.pm_laws.specs.Agree.{Agree}
 use Rattle.pm_laws.specs.Left.{border_in}
 

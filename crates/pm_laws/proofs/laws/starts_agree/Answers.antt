@@ -1,14 +1,5 @@
-use Rattle.pm_laws.proofs.RowFacts.{BelowLaws}
 use Rattle.pm_laws.proofs.StartsLaw.{starts_agree, starts_hidden}
 use Rattle.pm_laws.proofs.laws.starts_agree.Goals as goal
 
 pub returns : goal.returns
-returns c =
-    let laws : BelowLaws = record {
-      kinds = c.kinds_are_exact.ensures;
-      armed = c.shifts_leave_others.ensures.armed;
-      owned = c.members_are_owned.ensures;
-      hold = c.shifts_leave_others.ensures.hold;
-      units = c.units_stand_in_order.ensures;
-    } in
-    record { both = starts_agree laws; hidden = starts_hidden laws }
+returns c = record { both = starts_agree c.laws_below.ensures; hidden = starts_hidden c.laws_below.ensures }

@@ -1,7 +1,7 @@
 use Rattle.std.proofs.Common.{◌≡◌, ◌∙◌, ap, sym, subst}
 use Rattle.pm_base.specs.declared.events.Event.{Event}
 use Rattle.pm_core.specs.Outbox.{Holds}
-use Rattle.pm_core.specs.State.{State}
+use Rattle.pm_state.specs.State.{State}
 use Rattle.pm_core.specs.Step.{effect, outputs}
 use Rattle.pm_laws.specs.Left.{border_in}
 use Rattle.pm_laws.specs.Quiet.{quiet_event}

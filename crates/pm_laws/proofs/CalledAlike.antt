@@ -2,50 +2,31 @@
 use Rattle.std.proofs.Common.{◌≡◌, ℕ, ◌+◌, Bool, true, false, not, ◌&&◌, ◌==◌, if◌then◌else◌, position, Option, Some, None, refl, sym, ◌∙◌, ap}
 use Rattle.std.specs.Prelude.{option_map}
 use Rattle.std.proofs.lemmas.Bool.{eqb-true}
-use Rattle.pm_base.specs.declared.names.NodeId.{NodeId}
+use Rattle.pm_laws.proofs.Common.{Agree, BelowLaws, Border, Entry, Fixed, IsBeyond, IsClosed, IsWellFormed, Kind, KindLaws, MasterRec, NodeId, Now, Power, RowSeed, Same, SameRow, Slave, State, called, can_wake, changing, is_asked, is_place, is_slave_within, is_within, kind_of, line_beyond, mode_number, mode_of_master, named_master, names_master, none_within, owner_at, point_at, proc_view, row_view, status_view, status_view_at, suspend_view, suspendable, unit_beyond, wake_view_at, wakeable}
 use Rattle.pm_base.proofs.Booleans.{both, equal}
 use Rattle.pm_base.proofs.Searches.{position-first}
 use Rattle.pm_ipi.specs.declared.calls.Call.{Call}
-use Rattle.pm_ipi.specs.declared.calls.Call.TheVariants.{GetApiVersion, GetNodeStatus, GetOpCharacteristic, RegisterNotifier, RequestSuspend, SelfSuspend, ForcePowerdown, AbortSuspend, RequestWakeup, SetWakeupSource, SystemShutdown, RequestNode, ReleaseNode, SetRequirement, SetMaxLatency, ResetAssert, ResetGetStatus, InitFinalize, Unknown}
-use Rattle.pm_object.specs.declared.object.MasterRec.{MasterRec}
-use Rattle.pm_topology.specs.declared.places.Kind.{Kind}
-use Rattle.pm_topology.specs.declared.places.Kind.TheVariants.{Proc, Slave, Power, Unknown as NoNode}
+use Rattle.pm_topology.specs.declared.places.Kind.TheVariants.{Proc, Unknown as NoNode}
 use Rattle.pm_topology.specs.declared.topology.SlaveDef.{SlaveDef}
-use Rattle.pm_topology.specs.Places.{KindLaws, kind_of, line_place, slave_place}
-use Rattle.pm_topology.specs.WellFormed.{IsWellFormed}
+use Rattle.pm_topology.specs.Places.{line_place, slave_place}
 use Rattle.pm_procs.specs.declared.procs.Proc.{Proc as Processor}
-use Rattle.pm_procs.specs.Modes.{mode_number}
-use Rattle.pm_rows.specs.declared.row.Entry.{Entry}
-use Rattle.pm_rows.specs.declared.row.RowSeed.{RowSeed}
 use Rattle.pm_rows.specs.Rows.{is_at, is_of_other, is_used_by, is_used_by_others, entry_at, now_of}
-use Rattle.pm_core.specs.Members.{is_place, mode_of_master, owner_at, owns}
-use Rattle.pm_core.specs.State.{Fixed, Now, State}
-use Rattle.pm_core.specs.Step.{called}
-use Rattle.pm_core.specs.Values.{point_at}
-use Rattle.pm_core.specs.Views.{can_wake, is_asked, named_master, names_master, proc_view, row_view, status_view, status_view_at, suspend_view, suspendable, wake_view_at, wakeable}
-use Rattle.pm_core.specs.calls.AbortSuspend.{abort_suspend}
-use Rattle.pm_core.specs.calls.GetNodeStatus.{get_node_status}
-use Rattle.pm_core.specs.calls.GetOpCharacteristic.{get_op_characteristic}
-use Rattle.pm_core.specs.calls.RegisterNotifier.{register_notifier}
-use Rattle.pm_core.specs.calls.ResetGetStatus.{reset_get_status}
-use Rattle.pm_core.specs.Characteristics.{characteristics_at}
+use Rattle.pm_state.specs.Members.{owns}
+use Rattle.pm_calls.specs.RowCalls.{row_changes}
+use Rattle.pm_calls.specs.calls.AbortSuspend.{abort_suspend}
+use Rattle.pm_calls.specs.calls.RegisterNotifier.{register_notifier}
+use Rattle.pm_calls.specs.Characteristics.{characteristics_at}
 use Rattle.pm_resets.specs.Resets.{value_of}
-use Rattle.pm_core.specs.calls.ReleaseNode.{release_node}
-use Rattle.pm_core.specs.calls.RequestNode.{request_node}
-use Rattle.pm_core.specs.calls.RequestSuspend.{request_suspend}
-use Rattle.pm_core.specs.calls.RequestWakeup.{request_wakeup}
-use Rattle.pm_core.specs.calls.SelfSuspend.{self_suspend}
-use Rattle.pm_core.specs.calls.SetMaxLatency.{set_max_latency}
-use Rattle.pm_core.specs.calls.SetRequirement.{set_requirement}
-use Rattle.pm_core.specs.calls.SetWakeupSource.{set_wakeup_source}
-use Rattle.pm_laws.specs.Agree.{Agree, Same, SameRow}
-use Rattle.pm_laws.specs.Answers.{names_beyond}
-use Rattle.pm_laws.specs.Border.{Border, IsBeyond, IsClosed, line_beyond, none_within, unit_beyond}
-use Rattle.pm_laws.specs.Hidden.{is_slave_within, is_within}
+use Rattle.pm_calls.specs.calls.RequestSuspend.{request_suspend}
+use Rattle.pm_calls.specs.calls.RequestWakeup.{request_wakeup}
+use Rattle.pm_calls.specs.calls.SelfSuspend.{self_suspend}
+use Rattle.pm_calls.specs.calls.SetWakeupSource.{set_wakeup_source}
+use Rattle.pm_laws.specs.Answers.{all_beyond, names_beyond}
 use Rattle.pm_laws.proofs.CallsAlike.{asked_agrees, book_of, entries_alike, entry_alike, proc_views_agree, row_views_agree, rows_both, suspend_views_agree, watched_same}
 use Rattle.pm_laws.proofs.FollowLaw.{mode_alike, proc_alike}
 use Rattle.pm_laws.proofs.Places.{Both-any}
-use Rattle.pm_laws.proofs.RowFacts.{BelowLaws}
+use Rattle.pm_laws.specs.Shapes.{Shape, Node_status, Node_figures, Line_value, Own_row, Own_arming, Own_suspend, Own_abort, Own_notifier, Other_wakeup, Other_suspend, shape_of, shaped, telling}
+use Rattle.pm_laws.proofs.ShapesLaw.{called_shaped, named_shaped, names_of}
 use Rattle.pm_laws.proofs.ValuesLaw.{kind_alike, line_alike, mode_same}
 
 -- ---- a test of the rows on a slave beyond
@@ -172,9 +153,7 @@ module _ (laws : BelowLaws) (kinds : KindLaws) (fixed : Fixed) (border : Border)
   wake_kind : (m : ℕ) (kind : Kind) → unit_beyond fixed.object fixed.topology border kind ≡ true → wake_view_at m kind first ≡ wake_view_at m kind second
   wake_kind m (Proc p) beyond =
       ap (λ target. record { place = Some p; target = target }) (wake_owned m p (owner_at fixed.object fixed.topology p) refl beyond)
-  wake_kind m (Slave s) beyond = refl
-  wake_kind m (Power w) beyond = refl
-  wake_kind m NoNode beyond = refl
+  wake_kind m _ beyond = refl
 
   suspend_same : (m : ℕ) (node : NodeId) → Names node → suspend_view m node first ≡ suspend_view m node second
   suspend_same m node is = at (named_master fixed node) refl (closed.names node is)
@@ -198,34 +177,32 @@ module _ (laws : BelowLaws) (kinds : KindLaws) (fixed : Fixed) (border : Border)
 
   -- ---- calls
 
-  pub call_same : (m : ℕ) (call : Call) → IsBeyond border m → names_beyond fixed.topology border call ≡ true → called m call first ≡ called m call second
-  call_same m GetApiVersion beyond is = refl
-  call_same m (GetNodeStatus node) beyond is = ap get_node_status (status_same m node (closed.some m beyond) is)
-  call_same m (GetOpCharacteristic node characteristic) beyond is =
-      ap (λ value. get_op_characteristic characteristic (characteristics_at (kind_of fixed.topology node) value fixed.topology))
+  shape_same : (m : ℕ) (shape : Shape) → IsBeyond border m → all_beyond fixed.topology border (names_of shape) ≡ true → shaped m shape first ≡ shaped m shape second
+  shape_same m (Node_status node call) beyond is = ap (λ view. telling (call view)) (status_same m node (closed.some m beyond) is)
+  shape_same m (Node_figures node call) beyond is =
+      ap (λ value. telling (call (characteristics_at (kind_of fixed.topology node) value fixed.topology)))
       (kind_alike fixed border closed a b same (kind_of fixed.topology node) (unit_of node is))
-  call_same m (RegisterNotifier node event wake enable) beyond is =
-      ap (register_notifier m node event enable) (watched_same fixed m node (kind_of fixed.topology node) a b)
-  call_same m (RequestSuspend node ack latency state) beyond is = ap (request_suspend m node ack latency state) (suspend_same m node is)
-  call_same m (SelfSuspend node address) beyond is = ap (self_suspend m address) (own_same m node beyond)
-  call_same m (ForcePowerdown node ack) beyond is = refl
-  call_same m (AbortSuspend node reason) beyond is =
-      ap (λ view. abort_suspend m reason (is_asked m first) view) (own_same m node beyond)
-      ∙ ap (λ pending. abort_suspend m reason pending (proc_view m node second)) (asked_agrees border m first second beyond agree)
-  call_same m (RequestWakeup node address ack) beyond is =
-      ap (request_wakeup address ack) (wake_kind m (kind_of fixed.topology node) (unit_of node is))
-  call_same m (SetWakeupSource target source enable) beyond is =
+  shape_same m (Line_value line call) beyond is = ap (λ value. telling (call value)) (status_of_line (line_place fixed.topology.lines line.0) is)
+  shape_same m (Own_row node by call) beyond is =
+      ap (λ mode. changing (call mode (row_view m node first)).checks (row_changes (by mode) (row_view m node first))) (mode_alike laws fixed border m a b beyond same)
+      ∙ ap (λ view. changing (call (mode_of_master fixed b.core m) view).checks (row_changes (by (mode_of_master fixed b.core m)) view)) (row_same m node beyond is)
+  shape_same m (Own_arming target source enable) beyond is =
       ap (λ view. set_wakeup_source target enable view (row_view m source first)) (own_same m target beyond)
       ∙ ap (set_wakeup_source target enable (proc_view m target second))
       (row_same m source beyond (both (border.node target.0) (border.node source.0) is).1)
-  call_same m (SystemShutdown shutdown_type subtype) beyond is = refl
-  call_same m (RequestNode node caps ack) beyond is = ap (request_node caps ack) (row_same m node beyond is)
-  call_same m (ReleaseNode node) beyond is = ap release_node (row_same m node beyond is)
-  call_same m (SetRequirement node caps ack) beyond is =
-      ap (λ mode. set_requirement mode caps ack (row_view m node first)) (mode_alike laws fixed border m a b beyond same)
-      ∙ ap (set_requirement (mode_of_master fixed b.core m) caps ack) (row_same m node beyond is)
-  call_same m (SetMaxLatency node latency) beyond is = ap (set_max_latency latency) (row_same m node beyond is)
-  call_same m (ResetAssert line action) beyond is = refl
-  call_same m (ResetGetStatus line) beyond is = ap reset_get_status (status_of_line (line_place fixed.topology.lines line.0) is)
-  call_same m InitFinalize beyond is = refl
-  call_same m Unknown beyond is = refl
+  shape_same m (Own_suspend node address) beyond is = ap (self_suspend m address) (own_same m node beyond)
+  shape_same m (Own_abort node reason) beyond is =
+      ap (abort_suspend m reason (is_asked m first)) (own_same m node beyond)
+      ∙ ap (λ pending. abort_suspend m reason pending (proc_view m node second)) (asked_agrees border m first second beyond agree)
+  shape_same m (Own_notifier node event enable) beyond is =
+      ap (register_notifier m node event enable) (watched_same fixed m node (kind_of fixed.topology node) a b)
+  shape_same m (Other_wakeup node address ack) beyond is =
+      ap (request_wakeup address ack) (wake_kind m (kind_of fixed.topology node) (unit_of node is))
+  shape_same m (Other_suspend node ack latency state) beyond is = ap (request_suspend m node ack latency state) (suspend_same m node is)
+  shape_same m _ beyond is = refl
+
+  pub call_same : (m : ℕ) (call : Call) → IsBeyond border m → names_beyond fixed.topology border call ≡ true → called m call first ≡ called m call second
+  call_same m call beyond is =
+      called_shaped m call first
+      ∙ (shape_same m (shape_of call) beyond (sym (ap (all_beyond fixed.topology border) (named_shaped call)) ∙ is)
+      ∙ sym (called_shaped m call second))

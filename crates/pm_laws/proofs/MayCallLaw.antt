@@ -1,16 +1,10 @@
 -- A master beyond is heard in both of two books that agree, or in neither; and, where one is beyond, both are halted or neither.
 use Rattle.std.proofs.Common.{◌≡◌, ℕ, not, ◌&&◌, ◌∙◌, ap}
-use Rattle.pm_procs.specs.Modes.{is_awake}
-use Rattle.pm_core.specs.Members.{mode_of_master}
-use Rattle.pm_core.specs.State.{Fixed, Now}
-use Rattle.pm_core.specs.Step.{is_heard}
-use Rattle.pm_laws.specs.Agree.{Same}
-use Rattle.pm_laws.specs.Border.{Border, IsBeyond}
+use Rattle.pm_laws.proofs.Common.{BelowLaws, Border, Fixed, IsBeyond, Now, Same, is_awake, may_call, mode_of_master}
 use Rattle.pm_laws.proofs.CallsAlike.{book_of}
 use Rattle.pm_laws.proofs.FollowLaw.{mode_alike}
-use Rattle.pm_laws.proofs.RowFacts.{BelowLaws}
 
-pub heard_same : BelowLaws → (fixed : Fixed) (border : Border) (m : ℕ) (a b : Now) → IsBeyond border m → Same fixed border a b → is_heard m (book_of fixed a) ≡ is_heard m (book_of fixed b)
+pub heard_same : BelowLaws → (fixed : Fixed) (border : Border) (m : ℕ) (a b : Now) → IsBeyond border m → Same fixed border a b → may_call m (book_of fixed a) ≡ may_call m (book_of fixed b)
 heard_same laws fixed border m a b beyond same =
     ap (λ halted. not halted && is_awake (mode_of_master fixed a.core m)) (same.halted (same.some m beyond))
     ∙ ap (λ mode. not b.core.halted && is_awake mode) (mode_alike laws fixed border m a b beyond same)
