@@ -10,11 +10,11 @@ use Rattle.pm_base.proofs.Booleans.{equal}
 use Rattle.pm_topology.specs.declared.topology.Topology.{Topology}
 use Rattle.pm_topology.specs.UnitMap.{TablePlaceLaws, mapped, remade, with_value_at}
 use Rattle.pm_topology.specs.Units.{units_of}
-use Rattle.pm_core.specs.Load.{load_of}
+use Rattle.pm_state.specs.Load.{load_of}
 use Rattle.pm_run.specs.Run.{Setup, Stand, lines_of, run}
-use Rattle.pm_core.specs.State.{Fixed, State}
+use Rattle.pm_state.specs.State.{Fixed, State}
 use Rattle.pm_laws.specs.Quiet.{quiet, quiet_event}
-use Rattle.pm_core.specs.Values.{shown}
+use Rattle.pm_state.specs.Values.{shown}
 use Rattle.pm_isolate.specs.declared.worlds.Worlds.{Worlds}
 use Rattle.pm_isolate.specs.Differences.{difference_line, differences, steps_line}
 use Rattle.pm_isolate.specs.Transitions.{differs, history}

@@ -30,10 +30,10 @@ use Rattle.pm_reach.specs.declared.members.MemberKind.TheVariants as members
 use Rattle.pm_reach.specs.Border.{IsIn}
 use Rattle.pm_reach.specs.Leads.{node_at}
 use Rattle.pm_reach.specs.Membership.{IsReach, members_of}
-use Rattle.pm_core.specs.Members.{owner_at}
+use Rattle.pm_state.specs.Members.{owner_at}
 use Rattle.pm_run.specs.Run.{IsBookOf, Line as RunLine, Setup, run}
-use Rattle.pm_core.specs.State.{Fixed, State}
-use Rattle.pm_core.specs.Values.{point_at, shown, value, value_at}
+use Rattle.pm_state.specs.State.{Fixed, State}
+use Rattle.pm_state.specs.Values.{point_at, shown, value, value_at}
 use Rattle.pm_laws.specs.Agree.{Agree}
 use Rattle.pm_laws.specs.Border.{Border, IsClosed, line_beyond, none_within, unit_beyond}
 use Rattle.pm_laws.specs.Both.{Both}

@@ -14,7 +14,7 @@ use Rattle.pm_reach.specs.declared.members.Member.{Member}
 use Rattle.pm_reach.specs.declared.members.MemberKind.{MemberKind}
 use Rattle.pm_reach.specs.declared.members.MemberKind.TheVariants as members
 use Rattle.pm_reach.specs.Leads.{node_at}
-use Rattle.pm_core.specs.Members.{owner_at}
+use Rattle.pm_state.specs.Members.{owner_at}
 use Rattle.pm_run.specs.Run.{Setup}
 use Rattle.pm_isolate.specs.Differences.{differing}
 

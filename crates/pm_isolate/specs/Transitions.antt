@@ -1,7 +1,7 @@
 -- The transitions of a unit over a run, and whether those in two runs differ.
 use Rattle.std.specs.Prelude.{ℕ, ◌+◌, ◌==◌, ◌&&◌, Bool, true, false, not, if◌then◌else◌, List, [], ◌∷◌, map}
 use Rattle.pm_base.specs.declared.names.Unit.{Unit}
-use Rattle.pm_core.specs.Values.{shown}
+use Rattle.pm_state.specs.Values.{shown}
 use Rattle.pm_run.specs.Run.{Line}
 
 -- the history of a unit: what it shows after each of these script lines, of a processor the number of its mode, and of any other

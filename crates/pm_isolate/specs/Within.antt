@@ -13,10 +13,10 @@ use Rattle.pm_topology.specs.UnitMap.{all_at, mapped}
 use Rattle.pm_topology.specs.Units.{units_of}
 use Rattle.pm_reach.specs.declared.members.Member.{Member}
 use Rattle.pm_reach.specs.Membership.{IsReach}
-use Rattle.pm_core.specs.Load.{load_of}
+use Rattle.pm_state.specs.Load.{load_of}
 use Rattle.pm_run.specs.Run.{Setup, line_of, setup_of}
-use Rattle.pm_core.specs.State.{State}
-use Rattle.pm_core.specs.Values.{shown}
+use Rattle.pm_state.specs.State.{State}
+use Rattle.pm_state.specs.Values.{shown}
 use Rattle.pm_laws.specs.Quiet.{quiet_event}
 use Rattle.pm_script.specs.declared.follow.LineStop.{LineStop}
 use Rattle.pm_script.specs.declared.follow.LineStop.TheVariants as stops

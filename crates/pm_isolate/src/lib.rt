@@ -2,10 +2,10 @@
 //! differ between them.
 #![tactic(auto)]
 
+mod boxed_run;
 mod comparison;
 mod laws;
 mod lines;
-mod runner;
 mod worlds;
 mod writing;
 

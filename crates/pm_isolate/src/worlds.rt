@@ -3,11 +3,11 @@
 ghost use Rattle.std.specs.Prelude.{◌≡◌, ◌<◌, false, IfOk, Some, length, slice_get};
 ghost use Rattle.pm_topology.specs.Masters.{ObeysMasterRules};
 ghost use Rattle.pm_topology.specs.WellFormed.{IsWellFormed};
-ghost use Rattle.pm_core.specs.Values.{shown};
+ghost use Rattle.pm_state.specs.Values.{shown};
 ghost use Rattle.pm_run.specs.Run.{setup};
 ghost use Rattle.pm_isolate.specs.Within.{begun, line_book, noted, noted_in, stepped};
 
-use crate::runner::Runner;
+use crate::boxed_run::BoxedRun;
 use pm_base::{Event, NoMemory, NodeId, Unit};
 use pm_core::Book;
 use pm_laws::quiet_event;
@@ -20,8 +20,8 @@ use std::alloc::Global;
 /// shows has differed between them.
 #[derive(Drop)]
 pub struct Worlds {
-    pub loud: Runner,
-    pub quiet: Runner,
+    pub loud: BoxedRun,
+    pub quiet: BoxedRun,
     pub differs: UnitMap<bool>,
 }
 
@@ -39,8 +39,8 @@ impl Worlds {
         let differs = UnitMap::load(alloc, &topology, false)?;
         let other_object = object.copy(alloc)?;
         let other_topology = topology.copy(alloc)?;
-        let quiet = Runner::load(alloc, other_object, other_topology)?;
-        let loud = Runner::load(alloc, object, topology)?;
+        let quiet = BoxedRun::load(alloc, other_object, other_topology)?;
+        let loud = BoxedRun::load(alloc, object, topology)?;
         Ok(Worlds {
             loud,
             quiet,
@@ -60,7 +60,7 @@ impl Worlds {
 }
 
 /// Carries out the core events of a script line in a book.
-fn step_line(runner: &mut Runner, event: &Event)
+fn step_line(runner: &mut BoxedRun, event: &Event)
     ensures { runner.new ≡ line_book event.now runner.old }
 {
     let mut left = core_events(event);

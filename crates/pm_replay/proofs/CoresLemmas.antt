@@ -11,7 +11,7 @@ use Rattle.pm_base.proofs.SinkLemmas.{Wrote-refl, Wrote-trans}
 use Rattle.pm_device.specs.declared.device.Device as Device
 use Rattle.pm_device.specs.Act.{Chain}
 use Rattle.pm_device.specs.Chains.{Chain-append}
-use Rattle.pm_core.specs.State.{State}
+use Rattle.pm_state.specs.State.{State}
 use Rattle.pm_core.specs.Step.{effect, outputs}
 use Rattle.pm_run.specs.Run.{Core, Setup, core_of, cores_of}
 use Rattle.pm_apply.specs.Part.{Kept, Part, answers_in, orders_in, part_in, part_of}

@@ -2,7 +2,7 @@
 use Rattle.std.proofs.Common.{◌≡◌, ℕ, ◌+◌, Bool, List, [], ◌∷◌, ◌++◌, length, take, Option, Some, None, suc, refl, sym, ◌∙◌, ap, arith}
 use Rattle.pm_base.specs.declared.events.Event.{Event}
 use Rattle.pm_run.specs.Run.{Core, Line, Setup, cores_of, line_of, lines_of, split}
-use Rattle.pm_core.specs.State.{State}
+use Rattle.pm_state.specs.State.{State}
 use Rattle.pm_core.specs.Step.{effect}
 use Rattle.pm_apply.specs.Part.{Kept, part_of}
 use Rattle.pm_drive.specs.Drive.{Driven, Given, answers_after, drive, drive_line, give, kept_after, until}

@@ -9,10 +9,10 @@ use Rattle.pm_base.specs.Sink.{Wrote}
 use Rattle.pm_base.specs.Writing.{BreaksIn, Leaves}
 use Rattle.pm_device.specs.declared.device.Device as Device
 use Rattle.pm_device.specs.Act.{Chain}
-use Rattle.pm_core.specs.Load.{load_of}
+use Rattle.pm_state.specs.Load.{load_of}
 use Rattle.pm_core.specs.Outbox.{Holds}
 use Rattle.pm_run.specs.Run.{Setup, book_after, cores_of, lines_of, split}
-use Rattle.pm_core.specs.State.{State}
+use Rattle.pm_state.specs.State.{State}
 use Rattle.pm_core.specs.Step.{effect, outputs, outputs_at_load}
 use Rattle.pm_apply.specs.Part.{Kept, answers_in, orders_in, part_in, part_of}
 use Rattle.pm_apply.specs.Record.{at_zero}

@@ -1,10 +1,10 @@
-//! A book, the values that its device last took, and the outbox of the last step.
+//! A runner, and the values that its device last took.
 
 ghost use Rattle.std.specs.Prelude.{◌≡◌, IfOk};
 ghost use Rattle.pm_device.specs.Act.{Chain};
 ghost use Rattle.pm_topology.specs.Masters.{ObeysMasterRules};
 ghost use Rattle.pm_topology.specs.WellFormed.{IsWellFormed};
-ghost use Rattle.pm_core.specs.Load.{load_of};
+ghost use Rattle.pm_state.specs.Load.{load_of};
 ghost use Rattle.pm_core.specs.Outbox.{Holds};
 ghost use Rattle.pm_core.specs.Step.{effect, outputs, outputs_at_load};
 ghost use Rattle.pm_apply.specs.Part.{answers_in, orders_in, part_in, part_of};
@@ -16,29 +16,28 @@ use pm_base::{Event, NoMemory};
 use pm_core::{Book, Outbox};
 use pm_device::Device;
 use pm_object::Object;
+use pm_run::Runner;
 use pm_topology::Topology;
 use std::alloc::Global;
 use std::marker::Model;
 
-/// The book, the values that the device last took, and what the last step put out. Contracts see
+/// The book, what its last step put out, and the values that the device last took. Contracts see
 /// these three.
 #[derive(Drop)]
 pub struct Controller {
-    book: Book,
+    runner: Runner,
     kept: Kept,
-    outbox: Outbox,
 }
 
 impl Model for Controller {
     ghost use Rattle.pm_apply.specs.Record.{IsRecordOf};
-    ghost use Rattle.pm_core.specs.Outbox.{HasRoomFor};
     ghost use Rattle.pm_replay.specs.Controls.{Controls};
 
     ghost Value = { Controls };
 
-    ghost view = { λ c. record { book = c.book; kept = c.kept; outbox = c.outbox } };
+    ghost view = { λ c. record { book = c.runner.book; kept = c.kept; outbox = c.runner.outbox } };
 
-    ghost invariant = { λ c. HasRoomFor c.book c.outbox × IsRecordOf c.book.fixed.topology c.kept };
+    ghost invariant = { λ c. IsRecordOf c.runner.book.fixed.topology c.kept };
 }
 
 impl Controller {
@@ -54,16 +53,15 @@ impl Controller {
         ensures kept { IfOk result (λ c. c.kept ≡ at_zero topology) }
         ensures out { IfOk result (λ c. Holds (outputs_at_load c.book) c.outbox) }
     {
-        let mut outbox = Outbox::load(alloc, &topology, object.masters.len())?;
         let kept = Kept::load(alloc, &topology)?;
-        let book = Book::load(alloc, object, topology, &mut outbox)?;
-        Ok(Controller { book, kept, outbox })
+        let runner = Runner::load(alloc, object, topology)?;
+        Ok(Controller { runner, kept })
     }
 
     pub fn book(&self) -> &Book
         ensures { result.now ≡ self.now.book }
     {
-        &self.book
+        &self.runner.book
     }
 
     /// The values that the device last took.
@@ -77,7 +75,7 @@ impl Controller {
     pub fn outbox(&self) -> &Outbox
         ensures { result.now ≡ self.now.outbox }
     {
-        &self.outbox
+        &self.runner.outbox
     }
 
     /// Step 0: the device is made to follow the book at load.
@@ -89,7 +87,12 @@ impl Controller {
         ensures notices { notices_in self.new.outbox ≡ notices_of (outputs_at_load self.old.book) }
         ensures given { Chain D.Does (orders_in self.new.outbox) dev.old dev.new }
     {
-        carry(dev, &mut self.kept, &self.book, &mut self.outbox);
+        carry(
+            dev,
+            &mut self.kept,
+            &self.runner.book,
+            &mut self.runner.outbox,
+        );
     }
 
     /// One event, and the commands that make the device follow the book.
@@ -100,7 +103,12 @@ impl Controller {
         ensures notices { notices_in self.new.outbox ≡ notices_of (outputs event.now self.old.book) }
         ensures given { Chain D.Does (orders_in self.new.outbox) dev.old dev.new }
     {
-        self.book.step(event, &mut self.outbox);
-        carry(dev, &mut self.kept, &self.book, &mut self.outbox);
+        self.runner.step(event);
+        carry(
+            dev,
+            &mut self.kept,
+            &self.runner.book,
+            &mut self.runner.outbox,
+        );
     }
 }

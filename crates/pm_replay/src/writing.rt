@@ -2,7 +2,7 @@
 
 ghost use Rattle.std.specs.Prelude.{◌≡◌, ◌<◌, Some, length, map, slice_get};
 ghost use Rattle.pm_apply.specs.Part.{part_in};
-ghost use Rattle.pm_core.specs.Units.{units};
+ghost use Rattle.pm_state.specs.Units.{units};
 ghost use Rattle.pm_trace.specs.Closing.{closing_lines, closing_text};
 ghost use Rattle.pm_trace.specs.Step.{notices_in, step_text};
 ghost use Rattle.pm_replay.specs.Within.{Writes};

@@ -6,11 +6,11 @@ use Rattle.pm_base.specs.declared.events.Event.{Event}
 use Rattle.pm_object.specs.declared.object.Object.{Object}
 use Rattle.pm_topology.specs.declared.topology.Topology.{Topology}
 use Rattle.pm_topology.specs.WellFormed.{IsWellFormed}
-use Rattle.pm_core.specs.Load.{load_of}
-use Rattle.pm_core.specs.Sound.{IsSound, MeetsRequirements}
-use Rattle.pm_core.specs.State.{State, Fixed}
+use Rattle.pm_state.specs.Load.{load_of}
+use Rattle.pm_state.specs.Sound.{IsSound, MeetsRequirements}
+use Rattle.pm_state.specs.State.{State, Fixed}
 use Rattle.pm_core.specs.Step.{effect}
-use Rattle.pm_core.specs.Values.{value}
+use Rattle.pm_state.specs.Values.{value}
 use Rattle.pm_run.specs.Run.{Setup, Stand, Line, IsBookOf, HasBooksOf, split, cores_of, book_after, line_of, lines_of, loaded, core_0, cores_in, run}
 
 -- what keeps the books of a run: the first is sound, each step keeps it so, and a sound one meets its requirements

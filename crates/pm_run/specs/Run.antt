@@ -5,12 +5,12 @@ use Rattle.pm_base.specs.declared.events.Event.{Event}
 use Rattle.pm_base.specs.declared.events.Event.TheVariants.{Pass}
 use Rattle.pm_object.specs.declared.object.Object.{Object}
 use Rattle.pm_topology.specs.declared.topology.Topology.{Topology}
-use Rattle.pm_core.specs.Load.{load_of}
+use Rattle.pm_state.specs.Load.{load_of}
 use Rattle.pm_core.specs.Outbox.{Outputs}
-use Rattle.pm_core.specs.Sound.{IsSound, MeetsRequirements}
-use Rattle.pm_core.specs.State.{State}
+use Rattle.pm_state.specs.Sound.{IsSound, MeetsRequirements}
+use Rattle.pm_state.specs.State.{State}
 use Rattle.pm_core.specs.Step.{effect, outputs, outputs_at_load}
-use Rattle.pm_core.specs.Values.{value}
+use Rattle.pm_state.specs.Values.{value}
 
 -- what a run begins with
 pub record Setup : Type 0 where
@@ -86,12 +86,8 @@ loaded c = record { book = load_of c.object c.topology }
 
 -- the load as a core step: nothing happens in it but what the load itself puts out
 abbrev pub core_0 : Setup → Core
-core_0 c = record {
-  event = Pass;
-  before = (loaded c).book;
-  after = (loaded c).book;
-  outputs = outputs_at_load (loaded c).book;
-}
+core_0 c =
+    record { event = Pass; before = (loaded c).book; after = (loaded c).book; outputs = outputs_at_load (loaded c).book }
 
 abbrev pub line_0 : Setup → Line
 line_0 c = record { event = Pass; cores = core_0 c ∷ []; notes = []; after = loaded c }

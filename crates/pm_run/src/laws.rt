@@ -4,7 +4,7 @@ ghost use Rattle.std.specs.Prelude.{◌<◌, List, length};
 ghost use Rattle.std.specs.List.{All};
 ghost use Rattle.pm_base.specs.declared.events.Event.{Event};
 ghost use Rattle.pm_topology.specs.WellFormed.{IsWellFormed};
-ghost use Rattle.pm_core.specs.State.{State};
+ghost use Rattle.pm_state.specs.State.{State};
 ghost use Rattle.pm_core.specs.Step.{effect};
 ghost use Rattle.pm_run.specs.Run.{Setup, Stand, IsBookOf, HasBooksOf, split, core_of, cores_of, book_after, line_of, loaded, cores_in, run};
 

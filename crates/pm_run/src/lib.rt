@@ -3,6 +3,8 @@
 
 pub mod cores;
 mod laws;
+mod runner;
 
 pub use cores::{CoreEvents, core_events};
 pub use laws::books_of_a_run;
+pub use runner::Runner;

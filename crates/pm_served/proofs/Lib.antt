@@ -1,1 +1,2 @@
+pub mod PlayedLemmas
 pub mod ServedLaw

@@ -2,8 +2,10 @@
 //! yet: here the laws of runs and of two runs side by side are held to such lines.
 #![tactic(auto)]
 
+mod playing;
 mod serving;
 #[cfg(test)]
 mod tests;
 
+pub use playing::play;
 pub use serving::{serve, serve_both, serve_without};

@@ -1,6 +1,6 @@
 use Rattle.std.proofs.Common.{◌∙◌, List, ap, sym}
 use Rattle.pm_base.specs.declared.events.Event.{Event}
-use Rattle.pm_core.specs.State.{State}
+use Rattle.pm_state.specs.State.{State}
 use Rattle.pm_run.specs.Left.{events_left}
 use Rattle.pm_run.specs.Run.{book_after, setup_of}
 use Rattle.pm_isolate.proofs.worlds.step_line.Goals as goal

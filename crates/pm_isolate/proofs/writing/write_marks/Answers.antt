@@ -3,7 +3,7 @@ use Rattle.std.specs.Prelude.{slice_get}
 use Rattle.std.proofs.lemmas.Result.{err_from_is_err_and}
 use Rattle.pm_base.proofs.SinkLemmas.{BreaksIn-joined, BreaksIn-piece, Wrote-piece}
 use Rattle.pm_topology.specs.declared.topology.Topology.{Topology}
-use Rattle.pm_core.specs.State.{State}
+use Rattle.pm_state.specs.State.{State}
 use Rattle.pm_isolate.specs.Within.{mark_line, mark_lines}
 use Rattle.pm_isolate.proofs.ReportLemmas.{slice_get-map}
 use Rattle.pm_isolate.proofs.writing.write_marks.Goals as goal

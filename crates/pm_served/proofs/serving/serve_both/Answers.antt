@@ -1,5 +1,5 @@
 use Rattle.std.proofs.Common.{refl, sym, subst}
-use Rattle.pm_core.specs.State.{State}
+use Rattle.pm_state.specs.State.{State}
 use Rattle.pm_run.specs.Run.{IsBookOf, Setup, book_after, setup_of}
 use Rattle.pm_laws.specs.Agree.{Agree}
 use Rattle.pm_laws.specs.Left.{border_in}

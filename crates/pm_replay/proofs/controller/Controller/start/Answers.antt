@@ -11,5 +11,5 @@ returns-clause-notices g c =
     let old = c.self.inside in
     let H : Controls → Type 0 = λ controls. Holds (outputs_at_load controls.book) controls.outbox in
     let P : Controls → Type 0 = λ controls. notices_in c.carry.new.out ≡ notices_of (outputs_at_load controls.book) in
-    let held : Holds (outputs_at_load old.book) old.outbox = subst H (sym c.self.view_is) c.requires.out in
-    subst P c.self.view_is (notices_are (outputs_at_load old.book) old.outbox c.carry.new.out held c.carry.ensures.starts c.carry.ensures.late c.carry.ensures.calls)
+    let held : Holds (outputs_at_load old.runner.book) old.runner.outbox = subst H (sym c.self.view_is) c.requires.out in
+    subst P c.self.view_is (notices_are (outputs_at_load old.runner.book) old.runner.outbox c.carry.new.out held c.carry.ensures.starts c.carry.ensures.late c.carry.ensures.callbacks)

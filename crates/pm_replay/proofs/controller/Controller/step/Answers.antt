@@ -8,4 +8,4 @@ use Rattle.pm_replay.proofs.controller.Controller.step.Goals as goal
 pub returns-clause-notices : goal.returns-clause-notices
 returns-clause-notices g c =
     let P : Controls → Type 0 = λ controls. notices_in c.carry.new.out ≡ notices_of (outputs c.args.event.now controls.book) in
-    subst P c.self.view_is (notices_are (outputs c.args.event.now c.self.inside.book) c.step.new.out c.carry.new.out c.step.ensures.out c.carry.ensures.starts c.carry.ensures.late c.carry.ensures.calls)
+    subst P c.self.view_is (notices_are (outputs c.args.event.now c.self.inside.runner.book) c.step.new.self.outbox c.carry.new.out c.step.ensures.out c.carry.ensures.starts c.carry.ensures.late c.carry.ensures.callbacks)
