@@ -1,10 +1,10 @@
 //! The files and the standard output of the host, as inputs and sink of a run. Contracts see nothing
 //! of what they hold.
 
-ghost use Rattle.std.specs.Prelude.{◌≡◌, [], take, length, ◌≤◌, IfSome};
+ghost use Rattle.std.specs.Prelude.{◌≡◌, ◌⊎◌, [], take, length, ◌≤◌, IfSome};
 ghost use Rattle.pm_base.specs.Inputs.{unobserved};
 
-use pm_base::{Failed, Inputs, Sink};
+use pm_base::{Exit, Failed, Inputs, NoMemory, Sink};
 use std::alloc::Global;
 use std::fs;
 use std::io::{Read, Write};
@@ -70,36 +70,124 @@ impl<R: Files> Inputs for HostInputs<'_, R> {
     }
 }
 
-/// A writer of the host.
+/// How many bytes a sink gathers before it hands them on.
+const ROOM: usize = 65_536;
+
+/// How the handing on of bytes ended.
+#[derive(Clone, Copy, Debug, PartialEq, Eq)]
+enum Handed {
+    /// The writer took all bytes.
+    All,
+    /// It took 0 of those that were left.
+    Stalled,
+    /// It failed.
+    Failed,
+}
+
+/// A writer of the host, to which bytes are handed on 64 KiB at a time: pieces are gathered until one has no
+/// room beside those before it, and `finish` hands on the rest. What the writer doesn't take is lost, and so is
+/// what was gathered behind it; so what is written is a front of all pieces.
 #[derive(Drop)]
 pub struct HostSink<W: Write + Drop> {
     writer: W,
+    gathered: Vec<u8>,
+    /// How many of the gathered bytes came before the last piece.
+    before: usize,
+    /// Whether a byte was lost that came before the last piece.
+    lost: bool,
     faults: u64,
     stalls: u64,
 }
 
 impl<W: Write + Drop> HostSink<W> {
-    pub fn new(writer: W) -> Self {
-        HostSink {
+    /// All memory that the sink takes.
+    pub fn new(alloc: Global, writer: W) -> Result<Self, NoMemory> {
+        let gathered = Vec::with_capacity(alloc, ROOM).map_err(|_| NoMemory)?;
+        Ok(HostSink {
             writer,
+            gathered,
+            before: 0,
+            lost: false,
             faults: 0,
             stalls: 0,
+        })
+    }
+
+    /// Hands on what is left at the end of a run. Where that isn't all written, Done becomes WriteFault. Any
+    /// other exit does where a byte before the last piece was lost: if the last piece alone was, which is the line
+    /// of a fault, the exit of that fault stays.
+    pub fn finish(&mut self, exit: Exit) -> Exit
+        ensures { (result ≡ exit) ⊎ (result ≡ Exit.WriteFault) }
+    {
+        let handed = self.hand_on();
+        match (exit, handed) {
+            (Exit::Done, Handed::Stalled | Handed::Failed) => Exit::WriteFault,
+            _ if self.lost => Exit::WriteFault,
+            _ => exit,
         }
     }
+
+    /// Takes first bytes of a piece, or fails. It takes 0 where the writer took 0.
+    fn take(&mut self, piece: &[u8]) -> Option<usize>
+        ensures faults { self.new.faults ≡ self.old.faults }
+        ensures stalls { self.new.stalls ≡ self.old.stalls }
+        ensures bound { IfSome result (λ count. count ≤ length piece.now) }
+    {
+        if piece.len() > ROOM.saturating_sub(self.gathered.len()) {
+            self.before = self.gathered.len();
+            match self.hand_on() {
+                Handed::All => {}
+                Handed::Stalled => return Some(0),
+                Handed::Failed => return None,
+            }
+        }
+        self.before = self.gathered.len();
+        if piece.len() > ROOM {
+            return self.writer.write(piece).ok();
+        }
+        self.gathered.extend_from_slice(piece).ok()?;
+        Some(piece.len())
+    }
+
+    /// Hands on what is gathered.
+    fn hand_on(&mut self) -> Handed
+        ensures faults { self.new.faults ≡ self.old.faults }
+        ensures stalls { self.new.stalls ≡ self.old.stalls }
+    {
+        let (count, handed) = write_on(&mut self.writer, self.gathered.as_slice());
+        if count < self.before {
+            self.lost = true;
+        }
+        self.gathered.clear();
+        handed
+    }
+}
+
+/// Writes bytes as far as the writer takes them. Answers how many it took.
+fn write_on<W: Write>(writer: &mut W, bytes: &[u8]) -> (usize, Handed) {
+    let mut left = bytes;
+    while !left.is_empty() {
+        match writer.write(left) {
+            Ok(0) => return (bytes.len() - left.len(), Handed::Stalled),
+            Ok(count) => left = &left[count..],
+            Err(_) => return (bytes.len() - left.len(), Handed::Failed),
+        }
+    }
+    (bytes.len(), Handed::All)
 }
 
 impl<W: Write + Drop> Sink for HostSink<W> {
     ghost state = { λ sink. record { bytes = []; faults = sink.faults; stalls = sink.stalls } };
 
     fn write(&mut self, piece: &[u8]) -> Result<usize, Failed> {
-        match self.writer.write(piece) {
-            Ok(count) => {
+        match self.take(piece) {
+            Some(count) => {
                 if count == 0 && !piece.is_empty() {
                     self.stalls = self.stalls.saturating_add(1);
                 }
                 Ok(count)
             }
-            Err(_) => {
+            None => {
                 self.faults = self.faults.saturating_add(1);
                 Err(Failed)
             }

@@ -34,14 +34,17 @@ fn run<R: Env + Files + Print + AllocGlobal>(rt: &R) -> Exit {
         return Exit::Memory;
     };
     let mut inputs = HostInputs::new(rt.alloc(), rt);
-    let mut out = HostSink::new(io::writer(rt));
-    pm_main(
+    let Ok(mut out) = HostSink::new(rt.alloc(), io::writer(rt)) else {
+        return Exit::Memory;
+    };
+    let exit = pm_main(
         rt.alloc(),
         words.as_slice(),
         &mut inputs,
         &mut out,
         &mut device,
-    )
+    );
+    out.finish(exit)
 }
 
 /// The device of the chip, all of whose units stand at 0.

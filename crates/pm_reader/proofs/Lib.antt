@@ -1,0 +1,6 @@
+pub mod HeldLemmas
+pub mod TookLemmas
+pub mod GoesOn
+pub mod Future
+pub mod FollowLemmas
+pub mod Named

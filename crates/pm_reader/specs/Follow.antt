@@ -1,0 +1,57 @@
+-- The lines of an input are followed one after another, up to the first one that has no meaning or at which the follower fails.
+use Rattle.std.specs.Prelude.{◌≡◌, ◌⊎◌, ℕ, ◌+◌, List, [], ◌∷◌, length, Result, Ok, Err, IfOk, ⊤}
+use Rattle.pm_base.specs.declared.errors.Failed.{Failed}
+use Rattle.pm_base.specs.declared.events.Event.{Event}
+use Rattle.pm_base.specs.declared.prefix.StopReason.TheVariants.{Failure, Unbegun}
+use Rattle.pm_base.specs.Faults.{Rose}
+use Rattle.pm_base.specs.Inputs.{Moment}
+use Rattle.pm_base.specs.Prefix.{Prefix, prefix_before}
+use Rattle.pm_reader.specs.declared.follow.LineStop.{LineStop}
+use Rattle.pm_reader.specs.declared.follow.LineStop.TheVariants as stops
+use Rattle.pm_reader.specs.declared.follow.LinesEnd.{LinesEnd}
+use Rattle.pm_script.specs.Script.{Script, Stop, script_from, script_limit, script_lines, stop_of}
+use Rattle.pm_script.specs.Script.Stop.{Bad}
+
+-- what a line of a number and an event does: it leads from a follower to a follower, and to an answer
+abbrev pub Following : Type 0 → Type 1
+Following F = ℕ → Event → F → F → Result ⊤ Failed → Type 0
+
+-- something holds of the script of a begun input: of the lines of its bytes up to the limit, or to where a read fails. Where
+-- the input isn't observable it holds of the lines of some bytes
+pub record OfScript (shown : Type 0) (id : ℕ) (before : Moment) (Holds : Script → Type 0) : Type 0 where
+  pub prefix : Prefix
+  pub begun : prefix.stop ≡ Unbegun → ⊥
+  pub is : shown → (before.input id).place ≡ 0 → prefix ≡ prefix_before script_limit (before.input id).file.fails_at (before.input id).file.bytes
+  pub holds : Holds (script_from (script_lines prefix) (stop_of prefix.stop))
+
+module _ {F : Type 0} (Follows : Following F) where
+  -- the lines of these events, the first of which has this number, were all followed in this order, and nothing else was done
+  abbrev pub GoesThrough : ℕ → List Event → F → F → Type 0
+  GoesThrough n [] old new = old ≡ new
+  GoesThrough n (event ∷ events) old new = (next : F) × Follows n event old next (Ok tt) × GoesThrough (n + 1) events next new
+
+  -- they were followed in this order up to one at which the follower failed, and nothing else was done
+  abbrev pub FailsWithin : ℕ → List Event → F → F → Type 0
+  FailsWithin n [] old new = ⊥
+  FailsWithin n (event ∷ events) old new =
+      ((failed : Failed) × Follows n event old new (Err failed))
+      ⊎ ((next : F) × Follows n event old next (Ok tt) × FailsWithin (n + 1) events next new)
+
+  -- one line was followed, by the answer
+  abbrev pub FollowedOne : ℕ → Event → F → F → Result ⊤ LineStop → Type 0
+  FollowedOne n event old new (Ok nothing) = Follows n event old new (Ok tt)
+  FollowedOne n event old new (Err (stops.Bad m cause)) = ⊥
+  FollowedOne n event old new (Err stops.Broken) = (failed : Failed) × Follows n event old new (Err failed)
+
+  -- how the lines of a script end, the first of which has this number: all were followed, and so many lines came before what
+  -- comes then; or one has no meaning; or the follower failed
+  abbrev pub Followed : ℕ → Script → F → F → Result LinesEnd LineStop → Type 0
+  Followed n s old new (Ok end) = GoesThrough n s.events old new × (s.stop ≡ stop_of end.stop) × (1 + end.count ≡ n + length s.events)
+  Followed n s old new (Err (stops.Bad m cause)) = GoesThrough n s.events old new × (s.stop ≡ Bad cause) × (m ≡ n + length s.events)
+  Followed n s old new (Err stops.Broken) = FailsWithin n s.events old new
+
+  -- the lines of a begun input were followed
+  pub record FollowedInput (shown : Type 0) (id : ℕ) (before after : Moment) (old new : F) (result : Result LinesEnd LineStop) : Type 0 where
+    pub followed : OfScript shown id before (λ s. Followed 1 s old new result)
+    pub ends : IfOk result (λ end. end.stop ≡ Unbegun → ⊥)
+    pub fault : IfOk result (λ end. end.stop ≡ Failure → Rose before.faults after.faults)
