@@ -1,8 +1,12 @@
 -- The needs of children are set one after another.
-use Rattle.std.proofs.Common.{◌≡◌, ℕ, ◌+◌, ◌<◌, Bool, false, List, [], ◌∷◌, ◌++◌, length, take, drop, get_or, slice_get, unwrap_or, refl, zero, suc, arith, ap, ◌∙◌, subst}
-use Rattle.std.specs.Prelude.{slice_set}
+use Rattle.std.proofs.Common.{◌≡◌, ℕ, ◌+◌, ◌<◌, Bool, false, List, [], ◌∷◌, ◌++◌, length, take, drop, get_or, slice_get, unwrap_or, refl, zero, suc, arith, ap, sym, ◌∙◌, subst}
+use Rattle.std.specs.Prelude.{slice_set, Some}
+use Rattle.std.proofs.lemmas.List.{length-set}
+use Rattle.std.proofs.lemmas.Option.{slice_get_within, slice_get-get_or}
+use Rattle.pm_topology.specs.declared.topology.PowerDef.{PowerDef}
 use Rattle.pm_power.specs.declared.child.Child.{Child}
 use Rattle.pm_power.specs.Needs.{child, with_needs}
+use Rattle.pm_power.specs.Uses.{WasPut}
 
 -- what is left once one more need is set, and what was left before it
 set_first : (needs : List Bool) (c : Child) (cs : List Child) (d : Child) → d ≡ child c.node c.parent (unwrap_or (slice_get needs zero) false) → d ∷ with_needs (drop (suc zero) needs) cs ≡ with_needs needs (c ∷ cs)
@@ -25,3 +29,22 @@ need_step needs cs k e d whole within is before =
     let next : suc k ≡ k + 1 = omega arith in
     let P : ℕ → Type 0 = λ n. take n (slice_set cs k d) ++ with_needs (drop n needs) (drop n (slice_set cs k d)) ≡ whole in
     subst P next (set_at needs cs k e d within is ∙ before)
+
+-- one need was put: one child more is done
+pub put_step : (needs : List Bool) (cs : List Child) (k : ℕ) (on : Bool) (next : List Child) (powers : List PowerDef) (before after : ℕ) (whole : List Child)
+    → WasPut k on cs next powers before after → on ≡ unwrap_or (slice_get needs k) false
+    → take k cs ++ with_needs (drop k needs) (drop k cs) ≡ whole
+    → take (k + 1) next ++ with_needs (drop (k + 1) needs) (drop (k + 1) next) ≡ whole
+put_step needs cs k on next powers before after whole put is done =
+    let within = slice_get_within cs k put.child put.here in
+    let both : Some put.child ≡ Some (get_or cs k put.child) = sym put.here ∙ slice_get-get_or cs k put.child within in
+    let same : put.child ≡ get_or cs k put.child = cc in
+    let this : child put.child.node put.child.parent on ≡ child (get_or cs k put.child).node (get_or cs k put.child).parent (unwrap_or (slice_get needs k) false) =
+    ap (λ (c : Child). child c.node c.parent on) same ∙ ap (child (get_or cs k put.child).node (get_or cs k put.child).parent) is
+    in
+    let P : List Child → Type 0 = λ xs. take (k + 1) xs ++ with_needs (drop (k + 1) needs) (drop (k + 1) xs) ≡ whole in
+    subst P (sym put.put) (need_step needs cs k put.child (child put.child.node put.child.parent on) whole within this done)
+
+pub put_len : (cs : List Child) (k : ℕ) (on : Bool) (next : List Child) (powers : List PowerDef) (before after : ℕ)
+    → WasPut k on cs next powers before after → length next ≡ length cs
+put_len cs k on next powers before after put = ap length put.put ∙ length-set cs k (child put.child.node put.child.parent on)

@@ -1,7 +1,6 @@
 -- A power node is up exactly where it is held or something directly below needs it.
 use Rattle.std.proofs.Common.{◌≡◌, ◌↔◌, IsTrue, ℕ, ◌+◌, ◌-◌, ◌<◌, ◌⊎◌, ◌==◌, ◌&&◌, ◌||◌, Bool, true, false, Option, Some, None, List, [], ◌∷◌, length, drop, slice_get, get_or, unwrap_or, refl, zero, suc, arith, ap, sym, ◌∙◌, inl, inr}
 use Rattle.std.proofs.lemmas.Bool.{eqb-true}
-use Rattle.std.proofs.lemmas.Option.{slice_get_read}
 use Rattle.pm_topology.specs.declared.topology.PowerDef.{PowerDef}
 use Rattle.pm_topology.specs.declared.topology.Topology.{Topology}
 use Rattle.pm_topology.specs.WellFormed.{IsWellFormed}
@@ -9,7 +8,7 @@ use Rattle.pm_base.proofs.Booleans.{either, first_passes, later_passes, both, pa
 use Rattle.pm_base.proofs.Options.{holds_of}
 use Rattle.pm_base.proofs.Tests.{present_at, present_from}
 use Rattle.pm_power.specs.declared.child.Child.{Child}
-use Rattle.pm_power.specs.Forest.{Needs, is_parent, child_needs, power_needs, ups_from, ups, is_up, IsHeld, ChildNeeds, PowerNeeds, AreAfterParents, AreUps}
+use Rattle.pm_power.specs.Forest.{Needs, is_parent, child_needs, power_needs, ups_from, ups, is_up, IsHeld, ChildNeeds, PowerNeeds, AreAfterParents}
 
 parent_is : (w : ℕ) (parent : Option ℕ) → is_parent w parent ≡ true → parent ≡ Some w
 parent_is w None e = cc
@@ -157,19 +156,6 @@ up_exactly n w up after within e = at (slice_get n.powers w) refl
 pub after_parents : (t : Topology) → IsWellFormed t → AreAfterParents t.powers
 after_parents t well v w p here is =
     holds_of (λ u. u < v) p.parent w is (well.power_parents v p here)
-
--- what is kept of a power node is whether it is up
-pub kept_is : (n : Needs) (children : List Child) (powers : List PowerDef) (kept : List Bool) (w : ℕ) (up : Bool)
-    → record { powers = powers; children = children } ≡ n
-    → AreUps children powers kept
-    → w < length n.powers
-    → up ≡ get_or kept w up
-    → up ≡ is_up n w
-kept_is n children powers kept w up view are within is =
-    let places : length kept ≡ length n.powers = are.places ∙ ap (λ (n : Needs). length n.powers) view in
-    let here = slice_get_read kept (length n.powers) w up (sym places) within is in
-    let right = are.right ∙ ap ups view in
-    ap (λ o. unwrap_or o false) (sym here ∙ ap (λ kept. slice_get kept w) right)
 
 -- a power node that is there is up exactly where there is a reason
 pub up_where_needed : (n : Needs) (w : ℕ) → AreAfterParents n.powers → w < length n.powers

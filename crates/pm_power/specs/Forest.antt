@@ -54,11 +54,6 @@ PowerNeeds n w = (v : ℕ) × (p : PowerDef) × (slice_get n.powers v ≡ Some p
 abbrev pub AreAfterParents : List PowerDef → Type 0
 AreAfterParents powers = (v w : ℕ) (p : PowerDef) → slice_get powers v ≡ Some p → p.parent ≡ Some w → w < v
 
--- what is kept of each power node is whether it is up
-pub record AreUps (children : List Child) (powers : List PowerDef) (kept : List Bool) : Type 0 where
-  pub places : length kept ≡ length powers
-  pub right : kept ≡ ups_from children 0 powers
-
 -- what holds of the power nodes of every chip: each stands after its parent, and so each is up exactly where it is held
 -- or something directly below needs it
 pub record UpLaws : Type 0 where

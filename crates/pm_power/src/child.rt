@@ -1,8 +1,8 @@
 //! The processors and slaves below the power nodes, and whether they need them.
 
-ghost use Rattle.std.specs.Prelude.{◌≡◌, ◌++◌, ◌∷◌, [], ◌==◌, IfOk, false, map, find, slice_get, unwrap_or};
+ghost use Rattle.std.specs.Prelude.{◌≡◌, ◌<◌, ◌++◌, ◌∷◌, [], ◌==◌, IfOk, Some, false, length, map, find, slice_get, unwrap_or};
 ghost use Rattle.std.specs.Option.{option_map};
-ghost use Rattle.pm_power.specs.Needs.{child, child_need, children_of, set_child, with_needs};
+ghost use Rattle.pm_power.specs.Needs.{child, child_need, children_of};
 
 use pm_base::{NoMemory, NodeId, at_or};
 use pm_topology::{ProcDef, SlaveDef, Topology};
@@ -61,37 +61,17 @@ fn push(children: &mut Vec<Child>, child: Child) -> Result<(), NoMemory>
     children.push(child).map_err(|_| NoMemory)
 }
 
-/// Sets the need of the child with this number.
-pub(crate) fn set_need(children: &mut [Child], node: NodeId, on: bool)
-    ensures { children.new ≡ map (set_child node on) children.old }
+/// The child at a place.
+pub(crate) fn child_at(children: &[Child], k: usize) -> Child
+    requires { k < length children.now }
+    ensures { slice_get children.now k ≡ Some result }
 {
-    for child in children.iter_mut() {
-        *child = with_need(*child, node, on);
-    }
+    children[k]
 }
 
-fn with_need(child: Child, node: NodeId, on: bool) -> Child
-    ensures { result ≡ set_child node on child }
-{
-    if child.node == node {
-        Child { needs: on, ..child }
-    } else {
-        child
-    }
-}
-
-/// Sets the needs of all children, in their order: first these, and then those. Children past the last
-/// need don't need their power node.
-pub(crate) fn set_needs(children: &mut [Child], first: &[bool], later: &[bool])
-    ensures { children.new ≡ with_needs (first.now ++ later.now) children.old }
-{
-    for k in 0..children.len() {
-        let child = children[k];
-        children[k] = child_with(child, need_at(first, later, k));
-    }
-}
-
-fn need_at(first: &[bool], later: &[bool], place: usize) -> bool
+/// The need of the child at a place, where the needs of all children are first these and then those.
+/// Children past the last need don't need their power node.
+pub(crate) fn need_at(first: &[bool], later: &[bool], place: usize) -> bool
     ensures { result ≡ unwrap_or (slice_get (first.now ++ later.now) place) false }
 {
     if place < first.len() {
@@ -99,12 +79,6 @@ fn need_at(first: &[bool], later: &[bool], place: usize) -> bool
     } else {
         at_or(later, place - first.len(), false)
     }
-}
-
-fn child_with(of: Child, needs: bool) -> Child
-    ensures { result ≡ child of.node of.parent needs }
-{
-    Child { needs, ..of }
 }
 
 /// Whether the child with this number needs its power node.

@@ -2,9 +2,10 @@
 #![tactic(auto)]
 
 pub mod child;
+mod climb;
 pub mod laws;
 pub mod power;
-pub mod recompute;
+mod settle;
 
 pub use laws::up_where_needed;
 pub use power::Power;

@@ -1,37 +1,41 @@
 //! The power nodes of a chip, and which of them are up.
 
-ghost use Rattle.std.specs.Option.{option_map_or};
-ghost use Rattle.std.specs.Prelude.{replicate, length, ◌≡◌, ◌<◌, ◌⊎◌, ◌↔◌, ◌++◌, IfOk, IsTrue, Some, false, not};
+ghost use Rattle.std.specs.Prelude.{replicate, length, ◌≡◌, ◌+◌, ◌<◌, ◌≤◌, ◌^◌, ◌⊎◌, ◌↔◌, ◌++◌, IfOk, IsTrue, None, false, map, true};
 ghost use Rattle.pm_topology.specs.Places.{power_place};
 ghost use Rattle.pm_topology.specs.WellFormed.{IsWellFormed};
-ghost use Rattle.pm_power.specs.Forest.{AreUps, ChildNeeds, IsHeld, PowerNeeds, is_up, ups};
-ghost use Rattle.pm_power.specs.Needs.{child_need, does_need, needs_of, power_need, set_need, with_needs};
+ghost use Rattle.pm_power.specs.Forest.{AreAfterParents, ChildNeeds, IsHeld, PowerNeeds, is_up, ups};
+ghost use Rattle.pm_power.specs.Needs.{does_need, needs_of, power_need, set_child, set_need, with_needs};
+ghost use Rattle.pm_power.specs.Uses.{AreSettledFrom, IsForest, levels_above};
 
-use crate::child::{self, Child};
-use crate::recompute::recompute_ups;
-use pm_base::{List, NoMemory, NodeId, Steps};
+use crate::child::{self, Child, child_at, need_at};
+use crate::climb::put_need;
+use crate::settle::settle;
+use pm_base::{List, NoMemory, NodeId, Steps, at_or};
+use pm_cells::Counts;
 use pm_topology::{PowerDef, Topology};
 use std::alloc::Global;
-use std::marker::Model;
-use std::sync::ledger::Ledger;
+use std::marker::{Brand, Model};
+use std::sync::ledger::{Blank, Ledger};
 
-/// The power nodes of a chip, by the needs of its processors and slaves. Contracts see the needs
-/// that were set.
+/// The power nodes of a chip, by the needs of its processors and slaves, with a use count for each: how
+/// many processors, slaves and power nodes directly below need it. Contracts see the needs that were set.
 #[derive(Drop)]
 pub struct Power {
     powers: List<PowerDef>,
     children: Vec<Child>,
+    counts: Counts,
     ups: Vec<bool>,
 }
 
 impl Model for Power {
-    ghost use Rattle.pm_power.specs.Forest.{Needs, AreUps, AreAfterParents};
+    ghost use Rattle.pm_power.specs.Forest.{Needs};
+    ghost use Rattle.pm_power.specs.Uses.{IsForest};
 
     ghost Value = { Needs };
 
     ghost view = { λ power. record { powers = power.powers; children = power.children.items } };
 
-    ghost invariant = { λ power. AreUps power.children.items power.powers power.ups.items × AreAfterParents power.powers };
+    ghost invariant = { λ power. IsForest power.children.items power.powers power.counts power.ups.items };
 }
 
 impl Power {
@@ -47,32 +51,47 @@ impl Power {
     {
         let children = child::idle_children(alloc, t)?;
         let powers = copied(alloc, t.powers.as_slice())?;
-        let ups = settled(alloc, powers.as_slice(), &children)?;
+        let mut counts = Counts::load(alloc, powers.len())?;
+        let mut ups = downs(alloc, powers.len())?;
+        settle_uncounted::<Brand>(powers.as_slice(), &mut counts, &mut ups, Blank::new(1));
         Ok(Power {
             powers,
             children,
+            counts,
             ups,
         })
     }
 
-    /// Sets whether a processor or slave needs its power node. For another node nothing changes.
-    pub fn need<L: Ledger>(&mut self, child: NodeId, on: bool, _steps: &mut Steps<L>)
-        ensures { self.new ≡ set_need child on self.old }
+    /// Sets whether a processor or slave needs its power node. For another node nothing changes. At most
+    /// one count changes for each power node above it.
+    pub fn need<L: Ledger>(&mut self, child: NodeId, on: bool, steps: &mut Steps<L>)
+        ensures needs { self.new ≡ set_need child on self.old }
+        ensures cost { steps.new ≤ steps.old + levels_above self.old.powers child self.old.children }
     {
-        child::set_need(&mut self.children, child, on);
-        recompute_ups(self.powers.as_slice(), &self.children, &mut self.ups);
+        set_needs(
+            self.powers.as_slice(),
+            &mut self.children,
+            &mut self.counts,
+            &mut self.ups,
+            child,
+            on,
+            steps,
+        );
     }
 
     /// Sets the needs of all slaves and of all processors, each in their order in the table. Those past
-    /// the last need don't need their power node.
+    /// the last need don't need their power node. Where a need is as before, nothing is counted.
     pub fn recompute(&mut self, slaves: &[bool], procs: &[bool])
         ensures { self.new ≡ record self.old { children = with_needs (slaves.now ++ procs.now) self.old.children } }
     {
-        child::set_needs(&mut self.children, slaves, procs);
-        recompute_ups(
+        put_needs_uncounted::<Brand>(
             self.powers.as_slice(),
-            self.children.as_slice(),
+            &mut self.children,
+            &mut self.counts,
             &mut self.ups,
+            slaves,
+            procs,
+            Blank::new(1),
         );
     }
 
@@ -99,9 +118,17 @@ impl Power {
         ensures { result ≡ power_need self.now (power_place self.now.powers node.0) }
     {
         match power_place(self.powers.as_slice(), node) {
-            Some(w) => self.ups[w],
+            Some(w) => self.kept_up(w),
             None => false,
         }
+    }
+
+    /// What is kept of the power node at place `w`: whether it is up, and false where none stands there.
+    fn kept_up(&self, w: usize) -> bool
+        ensures up { result ≡ is_up self.now w }
+        ensures after { AreAfterParents self.now.powers }
+    {
+        at_or(&self.ups, w, false)
     }
 
     /// Whether the power node at place `w` is up: exactly where it is held or a processor, slave or
@@ -111,7 +138,7 @@ impl Power {
         ensures up { result ≡ is_up self.now w }
         ensures exactly { IsTrue result ↔ (IsHeld self.now w ⊎ (ChildNeeds self.now w ⊎ PowerNeeds self.now w)) }
     {
-        self.ups[w]
+        self.kept_up(w)
     }
 }
 
@@ -132,22 +159,106 @@ fn copied(alloc: Global, powers: &[PowerDef]) -> Result<List<PowerDef>, NoMemory
     Ok(list)
 }
 
-/// For each power node whether it is up.
-fn settled(alloc: Global, powers: &[PowerDef], children: &[Child]) -> Result<Vec<bool>, NoMemory>
-    ensures { IfOk result (λ ups. AreUps children.now powers.now ups.items) }
-{
-    let mut ups = downs(alloc, powers.len())?;
-    recompute_ups(powers, children, &mut ups);
-    Ok(ups)
-}
-
 /// So many power nodes, none of which is up.
 fn downs(alloc: Global, count: usize) -> Result<Vec<bool>, NoMemory>
-    ensures { IfOk result (λ ups. length ups.items ≡ count) }
+    ensures { IfOk result (λ ups. ups.items ≡ replicate count false) }
 {
-    let mut ups = Vec::new(alloc);
-    for _node in 0..count {
-        ups.push(false).map_err(|_| NoMemory)?;
+    vec![in alloc; false; count].map_err(|_| NoMemory)
+}
+
+/// The power nodes that are up by the held ones alone, found with a counter that is thrown away.
+fn settle_uncounted<L: Ledger>(
+    powers: &[PowerDef],
+    counts: &mut Counts,
+    ups: &mut [bool],
+    blank: Blank,
+)
+    requires after { AreAfterParents powers.now }
+    requires few { length powers.now < 2 ^ 31 }
+    requires counts { counts.old ≡ replicate (length powers.now) 0 }
+    requires ups { ups.old ≡ replicate (length powers.now) false }
+    requires name { blank.name ≡ L.name }
+    requires parts { blank.parts ≡ L.parts }
+    requires some { 0 < blank.parts }
+    ensures { AreSettledFrom 0 powers.now counts.new ups.new }
+{
+    settle(powers, counts, ups, &mut Steps::<L>::new(blank));
+}
+
+/// Sets the need of each child with this number.
+fn set_needs<L: Ledger>(
+    powers: &[PowerDef],
+    children: &mut [Child],
+    counts: &mut Counts,
+    ups: &mut [bool],
+    node: NodeId,
+    on: bool,
+    steps: &mut Steps<L>,
+)
+    requires { IsForest children.old powers.now counts.old ups.old }
+    ensures children { children.new ≡ map (set_child node on) children.old }
+    ensures forest { IsForest children.new powers.now counts.new ups.new }
+    ensures cost { steps.new ≤ steps.old + levels_above powers.now node children.old }
+{
+    for k in 0..children.len() {
+        let child = child_at(children, k);
+        if child.node == node {
+            put_need(powers, children, counts, ups, k, on, steps);
+        }
     }
-    Ok(ups)
+}
+
+/// Sets the needs of all children, in their order: first these, and then those.
+fn put_needs<L: Ledger>(
+    powers: &[PowerDef],
+    children: &mut [Child],
+    counts: &mut Counts,
+    ups: &mut [bool],
+    first: &[bool],
+    later: &[bool],
+    steps: &mut Steps<L>,
+)
+    requires { IsForest children.old powers.now counts.old ups.old }
+    ensures children { children.new ≡ with_needs (first.now ++ later.now) children.old }
+    ensures forest { IsForest children.new powers.now counts.new ups.new }
+{
+    for k in 0..children.len() {
+        put_need(
+            powers,
+            children,
+            counts,
+            ups,
+            k,
+            need_at(first, later, k),
+            steps,
+        );
+    }
+}
+
+/// The same with a counter that is thrown away.
+fn put_needs_uncounted<L: Ledger>(
+    powers: &[PowerDef],
+    children: &mut [Child],
+    counts: &mut Counts,
+    ups: &mut [bool],
+    first: &[bool],
+    later: &[bool],
+    blank: Blank,
+)
+    requires forest { IsForest children.old powers.now counts.old ups.old }
+    requires name { blank.name ≡ L.name }
+    requires parts { blank.parts ≡ L.parts }
+    requires some { 0 < blank.parts }
+    ensures children { children.new ≡ with_needs (first.now ++ later.now) children.old }
+    ensures forest { IsForest children.new powers.now counts.new ups.new }
+{
+    put_needs(
+        powers,
+        children,
+        counts,
+        ups,
+        first,
+        later,
+        &mut Steps::<L>::new(blank),
+    );
 }
