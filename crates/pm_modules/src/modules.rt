@@ -1,0 +1,92 @@
+//! The modules of a board, in the order in which they were added.
+
+ghost use Rattle.std.specs.Prelude.{◌≡◌, ◌≤◌, ◌++◌, ◌∷◌, [], vec_capacity, IfOk, OnOk, OnErr, IfErr, Some, None};
+
+use crate::module::Module;
+use crate::responders::Responder;
+use pm_base::{Message, NoMemory};
+use pm_ipi::Response;
+use std::alloc::Global;
+
+/// How many modules there is room for.
+pub const ROOM: usize = 8;
+
+/// Why a module isn't added. It hands the module back.
+#[derive(Drop)]
+pub enum AddError {
+    /// A word is in its range and in that of a module that was added earlier.
+    Overlap(Module),
+    /// Eight modules were added already.
+    Full(Module),
+}
+
+/// At most eight modules, of which no two have a word in common. Contracts see the list of their ranges, each
+/// with what its handler says.
+#[derive(Drop)]
+pub struct Modules {
+    modules: Vec<Module>,
+    ghost room: { 8 ≤ vec_capacity modules },
+}
+
+impl Modules {
+    ghost use Rattle.pm_modules.specs.Modules.{overlaps, ranged, ranges, refusal, says_of};
+
+    /// No modules, with room for eight. No later call takes memory.
+    ///
+    /// # Errors
+    ///
+    /// `NoMemory` where there is not enough memory.
+    pub fn new(alloc: Global) -> Result<Modules, NoMemory>
+        ensures { IfOk result (λ modules. ranges ⟦<dyn Responder as Responder>⟧ modules ≡ []) }
+    {
+        match Vec::with_capacity(alloc, ROOM) {
+            Ok(modules) => Ok(Modules { modules }),
+            Err(_) => Err(NoMemory),
+        }
+    }
+
+    fn overlaps(&self, added: &Module) -> bool
+        ensures { result ≡ overlaps ⟦<dyn Responder as Responder>⟧ added.now self.now }
+    {
+        for module in self.modules.as_slice() {
+            if added.overlaps(module) {
+                return true;
+            }
+        }
+        false
+    }
+
+    /// Adds a module after the others.
+    ///
+    /// # Errors
+    ///
+    /// `Overlap` where a word is in its range and in that of a module that is stored, and else `Full` where
+    /// eight are stored. Both hand the module back, and nothing changes.
+    pub fn add(&mut self, added: Module) -> Result<(), AddError>
+        ensures added { OnOk result (ranges ⟦<dyn Responder as Responder>⟧ self.new ≡ ranges ⟦<dyn Responder as Responder>⟧ self.old ++ ranged ⟦<dyn Responder as Responder>⟧ added ∷ []) }
+        ensures fits { OnOk result (refusal ⟦<dyn Responder as Responder>⟧ added self.old ≡ None) }
+        ensures refused { IfErr result (λ error. refusal ⟦<dyn Responder as Responder>⟧ added self.old ≡ Some error) }
+        ensures kept { OnErr result (self.new ≡ self.old) }
+    {
+        if self.overlaps(&added) {
+            return Err(AddError::Overlap(added));
+        }
+        if self.modules.len() >= ROOM {
+            return Err(AddError::Full(added));
+        }
+        self.modules.push_reserved(added);
+        Ok(())
+    }
+
+    /// What the handler says whose range has the message's API word, and nothing where no range has it.
+    pub fn answer(&self, message: &Message) -> Option<Response>
+        ensures { result ≡ says_of ⟦<dyn Responder as Responder>⟧ self.now message.now }
+    {
+        for module in self.modules.as_slice() {
+            if module.has_word(message.api) {
+                return Some(module.serve(message));
+            }
+        }
+        None
+    }
+}

@@ -1,0 +1,28 @@
+//! What is called when its time has come.
+
+ghost use Rattle.std.specs.Prelude.{◌≡◌, ℕ, ◌+◌, ◌%◌, ◌^◌};
+
+/// Is called when its time has come. Its meaning is how often it was called, modulo 2^32.
+pub trait Handler: Drop {
+    ghost calls: { Self → ℕ };
+
+    /// A call at a time. Answers how often it was called, this call included.
+    fn fire(&mut self, at: u64) -> u32
+        ensures counted { calls self.new ≡ (calls self.old + 1) % 2 ^ 32 }
+        ensures answer { result ≡ calls self.new };
+}
+
+/// Counts its calls, and does nothing else.
+#[derive(Drop)]
+pub struct Counter {
+    pub calls: u32,
+}
+
+impl Handler for Counter {
+    ghost calls = { λ counter. counter.calls };
+
+    fn fire(&mut self, _at: u64) -> u32 {
+        self.calls = self.calls.wrapping_add(1);
+        self.calls
+    }
+}

@@ -1,0 +1,169 @@
+//! Tasks by their keys, and the time.
+
+ghost use Rattle.std.specs.Prelude.{◌≡◌, ◌+◌, ◌≤◌, ◌<◌, ◌^◌, ◌↔◌, [], ◌∷◌, IsErr, IfOk, IfErr, OnErr, IfNone, IfSome, is_some, true};
+ghost use Rattle.std.specs.Option.{option_map};
+ghost use Rattle.slab.specs.Slab.{get, slab_len};
+
+use crate::handler::Handler;
+use crate::stored::Task;
+use pm_base::NoMemory;
+use slab::Slab;
+use std::alloc::Global;
+
+/// A call that was made: the key of the task, the time, and the answer of its handler.
+#[derive(Clone, Copy, Debug, PartialEq, Eq)]
+pub struct Fired {
+    pub key: usize,
+    pub at: u64,
+    pub word: u32,
+}
+
+/// Tasks by their keys, and the time. Contracts see the tasks as they are once no call is left, and beside them
+/// the calls that are left of those that are due.
+#[derive(Drop)]
+pub struct Tasks {
+    tasks: Slab<Task>,
+    limit: usize,
+    /// The time, and what it was before it moved last.
+    time: u64,
+    before: u64,
+    /// The least key that wasn't looked at since then.
+    next: usize,
+    ghost within: { slab_len tasks ≤ limit },
+    ghost room: { limit ≤ tasks.capacity },
+}
+
+impl Tasks {
+    ghost use Rattle.pm_tasks.specs.Timetable.{Adds, advanced, cancelled, can_start, empty, is_due, is_stored, slot, started, stored_count};
+    ghost use Rattle.pm_tasks.specs.Stored.{is_due_at, seen, stored, timetable};
+
+    /// No tasks, at time 0, with room for this many. No later call takes memory.
+    ///
+    /// # Errors
+    ///
+    /// `NoMemory` where there is not enough memory.
+    pub fn new(alloc: Global, limit: usize) -> Result<Tasks, NoMemory>
+        ensures { IfOk result (λ tasks. timetable ⟦<dyn Handler as Handler>⟧ tasks ≡ empty limit) }
+    {
+        match Slab::with_capacity(alloc, limit) {
+            Ok(tasks) => Ok(Tasks {
+                tasks,
+                limit,
+                time: 0,
+                before: 0,
+                next: 0,
+            }),
+            Err(_) => Err(NoMemory),
+        }
+    }
+
+    /// Stores a stopped task, and answers its key, which no stored task had.
+    ///
+    /// # Errors
+    ///
+    /// Hands the handler back where as many tasks are stored as there is room for, and nothing changes.
+    pub fn add(&mut self, handler: Box<dyn Handler>) -> Result<usize, Box<dyn Handler>>
+        requires { (timetable ⟦<dyn Handler as Handler>⟧ self.old).left ≡ [] }
+        ensures added { IfOk result (λ key. Adds (timetable ⟦<dyn Handler as Handler>⟧ self.old) (timetable ⟦<dyn Handler as Handler>⟧ self.new) key (calls handler)) }
+        ensures full { IsErr result ↔ (stored_count (timetable ⟦<dyn Handler as Handler>⟧ self.old) ≡ (timetable ⟦<dyn Handler as Handler>⟧ self.old).limit) }
+        ensures back { IfErr result (λ back. back ≡ handler) }
+        ensures kept { OnErr result (self.new ≡ self.old) }
+    {
+        if self.tasks.len() >= self.limit {
+            return Err(handler);
+        }
+        self.before = self.time;
+        let task = Task {
+            plan: None,
+            handler,
+        };
+        Ok(self.tasks.insert_reserved(task))
+    }
+
+    /// Starts the task under a key, or starts it again, at the time now: it is due whenever one more whole
+    /// interval has passed. Answers whether a task has the key and the interval isn't 0; else nothing changes.
+    pub fn start(&mut self, key: usize, interval: u32) -> bool
+        requires { (timetable ⟦<dyn Handler as Handler>⟧ self.old).left ≡ [] }
+        ensures answer { result ≡ can_start key interval (timetable ⟦<dyn Handler as Handler>⟧ self.old) }
+        ensures started { timetable ⟦<dyn Handler as Handler>⟧ self.new ≡ started key interval (timetable ⟦<dyn Handler as Handler>⟧ self.old) }
+    {
+        if interval == 0 {
+            return false;
+        }
+        self.before = self.time;
+        let now = self.time;
+        match self.tasks.get_mut(key) {
+            Some(task) => {
+                task.run(now, interval);
+                true
+            }
+            None => false,
+        }
+    }
+
+    /// Takes the task under a key out, and hands its handler back. `None` where no task has the key, and then
+    /// nothing changes.
+    pub fn cancel(&mut self, key: usize) -> Option<Box<dyn Handler>>
+        requires { (timetable ⟦<dyn Handler as Handler>⟧ self.old).left ≡ [] }
+        ensures handler { result ≡ option_map (λ task. task.handler) (get self.old.tasks key) }
+        ensures answer { is_some result ≡ is_stored key (timetable ⟦<dyn Handler as Handler>⟧ self.old) }
+        ensures cancelled { timetable ⟦<dyn Handler as Handler>⟧ self.new ≡ cancelled key (timetable ⟦<dyn Handler as Handler>⟧ self.old) }
+    {
+        self.before = self.time;
+        match self.tasks.try_remove(key) {
+            Some(task) => Some(task.handler),
+            None => None,
+        }
+    }
+
+    /// The time moves on. The tasks that are due then are called by `take`, each once.
+    pub fn advance(&mut self, count: u32)
+        requires settled { (timetable ⟦<dyn Handler as Handler>⟧ self.old).left ≡ [] }
+        requires fits { (timetable ⟦<dyn Handler as Handler>⟧ self.old).now + count < 2 ^ 64 }
+        ensures { timetable ⟦<dyn Handler as Handler>⟧ self.new ≡ advanced count (timetable ⟦<dyn Handler as Handler>⟧ self.old) }
+    {
+        self.before = self.time;
+        self.time += count as u64;
+        self.next = 0;
+    }
+
+    /// Calls the due task with the least key that wasn't called since the time moved. `None` where none is left.
+    pub fn take(&mut self) -> Option<Fired>
+        ensures none { IfNone result ((timetable ⟦<dyn Handler as Handler>⟧ self.old).left ≡ []) }
+        ensures done { IfNone result ((timetable ⟦<dyn Handler as Handler>⟧ self.new).left ≡ []) }
+        ensures one { IfSome result (λ fired. (timetable ⟦<dyn Handler as Handler>⟧ self.old).left ≡ fired ∷ (timetable ⟦<dyn Handler as Handler>⟧ self.new).left) }
+        ensures rest { timetable ⟦<dyn Handler as Handler>⟧ self.new ≡ record (timetable ⟦<dyn Handler as Handler>⟧ self.old) { left = (timetable ⟦<dyn Handler as Handler>⟧ self.new).left } }
+    {
+        let key = self.first_due()?;
+        let at = self.time;
+        let task = self.tasks.get_mut(key)?;
+        let word = task.fire(at);
+        self.next = key + 1;
+        Some(Fired { key, at, word })
+    }
+
+    /// The least key of a task that is due and wasn't called. The tasks below it are passed over.
+    fn first_due(&self) -> Option<usize>
+        ensures none { IfNone result ((timetable ⟦<dyn Handler as Handler>⟧ self.now).left ≡ []) }
+        ensures fits { IfSome result (λ key. key + 1 < 2 ^ 64) }
+        ensures due { IfSome result (λ key. is_due_at self.now.before self.now.time key (stored ⟦<dyn Handler as Handler>⟧ self.now.tasks) ≡ true) }
+        ensures passed { IfSome result (λ key. seen self.now.before self.now.time key self.now.limit (stored ⟦<dyn Handler as Handler>⟧ self.now.tasks) ≡ timetable ⟦<dyn Handler as Handler>⟧ self.now) }
+    {
+        for key in self.next..self.tasks.capacity() {
+            if self.is_due(key) {
+                return Some(key);
+            }
+        }
+        None
+    }
+
+    /// Whether the task under a key is due.
+    fn is_due(&self, key: usize) -> bool
+        ensures { result ≡ is_due_at self.now.before self.now.time key (stored ⟦<dyn Handler as Handler>⟧ self.now.tasks) }
+    {
+        match self.tasks.get(key) {
+            Some(task) => task.is_due(self.before, self.time),
+            None => false,
+        }
+    }
+}
