@@ -1,0 +1,2 @@
+pub mod Laboratory
+pub mod Script
