@@ -1,7 +1,8 @@
 //! Runs over inputs that fail.
 
-use super::run::{ALONE, Asked, check, model, node, replay_of, run_with};
+use super::checks::check;
 use pm_base::{Exit, MemSink};
+use pm_running::{ALONE, Asked, model, node, replay_of, run_with};
 use std::test::Fail;
 
 const SCRIPT: &[u8] = b"ipi 8 3 11\nipi 8 3 12";

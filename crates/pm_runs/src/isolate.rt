@@ -1,8 +1,9 @@
 //! Runs that compare the run of a script with the run without the messages of a master.
 
-use super::run::{ALONE, Asked, LABORATORY, OBJECT, check, joined, model, node, run_with};
+use super::checks::check;
 use super::sinks::check_each_length;
 use pm_base::{Exit, MemSink};
+use pm_running::{ALONE, Asked, LABORATORY, OBJECT, joined, model, node, run_with};
 use std::test::Fail;
 
 /// What master 7 reaches in the object of two masters.

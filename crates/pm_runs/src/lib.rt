@@ -1,15 +1,8 @@
-//! Tests of whole runs: the top call over inputs, sinks and devices in memory, each a table of runs and
-//! one loop over it.
+//! Tests of whole runs: the top call over inputs and sinks in memory, each a table of runs and one loop over it.
 #![tactic(auto)]
 
 #[cfg(test)]
-mod broken;
-#[cfg(test)]
-mod commands;
-#[cfg(test)]
-mod devices;
-#[cfg(test)]
-mod failing;
+mod checks;
 #[cfg(test)]
 mod inputs;
 #[cfg(test)]
@@ -18,8 +11,6 @@ mod isolate;
 mod limits;
 #[cfg(test)]
 mod reach;
-#[cfg(test)]
-mod run;
 #[cfg(test)]
 mod sinks;
 #[cfg(test)]

@@ -1,7 +1,8 @@
 //! Runs of a script of the limit, and of one byte more.
 
-use super::run::{ALONE, STANDS, STARTED, check, joined, replay_of};
+use super::checks::check;
 use pm_base::Exit;
+use pm_running::{ALONE, STANDS, STARTED, joined, replay_of};
 use std::alloc::{AllocError, Global};
 use std::test::Fail;
 

@@ -1,8 +1,9 @@
 //! Runs that write what a master can reach.
 
-use super::run::{Asked, LABORATORY, OBJECT, check, model, node, run_with};
+use super::checks::check;
 use super::sinks::check_each_length;
 use pm_base::{Exit, MemSink};
+use pm_running::{Asked, LABORATORY, OBJECT, model, node, run_with};
 use std::test::Fail;
 
 /// What master 7 reaches in the object of two masters.

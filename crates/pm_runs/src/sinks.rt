@@ -2,8 +2,9 @@
 
 ghost use Rattle.std.specs.Prelude.{[]};
 
-use super::run::{ALONE, Asked, OBJECT, STARTED, bytes_of, check, replay_of, run};
+use super::checks::check;
 use pm_base::{Exit, Failed, MemSink, Sink};
+use pm_running::{ALONE, Asked, OBJECT, STARTED, bytes_of, replay_of, run};
 use std::process::Abort;
 use std::test::Fail;
 

@@ -1,7 +1,8 @@
 //! Runs whose every step is written out.
 
-use super::run::{LABORATORY, OBJECT, check, joined, replay_of};
+use super::checks::check;
 use pm_base::Exit;
+use pm_running::{LABORATORY, OBJECT, joined, replay_of};
 use std::process::Abort;
 use std::test::Fail;
 

@@ -1,9 +1,9 @@
 //! Each check of each call, alone and with a later one.
 
-use crate::book::{Case, Want, settled, wrong_answer};
 use crate::rows::all_right;
 use pm_base::Event;
 use pm_core::Answer;
+use pm_testing::{Case, Want, settled, wrong_answer};
 use std::test::Fail;
 
 /// The masters 1 and 7, both of which may use slaves 11 and 12, and only the first one slave 33. Slave 12 has one user at a time.

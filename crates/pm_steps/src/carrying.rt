@@ -4,13 +4,13 @@ ghost use Rattle.pm_topology.specs.WellFormed.{IsWellFormed};
 ghost use Rattle.pm_topology.specs.Masters.{ObeysMasterRules};
 ghost use Rattle.pm_apply.specs.Record.{IsRecordOf};
 
-use crate::book::{Desk, Trigger, bytes_of, chip, desk_with, event_of};
 use crate::rows::all_right;
 use pm_apply::{Kept, carry};
 use pm_base::{Event, LineId, Message, NoMemory, NodeId, Unit};
 use pm_core::Outbox;
 use pm_device::{Device, ListedDevice, ModelDevice};
 use pm_object::{Object, decode};
+use pm_testing::{Desk, Trigger, bytes_of, chip, desk_with, event_of};
 use pm_topology::Topology;
 use std::alloc::Global;
 use std::test::Fail;

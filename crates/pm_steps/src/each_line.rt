@@ -1,9 +1,9 @@
 //! Each reset line of the chip is released, asserted and pulsed while all processors run.
 
-use crate::book::{Case, Desk, Trigger, Want, event_of, settled, wrong_answer};
 use crate::rows::all_right;
 use pm_base::{LineId, Mode, NodeId, Unit};
 use pm_core::{Book, Outbox};
+use pm_testing::{Case, Desk, Trigger, Want, event_of, settled, wrong_answer};
 use std::alloc::Global;
 use std::test::Fail;
 

@@ -1,30 +1,12 @@
 //! Processors start, suspend and sleep.
 
-use crate::book::{
-    Case, Desk, Trigger, Want, desk_of, event_of, have_moved, settled, wrong_answer,
-};
 use crate::calls::ONE_USER;
 use crate::rows::all_right;
-use pm_core::Outbox;
+use pm_testing::{
+    Case, Trigger, Turn, Want, desk_of, event_of, have_moved, have_started, settled, wrong_answer,
+    wrong_turn,
+};
 use std::test::Fail;
-
-/// Whether these processors started, each at its address.
-fn have_started(out: &Outbox, procs: &[(u32, u64)]) -> bool {
-    let starts = out.starts.as_slice();
-    for (place, wanted) in procs.iter().enumerate() {
-        let found = match starts.get(place) {
-            Some(start) => (start.proc.0, start.address),
-            None => return false,
-        };
-        if found != *wanted {
-            return false;
-        }
-    }
-    starts.len() == procs.len()
-}
-
-/// What happens, the processors that start, each at its address, and the nodes that move, each in order.
-pub(crate) type Turn = (Trigger, &'static [(u32, u64)], &'static [u32]);
 
 static TRIGGERS: [Turn; 17] = [
     (Trigger::Boot(7, 4096), &[(7, 4096)], &[6, 7]),
@@ -49,16 +31,6 @@ static TRIGGERS: [Turn; 17] = [
     (Trigger::Call(1, 9, [101, 2, 0, 0]), &[], &[]),
     (Trigger::Boot(3, u64::MAX), &[(3, u64::MAX)], &[3]),
 ];
-
-pub(crate) fn wrong_turn(desk: &mut Desk, turns: &[Turn]) -> Option<usize> {
-    for (place, (trigger, starts, moved)) in turns.iter().enumerate() {
-        desk.take(&event_of(*trigger));
-        if !have_started(&desk.out, starts) || !have_moved(&desk.out, moved) {
-            return Some(place);
-        }
-    }
-    None
-}
 
 #[test]
 fn processors_start_and_sleep(rt: HostRuntime) -> Result<(), Fail> {

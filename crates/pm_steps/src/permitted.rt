@@ -1,25 +1,11 @@
 //! The row of each permitted pair: at load, and once masters are started and have requested.
 
-use crate::book::{SHARED_AND_OWN, TWO_MASTERS, desk_of, settled, wrong_answer};
+use crate::book::{SHARED_AND_OWN, TWO_MASTERS};
 use crate::rows::all_right;
-use pm_base::{Caps, NodeId};
-use pm_core::Book;
+use pm_base::Caps;
 use pm_rows::Row;
+use pm_testing::{RowCase, UNUSED, desk_of, settled, wrong_answer, wrong_row};
 use std::test::Fail;
-
-/// A row in which nothing is used, scheduled, held or preallocated.
-pub(crate) const UNUSED: Row = Row {
-    used: false,
-    now: Caps(0),
-    next: Caps(0),
-    preset: Caps(0),
-    hold: false,
-    armed: None,
-    latency: None,
-};
-
-/// A master, a slave, and its row.
-pub(crate) type RowCase = (u32, u32, Option<Row>);
 
 /// A row that is used, one that isn't, and rows that aren't there.
 static ROWS: [RowCase; 4] = [
@@ -37,15 +23,6 @@ static ROWS: [RowCase; 4] = [
     (7, 33, None),
     (8, 11, None),
 ];
-
-pub(crate) fn wrong_row(book: &Book, rows: &[RowCase]) -> Option<usize> {
-    for (place, (master, slave, row)) in rows.iter().enumerate() {
-        if book.row(NodeId(*master), NodeId(*slave)) != *row {
-            return Some(place);
-        }
-    }
-    None
-}
 
 #[test]
 fn each_permitted_pair_has_a_row(rt: HostRuntime) -> Result<(), Fail> {

@@ -1,10 +1,9 @@
 //! Reset lines are asserted, released and pulsed, and nodes tell their power figures and latencies.
 
-use crate::book::{Case, Desk, Trigger, Want, event_of, settled, wrong_answer};
-use crate::modes::{Turn, wrong_turn};
 use crate::rows::all_right;
 use pm_base::NodeId;
 use pm_core::Outbox;
+use pm_testing::{Case, Desk, Trigger, Turn, Want, event_of, settled, wrong_answer, wrong_turn};
 use std::test::Fail;
 
 /// The masters 1 and 7, both of which may use slaves 11, 33 and 46. The first may wake 7, and reset the lines of slave

@@ -1,11 +1,10 @@
 //! Processors and masters are woken: by a call, by the interrupt of a slave that is armed, and by an interrupt
 //! at a processor.
 
-use crate::book::{Case, Trigger, Want, settled, wrong_answer};
-use crate::modes::{Turn, wrong_turn};
 use crate::rows::all_right;
 use pm_base::NodeId;
 use pm_core::Book;
+use pm_testing::{Case, Trigger, Turn, Want, settled, wrong_answer, wrong_turn};
 use std::test::Fail;
 
 /// The masters 1 and 7. The first may wake 7, and its wake word also has the bit of a master that isn't

@@ -33,7 +33,7 @@ fn outbox(
         done: commands,
         starts,
         late: BoundedList::with_room(alloc, 2)?,
-        calls: BoundedList::with_room(alloc, 2)?,
+        callbacks: BoundedList::with_room(alloc, 2)?,
         answer,
     })
 }
@@ -327,7 +327,7 @@ fn tells(
 ) -> Result<bool, Fail> {
     let mut out = outbox(alloc, None, None, Answer::Silent)?;
     out.late = list_of(alloc, late)?;
-    out.calls = list_of(alloc, callback)?;
+    out.callbacks = list_of(alloc, callback)?;
     Ok(text_of(alloc, n, &out)?.as_slice() == text.as_bytes())
 }
 
@@ -414,7 +414,7 @@ fn late_replies_and_callbacks_stand_between_the_starts_and_the_answer(
 ) -> Result<(), Fail> {
     let mut out = outbox(rt.alloc(), Some(COMMAND), Some(START), DROP)?;
     out.late = replies(rt.alloc())?;
-    out.calls = callbacks(rt.alloc())?;
+    out.callbacks = callbacks(rt.alloc())?;
     assert_eq!(rt; entries(&out), 7);
     all_right(&rt, wrong_line(&out));
     Ok(())

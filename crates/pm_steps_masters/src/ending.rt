@@ -2,10 +2,10 @@
 //! acknowledge kind.
 
 use crate::asking::ASKING;
-use crate::book::{Desk, Trigger, event_of, settled};
 use crate::notices::{have_called, have_replied};
 use crate::rows::all_right;
 use pm_core::Outbox;
+use pm_testing::{Desk, Trigger, event_of, settled};
 use std::alloc::Global;
 use std::test::Fail;
 

@@ -1,11 +1,10 @@
 //! Processors and power nodes are forced down, whoever uses them.
 
-use crate::book::{Case, Trigger, Want, event_of, settled, wrong_answer};
-use crate::modes::{Turn, wrong_turn};
 use crate::notices::{Notice, wrong_notice};
 use crate::rows::all_right;
 use pm_base::NodeId;
 use pm_core::Answer;
+use pm_testing::{Case, Trigger, Turn, Want, event_of, settled, wrong_answer, wrong_turn};
 use std::test::Fail;
 
 /// The masters 1, 7 and 8, which may use slaves 11, 15, 19 and 46. The first may suspend and wake the others. Power nodes

@@ -1,8 +1,9 @@
 //! Runs over a device that doesn't fail, and over one that fails a command again and again.
 
-use super::run::{Asked, DOMAINS, check_with, listed, model, node, replay_of};
+use super::checks::check_with;
 use pm_base::Exit;
 use pm_device::{Device, ModelDevice};
+use pm_running::{Asked, DOMAINS, listed, model, node, replay_of};
 use std::process::Abort;
 use std::test::Fail;
 
@@ -196,7 +197,7 @@ fn a_device_that_does_not_fail_follows_the_run(rt: HostRuntime) -> Result<(), Fa
     for (script, text, values) in &FAITHFUL {
         let mut device = model(rt.alloc())?;
         let asked = replay_of(DOMAINS, script.as_bytes());
-        check_with(&rt, &asked, None, text.as_bytes(), Exit::Done, &mut *device)?;
+        check_with(&rt, &asked, text.as_bytes(), Exit::Done, &mut *device)?;
         check_values(&rt, &device, values);
     }
     Ok(())
@@ -211,7 +212,7 @@ pub(crate) fn check_listed(
     values: &[(u32, u32)],
 ) -> Result<(), Fail> {
     let mut device = listed(rt.alloc(), failing)?;
-    check_with(rt, asked, None, text.as_bytes(), Exit::Done, &mut *device)?;
+    check_with(rt, asked, text.as_bytes(), Exit::Done, &mut *device)?;
     for (number, value) in values {
         assert_eq!(rt;
             device.value(node(*number)),

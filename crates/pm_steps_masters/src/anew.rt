@@ -1,9 +1,9 @@
 //! What is left of reset lines, notifiers and notes that wait where masters are forced down, restarted or shut down.
 
-use crate::book::{Case, Trigger, Want, event_of, settled, wrong_answer};
 use crate::notices::{Notice, wrong_notice};
 use crate::rows::all_right;
 use pm_base::{LineId, Unit};
+use pm_testing::{Case, Trigger, Want, event_of, settled, wrong_answer};
 use std::test::Fail;
 
 /// The masters 1 and 7, which may use slaves 11, 19 and 33; the first one gets slave 19 at load and when it starts. It may
@@ -173,6 +173,6 @@ fn nobody_is_told_of_a_reset_line(rt: HostRuntime) -> Result<(), Fail> {
     all_right(&rt, wrong_notice(&mut desk, &LINES));
     let event = event_of(Trigger::Call(1, 14, [33, 0, 0, 0]));
     desk.take(&event);
-    assert!(rt; desk.out.calls.as_slice().len() == 2);
+    assert!(rt; desk.out.callbacks.as_slice().len() == 2);
     Ok(())
 }

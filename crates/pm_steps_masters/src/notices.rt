@@ -1,9 +1,9 @@
 //! Late replies and callbacks: what each step of a run tells, and to whom.
 
 use crate::asking::ASKING;
-use crate::book::{Desk, Trigger, event_of, settled};
 use crate::rows::all_right;
 use pm_core::Outbox;
+use pm_testing::{Desk, Trigger, event_of, settled};
 use std::test::Fail;
 
 /// A late reply: the master and the status.
@@ -27,7 +27,7 @@ pub(crate) fn have_replied(out: &Outbox, replies: &[Reply]) -> bool {
 }
 
 pub(crate) fn have_called(out: &Outbox, callbacks: &[Call]) -> bool {
-    let calls = out.calls.as_slice();
+    let calls = out.callbacks.as_slice();
     for (place, wanted) in callbacks.iter().enumerate() {
         let found = match calls.get(place) {
             Some(call) => (call.master.0, call.id, call.args),

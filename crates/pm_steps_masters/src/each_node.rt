@@ -1,9 +1,9 @@
 //! Each node of the chip is forced down while all processors run and each master uses all that it may.
 
-use crate::book::{Case, Desk, Trigger, Want, event_of, have_moved, settled, wrong_answer};
 use crate::rows::all_right;
 use pm_base::{Mode, NodeId};
 use pm_core::Book;
+use pm_testing::{Case, Desk, Trigger, Want, event_of, have_moved, settled, wrong_answer};
 use std::alloc::Global;
 use std::test::Fail;
 

@@ -1,12 +1,13 @@
 //! Masters, or all of the system, are shut down and restarted.
 
-use crate::book::{Case, Trigger, Want, desk_of, event_of, settled, wrong_answer};
 use crate::forcing::FORCING;
-use crate::modes::{Turn, wrong_turn};
 use crate::notices::{Notice, wrong_notice};
-use crate::permitted::{RowCase, UNUSED, wrong_row};
 use crate::rows::all_right;
 use pm_rows::Row;
+use pm_testing::{
+    Case, RowCase, Trigger, Turn, UNUSED, Want, desk_of, event_of, settled, wrong_answer,
+    wrong_row, wrong_turn,
+};
 use std::test::Fail;
 
 /// No reply words.

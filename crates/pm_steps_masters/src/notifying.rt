@@ -1,8 +1,8 @@
 //! Masters ask to be told of nodes: the checks of the call, what they are told, and what waits while they sleep.
 
-use crate::book::{Case, Trigger, Want, settled, wrong_answer};
 use crate::notices::{Notice, wrong_notice};
 use crate::rows::all_right;
+use pm_testing::{Case, Trigger, Want, settled, wrong_answer};
 use std::test::Fail;
 
 /// The masters 1 and 7, which may suspend each other. Both may use slave 11 at a time, and only the first one the

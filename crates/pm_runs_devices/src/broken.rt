@@ -4,10 +4,11 @@ ghost use Rattle.std.specs.Prelude.{◌≡◌, IfOk};
 ghost use Rattle.pm_base.specs.declared.names.Unit.{Unit};
 ghost use Rattle.pm_device.specs.Model.{moment_of};
 
+use super::checks::check_with;
 use super::devices::check_values;
-use super::run::{DOMAINS, check_with, model, replay_of};
 use pm_base::{Exit, NoMemory, NodeId};
 use pm_device::{Device, ModelDevice};
+use pm_running::{DOMAINS, model, replay_of};
 use std::alloc::Global;
 use std::test::Fail;
 
@@ -249,7 +250,7 @@ fn a_broken_node_at_each_height(rt: HostRuntime) -> Result<(), Fail> {
     for (broken, script, text, values) in &BROKEN {
         let mut device = broken_device(rt.alloc(), *broken)?;
         let asked = replay_of(DOMAINS, script.as_bytes());
-        check_with(&rt, &asked, None, text.as_bytes(), Exit::Done, &mut *device)?;
+        check_with(&rt, &asked, text.as_bytes(), Exit::Done, &mut *device)?;
         check_values(&rt, &device, values);
     }
     Ok(())

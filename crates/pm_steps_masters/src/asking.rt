@@ -1,7 +1,7 @@
 //! One master asks another to suspend, and a master aborts its suspend: the first check that fails decides.
 
-use crate::book::{Case, Trigger, Want, event_of, settled, wrong_answer};
 use crate::rows::all_right;
+use pm_testing::{Case, Trigger, Want, event_of, settled, wrong_answer};
 use std::test::Fail;
 
 /// The masters 1, 8 and 7, in this order, with the timeouts 100, 0 and 40. The first may suspend all three, 8 may

@@ -1,0 +1,27 @@
+//! How a run over a device is judged.
+
+ghost use Rattle.std.specs.Prelude.{◌≡◌};
+ghost use Rattle.pm_base.specs.declared.names.Unit.{Unit};
+
+use pm_base::{Exit, MemSink, Unit};
+use pm_device::Device;
+use pm_running::{Asked, run_with};
+use std::process::Abort;
+use std::test::Fail;
+
+/// Compares a run over any device that stands at 0 with its text and exit.
+pub(crate) fn check_with<D: Device>(
+    rt: &(impl Abort + AllocGlobal),
+    asked: &Asked,
+    text: &[u8],
+    exit: Exit,
+    dev: &mut D,
+) -> Result<(), Fail>
+    requires idle { D.values_observable → (unit : Unit) → (D.state dev.old).value unit ≡ 0 }
+{
+    let mut out = MemSink::new(rt.alloc(), None)?;
+    let found = run_with(rt.alloc(), asked, &mut out, dev)?;
+    assert_eq!(rt; found, exit, "{}", asked.words);
+    assert_eq!(rt; out.bytes(), text, "{}", asked.words);
+    Ok(())
+}

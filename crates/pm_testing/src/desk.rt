@@ -1,0 +1,74 @@
+//! A book with its outbox, on the heap.
+
+ghost use Rattle.std.specs.Prelude.{◌≡◌, [], IfOk};
+ghost use Rattle.pm_topology.specs.WellFormed.{IsWellFormed};
+ghost use Rattle.pm_topology.specs.Masters.{ObeysMasterRules};
+ghost use Rattle.pm_core.specs.Outbox.{HasRoomFor};
+
+use crate::events::{Trigger, event_of, message};
+use pm_base::{Event, NoMemory};
+use pm_core::{Answer, Book, Outbox};
+use pm_object::{Object, decode};
+use pm_topology::{Topology, zynqmp};
+use std::alloc::Global;
+use std::test::Fail;
+
+/// The chip, of which callers need no more than what a book asks for.
+pub fn chip(alloc: Global) -> Result<Topology, NoMemory>
+    ensures formed { IfOk result IsWellFormed }
+    ensures masters { IfOk result ObeysMasterRules }
+{
+    zynqmp(alloc)
+}
+
+/// A book, and the outbox of its steps.
+#[derive(Drop)]
+pub struct Desk {
+    pub book: Book,
+    pub out: Outbox,
+    ghost room: { HasRoomFor book out },
+}
+
+/// The book at load, on the heap, so that a caller holds no more than where it is.
+pub fn desk_with(alloc: Global, object: Object, chip: Topology) -> Result<Box<Desk>, NoMemory>
+    requires formed { IsWellFormed chip }
+    requires masters { ObeysMasterRules chip }
+    ensures chip { IfOk result (λ desk. desk.value.book.fixed.topology ≡ chip) }
+    ensures fresh { IfOk result (λ desk. desk.value.out.done.items ≡ []) }
+{
+    let mut out = Outbox::load(alloc, &chip, object.masters.len())?;
+    let book = Book::load(alloc, object, chip, &mut out)?;
+    Box::new(alloc, Desk { book, out }).map_err(|_| NoMemory)
+}
+
+/// The bytes of words, the lowest byte of each first.
+pub fn bytes_of(alloc: Global, words: &[u32]) -> Result<Vec<u8>, Fail> {
+    let mut bytes = Vec::new(alloc);
+    for word in words {
+        bytes.extend_from_slice(&word.to_le_bytes())?;
+    }
+    Ok(bytes)
+}
+
+/// The book at load over an object of these words.
+pub fn desk_of(alloc: Global, words: &[u32]) -> Result<Box<Desk>, Fail> {
+    let bytes = bytes_of(alloc, words)?;
+    let object = decode(alloc, &bytes)?;
+    Ok(desk_with(alloc, object, chip(alloc)?)?)
+}
+
+/// The book once master 1 has finished its initialization and master 7 is started.
+pub fn settled(alloc: Global, words: &[u32]) -> Result<Box<Desk>, Fail> {
+    let mut desk = desk_of(alloc, words)?;
+    desk.take(&message(1, 21, [0; 4]));
+    desk.take(&event_of(Trigger::Boot(7, 0)));
+    Ok(desk)
+}
+
+impl Desk {
+    /// An event, and the answer to it.
+    pub fn take(&mut self, event: &Event) -> Answer {
+        self.book.step(event, &mut self.out);
+        self.out.answer
+    }
+}

@@ -1,0 +1,15 @@
+//! What tests of steps begin with and compare: a book with its outbox, what happens to it, and the tables that say what
+//! comes then. Each loop over a table answers the place of the first row that is wrong, which a test judges.
+#![tactic(auto)]
+
+pub mod answers;
+pub mod desk;
+pub mod events;
+pub mod rows;
+pub mod turns;
+
+pub use answers::{Case, Want, wrong_answer};
+pub use desk::{Desk, bytes_of, chip, desk_of, desk_with, settled};
+pub use events::{Trigger, event_of, message};
+pub use rows::{RowCase, UNUSED, wrong_row, wrong_value};
+pub use turns::{Turn, have_moved, have_started, wrong_turn};

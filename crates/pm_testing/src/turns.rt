@@ -1,0 +1,46 @@
+//! Which processors start in a step, and which nodes move.
+
+use crate::desk::Desk;
+use crate::events::{Trigger, event_of};
+use pm_base::{NodeId, Unit};
+use pm_core::Outbox;
+
+/// Whether these nodes moved, in order.
+pub fn have_moved(out: &Outbox, nodes: &[u32]) -> bool {
+    let moved = out.moved.as_slice();
+    for (place, node) in nodes.iter().enumerate() {
+        if moved.get(place).copied() != Some(Unit::Node(NodeId(*node))) {
+            return false;
+        }
+    }
+    moved.len() == nodes.len()
+}
+
+/// Whether these processors started, each at its address.
+pub fn have_started(out: &Outbox, procs: &[(u32, u64)]) -> bool {
+    let starts = out.starts.as_slice();
+    for (place, wanted) in procs.iter().enumerate() {
+        let found = match starts.get(place) {
+            Some(start) => (start.proc.0, start.address),
+            None => return false,
+        };
+        if found != *wanted {
+            return false;
+        }
+    }
+    starts.len() == procs.len()
+}
+
+/// What happens, the processors that start, each at its address, and the nodes that move, each in order.
+pub type Turn = (Trigger, &'static [(u32, u64)], &'static [u32]);
+
+/// The place of the first turn in which other processors start or other nodes move.
+pub fn wrong_turn(desk: &mut Desk, turns: &[Turn]) -> Option<usize> {
+    for (place, (trigger, starts, moved)) in turns.iter().enumerate() {
+        desk.take(&event_of(*trigger));
+        if !have_started(&desk.out, starts) || !have_moved(&desk.out, moved) {
+            return Some(place);
+        }
+    }
+    None
+}
