@@ -5,6 +5,7 @@ pub mod Lines
 pub mod MemInputs
 pub mod MemSink
 pub mod Numbers
+pub mod OneInput
 pub mod Prefix
 pub mod Sink
 pub mod Words

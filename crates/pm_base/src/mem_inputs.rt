@@ -114,7 +114,8 @@ impl Inputs for MemInputs {
         // The number, and the count: each failure raises it, and nothing else does.
         ensures number { IfOk result (λ id. id ≡ length self.old.begun) }
         ensures faults { self.new.faults ≡ (if is_ok result then self.old.faults else raised self.old.faults) }
-        ensures room { length self.new.begun ≡ (if is_ok result then length self.old.begun + 1 else length self.old.begun) }
+        ensures room { length self.new.begun
+            ≡ (if is_ok result then length self.old.begun + 1 else length self.old.begun) }
         ensures kept { self.new ≡ record self.old { begun = self.new.begun; faults = self.new.faults } }
     {
         match place_of(&self.files, name) {

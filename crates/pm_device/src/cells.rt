@@ -86,7 +86,8 @@ pub(crate) fn set_broken(cells: &mut UnitMap<Cell>, node: NodeId, broken: bool)
     ensures values { (other : Part) → (cell_of cells.new other).value ≡ (cell_of cells.old other).value }
     ensures units { (other : Part) → is_there cells.new other ≡ is_there cells.old other }
     ensures broken { broken_of cells.new
-        ≡ (if is_there cells.old (Part.Node node) then rigged node.0 broken (broken_of cells.old) else broken_of cells.old) }
+        ≡ (if is_there cells.old (Part.Node node) then rigged node.0 broken (broken_of cells.old)
+        else broken_of cells.old) }
     ensures rising { rises (broken_of cells.new) ≡ true }
 {
     let cell = cells.get(Unit::Node(node)).unwrap_or(idle());

@@ -15,7 +15,8 @@ ghost use Rattle.pm_object.specs.Reading.{IsFatal, first_fault, reading};
 pub fn one_reading()
     ensures read { (bytes : List ℕ) (o : Object) → All (λ b. b < 256) bytes → reading bytes ≡ Ok o ↔ Reads bytes o }
     ensures written { (bytes : List ℕ) (o : Object) → Reads bytes o → reading bytes ≡ Ok o }
-    ensures fault { (bytes : List ℕ) → All (λ b. b < 256) bytes → first_fault bytes ≡ None ↔ ((o : Object) × Reads bytes o) }
+    ensures fault { (bytes : List ℕ) → All (λ b. b < 256) bytes
+        → first_fault bytes ≡ None ↔ ((o : Object) × Reads bytes o) }
     ensures fatal { (bytes : List ℕ) (f : ObjectFault) → first_fault bytes ≡ Some f → IsFatal bytes f }
     ensures again { (o : Object) → IsObject o → reading (little_endian (words_of o)) ≡ Ok o }
     ensures one { (bytes : List ℕ) (o p : Object) → Reads bytes o → Reads bytes p → o ≡ p }

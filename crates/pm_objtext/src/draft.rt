@@ -155,7 +155,8 @@ impl Draft {
 
     fn place(&mut self, alloc: Global, item: Item) -> Result<(), NoMemory>
         requires { repeats item (so_far self.old) ≡ false }
-        ensures said { OnOk result (so_far self.new ≡ record (so_far self.old) { stage = stage_after item self.old.stage; object = with_item item (so_far self.old).object }) }
+        ensures said { OnOk result (so_far self.new ≡ record (so_far self.old)
+            { stage = stage_after item self.old.stage; object = with_item item (so_far self.old).object }) }
         ensures line { OnOk result (self.new.line ≡ self.old.line) }
     {
         match item {

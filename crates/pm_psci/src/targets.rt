@@ -1,29 +1,19 @@
 //! The targets of the calls: the processors of master 1.
 
-ghost use Rattle.std.specs.Prelude.{◌≡◌, ◌==◌, find};
-ghost use Rattle.std.specs.Option.{option_copied};
+ghost use Rattle.std.specs.Prelude.{◌≡◌};
 ghost use Rattle.pm_psci.specs.Targets.{is_target, target_at, targets};
 
 use pm_base::NodeId;
-use pm_topology::{MasterDef, Topology};
+use pm_topology::Topology;
 
 /// The master whose processors make the calls and are their targets.
 pub(crate) const MASTER: NodeId = NodeId(1);
-
-fn entry_of_master(masters: &[MasterDef]) -> Option<&MasterDef>
-    ensures { option_copied result ≡ find (λ (def : MasterDef). def.node.0 == 1) masters.now }
-{
-    masters.iter().find(|def| def.node.0 == MASTER.0)
-}
 
 /// The targets, in the order of the table.
 pub(crate) fn targets(t: &Topology) -> &[NodeId]
     ensures { result.now ≡ targets t.now }
 {
-    match entry_of_master(t.masters.as_slice()) {
-        Some(def) => def.procs.as_slice(),
-        None => &[],
-    }
+    t.procs_of(MASTER)
 }
 
 /// Whether a node is a target.

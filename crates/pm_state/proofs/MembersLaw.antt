@@ -9,10 +9,11 @@ use Rattle.pm_object.specs.declared.object.MasterRec.{MasterRec}
 use Rattle.pm_object.specs.declared.object.Object.{Object}
 use Rattle.pm_topology.specs.declared.topology.ProcDef.{ProcDef}
 use Rattle.pm_topology.specs.declared.topology.Topology.{Topology}
+use Rattle.pm_topology.specs.Masters.{procs_of}
 use Rattle.pm_topology.specs.Places.{proc_place}
 use Rattle.pm_procs.specs.Procs.{has_member, members_at}
 use Rattle.pm_base.proofs.Booleans.{either}
-use Rattle.pm_state.specs.Members.{is_place, member_at, members_among, members_from, members_of, owns, procs_of}
+use Rattle.pm_state.specs.Members.{is_place, member_at, members_among, members_from, members_of, owns}
 
 -- each master has its list of processors
 pub members_count : (object : Object) (t : Topology) (m : ℕ) (masters : List MasterRec) → length (members_from object t m masters) ≡ length masters

@@ -1,22 +1,16 @@
 -- The processors of the configured masters, and the modes of the masters by them.
-use Rattle.std.specs.Prelude.{ℕ, ◌+◌, ◌==◌, Bool, false, List, [], ◌∷◌, ◌++◌, slice_get, find, Option, Some, None, if◌then◌else◌, option_and_then}
-use Rattle.std.specs.Option.{option_map_or}
+use Rattle.std.specs.Prelude.{ℕ, ◌+◌, ◌==◌, Bool, false, List, [], ◌∷◌, ◌++◌, slice_get, Option, Some, None, if◌then◌else◌, option_and_then}
 use Rattle.pm_base.specs.declared.names.Mode.{Mode}
 use Rattle.pm_base.specs.declared.names.NodeId.{NodeId}
 use Rattle.pm_object.specs.declared.object.MasterRec.{MasterRec}
 use Rattle.pm_object.specs.declared.object.Object.{Object}
-use Rattle.pm_topology.specs.declared.topology.MasterDef.{MasterDef}
 use Rattle.pm_topology.specs.declared.topology.ProcDef.{ProcDef}
 use Rattle.pm_topology.specs.declared.topology.Topology.{Topology}
+use Rattle.pm_topology.specs.Masters.{procs_of}
 use Rattle.pm_topology.specs.Places.{proc_place}
 use Rattle.pm_perms.specs.Owner.{owner}
 use Rattle.pm_procs.specs.Procs.{master_mode_in, members_at}
 use Rattle.pm_state.specs.State.{Fixed, CoreHalf}
-
--- the processors which the table gives the master with a number, the first one first
-abbrev pub procs_of : Topology → ℕ → List NodeId
-procs_of t master =
-    option_map_or (λ (def : MasterDef). def.procs) (find (λ (def : MasterDef). def.node.0 == master) t.masters) []
 
 -- the place of the configured master that has the processor at a place, by the object that was loaded
 abbrev pub owner_at : Object → Topology → ℕ → Option ℕ

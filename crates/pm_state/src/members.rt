@@ -1,32 +1,15 @@
 //! The processors of the configured masters.
 
-ghost use Rattle.std.specs.Prelude.{◌≡◌, ◌==◌, ◌++◌, IfOk, OnOk, find, length, option_to_list, slice_get};
-ghost use Rattle.std.specs.Option.{option_copied};
+ghost use Rattle.std.specs.Prelude.{◌≡◌, ◌++◌, IfOk, OnOk, length, option_to_list, slice_get};
+ghost use Rattle.pm_topology.specs.Masters.{procs_of};
 ghost use Rattle.pm_topology.specs.Places.{proc_place};
-ghost use Rattle.pm_state.specs.Members.{member_at, members_among, members_of, owner_at, procs_of};
+ghost use Rattle.pm_state.specs.Members.{member_at, members_among, members_of, owner_at};
 
 use pm_base::{List, NoMemory, NodeId};
 use pm_object::Object;
 use pm_perms::owner_of;
-use pm_topology::{MasterDef, ProcDef, Topology};
+use pm_topology::{ProcDef, Topology};
 use std::alloc::Global;
-
-/// The entry of the master with a number.
-fn entry_of(masters: &[MasterDef], master: u32) -> Option<&MasterDef>
-    ensures { option_copied result ≡ find (λ (def : MasterDef). def.node.0 == master) masters.now }
-{
-    masters.iter().find(|def| def.node.0 == master)
-}
-
-/// The processors which the table gives the master with a number, the first one first.
-fn procs_of(t: &Topology, master: u32) -> &[NodeId]
-    ensures { result.now ≡ procs_of t.now master }
-{
-    match entry_of(t.masters.as_slice(), master) {
-        Some(def) => def.procs.as_slice(),
-        None => &[],
-    }
-}
 
 fn proc_at(procs: &[ProcDef], p: usize) -> Option<ProcDef>
     ensures { result ≡ slice_get procs.now p }
@@ -100,7 +83,7 @@ pub(crate) fn members_of(
 {
     let mut members = List::new(alloc);
     for (m, master) in object.masters.as_slice().iter().enumerate() {
-        members.push(members_among(alloc, object, t, m, procs_of(t, master.node))?)?;
+        members.push(members_among(alloc, object, t, m, t.procs_of(NodeId(master.node)))?)?;
     }
     Ok(members)
 }

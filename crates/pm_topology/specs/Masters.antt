@@ -1,9 +1,16 @@
--- The rules on the masters of a table: the numbers that they have, and the processors that they may have.
-use Rattle.std.specs.Prelude.{◌≡◌, ◌≢◌, ℕ, Bool, not, ◌&&◌, ◌||◌, ◌==◌, IsTrue, List, [], ◌∷◌, Some, slice_get}
+-- The masters of a table: their processors, and the rules on the numbers and the processors that they may have.
+use Rattle.std.specs.Prelude.{◌≡◌, ◌≢◌, ℕ, Bool, not, ◌&&◌, ◌||◌, ◌==◌, IsTrue, List, [], ◌∷◌, Some, find, slice_get}
 use Rattle.std.specs.List.{list_any}
+use Rattle.std.specs.Option.{option_map_or}
+use Rattle.pm_base.specs.declared.names.NodeId.{NodeId}
 use Rattle.pm_topology.specs.declared.topology.MasterDef.{MasterDef}
 use Rattle.pm_topology.specs.declared.topology.Topology.{Topology}
 use Rattle.pm_topology.specs.WellFormed.{EachEntry, HasNumber, AreDistinct}
+
+-- the processors which the table gives the master with a number, the first one first
+abbrev pub procs_of : Topology → ℕ → List NodeId
+procs_of t master =
+    option_map_or (λ (def : MasterDef). def.procs) (find (λ (def : MasterDef). def.node.0 == master) t.masters) []
 
 -- the numbers of masters: the APU, the RPU in lock-step, and its two halves
 abbrev pub master_numbers : List ℕ

@@ -33,7 +33,8 @@ impl Topology {
     /// `TooMany`, `Repeated`, `ParentLate`, `NoStates`, `LastNotFull`, `BadTarget`, `BadMember`.
     pub fn check(&self) -> Result<(), TopoFault>
         ensures well_formed { IsOk result ↔ IsWellFormed self.now }
-        ensures first { MatchResult result (λ _. first_fault self.now ≡ None) (λ fault. first_fault self.now ≡ Some fault) }
+        ensures first { MatchResult result (λ _. first_fault self.now ≡ None)
+            (λ fault. first_fault self.now ≡ Some fault) }
     {
         self.first_broken()
     }

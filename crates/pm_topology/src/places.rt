@@ -1,11 +1,13 @@
 //! Where a node stands in a topology, and which power nodes are above it.
 
-ghost use Rattle.std.specs.Prelude.{◌≡◌, ◌<◌, ◌↔◌, ◌==◌, IsTrue, length, position};
+ghost use Rattle.std.specs.Prelude.{◌≡◌, ◌<◌, ◌↔◌, ◌==◌, IsTrue, find, length, position};
 ghost use Rattle.std.specs.List.{list_any};
+ghost use Rattle.std.specs.Option.{option_copied};
+ghost use Rattle.pm_topology.specs.Masters.{procs_of};
 ghost use Rattle.pm_topology.specs.Places.{IsBelow, IsKind, is_below, kind_of, line_place, parent_at, power_parent, power_place, proc_place, slave_place, upwards};
 ghost use Rattle.pm_topology.specs.WellFormed.{IsWellFormed};
 
-use crate::topology::{PowerDef, ProcDef, SlaveDef, Topology};
+use crate::topology::{MasterDef, PowerDef, ProcDef, SlaveDef, Topology};
 use pm_base::{LineId, NodeId};
 
 /// What a node number names: a place in one of the lists.
@@ -36,6 +38,16 @@ impl Topology {
             .as_slice()
             .iter()
             .position(|def| def.line.0 == line.0)
+    }
+
+    /// The processors of the master with a number, the first one first; none if no master has the number.
+    pub fn procs_of(&self, master: NodeId) -> &[NodeId]
+        ensures { result.now ≡ procs_of self.now master.0 }
+    {
+        match entry_of(self.masters.as_slice(), master) {
+            Some(def) => def.procs.as_slice(),
+            None => &[],
+        }
     }
 
     /// The first of processors, slaves and power nodes that has this number.
@@ -75,6 +87,13 @@ impl Topology {
             Kind::Unknown => None,
         }
     }
+}
+
+/// The entry of the master with a number.
+fn entry_of(masters: &[MasterDef], master: NodeId) -> Option<&MasterDef>
+    ensures { option_copied result ≡ find (λ (def : MasterDef). def.node.0 == master.0) masters.now }
+{
+    masters.iter().find(|def| def.node.0 == master.0)
 }
 
 fn proc_place(procs: &[ProcDef], n: NodeId) -> Option<usize>

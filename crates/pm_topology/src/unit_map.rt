@@ -88,7 +88,8 @@ impl<T: Copy + Drop> UnitMap<T> {
     pub fn set(&mut self, unit: Unit, value: T)
         ensures entries { self.new ≡ with_value unit value self.old }
         ensures values { (other : Part) → value_of self.new other
-            ≡ (if same_unit unit other && is_some (value_of self.old unit) then Some value else value_of self.old other) }
+            ≡ (if same_unit unit other && is_some (value_of self.old unit) then Some value
+            else value_of self.old other) }
         ensures there { (other : Part) → is_some (value_of self.new other) ≡ is_some (value_of self.old other) }
         ensures one { is_some (value_of self.old unit) ≡ true → Sets unit value self.old self.new }
         ensures same { is_some (value_of self.old unit) ≡ false → self.new ≡ self.old }
