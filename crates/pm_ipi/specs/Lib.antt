@@ -1,4 +1,5 @@
 pub mod Callbacks
 pub mod Calls
+pub mod Mail
 pub mod Responses
 pub mod Status

@@ -1,4 +1,4 @@
-//! Tests of inputs, lines, objects, texts, devices and the words of messages, each a table of cases and one loop over it.
+//! Tests of inputs, lines, objects, texts, devices, messages and boxes, each a table of cases and one loop over it.
 #![tactic(auto)]
 
 #[cfg(test)]
@@ -11,6 +11,8 @@ mod devices;
 mod inputs;
 #[cfg(test)]
 mod lines;
+#[cfg(test)]
+mod mail;
 #[cfg(test)]
 mod objects;
 #[cfg(test)]
