@@ -39,7 +39,8 @@ pub fn carry<D: Device>(dev: &mut D, kept: &mut Kept, book: &Book, out: &mut Out
     ensures given { Chain D.Does (orders_in out.new) dev.old dev.new }
     // So its count of faults rose with each that failed, and where its broken nodes are observable the
     // failed ones are exactly those on broken nodes.
-    ensures shown { ShowsAll D.values_observable D.nodes_observable (orders_in out.new) (D.state dev.old) (D.state dev.new) }
+    ensures shown { ShowsAll D.values_observable D.nodes_observable (orders_in out.new) (D.state dev.old)
+        (D.state dev.new) }
     // A device whose values are observable, and were those of the record, has those of the record.
     ensures stands { D.values_observable → StandsAs kept.old (D.state dev.old) → StandsAs kept.new (D.state dev.new) }
     // The record marks exactly the units that aren't at the book's value.
@@ -70,8 +71,10 @@ pub fn carry<D: Device>(dev: &mut D, kept: &mut Kept, book: &Book, out: &mut Out
 /// Takes a turn: where it has a command, the device is given it, the record follows where the device
 /// took it, and it is put into `out.done` with the value before it and its answer.
 fn take_turn<D: Device>(dev: &mut D, kept: &mut Kept, book: &Book, out: &mut Outbox, turn: Turn)
-    requires room { IfSome (due book.now.fixed.topology (λ u. value u book.now) kept.old turn) (λ _. length out.old.done.items < out.old.done.room) }
-    ensures takes { Takes D.Does book.now.fixed.topology (λ u. value u book.now) (turn ∷ []) kept.old kept.new out.old.done.items out.new.done.items dev.old dev.new }
+    requires room { IfSome (due book.now.fixed.topology (λ u. value u book.now) kept.old turn)
+        (λ _. length out.old.done.items < out.old.done.room) }
+    ensures takes { Takes D.Does book.now.fixed.topology (λ u. value u book.now)
+        (turn ∷ []) kept.old kept.new out.old.done.items out.new.done.items dev.old dev.new }
     ensures rest { KeepsRest out.old out.new }
 {
     let Some(command) = due(turn, book, kept) else {
@@ -92,7 +95,8 @@ fn take_pulse<D: Device>(
     turn: Option<Turn>,
 )
     requires room { IfSome turn (λ _. length out.old.done.items < out.old.done.room) }
-    ensures takes { Takes D.Does book.now.fixed.topology (λ u. value u book.now) (option_to_list turn) kept.old kept.new out.old.done.items out.new.done.items dev.old dev.new }
+    ensures takes { Takes D.Does book.now.fixed.topology (λ u. value u book.now)
+        (option_to_list turn) kept.old kept.new out.old.done.items out.new.done.items dev.old dev.new }
     ensures rest { KeepsRest out.old out.new }
 {
     if let Some(turn) = turn {
@@ -108,8 +112,10 @@ fn take_unit_turn<D: Device>(
     out: &mut Outbox,
     turn: Turn,
 )
-    requires room { length out.old.done.items + most_of book.now.fixed.topology (λ u. value u book.now) (with_pulse out.old.pulse turn) ≤ out.old.done.room }
-    ensures takes { Takes D.Does book.now.fixed.topology (λ u. value u book.now) (with_pulse out.old.pulse turn) kept.old kept.new out.old.done.items out.new.done.items dev.old dev.new }
+    requires room { length out.old.done.items + most_of book.now.fixed.topology (λ u. value u book.now)
+        (with_pulse out.old.pulse turn) ≤ out.old.done.room }
+    ensures takes { Takes D.Does book.now.fixed.topology (λ u. value u book.now)
+        (with_pulse out.old.pulse turn) kept.old kept.new out.old.done.items out.new.done.items dev.old dev.new }
     ensures rest { KeepsRest out.old out.new }
 {
     let pulse = pulse_before(out.pulse, turn);
@@ -123,7 +129,9 @@ fn take_turns<D: Device>(dev: &mut D, kept: &mut Kept, book: &Book, out: &mut Ou
     requires fresh { out.old.done.items ≡ [] }
     ensures formed { IsWellFormed book.now.fixed.topology }
     ensures fed { IsFed book.now.fixed.topology (λ u. value u book.now) }
-    ensures takes { Takes D.Does book.now.fixed.topology (λ u. value u book.now) (turns_of book.now.fixed.topology out.old.pulse) kept.old kept.new out.old.done.items out.new.done.items dev.old dev.new }
+    ensures takes { Takes D.Does book.now.fixed.topology (λ u. value u book.now)
+        (turns_of book.now.fixed.topology out.old.pulse) kept.old kept.new out.old.done.items out.new.done.items
+        dev.old dev.new }
     ensures rest { KeepsRest out.old out.new }
 {
     units_stand_in_order();

@@ -29,7 +29,8 @@ pub fn each_part_is_safe()
         → IsOrdered book.fixed.topology (kept_value kept) (orders_of (part_of kept answers book outputs).commands) }
     ensures explained { (kept : Kept) (answers : List Bool) (book : State) (outputs : Outputs)
         → IsWellFormed book.fixed.topology → IsRecordOf book.fixed.topology kept
-        → LagsAreExplained book.fixed.topology (λ u. value u book) (part_of kept answers book outputs).kept (part_of kept answers book outputs).commands }
+        → LagsAreExplained book.fixed.topology (λ u. value u book) (part_of kept answers book outputs).kept
+        (part_of kept answers book outputs).commands }
     ensures known { (kept : Kept) (answers : List Bool) (book : State) (outputs : Outputs)
         → IsWellFormed book.fixed.topology
         → AreHarmless book.fixed.topology (orders_of (part_of kept answers book outputs).commands) }
@@ -38,12 +39,14 @@ pub fn each_part_is_safe()
         → IsRecordOf book.fixed.topology (part_of kept answers book outputs).kept }
     ensures values { (kept : Kept) (answers : List Bool) (book : State) (outputs : Outputs)
         → IsWellFormed book.fixed.topology → IsRecordOf book.fixed.topology kept → (unit : Unit)
-        → kept_value (part_of kept answers book outputs).kept unit ≡ values_after (orders_of (part_of kept answers book outputs).commands) (kept_value kept) unit }
+        → kept_value (part_of kept answers book outputs).kept unit
+        ≡ values_after (orders_of (part_of kept answers book outputs).commands) (kept_value kept) unit }
     ensures marks { (kept : Kept) (answers : List Bool) (book : State) (outputs : Outputs)
         → IsWellFormed book.fixed.topology → IsRecordOf book.fixed.topology kept
         → AreMarked book.fixed.topology (λ u. value u book) (part_of kept answers book outputs).kept }
     ensures used { (kept : Kept) (answers : List Bool) (book : State) (outputs : Outputs)
-        → part_of kept (answers_of (part_of kept answers book outputs).commands) book outputs ≡ part_of kept answers book outputs }
+        → part_of kept (answers_of (part_of kept answers book outputs).commands) book outputs
+        ≡ part_of kept answers book outputs }
 {
     units_stand_in_order();
     kinds_are_exact();
@@ -77,7 +80,8 @@ pub fn a_part_without_refusal()
 /// Ordered acts, and behind them acts that are ordered where the first left the units, are ordered.
 pub fn orders_join()
     ensures append { (t : Topology) (values : Unit → ℕ) (first second : List Act)
-        → IsOrdered t values first → IsOrdered t (values_after first values) second → IsOrdered t values (first ++ second) }
+        → IsOrdered t values first → IsOrdered t (values_after first values) second
+        → IsOrdered t values (first ++ second) }
     ensures alike { (t : Topology) (values others : Unit → ℕ) (acts : List Act)
         → ((unit : Unit) → values unit ≡ others unit) → IsOrdered t values acts → IsOrdered t others acts }
 {}

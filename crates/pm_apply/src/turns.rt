@@ -98,7 +98,8 @@ fn where_due(is_due: bool, command: Command) -> Option<Command>
 // ---- a power node goes up
 
 fn power_on(place: usize, book: &Book, kept: &Kept) -> Option<Command>
-    ensures { result ≡ power_on book.now.fixed.topology (λ u. value u book.now) kept.now (slice_get book.now.fixed.topology.powers place) }
+    ensures { result ≡ power_on book.now.fixed.topology (λ u. value u book.now) kept.now
+        (slice_get book.now.fixed.topology.powers place) }
 {
     let power = power_at(book.topology(), place)?;
     let command = Command {
@@ -111,7 +112,8 @@ fn power_on(place: usize, book: &Book, kept: &Kept) -> Option<Command>
 /// Whether a power node is up in the book and down in the record, and its parent isn't down in the
 /// record.
 fn goes_up(power: &PowerDef, book: &Book, kept: &Kept) -> bool
-    ensures { result ≡ ((value (Node power.now.node) book.now == 1) && ((kept_value kept.now (Node power.now.node) == 0) && is_fed book.now.fixed.topology kept.now power.now.parent)) }
+    ensures { result ≡ ((value (Node power.now.node) book.now == 1) && ((kept_value kept.now (Node power.now.node) == 0)
+        && is_fed book.now.fixed.topology kept.now power.now.parent)) }
 {
     let unit = Unit::Node(power.node);
     book.value(unit) == 1 && kept.value(unit) == 0 && is_fed(book.topology(), kept, power.parent)
@@ -161,7 +163,8 @@ fn apply(unit: Unit, book: &Book, kept: &Kept) -> Option<Command>
 /// Whether a unit is no power node, the record has another value for it, and the value doesn't need
 /// power or the power node above isn't down in the record.
 fn takes(unit: Unit, value: u32, t: &Topology, kept: &Kept) -> bool
-    ensures { result ≡ (not (is_power t.now unit) && (not (kept_value kept.now unit == value) && (not (needs_power t.now unit value) || is_fed t.now kept.now (parent_of_unit t.now unit)))) }
+    ensures { result ≡ (not (is_power t.now unit) && (not (kept_value kept.now unit == value)
+        && (not (needs_power t.now unit value) || is_fed t.now kept.now (parent_of_unit t.now unit)))) }
 {
     !is_power(t, unit)
         && kept.value(unit) != value
@@ -171,7 +174,8 @@ fn takes(unit: Unit, value: u32, t: &Topology, kept: &Kept) -> bool
 // ---- a power node goes down
 
 fn power_off(place: usize, book: &Book, kept: &Kept) -> Option<Command>
-    ensures { result ≡ power_off book.now.fixed.topology (λ u. value u book.now) kept.now place (slice_get book.now.fixed.topology.powers place) }
+    ensures { result ≡ power_off book.now.fixed.topology (λ u. value u book.now) kept.now place
+        (slice_get book.now.fixed.topology.powers place) }
 {
     let power = power_at(book.topology(), place)?;
     let command = Command {
@@ -184,7 +188,8 @@ fn power_off(place: usize, book: &Book, kept: &Kept) -> Option<Command>
 /// Whether the power node at a place is down in the book and up in the record, and nothing directly
 /// below needs power by the record.
 fn goes_down(unit: Unit, place: usize, book: &Book, kept: &Kept) -> bool
-    ensures { result ≡ ((value unit book.now == 0) && ((kept_value kept.now unit == 1) && not (is_used book.now.fixed.topology kept.now place))) }
+    ensures { result ≡ ((value unit book.now == 0)
+        && ((kept_value kept.now unit == 1) && not (is_used book.now.fixed.topology kept.now place))) }
 {
     book.value(unit) == 0 && kept.value(unit) == 1 && !is_used(book, kept, place)
 }
@@ -203,7 +208,8 @@ fn is_used(book: &Book, kept: &Kept, place: usize) -> bool
 
 /// Whether a unit stands directly below the power node at a place and needs power by the record.
 fn uses(unit: Unit, place: usize, t: &Topology, kept: &Kept) -> bool
-    ensures { result ≡ (is_place place (parent_of_unit t.now unit) && needs_power t.now unit (kept_value kept.now unit)) }
+    ensures { result
+        ≡ (is_place place (parent_of_unit t.now unit) && needs_power t.now unit (kept_value kept.now unit)) }
 {
     is_place(place, parent_of_unit(t, unit)) && needs_power(t, unit, kept.value(unit))
 }

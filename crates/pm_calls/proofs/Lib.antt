@@ -1,4 +1,6 @@
 pub mod ArmingLaw
+pub mod CallsOnce
+pub mod CallsSound
 pub mod ResetSound
 pub mod ShutdownCases
 pub mod ShutdownSound

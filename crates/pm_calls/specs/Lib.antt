@@ -4,6 +4,7 @@ pub mod Events
 pub mod ProcCalls
 pub mod ResetLines
 pub mod RowCalls
+pub mod Shapes
 pub mod Verdict
 pub mod Views
 pub mod calls

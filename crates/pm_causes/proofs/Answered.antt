@@ -31,7 +31,8 @@ use Rattle.pm_core.specs.declared.replies.Answer.{Answer}
 use Rattle.pm_core.specs.declared.replies.Answer.TheVariants.{Silent, Drop}
 use Rattle.pm_state.specs.Members.{mode_of_master}
 use Rattle.pm_state.specs.State.{State}
-use Rattle.pm_core.specs.Step.{acknowledged, answer_of, answer_to, answered, call_in, called, effect, call_at, verdict}
+use Rattle.pm_calls.specs.calls.{called}
+use Rattle.pm_core.specs.Step.{acknowledged, answer_of, answer_to, answered, call_in, effect, call_at, verdict}
 use Rattle.pm_state.specs.Values.{master_place}
 use Rattle.pm_state.specs.Nodes.{master_mode, master_mode_at}
 use Rattle.pm_calls.specs.Views.{suspend_view}

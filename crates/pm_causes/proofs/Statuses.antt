@@ -7,7 +7,7 @@ use Rattle.pm_ipi.specs.Status.{failure, invalid_parameter, no_feature, no_acces
 use Rattle.pm_calls.specs.declared.verdict.Effects.{Effects}
 use Rattle.pm_calls.specs.Checks.{AllHold, Acknowledge, Arguments, Capable, Cause, Fits, InUse, Known, Node, NotUsed, Permitted, Stands, UsedBy, WrongMode}
 use Rattle.pm_state.specs.State.{State}
-use Rattle.pm_core.specs.Step.{called}
+use Rattle.pm_calls.specs.calls.{called}
 use Rattle.pm_calls.specs.Verdict.{verdict_by}
 use Rattle.pm_calls.proofs.Verdicts.{all_hold, none_fails}
 use Rattle.pm_causes.specs.Causes.{cause, checks_of, status, status_in, words, words_in}

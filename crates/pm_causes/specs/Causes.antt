@@ -6,7 +6,7 @@ use Rattle.pm_calls.specs.declared.verdict.Verdict.{Verdict}
 use Rattle.pm_calls.specs.declared.verdict.Verdict.TheVariants.{Dropped, Refused, Accepted}
 use Rattle.pm_calls.specs.Checks.{Cause, Checks, first_failing}
 use Rattle.pm_state.specs.State.{State}
-use Rattle.pm_core.specs.Step.{called}
+use Rattle.pm_calls.specs.calls.{called}
 use Rattle.pm_calls.specs.Verdict.{verdict_of}
 
 -- the seven checks of a call of the configured master at place m

@@ -20,7 +20,8 @@ pub fn answers_have_causes()
 /// So has each answer of a list of core events, of the lines of a run from where it stands, and of the run whole, the load too.
 pub fn runs_have_causes()
     ensures cores { (events : List Event) (book : State) → HaveCauses (cores_of events book) }
-    ensures lines { (c : Setup) (events : List Event) (stand : Stand) → HaveCauses (cores_in (lines_of c events stand)) }
+    ensures lines { (c : Setup) (events : List Event) (stand : Stand)
+        → HaveCauses (cores_in (lines_of c events stand)) }
     ensures run { (c : Setup) (events : List Event) → HaveCauses (cores_in (run c events)) }
 {
     answers_have_causes();

@@ -32,7 +32,8 @@ use Rattle.pm_tell.specs.Served.{kept_at, kept_of, own_note}
 use Rattle.pm_state.specs.Members.{mode_of_master}
 use Rattle.pm_state.specs.State.{Fixed, State, in_force}
 use Rattle.pm_state.specs.Stages.{after_stages}
-use Rattle.pm_core.specs.Step.{called, call_at, may_call, modes_in, news, opening, path, says, served, stages, talk, time_of, verdict}
+use Rattle.pm_calls.specs.calls.{called}
+use Rattle.pm_core.specs.Step.{call_at, may_call, modes_in, news, opening, path, says, served, stages, talk, time_of, verdict}
 use Rattle.pm_tell.specs.Telling.{notes_after}
 use Rattle.pm_core.specs.Step as step
 use Rattle.pm_state.specs.Talk.{Talk, Forget, take_of, wait_of}

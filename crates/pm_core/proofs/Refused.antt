@@ -33,7 +33,8 @@ use Rattle.pm_calls.specs.Checks.{Cause, Fits, Stands, first_failing}
 use Rattle.pm_state.specs.Prims.{Prim}
 use Rattle.pm_state.specs.Stages.{after_stages, path_from}
 use Rattle.pm_state.specs.State.{State, in_force}
-use Rattle.pm_core.specs.Step.{call_in, called, effect, call_at, may_call, is_refused, message_stages, modes_in, served, verdict}
+use Rattle.pm_calls.specs.calls.{called}
+use Rattle.pm_core.specs.Step.{call_in, effect, call_at, may_call, is_refused, message_stages, modes_in, served, verdict}
 use Rattle.pm_tell.specs.Telling.{tellings}
 use Rattle.pm_state.specs.Talk.{Talk, talked, wait_of}
 use Rattle.pm_tell.specs.Opening.{forgets_from, talk_of}

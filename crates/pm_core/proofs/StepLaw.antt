@@ -10,8 +10,6 @@ use Rattle.pm_base.specs.declared.names.Unit.{Unit}
 use Rattle.pm_base.specs.declared.events.Event.{Event}
 use Rattle.pm_base.specs.declared.events.Event.TheVariants.{Ipi, Boot, Wfi, Irq, Gic}
 use Rattle.pm_base.specs.declared.events.Message.{Message}
-use Rattle.pm_ipi.specs.declared.calls.Call.{Call}
-use Rattle.pm_ipi.specs.declared.calls.Call.TheVariants.{GetApiVersion, GetNodeStatus, RegisterNotifier, GetOpCharacteristic, RequestSuspend, SelfSuspend, ForcePowerdown, AbortSuspend, RequestWakeup, SetWakeupSource, SystemShutdown, RequestNode, ReleaseNode, SetRequirement, SetMaxLatency, ResetAssert, ResetGetStatus, InitFinalize, Unknown}
 use Rattle.pm_topology.specs.declared.places.Kind.{Kind}
 use Rattle.pm_topology.specs.declared.places.Kind.TheVariants.{Proc, Slave, Power, Unknown as NoNode}
 use Rattle.pm_topology.specs.declared.topology.Topology.{Topology}
@@ -23,56 +21,19 @@ use Rattle.pm_values.specs.Caches.{kind_of_unit, moved_by, starts_by, value_by, 
 use Rattle.pm_calls.specs.Events.{boot, boot_at, boot_by, booted, wait, wait_at, wait_by, waits, interrupt, interrupt_at, interrupt_by, raised, raised_at}
 use Rattle.pm_state.specs.Members.{owner_at}
 use Rattle.pm_values.specs.Along.{Trail, IsTrail, trail_at_load}
-use Rattle.pm_calls.specs.Checks.{Cause, Fits, Stands, first_failing}
 use Rattle.pm_state.specs.Prims.{Prim}
 use Rattle.pm_state.specs.Stages.{after_stages}
 use Rattle.pm_values.specs.Starts.{starts, was_down}
 use Rattle.pm_state.specs.State.{State}
-use Rattle.pm_core.specs.Step.{called, is_ipi, is_once, stages, path, effect, served}
+use Rattle.pm_core.specs.Step.{is_ipi, stages, path, effect, served}
 use Rattle.pm_state.specs.Units.{units, moved}
 use Rattle.pm_state.specs.Values.{value}
-use Rattle.pm_calls.specs.Verdict.{stages_by, stages_of}
 use Rattle.pm_values.proofs.CachesLaw.{moves_are}
 use Rattle.pm_state.proofs.LoadLaw.{get_or-replicate_any}
 use Rattle.pm_values.proofs.AlongLaw.{HasOneAtMost}
 use Rattle.pm_values.proofs.StartsLaw.{TellsDown, starts_are}
 
 -- ---- one stage at most
-
-by_once : (cause : Cause) (stages : List (List Prim)) → HasOneAtMost stages → HasOneAtMost (stages_by cause stages)
-by_once (Stands Fits) stages once = once
-by_once _ stages once = tt
-
-each_once : (m : ℕ) (call : Call) (book : State) → is_once call ≡ true → HasOneAtMost (called m call book).stages
-each_once m GetApiVersion book is = tt
-each_once m (GetNodeStatus node) book is = tt
-each_once m (RegisterNotifier node event wake enable) book is = tt
-each_once m (GetOpCharacteristic node characteristic) book is = tt
-each_once m (RequestSuspend node ack latency state) book is = tt
-each_once m (SelfSuspend node address) book is = refl
-each_once m (ForcePowerdown node ack) book is = cc
-each_once m (AbortSuspend node reason) book is = refl
-each_once m (RequestWakeup node address ack) book is = refl
-each_once m (SetWakeupSource target source enable) book is = refl
-each_once m (SystemShutdown shutdown_type subtype) book is = cc
-each_once m (RequestNode node caps ack) book is = refl
-each_once m (ReleaseNode node) book is = refl
-each_once m (SetRequirement node caps ack) book is = refl
-each_once m (SetMaxLatency node latency) book is = refl
-each_once m (ResetAssert line action) book is = refl
-each_once m (ResetGetStatus line) book is = tt
-each_once m InitFinalize book is = refl
-each_once m Unknown book is = tt
-
--- a call that takes nothing down
-pub called_once : (m : ℕ) (call : Call) (book : State) → is_once call ≡ true → HasOneAtMost (stages_of (called m call book))
-called_once m call book is = by_once (first_failing (called m call book).checks) (called m call book).stages (each_once m call book is)
-
--- a call that is neither a force nor a shutdown
-pub once_of : (call : Call) → ((node : NodeId) (ack : ℕ) → call ≡ ForcePowerdown node ack → ⊥) → ((shutdown_type subtype : ℕ) → call ≡ SystemShutdown shutdown_type subtype → ⊥) → is_once call ≡ true
-once_of (ForcePowerdown node ack) force shutdown = absurd (force node ack refl)
-once_of (SystemShutdown shutdown_type subtype) force shutdown = absurd (shutdown shutdown_type subtype refl)
-once_of _ force shutdown = refl
 
 -- an event that is no message, and what it comes to
 pub no_message : (event : Event) → ((master : NodeId) (message : Message) → event ≡ Ipi master message → ⊥) → is_ipi event ≡ false

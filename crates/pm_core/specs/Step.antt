@@ -6,7 +6,6 @@ use Rattle.pm_base.specs.declared.names.Mode.{Mode}
 use Rattle.pm_base.specs.declared.events.Event.{Event}
 use Rattle.pm_base.specs.declared.events.Event.TheVariants.{Ipi, Boot, Wfi, Irq, Gic, Tick}
 use Rattle.pm_ipi.specs.declared.calls.Call.{Call}
-use Rattle.pm_ipi.specs.declared.calls.Call.TheVariants.{GetApiVersion, GetNodeStatus, GetOpCharacteristic, RegisterNotifier, RequestSuspend, SelfSuspend, ForcePowerdown, AbortSuspend, RequestWakeup, SetWakeupSource, SystemShutdown, RequestNode, ReleaseNode, SetRequirement, SetMaxLatency, ResetAssert, ResetGetStatus, InitFinalize, Unknown}
 use Rattle.pm_ipi.specs.declared.calls.AckKind.{AckKind}
 use Rattle.pm_ipi.specs.declared.calls.AckKind.TheVariants.{No, Blocking, NonBlocking}
 use Rattle.pm_ipi.specs.declared.responses.Response.{Response}
@@ -22,12 +21,10 @@ use Rattle.pm_calls.specs.declared.verdict.Say.{Say}
 use Rattle.pm_calls.specs.declared.verdict.Verdict.{Verdict}
 use Rattle.pm_calls.specs.declared.verdict.Verdict.TheVariants.{Dropped, Refused, Accepted}
 use Rattle.pm_tell.specs.Callbacks.{News, callbacks, late_replies}
-use Rattle.pm_calls.specs.Characteristics.{characteristics}
-use Rattle.pm_calls.specs.Checks.{unchecked}
 use Rattle.pm_tell.specs.Ended.{ended_from}
 use Rattle.pm_values.specs.Turns.{turns_along}
 use Rattle.pm_calls.specs.Events.{boot, wait, interrupt, raised}
-use Rattle.pm_calls.specs.ResetLines.{line_view, line_status}
+use Rattle.pm_calls.specs.calls.{called}
 use Rattle.pm_state.specs.Members.{mode_of_master}
 use Rattle.pm_values.specs.Notifications.{notifications}
 use Rattle.pm_core.specs.Outbox.{Outputs}
@@ -40,61 +37,9 @@ use Rattle.pm_state.specs.Talk.{Talk, talked}
 use Rattle.pm_tell.specs.Opening.{forgets_from, talk_of}
 use Rattle.pm_state.specs.Units.{moved}
 use Rattle.pm_state.specs.Values.{master_place, value, point}
-use Rattle.pm_calls.specs.Verdict.{Called, asked_by, aborted_by, effecting, is_refusal, renews_all, response_of, saying, stages_of, verdict_of}
-use Rattle.pm_calls.specs.Views.{is_asked, row_view, status_view, suspend_view, proc_view, wake_view, watched}
+use Rattle.pm_calls.specs.Verdict.{Called, asked_by, aborted_by, is_refusal, renews_all, response_of, stages_of, verdict_of}
 use Rattle.pm_state.specs.Nodes.{master_mode}
-use Rattle.pm_calls.specs.calls.AbortSuspend.{abort_suspend}
-use Rattle.pm_calls.specs.calls.ForcePowerdown.{force_powerdown}
-use Rattle.pm_calls.specs.calls.GetApiVersion.{get_api_version}
-use Rattle.pm_calls.specs.calls.GetNodeStatus.{get_node_status}
-use Rattle.pm_calls.specs.calls.GetOpCharacteristic.{get_op_characteristic}
-use Rattle.pm_calls.specs.calls.InitFinalize.{init_finalize}
-use Rattle.pm_calls.specs.calls.RegisterNotifier.{register_notifier}
-use Rattle.pm_calls.specs.calls.ReleaseNode.{release_node}
-use Rattle.pm_calls.specs.calls.RequestNode.{request_node}
-use Rattle.pm_calls.specs.calls.RequestWakeup.{request_wakeup}
-use Rattle.pm_calls.specs.calls.RequestSuspend.{request_suspend}
-use Rattle.pm_calls.specs.calls.ResetAssert.{reset_assert}
-use Rattle.pm_calls.specs.calls.ResetGetStatus.{reset_get_status}
-use Rattle.pm_calls.specs.calls.SelfSuspend.{self_suspend}
-use Rattle.pm_calls.specs.calls.SetMaxLatency.{set_max_latency}
-use Rattle.pm_calls.specs.calls.SetRequirement.{set_requirement}
-use Rattle.pm_calls.specs.calls.SetWakeupSource.{set_wakeup_source}
-use Rattle.pm_calls.specs.calls.SystemShutdown.{system_shutdown}
 use Rattle.pm_tell.specs.Telling.{notes_after, tellings}
-
--- a call of the configured master at place m, over what it reads of the book: its seven checks, and what it does if
--- they hold
-abbrev pub called : ℕ → Call → State → Called
-called m GetApiVersion book = get_api_version
-called m (GetNodeStatus node) book = get_node_status (status_view m node book)
-called m (GetOpCharacteristic node characteristic) book =
-    get_op_characteristic characteristic (characteristics node book)
-called m (RegisterNotifier node event wake enable) book = register_notifier m node event enable (watched m node book)
-called m (RequestSuspend node ack latency state) book =
-    request_suspend m node ack latency state (suspend_view m node book)
-called m (SelfSuspend node address) book = self_suspend m address (proc_view m node book)
-called m (ForcePowerdown node ack) book = force_powerdown book.fixed m node ack
-called m (AbortSuspend node reason) book = abort_suspend m reason (is_asked m book) (proc_view m node book)
-called m (RequestWakeup node address ack) book = request_wakeup address ack (wake_view m node book)
-called m (SetWakeupSource target source enable) book =
-    set_wakeup_source target enable (proc_view m target book) (row_view m source book)
-called m (SystemShutdown shutdown_type subtype) book = system_shutdown book.fixed m shutdown_type subtype
-called m (RequestNode node caps ack) book = request_node caps ack (row_view m node book)
-called m (ReleaseNode node) book = release_node (row_view m node book)
-called m (SetRequirement node caps ack) book =
-    set_requirement (mode_of_master book.fixed book.now.core m) caps ack (row_view m node book)
-called m (SetMaxLatency node latency) book = set_max_latency latency (row_view m node book)
-called m (ResetAssert line action) book = reset_assert line action (line_view m line book)
-called m (ResetGetStatus line) book = reset_get_status (line_status line book)
-called m InitFinalize book = init_finalize m
-called m Unknown book = effecting (record unchecked { known = false }) (saying None)
-
--- a call of one stage at most: any but those that take processors down
-abbrev pub is_once : Call → Bool
-is_once (ForcePowerdown node ack) = false
-is_once (SystemShutdown shutdown_type subtype) = false
-is_once _ = true
 
 -- only a master that is active or suspending may call, and only while the book isn't halted
 abbrev pub may_call : ℕ → State → Bool

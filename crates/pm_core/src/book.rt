@@ -16,7 +16,7 @@ ghost use Rattle.pm_state.specs.Nodes.{master_mode, mode, row};
 
 use crate::laws::books_stay_sound;
 use crate::outbox::Outbox;
-use crate::step::{answer, take, time_of};
+use crate::step::{advance, answer, time_of};
 use pm_base::{Event, Mode, NoMemory, NodeId, Unit};
 use pm_object::Object;
 use pm_rows::Row;
@@ -58,7 +58,8 @@ impl Book {
     /// The book of an object at load: a row for each permitted pair, with what the object preallocates
     /// for it, and the first processor of the first master is active. The topology passes its check and
     /// obeys the rules on masters, and the outbox was loaded for it and for the number of masters of the
-    /// object. The outbox then holds the units that aren't 0 at load, and the start of that processor.
+    /// object. The outbox then holds the units that aren't 0 at load, and the start of that processor. It has the
+    /// room that it had, which is that of the book's chip and masters.
     ///
     /// # Errors
     ///
@@ -76,21 +77,11 @@ impl Book {
         ensures book { IfOk result (λ book. book ≡ load_of object topology) }
         ensures out { IfOk result (λ book. Holds (outputs_at_load book) out.new) }
         ensures nothing { IfErr result (λ _. IsEmpty out.new) }
-
-        // The outbox has the room that it had, which is that of the book's chip and masters.
         ensures room { KeepsRoom out.old out.new }
         ensures ready { IfOk result (λ book. HasRoomFor book out.new) }
 
-        // Exactly the permitted pairs have a row, a slave that can't be shared has one user at most, the rows
-        // know the modes of the masters, nothing is scheduled while a master is active, one that is off uses
-        // nothing, a processor that no configured master has is off, a reset line that no master may reset is
-        // released, a row that is armed names a processor of its own master, the node of a request to suspend
-        // names the master on which it is pending, and each master has notes about each unit of the chip.
+        // What holds of every book (`stays_sound`).
         ensures sound { IfOk result IsSound }
-
-        // Each slave stands in the first of its states that meets all that is required of it, each processor
-        // is at 1 exactly where it is active or suspending, and each power node is up exactly where it is
-        // held or something directly below needs power in its value.
         ensures met { IfOk result (λ book. MeetsRequirements book (λ u. value u book)) }
     {
         units_stand_in_order();
@@ -121,32 +112,21 @@ impl Book {
     /// the processor itself, or that of a slave on which a row is armed with the processor. With a tick time
     /// passes for each request to suspend. Such a request ends where its target becomes asleep or off, goes
     /// on in place of suspending or aborts, or where its time is over. No other event changes the book. The
-    /// outbox, which was loaded for the book's topology and masters, then holds what this step puts out. No
-    /// memory is taken.
+    /// outbox, which was loaded for the book's topology and masters, then holds what this step puts out, in the
+    /// room that it had. No memory is taken.
     #[tactic(auto, using(crate::proofs::Refused::refused_stays))]
     pub fn step(&mut self, event: &Event, out: &mut Outbox)
         requires room { HasRoomFor self.old out.old }
         ensures book { self.new ≡ effect event.now self.old }
         ensures fixed { self.new.fixed ≡ self.old.fixed }
         ensures out { Holds (outputs event.now self.old) out.new }
-
-        // The outbox has the room that it had, which is that of the book's chip and masters.
         ensures room { KeepsRoom out.old out.new }
         ensures ready { HasRoomFor self.new out.new }
-
         // A message that is dropped, or whose status isn't 0, changes nothing.
         ensures refused { IsTrue (is_refused event.now self.old) → self.new ≡ self.old }
 
-        // Exactly the permitted pairs have a row, a slave that can't be shared has one user at most, the rows
-        // know the modes of the masters, nothing is scheduled while a master is active, one that is off uses
-        // nothing, a processor that no configured master has is off, a reset line that no master may reset is
-        // released, a row that is armed names a processor of its own master, the node of a request to suspend
-        // names the master on which it is pending, and each master has notes about each unit of the chip.
+        // What holds of every book (`stays_sound`).
         ensures sound { IsSound self.new }
-
-        // Each slave stands in the first of its states that meets all that is required of it, each processor
-        // is at 1 exactly where it is active or suspending, and each power node is up exactly where it is
-        // held or something directly below needs power in its value.
         ensures met { MeetsRequirements self.new (λ u. value u self.new) }
     {
         units_stand_in_order();
@@ -155,15 +135,7 @@ impl Book {
         values_meet();
         out.clear();
         let count = time_of(&self.tables, event);
-        self.telling.log_modes(&self.tables);
-        self.telling.along.start(&self.tables);
-        let served = take(
-            &mut self.tables,
-            &self.caches,
-            event,
-            &mut self.telling.along,
-        );
-        self.telling.along.log(&self.tables);
+        let served = advance(&mut self.tables, &self.caches, event, &mut self.telling);
         self.caches.update(
             &self.tables,
             &self.telling.along,
@@ -202,6 +174,16 @@ impl Book {
     /// What holds of every book: its chip has passed its check and obeys the rules on masters, the book is sound and
     /// meets its requirements, and each node that needs power in its value stands directly below a power node that is
     /// up.
+    ///
+    /// That it is sound: exactly the permitted pairs have a row, a slave that can't be shared has one user at most, the
+    /// rows know the modes of the masters, nothing is scheduled while a master is active, one that is off uses nothing,
+    /// a processor that no configured master has is off, a reset line that no master may reset is released, a row that
+    /// is armed names a processor of its own master, the node of a request to suspend names the master on which it is
+    /// pending, and each master has notes about each unit of the chip.
+    ///
+    /// That it meets its requirements: each slave stands in the first of its states that meets all that is required of
+    /// it, each processor is at 1 exactly where it is active or suspending, and each power node is up exactly where it
+    /// is held or something directly below needs power in its value.
     pub fn stays_sound(&self)
         ensures formed { IsWellFormed self.now.fixed.topology }
         ensures masters { ObeysMasterRules self.now.fixed.topology }

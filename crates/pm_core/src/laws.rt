@@ -17,26 +17,14 @@ use pm_procs::{modes_of_masters, requests_of_masters};
 use pm_rows::{rows_know_modes, rows_stay_sound, shifts_leave_others};
 use pm_state::loads_are_sound;
 
-/// The book at load is sound, each event keeps a book so, and in a sound book a master has a row on a
-/// slave exactly where the object permits the pair.
+/// The book at load is sound, each event keeps a book so, in a sound book a master has a row on a slave
+/// exactly where the object permits the pair, and after a restart of all a sound book is the book at load.
 pub fn books_stay_sound()
     ensures load { (object : Object) (topology : Topology) → IsSound (load_of object topology) }
     ensures step { (event : Event) (book : State) → IsSound book → IsSound (effect event book) }
     ensures permitted { (master slave : NodeId) (book : State) → IsSound book
         → is_some (row master slave book) ≡ may_use (in_force book) book.fixed.topology master slave }
-{
-    rows_stay_sound();
-    rows_know_modes();
-    shifts_leave_others();
-    modes_of_masters();
-    requests_of_masters();
-    notes_stand_in_order();
-    loads_are_sound();
-}
-
-/// After a restart of all a sound book is the book at load.
-pub fn restarts_load()
-    ensures { (event : Event) (book : State) → IsSound book → renews event book ≡ true
+    ensures restart { (event : Event) (book : State) → IsSound book → renews event book ≡ true
         → effect event book ≡ load_of (in_force book) book.fixed.topology }
 {
     rows_stay_sound();
@@ -45,4 +33,5 @@ pub fn restarts_load()
     modes_of_masters();
     requests_of_masters();
     notes_stand_in_order();
+    loads_are_sound();
 }

@@ -10,7 +10,7 @@ mod replies;
 mod step;
 
 pub use book::Book;
-pub use laws::{books_stay_sound, restarts_load};
+pub use laws::books_stay_sound;
 pub use outbox::{Done, Outbox};
 pub use pm_state::members_are_owned;
 pub use pm_tell::{Callback, Late};

@@ -1,26 +1,21 @@
 //! What one event does to the book, and how it is answered.
 
-ghost use Rattle.std.specs.Prelude.{◌≡◌, true, false};
+ghost use Rattle.std.specs.Prelude.{◌≡◌, false, length};
 ghost use Rattle.pm_ipi.specs.Calls.{ack_of, node_of};
 ghost use Rattle.pm_values.specs.Caches.{AreKept};
 ghost use Rattle.pm_state.specs.Stages.{after_stages, path_from};
-ghost use Rattle.pm_core.specs.Step.{acknowledged, answer_by, answer_of, call_in, called, may_call, is_ipi, is_once, message_stages, path, served, stages, time_of, verdict};
-ghost use Rattle.pm_calls.specs.Verdict.{stages_of, verdict_of};
-ghost use Rattle.pm_values.specs.Along.{Completes, trail_from};
+ghost use Rattle.pm_core.specs.Step.{acknowledged, answer_by, answer_of, call_in, may_call, is_ipi, message_stages, path, served, stages, time_of, verdict};
+ghost use Rattle.pm_state.specs.State.{in_force};
+ghost use Rattle.pm_tell.specs.Telling.{HasPlaces};
+ghost use Rattle.pm_values.specs.Along.{Completes, IsTrail, modes_of, trail_from};
 
 use crate::replies::Answer;
 use pm_base::{Event, NodeId};
-use pm_calls::{
-    Verdict, abort_suspend, boot, force_powerdown, get_api_version, get_node_status,
-    get_op_characteristic, init_finalize, interrupt, raise, register_notifier, release_node,
-    request_node, request_suspend, request_wakeup, reset_assert, reset_get_status, self_suspend,
-    set_max_latency, set_requirement, set_wakeup_source, system_shutdown, wait,
-};
-use pm_ipi::status::NO_FEATURE;
+use pm_calls::{Verdict, boot, interrupt, raise, serve, wait};
 use pm_ipi::{AckKind, Call, Response, decode_call};
 use pm_procs::is_awake;
 use pm_state::Tables;
-use pm_tell::Served;
+use pm_tell::{Served, Telling};
 use pm_values::{Along, Caches, point};
 
 /// The time that passes with an event: none while the book is halted.
@@ -39,14 +34,33 @@ pub(crate) fn time_of(tables: &Tables, event: &Event) -> Option<u32>
     }
 }
 
-/// One event: the book after its stages, and the verdict on a message. Logging the modes after it completes
-/// what was logged along the step.
-pub(crate) fn take(
+/// One event: the book after its stages, the verdict on a message, and what is logged of the step until the masters are
+/// told of it: their modes before it, and what became of those along it.
+pub(crate) fn advance(
     tables: &mut Tables,
     caches: &Caches,
     event: &Event,
-    along: &mut Along,
+    telling: &mut Telling,
 ) -> Option<Served>
+    requires kept { AreKept tables.old caches.now }
+    requires places { HasPlaces tables.old.fixed.topology (length (in_force tables.old).masters) telling.old }
+    ensures book { tables.new ≡ after_stages (stages event.now tables.old) tables.old }
+    ensures served { result ≡ served event.now tables.old }
+    ensures modes { telling.new.modes.items ≡ modes_of tables.old }
+    ensures along { IsTrail tables.old (path event.now tables.old) telling.new.along }
+    ensures places { HasPlaces tables.new.fixed.topology (length (in_force tables.new).masters) telling.new }
+    ensures ended { telling.new.ended ≡ telling.old.ended }
+    ensures notices { telling.new.notices ≡ telling.old.notices }
+{
+    telling.log_modes(tables);
+    telling.along.start(tables);
+    let served = take(tables, caches, event, &mut telling.along);
+    telling.along.log(tables);
+    served
+}
+
+/// Its stages and its verdict. Logging the modes after them completes what was logged along the step.
+fn take(tables: &mut Tables, caches: &Caches, event: &Event, along: &mut Along) -> Option<Served>
     requires kept { AreKept tables.old caches.now }
     requires along { along.old ≡ trail_from tables.old }
     ensures book { tables.new ≡ after_stages (stages event.now tables.old) tables.old }
@@ -112,80 +126,6 @@ fn may_call(tables: &Tables, m: usize) -> bool
     ensures { result ≡ may_call m tables.now }
 {
     !tables.is_halted() && is_awake(tables.mode_of_master(m))
-}
-
-/// One call. The modes are logged between its stages.
-fn serve(
-    tables: &mut Tables,
-    caches: &Caches,
-    master: usize,
-    call: Call,
-    along: &mut Along,
-) -> Verdict
-    requires kept { AreKept tables.old caches.now }
-    requires along { along.old ≡ trail_from tables.old }
-    ensures verdict { result ≡ verdict_of (called master call tables.old) }
-    ensures book { tables.new ≡ after_stages (stages_of (called master call tables.old)) tables.old }
-    ensures along { Completes tables.old
-        (path_from (stages_of (called master call tables.old)) tables.old) tables.new along.new }
-{
-    match call {
-        Call::ForcePowerdown { node, ack } => force_powerdown(tables, master, node, ack, along),
-        Call::SystemShutdown {
-            shutdown_type,
-            subtype,
-        } => system_shutdown(tables, master, shutdown_type, subtype, along),
-        _ => serve_once(tables, caches, master, call),
-    }
-}
-
-/// A call of one stage at most.
-fn serve_once(tables: &mut Tables, caches: &Caches, master: usize, call: Call) -> Verdict
-    requires kept { AreKept tables.old caches.now }
-    requires once { is_once call ≡ true }
-    ensures verdict { result ≡ verdict_of (called master call tables.old) }
-    ensures book { tables.new ≡ after_stages (stages_of (called master call tables.old)) tables.old }
-{
-    match call {
-        Call::GetApiVersion => get_api_version(),
-        Call::GetNodeStatus { node } => get_node_status(tables, caches, master, node),
-        Call::GetOpCharacteristic {
-            node,
-            characteristic,
-        } => get_op_characteristic(tables, caches, node, characteristic),
-        Call::RegisterNotifier {
-            node,
-            event,
-            enable,
-            ..
-        } => register_notifier(tables, master, node, event, enable),
-        Call::RequestSuspend {
-            node,
-            ack,
-            latency,
-            state,
-        } => request_suspend(tables, master, node, ack, latency, state),
-        Call::SelfSuspend { node, address } => self_suspend(tables, master, node, address),
-        Call::AbortSuspend { node, reason } => abort_suspend(tables, master, node, reason),
-        Call::RequestWakeup { node, address, ack } => {
-            request_wakeup(tables, master, node, address, ack)
-        }
-        Call::SetWakeupSource {
-            target,
-            source,
-            enable,
-        } => set_wakeup_source(tables, master, target, source, enable),
-        Call::RequestNode { node, caps, ack } => request_node(tables, master, node, caps, ack),
-        Call::ReleaseNode { node } => release_node(tables, master, node),
-        Call::SetRequirement { node, caps, ack } => {
-            set_requirement(tables, master, node, caps, ack)
-        }
-        Call::SetMaxLatency { node, latency } => set_max_latency(tables, master, node, latency),
-        Call::ResetAssert { line, action } => reset_assert(tables, master, line, action),
-        Call::ResetGetStatus { line } => reset_get_status(tables, line),
-        Call::InitFinalize => init_finalize(tables, master),
-        _ => Verdict::refused(NO_FEATURE),
-    }
 }
 
 /// What the sender of a message gets by the verdict on it, in the book after it.

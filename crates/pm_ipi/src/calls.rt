@@ -1,6 +1,6 @@
 //! The calls by their words (UG1200, API calls).
 
-ghost use Rattle.std.specs.Prelude.{◌≡◌, option_map};
+ghost use Rattle.std.specs.Prelude.{◌≡◌, ◌≤◌, option_map};
 ghost use Rattle.pm_ipi.specs.Calls.{acknowledge_of, call_of, address_of, wake_address, ack_kind, ack_of, node_of};
 
 use pm_base::{Caps, LineId, Message, NodeId};
@@ -112,8 +112,6 @@ pub fn decode_call(message: &Message) -> Call
 {
     let args = message.args;
     let node = NodeId(args[0]);
-    let caps = Caps(args[1]);
-    let ack = args[3];
     match message.api {
         1 => Call::GetApiVersion,
         3 => Call::GetNodeStatus { node },
@@ -127,6 +125,22 @@ pub fn decode_call(message: &Message) -> Call
             wake: args[2],
             enable: args[3],
         },
+        6..=12 => decode_suspend_call(message),
+        13..=18 => decode_slave_call(message),
+        21 => Call::InitFinalize,
+        _ => Call::Unknown,
+    }
+}
+
+/// A call by which masters and processors suspend, wake and go off.
+fn decode_suspend_call(message: &Message) -> Call
+    requires least { 6 ≤ message.now.api }
+    requires most { message.now.api ≤ 12 }
+    ensures { result ≡ call_of message.now }
+{
+    let args = message.args;
+    let node = NodeId(args[0]);
+    match message.api {
         6 => Call::RequestSuspend {
             node,
             ack: args[1],
@@ -145,17 +159,32 @@ pub fn decode_call(message: &Message) -> Call
         10 => Call::RequestWakeup {
             node,
             address: wake_address(args[1], args[2]),
-            ack,
+            ack: args[3],
         },
         11 => Call::SetWakeupSource {
             target: node,
             source: NodeId(args[1]),
             enable: args[2],
         },
-        12 => Call::SystemShutdown {
+        _ => Call::SystemShutdown {
             shutdown_type: args[0],
             subtype: args[1],
         },
+    }
+}
+
+/// A call on a slave or a reset line.
+fn decode_slave_call(message: &Message) -> Call
+    requires least { 13 ≤ message.now.api }
+    requires most { message.now.api ≤ 18 }
+    ensures { result ≡ call_of message.now }
+{
+    let args = message.args;
+    let node = NodeId(args[0]);
+    let line = LineId(args[0]);
+    let caps = Caps(args[1]);
+    let ack = args[3];
+    match message.api {
         13 => Call::RequestNode { node, caps, ack },
         14 => Call::ReleaseNode { node },
         15 => Call::SetRequirement { node, caps, ack },
@@ -164,14 +193,10 @@ pub fn decode_call(message: &Message) -> Call
             latency: args[1],
         },
         17 => Call::ResetAssert {
-            line: LineId(args[0]),
+            line,
             action: args[1],
         },
-        18 => Call::ResetGetStatus {
-            line: LineId(args[0]),
-        },
-        21 => Call::InitFinalize,
-        _ => Call::Unknown,
+        _ => Call::ResetGetStatus { line },
     }
 }
 

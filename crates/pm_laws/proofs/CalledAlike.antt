@@ -25,7 +25,8 @@ use Rattle.pm_laws.specs.Answers.{all_beyond, names_beyond}
 use Rattle.pm_laws.proofs.CallsAlike.{asked_agrees, book_of, entries_alike, entry_alike, proc_views_agree, row_views_agree, rows_both, suspend_views_agree, watched_same}
 use Rattle.pm_laws.proofs.FollowLaw.{mode_alike, proc_alike}
 use Rattle.pm_laws.proofs.Places.{Both-any}
-use Rattle.pm_laws.specs.Shapes.{Shape, Node_status, Node_figures, Line_value, Own_row, Own_arming, Own_suspend, Own_abort, Own_notifier, Other_wakeup, Other_suspend, shape_of, shaped, telling}
+use Rattle.pm_calls.specs.calls.{shape_of}
+use Rattle.pm_calls.specs.Shapes.{Shape, Node_status, Node_figures, Line_value, Own_row, Own_arming, Own_suspend, Own_abort, Own_notifier, Other_wakeup, Other_suspend, shaped, telling}
 use Rattle.pm_laws.proofs.ShapesLaw.{called_shaped, named_shaped, names_of}
 use Rattle.pm_laws.proofs.ValuesLaw.{kind_alike, line_alike, mode_same}
 

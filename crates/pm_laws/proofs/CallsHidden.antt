@@ -27,7 +27,8 @@ use Rattle.pm_calls.specs.calls.SetWakeupSource.{arming, set_wakeup_source}
 use Rattle.pm_laws.proofs.ResetLaw.{reset_hidden}
 use Rattle.pm_laws.proofs.DownHidden.{force_hidden, shutdown_hidden}
 use Rattle.pm_laws.proofs.HiddenLemmas.{HasClosed, one_hidden, within_by}
-use Rattle.pm_laws.specs.Shapes.{Shape, Own_row, Own_arming, Own_holds, Own_suspend, Own_abort, Other_wakeup, Other_suspend, All_forced, All_shut, All_reset, shape_of, shaped}
+use Rattle.pm_calls.specs.calls.{shape_of}
+use Rattle.pm_calls.specs.Shapes.{Shape, Own_row, Own_arming, Own_holds, Own_suspend, Own_abort, Other_wakeup, Other_suspend, All_forced, All_shut, All_reset, shaped}
 use Rattle.pm_laws.proofs.ShapesLaw.{IsUnarmed, called_shaped, shape_unarmed}
 
 -- a call hides if its changes do

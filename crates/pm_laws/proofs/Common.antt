@@ -10,7 +10,8 @@ pub use Rattle.pm_state.specs.Members.{is_place, members_of, mode_of_master, own
 pub use Rattle.pm_state.specs.Prims.{At_row, Clear, Halt, Prim, Put_line, Put_proc, Reload, Settle, Shift, applies, apply, changed, proc_put, procs_with}
 pub use Rattle.pm_state.specs.Sound.{AreNamed, ArmsOwn, HasNotes, IsSound, KnowsModes, MeetsRequirements, arms_own, is_armed_own, is_own}
 pub use Rattle.pm_state.specs.State.{CoreHalf, Fixed, Now, State, TalkHalf, in_force}
-pub use Rattle.pm_core.specs.Step.{acknowledged, answer_of, answered, call_in, called, effect, ended, forgets, call_at, may_call, message_stages, modes_in, news, opening, outputs, path, pulse, says, served, stages, talk, time_of, verdict}
+pub use Rattle.pm_calls.specs.calls.{called}
+pub use Rattle.pm_core.specs.Step.{acknowledged, answer_of, answered, call_in, effect, ended, forgets, call_at, may_call, message_stages, modes_in, news, opening, outputs, path, pulse, says, served, stages, talk, time_of, verdict}
 pub use Rattle.pm_tell.specs.Telling.{notes_after}
 pub use Rattle.pm_state.specs.Values.{chosen, forest, line_at, master_place, need_of, point, point_at, proc_child, runs, slave_child, state_at, value, value_at, value_in}
 pub use Rattle.pm_calls.specs.Verdict.{Called, aborted_by, asked_by, changing, pulse_of, response_of, says_of, stages_by, stages_of, verdict_by, verdict_of}

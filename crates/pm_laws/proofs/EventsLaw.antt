@@ -9,7 +9,8 @@ use Rattle.pm_procs.specs.declared.procs.Proc.{Proc as Processor}
 use Rattle.pm_topology.specs.declared.places.Kind.TheVariants.{Proc}
 use Rattle.pm_calls.specs.Events.{boot, boot_at, boot_by, booted, wait, wait_at, wait_by, waits, interrupt, interrupt_at, interrupt_by, raised}
 use Rattle.pm_state.specs.Members.{owns}
-use Rattle.pm_laws.specs.Shapes.{Shape, Own_row, Other_wakeup, shape_of}
+use Rattle.pm_calls.specs.calls.{shape_of}
+use Rattle.pm_calls.specs.Shapes.{Shape, Own_row, Other_wakeup}
 use Rattle.pm_laws.proofs.CallsAlike.{alike_of, book_of, call_alike, kept}
 use Rattle.pm_laws.proofs.CallsHidden.{caller_hidden, slave_hidden, turned}
 use Rattle.pm_laws.proofs.MayCallLaw.{heard_same}

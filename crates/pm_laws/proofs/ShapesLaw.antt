@@ -6,7 +6,8 @@ use Rattle.pm_ipi.specs.declared.calls.AckKind.TheVariants.{Blocking}
 use Rattle.pm_ipi.specs.declared.calls.Call.{Call}
 use Rattle.pm_ipi.specs.declared.calls.Call.TheVariants.{GetApiVersion}
 use Rattle.pm_ipi.specs.Calls.{ack_of, row_of}
-use Rattle.pm_laws.specs.Shapes.{Shape, Constant, Node_status, Node_figures, Line_value, Own_row, Own_arming, Own_holds, Own_suspend, Own_abort, Own_notifier, Other_wakeup, Other_suspend, All_forced, shape_of, shaped}
+use Rattle.pm_calls.specs.calls.{shape_of}
+use Rattle.pm_calls.specs.Shapes.{Shape, Constant, Node_status, Node_figures, Line_value, Own_row, Own_arming, Own_holds, Own_suspend, Own_abort, Own_notifier, Other_wakeup, Other_suspend, All_forced, shaped}
 
 -- the nodes that a call of a shape names, and the reset line whose value it tells
 abbrev pub names_of : Shape → List Unit

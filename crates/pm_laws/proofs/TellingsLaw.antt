@@ -22,7 +22,7 @@ use Rattle.pm_laws.proofs.NoticesLaw.{acks_beyond, ended_names, notices_alike, n
 use Rattle.pm_laws.proofs.MayCallLaw.{heard_same}
 use Rattle.pm_laws.proofs.OpeningLaw.{opening_alike, opening_hidden, parts_alike}
 use Rattle.pm_laws.proofs.PathLaw.{stages_alike, stages_hidden}
-use Rattle.pm_laws.specs.Shapes.{shape_of}
+use Rattle.pm_calls.specs.calls.{shape_of}
 use Rattle.pm_laws.proofs.ShapesLaw.{reader_replies, reads_within}
 use Rattle.pm_laws.proofs.TalkFacts.{talks_alike}
 use Rattle.pm_laws.proofs.VerdictsLaw.{event_within, none_asked, says_alike}

@@ -12,7 +12,8 @@ use Rattle.pm_state.specs.State.{State, in_force}
 use Rattle.pm_state.specs.Values.{master_place, slave_place}
 use Rattle.pm_state.specs.Nodes.{named_master}
 use Rattle.pm_laws.specs.Border.{Border}
-use Rattle.pm_laws.specs.Shapes.{Shape, Own_row, Other_wakeup, Other_suspend, shape_of}
+use Rattle.pm_calls.specs.calls.{shape_of}
+use Rattle.pm_calls.specs.Shapes.{Shape, Own_row, Other_wakeup, Other_suspend}
 
 -- the master at this place is within reach, or there is none
 abbrev pub is_within : Border → Option ℕ → Bool

@@ -13,7 +13,6 @@ pub mod ReachBorder
 pub mod Runs
 pub mod Seen
 pub mod SeenTalk
-pub mod Shapes
 pub mod Told
 pub mod Values
 pub mod Worlds

@@ -28,6 +28,13 @@ pub fn quiet_event(m: NodeId, event: &Event) -> Event
 /// One core event in the one of two books, and in the other the same event, or nothing where it is a message of a master. The
 /// books have one object, which is well formed and has the master, and one chip, and agree beyond the reach of the
 /// master; both outboxes were loaded for them. What is beyond that reach can't tell the two apart. No memory is taken.
+///
+/// Beyond it they have the same values and modes, and the same is told: the same units move, the same processors start, at
+/// the same addresses, and the same reset line is pulsed, or none; the same is asked of masters there, the same requests to
+/// them end, with the same late replies, and they are called back alike, but for what is about nodes within; the message of
+/// a master there is dropped in both or in neither, and where its call names nothing within, it is answered the same.
+///
+/// Each outbox has the room that it had, which is that of the books' chip and masters.
 pub fn step_both(
     a: &mut Book,
     b: &mut Book,
@@ -51,17 +58,11 @@ pub fn step_both(
     // They have one object and one chip as before, and agree beyond the reach.
     ensures fixed { a.new.fixed ≡ a.old.fixed }
     ensures agree { Agree (border_in a.old m) a.new b.new }
-
-    // Beyond it they have the same values and modes, and the same is told: the same units move, the same processors start, at
-    // the same addresses, and the same reset line is pulsed, or none; the same is asked of masters there, the same requests to
-    // them end, with the same late replies, and they are called back alike, but for what is about nodes within; the message of
-    // a master there is dropped in both or in neither, and where its call names nothing within, it is answered the same.
+    // The same beyond the reach.
     ensures values { IsValueAlike a.old.fixed.object a.old.fixed.topology (border_in a.old m) a.new b.new }
     ensures modes { IsModeAlike a.old.fixed.object a.old.fixed.topology (border_in a.old m) a.new b.new }
     ensures told { SameTold a.old.fixed.object a.old.fixed.topology (border_in a.old m)
         (stepped event.now a.old a.new oa.new) (stepped (quiet_event m event.now) b.old b.new ob.new) }
-
-    // Each outbox has the room that it had, which is that of the books' chip and masters.
     ensures kept_a { KeepsRoom oa.old oa.new }
     ensures kept_b { KeepsRoom ob.old ob.new }
     ensures ready_a { HasRoomFor a.new oa.new }

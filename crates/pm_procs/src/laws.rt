@@ -13,9 +13,11 @@ ghost use Rattle.pm_procs.specs.Procs.{all_off, all_turned_off, has_member, mast
 /// processors is, off where all are, and all are off at load, and after all of them went off.
 pub fn modes_of_masters()
     ensures goes { (p : ℕ) (to : Mode) (procs : List Proc) → p < length procs → mode_at p (with_mode p to procs) ≡ to }
-    ensures others { (p q : ℕ) (to : Mode) (procs : List Proc) → q ≢ p → proc_at q (with_mode p to procs) ≡ proc_at q procs }
+    ensures others { (p q : ℕ) (to : Mode) (procs : List Proc) → q ≢ p
+        → proc_at q (with_mode p to procs) ≡ proc_at q procs }
     ensures apart { (m p : ℕ) (to : Mode) (members : List (List ℕ)) (procs : List Proc)
-        → has_member m p members ≡ false → master_mode_in m members (with_mode p to procs) ≡ master_mode_in m members procs }
+        → has_member m p members ≡ false
+        → master_mode_in m members (with_mode p to procs) ≡ master_mode_in m members procs }
     ensures address { (m p a : ℕ) (members : List (List ℕ)) (procs : List Proc)
         → master_mode_in m members (with_address p a procs) ≡ master_mode_in m members procs }
     ensures active { (m p : ℕ) (members : List (List ℕ)) (procs : List Proc)
@@ -38,16 +40,20 @@ pub fn requests_of_masters()
     ensures asks_one { (m n : ℕ) (request : Pending) (pending : List (Option Pending))
         → n ≢ m → pending_at n (asked m request pending) ≡ pending_at n pending }
     ensures ends { (m : ℕ) (pending : List (Option Pending)) → pending_at m (ended m pending) ≡ None }
-    ensures ends_one { (m n : ℕ) (pending : List (Option Pending)) → n ≢ m → pending_at n (ended m pending) ≡ pending_at n pending }
+    ensures ends_one { (m n : ℕ) (pending : List (Option Pending)) → n ≢ m
+        → pending_at n (ended m pending) ≡ pending_at n pending }
     ensures passes { (m count : ℕ) (pending : List (Option Pending))
         → pending_at m (all_lowered count pending) ≡ option_map (lowered count) (pending_at m pending) }
     ensures adds { (first second : ℕ) (pending : List (Option Pending))
         → all_lowered second (all_lowered first pending) ≡ all_lowered (first + second) pending }
-    ensures due { (first second : ℕ) (request : Pending) → is_due second (lowered first request) ≡ is_due (first + second) request }
+    ensures due { (first second : ℕ) (request : Pending)
+        → is_due second (lowered first request) ≡ is_due (first + second) request }
     ensures load { (m masters : ℕ) → pending_at m (none_pending masters) ≡ None }
     ensures renew { (pending : List (Option Pending)) → all_ended pending ≡ none_pending (length pending) }
-    ensures length_asked { (m : ℕ) (request : Pending) (pending : List (Option Pending)) → length (asked m request pending) ≡ length pending }
+    ensures length_asked { (m : ℕ) (request : Pending) (pending : List (Option Pending))
+        → length (asked m request pending) ≡ length pending }
     ensures length_ended { (m : ℕ) (pending : List (Option Pending)) → length (ended m pending) ≡ length pending }
-    ensures length_lowered { (count : ℕ) (pending : List (Option Pending)) → length (all_lowered count pending) ≡ length pending }
+    ensures length_lowered { (count : ℕ) (pending : List (Option Pending))
+        → length (all_lowered count pending) ≡ length pending }
     ensures length_load { (masters : ℕ) → length (none_pending masters) ≡ masters }
 {}

@@ -79,7 +79,8 @@ fn line_at(out: &Outbox, k: usize) -> Option<StepLine>
 
 /// The element at a place, or else how far the place is past the last one.
 fn at<T: Copy>(items: &[T], k: usize) -> Result<T, usize>
-    ensures { MatchResult result (λ item. slice_get items.now k ≡ Some item) (λ past. (slice_get items.now k ≡ None) × (past ≡ k - length items.now)) }
+    ensures { MatchResult result (λ item. slice_get items.now k ≡ Some item) (λ past. (slice_get items.now k ≡ None)
+        × (past ≡ k - length items.now)) }
 {
     match items.get(k) {
         Some(item) => Ok(*item),

@@ -111,31 +111,26 @@ impl Caches {
     {
         units_stand_in_order();
         kinds_are_exact();
-        let procs = tables.procs();
-        let resets = tables.resets();
-        let rows = tables.rows();
         choose(tables, &mut self.states, &mut self.needs);
         log_runs(tables, &mut self.runs);
         self.power.recompute(&self.needs, &self.runs);
-        log_starts(along, &self.kinds, procs, &self.values, starts);
+        let ups = self.power.ups();
+        log_starts(along, &self.kinds, tables.procs(), &self.values, starts);
         notices.clear();
         log_notices(
+            tables,
             &self.kinds,
             &self.states,
-            procs,
-            self.power.ups(),
-            resets,
+            ups,
             &self.used,
-            rows,
             &self.values,
             notices,
         );
         log_moves(
+            tables,
             &self.kinds,
             &self.states,
-            procs,
-            self.power.ups(),
-            resets,
+            ups,
             &mut self.values,
             moved,
         );

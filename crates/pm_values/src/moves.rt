@@ -9,28 +9,32 @@ use crate::caches::UnitKind;
 use pm_base::{BoundedList, Unit, at_or};
 use pm_procs::{Proc, Procs, is_awake};
 use pm_resets::Resets;
+use pm_state::Tables;
 use pm_topology::{Kind, UnitMap};
 
 /// Writes the value of each unit by its kind, and puts those units into `moved` whose value isn't the
 /// one before.
 pub(crate) fn log_moves(
+    tables: &Tables,
     kinds: &[UnitKind],
     states: &[u32],
-    procs: &Procs,
     ups: &[bool],
-    resets: &Resets,
     values: &mut UnitMap<u32>,
     moved: &mut BoundedList<Unit>,
 )
     requires places { length kinds.now ≡ length values.old }
     requires room { length moved.old.items + length values.old ≤ moved.old.room }
     ensures values { values.new
-        ≡ revalued (unit_value states.now procs.now.procs ups.now resets.now) kinds.now values.old }
+        ≡ revalued (unit_value states.now tables.now.now.core.procs ups.now tables.now.now.core.lines)
+        kinds.now values.old }
     ensures moved { moved.new ≡ record moved.old {
       items = moved.old.items
-          ++ moved_by (unit_value states.now procs.now.procs ups.now resets.now) kinds.now values.old;
+          ++ moved_by (unit_value states.now tables.now.now.core.procs ups.now tables.now.now.core.lines)
+          kinds.now values.old;
     } }
 {
+    let procs = tables.procs();
+    let resets = tables.resets();
     for (k, kind) in kinds.iter().enumerate() {
         log_move(
             k,

@@ -10,8 +10,6 @@ use crate::caches::UnitKind;
 use crate::moves::unit_value;
 use pm_base::{BoundedList, NodeId, Unit, at_or};
 use pm_notify::{Note, Waiting};
-use pm_procs::Procs;
-use pm_resets::Resets;
 use pm_rows::Rows;
 use pm_state::Tables;
 use pm_topology::{Kind, UnitMap};
@@ -19,13 +17,11 @@ use pm_topology::{Kind, UnitMap};
 /// Puts what happened to each unit into `notices`, in the order of the units: that its value isn't the one
 /// before, and then that it was used and is used no more.
 pub(crate) fn log_notices(
+    tables: &Tables,
     kinds: &[UnitKind],
     states: &[u32],
-    procs: &Procs,
     ups: &[bool],
-    resets: &Resets,
     used: &[bool],
-    rows: &Rows,
     values: &UnitMap<u32>,
     notices: &mut BoundedList<Waiting>,
 )
@@ -33,11 +29,14 @@ pub(crate) fn log_notices(
     requires room { length notices.old.items + notice_count (length values.now) ≤ notices.old.room }
     ensures notices { notices.new ≡ record notices.old {
       items = notices.old.items
-          ++ noticed_by (unit_value states.now procs.now.procs ups.now resets.now) (freed_by used.now rows.now)
-          kinds.now values.now;
+          ++ noticed_by (unit_value states.now tables.now.now.core.procs ups.now tables.now.now.core.lines)
+          (freed_by used.now tables.now.now.core.rows) kinds.now values.now;
     } }
     ensures few { length notices.new.items ≤ length notices.old.items + notice_count (length values.now) }
 {
+    let procs = tables.procs();
+    let resets = tables.resets();
+    let rows = tables.rows();
     for (k, kind) in kinds.iter().enumerate() {
         let value = unit_value(*kind, states, procs, ups, resets);
         let freed = freed(*kind, used, rows);

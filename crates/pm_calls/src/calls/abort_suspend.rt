@@ -20,7 +20,7 @@ fn is_reason(reason: u32) -> bool
 }
 
 /// The caller's processor doesn't suspend any more, and a request that the caller suspends ends.
-pub fn abort_suspend(tables: &mut Tables, master: usize, node: NodeId, reason: u32) -> Verdict
+pub fn serve(tables: &mut Tables, master: usize, node: NodeId, reason: u32) -> Verdict
     ensures verdict { result
         ≡ verdict_of (abort_suspend master reason (is_asked master tables.old) (proc_view master node tables.old)) }
     ensures book { tables.new

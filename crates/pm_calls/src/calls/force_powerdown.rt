@@ -19,7 +19,7 @@ use pm_values::Along;
 
 /// Each processor that is the node or is below it goes off, and then all rows on the slaves below it are
 /// cleared but for their presets.
-pub fn force_powerdown(
+pub fn serve(
     tables: &mut Tables,
     master: usize,
     node: NodeId,

@@ -10,7 +10,7 @@ use crate::verdict::Verdict;
 const API_VERSION: u32 = 0x1_0001;
 
 /// Tells the version of the interface.
-pub fn get_api_version() -> Verdict
+pub fn serve() -> Verdict
     ensures { result ≡ verdict_of get_api_version }
 {
     Verdict::told([API_VERSION, 0, 0])

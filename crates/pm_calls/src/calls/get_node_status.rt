@@ -14,7 +14,7 @@ use pm_state::Tables;
 use pm_values::Caches;
 
 /// Tells the state of a slave, the caller's capabilities wanted, and who uses it.
-pub fn get_node_status(tables: &Tables, caches: &Caches, master: usize, node: NodeId) -> Verdict
+pub fn serve(tables: &Tables, caches: &Caches, master: usize, node: NodeId) -> Verdict
     requires { AreKept tables.now caches.now }
     ensures { result ≡ verdict_of (get_node_status (status_view master node tables.now)) }
 {

@@ -20,12 +20,7 @@ const TEMPERATURE: u32 = 2;
 const LATENCY: u32 = 3;
 
 /// Tells the power figure or the latency of a node as it stands. Of a temperature nothing is known.
-pub fn get_op_characteristic(
-    tables: &Tables,
-    caches: &Caches,
-    node: NodeId,
-    characteristic: u32,
-) -> Verdict
+pub fn serve(tables: &Tables, caches: &Caches, node: NodeId, characteristic: u32) -> Verdict
     requires { AreKept tables.now caches.now }
     ensures { result ≡ verdict_of (get_op_characteristic characteristic (characteristics node tables.now)) }
 {

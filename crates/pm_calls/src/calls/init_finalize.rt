@@ -9,7 +9,7 @@ use crate::verdict::Verdict;
 use pm_state::Tables;
 
 /// The caller's holds are dropped.
-pub fn init_finalize(tables: &mut Tables, master: usize) -> Verdict
+pub fn serve(tables: &mut Tables, master: usize) -> Verdict
     ensures verdict { result ≡ verdict_of (init_finalize master) }
     ensures book { tables.new ≡ after_stages (stages_of (init_finalize master)) tables.old }
 {

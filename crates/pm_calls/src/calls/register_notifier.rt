@@ -34,13 +34,7 @@ fn may_watch(view: &Watched) -> bool
 }
 
 /// The caller is told of the event of the node from now on, or not any more.
-pub fn register_notifier(
-    tables: &Tables,
-    master: usize,
-    node: NodeId,
-    event: u32,
-    enable: u32,
-) -> Verdict
+pub fn serve(tables: &Tables, master: usize, node: NodeId, event: u32, enable: u32) -> Verdict
     ensures { result ≡ verdict_of (register_notifier master node event enable (watched master node tables.now)) }
 {
     let view = watched_node(tables, master, node);

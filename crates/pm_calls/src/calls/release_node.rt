@@ -14,7 +14,7 @@ use pm_rows::Change;
 use pm_state::Tables;
 
 /// The caller doesn't use the slave any more.
-pub fn release_node(tables: &mut Tables, master: usize, node: NodeId) -> Verdict
+pub fn serve(tables: &mut Tables, master: usize, node: NodeId) -> Verdict
     ensures verdict { result ≡ verdict_of (release_node (row_view master node tables.old)) }
     ensures book { tables.new ≡ after_stages (stages_of (release_node (row_view master node tables.old))) tables.old }
 {

@@ -16,13 +16,7 @@ use pm_rows::Change;
 use pm_state::Tables;
 
 /// The caller uses the slave from now on, with these capabilities.
-pub fn request_node(
-    tables: &mut Tables,
-    master: usize,
-    node: NodeId,
-    caps: Caps,
-    ack: u32,
-) -> Verdict
+pub fn serve(tables: &mut Tables, master: usize, node: NodeId, caps: Caps, ack: u32) -> Verdict
     ensures verdict { result ≡ verdict_of (request_node caps ack (row_view master node tables.old)) }
     ensures book { tables.new
         ≡ after_stages (stages_of (request_node caps ack (row_view master node tables.old))) tables.old }

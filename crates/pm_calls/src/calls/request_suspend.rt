@@ -15,7 +15,7 @@ use pm_state::Tables;
 
 /// The target is asked to suspend. The caller is answered when the request ends. The target hears how
 /// long it may take to be back, and the state that is asked for.
-pub fn request_suspend(
+pub fn serve(
     tables: &Tables,
     master: usize,
     node: NodeId,

@@ -15,7 +15,7 @@ use pm_state::Tables;
 
 /// A processor of the caller, or of a master that it may wake, is active from now on. It resumes at
 /// the address, or where it was to resume if there is none.
-pub fn request_wakeup(
+pub fn serve(
     tables: &mut Tables,
     master: usize,
     node: NodeId,

@@ -36,7 +36,7 @@ fn pulsed(action: u32, line: LineId) -> Option<LineId>
 /// The line is released, asserted or pulsed. An asserted line is at 1, and a pulsed one at 0 after its
 /// pulse. The processor that an asserted or pulsed line resets, if it resets one, goes off; released
 /// it stays off. A slave that is reset keeps its state.
-pub fn reset_assert(tables: &mut Tables, master: usize, line: LineId, action: u32) -> Verdict
+pub fn serve(tables: &mut Tables, master: usize, line: LineId, action: u32) -> Verdict
     ensures verdict { result ≡ verdict_of (reset_assert line action (line_view master line tables.old)) }
     ensures book { tables.new
         ≡ after_stages (stages_of (reset_assert line action (line_view master line tables.old))) tables.old }

@@ -12,7 +12,7 @@ use pm_ipi::status::INVALID_NODE;
 use pm_state::Tables;
 
 /// Tells the value of a reset line.
-pub fn reset_get_status(tables: &Tables, line: LineId) -> Verdict
+pub fn serve(tables: &Tables, line: LineId) -> Verdict
     ensures { result ≡ verdict_of (reset_get_status (line_status line tables.now)) }
 {
     match line_status(tables, line) {

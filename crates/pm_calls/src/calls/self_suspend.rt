@@ -13,7 +13,7 @@ use pm_ipi::status::{DOUBLE_REQUEST, FAILURE, INVALID_NODE, NO_ACCESS};
 use pm_state::Tables;
 
 /// The caller's processor suspends from now on, and is to resume at the address.
-pub fn self_suspend(tables: &mut Tables, master: usize, node: NodeId, address: u64) -> Verdict
+pub fn serve(tables: &mut Tables, master: usize, node: NodeId, address: u64) -> Verdict
     ensures verdict { result ≡ verdict_of (self_suspend master address (proc_view master node tables.old)) }
     ensures book { tables.new
         ≡ after_stages (stages_of (self_suspend master address (proc_view master node tables.old))) tables.old }

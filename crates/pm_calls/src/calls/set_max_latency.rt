@@ -14,7 +14,7 @@ use pm_rows::Change;
 use pm_state::Tables;
 
 /// The caller allows this latency at most of a slave that it uses.
-pub fn set_max_latency(tables: &mut Tables, master: usize, node: NodeId, latency: u32) -> Verdict
+pub fn serve(tables: &mut Tables, master: usize, node: NodeId, latency: u32) -> Verdict
     ensures verdict { result ≡ verdict_of (set_max_latency latency (row_view master node tables.old)) }
     ensures book { tables.new
         ≡ after_stages (stages_of (set_max_latency latency (row_view master node tables.old))) tables.old }

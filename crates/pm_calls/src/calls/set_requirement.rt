@@ -18,13 +18,7 @@ use pm_state::Tables;
 
 /// The caller requires these capabilities of a slave that it uses: at once
 /// while it is active, and from its sleep on while it is suspending.
-pub fn set_requirement(
-    tables: &mut Tables,
-    master: usize,
-    node: NodeId,
-    caps: Caps,
-    ack: u32,
-) -> Verdict
+pub fn serve(tables: &mut Tables, master: usize, node: NodeId, caps: Caps, ack: u32) -> Verdict
     ensures verdict { result
         ≡ verdict_of (set_requirement (mode_of_master tables.old.fixed tables.old.now.core master) caps ack
         (row_view master node tables.old)) }

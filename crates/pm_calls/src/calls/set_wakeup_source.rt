@@ -23,7 +23,7 @@ fn arming(node: NodeId, enable: u32) -> Change
 
 /// The interrupt of the source wakes the caller's processor from now on, or not any more. The
 /// permission alone decides, and not whether the caller uses the source.
-pub fn set_wakeup_source(
+pub fn serve(
     tables: &mut Tables,
     master: usize,
     node: NodeId,

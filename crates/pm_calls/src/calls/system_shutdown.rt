@@ -24,7 +24,7 @@ const SCOPE: u32 = 2;
 
 /// The caller's processors, or all, go off. The caller restarts with its first processor, and all of it
 /// with the book at load; where all is shut down the book is halted.
-pub fn system_shutdown(
+pub fn serve(
     tables: &mut Tables,
     master: usize,
     shutdown_type: u32,

@@ -2,6 +2,7 @@ use Rattle.pm_notify.specs.Laws.{OrderLaws}
 use Rattle.pm_state.proofs.LoadLaw.{ModeLaws}
 use Rattle.pm_state.proofs.PendingLaw.{RequestLaws}
 use Rattle.pm_state.proofs.RowLaws.{RowLaws}
+use Rattle.pm_core.proofs.RestartLaw.{restart_loads}
 use Rattle.pm_core.proofs.SoundSteps.{effect_sound}
 use Rattle.pm_core.proofs.laws.books_stay_sound.Goals as goal
 
@@ -42,4 +43,5 @@ returns c =
       load = c.loads_are_sound.ensures.load;
       step = effect_sound rows modes requests orders;
       permitted = c.loads_are_sound.ensures.permitted;
+      restart = restart_loads (record { rows = rows; modes = modes; requests = requests; orders = orders });
     }

@@ -1,6 +1,7 @@
 use Rattle.std.proofs.Common.{Some, None, if◌then◌else◌, sym, ◌∙◌, ap}
 use Rattle.std.specs.Prelude.{option_and_then}
-use Rattle.pm_core.specs.Step.{call_in, called, call_at, message_stages}
+use Rattle.pm_calls.specs.calls.{called}
+use Rattle.pm_core.specs.Step.{call_in, call_at, message_stages}
 use Rattle.pm_values.proofs.AlongLaw.{still_trailed}
 use Rattle.pm_core.proofs.StepLaw.{nowhere}
 use Rattle.pm_core.proofs.step.receive.Goals as goal

@@ -16,7 +16,7 @@ loop-k-preserved c =
     let kinds = c.args.kinds.now in
     let k = c.loop-k.k in
     let kind : UnitKind = get_or kinds k (Entry (Proc 0)) in
-    let new : UnitKind → ℕ = unit_value c.args.states.now c.args.procs.now.procs c.args.ups.now c.args.resets.now in
+    let new : UnitKind → ℕ = unit_value c.args.states.now c.procs-procs.result.now.procs c.args.ups.now c.resets-resets.result.now in
     let at : slice_get kinds k ≡ Some kind = slice_get-get_or kinds k (Entry (Proc 0)) c.loop-k-test.true in
     let written : c.log_move.new.values ≡ with_value_at k (new kind) c.loop-k.values =
     c.log_move.ensures.values ∙ ap (λ v. with_value_at k v c.loop-k.values) c.unit_value.ensures

@@ -15,8 +15,8 @@ loop-k-preserved c =
     let k = c.loop-k.k in
     let kind : UnitKind = get_or kinds k (Entry (Proc 0)) in
     let at : slice_get kinds k ≡ Some kind = slice_get-get_or kinds k (Entry (Proc 0)) c.loop-k-test.true in
-    let new = unit_value c.args.states.now c.args.procs.now.procs c.args.ups.now c.args.resets.now in
-    let freed = freed_by c.args.used.now c.args.rows.now in
+    let new = unit_value c.args.states.now c.procs-procs.result.now.procs c.args.ups.now c.resets-resets.result.now in
+    let freed = freed_by c.args.used.now c.rows-rows.result.now in
     let found : c.log_notice.new.notices.items ≡ c.loop-k.notices.items ++ noticed_at (new kind) (freed kind) (slice_get c.args.values.now k) =
     ap (λ (s : Bounded Waiting). s.items) c.log_notice.ensures.notices
     ∙ (ap (λ v. c.loop-k.notices.items ++ noticed_at v c.freed-freed.result c.entry.result) c.unit_value-value.ensures

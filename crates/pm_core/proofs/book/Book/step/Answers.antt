@@ -5,7 +5,7 @@ use Rattle.pm_notify.specs.declared.notes.Waiting.{Waiting}
 use Rattle.pm_topology.specs.Units.{units_of, entry_count}
 use Rattle.pm_values.specs.Caches.{AreKept, moved_by, value_by}
 use Rattle.pm_tell.specs.Callbacks.{callbacks, late_replies}
-use Rattle.pm_values.specs.Along.{HasPlaces as HasTrail, IsTrail, Trail, mode_beside, mode_logged, turns_logged}
+use Rattle.pm_values.specs.Along.{IsTrail, Trail, mode_logged, turns_logged}
 use Rattle.pm_tell.specs.Served.{pulse_in, says_in}
 use Rattle.pm_base.specs.BoundedList.{Bounded}
 use Rattle.pm_state.specs.Sound.{AreNotes, IsBook}
@@ -14,7 +14,7 @@ use Rattle.pm_tell.specs.declared.late.Late.{Late}
 use Rattle.pm_values.specs.declared.starts.Start.{Start}
 use Rattle.pm_state.specs.Stages.{after_stages}
 use Rattle.pm_values.specs.Starts.{starts, was_down}
-use Rattle.pm_state.specs.State.{Fixed, State, in_force}
+use Rattle.pm_state.specs.State.{State, in_force}
 use Rattle.pm_core.specs.Step.{effect, ended, served, modes_in, news, opening, path, pulse, stages, answer_by, answer_to}
 use Rattle.pm_tell.specs.Telling.{notes_after, tellings, HasPlaces, news_in, opening_in}
 use Rattle.pm_tell.specs.Ended.{ended_from}
@@ -23,10 +23,8 @@ use Rattle.pm_state.specs.Units.{units, moved}
 use Rattle.pm_state.specs.Values.{value}
 use Rattle.pm_calls.specs.Verdict.{aborted_by}
 use Rattle.pm_values.proofs.CachesLaw.{kept_places, kept_talked}
-use Rattle.pm_values.proofs.AlongLaw.{completed, trailed_places}
 use Rattle.pm_core.proofs.EndedLaw.{IsTold, stages_talk, step_told}
 use Rattle.pm_values.proofs.NoticesLaw.{notices_are}
-use Rattle.pm_state.proofs.PlacedLemmas.{length-placed}
 use Rattle.pm_core.proofs.Refused.{refused_stays}
 use Rattle.pm_core.proofs.SoundSteps.{kept_by}
 use Rattle.pm_core.proofs.StepLaw.{step_moves, step_starts}
@@ -34,8 +32,8 @@ use Rattle.pm_core.proofs.book.Book.step.Goals as goal
 
 pub update-requires-clause-places : goal.update-requires-clause-places
 update-requires-clause-places c =
-    kept_places c.self.inside.tables c.self.inside.caches c.take-served.new.tables.fixed.topology
-    (ap (λ (b : State). b.fixed.topology) c.take-served.ensures.book) c.self.invariant.1
+    kept_places c.self.inside.tables c.self.inside.caches c.advance-served.new.tables.fixed.topology
+    (ap (λ (b : State). b.fixed.topology) c.advance-served.ensures.book) c.self.invariant.1
 
 pub update-requires-clause-room : goal.update-requires-clause-room
 update-requires-clause-room c =
@@ -48,19 +46,13 @@ update-requires-clause-room c =
     let none = ap length c.clear.ensures.empty.moved in
     omega (arith, values, same, few, none, c.requires.room.moved, c.clear.ensures.room.moved)
 
--- the places of the trail stay while it is logged
-pub log-requires : goal.log-requires
-log-requires c =
-    let Q : Fixed → Type 0 = λ f. HasTrail (length f.object.masters) (length f.topology.procs) c.take-served.new.along in
-    subst Q (sym (ap (λ (b : State). b.fixed) c.take-served.ensures.book)) c.take-served.ensures.along.places
-
 pub tell-requires-clause-each : goal.tell-requires-clause-each
 tell-requires-clause-each c =
     let old = c.self.inside.tables in
-    ap (λ (b : State). length b.now.talk.pending) c.take-served.ensures.book
+    ap (λ (b : State). length b.now.talk.pending) c.advance-served.ensures.book
     ∙ (ap (λ t. length t.pending) (stages_talk (stages c.args.event.now old) old)
     ∙ (c.self.invariant.0.sound.pending.each
-    ∙ sym (ap (λ (b : State). length (in_force b).masters) c.take-served.ensures.book)))
+    ∙ sym (ap (λ (b : State). length (in_force b).masters) c.advance-served.ensures.book)))
 
 pub update-requires-clause-notices : goal.update-requires-clause-notices
 update-requires-clause-notices c =
@@ -68,14 +60,14 @@ update-requires-clause-notices c =
     let values : length c.self.inside.caches.values ≡ length (units old) =
     ap length c.self.invariant.1.values ∙ length-map (units old) (λ u. (u, value u old))
     in
-    omega (arith, values, c.self.invariant.2.notices, ap (λ (l : Bounded _). l.room) c.log_modes.ensures.notices)
+    omega (arith, values, c.self.invariant.2.notices, ap (λ (l : Bounded _). l.room) c.advance-served.ensures.notices)
 
 pub tell-requires-clause-notes : goal.tell-requires-clause-notes
 tell-requires-clause-notes c =
     let old = c.self.inside.tables in
     let P : State → Type 0 = λ b. AreNotes b.fixed.topology (length (in_force b).masters) b.now.talk.notes in
     let Q : _ → Type 0 = λ t. AreNotes old.fixed.topology (length (in_force old).masters) t.notes in
-    subst P (sym c.take-served.ensures.book) (subst Q (sym (stages_talk (stages c.args.event.now old) old)) c.self.invariant.0.sound.notes)
+    subst P (sym c.advance-served.ensures.book) (subst Q (sym (stages_talk (stages c.args.event.now old) old)) c.self.invariant.0.sound.notes)
 
 pub tell-requires-clause-few : goal.tell-requires-clause-few
 tell-requires-clause-few c =
@@ -83,64 +75,51 @@ tell-requires-clause-few c =
     let values : length c.self.inside.caches.values ≡ length (units old) =
     ap length c.self.invariant.1.values ∙ length-map (units old) (λ u. (u, value u old))
     in
-    let same : length (units c.take-served.new.tables) ≡ length (units old) = ap (λ (b : State). length (units b)) c.take-served.ensures.book in
-    let few : length (units c.take-served.new.tables) ≤ entry_count c.take-served.new.tables.fixed.topology = c.units_stand_in_order.ensures.few c.take-served.new.tables.fixed.topology in
+    let same : length (units c.advance-served.new.tables) ≡ length (units old) = ap (λ (b : State). length (units b)) c.advance-served.ensures.book in
+    let few : length (units c.advance-served.new.tables) ≤ entry_count c.advance-served.new.tables.fixed.topology = c.units_stand_in_order.ensures.few c.advance-served.new.tables.fixed.topology in
     omega (arith, values, same, few, c.update.ensures.few)
 
 pub tell-requires-clause-places : goal.tell-requires-clause-places
 tell-requires-clause-places c =
-    let old = c.self.inside.tables in
-    let count : length (in_force c.take-served.new.tables).masters ≡ length (in_force old).masters = ap (λ (b : State). length (in_force b).masters) c.take-served.ensures.book in
-    let all : length (units c.take-served.new.tables) ≡ length (units old) = ap (λ (b : State). length (units b)) c.take-served.ensures.book in
-    let mid = c.take-served.new.tables in
-    let Q : Trail → Type 0 = λ n. HasTrail (length (in_force mid).masters) (length mid.fixed.topology.procs) n in
+    let places = c.advance-served.ensures.places in
     record {
-      along = subst Q (sym c.log.ensures) (trailed_places mid c.take-served.new.along);
-      modes = ap length c.log_modes.ensures.modes ∙ (length-placed (mode_beside old) 0 (in_force old).masters ∙ sym count);
-      ended = omega (arith, count, c.self.invariant.2.ended, ap (λ (l : Bounded _). l.room) c.log_modes.ensures.ended);
-      notices = omega (
-        arith,
-        all,
-        c.self.invariant.2.notices,
-        ap (λ (l : Bounded _). l.room) c.log_modes.ensures.notices,
-        ap (λ (l : Bounded Waiting). l.room) c.update.ensures.notices,
-      );
+      modes = places.modes;
+      along = places.along;
+      ended = places.ended;
+      notices = omega (arith, places.notices, ap (λ (l : Bounded Waiting). l.room) c.update.ensures.notices);
     }
 
 -- what was logged until the masters were told
-told : (c : goal.After-out-2-1) → IsTold c.args.event.now c.self.inside.tables c.take-served.new.tables c.tell.new.tables c.take-served.result c.time_of-count.result c.tell.new.telling
+told : (c : goal.After-out-2-1) → IsTold c.args.event.now c.self.inside.tables c.advance-served.new.tables c.tell.new.tables c.advance-served.result c.time_of-count.result c.tell.new.telling
 told c =
     let event = c.args.event.now in
     let old = c.self.inside.tables in
-    let mid = c.take-served.new.tables in
+    let mid = c.advance-served.new.tables in
     let caches = c.self.inside.caches in
-    let fixed : old.fixed ≡ mid.fixed = sym (ap (λ (b : State). b.fixed) c.take-served.ensures.book) in
-    let trail : IsTrail old (path event old) c.log.new.self =
-    completed old (path event old) mid c.take-served.new.along c.log.new.self c.take-served.ensures.along c.log.ensures
-    in
+    let fixed : old.fixed ≡ mid.fixed = sym (ap (λ (b : State). b.fixed) c.advance-served.ensures.book) in
     let Along : Trail → Type 0 = λ n. IsTrail old (path event old) n in
-    step_told event old mid c.tell.new.tables c.take-served.result c.time_of-count.result c.tell.new.telling
+    step_told event old mid c.tell.new.tables c.advance-served.result c.time_of-count.result c.tell.new.telling
     (record {
-      mid_is = c.take-served.ensures.book;
-      served_is = c.take-served.ensures.served;
+      mid_is = c.advance-served.ensures.book;
+      served_is = c.advance-served.ensures.served;
       count_is = c.time_of-count.ensures;
-      along_is = subst Along (sym c.tell.ensures.along) trail;
-      modes_are = ap (λ v. v.items) c.tell.ensures.modes ∙ c.log_modes.ensures.modes;
+      along_is = subst Along (sym c.tell.ensures.along) c.advance-served.ensures.along;
+      modes_are = ap (λ v. v.items) c.tell.ensures.modes ∙ c.advance-served.ensures.modes;
       asks_are = c.tell.ensures.asks;
       ended_are = c.tell.ensures.ended
-          ∙ ap (λ (n : Trail). ended_from (λ m. turns_logged m n.turns) (aborted_by (says_in c.take-served.result)) c.time_of-count.result 0 mid.now.talk.pending)
+          ∙ ap (λ (n : Trail). ended_from (λ m. turns_logged m n.turns) (aborted_by (says_in c.advance-served.result)) c.time_of-count.result 0 mid.now.talk.pending)
           (sym c.tell.ensures.along);
       notices_are = ap (λ (l : Bounded Waiting). l.items) (c.tell.ensures.notices ∙ c.update.ensures.notices)
           ∙ (notices_are c.kinds_are_exact.ensures old mid caches.kinds.items caches.used.items caches.values fixed c.self.invariant.1.kinds c.self.invariant.1.used c.self.invariant.1.values
-          ∙ ap (notifications old) c.take-served.ensures.book);
+          ∙ ap (notifications old) c.advance-served.ensures.book);
     })
     c.self.invariant.0.sound.pending.each c.tell.ensures.book
 
 pub answer-out-requires : goal.answer-out-requires
 answer-out-requires c =
-    let mid = c.take-served.new.tables in
+    let mid = c.advance-served.new.tables in
     let telling = c.tell.new.telling in
-    let changes = tellings (news_in telling) (mode_logged telling.modes.items) (opening_in telling (says_in c.take-served.result) c.time_of-count.result mid) c.take-served.result mid in
+    let changes = tellings (news_in telling) (mode_logged telling.modes.items) (opening_in telling (says_in c.advance-served.result) c.time_of-count.result mid) c.advance-served.result mid in
     let P : State → Type 0 = λ b. AreKept b c.update.new.self in
     subst P (sym c.tell.ensures.book) (kept_talked changes mid c.update.new.self c.update.ensures.kept)
 
@@ -148,10 +127,10 @@ pub invariant_of-self : goal.invariant_of-self
 invariant_of-self c =
     let event = c.args.event.now in
     let old = c.self.inside.tables in
-    let mid = c.take-served.new.tables in
+    let mid = c.advance-served.new.tables in
     let new = c.tell.new.tables in
     let telling = c.tell.new.telling in
-    let changes = tellings (news_in telling) (mode_logged telling.modes.items) (opening_in telling (says_in c.take-served.result) c.time_of-count.result mid) c.take-served.result mid in
+    let changes = tellings (news_in telling) (mode_logged telling.modes.items) (opening_in telling (says_in c.advance-served.result) c.time_of-count.result mid) c.advance-served.result mid in
     let P : State → Type 0 = λ b. AreKept b c.update.new.self in
     let Q : State → Type 0 = λ b. HasPlaces b.fixed.topology (length (in_force b).masters) telling in (
       kept_by c.books_stay_sound.ensures.step event old new (told c).book c.self.invariant.0,
@@ -182,19 +161,19 @@ returns-clause-out c =
     let event = c.args.event.now in
     let old = c.self.inside.tables in
     let new = c.tell.new.tables in
-    let mid = c.take-served.new.tables in
+    let mid = c.advance-served.new.tables in
     let telling = c.tell.new.telling in
     let found = telling.ended.items in
     let caches = c.self.inside.caches in
-    let told_callbacks = callbacks (news_in telling) (mode_logged telling.modes.items) (notes_after (opening_in telling (says_in c.take-served.result) c.time_of-count.result mid) mid) new in
+    let told_callbacks = callbacks (news_in telling) (mode_logged telling.modes.items) (notes_after (opening_in telling (says_in c.advance-served.result) c.time_of-count.result mid) mid) new in
     record {
       moved = ap (λ (s : Bounded Unit). s.items) c.update.ensures.moved ∙ (
           ap (λ xs. xs ++ moved_by (value_by mid.fixed mid.now.core) caches.kinds.items caches.values) c.clear.ensures.empty.moved
-          ∙ (step_moves event old mid caches.kinds.items caches.values c.take-served.ensures.book c.self.invariant.1.kinds c.self.invariant.1.values
+          ∙ (step_moves event old mid caches.kinds.items caches.values c.advance-served.ensures.book c.self.invariant.1.kinds c.self.invariant.1.values
           ∙ ap (λ (b : State). moved (λ u. value u b) (effect event b)) c.self.view_is));
-      pulse = c.pulse_in-out.ensures ∙ (ap pulse_in c.take-served.ensures.served ∙ ap (pulse event) c.self.view_is);
+      pulse = c.pulse_in-out.ensures ∙ (ap pulse_in c.advance-served.ensures.served ∙ ap (pulse event) c.self.view_is);
       starts = ap (λ (s : Bounded Start). s.items) c.update.ensures.starts
-          ∙ (step_starts c.kinds_are_exact.ensures event old mid c.log.new.self caches.kinds.items caches.values c.take-served.ensures.book (completed old (path event old) mid c.take-served.new.along c.log.new.self c.take-served.ensures.along c.log.ensures) c.self.invariant.1.kinds c.self.invariant.1.values
+          ∙ (step_starts c.kinds_are_exact.ensures event old mid c.advance-served.new.telling.along caches.kinds.items caches.values c.advance-served.ensures.book c.advance-served.ensures.along c.self.invariant.1.kinds c.self.invariant.1.values
           ∙ ap (λ (b : State). starts (was_down (b ∷ path event b)) (effect event b)) c.self.view_is);
       late = ap (λ (s : Bounded Late). s.items) c.tell.ensures.late
           ∙ (ap (λ xs. xs ++ late_replies found new) c.clear.ensures.empty.late
@@ -205,7 +184,7 @@ returns-clause-out c =
           ∙ (ap (λ xs. xs ++ told_callbacks) c.clear.ensures.empty.callbacks
           ∙ ((told c).callbacks
           ∙ ap (λ (b : State). callbacks (news event b) (modes_in b) (notes_after (opening event b) (after_stages (stages event b) b)) (effect event b)) c.self.view_is));
-      answer = c.answer-out.ensures ∙ (ap (λ h. answer_by h new) c.take-served.ensures.served ∙ (
+      answer = c.answer-out.ensures ∙ (ap (λ h. answer_by h new) c.advance-served.ensures.served ∙ (
           ap (λ b. answer_by (served event old) b) (told c).book ∙ ap (answer_to event) c.self.view_is));
       done = c.clear.ensures.empty.done;
     }

@@ -1,4 +1,4 @@
-use Rattle.std.proofs.Common.{◌≡◌, ℕ, ◌≤◌, ◌++◌, Bool, length, take, drop, List, sym, ◌∙◌, ap, arith}
+use Rattle.std.proofs.Common.{◌≡◌, ℕ, ◌≤◌, ◌++◌, Bool, length, take, drop, List, refl, sym, ◌∙◌, ap, arith}
 use Rattle.pm_base.specs.declared.names.Unit.{Unit}
 use Rattle.pm_values.specs.declared.caches.UnitKind.{UnitKind}
 use Rattle.pm_power.specs.Forest.{ups}
@@ -16,7 +16,7 @@ use Rattle.pm_values.proofs.caches.Caches.update.Goals as goal
 pub log_starts-requires-clause-room : goal.log_starts-requires-clause-room
 log_starts-requires-clause-room c =
     let t = c.args.tables.now.fixed.topology in
-    let procs = c.procs-procs.result.now.procs in
+    let procs = c.procs.result.now.procs in
     let none = ap length c.requires.starts in
     let downs = c.args.along.now.downs in
     let few : length (starts_by downs procs c.deref-3.result.now c.args.self.now.values) ≤ length t.procs =
@@ -75,8 +75,8 @@ returns-clause-kept c =
       used = used_is c;
       power = power_is c;
       values = c.log_moves.ensures.values
-          ∙ valued_is c.args.tables.now c.deref-8.result.now c.procs-procs.result.now.procs c.ups-2.result.now c.resets-resets.result.now c.deref-7.result.now c.args.self.now.values
-          (c.deref-8.ensures.value ∙ states_are c) c.procs-procs.ensures.procs (c.ups-2.ensures ∙ ap ups (power_is c)) c.resets-resets.ensures
+          ∙ valued_is c.args.tables.now c.deref-8.result.now c.args.tables.now.now.core.procs c.ups-ups.result.now c.args.tables.now.now.core.lines c.deref-7.result.now c.args.self.now.values
+          (c.deref-8.ensures.value ∙ states_are c) refl (c.ups-ups.ensures ∙ ap ups (power_is c)) refl
           c.requires.places.units (c.deref-7.ensures.value ∙ c.requires.places.kinds);
     }
 
@@ -86,12 +86,12 @@ returns-clause-moved c =
     let old = c.args.self.now in
     let before = c.args.moved.now in
     let with : List Unit → Bounded Unit = λ items. record before { items = before.items ++ items } in
-    let new : UnitKind → ℕ = unit_value c.deref-8.result.now c.procs-procs.result.now.procs c.ups-2.result.now c.resets-resets.result.now in
+    let new : UnitKind → ℕ = unit_value c.deref-8.result.now c.args.tables.now.now.core.procs c.ups-ups.result.now c.args.tables.now.now.core.lines in
     c.log_moves.ensures.moved
     ∙ (ap (λ ks. with (moved_by new ks old.values)) c.deref-7.ensures.value
     ∙ ap with (moved_by-same new (value_by book.fixed book.now.core)
-    (unit_value_is book.fixed book.now.core c.deref-8.result.now c.procs-procs.result.now.procs c.ups-2.result.now c.resets-resets.result.now
-    (c.deref-8.ensures.value ∙ states_are c) c.procs-procs.ensures.procs (c.ups-2.ensures ∙ ap ups (power_is c)) c.resets-resets.ensures)
+    (unit_value_is book.fixed book.now.core c.deref-8.result.now c.args.tables.now.now.core.procs c.ups-ups.result.now c.args.tables.now.now.core.lines
+    (c.deref-8.ensures.value ∙ states_are c) refl (c.ups-ups.ensures ∙ ap ups (power_is c)) refl)
     old.kinds.items old.values))
 
 pub returns-clause-notices : goal.returns-clause-notices
@@ -100,14 +100,13 @@ returns-clause-notices c =
     let old = c.args.self.now in
     let before = c.args.notices.now in
     let with : List Waiting → Bounded Waiting = λ items. record before { items = items } in
-    let new : UnitKind → ℕ = unit_value c.deref-5.result.now c.procs-procs.result.now.procs c.ups.result.now c.resets-resets.result.now in
+    let new : UnitKind → ℕ = unit_value c.deref-5.result.now c.args.tables.now.now.core.procs c.ups-ups.result.now c.args.tables.now.now.core.lines in
     let freed : UnitKind → Bool = freed_by old.used.items book.now.core.rows in
     c.log_notices.ensures.notices
-    ∙ (ap (λ (s : Bounded Waiting). record s { items = s.items ++ noticed_by new (freed_by c.deref-6.result.now c.rows-rows.result.now) c.deref-4.result.now old.values }) c.clear.ensures
-    ∙ (ap (λ us. with (noticed_by new (freed_by us c.rows-rows.result.now) c.deref-4.result.now old.values)) c.deref-6.ensures.value
-    ∙ (ap (λ rows. with (noticed_by new (freed_by old.used.items rows) c.deref-4.result.now old.values)) c.rows-rows.ensures
+    ∙ (ap (λ (s : Bounded Waiting). record s { items = s.items ++ noticed_by new (freed_by c.deref-6.result.now book.now.core.rows) c.deref-4.result.now old.values }) c.clear.ensures
+    ∙ (ap (λ us. with (noticed_by new (freed_by us book.now.core.rows) c.deref-4.result.now old.values)) c.deref-6.ensures.value
     ∙ (ap (λ ks. with (noticed_by new freed ks old.values)) c.deref-4.ensures.value
     ∙ ap with (noticed_by-same new (value_by book.fixed book.now.core) freed
-    (unit_value_is book.fixed book.now.core c.deref-5.result.now c.procs-procs.result.now.procs c.ups.result.now c.resets-resets.result.now
-    (c.deref-5.ensures.value ∙ states_are c) c.procs-procs.ensures.procs (c.ups.ensures ∙ ap ups (power_is c)) c.resets-resets.ensures)
-    old.kinds.items old.values)))))
+    (unit_value_is book.fixed book.now.core c.deref-5.result.now c.args.tables.now.now.core.procs c.ups-ups.result.now c.args.tables.now.now.core.lines
+    (c.deref-5.ensures.value ∙ states_are c) refl (c.ups-ups.ensures ∙ ap ups (power_is c)) refl)
+    old.kinds.items old.values))))

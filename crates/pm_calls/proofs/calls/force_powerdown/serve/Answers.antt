@@ -8,7 +8,7 @@ use Rattle.pm_state.specs.Nodes.{master_node}
 use Rattle.pm_calls.specs.calls.ForcePowerdown.{force_powerdown}
 use Rattle.pm_values.proofs.AlongLaw.{still_trailed}
 use Rattle.pm_calls.proofs.Verdicts.{clash, none_done}
-use Rattle.pm_calls.proofs.calls.force_powerdown.force_powerdown.Goals as goal
+use Rattle.pm_calls.proofs.calls.force_powerdown.serve.Goals as goal
 
 pub returns-then-is_none-clause-along : goal.returns-then-is_none-clause-along
 returns-then-is_none-clause-along c =

@@ -7,7 +7,7 @@ use Rattle.pm_calls.specs.calls.SystemShutdown.{system_shutdown}
 use Rattle.pm_values.proofs.AlongLaw.{still_trailed}
 use Rattle.pm_calls.proofs.ShutdownCases.{is_scope, isnt_known, isnt_shut}
 use Rattle.pm_calls.proofs.Verdicts.{clash, none_done, nothing_done, ranged}
-use Rattle.pm_calls.proofs.calls.system_shutdown.system_shutdown.Goals as goal
+use Rattle.pm_calls.proofs.calls.system_shutdown.serve.Goals as goal
 
 pub returns-then-shutdown_type-gt2-clause-along : goal.returns-then-shutdown_type-gt2-clause-along
 returns-then-shutdown_type-gt2-clause-along c =

@@ -1,39 +1,27 @@
 -- The shape of a call: what it reads of the book and what it changes. Calls of one shape differ in what they check and tell.
-use Rattle.std.specs.Prelude.{ℕ, false, Option, None}
+use Rattle.std.specs.Prelude.{ℕ, Option}
 use Rattle.pm_base.specs.declared.names.LineId.{LineId}
 use Rattle.pm_base.specs.declared.names.Mode.{Mode}
 use Rattle.pm_base.specs.declared.names.NodeId.{NodeId}
-use Rattle.pm_ipi.specs.declared.calls.Call.{Call}
-use Rattle.pm_ipi.specs.declared.calls.Call.TheVariants.{GetApiVersion, GetNodeStatus, GetOpCharacteristic, RegisterNotifier, RequestSuspend, SelfSuspend, ForcePowerdown, AbortSuspend, RequestWakeup, SetWakeupSource, SystemShutdown, RequestNode, ReleaseNode, SetRequirement, SetMaxLatency, ResetAssert, ResetGetStatus, InitFinalize, Unknown}
 use Rattle.pm_rows.specs.declared.row.Change.{Change}
-use Rattle.pm_rows.specs.declared.row.Change.TheVariants.{Request, Release, Set, Limit}
 use Rattle.pm_calls.specs.declared.characteristics.Characteristics.{Characteristics}
 use Rattle.pm_calls.specs.declared.views.RowView.{RowView}
 use Rattle.pm_calls.specs.declared.views.StatusView.{StatusView}
 use Rattle.pm_calls.specs.Characteristics.{characteristics}
-use Rattle.pm_calls.specs.Checks.{unchecked}
 use Rattle.pm_state.specs.Members.{mode_of_master}
 use Rattle.pm_calls.specs.ResetLines.{line_status, line_view}
 use Rattle.pm_calls.specs.RowCalls.{row_changes}
 use Rattle.pm_state.specs.State.{State}
-use Rattle.pm_calls.specs.Verdict.{Called, changing, effecting, saying, told}
+use Rattle.pm_calls.specs.Verdict.{Called, changing, effecting, told}
 use Rattle.pm_calls.specs.Views.{is_asked, proc_view, row_view, status_view, suspend_view, wake_view, watched}
 use Rattle.pm_calls.specs.calls.AbortSuspend.{abort_suspend}
 use Rattle.pm_calls.specs.calls.ForcePowerdown.{force_powerdown}
-use Rattle.pm_calls.specs.calls.GetApiVersion.{get_api_version}
-use Rattle.pm_calls.specs.calls.GetNodeStatus.{get_node_status}
-use Rattle.pm_calls.specs.calls.GetOpCharacteristic.{get_op_characteristic}
 use Rattle.pm_calls.specs.calls.InitFinalize.{init_finalize}
 use Rattle.pm_calls.specs.calls.RegisterNotifier.{register_notifier}
-use Rattle.pm_calls.specs.calls.ReleaseNode.{release_node}
-use Rattle.pm_calls.specs.calls.RequestNode.{request_node}
 use Rattle.pm_calls.specs.calls.RequestSuspend.{request_suspend}
 use Rattle.pm_calls.specs.calls.RequestWakeup.{request_wakeup}
 use Rattle.pm_calls.specs.calls.ResetAssert.{reset_assert}
-use Rattle.pm_calls.specs.calls.ResetGetStatus.{reset_get_status}
 use Rattle.pm_calls.specs.calls.SelfSuspend.{self_suspend}
-use Rattle.pm_calls.specs.calls.SetMaxLatency.{set_max_latency}
-use Rattle.pm_calls.specs.calls.SetRequirement.{set_requirement}
 use Rattle.pm_calls.specs.calls.SetWakeupSource.{set_wakeup_source}
 use Rattle.pm_calls.specs.calls.SystemShutdown.{system_shutdown}
 
@@ -62,28 +50,6 @@ pub data Shape : Type 0 where
   All_forced : (node : NodeId) (ack : ℕ) → Shape
   All_shut : (shutdown_type subtype : ℕ) → Shape
   All_reset : (line : LineId) (action : ℕ) → Shape
-
--- each call has a shape
-abbrev pub shape_of : Call → Shape
-shape_of GetApiVersion = Constant get_api_version
-shape_of (GetNodeStatus node) = Node_status node get_node_status
-shape_of (GetOpCharacteristic node characteristic) = Node_figures node (get_op_characteristic characteristic)
-shape_of (RegisterNotifier node event wake enable) = Own_notifier node event enable
-shape_of (RequestSuspend node ack latency state) = Other_suspend node ack latency state
-shape_of (SelfSuspend node address) = Own_suspend node address
-shape_of (ForcePowerdown node ack) = All_forced node ack
-shape_of (AbortSuspend node reason) = Own_abort node reason
-shape_of (RequestWakeup node address ack) = Other_wakeup node address ack
-shape_of (SetWakeupSource target source enable) = Own_arming target source enable
-shape_of (SystemShutdown shutdown_type subtype) = All_shut shutdown_type subtype
-shape_of (RequestNode node caps ack) = Own_row node (λ mode. Request caps) (λ mode. request_node caps ack)
-shape_of (ReleaseNode node) = Own_row node (λ mode. Release) (λ mode. release_node)
-shape_of (SetRequirement node caps ack) = Own_row node (λ mode. Set mode caps) (λ mode. set_requirement mode caps ack)
-shape_of (SetMaxLatency node latency) = Own_row node (λ mode. Limit latency) (λ mode. set_max_latency latency)
-shape_of (ResetAssert line action) = All_reset line action
-shape_of (ResetGetStatus line) = Line_value line reset_get_status
-shape_of InitFinalize = Own_holds
-shape_of Unknown = Constant (effecting (record unchecked { known = false }) (saying None))
 
 -- the call with its checks and words alone
 abbrev pub telling : Called → Called
