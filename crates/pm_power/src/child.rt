@@ -27,7 +27,8 @@ pub(crate) fn idle_children(alloc: Global, t: &Topology) -> Result<Vec<Child>, N
 }
 
 fn push_slaves(children: &mut Vec<Child>, slaves: &[SlaveDef]) -> Result<(), NoMemory>
-    ensures { IfOk result (λ _. children.new.items ≡ children.old.items ++ map (λ s. child s.node s.parent false) slaves.now) }
+    ensures { IfOk result
+        (λ _. children.new.items ≡ children.old.items ++ map (λ s. child s.node s.parent false) slaves.now) }
 {
     for slave in slaves {
         push(children, idle(slave.node, slave.parent))?;
@@ -36,7 +37,8 @@ fn push_slaves(children: &mut Vec<Child>, slaves: &[SlaveDef]) -> Result<(), NoM
 }
 
 fn push_procs(children: &mut Vec<Child>, procs: &[ProcDef]) -> Result<(), NoMemory>
-    ensures { IfOk result (λ _. children.new.items ≡ children.old.items ++ map (λ p. child p.node p.parent false) procs.now) }
+    ensures { IfOk result
+        (λ _. children.new.items ≡ children.old.items ++ map (λ p. child p.node p.parent false) procs.now) }
 {
     for proc in procs {
         push(children, idle(proc.node, proc.parent))?;

@@ -1,10 +1,16 @@
 pub mod Bits
+pub mod Blank
+pub mod ByCounts
+pub mod Cells
 pub mod Changed
 pub mod Kept
 pub mod Known
 pub mod Lists
 pub mod Loaded
 pub mod Mapped
+pub mod Ranges
 pub mod Shifted
+pub mod Tallies
 pub mod There
+pub mod Turns
 pub mod Wants

@@ -1,5 +1,12 @@
+pub mod Cost
+pub mod Counted
+pub mod Kept
 pub mod Modes
+pub mod Passes
+pub mod Passing
 pub mod Rows
+pub mod Seeking
 pub mod Shift
 pub mod Sound
+pub mod Spans
 pub mod Wanted

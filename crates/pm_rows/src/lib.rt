@@ -2,11 +2,20 @@
 //! change of one row and a change of a master's mode change them, and what is wanted of a slave in all.
 #![tactic(auto)]
 
+mod counting;
+#[cfg(test)]
+mod fields;
 mod laws;
 mod modes;
+mod passes;
+mod passing;
+mod peek;
 pub mod row;
 pub mod rows;
+mod seeking;
 mod shift;
+mod spans;
+mod table;
 pub mod wanted;
 
 pub use laws::{rows_know_modes, rows_stay_sound, shifts_leave_others};

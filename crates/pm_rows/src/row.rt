@@ -2,7 +2,7 @@
 
 ghost use Rattle.std.specs.Prelude.{◌≡◌, false};
 ghost use Rattle.pm_rows.specs.Rows as spec;
-ghost use Rattle.pm_rows.specs.Rows.{applied, set_in, is_at, is_of_other, is_rival, is_user, change_at, settled_at, dropped_at, reloaded};
+ghost use Rattle.pm_rows.specs.Rows.{applied, set_in, is_at, is_of_other, is_rival, is_user};
 
 use pm_base::{Caps, Mode, NodeId};
 
@@ -76,7 +76,7 @@ impl Row {
     }
 
     /// The row without its hold.
-    fn settled(self) -> Row
+    pub(crate) fn settled(self) -> Row
         ensures { result ≡ record self { hold = false } }
     {
         Row {
@@ -151,70 +151,11 @@ impl Entry {
         }
     }
 
-    /// The row as it was at load.
-    pub(crate) fn reloaded(self) -> Entry
-        ensures { result ≡ reloaded self }
-    {
-        Entry::loaded(self.seed)
-    }
-
     /// Whether this is the row of the master and of the slave at these places.
     pub(crate) fn is_at(&self, master: usize, slave: usize) -> bool
         ensures { result ≡ is_at master slave self.now }
     {
         self.seed.master == master && self.seed.slave == slave
-    }
-
-    /// The row after a change of the row of a pair.
-    pub(crate) fn changed_at(self, master: usize, slave: usize, by: Change) -> Entry
-        ensures { result ≡ change_at master slave by self }
-    {
-        if self.is_at(master, slave) {
-            Entry {
-                seed: self.seed,
-                row: self.row.changed(by),
-            }
-        } else {
-            self
-        }
-    }
-
-    /// The row after a master dropped its holds.
-    pub(crate) fn settled_at(self, master: usize) -> Entry
-        ensures { result ≡ settled_at master self }
-    {
-        if self.seed.master == master {
-            Entry {
-                seed: self.seed,
-                row: self.row.settled(),
-            }
-        } else {
-            self
-        }
-    }
-
-    /// The row after all rows on a slave were cleared.
-    pub(crate) fn dropped_at(self, slave: usize) -> Entry
-        ensures { result ≡ dropped_at slave self }
-    {
-        if self.seed.slave == slave {
-            Entry {
-                seed: self.seed,
-                row: self.row.cleared(),
-            }
-        } else {
-            self
-        }
-    }
-
-    /// The row with nothing but its preset.
-    pub(crate) fn cleared(self) -> Entry
-        ensures { result ≡ spec.cleared_entry self }
-    {
-        Entry {
-            seed: self.seed,
-            row: self.row.cleared(),
-        }
     }
 
     /// Whether this is a row of another master on the slave.

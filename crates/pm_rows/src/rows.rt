@@ -1,119 +1,93 @@
 //! The rows of the book: one for each pair of a master and a slave that the object permits.
 
-ghost use Rattle.std.specs.Prelude.{◌≡◌, ◌-◌, ◌<◌, ◌^◌, min, map, length, slice_get, Some, IfOk};
+ghost use Rattle.std.specs.Prelude.{◌≡◌, ◌-◌, ◌<◌, ◌^◌, min, length, slice_get, Some, IfOk};
+ghost use Rattle.std.specs.List.{list_all};
 ghost use Rattle.pm_rows.specs.declared.row.Change.TheVariants.{Request, Release, Set, Limit, Arm};
+ghost use Rattle.pm_rows.specs.Cost.{IsCheap};
+ghost use Rattle.pm_rows.specs.Counted.{is_placed_pair};
 ghost use Rattle.pm_rows.specs.Rows as spec;
-ghost use Rattle.pm_rows.specs.Rows.{mode_of, loaded_entry, loaded_rows, reloaded, restarted, change_at, row_changed, settled_at, settled, dropped_at, slave_dropped, cleared_entry, all_cleared, entry_at, row_at, rival_of, users_of, usage_of};
+ghost use Rattle.pm_rows.specs.Rows.{mode_of, loaded_rows, restarted, row_changed, settled, slave_dropped, all_cleared, entry_at, row_at, rival_of, users_of, usage_of};
 ghost use Rattle.pm_rows.specs.Shift.{shifted};
 ghost use Rattle.pm_rows.specs.Wanted.{wanted_of};
 
-use crate::modes::{loaded_modes, reload_modes, set_mode};
+use crate::modes::{loaded_modes, mode_in, reload_modes, set_mode};
+use crate::passes::Pass;
+use crate::passing::{pass_all, pass_over};
 use crate::row::{Change, Entry, Row, RowSeed};
-use crate::shift::shift_rows;
-use crate::wanted::{Wanted, wanted_on};
-use pm_base::{Caps, Mode, NoMemory, NodeId, Steps, at_or};
+use crate::seeking::{Sought, found, is_found};
+use crate::table::Table;
+use crate::wanted::Wanted;
+use pm_base::{Caps, Mode, NoMemory, NodeId, Steps};
 use std::alloc::Global;
 use std::marker::Model;
 use std::sync::ledger::Ledger;
 
-fn change_row(entries: &mut [Entry], master: usize, slave: usize, by: Change)
-    ensures { entries.new ≡ map (change_at master slave by) entries.old }
+/// Whether the slave of each of these pairs is one of so many.
+fn are_placed(slaves: usize, seeds: &[RowSeed]) -> bool
+    ensures { result ≡ list_all (is_placed_pair slaves) seeds.now }
 {
-    for entry in entries.iter_mut() {
-        *entry = entry.changed_at(master, slave, by);
-    }
-}
-
-fn settle_rows(entries: &mut [Entry], master: usize)
-    ensures { entries.new ≡ map (settled_at master) entries.old }
-{
-    for entry in entries.iter_mut() {
-        *entry = entry.settled_at(master);
-    }
-}
-
-fn drop_rows(entries: &mut [Entry], slave: usize)
-    ensures { entries.new ≡ map (dropped_at slave) entries.old }
-{
-    for entry in entries.iter_mut() {
-        *entry = entry.dropped_at(slave);
-    }
-}
-
-fn clear_rows(entries: &mut [Entry])
-    ensures { entries.new ≡ map cleared_entry entries.old }
-{
-    for entry in entries.iter_mut() {
-        *entry = entry.cleared();
-    }
-}
-
-fn reload_rows(entries: &mut [Entry])
-    ensures { entries.new ≡ map reloaded entries.old }
-{
-    for entry in entries.iter_mut() {
-        *entry = entry.reloaded();
-    }
-}
-
-fn loaded_entries(alloc: Global, seeds: &[RowSeed]) -> Result<Vec<Entry>, NoMemory>
-    ensures { IfOk result (λ entries. entries.items ≡ map loaded_entry seeds.now) }
-{
-    let mut entries = Vec::new(alloc);
-    for seed in seeds {
-        entries.push(Entry::loaded(*seed)).map_err(|_| NoMemory)?;
-    }
-    Ok(entries)
+    seeds.iter().all(|seed| seed.slave < slaves)
 }
 
 /// The rows, each with its pair, and the mode that they know of each master. Contracts see them as the
-/// record of these.
+/// record of these. What is counted of the rows of each slave is kept with every change.
 #[derive(Debug, Drop)]
 pub struct Rows {
-    entries: Vec<Entry>,
-    known: Vec<Mode>,
-    boot: usize,
+    pub(crate) table: Table,
+    pub(crate) known: Vec<Mode>,
+    pub(crate) boot: usize,
 }
 
 impl Model for Rows {
+    ghost use Rattle.std.specs.Prelude.{map};
+    ghost use Rattle.pm_rows.specs.Counted.{AreTallied, counted};
     ghost use Rattle.pm_rows.specs.Rows.{Rows};
 
     ghost Value = { Rows };
 
-    ghost view = { λ rows. record { entries = rows.entries.items; known = rows.known.items; boot = rows.boot } };
+    ghost view = { λ rows. record { entries = rows.table.entries; known = rows.known.items; boot = rows.boot } };
+
+    ghost invariant = { λ rows. AreTallied (map (counted rows.known.items) rows.table.entries) rows.table.tally };
 }
 
 impl Rows {
     /// A row for each permitted pair, as it is at load. The master at place `boot` is active, and the
     /// others of these `masters` are off. No later call takes memory.
+    ///
+    /// # Errors
+    ///
+    /// `NoMemory` where there is not enough memory, or no room for a pair: its slave isn't one of these
+    /// `slaves`, or there are 2^31 pairs or more.
     pub fn load(
         alloc: Global,
         masters: usize,
-        _slaves: usize,
+        slaves: usize,
         boot: usize,
         seeds: &[RowSeed],
     ) -> Result<Rows, NoMemory>
         ensures { IfOk result (λ rows. rows ≡ loaded_rows masters boot seeds.now) }
     {
-        Ok(Rows {
-            entries: loaded_entries(alloc, seeds)?,
-            known: loaded_modes(alloc, masters, boot)?,
-            boot,
-        })
+        if seeds.len() >= 1 << 31 || !are_placed(slaves, seeds) {
+            return Err(NoMemory);
+        }
+        let mut table = Table::blank(alloc, slaves, seeds)?;
+        let known = loaded_modes(alloc, masters, boot)?;
+        pass_all(&mut table, &known, boot, Pass::Restart);
+        Ok(Rows { table, known, boot })
     }
 
     /// The mode that the rows know of a master, and off for a master that isn't there.
     pub fn mode(&self, master: usize) -> Mode
         ensures { result ≡ mode_of master self.now }
     {
-        at_or(&self.known, master, Mode::Off)
+        mode_in(&self.known, master)
     }
 
     /// The number of rows.
     pub fn len(&self) -> usize
         ensures { result ≡ length self.now.entries }
     {
-        self.entries.len()
+        self.table.len()
     }
 
     /// The row at a place with its pair.
@@ -121,17 +95,14 @@ impl Rows {
         requires { k < length self.now.entries }
         ensures { slice_get self.now.entries k ≡ Some result }
     {
-        self.entries[k]
+        self.table.peek(k)
     }
 
     /// The row of a pair with its pair, which is there where the pair is permitted.
     pub fn entry_at(&self, master: usize, slave: usize) -> Option<Entry>
         ensures { result ≡ entry_at master slave self.now }
     {
-        self.entries
-            .iter()
-            .copied()
-            .find(|entry| entry.is_at(master, slave))
+        found(&self.table, Sought::At(master, slave))
     }
 
     /// The row of a pair, which is there where the pair is permitted.
@@ -145,17 +116,38 @@ impl Rows {
     pub fn rival(&self, master: usize, slave: usize) -> Option<usize>
         ensures { result ≡ rival_of master slave self.now }
     {
-        self.entries
-            .iter()
-            .find(|entry| entry.is_rival(master, slave))
-            .map(|entry| entry.seed.master)
+        found(&self.table, Sought::Rival(master, slave)).map(|entry| entry.seed.master)
     }
 
-    /// Changes the row of a pair, where it is there, and no other.
+    /// Changes the row of a pair, where it is there, and no other. What it costs is told of nobody.
     pub fn change(&mut self, master: usize, slave: usize, by: Change)
         ensures { self.new ≡ row_changed master slave by self.old }
     {
-        change_row(&mut self.entries, master, slave, by);
+        pass_all(
+            &mut self.table,
+            &self.known,
+            self.boot,
+            Pass::One(master, slave, by),
+        );
+    }
+
+    fn count_change<L: Ledger>(
+        &mut self,
+        master: usize,
+        slave: usize,
+        by: Change,
+        steps: &mut Steps<L>,
+    )
+        ensures rows { self.new ≡ row_changed master slave by self.old }
+        ensures cost { IsCheap master slave self.old steps.old steps.new }
+    {
+        pass_over(
+            &mut self.table,
+            &self.known,
+            self.boot,
+            Pass::One(master, slave, by),
+            steps,
+        );
     }
 
     /// The slave is used by the master from now on, with these capabilities and no limit on its latency
@@ -165,28 +157,31 @@ impl Rows {
         master: usize,
         slave: usize,
         caps: Caps,
-        _steps: &mut Steps<L>,
+        steps: &mut Steps<L>,
     )
-        ensures { self.new ≡ row_changed master slave (Request caps) self.old }
+        ensures rows { self.new ≡ row_changed master slave (Request caps) self.old }
+        ensures cost { IsCheap master slave self.old steps.old steps.new }
     {
-        self.change(master, slave, Change::Request(caps));
+        self.count_change(master, slave, Change::Request(caps), steps);
     }
 
     /// The slave isn't used by the master any more. Its arming and its hold stay (UG1200,
     /// PM_RELEASE_NODE).
-    pub fn release<L: Ledger>(&mut self, master: usize, slave: usize, _steps: &mut Steps<L>)
-        ensures { self.new ≡ row_changed master slave Release self.old }
+    pub fn release<L: Ledger>(&mut self, master: usize, slave: usize, steps: &mut Steps<L>)
+        ensures rows { self.new ≡ row_changed master slave Release self.old }
+        ensures cost { IsCheap master slave self.old steps.old steps.new }
     {
-        self.change(master, slave, Change::Release);
+        self.count_change(master, slave, Change::Release, steps);
     }
 
     /// The master requires these capabilities of the slave: at once while it is active, and from its
     /// sleep on while it is suspending (UG1200, PM_SET_REQUIREMENT).
-    pub fn set<L: Ledger>(&mut self, master: usize, slave: usize, caps: Caps, _steps: &mut Steps<L>)
-        ensures { self.new ≡ row_changed master slave (Set (mode_of master self.old) caps) self.old }
+    pub fn set<L: Ledger>(&mut self, master: usize, slave: usize, caps: Caps, steps: &mut Steps<L>)
+        ensures rows { self.new ≡ row_changed master slave (Set (mode_of master self.old) caps) self.old }
+        ensures cost { IsCheap master slave self.old steps.old steps.new }
     {
         let mode = self.mode(master);
-        self.change(master, slave, Change::Set(mode, caps));
+        self.count_change(master, slave, Change::Set(mode, caps), steps);
     }
 
     /// The master allows this latency of the slave at most (UG1200, PM_SET_MAX_LATENCY).
@@ -195,11 +190,12 @@ impl Rows {
         master: usize,
         slave: usize,
         latency: u32,
-        _steps: &mut Steps<L>,
+        steps: &mut Steps<L>,
     )
-        ensures { self.new ≡ row_changed master slave (Limit latency) self.old }
+        ensures rows { self.new ≡ row_changed master slave (Limit latency) self.old }
+        ensures cost { IsCheap master slave self.old steps.old steps.new }
     {
-        self.change(master, slave, Change::Limit(latency));
+        self.count_change(master, slave, Change::Limit(latency), steps);
     }
 
     /// The slave's interrupt wakes this processor of the master, or none (UG1200, PM_SET_WAKEUP_SOURCE).
@@ -213,15 +209,25 @@ impl Rows {
     pub fn settle(&mut self, master: usize)
         ensures { self.new ≡ settled master self.old }
     {
-        settle_rows(&mut self.entries, master);
+        pass_all(
+            &mut self.table,
+            &self.known,
+            self.boot,
+            Pass::Settle(master),
+        );
     }
 
     /// The master's mode is `to` from now on, and its rows change as that change of its mode asks.
     pub fn shift(&mut self, master: usize, to: Mode)
         ensures { self.new ≡ shifted master to self.old }
     {
-        let from = at_or(&self.known, master, Mode::Off);
-        shift_rows(&mut self.entries, master, from, to);
+        let from = mode_in(&self.known, master);
+        pass_all(
+            &mut self.table,
+            &self.known,
+            self.boot,
+            Pass::Shift(master, from, to),
+        );
         set_mode(&mut self.known, master, to);
     }
 
@@ -229,21 +235,26 @@ impl Rows {
     pub fn drop_slave(&mut self, slave: usize)
         ensures { self.new ≡ slave_dropped slave self.old }
     {
-        drop_rows(&mut self.entries, slave);
+        pass_all(
+            &mut self.table,
+            &self.known,
+            self.boot,
+            Pass::DropSlave(slave),
+        );
     }
 
     /// Clears all rows but for their presets.
     pub fn clear(&mut self)
         ensures { self.new ≡ all_cleared self.old }
     {
-        clear_rows(&mut self.entries);
+        pass_all(&mut self.table, &self.known, self.boot, Pass::Clear);
     }
 
     /// Each row, and the mode of each master, is as it was at load.
     pub fn restart(&mut self)
         ensures { self.new ≡ restarted self.old }
     {
-        reload_rows(&mut self.entries);
+        pass_all(&mut self.table, &self.known, self.boot, Pass::Restart);
         reload_modes(&mut self.known, self.boot);
     }
 
@@ -251,35 +262,26 @@ impl Rows {
     pub fn wanted(&self, slave: usize) -> Wanted
         ensures { result ≡ wanted_of slave self.now }
     {
-        wanted_on(&self.entries, &self.known, slave)
+        self.table.wanted(slave, &self.known)
     }
 
     /// How many masters use a slave. The count stands still at the end of its type.
     pub fn users(&self, slave: usize) -> u32
         ensures { result ≡ min (users_of slave self.now) (2 ^ 32 - 1) }
     {
-        let count = self
-            .entries
-            .iter()
-            .filter(|entry| entry.is_user(slave))
-            .count();
-        u32::try_from(count).unwrap_or(u32::MAX)
+        self.table.users(slave)
     }
 
     fn is_used_by(&self, master: usize, slave: usize) -> bool
         ensures { result ≡ spec.is_used_by master slave self.now }
     {
-        self.entries
-            .iter()
-            .any(|entry| entry.is_at(master, slave) && entry.row.used)
+        is_found(&self.table, Sought::Use(master, slave))
     }
 
     fn is_used_by_others(&self, master: usize, slave: usize) -> bool
         ensures { result ≡ spec.is_used_by_others master slave self.now }
     {
-        self.entries
-            .iter()
-            .any(|entry| entry.is_of_other(master, slave) && entry.row.used)
+        is_found(&self.table, Sought::OtherUse(master, slave))
     }
 
     /// Who uses a slave, as a master is told it: 0 nobody, 1 only that master, 2 only others, 3 both

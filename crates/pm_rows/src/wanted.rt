@@ -1,7 +1,7 @@
 //! The requirements in force on a slave.
 
-ghost use Rattle.std.specs.Prelude.{◌≡◌, fold};
-ghost use Rattle.pm_rows.specs.Wanted.{least, both, by_use, by_arming, by_hold, limit_by, required_by, with_row, nothing_wanted};
+ghost use Rattle.std.specs.Prelude.{◌≡◌};
+ghost use Rattle.pm_rows.specs.Wanted.{least, both, by_use, by_arming, by_hold, limit_by, required_by, with_row};
 
 use crate::row::Entry;
 use pm_base::{Caps, Mode, at_or};
@@ -15,7 +15,7 @@ pub struct Wanted {
 }
 
 /// The least of two limits, of which each may be absent.
-fn least(a: Option<u32>, b: Option<u32>) -> Option<u32>
+pub(crate) fn least(a: Option<u32>, b: Option<u32>) -> Option<u32>
     ensures { result ≡ least a b }
 {
     match (a, b) {
@@ -57,13 +57,14 @@ impl Entry {
     }
 
     /// What the row requires of its slave in a mode of its master.
-    fn required_by(&self, mode: Mode) -> Caps
+    pub(crate) fn required_by(&self, mode: Mode) -> Caps
         ensures { result ≡ required_by mode self.now }
     {
         both(self.by_use(), both(self.by_arming(mode), self.by_hold()))
     }
 
-    fn limit_by(&self) -> Option<u32>
+    /// The greatest latency that the row allows, if it is used and has one.
+    pub(crate) fn limit_by(&self) -> Option<u32>
         ensures { result ≡ limit_by self.now }
     {
         if self.row.used {
@@ -75,7 +76,7 @@ impl Entry {
 }
 
 /// What is wanted of a slave, and what this row wants of it besides.
-fn with_row(slave: usize, modes: &[Mode], wanted: Wanted, entry: &Entry) -> Wanted
+pub(crate) fn with_row(slave: usize, modes: &[Mode], wanted: Wanted, entry: &Entry) -> Wanted
     ensures { result ≡ with_row slave modes.now wanted entry.now }
 {
     if entry.seed.slave == slave {
@@ -89,18 +90,4 @@ fn with_row(slave: usize, modes: &[Mode], wanted: Wanted, entry: &Entry) -> Want
     } else {
         wanted
     }
-}
-
-/// What the rows on a slave require in all, in these modes of the masters.
-pub(crate) fn wanted_on(entries: &[Entry], modes: &[Mode], slave: usize) -> Wanted
-    ensures { result ≡ fold (with_row slave modes.now) nothing_wanted entries.now }
-{
-    let nothing = Wanted {
-        caps: Caps(0),
-        limit: None,
-    };
-    entries.iter().fold(
-        nothing,
-        |wanted, entry| with_row(slave, modes, wanted, entry),
-    )
 }

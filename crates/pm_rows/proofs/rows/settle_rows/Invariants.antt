@@ -1,8 +1,0 @@
-use Rattle.std.proofs.Common.{◌≡◌, ◌++◌, map, take, drop}
-use Rattle.pm_rows.specs.Rows.{settled_at}
-use Rattle.pm_rows.proofs.rows.settle_rows.Given as goal
-
--- the entries before the cursor are changed, and the rest are as they were
-abbrev pub invariant-loop-entry : goal.invariant-loop-entry
-invariant-loop-entry l =
-    l.entries ≡ map (settled_at l.master) (take l.entry-index l.initial.entries) ++ drop l.entry-index l.initial.entries

@@ -1,0 +1,64 @@
+//! One count that follows whether a row passes a test.
+
+ghost use Rattle.std.specs.Prelude.{◌≡◌, ◌+◌, ◌≤◌, ◌==◌, ◌<◌, length};
+ghost use Rattle.std.specs.Int.{bit_at};
+ghost use Rattle.pm_rows.specs.Counted.{IsReady, flag, has, moved_count};
+
+use pm_base::{Caps, Steps};
+use pm_cells::Counts;
+use std::sync::ledger::Ledger;
+
+/// Whether a set has the capability of a bit.
+pub(crate) fn has(caps: Caps, bit: u32) -> bool
+    requires { bit < 32 }
+    ensures { result ≡ has bit caps }
+{
+    (caps.0 >> bit) & 1 == 1
+}
+
+/// Counts a row that passed a test before or not, and passes it from now on or not.
+pub(crate) fn follow<L: Ledger>(
+    counts: &mut Counts,
+    place: usize,
+    before: bool,
+    after: bool,
+    steps: &mut Steps<L>,
+)
+    requires { IsReady place before counts.old }
+    ensures count { counts.new ≡ moved_count place before after counts.old }
+    ensures places { length counts.new ≡ length counts.old }
+    ensures steps { steps.new ≤ steps.old + 1 }
+{
+    match (before, after) {
+        (true, false) => counts.sub(place, steps),
+        (false, true) => counts.add(place, steps),
+        (true, true) | (false, false) => {}
+    }
+}
+
+/// Counts a row that wanted some capabilities before, and wants others from now on, by the capability of a
+/// bit.
+pub(crate) fn follow_capability<L: Ledger>(
+    counts: &mut Counts,
+    place: usize,
+    bit: u32,
+    before: Caps,
+    after: Caps,
+    steps: &mut Steps<L>,
+)
+    requires bit { bit < 32 }
+    requires ready { IsReady place (has bit before) counts.old }
+    ensures count { counts.new ≡ moved_count place (has bit before) (has bit after) counts.old }
+    ensures places { length counts.new ≡ length counts.old }
+    ensures steps { steps.new ≤ steps.old + 1 }
+{
+    follow(counts, place, has(before, bit), has(after, bit), steps);
+}
+
+/// A value where a count isn't 0.
+pub(crate) fn flag(count: u32, value: u32) -> u32
+    ensures value { result ≡ flag count value }
+    ensures bound { result ≤ value }
+{
+    if count == 0 { 0 } else { value }
+}

@@ -1,0 +1,33 @@
+//! Which fields the rows have.
+
+use crate::rows::Rows;
+use crate::table::Table;
+use std::test::Fail;
+
+/// Takes rows apart by a pattern that names every field and has no rest: what a row is now stands in the
+/// cells and counts alone. The pairs, their places and whether all capabilities were known ones are beside
+/// them, with the modes and the place of the master that is active at load.
+fn take_apart(rows: &Rows) {
+    let Rows {
+        table: Table {
+            seeds: _,
+            spans: _,
+            narrow: _,
+            cells: _,
+            access: _,
+            context: _,
+            wakeup: _,
+            users: _,
+            limits: _,
+        },
+        known: _,
+        boot: _,
+    } = rows;
+}
+
+#[test]
+fn rows_fields(rt: HostRuntime) -> Result<(), Fail> {
+    let rows = Rows::load(rt.alloc(), 1, 1, 0, &[])?;
+    take_apart(&rows);
+    Ok(())
+}

@@ -1,0 +1,137 @@
+//! A pass over all rows, which keeps the counts.
+
+ghost use Rattle.std.specs.Prelude.{◌≡◌, ◌+◌, ◌<◌, ◌≤◌, map, sum_by, slice_set};
+ghost use Rattle.pm_rows.specs.Modes.{mode_in, loaded_modes};
+ghost use Rattle.pm_rows.specs.Shift.{is_taken};
+ghost use Rattle.pm_rows.specs.Counted.{AreTallied, counted};
+ghost use Rattle.pm_rows.specs.Passes.{cost_of, known_after, passed, row_after};
+ghost use Rattle.pm_rows.specs.Spans.{IsCover};
+
+use crate::modes::mode_in;
+use crate::passes::Pass;
+use crate::row::{Entry, Row};
+use crate::seeking::{Sought, is_found};
+use crate::shift::shifted_row;
+use crate::table::Table;
+use pm_base::{Mode, Steps};
+use std::marker::Brand;
+use std::sync::ledger::{Blank, Ledger};
+
+/// The mode of a master where the one at place `m` is set to a mode.
+fn mode_set(known: &[Mode], m: usize, to: Mode, master: usize) -> Mode
+    ensures { result ≡ mode_in master (slice_set known.now m to) }
+{
+    if master == m && m < known.len() {
+        to
+    } else {
+        mode_in(known, master)
+    }
+}
+
+/// The mode of a master at load.
+fn mode_at_load(masters: usize, boot: usize, master: usize) -> Mode
+    ensures { result ≡ mode_in master (loaded_modes masters boot) }
+{
+    if master == boot && boot < masters {
+        Mode::Active
+    } else {
+        Mode::Off
+    }
+}
+
+/// The mode of a master after a pass.
+fn mode_after(known: &[Mode], boot: usize, pass: Pass, master: usize) -> Mode
+    ensures { result ≡ mode_in master (known_after pass boot known.now) }
+{
+    match pass {
+        Pass::Shift(m, _, to) => mode_set(known, m, to, master),
+        Pass::Restart => mode_at_load(known.len(), boot, master),
+        Pass::One(_, _, _) | Pass::Settle(_) | Pass::DropSlave(_) | Pass::Clear => {
+            mode_in(known, master)
+        }
+    }
+}
+
+/// Whether another master uses the slave of a row, and the slave can't be shared.
+fn is_taken(table: &Table, entry: &Entry) -> bool
+    ensures { result ≡ is_taken table.now.entries entry.now }
+{
+    is_found(table, Sought::Rival(entry.seed.master, entry.seed.slave))
+}
+
+/// A row that a pass changes, as it is afterwards.
+fn row_after(table: &Table, entry: Entry, pass: Pass) -> Row
+    ensures { result ≡ row_after pass table.now.entries entry }
+{
+    match pass {
+        Pass::One(_, _, by) => entry.row.changed(by),
+        Pass::Settle(_) => entry.row.settled(),
+        Pass::Shift(_, from, to) => shifted_row(entry.row, from, to, is_taken(table, &entry)),
+        Pass::DropSlave(_) | Pass::Clear => entry.row.cleared(),
+        Pass::Restart => Entry::loaded(entry.seed).row,
+    }
+}
+
+/// Between which places the rows stand that a pass touches.
+fn cover(table: &Table, pass: Pass) -> (usize, usize)
+    ensures { IsCover pass result.0 result.1 table.now.entries }
+{
+    match pass {
+        Pass::One(_, slave, _) | Pass::DropSlave(slave) => table.span(slave),
+        Pass::Settle(_) | Pass::Shift(_, _, _) | Pass::Clear | Pass::Restart => (0, table.len()),
+    }
+}
+
+/// Changes the rows that a pass touches, one after another, and counts them in the modes that their masters
+/// have afterwards.
+pub(crate) fn pass_over<L: Ledger>(
+    table: &mut Table,
+    known: &[Mode],
+    boot: usize,
+    pass: Pass,
+    steps: &mut Steps<L>,
+)
+    requires { AreTallied (map (counted known.now) table.old.entries) table.old.tally }
+    ensures rows { table.new.entries ≡ map (passed pass table.old.entries) table.old.entries }
+    ensures counted { AreTallied (map (counted (known_after pass boot known.now)) table.new.entries) table.new.tally }
+    ensures cost { steps.new ≤ steps.old + sum_by (cost_of pass table.old.entries) table.old.entries }
+{
+    let (first, past) = cover(table, pass);
+    for k in first..past {
+        let seed = table.seed(k);
+        if pass.touches(seed) {
+            let entry = table.entry(k, steps);
+            let row = row_after(table, entry, pass);
+            let from = mode_in(known, entry.seed.master);
+            let to = mode_after(known, boot, pass, entry.seed.master);
+            table.put(k, entry, from, row, to, steps);
+        }
+    }
+}
+
+/// The same with a counter that is thrown away.
+fn pass_uncounted<L: Ledger>(
+    table: &mut Table,
+    known: &[Mode],
+    boot: usize,
+    pass: Pass,
+    blank: Blank,
+)
+    requires counted { AreTallied (map (counted known.now) table.old.entries) table.old.tally }
+    requires name { blank.name ≡ L.name }
+    requires parts { blank.parts ≡ L.parts }
+    requires some { 0 < blank.parts }
+    ensures rows { table.new.entries ≡ map (passed pass table.old.entries) table.old.entries }
+    ensures counted { AreTallied (map (counted (known_after pass boot known.now)) table.new.entries) table.new.tally }
+{
+    pass_over(table, known, boot, pass, &mut Steps::<L>::new(blank));
+}
+
+/// The same where nothing bounds how many rows are read.
+pub(crate) fn pass_all(table: &mut Table, known: &[Mode], boot: usize, pass: Pass)
+    requires { AreTallied (map (counted known.now) table.old.entries) table.old.tally }
+    ensures rows { table.new.entries ≡ map (passed pass table.old.entries) table.old.entries }
+    ensures counted { AreTallied (map (counted (known_after pass boot known.now)) table.new.entries) table.new.tally }
+{
+    pass_uncounted::<Brand>(table, known, boot, pass, Blank::new(1));
+}

@@ -1,0 +1,63 @@
+//! The first row of a slave that is looked for.
+
+ghost use Rattle.std.specs.Prelude.{◌≡◌, find};
+ghost use Rattle.std.specs.List.{list_any};
+ghost use Rattle.pm_rows.specs.Seeking.{is_sought, slave_of};
+
+use crate::row::Entry;
+use crate::table::Table;
+
+/// Which row is looked for: that of a master on a slave, one by which another master uses the slave, which
+/// can't be shared, one by which this master uses the slave, or one by which any other does.
+#[derive(Clone, Copy, Debug, PartialEq, Eq)]
+pub(crate) enum Sought {
+    At(usize, usize),
+    Rival(usize, usize),
+    Use(usize, usize),
+    OtherUse(usize, usize),
+}
+
+impl Sought {
+    fn slave(self) -> usize
+        ensures { result ≡ slave_of self }
+    {
+        match self {
+            Sought::At(_, slave)
+            | Sought::Rival(_, slave)
+            | Sought::Use(_, slave)
+            | Sought::OtherUse(_, slave) => slave,
+        }
+    }
+
+    fn is(self, entry: &Entry) -> bool
+        ensures { result ≡ is_sought self entry.now }
+    {
+        match self {
+            Sought::At(master, slave) => entry.is_at(master, slave),
+            Sought::Rival(master, slave) => entry.is_rival(master, slave),
+            Sought::Use(master, slave) => entry.is_at(master, slave) && entry.row.used,
+            Sought::OtherUse(master, slave) => entry.is_of_other(master, slave) && entry.row.used,
+        }
+    }
+}
+
+/// The first row that is looked for.
+pub(crate) fn found(table: &Table, sought: Sought) -> Option<Entry>
+    ensures { result ≡ find (is_sought sought) table.now.entries }
+{
+    let (first, past) = table.span(sought.slave());
+    for k in first..past {
+        let entry = table.peek(k);
+        if sought.is(&entry) {
+            return Some(entry);
+        }
+    }
+    None
+}
+
+/// Whether one is there.
+pub(crate) fn is_found(table: &Table, sought: Sought) -> bool
+    ensures { result ≡ list_any (is_sought sought) table.now.entries }
+{
+    found(table, sought).is_some()
+}

@@ -1,0 +1,280 @@
+//! The rows in cells, with what is counted of them.
+
+ghost use Rattle.std.specs.Prelude.{◌≡◌, ◌+◌, ◌≤◌, ◌<◌, ◌^◌, ◌&&◌, IsTrue, fold, map, length, replicate, slice_get, slice_set, slice_index, Some, IfOk, None};
+ghost use Rattle.std.specs.List.{list_all};
+ghost use Rattle.std.specs.Option.{option_map};
+ghost use Rattle.pm_rows.specs.Counted.{AreReady, AreTallied, counted, counted_in, blank_entry, blank_row, is_narrow, is_narrow_pair, is_placed, is_placed_pair, limit_of, no_tally, moved, permitted_on, wanted_in};
+ghost use Rattle.pm_rows.specs.Spans.{IsSpan};
+ghost use Rattle.pm_rows.specs.Wanted.{nothing_wanted, with_row};
+
+use crate::counting::{flag, follow, follow_capability};
+use crate::peek::peek;
+use crate::row::{Entry, Row, RowSeed};
+use crate::spans::Spans;
+use crate::wanted::{Wanted, least, with_row};
+use pm_base::{Caps, List, Mode, NoMemory, Steps, at_or};
+use pm_cells::{Cells, Counts};
+use std::alloc::Global;
+use std::marker::Model;
+use std::sync::ledger::Ledger;
+
+/// The rows in cells, the pair of each, and for each slave how many rows want each capability, how many are
+/// used, and the least latency. Beside the pairs stands between which places those of each slave are, and
+/// whether no pair and no row had a capability past the three that are counted.
+#[derive(Debug, Drop)]
+pub(crate) struct Table {
+    pub(crate) seeds: List<RowSeed>,
+    pub(crate) spans: Spans,
+    pub(crate) narrow: bool,
+    pub(crate) cells: Cells<Row>,
+    pub(crate) access: Counts,
+    pub(crate) context: Counts,
+    pub(crate) wakeup: Counts,
+    pub(crate) users: Counts,
+    pub(crate) limits: Cells<Option<u32>>,
+}
+
+impl Model for Table {
+    ghost use Rattle.std.specs.Prelude.{length};
+    ghost use Rattle.pm_rows.specs.Counted.{Table, entries_of};
+    ghost use Rattle.pm_rows.specs.Kept.{IsKept};
+
+    ghost Value = { Table };
+
+    ghost view = { λ table. record {
+      entries = entries_of table.seeds table.cells;
+      tally = record { access = table.access; context = table.context; wakeup = table.wakeup; users = table.users; limits = table.limits };
+    } };
+
+    ghost invariant = { λ table.
+        IsKept table.seeds table.cells (length table.users) table.narrow table.spans.first.items table.spans.past.items };
+}
+
+/// A list of these pairs.
+fn copied(alloc: Global, seeds: &[RowSeed]) -> Result<List<RowSeed>, NoMemory>
+    ensures { IfOk result (λ list. list ≡ seeds.now) }
+{
+    let mut list = List::new(alloc);
+    for seed in seeds {
+        list.push(*seed)?;
+    }
+    Ok(list)
+}
+
+/// Whether a set has no capability past the three that are counted.
+fn is_narrow(caps: Caps) -> bool
+    ensures { result ≡ is_narrow caps }
+{
+    caps.0 < 8
+}
+
+/// Whether all sets are so that were so before and now this one.
+fn stays_narrow(narrow: bool, caps: Caps) -> bool
+    ensures { result ≡ (narrow && is_narrow caps) }
+{
+    narrow && is_narrow(caps)
+}
+
+/// Whether no pair has such a capability.
+fn are_narrow(seeds: &[RowSeed]) -> bool
+    ensures { result ≡ list_all is_narrow_pair seeds.now }
+{
+    seeds.iter().all(|seed| seed.all.0 < 8)
+}
+
+/// A row that is not used.
+fn blank_row() -> Row
+    ensures { result ≡ blank_row }
+{
+    Row {
+        used: false,
+        now: Caps(0),
+        next: Caps(0),
+        preset: Caps(0),
+        hold: false,
+        armed: None,
+        latency: None,
+    }
+}
+
+impl Table {
+    /// A row for each of these pairs, none of which is used.
+    pub(crate) fn blank(alloc: Global, slaves: usize, seeds: &[RowSeed]) -> Result<Table, NoMemory>
+        requires few { length seeds.now < 2 ^ 31 }
+        requires placed { IsTrue (list_all (is_placed_pair slaves) seeds.now) }
+        ensures rows { IfOk result (λ table. table.entries ≡ map blank_entry seeds.now) }
+        ensures tally { IfOk result (λ table. table.tally ≡ no_tally slaves) }
+    {
+        Ok(Table {
+            seeds: copied(alloc, seeds)?,
+            spans: Spans::load(alloc, slaves, seeds)?,
+            narrow: are_narrow(seeds),
+            cells: Cells::load(alloc, seeds.len(), blank_row())?,
+            access: Counts::load(alloc, slaves)?,
+            context: Counts::load(alloc, slaves)?,
+            wakeup: Counts::load(alloc, slaves)?,
+            users: Counts::load(alloc, slaves)?,
+            limits: Cells::load(alloc, slaves, None)?,
+        })
+    }
+
+    /// The number of rows.
+    pub(crate) fn len(&self) -> usize
+        ensures len { result ≡ length self.now.entries }
+        ensures few { length self.now.entries < 2 ^ 31 }
+    {
+        self.seeds.len()
+    }
+
+    /// The pair of the row at a place.
+    pub(crate) fn seed(&self, k: usize) -> RowSeed
+        requires { k < length self.now.entries }
+        ensures { option_map (λ (e : Entry). e.seed) (slice_get self.now.entries k) ≡ Some result }
+    {
+        *self.seeds.get(k)
+    }
+
+    /// The row at a place with its pair. It is read once.
+    pub(crate) fn entry<L: Ledger>(&self, k: usize, steps: &mut Steps<L>) -> Entry
+        requires { k < length self.now.entries }
+        ensures entry { slice_get self.now.entries k ≡ Some result }
+        ensures placed { result.seed.slave < length self.now.tally.users }
+        ensures few { length self.now.entries < 2 ^ 31 }
+        ensures steps { steps.new ≡ steps.old + 1 }
+    {
+        Entry {
+            seed: *self.seeds.get(k),
+            row: self.cells.read(k, steps),
+        }
+    }
+
+    /// The row at a place with its pair, where nothing bounds how many are read.
+    pub(crate) fn peek(&self, k: usize) -> Entry
+        requires { k < length self.now.entries }
+        ensures { slice_get self.now.entries k ≡ Some result }
+    {
+        Entry {
+            seed: *self.seeds.get(k),
+            row: peek(&self.cells, k),
+        }
+    }
+
+    /// Between which places all rows on a slave stand.
+    pub(crate) fn span(&self, slave: usize) -> (usize, usize)
+        ensures { IsSpan slave result.0 result.1 self.now.entries }
+    {
+        let past = at_or(&self.spans.past, slave, 0);
+        (at_or(&self.spans.first, slave, 0).min(past), past)
+    }
+
+    /// The least latency of the used rows on a slave. Each row on it is read once.
+    fn limit_on<L: Ledger>(&self, slave: usize, steps: &mut Steps<L>) -> Option<u32>
+        ensures limit { result ≡ limit_of slave self.now.entries }
+        ensures steps { steps.new ≡ steps.old + permitted_on slave self.now.entries }
+    {
+        let (first, past) = self.span(slave);
+        let mut limit = None;
+        for k in first..past {
+            if self.seed(k).slave == slave {
+                limit = least(limit, self.entry(k, steps).limit_by());
+            }
+        }
+        limit
+    }
+
+    /// Puts a row in the place of one that was read, and counts it in the mode that its master has from now
+    /// on in place of the one before.
+    pub(crate) fn put<L: Ledger>(
+        &mut self,
+        k: usize,
+        entry: Entry,
+        from: Mode,
+        row: Row,
+        to: Mode,
+        steps: &mut Steps<L>,
+    )
+        requires here { slice_get self.old.entries k ≡ Some entry }
+        requires ready { AreReady (counted_in from entry) self.old.tally }
+        ensures entries { self.new.entries ≡ slice_set self.old.entries k (record entry { row = row }) }
+        ensures tally { self.new.tally
+            ≡ moved (counted_in from entry) (counted_in to (record entry { row = row })) self.new.entries self.old.tally }
+        ensures steps { steps.new ≤ steps.old + (4 + permitted_on entry.seed.slave self.old.entries) }
+    {
+        let slave = entry.seed.slave;
+        let before = entry.required_by(from);
+        let after = Entry { row, ..entry }.required_by(to);
+        follow_capability(&mut self.access, slave, 0, before, after, steps);
+        follow_capability(&mut self.context, slave, 1, before, after, steps);
+        follow_capability(&mut self.wakeup, slave, 2, before, after, steps);
+        follow(&mut self.users, slave, entry.row.used, row.used, steps);
+        self.cells.write(k, row);
+        self.narrow = stays_narrow(self.narrow, row.now);
+        let limit = self.limit_on(slave, steps);
+        self.limits.write(slave, limit);
+    }
+
+    /// How many masters use a slave.
+    pub(crate) fn users(&self, slave: usize) -> u32
+        ensures users { result ≡ slice_index self.now.tally.users slave }
+        ensures placed { IsTrue (list_all (is_placed (length self.now.tally.users)) self.now.entries) }
+        ensures few { length self.now.entries < 2 ^ 31 }
+    {
+        if slave < self.users.len() {
+            self.users.value(slave)
+        } else {
+            0
+        }
+    }
+
+    /// What is wanted of a slave by the counts, which don't know capabilities past the third.
+    fn counted(&self, slave: usize) -> Wanted
+        requires access { length self.now.tally.access ≡ length self.now.tally.users }
+        requires context { length self.now.tally.context ≡ length self.now.tally.users }
+        requires wakeup { length self.now.tally.wakeup ≡ length self.now.tally.users }
+        requires limits { length self.now.tally.limits ≡ length self.now.tally.users }
+        ensures { result ≡ wanted_in slave self.now.tally }
+    {
+        if slave < self.users.len() {
+            Wanted {
+                caps: Caps(
+                    flag(self.access.value(slave), 1)
+                        + (flag(self.context.value(slave), 2) + flag(self.wakeup.value(slave), 4)),
+                ),
+                limit: peek(&self.limits, slave),
+            }
+        } else {
+            Wanted {
+                caps: Caps(0),
+                limit: None,
+            }
+        }
+    }
+
+    /// What is wanted of a slave by its rows, each of which is read.
+    fn collected(&self, slave: usize, known: &[Mode]) -> Wanted
+        ensures { result ≡ fold (with_row slave known.now) nothing_wanted self.now.entries }
+    {
+        let (first, past) = self.span(slave);
+        let mut wanted = Wanted {
+            caps: Caps(0),
+            limit: None,
+        };
+        for k in first..past {
+            wanted = with_row(slave, known, wanted, &self.peek(k));
+        }
+        wanted
+    }
+
+    /// What is wanted of a slave in these modes of the masters: by the counts, unless a pair or a row had a
+    /// capability that they don't know.
+    pub(crate) fn wanted(&self, slave: usize, known: &[Mode]) -> Wanted
+        requires { AreTallied (map (counted known.now) self.now.entries) self.now.tally }
+        ensures { result ≡ fold (with_row slave known.now) nothing_wanted self.now.entries }
+    {
+        if self.narrow {
+            self.counted(slave)
+        } else {
+            self.collected(slave, known)
+        }
+    }
+}

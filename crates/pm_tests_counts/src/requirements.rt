@@ -1,0 +1,163 @@
+//! The rows of the book by their counts: what is wanted of a slave, and how many use it, after each call.
+
+ghost use Rattle.std.specs.Prelude.{◌≡◌, ◌<◌};
+
+use crate::rows::all_right;
+use pm_base::{Caps, Mode, NoMemory, NodeId, Steps};
+use pm_rows::{Change, RowSeed, Rows, Wanted};
+use std::alloc::Global;
+use std::marker::Brand;
+use std::process::Abort;
+use std::sync::ledger::{Blank, Ledger};
+use std::test::Fail;
+
+/// A call, by a master or on a slave.
+#[derive(Clone, Copy, Debug)]
+enum Call {
+    Request(usize, usize, u32),
+    Release(usize, usize),
+    Set(usize, usize, u32),
+    Limit(usize, usize, u32),
+    Arm(usize, usize),
+    Settle(usize),
+    Shift(usize, Mode),
+    DropSlave(usize),
+    Clear,
+    Restart,
+}
+
+/// A pair with these capabilities at the start of its master, and held or not.
+fn pair(master: usize, slave: usize, preset: u32, hold: bool) -> RowSeed {
+    RowSeed {
+        master,
+        slave,
+        shareable: true,
+        all: Caps(7),
+        preset: Caps(preset),
+        start: if master == 0 {
+            Some(Caps(preset))
+        } else {
+            None
+        },
+        hold,
+    }
+}
+
+/// Three masters and two slaves. The first master is active from the load on, uses both slaves, and holds
+/// the second one. The pairs don't stand slave by slave.
+fn loaded(alloc: Global) -> Result<Rows, NoMemory> {
+    let pairs = [
+        pair(0, 0, 1, false),
+        pair(0, 1, 2, true),
+        pair(1, 0, 4, false),
+        pair(2, 1, 1, false),
+        pair(2, 0, 3, false),
+    ];
+    Rows::load(alloc, 3, 2, 0, &pairs)
+}
+
+fn carry_out<L: Ledger>(rows: &mut Rows, by: Call, steps: &mut Steps<L>) {
+    match by {
+        Call::Request(m, s, caps) => rows.request(m, s, Caps(caps), steps),
+        Call::Release(m, s) => rows.release(m, s, steps),
+        Call::Set(m, s, caps) => rows.set(m, s, Caps(caps), steps),
+        Call::Limit(m, s, latency) => rows.limit(m, s, latency, steps),
+        Call::Arm(m, s) => rows.arm(m, s, Some(NodeId(2))),
+        Call::Settle(m) => rows.settle(m),
+        Call::Shift(m, to) => rows.shift(m, to),
+        Call::DropSlave(s) => rows.drop_slave(s),
+        Call::Clear => rows.clear(),
+        Call::Restart => rows.restart(),
+    }
+}
+
+/// What is wanted of a slave: the capabilities, the greatest latency that is allowed, and how many masters
+/// use it.
+pub(crate) type Told = (u32, Option<u32>, u32);
+
+pub(crate) fn told(rows: &Rows, slave: usize) -> Told {
+    let wanted: Wanted = rows.wanted(slave);
+    (wanted.caps.0, wanted.limit, rows.users(slave))
+}
+
+/// Calls one after another, and what is told of the two slaves after each.
+static CALLS: [(Call, Told, Told); 22] = [
+    (Call::Settle(0), (1, None, 1), (2, None, 1)),
+    (Call::Shift(1, Mode::Active), (5, None, 2), (2, None, 1)),
+    (Call::Limit(1, 0, 9), (5, Some(9), 2), (2, None, 1)),
+    (Call::Limit(0, 0, 5), (5, Some(5), 2), (2, None, 1)),
+    (Call::Release(0, 0), (4, Some(9), 1), (2, None, 1)),
+    (Call::Limit(0, 0, 1), (4, Some(9), 1), (2, None, 1)),
+    (Call::Set(1, 0, 2), (2, Some(9), 1), (2, None, 1)),
+    (Call::Request(0, 0, 1), (3, Some(9), 2), (2, None, 1)),
+    (Call::Shift(2, Mode::Active), (3, Some(9), 3), (3, None, 2)),
+    (
+        Call::Shift(1, Mode::Suspending),
+        (3, Some(9), 3),
+        (3, None, 2),
+    ),
+    (Call::Set(1, 0, 4), (3, Some(9), 3), (3, None, 2)),
+    (Call::Arm(1, 0), (3, Some(9), 3), (3, None, 2)),
+    (Call::Shift(1, Mode::Asleep), (7, Some(9), 3), (3, None, 2)),
+    (Call::Set(1, 0, 0), (7, Some(9), 3), (3, None, 2)),
+    (Call::Release(1, 0), (7, None, 2), (3, None, 2)),
+    (Call::Shift(1, Mode::Active), (3, None, 2), (3, None, 2)),
+    (Call::Shift(2, Mode::Off), (1, None, 1), (2, None, 1)),
+    (Call::DropSlave(0), (0, None, 0), (2, None, 1)),
+    (Call::Request(1, 1, 7), (0, None, 0), (2, None, 1)),
+    (Call::Request(2, 1, 8), (0, None, 0), (10, None, 2)),
+    (Call::Clear, (0, None, 0), (0, None, 0)),
+    (Call::Restart, (1, None, 1), (7, None, 1)),
+];
+
+/// The place of the first call after which something else is told.
+fn wrong_call<L: Ledger>(rows: &mut Rows, blank: Blank) -> Option<usize>
+    requires name { blank.name ≡ L.name }
+    requires parts { blank.parts ≡ L.parts }
+    requires some { 0 < blank.parts }
+{
+    let mut steps = Steps::<L>::new(blank);
+    for (place, (by, first, second)) in CALLS.iter().enumerate() {
+        carry_out(rows, *by, &mut steps);
+        if told(rows, 0) != *first || told(rows, 1) != *second {
+            return Some(place);
+        }
+    }
+    None
+}
+
+#[test]
+fn the_counts_tell_what_the_rows_come_to(rt: HostRuntime) -> Result<(), Fail> {
+    let mut rows = loaded(rt.alloc())?;
+    assert_eq!(rt;
+        (told(&rows, 0), told(&rows, 1)),
+        ((1, None, 1), (7, None, 1))
+    );
+    let wrong = wrong_call::<Brand>(&mut rows, Blank::new(1));
+    all_right(&rt, wrong);
+    assert_eq!(rt; told(&rows, 2), (0, None, 0));
+    Ok(())
+}
+
+#[test]
+fn a_pair_past_the_slaves_has_no_room(rt: HostRuntime) -> Result<(), Fail> {
+    let found = Rows::load(rt.alloc(), 1, 1, 0, &[pair(0, 1, 0, false)]);
+    assert!(rt; found.is_err());
+    Ok(())
+}
+
+#[test]
+fn two_rows_of_a_pair_change_together(rt: HostRuntime) -> Result<(), Fail> {
+    let mut rows = Rows::load(
+        rt.alloc(),
+        1,
+        1,
+        0,
+        &[pair(0, 0, 1, false), pair(0, 0, 1, false)],
+    )?;
+    rows.change(0, 0, Change::Set(Mode::Active, Caps(6)));
+    assert_eq!(rt; told(&rows, 0), (6, None, 2));
+    rows.change(0, 0, Change::Release);
+    assert_eq!(rt; told(&rows, 0), (0, None, 0));
+    Ok(())
+}
