@@ -10,14 +10,14 @@ use Rattle.pm_base.specs.declared.names.NodeId.{NodeId}
 use Rattle.pm_base.specs.declared.prefix.StopReason.{StopReason}
 use Rattle.pm_base.specs.declared.prefix.StopReason.TheVariants as reason
 use Rattle.pm_base.specs.declared.sink.Sink as Sink
-use Rattle.pm_base.specs.Prefix.{Prefix, ReadsPrefix}
+use Rattle.pm_base.specs.Faults.{Rose}
 use Rattle.pm_reach.specs.declared.members.Member.{Member}
 use Rattle.pm_reach.specs.Membership.{IsReach}
 use Rattle.pm_run.specs.Run.{Setup}
 use Rattle.pm_script.specs.declared.meaning.LineFault.{LineFault}
-use Rattle.pm_script.specs.Named.{IsHeldWhole}
-use Rattle.pm_script.specs.Script.{Script, Stop, script_from, script_limit, script_lines, stop_of}
-use Rattle.pm_script.specs.Script.Stop.{Bad, Failed}
+use Rattle.pm_script.specs.Named.{IsHeldWhole, script_in}
+use Rattle.pm_script.specs.Script.{Script, Stop, stop_of}
+use Rattle.pm_script.specs.Script.Stop.{Bad}
 use Rattle.pm_trace.specs.declared.faults.Fault.{Fault}
 use Rattle.pm_trace.specs.declared.faults.Fault.TheVariants.{Line, Memory, Read}
 use Rattle.pm_trace.specs.Exits.{IsWhole}
@@ -88,23 +88,20 @@ module _ {I O : Type 0} (i : Inputs.Ghosts I) (o : Sink.Ghosts O) (c : Setup) (m
   compare_starved reports = compare_refused Memory (record { script = scripts.asked_starved i name old new result (scripts.memory_exit o sink sink' result reports); reach = tt }) reports
 
   -- the script could not be begun
-  pub compare_unbegun : (p : Prefix) → ReadsPrefix i.observable name script_limit (i.state old) (i.state new) p → p.stop ≡ reason.Unbegun → Reports o (refusal Read) sink sink' result → Compared i o c m name old new sink sink' result
-  compare_unbegun p reads is reports = compare_refused Read (record { script = scripts.asked_unbegun i name old new result p reads is; reach = tt }) reports
+  pub compare_unbegun : (i.observable → script_in (i.state old) name ≡ None) → Rose (i.state old).faults (i.state new).faults → Reports o (refusal Read) sink sink' result → Compared i o c m name old new sink sink' result
+  compare_unbegun none rose reports = compare_refused Read (record { script = scripts.asked_unbegun i name old new result none rose; reach = tt }) reports
 
   -- a script was read, and this is written of it and of the reach of the master
-  pub compare_ran : (p : Prefix) (members : List Member) → ReadsPrefix i.observable name script_limit (i.state old) (i.state new) p → (p.stop ≡ reason.Unbegun → ⊥) → IsReach c.object c.topology m members → Reports o (isolate_report c m members (script_from (script_lines p) (stop_of p.stop))) sink sink' result → Compared i o c m name old new sink sink' result
-  compare_ran p members reads begun reach reports =
-      let s : Script = script_from (script_lines p) (stop_of p.stop) in
-      let fails : result ≡ exit.ReadFault → s.stop ≡ Failed = λ is. scripts.unreadable_by (Ok s) (scripts.read_by o (isolate_report c m members s) reports.cut sink sink' result reports.left reports.ends is) in
-      record {
-        job = Ok (record { members = members; script = s });
-        answers = [];
-        cut = reports.cut;
-        asked = record { script = scripts.asked_begun i name old new result p reads begun fails; reach = reach };
-        left = reports.left;
-        ends = reports.ends;
-        touched = tt;
-      }
+  pub compare_ran : (s : Script) (members : List Member) → (i.observable → script_in (i.state old) name ≡ Some s) → (result ≡ exit.ReadFault → Rose (i.state old).faults (i.state new).faults) → IsReach c.object c.topology m members → Reports o (isolate_report c m members s) sink sink' result → Compared i o c m name old new sink sink' result
+  compare_ran s members read fails reach reports = record {
+    job = Ok (record { members = members; script = s });
+    answers = [];
+    cut = reports.cut;
+    asked = record { script = scripts.asked_begun i name old new result s read fails; reach = reach };
+    left = reports.left;
+    ends = reports.ends;
+    touched = tt;
+  }
 
 -- ---- the report of a script
 

@@ -4,13 +4,14 @@ use Rattle.std.specs.Prelude.{⊤}
 use Rattle.pm_base.specs.declared.errors.Failed.{Failed}
 use Rattle.pm_base.specs.declared.events.Event.{Event}
 use Rattle.pm_base.specs.declared.names.NodeId.{NodeId}
-use Rattle.pm_script.specs.declared.follow.LineStop.{LineStop}
-use Rattle.pm_script.specs.declared.follow.LineStop.TheVariants as stops
-use Rattle.pm_script.specs.Follow.{FailsWithin, Followed, GoesThrough}
-use Rattle.pm_script.specs.Script.{Script, Stop}
+use Rattle.pm_reader.specs.declared.follow.LineStop.{LineStop}
+use Rattle.pm_reader.specs.declared.follow.LineStop.TheVariants as stops
+use Rattle.pm_reader.specs.Follow.{FailsWithin, Followed, GoesThrough}
+use Rattle.pm_reader.specs.declared.follow.LinesEnd as reader
+use Rattle.pm_script.specs.Script.{Script}
 use Rattle.pm_isolate.specs.declared.lines.Watcher.{Watcher}
 use Rattle.pm_isolate.specs.declared.worlds.Worlds.{Worlds}
-use Rattle.pm_isolate.specs.Within.{LinesEnd, Watches, after, stepped}
+use Rattle.pm_isolate.specs.Within.{RanLines, Watches, after, stepped}
 
 err_is_ok : {X Y : Type 0} {x : X} {y : Y} → Err y ≡ Ok x → ⊥
 err_is_ok e = cc
@@ -34,12 +35,12 @@ never n [] old new none = none
 never n (event ∷ events) old new (inl (failed, one)) = err_is_ok one.ok
 never n (event ∷ events) old new (inr (mid, one, rest)) = never (n + 1) events mid new rest
 
-pub lines_end : (s : Script) (stop : Stop) (old new : Watcher) (result : Result ℕ LineStop) → Followed Watches 1 s stop old new result → LinesEnd old.m s stop old.worlds.now new.worlds.now result
-lines_end s stop old new (Ok count) did = (did.1, (through old.m 1 s.events old new refl did.0).worlds, omega (arith, did.2))
-lines_end s stop old new (Err (stops.Bad n cause)) did = (did.1, did.2)
-lines_end s stop old new (Err stops.Broken) did = never 1 s.events old new did
+pub lines_end : (s : Script) (old new : Watcher) (result : Result reader.LinesEnd LineStop) → Followed Watches 1 s old new result → RanLines old.m s old.worlds.now new.worlds.now result
+lines_end s old new (Ok end) did = (did.1, (through old.m 1 s.events old new refl did.0).worlds, omega (arith, did.2))
+lines_end s old new (Err (stops.Bad n cause)) did = (did.1, did.2)
+lines_end s old new (Err stops.Broken) did = never 1 s.events old new did
 
-pub watches_same : (s : Script) (stop : Stop) (old new : Watcher) (result : Result ℕ LineStop) → Followed Watches 1 s stop old new result → new.worlds.ghost_name ≡ old.worlds.ghost_name
-watches_same s stop old new (Ok count) did = (through old.m 1 s.events old new refl did.0).same
-watches_same s stop old new (Err (stops.Bad n cause)) did = (through old.m 1 s.events old new refl did.0).same
-watches_same s stop old new (Err stops.Broken) did = absurd (never 1 s.events old new did)
+pub watches_same : (s : Script) (old new : Watcher) (result : Result reader.LinesEnd LineStop) → Followed Watches 1 s old new result → new.worlds.ghost_name ≡ old.worlds.ghost_name
+watches_same s old new (Ok end) did = (through old.m 1 s.events old new refl did.0).same
+watches_same s old new (Err (stops.Bad n cause)) did = (through old.m 1 s.events old new refl did.0).same
+watches_same s old new (Err stops.Broken) did = absurd (never 1 s.events old new did)

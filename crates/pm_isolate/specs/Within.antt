@@ -18,9 +18,10 @@ use Rattle.pm_run.specs.Run.{Setup, line_of, setup_of}
 use Rattle.pm_state.specs.State.{State}
 use Rattle.pm_state.specs.Values.{shown}
 use Rattle.pm_laws.specs.Quiet.{quiet_event}
-use Rattle.pm_script.specs.declared.follow.LineStop.{LineStop}
-use Rattle.pm_script.specs.declared.follow.LineStop.TheVariants as stops
-use Rattle.pm_script.specs.Script.{Script, Stop}
+use Rattle.pm_reader.specs.declared.follow.LineStop.{LineStop}
+use Rattle.pm_reader.specs.declared.follow.LineStop.TheVariants as stops
+use Rattle.pm_reader.specs.declared.follow.LinesEnd as reader
+use Rattle.pm_script.specs.Script.{Script, Stop, stop_of}
 use Rattle.pm_script.specs.Script.Stop.{Bad}
 use Rattle.pm_trace.specs.Reach.{reach_text}
 use Rattle.pm_trace.specs.Report.{Report}
@@ -85,10 +86,10 @@ pub record Watches (n : ℕ) (event : Event) (old new : Watcher) (result : Resul
   pub ok : result ≡ Ok tt
 
 -- how lines end: all were carried out, or one has no meaning
-abbrev pub LinesEnd : NodeId → Script → Stop → Worlds → Worlds → Result ℕ LineStop → Type 0
-LinesEnd m s stop now last (Ok count) = (s.stop ≡ stop) × (last ≡ after m s.events now) × (count ≡ length s.events)
-LinesEnd m s stop now last (Err (stops.Bad n cause)) = (s.stop ≡ Bad cause) × (n ≡ 1 + length s.events)
-LinesEnd m s stop now last (Err stops.Broken) = ⊥
+abbrev pub RanLines : NodeId → Script → Worlds → Worlds → Result reader.LinesEnd LineStop → Type 0
+RanLines m s now last (Ok end) = (s.stop ≡ stop_of end.stop) × (last ≡ after m s.events now) × (end.count ≡ length s.events)
+RanLines m s now last (Err (stops.Bad n cause)) = (s.stop ≡ Bad cause) × (n ≡ 1 + length s.events)
+RanLines m s now last (Err stops.Broken) = ⊥
 
 -- the line of a unit that was found to differ; that of any other is empty
 abbrev pub mark_line : Topology → Unit × Bool → List ℕ

@@ -1,6 +1,6 @@
 //! The run of a script is compared with the run without the messages of a master.
 
-ghost use Rattle.std.specs.Prelude.{◌≡◌, ◌≢◌, ◌<◌, ◌^◌, ◌==◌, IfOk, IsTrue, length};
+ghost use Rattle.std.specs.Prelude.{◌≡◌, ◌≢◌, ◌==◌, IfOk, IsTrue};
 ghost use Rattle.std.specs.List.{list_any};
 ghost use Rattle.pm_base.specs.Faults.{Rose};
 ghost use Rattle.pm_base.specs.Inputs.{MayFail};
@@ -10,7 +10,8 @@ ghost use Rattle.pm_object.specs.Grammar.{IsObject};
 ghost use Rattle.pm_topology.specs.Masters.{ObeysMasterRules};
 ghost use Rattle.pm_topology.specs.WellFormed.{IsWellFormed};
 ghost use Rattle.pm_script.specs.Named.{script_in};
-ghost use Rattle.pm_script.specs.Script.{script_limit, script_lines, script_from, stop_of};
+ghost use Rattle.pm_script.specs.Script.{script_limit, stop_of};
+ghost use Rattle.pm_reader.specs.Follow.{OfScript};
 ghost use Rattle.pm_trace.specs.Exits.{EndsWith, IsStarved};
 ghost use Rattle.pm_trace.specs.Report.{Reports};
 ghost use Rattle.pm_trace.specs.Scripts.{script_exit, script_or_fault};
@@ -22,12 +23,10 @@ use crate::laws::what_differs_is_reached;
 use crate::lines::run_lines;
 use crate::worlds::Worlds;
 use crate::writing::write_end;
-use pm_base::{
-    Exit, Failed, Inputs, NoMemory, NodeId, Prefix, Sink, StopReason, gather, write_all,
-};
+use pm_base::{Exit, Failed, Inputs, NoMemory, NodeId, Sink, StopReason, write_all};
 use pm_object::Object;
 use pm_reach::reach;
-use pm_script::{LineStop, SCRIPT_LIMIT, scripts_are_read};
+use pm_reader::LineStop;
 use pm_topology::Topology;
 use pm_trace::{Fault, reach_text, refuse};
 use std::alloc::Global;
@@ -35,7 +34,8 @@ use std::alloc::Global;
 /// Compares the run of the named script over an object with the run without the messages of the master
 /// `m`, in place of each of which nothing happens. Writes the reach of the master; then each line is run in
 /// both books; then comes a line for each unit whose transitions differ, and the number of script lines; or
-/// the fault line of the answer. Where the script can't be begun nothing stands before that. No device
+/// the fault line of the answer. Where the script can't be begun nothing stands before that. After both
+/// loads nothing takes memory, so want of memory comes before the first byte of output. No device
 /// occurs in it. That `m` is a master of the object is tested by `has_key`.
 ///
 /// Answers Done, BadLine, ReadFault, WriteFault, Memory and TooLarge.
@@ -99,7 +99,7 @@ fn compare_named<I: Inputs, O: Sink>(
     let Ok(mut prepared) = prepare(alloc, object, topology, m) else {
         return refuse(Fault::Memory, out);
     };
-    compare_prepared(alloc, &mut prepared, m, inputs, script, out)
+    compare_prepared(&mut prepared, m, inputs, script, out)
 }
 
 /// The text of a reach, and both books at load.
@@ -109,7 +109,7 @@ pub(crate) struct Prepared {
     pub worlds: Worlds,
 }
 
-/// All that takes memory beside the script.
+/// All that takes memory.
 fn prepare(
     alloc: Global,
     object: Object,
@@ -129,7 +129,6 @@ fn prepare(
 
 /// Compares the two runs of the named script from the load, where it can be read.
 fn compare_prepared<I: Inputs, O: Sink>(
-    alloc: Global,
     prepared: &mut Prepared,
     m: NodeId,
     inputs: &mut I,
@@ -140,40 +139,44 @@ fn compare_prepared<I: Inputs, O: Sink>(
     ensures { Compared I.Inputs O.Sink (setup_in prepared.old.worlds) m script.now
         inputs.old inputs.new out.old out.new result }
 {
-    scripts_are_read();
-    let Ok(script) = gather(alloc, inputs, script, SCRIPT_LIMIT) else {
-        return refuse(Fault::Memory, out);
-    };
-    if let StopReason::Unbegun = script.stop() {
-        return refuse(Fault::Read, out);
+    match inputs.begin(script) {
+        Ok(id) => run(prepared, m, inputs, id, out),
+        Err(Failed) => refuse(Fault::Read, out),
     }
-    run(prepared, m, &script, out)
 }
 
-/// Writes the text of the reach, and compares the two runs of a script that was begun.
-fn run<O: Sink>(prepared: &mut Prepared, m: NodeId, script: &Prefix, out: &mut O) -> Exit
-    requires size { length script.now.bytes < 2 ^ 31 }
-    requires begins { script.now.stop ≢ Unbegun }
-    ensures { Reports O.Sink (report_behind prepared.old.reach.items
-        (rest_report m (script_from (script_lines script.now) (stop_of script.now.stop)) prepared.old.worlds))
-        out.old out.new result }
+/// Writes the text of the reach, and compares the two runs of the script of a begun input.
+fn run<I: Inputs, O: Sink>(
+    prepared: &mut Prepared,
+    m: NodeId,
+    inputs: &mut I,
+    id: u32,
+    out: &mut O,
+) -> Exit
+    ensures ran { OfScript I.observable id (I.state inputs.old)
+        (λ s. Reports O.Sink (report_behind prepared.old.reach.items (rest_report m s prepared.old.worlds)) out.old out.new result) }
+    ensures fault { result ≡ Exit.ReadFault → Rose (I.state inputs.old).faults (I.state inputs.new).faults }
 {
     match write_all(out, prepared.reach.as_slice()) {
-        Ok(()) => run_rest(&mut prepared.worlds, m, script, out),
+        Ok(()) => run_rest(&mut prepared.worlds, m, inputs, id, out),
         Err(Failed) => Exit::WriteFault,
     }
 }
 
 /// Runs the lines of a script in both books, and writes what comes after them.
-fn run_rest<O: Sink>(worlds: &mut Worlds, m: NodeId, script: &Prefix, out: &mut O) -> Exit
-    requires size { length script.now.bytes < 2 ^ 31 }
-    requires begins { script.now.stop ≢ Unbegun }
-    ensures { Reports O.Sink
-        (rest_report m (script_from (script_lines script.now) (stop_of script.now.stop)) worlds.old)
-        out.old out.new result }
+fn run_rest<I: Inputs, O: Sink>(
+    worlds: &mut Worlds,
+    m: NodeId,
+    inputs: &mut I,
+    id: u32,
+    out: &mut O,
+) -> Exit
+    ensures ran { OfScript I.observable id (I.state inputs.old)
+        (λ s. Reports O.Sink (rest_report m s worlds.old) out.old out.new result) }
+    ensures fault { result ≡ Exit.ReadFault → Rose (I.state inputs.old).faults (I.state inputs.new).faults }
 {
-    match run_lines(worlds, m, script) {
-        Ok(count) => finish(worlds, script.stop(), count, out),
+    match run_lines(worlds, m, inputs, id) {
+        Ok(end) => finish(worlds, end.stop, end.count, out),
         Err(LineStop::Bad(number, cause)) => refuse(Fault::Line(number, cause), out),
         Err(LineStop::Broken) => unreachable!(),
     }

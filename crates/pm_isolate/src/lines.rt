@@ -1,12 +1,14 @@
 //! The lines of a script are run in two books, one after another.
 
-ghost use Rattle.std.specs.Prelude.{◌<◌, ◌^◌, length};
-ghost use Rattle.pm_script.specs.Script.{script_from, script_lines, stop_of};
-ghost use Rattle.pm_isolate.specs.Within.{LinesEnd};
+ghost use Rattle.std.specs.Prelude.{◌≡◌, ◌≢◌, IfOk};
+ghost use Rattle.pm_base.specs.Faults.{Rose};
+ghost use Rattle.pm_base.specs.declared.prefix.StopReason.TheVariants.{Failure, Unbegun};
+ghost use Rattle.pm_reader.specs.Follow.{OfScript};
+ghost use Rattle.pm_isolate.specs.Within.{RanLines};
 
 use crate::worlds::Worlds;
-use pm_base::{Event, Failed, NodeId, Prefix};
-use pm_script::{Follower, LineStop, each_line};
+use pm_base::{Event, Failed, Inputs, NodeId};
+use pm_reader::{Follower, LineStop, LinesEnd, each_line};
 
 /// What steps both books by each line of a script, the quiet one without the messages of a master. It
 /// never fails.
@@ -27,13 +29,17 @@ impl<'w> Follower for Watcher<'w> {
     }
 }
 
-/// Runs the lines of a script in both books, up to the first one that has no meaning. Answers how many
-/// lines were run.
-pub fn run_lines(worlds: &mut Worlds, m: NodeId, script: &Prefix) -> Result<u32, LineStop>
-    requires size { length script.now.bytes < 2 ^ 31 }
-    ensures { LinesEnd m (script_from (script_lines script.now) (stop_of script.now.stop)) (stop_of script.now.stop)
-        worlds.old worlds.new result }
+/// Runs the lines of a begun input in both books, up to the first one that has no meaning.
+pub fn run_lines<I: Inputs>(
+    worlds: &mut Worlds,
+    m: NodeId,
+    inputs: &mut I,
+    id: u32,
+) -> Result<LinesEnd, LineStop>
+    ensures ran { OfScript I.observable id (I.state inputs.old) (λ s. RanLines m s worlds.old worlds.new result) }
+    ensures ends { IfOk result (λ end. end.stop ≢ Unbegun) }
+    ensures fault { IfOk result (λ end. end.stop ≡ Failure → Rose (I.state inputs.old).faults (I.state inputs.new).faults) }
 {
     let mut watcher = Watcher { worlds, m };
-    each_line(script, &mut watcher)
+    each_line(inputs, id, &mut watcher)
 }

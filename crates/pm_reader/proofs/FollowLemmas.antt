@@ -19,8 +19,7 @@ use Rattle.pm_base.proofs.LinesLemmas as parts
 use Rattle.pm_script.specs.declared.meaning.LineFault.{LineFault}
 use Rattle.pm_script.specs.declared.meaning.LineFault.TheVariants.{Long}
 use Rattle.pm_script.specs.Meaning.{meaning}
-use Rattle.pm_script.specs.Script.{Gives, IsBad, IsOver, Script, Stop, before, ending_of, over, script_from, script_limit, script_lines, stop_of}
-use Rattle.pm_script.proofs.ScriptLemmas as scripts
+use Rattle.pm_script.specs.Script.{Script, Stop, before, ending_of, over, script_from, script_limit, script_lines, stop_of}
 use Rattle.pm_reader.specs.declared.follow.LineStop.{LineStop}
 use Rattle.pm_reader.specs.declared.follow.LineStop.TheVariants as stops
 use Rattle.pm_reader.specs.declared.follow.LinesEnd.{LinesEnd}
@@ -30,6 +29,8 @@ use Rattle.pm_reader.specs.Follow.{FailsWithin, Followed, FollowedInput, Followe
 use Rattle.pm_reader.specs.Reader.{Grows, Held, IsOpen, KnowsEnd, Turn, is_feed, within, within_limit}
 use Rattle.pm_reader.specs.Reader as reader
 use Rattle.pm_reader.proofs.HeldLemmas.{no_feed_at, within_all}
+use Rattle.pm_reader.proofs.ScriptLemmas.{Gives, IsBad, IsOver}
+use Rattle.pm_reader.proofs.ScriptLemmas as scripts
 use Rattle.pm_reader.proofs.TookLemmas.{Took-refl, Took-trans}
 use Rattle.pm_reader.proofs.GoesOn.{GoesOn, MayGoOn, goes_on_line, goes_on_read}
 use Rattle.pm_reader.proofs.Future.{Future, FutureAt, future, future_ended, future_fault, future_over}

@@ -1,3 +1,4 @@
+pub mod ScriptLemmas
 pub mod HeldLemmas
 pub mod TookLemmas
 pub mod GoesOn

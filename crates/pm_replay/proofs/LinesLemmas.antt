@@ -12,10 +12,11 @@ use Rattle.pm_device.specs.declared.device.Device as Device
 use Rattle.pm_device.specs.Act.{Chain}
 use Rattle.pm_device.specs.Chains.{Chain-append}
 use Rattle.pm_run.specs.Run.{Setup}
-use Rattle.pm_script.specs.declared.follow.LineStop.{LineStop}
-use Rattle.pm_script.specs.declared.follow.LineStop.TheVariants as stops
-use Rattle.pm_script.specs.Follow.{FailsWithin, Followed, GoesThrough}
-use Rattle.pm_script.specs.Script.{Script, Stop}
+use Rattle.pm_reader.specs.declared.follow.LineStop.{LineStop}
+use Rattle.pm_reader.specs.declared.follow.LineStop.TheVariants as stops
+use Rattle.pm_reader.specs.Follow.{FailsWithin, Followed, GoesThrough}
+use Rattle.pm_reader.specs.declared.follow.LinesEnd as reader
+use Rattle.pm_script.specs.Script.{Script}
 use Rattle.pm_replay.specs.declared.lines.Player.{Player}
 use Rattle.pm_drive.specs.Drive.{Driven, acts, acts_of, last_book, last_kept, until}
 use Rattle.pm_drive.specs.Text.{driven_text, texts}
@@ -109,14 +110,14 @@ module _ {O D : Type 0} (o : Sink.Ghosts O) (d : Device.Ghosts D) where
   ran_within c n (event ∷ events) old new (inr (mid, one, rest)) =
       RanSome-next c n event events old.controller.now mid.controller.now old.out.now mid.out.now new.out.now old.dev.now mid.dev.now new.dev.now (one.ran c) (ran_within c (n + 1) events mid new rest)
 
-  pub ran_lines : (c : Setup) (n : ℕ) (s : Script) (stop : Stop) (old new : Player O D) (result : Result ℕ LineStop) → Followed (Plays o d) n s stop old new result → RanLines o d c n s stop old.controller.now new.controller.now old.out.now new.out.now old.dev.now new.dev.now result
-  ran_lines c n s stop old new (Ok count) did =
+  pub ran_lines : (c : Setup) (n : ℕ) (s : Script) (old new : Player O D) (result : Result reader.LinesEnd LineStop) → Followed (Plays o d) n s old new result → RanLines o d c n s old.controller.now new.controller.now old.out.now new.out.now old.dev.now new.dev.now result
+  ran_lines c n s old new (Ok end) did =
       let ran = ran_through c n s.events old new did.0 in
       record { answers = ran.answers; cut = None; went = ran.went; ends = (refl, did.1, ran.book, ran.kept) }
-  ran_lines c n s stop old new (Err (stops.Bad m cause)) did =
+  ran_lines c n s old new (Err (stops.Bad m cause)) did =
       let ran = ran_through c n s.events old new did.0 in
       record { answers = ran.answers; cut = None; went = ran.went; ends = (refl, did.1, did.2) }
-  ran_lines c n s stop old new (Err stops.Broken) did =
+  ran_lines c n s old new (Err stops.Broken) did =
       let ran = ran_within c n s.events old new did in
       record { answers = ran.answers; cut = Some ran.place; went = ran.went; ends = (ran.place, refl) }
 
@@ -139,7 +140,7 @@ module _ {O D : Type 0} (o : Sink.Ghosts O) (d : Device.Ghosts D) where
       let later = same_within (n + 1) events mid new rest in
       record { controller = later.controller ∙ one.controller; out = later.out ∙ one.out; dev = later.dev ∙ one.dev }
 
-  pub holds_same : (n : ℕ) (s : Script) (stop : Stop) (old new : Player O D) (result : Result ℕ LineStop) → Followed (Plays o d) n s stop old new result → HoldsSame old new
-  holds_same n s stop old new (Ok count) did = same_through n s.events old new did.0
-  holds_same n s stop old new (Err (stops.Bad m cause)) did = same_through n s.events old new did.0
-  holds_same n s stop old new (Err stops.Broken) did = same_within n s.events old new did
+  pub holds_same : (n : ℕ) (s : Script) (old new : Player O D) (result : Result reader.LinesEnd LineStop) → Followed (Plays o d) n s old new result → HoldsSame old new
+  holds_same n s old new (Ok end) did = same_through n s.events old new did.0
+  holds_same n s old new (Err (stops.Bad m cause)) did = same_through n s.events old new did.0
+  holds_same n s old new (Err stops.Broken) did = same_within n s.events old new did

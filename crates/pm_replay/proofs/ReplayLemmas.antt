@@ -5,16 +5,16 @@ use Rattle.pm_base.specs.declared.errors.Exit.{Exit}
 use Rattle.pm_base.specs.declared.errors.Exit.TheVariants as exit
 use Rattle.pm_base.specs.declared.events.Event.{Event}
 use Rattle.pm_base.specs.declared.inputs.Inputs as Inputs
-use Rattle.pm_base.specs.declared.prefix.StopReason.TheVariants as reason
 use Rattle.pm_base.specs.declared.sink.Sink as Sink
-use Rattle.pm_base.specs.Prefix.{Prefix, ReadsPrefix}
+use Rattle.pm_base.specs.Faults.{Rose}
 use Rattle.pm_base.specs.World.{World}
 use Rattle.pm_device.specs.declared.device.Device as Device
 use Rattle.pm_run.specs.Run.{Setup}
-use Rattle.pm_script.specs.Named.{IsHeldWhole}
-use Rattle.pm_script.specs.Script.{Script, Stop, script_from, script_limit, script_lines, stop_of}
-use Rattle.pm_script.specs.Script.Stop.{End, Failed}
+use Rattle.pm_script.specs.Named.{IsHeldWhole, script_in}
+use Rattle.pm_script.specs.Script.{Script, Stop}
+use Rattle.pm_script.specs.Script.Stop.{End}
 use Rattle.pm_trace.specs.declared.faults.Fault.{Fault}
+use Rattle.pm_trace.specs.declared.faults.Fault.TheVariants.{Memory, Read}
 use Rattle.pm_trace.specs.Exits.{IsWhole}
 use Rattle.pm_trace.specs.Report.{Reports, refusal, report_of}
 use Rattle.pm_trace.specs.Scripts.{IsScriptOf, at_end, script_fault}
@@ -75,21 +75,29 @@ module _ {I O D : Type 0} (i : Inputs.Ghosts I) (o : Sink.Ghosts O) (d : Device.
         by (Err fault) same = record { acts = []; given = same; ordered = tt }
         by (Ok s) drove = record { acts = acts (until did.cut (driven c did.answers s.events)); given = drove.given; ordered = drove.ordered }
 
+    pub replay_untouched : result ≡ exit.Memory → w.device ≡ w'.device
+    replay_untouched is = by did.job did.touched ((scripts.said i o script_itself (replay_report c) (of_script c) name w.inputs w'.inputs w.sink w'.sink result (IsScriptOf i name w.inputs w'.inputs result) (λ job asked. asked) (Touched d c w.device w'.device) did).memory is)
+      where
+        by : (job : Result Script Fault) → Touched d c w.device w'.device job did.answers did.cut → (report_of (replay_report c) job did.answers).fault ≡ Some Memory → w.device ≡ w'.device
+        by (Err fault) same at = same
+        by (Ok s) drove at = absurd (scripts.never_memory (1 + length s.events) s.stop at)
+
   -- ---- how a replay came about
 
   pub replay_refused : (fault : Fault) → IsScriptOf i name w.inputs w'.inputs result (Err fault) → Reports o (refusal fault) w.sink w'.sink result → w.device ≡ w'.device → Replayed i o d c name w w' result
   replay_refused fault asked reports same = record { job = Err fault; answers = []; cut = reports.cut; asked = asked; left = reports.left; ends = reports.ends; touched = same }
 
-  pub replay_ran : (p : Prefix) → ReadsPrefix i.observable name script_limit (i.state w.inputs) (i.state w'.inputs) p → (p.stop ≡ reason.Unbegun → ⊥) → (ran : RanScript o d c (script_from (script_lines p) (stop_of p.stop)) w.sink w'.sink w.device w'.device result) → Drove d c (until ran.cut (driven c ran.answers (script_from (script_lines p) (stop_of p.stop)).events)) w.device w'.device → Replayed i o d c name w w' result
-  replay_ran p reads begun ran drove =
-      let s : Script = script_from (script_lines p) (stop_of p.stop) in
-      let fails : result ≡ exit.ReadFault → s.stop ≡ Failed = λ is. scripts.unreadable_by (Ok s) (scripts.read_by o (replay_report c s ran.answers) ran.cut w.sink w'.sink result ran.went.left ran.ends is) in
-      record {
-        job = Ok s;
-        answers = ran.answers;
-        cut = ran.cut;
-        asked = scripts.asked_begun i name w.inputs w'.inputs result p reads begun fails;
-        left = ran.went.left;
-        ends = ran.ends;
-        touched = drove;
-      }
+  pub replay_ran : (s : Script) → (i.observable → script_in (i.state w.inputs) name ≡ Some s) → (result ≡ exit.ReadFault → Rose (i.state w.inputs).faults (i.state w'.inputs).faults) → (ran : RanScript o d c s w.sink w'.sink w.device w'.device result) → Drove d c (until ran.cut (driven c ran.answers s.events)) w.device w'.device → Replayed i o d c name w w' result
+  replay_ran s read fails ran drove = record {
+    job = Ok s;
+    answers = ran.answers;
+    cut = ran.cut;
+    asked = scripts.asked_begun i name w.inputs w'.inputs result s read fails;
+    left = ran.went.left;
+    ends = ran.ends;
+    touched = drove;
+  }
+
+  -- the script could not be begun
+  pub replay_unbegun : (i.observable → script_in (i.state w.inputs) name ≡ None) → Rose (i.state w.inputs).faults (i.state w'.inputs).faults → Reports o (refusal Read) w.sink w'.sink result → w.device ≡ w'.device → Replayed i o d c name w w' result
+  replay_unbegun none rose reports same = replay_refused Read (scripts.asked_unbegun i name w.inputs w'.inputs result none rose) reports same

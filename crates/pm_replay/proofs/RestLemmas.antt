@@ -27,7 +27,7 @@ use Rattle.pm_state.specs.State.{State}
 use Rattle.pm_core.specs.Step.{outputs_at_load}
 use Rattle.pm_apply.specs.Part.{Kept, Part, answers_in, orders_in, part_in, part_of}
 use Rattle.pm_apply.specs.Record.{at_zero}
-use Rattle.pm_script.specs.declared.follow.LineStop.TheVariants as stops
+use Rattle.pm_reader.specs.declared.follow.LineStop.TheVariants as stops
 use Rattle.pm_script.specs.declared.meaning.LineFault.{LineFault}
 use Rattle.pm_script.specs.Script.{Script, Stop, stop_of}
 use Rattle.pm_trace.specs.Closing.{closing_text}
@@ -120,7 +120,7 @@ module _ {O D : Type 0} (o : Sink.Ghosts O) (d : Device.Ghosts D) where
       }
 
   -- lines were carried out, and what comes after them was written
-  pub RanRest-closed : (c : Setup) (n : ℕ) (s : Script) (r : StopReason) (now after : Controls) (old mid new : O) (from to : D) (exit : Exit) (count : ℕ) → RanLines o d c n s (stop_of r) now after old mid from to (Ok count) → Reports o (closing_report (stop_of r) after.book after.kept) mid new exit → RanRest o d c n s now old new from to exit
+  pub RanRest-closed : (c : Setup) (n : ℕ) (s : Script) (r : StopReason) (now after : Controls) (old mid new : O) (from to : D) (exit : Exit) (count : ℕ) → RanLines o d c n s now after old mid from to (Ok (record { count = count; stop = r })) → Reports o (closing_report (stop_of r) after.book after.kept) mid new exit → RanRest o d c n s now old new from to exit
   RanRest-closed c n s r now after old mid new from to exit count ran reports =
       let xs : List Driven = driven_from c now ran.answers s.events in
       let number : ℕ = n + length s.events in
@@ -137,8 +137,8 @@ module _ {O D : Type 0} (o : Sink.Ghosts O) (d : Device.Ghosts D) where
       rest_by c n s now old mid new from to exit ran.answers ran.cut (closing_report (stop_of r) after.book after.kept) ran.went whole reports is
 
   -- a line has no meaning, and the line of that fault was written
-  pub RanRest-bad : (c : Setup) (n m : ℕ) (cause : LineFault) (s : Script) (stop : Stop) (now after : Controls) (old mid new : O) (from to : D) (exit : Exit) → RanLines o d c n s stop now after old mid from to (Err (stops.Bad m cause)) → Reports o (refusal (Line m cause)) mid new exit → RanRest o d c n s now old new from to exit
-  RanRest-bad c n m cause s stop now after old mid new from to exit ran reports =
+  pub RanRest-bad : (c : Setup) (n m : ℕ) (cause : LineFault) (s : Script) (now after : Controls) (old mid new : O) (from to : D) (exit : Exit) → RanLines o d c n s now after old mid from to (Err (stops.Bad m cause)) → Reports o (refusal (Line m cause)) mid new exit → RanRest o d c n s now old new from to exit
+  RanRest-bad c n m cause s now after old mid new from to exit ran reports =
       let xs : List Driven = driven_from c now ran.answers s.events in
       let table : List ℕ = closing_text (last_book now.book xs) (last_kept now.kept xs) in
       let is : report_from c n now s ran.answers ≡ report_after (texts n xs) (refusal (Line m cause)) =
@@ -148,8 +148,8 @@ module _ {O D : Type 0} (o : Sink.Ghosts O) (d : Device.Ghosts D) where
       rest_by c n s now old mid new from to exit ran.answers ran.cut (refusal (Line m cause)) ran.went ran.ends.0 reports is
 
   -- the sink broke off within the lines
-  pub RanRest-broken : (c : Setup) (n : ℕ) (s : Script) (stop : Stop) (now after : Controls) (old new : O) (from to : D) → RanLines o d c n s stop now after old new from to (Err stops.Broken) → RanRest o d c n s now old new from to WriteFault
-  RanRest-broken c n s stop now after old new from to ran =
+  pub RanRest-broken : (c : Setup) (n : ℕ) (s : Script) (now after : Controls) (old new : O) (from to : D) → RanLines o d c n s now after old new from to (Err stops.Broken) → RanRest o d c n s now old new from to WriteFault
+  RanRest-broken c n s now after old new from to ran =
       let xs : List Driven = driven_from c now ran.answers s.events in
       let r : Report = report_from c n now s ran.answers in
       let k : ℕ = ran.ends.0 in

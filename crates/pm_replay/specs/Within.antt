@@ -16,9 +16,10 @@ use Rattle.pm_state.specs.State.{State}
 use Rattle.pm_core.specs.Step.{effect, outputs, outputs_at_load}
 use Rattle.pm_apply.specs.Part.{Kept, answers_in, orders_in, part_in, part_of}
 use Rattle.pm_apply.specs.Record.{at_zero}
-use Rattle.pm_script.specs.declared.follow.LineStop.{LineStop}
-use Rattle.pm_script.specs.declared.follow.LineStop.TheVariants as stops
-use Rattle.pm_script.specs.Script.{Script, Stop}
+use Rattle.pm_reader.specs.declared.follow.LineStop.{LineStop}
+use Rattle.pm_reader.specs.declared.follow.LineStop.TheVariants as stops
+use Rattle.pm_reader.specs.declared.follow.LinesEnd as reader
+use Rattle.pm_script.specs.Script.{Script, Stop, stop_of}
 use Rattle.pm_script.specs.Script.Stop.{Bad}
 use Rattle.pm_trace.specs.Closing.{closing_text}
 use Rattle.pm_trace.specs.Report.{Report, exit_of, pieces}
@@ -52,11 +53,11 @@ report_from c n now s answers = record {
 }
 
 -- how lines end: all were carried out, and the run stands after them; or one has no meaning; or the sink broke off
-abbrev pub LinesEnd : ℕ → Script → Stop → Controls → List Driven → Option ℕ → Controls → Result ℕ LineStop → Type 0
-LinesEnd n s stop now xs cut then (Ok count) =
-    (cut ≡ None) × (s.stop ≡ stop) × (then.book ≡ last_book now.book xs) × (then.kept ≡ last_kept now.kept xs)
-LinesEnd n s stop now xs cut then (Err (stops.Bad m cause)) = (cut ≡ None) × (s.stop ≡ Bad cause) × (m ≡ n + length s.events)
-LinesEnd n s stop now xs cut then (Err stops.Broken) = (k : ℕ) × (cut ≡ Some k)
+abbrev pub LinesEnd : ℕ → Script → Controls → List Driven → Option ℕ → Controls → Result reader.LinesEnd LineStop → Type 0
+LinesEnd n s now xs cut then (Ok end) =
+    (cut ≡ None) × (s.stop ≡ stop_of end.stop) × (then.book ≡ last_book now.book xs) × (then.kept ≡ last_kept now.kept xs)
+LinesEnd n s now xs cut then (Err (stops.Bad m cause)) = (cut ≡ None) × (s.stop ≡ Bad cause) × (m ≡ n + length s.events)
+LinesEnd n s now xs cut then (Err stops.Broken) = (k : ℕ) × (cut ≡ Some k)
 
 -- what is written of core steps of line n
 abbrev pub given_text : ℕ → List Given → List ℕ
@@ -110,11 +111,11 @@ module _ {O D : Type 0} (o : Sink.Ghosts O) (d : Device.Ghosts D) where
     pub given : Chain d.Does (orders_in then.outbox) from to
 
   -- the lines of a script were run up to the first one that has no meaning. The first of them has number n
-  pub record RanLines (c : Setup) (n : ℕ) (s : Script) (stop : Stop) (now then : Controls) (old new : O) (from to : D) (result : Result ℕ LineStop) : Type 0 where
+  pub record RanLines (c : Setup) (n : ℕ) (s : Script) (now then : Controls) (old new : O) (from to : D) (result : Result reader.LinesEnd LineStop) : Type 0 where
     pub answers : List (List Bool)
     pub cut : Option ℕ
     pub went : Went (texts n (driven_from c now answers s.events)) (driven_from c now answers s.events) cut old new from to
-    pub ends : LinesEnd n s stop now (driven_from c now answers s.events) cut then result
+    pub ends : LinesEnd n s now (driven_from c now answers s.events) cut then result
 
   -- lines were run, and what comes after them was written
   pub record RanRest (c : Setup) (n : ℕ) (s : Script) (now : Controls) (old new : O) (from to : D) (exit : Exit) : Type 0 where

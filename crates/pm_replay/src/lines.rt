@@ -1,18 +1,20 @@
 //! The lines of a script are run one after another.
 
-ghost use Rattle.std.specs.Prelude.{◌<◌, ◌^◌, length};
-ghost use Rattle.pm_script.specs.Script.{script_lines, script_from, stop_of};
+ghost use Rattle.std.specs.Prelude.{◌≡◌, ◌≢◌, IfOk};
+ghost use Rattle.pm_base.specs.Faults.{Rose};
+ghost use Rattle.pm_base.specs.declared.prefix.StopReason.TheVariants.{Failure, Unbegun};
+ghost use Rattle.pm_reader.specs.Follow.{OfScript};
 ghost use Rattle.pm_run.specs.Run.{Setup};
 ghost use Rattle.pm_trace.specs.Step.{notices_in, step_text};
 ghost use Rattle.pm_replay.specs.Within.{RanLine, RanLines, WritesOn};
 
 use crate::controller::Controller;
 use crate::writing::write_step;
-use pm_base::{Event, Failed, Prefix, Sink};
+use pm_base::{Event, Failed, Inputs, Sink};
 use pm_core::Outbox;
 use pm_device::Device;
+use pm_reader::{Follower, LineStop, LinesEnd, each_line};
 use pm_run::core_events;
-use pm_script::{Follower, LineStop, each_line};
 
 /// What carries out each line of a script, makes the device follow it, and writes its text.
 #[derive(Drop)]
@@ -32,23 +34,26 @@ impl<'c, 'o, 'd, O: Sink, D: Device> Follower for Player<'c, 'o, 'd, O, D> {
     }
 }
 
-/// Runs the lines of a script up to the first one that has no meaning. Answers how many were run.
-pub(crate) fn run_lines<O: Sink, D: Device>(
+/// Runs the lines of a begun input up to the first one that has no meaning. Each is taken when the text of the
+/// line before it was written.
+pub(crate) fn run_lines<I: Inputs, O: Sink, D: Device>(
     controller: &mut Controller,
-    script: &Prefix,
+    inputs: &mut I,
+    id: u32,
     out: &mut O,
     dev: &mut D,
-) -> Result<u32, LineStop>
-    requires size { length script.now.bytes < 2 ^ 31 }
-    ensures { (c : Setup) → RanLines O.Sink D.Device c 1 (script_from (script_lines script.now) (stop_of script.now.stop)) (stop_of script.now.stop)
-        controller.old controller.new out.old out.new dev.old dev.new result }
+) -> Result<LinesEnd, LineStop>
+    ensures ran { (c : Setup) → OfScript I.observable id (I.state inputs.old)
+        (λ s. RanLines O.Sink D.Device c 1 s controller.old controller.new out.old out.new dev.old dev.new result) }
+    ensures ends { IfOk result (λ end. end.stop ≢ Unbegun) }
+    ensures fault { IfOk result (λ end. end.stop ≡ Failure → Rose (I.state inputs.old).faults (I.state inputs.new).faults) }
 {
     let mut player = Player {
         controller,
         out,
         dev,
     };
-    each_line(script, &mut player)
+    each_line(inputs, id, &mut player)
 }
 
 /// Carries out the core events of a line to the last one, and writes the text of each while the sink takes it.

@@ -1,13 +1,14 @@
 //! A script is run over a configuration object and a device.
 
-ghost use Rattle.std.specs.Prelude.{◌≡◌, ◌≢◌, ◌<◌, ◌^◌, IfOk, length};
+ghost use Rattle.std.specs.Prelude.{◌≡◌, ◌≢◌, IfOk};
 ghost use Rattle.pm_base.specs.declared.names.Unit.{Unit};
 ghost use Rattle.pm_base.specs.Faults.{Rose};
 ghost use Rattle.pm_base.specs.Inputs.{MayFail};
 ghost use Rattle.pm_base.specs.Sink.{HasFailed, IsUnfailed};
 ghost use Rattle.pm_base.specs.declared.prefix.StopReason.TheVariants.{Unbegun};
 ghost use Rattle.pm_script.specs.Named.{script_in};
-ghost use Rattle.pm_script.specs.Script.{script_limit, script_lines, script_from, stop_of};
+ghost use Rattle.pm_script.specs.Script.{script_limit, stop_of};
+ghost use Rattle.pm_reader.specs.Follow.{OfScript};
 ghost use Rattle.pm_topology.specs.Masters.{ObeysMasterRules};
 ghost use Rattle.pm_topology.specs.WellFormed.{IsWellFormed};
 ghost use Rattle.pm_object.specs.Grammar.{IsObject};
@@ -24,12 +25,12 @@ use crate::controller::Controller;
 use crate::lines::run_lines;
 use crate::writing::{write_closing, write_step};
 use pm_apart::driven_runs_keep_apart;
-use pm_base::{Exit, Failed, Inputs, NoMemory, Prefix, Sink, StopReason, gather};
+use pm_base::{Exit, Failed, Inputs, NoMemory, Sink, StopReason};
 use pm_causes::runs_have_causes;
 use pm_device::Device;
 use pm_drive::driven_follows;
 use pm_object::Object;
-use pm_script::{LineStop, SCRIPT_LIMIT, scripts_are_read};
+use pm_reader::LineStop;
 use pm_topology::Topology;
 use pm_trace::{Fault, refuse};
 use std::alloc::Global;
@@ -37,7 +38,8 @@ use std::alloc::Global;
 /// Runs the named script over an object and a device. Step 0 makes the device follow the book at
 /// load; then each line is carried out, with the commands that it causes, and written before the next
 /// one is taken; then comes the closing table, or the fault line of the answer. Where the script can't
-/// be begun, no command is issued.
+/// be begun, no command is issued. After the load nothing takes memory, so want of memory comes before the
+/// first command and the first byte of output.
 ///
 /// Answers Done, BadLine, ReadFault, WriteFault, Memory and TooLarge.
 pub fn replay<I: Inputs, O: Sink, D: Device>(
@@ -73,6 +75,8 @@ pub fn replay<I: Inputs, O: Sink, D: Device>(
     ensures causes { AnswersHaveCauses (setup object topology) }
     // On Memory nothing was written but the fault line, as far as the sink took it.
     ensures memory { result ≡ Exit.Memory → IsStarved O.Sink out.old out.new }
+    // On Memory the device is as before.
+    ensures untouched { result ≡ Exit.Memory → dev.old ≡ dev.new }
     // ReadFault comes only where the inputs' count of faults rose.
     ensures read_fault { result ≡ Exit.ReadFault → Rose (I.state inputs.old).faults (I.state inputs.new).faults }
     // Where the inputs are observable, ReadFault comes only where the name isn't there, has a failing byte
@@ -108,7 +112,7 @@ fn run_named<I: Inputs, O: Sink, D: Device>(
     let Ok(mut controller) = load(alloc, object, topology) else {
         return refuse(Fault::Memory, out);
     };
-    run_loaded(alloc, &mut controller, inputs, script, out, dev)
+    run_loaded(&mut controller, inputs, script, out, dev)
 }
 
 /// All as it stands at load, before the device is given anything.
@@ -123,7 +127,6 @@ fn load(alloc: Global, object: Object, topology: Topology) -> Result<Controller,
 
 /// Runs the named script from the load, where it can be read.
 fn run_loaded<I: Inputs, O: Sink, D: Device>(
-    alloc: Global,
     controller: &mut Controller,
     inputs: &mut I,
     script: &str,
@@ -136,51 +139,47 @@ fn run_loaded<I: Inputs, O: Sink, D: Device>(
     ensures { Replayed I.Inputs O.Sink D.Device (setup_of controller.old.book) script.now
         (world inputs.old out.old dev.old) (world inputs.new out.new dev.new) result }
 {
-    let Ok(script) = gather(alloc, inputs, script, SCRIPT_LIMIT) else {
-        return refuse(Fault::Memory, out);
-    };
-    if let StopReason::Unbegun = script.stop() {
-        return refuse(Fault::Read, out);
-    }
     driven_follows::<D>();
-    scripts_are_read();
-    run(controller, &script, out, dev)
+    match inputs.begin(script) {
+        Ok(id) => run(controller, inputs, id, out, dev),
+        Err(Failed) => refuse(Fault::Read, out),
+    }
 }
 
-/// Runs a script that was begun from its load, and writes its text.
-fn run<O: Sink, D: Device>(
+/// Runs the script of an input that was begun, from its load, and writes its text.
+fn run<I: Inputs, O: Sink, D: Device>(
     controller: &mut Controller,
-    script: &Prefix,
+    inputs: &mut I,
+    id: u32,
     out: &mut O,
     dev: &mut D,
 ) -> Exit
-    requires size { length script.now.bytes < 2 ^ 31 }
-    requires begins { script.now.stop ≢ Unbegun }
     requires loaded { IsLoaded controller.old }
-    ensures { RanScript O.Sink D.Device (setup_of controller.old.book)
-        (script_from (script_lines script.now) (stop_of script.now.stop)) out.old out.new dev.old dev.new result }
+    ensures ran { OfScript I.observable id (I.state inputs.old)
+        (λ s. RanScript O.Sink D.Device (setup_of controller.old.book) s out.old out.new dev.old dev.new result) }
+    ensures fault { result ≡ Exit.ReadFault → Rose (I.state inputs.old).faults (I.state inputs.new).faults }
 {
     controller.start(dev);
     match write_step(0, controller.outbox(), out) {
-        Ok(()) => run_rest(controller, script, out, dev),
+        Ok(()) => run_rest(controller, inputs, id, out, dev),
         Err(Failed) => Exit::WriteFault,
     }
 }
 
 /// Runs the lines of a script, and writes what comes after them.
-fn run_rest<O: Sink, D: Device>(
+fn run_rest<I: Inputs, O: Sink, D: Device>(
     controller: &mut Controller,
-    script: &Prefix,
+    inputs: &mut I,
+    id: u32,
     out: &mut O,
     dev: &mut D,
 ) -> Exit
-    requires size { length script.now.bytes < 2 ^ 31 }
-    requires begins { script.now.stop ≢ Unbegun }
-    ensures { (c : Setup) → RanRest O.Sink D.Device c 1 (script_from (script_lines script.now) (stop_of script.now.stop))
-        controller.old out.old out.new dev.old dev.new result }
+    ensures ran { (c : Setup) → OfScript I.observable id (I.state inputs.old)
+        (λ s. RanRest O.Sink D.Device c 1 s controller.old out.old out.new dev.old dev.new result) }
+    ensures fault { result ≡ Exit.ReadFault → Rose (I.state inputs.old).faults (I.state inputs.new).faults }
 {
-    match run_lines(controller, script, out, dev) {
-        Ok(_) => finish(controller, script.stop(), out),
+    match run_lines(controller, inputs, id, out, dev) {
+        Ok(end) => finish(controller, end.stop, out),
         Err(LineStop::Bad(number, cause)) => refuse(Fault::Line(number, cause), out),
         Err(LineStop::Broken) => Exit::WriteFault,
     }

@@ -1,5 +1,4 @@
 pub mod BootLemmas
-pub mod FollowLemmas
 pub mod MeaningLemmas
 pub mod NamedLemmas
-pub mod ScriptLemmas
+pub mod WordsLemmas

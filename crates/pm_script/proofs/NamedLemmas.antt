@@ -1,12 +1,12 @@
 -- A named script that was read.
-use Rattle.std.proofs.Common.{◌≡◌, ℕ, ◌<◌, List, [], ◌∷◌, length, Option, Some, None, Result, Ok, Err, refl, sym, ◌∙◌, ap, subst, arith}
+use Rattle.std.proofs.Common.{◌≡◌, ℕ, List, [], ◌∷◌, Option, Some, None, Result, Ok, Err, refl, sym, ◌∙◌, ap, subst}
 use Rattle.std.specs.Prelude.{map}
 use Rattle.pm_base.specs.declared.events.Event.{Event}
 use Rattle.pm_base.specs.declared.prefix.StopReason.{StopReason}
 use Rattle.pm_base.specs.declared.prefix.StopReason.TheVariants as reason
 use Rattle.pm_base.specs.Inputs.{MayFail, Moment}
 use Rattle.pm_base.specs.Lines.{lines_of}
-use Rattle.pm_base.specs.Prefix.{HasSize, IsUnread, Prefix, prefix_of}
+use Rattle.pm_base.specs.Prefix.{IsUnread, Prefix, prefix_of}
 use Rattle.pm_base.proofs.PrefixEnds.{prefix_fails, prefix_whole}
 use Rattle.pm_script.specs.declared.meaning.LineFault.{LineFault}
 use Rattle.pm_script.specs.Meaning.{meaning}
@@ -123,13 +123,3 @@ pub script_cause : (m : Moment) (name : List ℕ) → IsUnreadable (script_in m 
 script_cause m name fails =
     let p : Prefix = prefix_of script_limit (m.file name) m.room in
     prefix_fails script_limit (m.file name) m.room p refl (script_unread p fails)
-
--- what is read of a script is short
-pub is_short : (p : Prefix) → HasSize script_limit p.stop (length p.bytes) → length p.bytes < 2147483648
-is_short p size = by p.stop size
-  where
-    by : (r : StopReason) → HasSize script_limit r (length p.bytes) → length p.bytes < 2147483648
-    by reason.End size = omega (arith, size)
-    by reason.Limit size = omega (arith, size)
-    by reason.Failure size = omega (arith, size)
-    by reason.Unbegun size = omega (arith, size)

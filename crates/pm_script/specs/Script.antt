@@ -64,15 +64,3 @@ script_where _ prefix = Some (script_from (script_lines prefix) (stop_of prefix.
 
 abbrev pub script_of : Prefix → Option Script
 script_of prefix = script_where prefix.stop prefix
-
--- no line is left
-abbrev pub IsOver : List (List ℕ) → Type 0
-IsOver lines = (stop : Stop) → script_from lines stop ≡ over stop
-
--- the first of these lines gives an event, and the later ones are left
-abbrev pub Gives : List (List ℕ) → Event → List (List ℕ) → Type 0
-Gives lines event later = (stop : Stop) → script_from lines stop ≡ before (Ok event) (script_from later stop)
-
--- the first of these lines has no meaning
-abbrev pub IsBad : List (List ℕ) → LineFault → Type 0
-IsBad lines fault = (stop : Stop) → script_from lines stop ≡ over (Bad fault)

@@ -1,12 +1,11 @@
 //! What a line of a script means.
 
-ghost use Rattle.std.specs.Prelude.{◌≡◌, ◌↔◌, ◌<◌, ◌≤◌, drop, length, slice_get, IsTrue};
-ghost use Rattle.pm_base.specs.Words.{words, word_texts};
-ghost use Rattle.pm_script.specs.Meaning.{meaning, ipi_meaning, boot_meaning, wfi_meaning, irq_meaning, gic_meaning, tick_meaning, given_number, given_address};
+ghost use Rattle.std.specs.Prelude.{◌≡◌, drop};
+ghost use Rattle.pm_base.specs.Words.{word_texts};
+ghost use Rattle.pm_script.specs.Meaning.{meaning, ipi_meaning, boot_meaning, wfi_meaning, irq_meaning, gic_meaning, tick_meaning};
 
-use pm_base::{
-    Event, Message, NodeId, TOO_LONG, is_plain, number, without_return, word, word_text,
-};
+use crate::words::LineWords;
+use pm_base::{Event, Message, NodeId, TOO_LONG, is_plain, without_return};
 
 /// Why a line of a script has no meaning. Where a line has several faults, the first of `Long`,
 /// `NotAscii`, `Unknown`, `Count` and `Number` is answered.
@@ -38,33 +37,34 @@ pub fn parse_line(line: &[u8]) -> Result<Event, LineFault>
     if !is_plain(without_return(line)) {
         return Err(LineFault::NotAscii);
     }
-    match word_text(line, 0) {
+    let words = LineWords::of(line);
+    match words.text_at(0) {
         None => Ok(Event::Pass),
-        Some(b"ipi") => parse_ipi(line),
-        Some(b"boot") => parse_boot(line),
-        Some(b"wfi") => parse_wfi(line),
-        Some(b"irq") => parse_irq(line),
-        Some(b"gic") => parse_gic(line),
-        Some(b"tick") => parse_tick(line),
+        Some(b"ipi") => parse_ipi(&words),
+        Some(b"boot") => parse_boot(&words),
+        Some(b"wfi") => parse_wfi(&words),
+        Some(b"irq") => parse_irq(&words),
+        Some(b"gic") => parse_gic(&words),
+        Some(b"tick") => parse_tick(&words),
         Some(_) => Err(LineFault::Unknown),
     }
 }
 
 /// The message of a line `ipi M API` and 0 to 5 arguments.
-fn parse_ipi(line: &[u8]) -> Result<Event, LineFault>
-    ensures { result ≡ ipi_meaning (drop 1 (word_texts line.now)) }
+fn parse_ipi(words: &LineWords) -> Result<Event, LineFault>
+    ensures { result ≡ ipi_meaning (drop 1 (word_texts words.now)) }
 {
-    if !has_words(line, 3, 8) {
+    if !words.has_words(3, 8) {
         return Err(LineFault::Count);
     }
-    let master = NodeId(number_at(line, 1)?);
-    let api = number_at(line, 2)?;
+    let master = NodeId(words.number_at(1)?);
+    let api = words.number_at(2)?;
     let args = [
-        number_at(line, 3)?,
-        number_at(line, 4)?,
-        number_at(line, 5)?,
-        number_at(line, 6)?,
-        number_at(line, 7)?,
+        words.number_at(3)?,
+        words.number_at(4)?,
+        words.number_at(5)?,
+        words.number_at(6)?,
+        words.number_at(7)?,
     ];
     Ok(Event::Ipi {
         master,
@@ -73,88 +73,57 @@ fn parse_ipi(line: &[u8]) -> Result<Event, LineFault>
 }
 
 /// The start of a processor of a line `boot P ADDRESS`.
-fn parse_boot(line: &[u8]) -> Result<Event, LineFault>
-    ensures { result ≡ boot_meaning (drop 1 (word_texts line.now)) }
+fn parse_boot(words: &LineWords) -> Result<Event, LineFault>
+    ensures { result ≡ boot_meaning (drop 1 (word_texts words.now)) }
 {
-    if !has_words(line, 3, 3) {
+    if !words.has_words(3, 3) {
         return Err(LineFault::Count);
     }
-    let proc = NodeId(number_at(line, 1)?);
-    let address = address_at(line, 2)?;
+    let proc = NodeId(words.number_at(1)?);
+    let address = words.address_at(2)?;
     Ok(Event::Boot { proc, address })
 }
 
 /// The wait of a processor of a line `wfi P`.
-fn parse_wfi(line: &[u8]) -> Result<Event, LineFault>
-    ensures { result ≡ wfi_meaning (drop 1 (word_texts line.now)) }
+fn parse_wfi(words: &LineWords) -> Result<Event, LineFault>
+    ensures { result ≡ wfi_meaning (drop 1 (word_texts words.now)) }
 {
-    if !has_words(line, 2, 2) {
+    if !words.has_words(2, 2) {
         return Err(LineFault::Count);
     }
-    let proc = NodeId(number_at(line, 1)?);
+    let proc = NodeId(words.number_at(1)?);
     Ok(Event::Wfi { proc })
 }
 
 /// The interrupt of a slave of a line `irq S`.
-fn parse_irq(line: &[u8]) -> Result<Event, LineFault>
-    ensures { result ≡ irq_meaning (drop 1 (word_texts line.now)) }
+fn parse_irq(words: &LineWords) -> Result<Event, LineFault>
+    ensures { result ≡ irq_meaning (drop 1 (word_texts words.now)) }
 {
-    if !has_words(line, 2, 2) {
+    if !words.has_words(2, 2) {
         return Err(LineFault::Count);
     }
-    let slave = NodeId(number_at(line, 1)?);
+    let slave = NodeId(words.number_at(1)?);
     Ok(Event::Irq { slave })
 }
 
 /// The interrupt at a processor itself of a line `gic P`.
-fn parse_gic(line: &[u8]) -> Result<Event, LineFault>
-    ensures { result ≡ gic_meaning (drop 1 (word_texts line.now)) }
+fn parse_gic(words: &LineWords) -> Result<Event, LineFault>
+    ensures { result ≡ gic_meaning (drop 1 (word_texts words.now)) }
 {
-    if !has_words(line, 2, 2) {
+    if !words.has_words(2, 2) {
         return Err(LineFault::Count);
     }
-    let proc = NodeId(number_at(line, 1)?);
+    let proc = NodeId(words.number_at(1)?);
     Ok(Event::Gic { proc })
 }
 
 /// The units of time of a line `tick N`.
-fn parse_tick(line: &[u8]) -> Result<Event, LineFault>
-    ensures { result ≡ tick_meaning (drop 1 (word_texts line.now)) }
+fn parse_tick(words: &LineWords) -> Result<Event, LineFault>
+    ensures { result ≡ tick_meaning (drop 1 (word_texts words.now)) }
 {
-    if !has_words(line, 2, 2) {
+    if !words.has_words(2, 2) {
         return Err(LineFault::Count);
     }
-    let count = number_at(line, 1)?;
+    let count = words.number_at(1)?;
     Ok(Event::Tick { count })
-}
-
-/// Whether the line has `least` to `most` words.
-fn has_words(line: &[u8], least: usize, most: usize) -> bool
-    requires { 0 < least }
-    ensures { IsTrue result ↔ ((least ≤ length (words line.now)) × (length (words line.now) ≤ most)) }
-{
-    word(line, least - 1).is_some() && word(line, most).is_none()
-}
-
-/// The number of the word at place `k`. It is 0 where there is no such word.
-fn number_at(line: &[u8], k: usize) -> Result<u32, LineFault>
-    ensures { result ≡ given_number (slice_get (word_texts line.now) k) }
-{
-    match word_text(line, k) {
-        None => Ok(0),
-        Some(text) => match number(text, u32::MAX.into()) {
-            Some(value) => Ok(value as u32),
-            None => Err(LineFault::Number),
-        },
-    }
-}
-
-/// The number of 64 bits of the word at place `k`. It is 0 where there is no such word.
-fn address_at(line: &[u8], k: usize) -> Result<u64, LineFault>
-    ensures { result ≡ given_address (slice_get (word_texts line.now) k) }
-{
-    match word_text(line, k) {
-        None => Ok(0),
-        Some(text) => number(text, u64::MAX).ok_or(LineFault::Number),
-    }
 }

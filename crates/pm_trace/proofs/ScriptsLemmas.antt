@@ -4,18 +4,19 @@ use Rattle.pm_base.specs.Faults.{Rose}
 use Rattle.pm_base.specs.declared.errors.Exit.{Exit}
 use Rattle.pm_base.specs.declared.errors.Exit.TheVariants as exit
 use Rattle.pm_base.specs.declared.inputs.Inputs as Inputs
+use Rattle.pm_base.specs.declared.prefix.StopReason.{StopReason}
 use Rattle.pm_base.specs.declared.prefix.StopReason.TheVariants as reason
 use Rattle.pm_base.specs.declared.sink.Sink as Sink
 use Rattle.pm_base.specs.Inputs.{MayFail}
-use Rattle.pm_base.specs.Prefix.{IsUnread, Prefix, ReadsPrefix}
 use Rattle.pm_base.specs.Sink.{HasFailed, IsUnfailed}
 use Rattle.pm_base.specs.Writing.{Leaves}
 use Rattle.pm_script.specs.Named.{IsHeldWhole, IsUnreadable, script_in}
-use Rattle.pm_script.specs.Script.{Script, Stop, script_from, script_limit, script_lines, script_of, stop_of}
+use Rattle.pm_script.specs.declared.meaning.LineFault.{LineFault}
+use Rattle.pm_script.specs.Script.{Script, Stop, script_limit, stop_of}
 use Rattle.pm_script.specs.Script.Stop.{End, Bad, Past, Failed}
-use Rattle.pm_script.proofs.NamedLemmas.{read_whole, script_cause, script_none, script_some, script_unread}
+use Rattle.pm_script.proofs.NamedLemmas.{read_whole, script_cause}
 use Rattle.pm_trace.specs.declared.faults.Fault.{Fault}
-use Rattle.pm_trace.specs.declared.faults.Fault.TheVariants.{Memory, Read}
+use Rattle.pm_trace.specs.declared.faults.Fault.TheVariants.{Line, Memory, Read}
 use Rattle.pm_trace.specs.Exits.{EndsBy, EndsWith, ExitSays, IsStarved}
 use Rattle.pm_trace.specs.Faults.{exit_after, fault_text}
 use Rattle.pm_trace.specs.Report.{Did, Report, Reports, exit_of, pieces, refusal, report_of}
@@ -51,11 +52,21 @@ failed_by n (Bad cause) is = cc
 failed_by n Past is = cc
 failed_by n Failed is = refl
 
-never_memory : (n : ℕ) (stop : Stop) → fault_at n stop ≡ Some Memory → ⊥
+pub never_memory : (n : ℕ) (stop : Stop) → fault_at n stop ≡ Some Memory → ⊥
 never_memory n End is = cc
 never_memory n (Bad cause) is = cc
 never_memory n Past is = cc
 never_memory n Failed is = cc
+
+-- a script that ended so could not be read on only where a read failed
+pub failure_by : (r : StopReason) → (r ≡ reason.Unbegun → ⊥) → fault_at 0 (stop_of r) ≡ Some Read → r ≡ reason.Failure
+failure_by reason.End begun is = cc
+failure_by reason.Limit begun is = cc
+failure_by reason.Failure begun is = refl
+failure_by reason.Unbegun begun is = absurd (begun refl)
+
+pub line_is_read : (n : ℕ) (cause : LineFault) → ◌≡◌ {A = Option Fault} (Some (Line n cause)) (Some Read) → ⊥
+line_is_read n cause is = cc
 
 -- the script can't be begun or read on
 abbrev pub Unreadable : Result Script Fault → Type 0
@@ -80,19 +91,13 @@ module _ {I : Type 0} (i : Inputs.Ghosts I) (name : List ℕ) (old new : I) (res
   pub asked_starved : (result ≡ exit.ReadFault → ⊥) → IsScriptOf i name old new result (Err Memory)
   asked_starved other = record { shown = λ seen. inl refl; failed = λ is. absurd (other is); known = inr refl }
 
-  pub asked_unbegun : (p : Prefix) → ReadsPrefix i.observable name script_limit (i.state old) (i.state new) p → p.stop ≡ reason.Unbegun → IsScriptOf i name old new result (Err Read)
-  asked_unbegun p reads is = record {
-    shown = λ seen. inr (ap script_or_fault (sym (script_none p is)) ∙ ap (λ (q : Prefix). script_or_fault (script_of q)) (reads.is seen));
-    failed = λ read. reads.fault (subst IsUnread (sym is) tt);
-    known = inl refl;
-  }
+  -- the script could not be begun
+  pub asked_unbegun : (i.observable → script_in (i.state old) name ≡ None) → Rose (i.state old).faults (i.state new).faults → IsScriptOf i name old new result (Err Read)
+  asked_unbegun none rose = record { shown = λ seen. inr (ap script_or_fault (sym (none seen))); failed = λ is. rose; known = inl refl }
 
-  pub asked_begun : (p : Prefix) → ReadsPrefix i.observable name script_limit (i.state old) (i.state new) p → (p.stop ≡ reason.Unbegun → ⊥) → (result ≡ exit.ReadFault → (script_from (script_lines p) (stop_of p.stop)).stop ≡ Failed) → IsScriptOf i name old new result (Ok (script_from (script_lines p) (stop_of p.stop)))
-  asked_begun p reads begun fails = record {
-    shown = λ seen. inr (ap script_or_fault (sym (script_some p begun)) ∙ ap (λ (q : Prefix). script_or_fault (script_of q)) (reads.is seen));
-    failed = λ read. reads.fault (script_unread p (subst IsUnreadable (sym (script_some p begun)) (fails read)));
-    known = tt;
-  }
+  -- a script was begun
+  pub asked_begun : (s : Script) → (i.observable → script_in (i.state old) name ≡ Some s) → (result ≡ exit.ReadFault → Rose (i.state old).faults (i.state new).faults) → IsScriptOf i name old new result (Ok s)
+  asked_begun s read fails = record { shown = λ seen. inr (ap script_or_fault (sym (read seen))); failed = fails; known = tt }
 
 -- a text that was written up to a cut ends in ReadFault only where that is its fault
 pub read_by : {O : Type 0} (o : Sink.Ghosts O) (r : Report) (cut : Option ℕ) (old new : O) (result : Exit) → Leaves o (pieces r) cut old new → result ≡ exit_of r cut → result ≡ exit.ReadFault → r.fault ≡ Some Read

@@ -1,31 +1,30 @@
-use Rattle.std.proofs.Common.{◌∙◌, subst, sym}
+use Rattle.std.proofs.Common.{arith, refl, subst}
+use Rattle.std.proofs.lemmas.Bool.{false≢true}
+use Rattle.pm_base.specs.Faults.{Rose}
+use Rattle.pm_reader.proofs.Named.{script_begun, script_unbegun}
 use Rattle.pm_script.specs.Script.{Script, script_from, script_lines, stop_of}
 use Rattle.pm_trace.specs.Report.{Report, Reports}
 use Rattle.pm_isolate.specs.Within.{setup_in}
-use Rattle.pm_isolate.proofs.ComparedLemmas as lemmas
+use Rattle.pm_isolate.proofs.ComparedLemmas.{compare_ran, compare_unbegun, report_is}
 use Rattle.pm_isolate.proofs.comparison.compare_prepared.Goals as goal
 
-pub returns-in_default : goal.returns-in_default
-returns-in_default g c =
+pub returns-in-Ok : goal.returns-in-Ok
+returns-in-Ok g c =
     let cs = setup_in c.args.prepared.now.worlds in
-    lemmas.compare_starved g.I.Inputs g.O.Sink cs c.args.m c.args.script.now c.args.inputs.now c.gather.new.inputs c.args.out.now c.refuse.new.out c.refuse.result c.refuse.ensures
-
-pub returns-in-Unbegun : goal.returns-in-Unbegun
-returns-in-Unbegun g c =
-    let cs = setup_in c.args.prepared.now.worlds in
-    lemmas.compare_unbegun g.I.Inputs g.O.Sink cs c.args.m c.args.script.now c.args.inputs.now c.gather.new.inputs c.args.out.now c.refuse-in-Unbegun.new.out c.refuse-in-Unbegun.result c.in-Ok.script c.in-Ok.ensures (sym c.stop.ensures ∙ c.in-Unbegun.is) c.refuse-in-Unbegun.ensures
-
-pub run-requires : goal.run-requires
-run-requires g c = record {
-  size = c.scripts_are_read.ensures.short c.in-Ok.script c.in-Ok.ensures.size;
-  begins = λ is. c.in_default-stop.not-Unbegun (c.stop.ensures ∙ is);
-}
-
-pub returns : goal.returns
-returns g c =
-    let cs = setup_in c.args.prepared.now.worlds in
-    let p = c.in-Ok.script in
-    let s : Script = script_from (script_lines p) (stop_of p.stop) in
+    let name = c.args.script.now in
+    let old = c.args.inputs.now in
+    let of = c.run.ensures.ran in
+    let s : Script = script_from (script_lines of.prefix) (stop_of of.prefix.stop) in
     let ready = c.requires in
-    let reports = subst (λ (r : Report). Reports g.O.Sink r c.args.out.now c.run.new.out c.run.result) (lemmas.report_is cs c.args.m s c.args.prepared.now ready) c.run.ensures in
-    lemmas.compare_ran g.I.Inputs g.O.Sink cs c.args.m c.args.script.now c.args.inputs.now c.gather.new.inputs c.args.out.now c.run.new.out c.run.result p ready.members c.in-Ok.ensures (λ is. c.in_default-stop.not-Unbegun (c.stop.ensures ∙ is)) ready.reach reports
+    let reports = subst (λ (r : Report). Reports g.O.Sink r c.args.out.now c.run.new.out c.run.result) (report_is cs c.args.m s c.args.prepared.now ready) of.holds in
+    let read = script_begun g.I.Inputs.observable name c.in-Ok.id (g.I.Inputs.state old) (g.I.Inputs.state c.begin.new.self) _ of c.in-Ok.ensures.begun (λ seen cannot. false≢true ((c.in-Ok.ensures.failed seen).1 cannot)) in
+    compare_ran g.I.Inputs g.O.Sink cs c.args.m name old c.run.new.inputs c.args.out.now c.run.new.out c.run.result s ready.members read
+    (λ is. let rose : Rose (g.I.Inputs.state c.begin.new.self).faults (g.I.Inputs.state c.run.new.inputs).faults = c.run.ensures.fault is in omega (arith, c.in-Ok.ensures.cause.later, rose))
+    ready.reach reports
+
+pub returns-in-Err : goal.returns-in-Err
+returns-in-Err g c =
+    let cs = setup_in c.args.prepared.now.worlds in
+    compare_unbegun g.I.Inputs g.O.Sink cs c.args.m c.args.script.now c.args.inputs.now c.begin.new.self c.args.out.now c.refuse.new.out c.refuse.result
+    (λ seen. script_unbegun c.args.script.now (g.I.Inputs.state c.args.inputs.now) ((c.in-Err.ensures.failed seen).0 refl))
+    c.in-Err.ensures.cause.failed c.refuse.ensures

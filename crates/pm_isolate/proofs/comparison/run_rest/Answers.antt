@@ -1,21 +1,36 @@
 use Rattle.std.proofs.Common.{refl, subst}
-use Rattle.pm_base.specs.declared.prefix.StopReason.{StopReason}
-use Rattle.pm_script.specs.Script.{Script, script_from, script_lines, stop_of}
-use Rattle.pm_trace.specs.Report.{Report, Reports}
+use Rattle.pm_reader.proofs.Named.{of_more}
+use Rattle.pm_script.specs.Script.{stop_of}
+use Rattle.pm_trace.proofs.ScriptsLemmas.{failure_by, line_is_read, read_by}
+use Rattle.pm_trace.specs.Report.{Report, Reports, refusal}
+use Rattle.pm_trace.specs.declared.faults.Fault.TheVariants.{Line}
 use Rattle.pm_isolate.specs.Within.{end_report}
 use Rattle.pm_isolate.proofs.ComparedLemmas.{rest_bad, rest_closed}
 use Rattle.pm_isolate.proofs.comparison.run_rest.Goals as goal
 
-pub returns-in-Ok : goal.returns-in-Ok
-returns-in-Ok g c =
-    let s : Script = script_from (script_lines c.args.script.now) (stop_of c.args.script.now.stop) in
+pub returns-in-Ok-clause-ran : goal.returns-in-Ok-clause-ran
+returns-in-Ok-clause-ran g c =
     let then = c.run_lines.new.worlds in
-    let P : StopReason → Type 0 = λ r. Reports g.O.Sink (end_report (stop_of r) then c.in-Ok.count) c.args.out.now c.finish.new.out c.finish.result in
-    let ends = c.in-Ok.ensures in
-    subst (λ (r : Report). Reports g.O.Sink r c.args.out.now c.finish.new.out c.finish.result) (rest_closed c.args.m s c.args.script.now.stop c.args.worlds.now then c.in-Ok.count ends.0 ends.1 ends.2) (subst P c.stop.ensures c.finish.ensures)
+    let end = c.in-Ok.end in
+    of_more g.I.Inputs.observable c.args.id (g.I.Inputs.state c.args.inputs.now) _ _
+    (λ s ends. subst (λ (r : Report). Reports g.O.Sink r c.args.out.now c.finish.new.out c.finish.result) (rest_closed c.args.m s end.stop c.args.worlds.now then end.count ends.0 ends.1 ends.2) c.finish.ensures)
+    c.in-Ok.ensures.ran
 
-pub returns-in-Err-Bad : goal.returns-in-Err-Bad
-returns-in-Err-Bad g c =
-    let s : Script = script_from (script_lines c.args.script.now) (stop_of c.args.script.now.stop) in
-    let ends = rw c.in-Err-Bad.field-0-is at c.in-Err-Bad.ensures in
-    subst (λ (r : Report). Reports g.O.Sink r c.args.out.now c.refuse.new.out c.refuse.result) (rest_bad c.args.m s c.args.worlds.now c.in-Err-Bad.number c.in-Err-Bad.cause ends.0 ends.1) c.refuse.ensures
+pub returns-in-Ok-clause-fault : goal.returns-in-Ok-clause-fault
+returns-in-Ok-clause-fault g c = λ is.
+    let end = c.in-Ok.end in
+    let reports = c.finish.ensures in
+    c.in-Ok.ensures.fault (failure_by end.stop c.in-Ok.ensures.ends (read_by g.O.Sink (end_report (stop_of end.stop) c.run_lines.new.worlds end.count) reports.cut c.args.out.now c.finish.new.out c.finish.result reports.left reports.ends is))
+
+pub returns-in-Err-Bad-clause-ran : goal.returns-in-Err-Bad-clause-ran
+returns-in-Err-Bad-clause-ran g c =
+    let n = c.in-Err-Bad.number in
+    let cause = c.in-Err-Bad.cause in
+    of_more g.I.Inputs.observable c.args.id (g.I.Inputs.state c.args.inputs.now) _ _
+    (λ s ends. subst (λ (r : Report). Reports g.O.Sink r c.args.out.now c.refuse.new.out c.refuse.result) (rest_bad c.args.m s c.args.worlds.now n cause ends.0 ends.1) c.refuse.ensures)
+    (rw c.in-Err-Bad.field-0-is at c.in-Err-Bad.ensures.ran)
+
+pub returns-in-Err-Bad-clause-fault : goal.returns-in-Err-Bad-clause-fault
+returns-in-Err-Bad-clause-fault g c = λ is.
+    let reports = c.refuse.ensures in
+    absurd (line_is_read c.in-Err-Bad.number c.in-Err-Bad.cause (read_by g.O.Sink (refusal (Line c.in-Err-Bad.number c.in-Err-Bad.cause)) reports.cut c.args.out.now c.refuse.new.out c.refuse.result reports.left reports.ends is))

@@ -3,7 +3,7 @@ use Rattle.pm_run.specs.Run.{setup}
 use Rattle.pm_base.specs.World.{world}
 use Rattle.pm_trace.specs.Scripts.{IsScriptOf}
 use Rattle.pm_trace.proofs.ScriptsLemmas as scripts
-use Rattle.pm_replay.proofs.ReplayLemmas.{of_script, replay_done, replay_safe, script_itself}
+use Rattle.pm_replay.proofs.ReplayLemmas.{of_script, replay_done, replay_safe, replay_untouched, script_itself}
 use Rattle.pm_replay.proofs.run.replay.Goals as goal
 
 pub returns : goal.returns
@@ -24,6 +24,7 @@ returns g c =
       keeps = record { run = λ answers events drove. c.driven_runs_keep_apart.ensures.run cs events answers w.device w'.device c.requires.object c.requires.formed drove; steps = λ answers events cut drove. c.driven_runs_keep_apart.ensures.steps cs events answers cut w.device w'.device c.requires.object c.requires.formed drove };
       causes = λ events. c.runs_have_causes.ensures.run cs events;
       memory = scripts.did_memory g.I.Inputs g.O.Sink script_itself (replay_report cs) (of_script cs) name w.inputs w'.inputs w.sink w'.sink result Asks (λ job asked. asked) Touching ran;
+      untouched = replay_untouched g.I.Inputs g.O.Sink g.D.Device cs name w w' result ran;
       read_fault = scripts.did_read_fault g.I.Inputs g.O.Sink script_itself (replay_report cs) (of_script cs) name w.inputs w'.inputs w.sink w'.sink result Asks (λ job asked. asked) Touching ran;
       read_cause = scripts.did_read_cause g.I.Inputs g.O.Sink script_itself (replay_report cs) (of_script cs) name w.inputs w'.inputs w.sink w'.sink result Asks (λ job asked. asked) Touching ran;
       write_fault = scripts.did_write_fault g.I.Inputs g.O.Sink script_itself (replay_report cs) (of_script cs) name w.inputs w'.inputs w.sink w'.sink result Asks (λ job asked. asked) Touching ran;

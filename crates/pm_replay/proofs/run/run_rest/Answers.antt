@@ -1,24 +1,39 @@
-use Rattle.std.proofs.Common.{subst}
-use Rattle.pm_base.specs.declared.prefix.StopReason.{StopReason}
-use Rattle.pm_script.specs.Script.{Script, script_from, script_lines, stop_of}
-use Rattle.pm_trace.specs.Report.{Reports}
+use Rattle.std.proofs.Common.{refl}
+use Rattle.pm_reader.proofs.Named.{of_more}
+use Rattle.pm_script.specs.Script.{stop_of}
+use Rattle.pm_trace.proofs.ScriptsLemmas.{failure_by, line_is_read, read_by}
+use Rattle.pm_trace.specs.Report.{refusal}
+use Rattle.pm_trace.specs.declared.faults.Fault.TheVariants.{Line}
 use Rattle.pm_replay.specs.Within.{closing_report}
 use Rattle.pm_replay.proofs.RestLemmas.{RanRest-bad, RanRest-broken, RanRest-closed}
 use Rattle.pm_replay.proofs.run.run_rest.Goals as goal
 
-pub returns-in-Ok : goal.returns-in-Ok
-returns-in-Ok g c = λ cs.
-    let s : Script = script_from (script_lines c.args.script.now) (stop_of c.args.script.now.stop) in
+pub returns-in-Ok-clause-ran : goal.returns-in-Ok-clause-ran
+returns-in-Ok-clause-ran g c = λ cs.
     let then = c.run_lines.new.controller in
-    let P : StopReason → Type 0 = λ r. Reports g.O.Sink (closing_report (stop_of r) then.book then.kept) c.run_lines.new.out c.finish.new.out c.finish.result in
-    RanRest-closed g.O.Sink g.D.Device cs 1 s c.args.script.now.stop c.args.controller.now then c.args.out.now c.run_lines.new.out c.finish.new.out c.args.dev.now c.run_lines.new.dev c.finish.result _ (c.in-Ok.ensures cs) (subst P c.stop.ensures c.finish.ensures)
+    of_more g.I.Inputs.observable c.args.id (g.I.Inputs.state c.args.inputs.now) _ _
+    (λ s ran. RanRest-closed g.O.Sink g.D.Device cs 1 s c.in-Ok.end.stop c.args.controller.now then c.args.out.now c.run_lines.new.out c.finish.new.out c.args.dev.now c.run_lines.new.dev c.finish.result c.in-Ok.end.count ran c.finish.ensures)
+    (c.in-Ok.ensures.ran cs)
 
-pub returns-in-Err-Bad : goal.returns-in-Err-Bad
-returns-in-Err-Bad g c = λ cs.
-    let s : Script = script_from (script_lines c.args.script.now) (stop_of c.args.script.now.stop) in
-    RanRest-bad g.O.Sink g.D.Device cs 1 c.in-Err-Bad.number c.in-Err-Bad.cause s (stop_of c.args.script.now.stop) c.args.controller.now c.run_lines.new.controller c.args.out.now c.run_lines.new.out c.refuse.new.out c.args.dev.now c.run_lines.new.dev c.refuse.result ((rw c.in-Err-Bad.field-0-is at c.in-Err-Bad.ensures) cs) c.refuse.ensures
+pub returns-in-Ok-clause-fault : goal.returns-in-Ok-clause-fault
+returns-in-Ok-clause-fault g c = λ is.
+    let then = c.run_lines.new.controller in
+    let reports = c.finish.ensures in
+    c.in-Ok.ensures.fault (failure_by c.in-Ok.end.stop c.in-Ok.ensures.ends (read_by g.O.Sink (closing_report (stop_of c.in-Ok.end.stop) then.book then.kept) reports.cut c.run_lines.new.out c.finish.new.out c.finish.result reports.left reports.ends is))
 
-pub returns-in-Err-Broken : goal.returns-in-Err-Broken
-returns-in-Err-Broken g c = λ cs.
-    let s : Script = script_from (script_lines c.args.script.now) (stop_of c.args.script.now.stop) in
-    RanRest-broken g.O.Sink g.D.Device cs 1 s (stop_of c.args.script.now.stop) c.args.controller.now c.run_lines.new.controller c.args.out.now c.run_lines.new.out c.args.dev.now c.run_lines.new.dev ((rw c.in-Err-Broken.field-0-is at c.in-Err-Broken.ensures) cs)
+pub returns-in-Err-Bad-clause-ran : goal.returns-in-Err-Bad-clause-ran
+returns-in-Err-Bad-clause-ran g c = λ cs.
+    of_more g.I.Inputs.observable c.args.id (g.I.Inputs.state c.args.inputs.now) _ _
+    (λ s ran. RanRest-bad g.O.Sink g.D.Device cs 1 c.in-Err-Bad.number c.in-Err-Bad.cause s c.args.controller.now c.run_lines.new.controller c.args.out.now c.run_lines.new.out c.refuse.new.out c.args.dev.now c.run_lines.new.dev c.refuse.result ran c.refuse.ensures)
+    ((rw c.in-Err-Bad.field-0-is at c.in-Err-Bad.ensures.ran) cs)
+
+pub returns-in-Err-Bad-clause-fault : goal.returns-in-Err-Bad-clause-fault
+returns-in-Err-Bad-clause-fault g c = λ is.
+    let reports = c.refuse.ensures in
+    absurd (line_is_read c.in-Err-Bad.number c.in-Err-Bad.cause (read_by g.O.Sink (refusal (Line c.in-Err-Bad.number c.in-Err-Bad.cause)) reports.cut c.run_lines.new.out c.refuse.new.out c.refuse.result reports.left reports.ends is))
+
+pub returns-in-Err-Broken-clause-ran : goal.returns-in-Err-Broken-clause-ran
+returns-in-Err-Broken-clause-ran g c = λ cs.
+    of_more g.I.Inputs.observable c.args.id (g.I.Inputs.state c.args.inputs.now) _ _
+    (λ s ran. RanRest-broken g.O.Sink g.D.Device cs 1 s c.args.controller.now c.run_lines.new.controller c.args.out.now c.run_lines.new.out c.args.dev.now c.run_lines.new.dev ran)
+    ((rw c.in-Err-Broken.field-0-is at c.in-Err-Broken.ensures.ran) cs)

@@ -8,8 +8,8 @@ use Rattle.pm_script.proofs.meaning.parse_tick.Goals as goal
 pub returns-in_err-count : goal.returns-in_err-count
 returns-in_err-count c =
     let exit = err_from_is_err_and c.from_residual.result c.from_residual.ensures.1 in
-    exit.1 ∙ ap Err exit.2 ∙ sym (only_number_fault Tick c.args.line.now (c.has_words.ensures.0 c.if-not-has_words.false) _ (sym c.number_at.ensures ∙ c.in_err-count.was))
+    exit.1 ∙ ap Err exit.2 ∙ sym (only_number_fault Tick c.args.words.now (c.has_words.ensures.0 c.if-not-has_words.false) _ (sym c.number_at.ensures ∙ c.in_err-count.was))
 
 pub returns : goal.returns
 returns c =
-    sym (only_number Tick c.args.line.now (c.has_words.ensures.0 c.if-not-has_words.false) _ (sym c.number_at.ensures ∙ c.in_ok-count.was))
+    sym (only_number Tick c.args.words.now (c.has_words.ensures.0 c.if-not-has_words.false) _ (sym c.number_at.ensures ∙ c.in_ok-count.was))

@@ -8,8 +8,8 @@ use Rattle.pm_script.proofs.meaning.parse_wfi.Goals as goal
 pub returns-in_err-number_at : goal.returns-in_err-number_at
 returns-in_err-number_at c =
     let exit = err_from_is_err_and c.from_residual.result c.from_residual.ensures.1 in
-    exit.1 ∙ ap Err exit.2 ∙ sym (only_number_fault (λ node. Wfi (record { 0 = node })) c.args.line.now (c.has_words.ensures.0 c.if-not-has_words.false) _ (sym c.number_at.ensures ∙ c.in_err-number_at.was))
+    exit.1 ∙ ap Err exit.2 ∙ sym (only_number_fault (λ node. Wfi (record { 0 = node })) c.args.words.now (c.has_words.ensures.0 c.if-not-has_words.false) _ (sym c.number_at.ensures ∙ c.in_err-number_at.was))
 
 pub returns : goal.returns
 returns c =
-    sym (only_number (λ node. Wfi (record { 0 = node })) c.args.line.now (c.has_words.ensures.0 c.if-not-has_words.false) _ (sym c.number_at.ensures ∙ c.in_ok-number_at.was))
+    sym (only_number (λ node. Wfi (record { 0 = node })) c.args.words.now (c.has_words.ensures.0 c.if-not-has_words.false) _ (sym c.number_at.ensures ∙ c.in_ok-number_at.was))

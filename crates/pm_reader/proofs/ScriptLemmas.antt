@@ -3,7 +3,20 @@ use Rattle.std.proofs.Common.{◌≡◌, ℕ, List, [], ◌∷◌, Result, Ok, E
 use Rattle.pm_base.specs.declared.events.Event.{Event}
 use Rattle.pm_script.specs.declared.meaning.LineFault.{LineFault}
 use Rattle.pm_script.specs.Meaning.{meaning}
-use Rattle.pm_script.specs.Script.{Stop, before, script_from, IsOver, Gives, IsBad}
+use Rattle.pm_script.specs.Script.{Stop, before, over, script_from}
+use Rattle.pm_script.specs.Script.Stop.{Bad}
+
+-- no line is left
+abbrev pub IsOver : List (List ℕ) → Type 0
+IsOver lines = (stop : Stop) → script_from lines stop ≡ over stop
+
+-- the first of these lines gives an event, and the later ones are left
+abbrev pub Gives : List (List ℕ) → Event → List (List ℕ) → Type 0
+Gives lines event later = (stop : Stop) → script_from lines stop ≡ before (Ok event) (script_from later stop)
+
+-- the first of these lines has no meaning
+abbrev pub IsBad : List (List ℕ) → LineFault → Type 0
+IsBad lines fault = (stop : Stop) → script_from lines stop ≡ over (Bad fault)
 
 pub no_line : (lines : List (List ℕ)) → lines ≡ [] → IsOver lines
 unfolding script_from
