@@ -1,1 +1,2 @@
+pub mod LaboratoryLemmas
 pub mod LinesLemmas

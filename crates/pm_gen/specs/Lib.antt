@@ -1,2 +1,3 @@
 pub mod Laboratory
 pub mod Script
+pub mod Summary

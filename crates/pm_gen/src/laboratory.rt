@@ -2,7 +2,7 @@
 
 ghost use Rattle.std.specs.Prelude.{◌≡◌, IfOk, OnOk, ◌++◌};
 ghost use Rattle.pm_object.specs.Grammar.{IsObject, Reads, little_endian};
-ghost use Rattle.pm_gen.specs.Laboratory.{lab_words};
+ghost use Rattle.pm_gen.specs.Laboratory.{lab_words, laboratory};
 
 use pm_base::NoMemory;
 use pm_object::{DecodeError, Object, decode};
@@ -20,6 +20,7 @@ const WORDS: [u32; 40] = [
 /// The object of the laboratory. The one error is want of memory: that its bytes are an object, so that none comes where
 /// there is memory, is tested and not proved.
 pub fn lab_object(alloc: Global) -> Result<Object, NoMemory>
+    ensures exact { IfOk result (λ object. object ≡ laboratory) }
     ensures reads { IfOk result (Reads (little_endian lab_words)) }
     ensures formed { IfOk result IsObject }
 {

@@ -1,7 +1,12 @@
-//! Tests of what `pm_gen` makes: the laboratory's object and the script of a number.
+//! Tests of the input that the program makes itself: the laboratory's object, the script, the summary of its run, and the
+//! one input in memory.
 #![tactic(auto)]
 
+#[cfg(test)]
+mod inputs;
 #[cfg(test)]
 mod laboratory;
 #[cfg(test)]
 mod scripts;
+#[cfg(test)]
+mod summaries;

@@ -1,89 +1,40 @@
 -- What the words ask for, by what was read.
 use Rattle.std.proofs.Common.{◌≡◌, ℕ, ◌+◌, ◌≤◌, ◌⊎◌, ◌==◌, Bool, true, false, not, List, Option, Some, None, Result, Ok, Err, if◌then◌else◌, refl, sym, ◌∙◌, ap, subst, arith, inl, inr}
-use Rattle.std.specs.Prelude.{OnErr}
+use Rattle.std.specs.Prelude.{IfNone, IfOk, OnErr}
 use Rattle.std.proofs.lemmas.Bool.Decides.{Decides-eqb, nat_tests}
 use Rattle.pm_base.specs.Faults.{Rose}
 use Rattle.pm_base.specs.declared.errors.Exit.{Exit}
 use Rattle.pm_base.specs.declared.errors.Exit.TheVariants.{ReadFault}
 use Rattle.pm_base.specs.declared.inputs.Inputs as Inputs
-use Rattle.pm_base.specs.declared.prefix.StopReason.{StopReason}
-use Rattle.pm_base.specs.declared.prefix.StopReason.TheVariants as reason
 use Rattle.pm_base.specs.Inputs.{File, Moment}
-use Rattle.pm_base.specs.Prefix.{IsUnread, Prefix, prefix_of}
-use Rattle.pm_object.specs.declared.object.Object.{Object}
-use Rattle.pm_object.specs.declared.object.ObjectFault.{ObjectFault}
-use Rattle.pm_object.specs.Grammar.{Reads}
-use Rattle.pm_object.specs.Reading.{reading}
-use Rattle.pm_objtext.specs.declared.fault.TextFault.{TextFault}
-use Rattle.pm_objtext.specs.Building.{building}
-use Rattle.pm_objtext.specs.Meaning.{Means}
+use Rattle.pm_base.specs.Prefix.{Prefix, prefix_of}
+use Rattle.pm_reach.specs.declared.members.Member.{Member}
 use Rattle.pm_script.specs.Script.{Script, script_limit, script_of}
+use Rattle.pm_script.specs.Script.Stop.{End, Failed}
 use Rattle.pm_trace.specs.declared.faults.Fault.{Fault}
-use Rattle.pm_trace.specs.declared.faults.Fault.TheVariants.{Object as BadObject, Text as BadText, Memory, Read}
+use Rattle.pm_trace.specs.declared.faults.Fault.TheVariants.{Memory, Read}
 use Rattle.pm_script.specs.Named.{script_in}
 use Rattle.pm_trace.specs.Scripts.{IsScriptOf, script_or_fault}
-use Rattle.pm_top.specs.declared.form.Form.{Form}
-use Rattle.pm_top.specs.declared.form.Form.TheVariants.{Replay, Reach, Isolate, Print, Build}
+use Rattle.pm_isolate.specs.Compared.{Comparison, script_of_job}
+use Rattle.pm_top.specs.declared.works.Form.{Form}
+use Rattle.pm_top.specs.declared.reading.Subject.{Subject}
 use Rattle.pm_top.specs.Form.{word}
-use Rattle.pm_top.specs.Job.{IsAsked, IsFaultOf, IsJobOf, IsKnown, built_of, first_prefix, judged, object_limit, object_of, object_or_fault, replay_job, second_prefix, text_limit, text_or_fault, with_script}
-use Rattle.pm_top.specs.Within.{ReadsAs}
-use Rattle.pm_top.proofs.Unread.{FailsToRead, IsAskedFor}
+use Rattle.pm_top.specs.Asked.{first_prefix, no_script, script_by, second_prefix, source_limit, subject_of, then_script, with_script}
+use Rattle.pm_top.specs.Job.{IsAsked, IsFaultOf, IsFound, IsJobOf, IsKnown, Job, Meets}
+use Rattle.pm_top.specs.Within.{ReadsSubject}
+use Rattle.pm_top.proofs.SubjectLemmas.{err_is, memory_is_read, ok_is, ok_is_err, subject_kind, was_read}
+use Rattle.pm_top.proofs.Unread.{IsAskedFor}
 
-read_is_bad : (fault : ObjectFault) → BadObject fault ≡ Read → ⊥
-read_is_bad fault e = cc
+end_is_failed : End ≡ Failed → ⊥
+end_is_failed e = cc
 
-read_is_text : (fault : TextFault) → BadText fault ≡ Read → ⊥
-read_is_text fault e = cc
+if_none : {X : Type 0} {P : Type 0} (o : Option X) → P → IfNone o P
+if_none None p = p
+if_none (Some x) p = tt
 
-pub memory_is_read : Memory ≡ Read → ⊥
-memory_is_read e = cc
-
-pub err_is : {X Y : Type 0} {a b : Y} → ◌≡◌ {A = Result X Y} (Err a) (Err b) → a ≡ b
-err_is e = cc
-
-pub ok_is_err : {X Y : Type 0} {x : X} {y : Y} → Ok x ≡ Err y → ⊥
-ok_is_err e = cc
-
--- ---- an object that was read, or its text
-
--- what kind of fault a judgement has
-pub record Kind (f : Form) (stop : StopReason) (fault : Fault) : Type 0 where
-  pub known : IsFaultOf f fault
-  pub unread : fault ≡ Read → IsUnread stop
-
-pub object_kind : (p : Prefix) (fault : Fault) → object_of p ≡ Err fault → Kind Replay p.stop fault × Kind Print p.stop fault
-object_kind p fault is = by p.stop (reading p.bytes) is
-  where
-    bad : (stop : StopReason) (error : ObjectFault) → BadObject error ≡ fault → Kind Replay stop fault × Kind Print stop fault
-    bad stop error same = subst (λ (f : Fault). Kind Replay stop f × Kind Print stop f) same (record { known = tt; unread = λ e. absurd (read_is_bad error e) }, record { known = tt; unread = λ e. absurd (read_is_bad error e) })
-
-    lost : (stop : StopReason) → IsUnread stop → Read ≡ fault → Kind Replay stop fault × Kind Print stop fault
-    lost stop at same = subst (λ (f : Fault). Kind Replay stop f × Kind Print stop f) same (record { known = tt; unread = λ e. at }, record { known = tt; unread = λ e. at })
-
-    by : (stop : StopReason) (read : Result Object ObjectFault) → judged stop (object_or_fault read) ≡ Err fault → Kind Replay stop fault × Kind Print stop fault
-    by reason.End (Ok o) is = absurd (ok_is_err is)
-    by reason.End (Err error) is = bad reason.End error (err_is is)
-    by reason.Limit (Ok o) is = absurd (ok_is_err is)
-    by reason.Limit (Err error) is = bad reason.Limit error (err_is is)
-    by reason.Failure read is = lost reason.Failure tt (err_is is)
-    by reason.Unbegun read is = lost reason.Unbegun tt (err_is is)
-
-pub text_kind : (p : Prefix) (fault : Fault) → built_of p ≡ Err fault → Kind Build p.stop fault
-text_kind p fault is = by p.stop (building p.bytes) is
-  where
-    bad : (stop : StopReason) (error : TextFault) → BadText error ≡ fault → Kind Build stop fault
-    bad stop error same = subst (Kind Build stop) same (record { known = tt; unread = λ e. absurd (read_is_text error e) })
-
-    lost : (stop : StopReason) → IsUnread stop → Read ≡ fault → Kind Build stop fault
-    lost stop at same = subst (Kind Build stop) same (record { known = tt; unread = λ e. at })
-
-    by : (stop : StopReason) (read : Result Object TextFault) → judged stop (text_or_fault read) ≡ Err fault → Kind Build stop fault
-    by reason.End (Ok o) is = absurd (ok_is_err is)
-    by reason.End (Err error) is = bad reason.End error (err_is is)
-    by reason.Limit (Ok o) is = absurd (ok_is_err is)
-    by reason.Limit (Err error) is = bad reason.Limit error (err_is is)
-    by reason.Failure read is = lost reason.Failure tt (err_is is)
-    by reason.Unbegun read is = lost reason.Unbegun tt (err_is is)
+not_none : {X : Type 0} (P : Type 0) (o : Option X) (x : X) → o ≡ Some x → IfNone o P
+not_none P None x is = cc
+not_none P (Some y) x is = tt
 
 -- ---- a script that is read after an object
 
@@ -111,79 +62,75 @@ second_read m mid name room file = record {
 
 -- ---- the job
 
-module _ {I : Type 0} (i : Inputs.Ghosts I) where
-  pub starved : (f : Form) (ws : List (List ℕ)) (old new : I) → IsAskedFor i f ws old new (Err Memory)
-  starved Replay ws old new = record { shown = λ seen. inl refl; failed = λ e. absurd (memory_is_read e); known = tt }
-  starved Reach ws old new = record { shown = λ seen. inl refl; failed = λ e. absurd (memory_is_read e); known = tt }
-  starved Isolate ws old new = record { shown = λ seen. inl refl; failed = λ e. absurd (memory_is_read e); known = tt }
-  starved Print ws old new = record { shown = λ seen. inl refl; failed = λ e. absurd (memory_is_read e); known = tt }
-  starved Build ws old new = record { shown = λ seen. inl refl; failed = λ e. absurd (memory_is_read e); known = tt }
+-- of a subject without a script
+abbrev pub whole_job : Subject → List Member → Job
+whole_job subject members = record { asked = record { subject = subject; script = no_script }; members = members }
 
-  pub asked_print : (ws : List (List ℕ)) (old new : I) (verdict : Result Object Fault) → ReadsAs object_of Reads object_limit i.observable (word 1 ws) (i.state old) (i.state new) verdict → IsAskedFor i Print ws old new verdict
-  asked_print ws old new verdict reads = record {
-    shown = λ seen. inr (true, λ room. refl, sym reads.is ∙ ap object_of (reads.read.is seen));
-    failed = failed verdict reads.is;
-    known = known verdict reads.is;
+-- of a subject with a script, and the members of a reach
+abbrev pub job_by : Subject → Result Comparison Fault → Result Job Fault
+job_by subject (Ok found) = Ok (record { asked = record { subject = subject; script = found.script }; members = found.members })
+job_by subject (Err fault) = Err fault
+
+met : (subject : Subject) (job : Result Comparison Fault) (script : Result Script Fault) → script_of_job job ≡ script → IfOk job (λ found. IsFound subject found.members) → Meets (job_by subject job) (with_script subject script)
+met subject (Ok found) (Ok s) is reach = (ap (λ (s : Script). record { subject = subject; script = s }) (ok_is is), reach)
+met subject (Ok found) (Err due) is reach = absurd (ok_is_err is)
+met subject (Err fault) (Ok s) is reach = absurd (ok_is_err (sym is))
+met subject (Err fault) (Err due) is reach = err_is is
+
+wanting : (subject : Subject) (job : Result Comparison Fault) → script_of_job job ≡ Err Memory → job_by subject job ≡ Err Memory
+wanting subject (Ok found) is = absurd (ok_is_err is)
+wanting subject (Err fault) is = ap (λ (fault : Fault). Err fault) (err_is is)
+
+module _ {I : Type 0} (i : Inputs.Ghosts I) (f : Form) (ws : List (List ℕ)) where
+  pub starved : (old new : I) → IsAskedFor i f ws old new (Err Memory)
+  starved old new = record { shown = λ seen. inl refl; failed = λ e. absurd (memory_is_read e); known = tt }
+
+  -- what was read, by what the inputs showed
+  first : (old new : I) (verdict : Result Subject Fault) → ReadsSubject i.observable f ws (i.state old) (i.state new) verdict → i.observable → verdict ≡ subject_of f ws (first_prefix (source_limit f.source) (i.state old) (word 1 ws))
+  first old new verdict reads seen = sym reads.is ∙ ap (subject_of f ws) (reads.read.is seen)
+
+  -- a refusal
+  pub asked_refused : (old new : I) (fault : Fault) → ((◌≡◌ {A = Result Subject Fault} (Err fault) (Err Memory)) ⊎ ReadsSubject i.observable f ws (i.state old) (i.state new) (Err fault)) → IsAskedFor i f ws old new (Err fault)
+  asked_refused old new fault (inl memory) = subst (λ (fault : Fault). IsAskedFor i f ws old new (Err fault)) (sym (err_is memory)) (starved old new)
+  asked_refused old new fault (inr reads) = record {
+    shown = λ seen. inr (true, λ room. refl, subst (λ (v : Result Subject Fault). Meets (Err fault) (then_script v (script_by f.script ws (i.state old) true))) (first old new (Err fault) reads seen) refl);
+    failed = λ read. reads.read.fault ((subject_kind f ws reads.prefix fault reads.is).unread read);
+    known = (subject_kind f ws reads.prefix fault reads.is).known;
+  }
+
+  -- a subject of a form without a script
+  pub asked_whole : (old new : I) (subject : Subject) (members : List Member) → f.script ≡ None → ReadsSubject i.observable f ws (i.state old) (i.state new) (Ok subject) → IsFound subject members → IsAskedFor i f ws old new (Ok (whole_job subject members))
+  asked_whole old new subject members none reads found = record {
+    shown = λ seen. inr (true, λ room. refl, subst (λ (v : Result Subject Fault). Meets (Ok (whole_job subject members)) (then_script v (script_by f.script ws (i.state old) true))) (first old new (Ok subject) reads seen) (meets (i.state old)));
+    failed = λ e. absurd (end_is_failed e);
+    known = record { named = (was_read f ws reads.prefix subject reads.is).named; reach = found; unread = if_none f.script refl };
   }
     where
-      failed : (verdict : Result Object Fault) → object_of reads.prefix ≡ verdict → FailsToRead Print verdict → Rose (i.state old).faults (i.state new).faults
-      failed (Ok o) is none = absurd none
-      failed (Err fault) is read = reads.read.fault ((object_kind reads.prefix fault is).1.unread read)
+      meets : (m : Moment) → Meets (Ok (whole_job subject members)) (with_script subject (script_by f.script ws m true))
+      meets m = subst (λ (o : Option ℕ). Meets (Ok (whole_job subject members)) (with_script subject (script_by o ws m true))) (sym none) (refl, found)
 
-      known : (verdict : Result Object Fault) → object_of reads.prefix ≡ verdict → IsKnown Print verdict
-      known (Ok o) is = tt
-      known (Err fault) is = (object_kind reads.prefix fault is).1.known
-
-  pub asked_build : (ws : List (List ℕ)) (old new : I) (verdict : Result Object Fault) → ReadsAs built_of Means text_limit i.observable (word 1 ws) (i.state old) (i.state new) verdict → IsAskedFor i Build ws old new verdict
-  asked_build ws old new verdict reads = record {
-    shown = λ seen. inr (true, λ room. refl, sym reads.is ∙ ap built_of (reads.read.is seen));
-    failed = failed verdict reads.is;
-    known = known verdict reads.is;
-  }
-    where
-      failed : (verdict : Result Object Fault) → built_of reads.prefix ≡ verdict → FailsToRead Build verdict → Rose (i.state old).faults (i.state new).faults
-      failed (Ok o) is none = absurd none
-      failed (Err fault) is read = reads.read.fault ((text_kind reads.prefix fault is).unread read)
-
-      known : (verdict : Result Object Fault) → built_of reads.prefix ≡ verdict → IsKnown Build verdict
-      known (Ok o) is = tt
-      known (Err fault) is = (text_kind reads.prefix fault is).known
-
-  -- an object that refuses a replay
-  pub asked_refused : (ws : List (List ℕ)) (old new : I) (fault : Fault) → ReadsAs object_of Reads object_limit i.observable (word 1 ws) (i.state old) (i.state new) (Err fault) → IsAskedFor i Replay ws old new (Err fault)
-  asked_refused ws old new fault reads = record {
-    shown = λ seen. inr (true, λ room. refl, ap (λ (v : Result Object Fault). replay_job v (second (i.state old))) (sym reads.is ∙ ap object_of (reads.read.is seen)));
-    failed = λ read. reads.read.fault ((object_kind reads.prefix fault reads.is).0.unread read);
-    known = (object_kind reads.prefix fault reads.is).0.known;
-  }
-    where
-      second : Moment → Result Script Fault
-      second m = script_or_fault (script_of (second_prefix script_limit m true (word 2 ws)))
-
-  -- an object, and the script that was read after it
-  pub asked_replay : (ws : List (List ℕ)) (old mid new : I) (result : Exit) (object : Object) (job : Result Script Fault) → ReadsAs object_of Reads object_limit i.observable (word 1 ws) (i.state old) (i.state mid) (Ok object) → IsScriptOf i (word 2 ws) mid new result job → IsAsked i Replay ws old new result (with_script object job)
-  asked_replay ws old mid new result object job reads script = record {
+  -- a subject, and the script that was read after it
+  pub asked_script : (k : ℕ) → f.script ≡ Some k → (old mid new : I) (result : Exit) (subject : Subject) (job : Result Comparison Fault) → ReadsSubject i.observable f ws (i.state old) (i.state mid) (Ok subject) → IsScriptOf i (word k ws) mid new result (script_of_job job) → IfOk job (λ found. IsFound subject found.members) → IsAsked i f ws old new result (job_by subject job)
+  asked_script k has old mid new result subject job reads script reach = record {
     shown = λ seen. shown seen (script.shown seen);
     failed = failed;
-    known = known job script.known;
+    known = known job script.known reach;
   }
     where
-      shown : i.observable → (job ≡ Err Memory) ⊎ (job ≡ script_or_fault (script_in (i.state mid) (word 2 ws))) → (with_script object job ≡ Err Memory) ⊎ IsJobOf Replay ws (i.state old) (with_script object job)
-      shown seen (inl memory) = inl (ap (with_script object) memory)
+      shown : i.observable → (script_of_job job ≡ Err Memory) ⊎ (script_of_job job ≡ script_or_fault (script_in (i.state mid) (word k ws))) → (job_by subject job ≡ Err Memory) ⊎ IsJobOf f ws (i.state old) (job_by subject job)
+      shown seen (inl memory) = inl (wanting subject job memory)
       shown seen (inr is) =
-          let s = second_read (i.state old) (i.state mid) (word 2 ws) (reads.read.room seen) (reads.read.files seen (word 2 ws)) in
-          let first : object_of (first_prefix object_limit (i.state old) (word 1 ws)) ≡ Ok object = ap object_of (sym (reads.read.is seen)) ∙ reads.is in
-          inr (
-            s.again,
-            s.more,
-            ap (with_script object) (is ∙ s.script)
-                ∙ ap (λ (v : Result Object Fault). replay_job v (script_or_fault (script_of (second_prefix script_limit (i.state old) s.again (word 2 ws))))) (sym first),
-          )
+          let s = second_read (i.state old) (i.state mid) (word k ws) (reads.read.room seen) (reads.read.files seen (word k ws)) in
+          let here : Meets (job_by subject job) (with_script subject (script_by (Some k) ws (i.state old) s.again)) = met subject job (script_by (Some k) ws (i.state old) s.again) (is ∙ s.script) reach in
+          let there : Meets (job_by subject job) (with_script subject (script_by f.script ws (i.state old) s.again)) =
+          subst (λ (o : Option ℕ). Meets (job_by subject job) (with_script subject (script_by o ws (i.state old) s.again))) (sym has) here
+          in
+          inr (s.again, s.more, subst (λ (v : Result Subject Fault). Meets (job_by subject job) (then_script v (script_by f.script ws (i.state old) s.again))) (first old mid (Ok subject) reads seen) there)
 
       failed : result ≡ ReadFault → Rose (i.state old).faults (i.state new).faults
       failed is = let later : (i.state old).faults ≤ (i.state mid).faults = reads.read.later in let up = script.failed is in omega (arith, up)
 
-      known : (job : Result Script Fault) → OnErr job ((job ≡ Err Read) ⊎ (job ≡ Err Memory)) → IsKnown Replay (with_script object job)
-      known (Ok s) none = refl
-      known (Err fault) (inl read) = subst (IsFaultOf Replay) (sym (err_is read)) tt
-      known (Err fault) (inr memory) = subst (IsFaultOf Replay) (sym (err_is memory)) tt
+      known : (job : Result Comparison Fault) → OnErr (script_of_job job) ((script_of_job job ≡ Err Read) ⊎ (script_of_job job ≡ Err Memory)) → IfOk job (λ found. IsFound subject found.members) → IsKnown f (job_by subject job)
+      known (Ok found) none reach = record { named = (was_read f ws reads.prefix subject reads.is).named; reach = reach; unread = not_none (found.script ≡ no_script) f.script k has }
+      known (Err fault) (inl read) none = subst (IsFaultOf f) (sym (err_is read)) tt
+      known (Err fault) (inr memory) none = subst (IsFaultOf f) (sym (err_is memory)) tt

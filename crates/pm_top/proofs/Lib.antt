@@ -1,9 +1,8 @@
 pub mod CauseLemmas
-pub mod ConversionLemmas
 pub mod ExitsLemmas
-pub mod IsolatingLemmas
 pub mod JobLemmas
 pub mod MainLemmas
-pub mod ReachingLemmas
-pub mod ScriptLemmas
+pub mod SubjectLemmas
 pub mod Unread
+pub mod WorkLemmas
+pub mod WritingLemmas

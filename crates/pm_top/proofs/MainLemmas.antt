@@ -1,5 +1,5 @@
 -- The clauses of the top call, from what was done.
-use Rattle.std.proofs.Common.{◌≡◌, ℕ, List, Option, Some, None, Result, Ok, Err, refl, sym, ◌∙◌, ap, subst, inl, inr}
+use Rattle.std.proofs.Common.{◌≡◌, ℕ, Bool, true, false, List, Option, Some, None, Result, Ok, Err, refl, sym, ◌∙◌, ap, subst, inl, inr}
 use Rattle.std.specs.Prelude.{◌↔◌}
 use Rattle.pm_base.specs.Faults.{Rose}
 use Rattle.pm_base.specs.declared.errors.Exit.{Exit}
@@ -13,12 +13,12 @@ use Rattle.pm_trace.specs.declared.faults.Fault.TheVariants.{Memory, Read, Usage
 use Rattle.pm_trace.specs.Exits.{ExitsSay, IsStarved}
 use Rattle.pm_trace.specs.Report.{exit_of, report_of}
 use Rattle.pm_base.specs.World.{World}
-use Rattle.pm_top.specs.declared.form.Form.{Form}
-use Rattle.pm_top.specs.declared.form.Form.TheVariants.{Replay, Reach, Isolate, Print, Build}
+use Rattle.pm_top.specs.declared.works.Form.{Form}
 use Rattle.pm_top.specs.Form.{form}
 use Rattle.pm_top.specs.Job.{Job}
-use Rattle.pm_top.specs.Ran.{Decides, FormDecides, FormMayFail, InputsMayFail, IsBeforeRun, Ran, RanForm, Touches, nothing_to_do}
+use Rattle.pm_top.specs.Ran.{Decides, FormDecides, FormMayFail, InputsMayFail, IsBeforeRun, Ran, RanForm, Touches, TouchesIf, drives, nothing_to_do}
 use Rattle.pm_top.proofs.Unread.{FailsToRead}
+use Rattle.pm_top.proofs.SubjectLemmas.{memory_is_read}
 use Rattle.pm_top.proofs.CauseLemmas.{job_cause}
 use Rattle.pm_top.proofs.ExitsLemmas.{decided, not_before, not_usage, read_fault, refused_exit, starved, unfailed, unread, write_fault}
 
@@ -69,23 +69,16 @@ module _ {I O D : Type 0} (i : Inputs.Ghosts I) (o : Sink.Ghosts O) (say : Exits
       by None did = let clash : exit.Usage ≡ exit.Done = sym (usage_exit did) ∙ is in cc
       by (Some f) did = unfailed i o say f ws w.inputs w'.inputs w.sink w'.sink result (Touches d f w.device w'.device) did is
 
-  memory_fails : (f : Form) → FailsToRead f (Err Memory) → ⊥
-  memory_fails Replay is = let clash : Memory ≡ Read = is in cc
-  memory_fails Reach is = let clash : Memory ≡ Read = is in cc
-  memory_fails Isolate is = let clash : Memory ≡ Read = is in cc
-  memory_fails Print is = let clash : Memory ≡ Read = is in cc
-  memory_fails Build is = let clash : Memory ≡ Read = is in cc
-
   pub read_cause : Ran i o d ws w w' result → i.observable → result ≡ exit.ReadFault → InputsMayFail ws (i.state w.inputs)
   read_cause ran seen is = by (form ws) ran
     where
       by : (f : Option Form) → RanForm i o d f ws w w' result → FormMayFail f ws (i.state w.inputs)
       by None did = let clash : exit.Usage ≡ exit.ReadFault = sym (usage_exit did) ∙ is in cc
       by (Some f) did =
-          let fails : FailsToRead f did.job = unread i o say f ws w.inputs w'.inputs w.sink w'.sink result (Touches d f w.device w'.device) did is in
+          let fails : FailsToRead did.job = unread i o say f ws w.inputs w'.inputs w.sink w'.sink result (Touches d f w.device w'.device) did is in
           elim (did.asked.shown seen) [
-            | inl starved ↦ absurd (memory_fails f (subst (FailsToRead f) starved fails))
-            | inr job ↦ job_cause f ws (i.state w.inputs) job.0 job.1 did.job job.2 fails
+            | inl starved ↦ absurd (memory_is_read (subst FailsToRead starved fails))
+            | inr job ↦ job_cause ws (i.state w.inputs) job.0 job.1 f did.job job.2 fails
           ]
 
   -- ---- before a run
@@ -95,12 +88,9 @@ module _ {I O D : Type 0} (i : Inputs.Ghosts I) (o : Sink.Ghosts O) (say : Exits
     where
       by : (f : Option Form) → RanForm i o d f ws w w' result → w.device ≡ w'.device
       by None did = did.touched
-      by (Some Reach) did = did.touched
-      by (Some Isolate) did = did.touched
-      by (Some Print) did = did.touched
-      by (Some Build) did = did.touched
-      by (Some Replay) did = of_job did.job refl did.touched
+      by (Some f) did = of_job (drives f.work) did.job refl did.touched
         where
-          of_job : (job : Result (Job Replay) Fault) → did.job ≡ job → Touches d Replay w.device w'.device job did.answers did.cut → w.device ≡ w'.device
-          of_job (Err fault) is same = same
-          of_job (Ok job) is drove = absurd (not_before i o say Replay ws w.inputs w'.inputs w.sink w'.sink result (Touches d Replay w.device w'.device) did job is before)
+          of_job : (b : Bool) (job : Result Job Fault) → did.job ≡ job → TouchesIf d b w.device w'.device job did.answers did.cut → w.device ≡ w'.device
+          of_job false job is same = same
+          of_job true (Err fault) is same = same
+          of_job true (Ok job) is drove = absurd (not_before i o say f ws w.inputs w'.inputs w.sink w'.sink result (Touches d f w.device w'.device) did job is before)

@@ -2,7 +2,6 @@
 use Rattle.std.proofs.Common.{◌≡◌, ℕ, ◌+◌, ◌⊎◌, Bool, List, length, Option, Some, Result, Ok, Err, refl}
 use Rattle.pm_base.specs.Faults.{Rose}
 use Rattle.pm_base.specs.declared.errors.Exit.{Exit}
-use Rattle.pm_base.specs.declared.errors.Exit.TheVariants.{ReadFault}
 use Rattle.pm_base.specs.declared.inputs.Inputs as Inputs
 use Rattle.pm_base.specs.declared.sink.Sink as Sink
 use Rattle.pm_base.specs.Writing.{Leaves}
@@ -13,25 +12,18 @@ use Rattle.pm_trace.specs.declared.faults.Fault.TheVariants.{Memory, Read}
 use Rattle.pm_trace.specs.Report.{exit_of, pieces, report_of}
 use Rattle.pm_trace.specs.Scripts.{fault_at}
 use Rattle.pm_trace.proofs.ScriptsLemmas.{read_by}
-use Rattle.pm_top.specs.declared.form.Form.{Form}
-use Rattle.pm_top.specs.declared.form.Form.TheVariants.{Replay, Reach, Isolate, Print, Build}
-use Rattle.pm_top.specs.Job.{IsAsked, IsJobOf, IsKnown, Job, report}
+use Rattle.pm_top.specs.declared.works.Form.{Form}
+use Rattle.pm_top.specs.declared.works.Work.{Work}
+use Rattle.pm_top.specs.Job.{IsAsked, IsJobOf, IsKnown, Job}
+use Rattle.pm_top.specs.Done.{report}
 
 some_is : {X : Type 0} {x y : X} → ◌≡◌ {A = Option X} (Some x) (Some y) → x ≡ y
 some_is e = cc
 
 -- an input could not be begun, or a read of it failed
-abbrev pub FailsToRead : (f : Form) → Result (Job f) Fault → Type 0
-FailsToRead Replay (Ok job) = job.1.stop ≡ Failed
-FailsToRead Replay (Err fault) = fault ≡ Read
-FailsToRead Reach (Ok found) = ⊥
-FailsToRead Reach (Err fault) = fault ≡ Read
-FailsToRead Isolate (Ok job) = job.2.script.stop ≡ Failed
-FailsToRead Isolate (Err fault) = fault ≡ Read
-FailsToRead Print (Ok object) = ⊥
-FailsToRead Print (Err fault) = fault ≡ Read
-FailsToRead Build (Ok object) = ⊥
-FailsToRead Build (Err fault) = fault ≡ Read
+abbrev pub FailsToRead : Result Job Fault → Type 0
+FailsToRead (Ok job) = job.asked.script.stop ≡ Failed
+FailsToRead (Err fault) = fault ≡ Read
 
 failed_stop : (n : ℕ) (stop : Stop) → fault_at n stop ≡ Some Read → stop ≡ Failed
 failed_stop n End is = cc
@@ -39,35 +31,21 @@ failed_stop n (Bad cause) is = cc
 failed_stop n Past is = cc
 failed_stop n Failed is = refl
 
-refusal_fails : (f : Form) (fault : Fault) → fault ≡ Read → FailsToRead f (Err fault)
-refusal_fails Replay fault is = is
-refusal_fails Reach fault is = is
-refusal_fails Isolate fault is = is
-refusal_fails Print fault is = is
-refusal_fails Build fault is = is
-
-job_fails : (f : Form) (job : Job f) (answers : List (List Bool)) → (report f job answers).fault ≡ Some Read → FailsToRead f (Ok job)
-job_fails Replay job answers is = failed_stop (1 + length job.1.events) job.1.stop is
-job_fails Reach job answers is = cc
-job_fails Isolate job answers is = failed_stop (1 + length job.2.script.events) job.2.script.stop is
-job_fails Print job answers is = cc
-job_fails Build job answers is = cc
-
-pub fails : (f : Form) (job : Result (Job f) Fault) (answers : List (List Bool)) → (report_of (report f) job answers).fault ≡ Some Read → FailsToRead f job
-fails f (Err fault) answers is = refusal_fails f fault (some_is is)
-fails f (Ok job) answers is = job_fails f job answers is
+pub fails : (work : Work) (job : Result Job Fault) (answers : List (List Bool)) → (report_of (report work) job answers).fault ≡ Some Read → FailsToRead job
+fails work (Err fault) answers is = some_is is
+fails work (Ok job) answers is = failed_stop (1 + length job.asked.script.events) job.asked.script.stop is
 
 module _ {I : Type 0} (i : Inputs.Ghosts I) where
   -- what is known of a job before the exit is: where an input can't be read the count rose
-  pub record IsAskedFor (f : Form) (ws : List (List ℕ)) (old new : I) (job : Result (Job f) Fault) : Type 0 where
+  pub record IsAskedFor (f : Form) (ws : List (List ℕ)) (old new : I) (job : Result Job Fault) : Type 0 where
     pub shown : i.observable → (job ≡ Err Memory) ⊎ IsJobOf f ws (i.state old) job
-    pub failed : FailsToRead f job → Rose (i.state old).faults (i.state new).faults
+    pub failed : FailsToRead job → Rose (i.state old).faults (i.state new).faults
     pub known : IsKnown f job
 
   -- and so the exit says it
-  pub by_exit : {O : Type 0} (o : Sink.Ghosts O) (f : Form) (ws : List (List ℕ)) (old new : I) (sink sink' : O) (result : Exit) (job : Result (Job f) Fault) (answers : List (List Bool)) (cut : Option ℕ) → IsAskedFor f ws old new job → Leaves o (pieces (report_of (report f) job answers)) cut sink sink' → result ≡ exit_of (report_of (report f) job answers) cut → IsAsked i f ws old new result job
+  pub by_exit : {O : Type 0} (o : Sink.Ghosts O) (f : Form) (ws : List (List ℕ)) (old new : I) (sink sink' : O) (result : Exit) (job : Result Job Fault) (answers : List (List Bool)) (cut : Option ℕ) → IsAskedFor f ws old new job → Leaves o (pieces (report_of (report f.work) job answers)) cut sink sink' → result ≡ exit_of (report_of (report f.work) job answers) cut → IsAsked i f ws old new result job
   by_exit o f ws old new sink sink' result job answers cut asked left ends = record {
     shown = asked.shown;
-    failed = λ is. asked.failed (fails f job answers (read_by o (report_of (report f) job answers) cut sink sink' result left ends is));
+    failed = λ is. asked.failed (fails f.work job answers (read_by o (report_of (report f.work) job answers) cut sink sink' result left ends is));
     known = asked.known;
   }

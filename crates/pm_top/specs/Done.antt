@@ -1,5 +1,7 @@
--- What Done means for each form of the words. No limit, no reason to stop and no cut occurs in it.
-use Rattle.std.specs.Prelude.{◌≡◌, ℕ, List, ◌++◌, Option, Some, None}
+-- What each work writes, and what Done means for it. No limit, no reason to stop and no cut occurs in Done.
+use Rattle.std.specs.Prelude.{◌≡◌, ℕ, ◌+◌, Bool, List, [], ◌∷◌, ◌++◌, length, unwrap_or, Option, Some, None}
+use Rattle.pm_base.specs.declared.errors.Exit.{Exit}
+use Rattle.pm_base.specs.declared.errors.Exit.TheVariants.{Done}
 use Rattle.pm_base.specs.declared.events.Event.{Event}
 use Rattle.pm_base.specs.declared.inputs.Inputs as Inputs
 use Rattle.pm_base.specs.declared.sink.Sink as Sink
@@ -19,11 +21,44 @@ use Rattle.pm_isolate.specs.Listed.{AreListed}
 use Rattle.pm_base.specs.Inputs.{Holds}
 use Rattle.pm_run.specs.Run.{setup}
 use Rattle.pm_base.specs.World.{World}
-use Rattle.pm_top.specs.declared.form.Form.{Form}
-use Rattle.pm_top.specs.declared.form.Form.TheVariants.{Replay, Reach, Isolate, Print, Build}
-use Rattle.pm_top.specs.Form.{form, word}
-use Rattle.pm_top.specs.Job.{master_of}
+use Rattle.pm_replay.specs.Replay.{replay_report}
+use Rattle.pm_replay.specs.Replayed.{IsRun, Replayed}
+use Rattle.pm_isolate.specs.Compared.{Compared, IsCompared}
+use Rattle.pm_isolate.specs.Differences.{isolate_report}
+use Rattle.pm_trace.specs.Report.{Report}
+use Rattle.pm_trace.specs.Scripts.{fault_at}
+use Rattle.pm_top.specs.declared.works.Work.{Work}
+use Rattle.pm_top.specs.declared.works.Work.TheVariants.{Replay, Reach, Isolate, Print, Build}
+use Rattle.pm_top.specs.Form.{word, work_of}
+use Rattle.pm_top.specs.Asked.{master_of}
+use Rattle.pm_top.specs.Job.{Job}
 use Rattle.pm_top.specs.Theorem.{IsReplayed}
+use Rattle.pm_top.specs.declared.reading.Subject.{Subject}
+use Rattle.pm_top.specs.Within.{IsReachText, Writes}
+
+-- ---- what is written
+
+-- the number of a master that no word names
+abbrev pub no_master : NodeId
+no_master = record { 0 = 0 }
+
+-- the pieces that a work writes of its job, under the device's answers
+abbrev pub body_of : Work → Job → List (List Bool) → List (List ℕ)
+body_of Replay job answers = (replay_report (setup job.asked.subject.object chip) job.asked.script answers).body
+body_of Reach job answers = reach_text job.members ∷ []
+body_of Isolate job answers =
+    (isolate_report (setup job.asked.subject.object chip) (unwrap_or job.asked.subject.master no_master) job.members job.asked.script).body
+body_of Print job answers = text_of job.asked.subject.object ∷ []
+body_of Build job answers = little_endian (words_of job.asked.subject.object) ∷ []
+
+-- and then the fault at which its script stops, if it does
+abbrev pub report : Work → Job → List (List Bool) → Report
+report work job answers = record {
+  body = body_of work job answers;
+  fault = fault_at (1 + length job.asked.script.events) job.asked.script.stop;
+}
+
+-- ---- what Done means
 
 module _ {I O : Type 0} (i : Inputs.Ghosts I) (o : Sink.Ghosts O) where
   -- an object was held under the first name, the second one names a master of it, and the text of what that master can
@@ -77,15 +112,49 @@ module _ {I O : Type 0} (i : Inputs.Ghosts I) (o : Sink.Ghosts O) where
     pub reads : Reads (little_endian (words_of object)) object
 
 module _ {I O D : Type 0} (i : Inputs.Ghosts I) (o : Sink.Ghosts O) (d : Device.Ghosts D) where
-  -- what a form asks for was done. Only a replay touches the device
-  abbrev pub FormDone : Option Form → List (List ℕ) → World I O D → World I O D → Type 0
-  FormDone None ws w w' = ⊥
-  FormDone (Some Replay) ws w w' = IsReplayed i o d ws w w'
-  FormDone (Some Reach) ws w w' = IsReached i o ws w.inputs w.sink w'.sink × (w.device ≡ w'.device)
-  FormDone (Some Isolate) ws w w' = IsIsolated i o ws w.inputs w.sink w'.sink × (w.device ≡ w'.device)
-  FormDone (Some Print) ws w w' = IsPrinted i o ws w.inputs w.sink w'.sink × (w.device ≡ w'.device)
-  FormDone (Some Build) ws w w' = IsBuilt i o ws w.inputs w.sink w'.sink × (w.device ≡ w'.device)
+  -- what a work asks for was done. Only a replay touches the device
+  abbrev pub WorkDone : Work → List (List ℕ) → World I O D → World I O D → Type 0
+  WorkDone Replay ws w w' = IsReplayed i o d ws w w'
+  WorkDone Reach ws w w' = IsReached i o ws w.inputs w.sink w'.sink × (w.device ≡ w'.device)
+  WorkDone Isolate ws w w' = IsIsolated i o ws w.inputs w.sink w'.sink × (w.device ≡ w'.device)
+  WorkDone Print ws w w' = IsPrinted i o ws w.inputs w.sink w'.sink × (w.device ≡ w'.device)
+  WorkDone Build ws w w' = IsBuilt i o ws w.inputs w.sink w'.sink × (w.device ≡ w'.device)
+
+  -- words that ask for nothing are never done
+  abbrev pub DoneIf : Option Work → List (List ℕ) → World I O D → World I O D → Type 0
+  DoneIf None ws w w' = ⊥
+  DoneIf (Some work) ws w w' = WorkDone work ws w w'
 
   -- the whole text of what the words ask for was written
   abbrev pub IsDone : List (List ℕ) → World I O D → World I O D → Type 0
-  IsDone ws w w' = FormDone (form ws) ws w w'
+  IsDone ws w w' = DoneIf (work_of ws) ws w w'
+
+  -- ---- what a work does to its subject, with the script of a name
+
+  -- a text of which this holds was written, or memory is wanted; nothing else was done
+  pub record OnlyWrites (Made : List ℕ → Type 0) (w w' : World I O D) (exit : Exit) : Type 0 where
+    pub writes : Writes o Made w.sink w'.sink exit
+    pub inputs : w.inputs ≡ w'.inputs
+    pub device : w.device ≡ w'.device
+
+  -- two runs were compared, without the device
+  pub record Compares (object : Object) (master : NodeId) (name : List ℕ) (w w' : World I O D) (exit : Exit) : Type 0 where
+    pub ran : Compared i o (setup object chip) master name w.inputs w'.inputs w.sink w'.sink exit
+    pub done : i.observable → o.observable → exit ≡ Done → IsCompared i o (setup object chip) master name w.inputs w.sink w'.sink
+    pub device : w.device ≡ w'.device
+
+  -- a script was run
+  pub record Replays (object : Object) (name : List ℕ) (w w' : World I O D) (exit : Exit) : Type 0 where
+    pub ran : Replayed i o d (setup object chip) name w w' exit
+    pub done : i.observable → o.observable → exit ≡ Done → IsRun i o d (setup object chip) name w w'
+
+  -- what is done for the master of a subject
+  abbrev pub ForMaster : Subject → (NodeId → Type 0) → Type 0
+  ForMaster subject Does = (master : NodeId) × (subject.master ≡ Some master) × Does master
+
+  abbrev pub Worked : Work → Subject → List ℕ → World I O D → World I O D → Exit → Type 0
+  Worked Replay subject name w w' exit = Replays subject.object name w w' exit
+  Worked Reach subject name w w' exit = ForMaster subject (λ master. OnlyWrites (IsReachText subject.object master) w w' exit)
+  Worked Isolate subject name w w' exit = ForMaster subject (λ master. Compares subject.object master name w w' exit)
+  Worked Print subject name w w' exit = OnlyWrites (λ text. text ≡ text_of subject.object) w w' exit
+  Worked Build subject name w w' exit = OnlyWrites (λ bytes. Reads bytes subject.object) w w' exit

@@ -1,7 +1,7 @@
 pub mod Form
+pub mod Asked
 pub mod Job
-pub mod Names
+pub mod Within
 pub mod Theorem
 pub mod Done
 pub mod Ran
-pub mod Within

@@ -1,5 +1,5 @@
 -- What a run of the program did, on every exit, and what each exit means.
-use Rattle.std.specs.Prelude.{◌≡◌, ℕ, ◌+◌, ◌<◌, ◌≤◌, ◌⊎◌, Bool, true, List, [], length, Option, Some, None, Result, Ok, Err, ⊤}
+use Rattle.std.specs.Prelude.{◌≡◌, ℕ, ◌+◌, ◌<◌, ◌≤◌, ◌⊎◌, Bool, true, false, List, [], length, Option, Some, None, Result, Ok, Err, ⊤}
 use Rattle.pm_base.specs.declared.errors.Exit.{Exit}
 use Rattle.pm_base.specs.declared.errors.Exit.TheVariants as exit
 use Rattle.pm_base.specs.declared.inputs.Inputs as Inputs
@@ -20,33 +20,36 @@ use Rattle.pm_replay.specs.Replay.{Touched}
 use Rattle.pm_replay.specs.Replayed.{AnswersHaveCauses, RunsKeepApart}
 use Rattle.pm_run.specs.Run.{setup}
 use Rattle.pm_base.specs.World.{World}
-use Rattle.pm_top.specs.declared.form.Form.{Form}
-use Rattle.pm_top.specs.declared.form.Form.TheVariants.{Replay, Reach, Isolate, Print, Build}
+use Rattle.pm_top.specs.declared.works.Form.{Form}
+use Rattle.pm_top.specs.declared.works.Work.{Work}
+use Rattle.pm_top.specs.declared.works.Work.TheVariants.{Replay}
 use Rattle.pm_top.specs.Form.{form, word}
-use Rattle.pm_top.specs.Job.{Asked, IsAsked, Job, job_of, object_limit, report, text_limit}
+use Rattle.pm_top.specs.Asked.{Asked, asked_of, source_limit}
+use Rattle.pm_top.specs.Job.{IsAsked, Job}
+use Rattle.pm_top.specs.Done.{report}
 
 -- ---- what was done
 
+-- a replay drives the device, and no other work touches it
+abbrev pub drives : Work → Bool
+drives Replay = true
+drives work = false
+
 module _ {D : Type 0} (d : Device.Ghosts D) where
-  -- what is done to the device under these answers, up to the cut: a replay drives it through its steps, and nothing else
+  -- what is done to the device under these answers, up to the cut: it is driven through the steps of the script, or nothing
   -- touches it
-  abbrev pub Touches : (f : Form) → D → D → Result (Job f) Fault → List (List Bool) → Option ℕ → Type 0
-  Touches Replay old new (Ok job) answers cut = Touched d job.0 old new (Ok job.1) answers cut
-  Touches Replay old new (Err fault) answers cut = old ≡ new
-  Touches Reach old new job answers cut = old ≡ new
-  Touches Isolate old new job answers cut = old ≡ new
-  Touches Print old new job answers cut = old ≡ new
-  Touches Build old new job answers cut = old ≡ new
+  abbrev pub TouchesIf : Bool → D → D → Result Job Fault → List (List Bool) → Option ℕ → Type 0
+  TouchesIf true old new (Ok job) answers cut = Touched d (setup job.asked.subject.object chip) old new (Ok job.asked.script) answers cut
+  TouchesIf true old new (Err fault) answers cut = old ≡ new
+  TouchesIf false old new job answers cut = old ≡ new
+
+  -- the same by the work of a form
+  abbrev pub Touches : Form → D → D → Result Job Fault → List (List Bool) → Option ℕ → Type 0
+  Touches f old new job answers cut = TouchesIf (drives f.work) old new job answers cut
 
 -- words without a form have no job
 abbrev pub nothing_to_do : ⊤ → List (List Bool) → Report
 nothing_to_do job answers = record { body = []; fault = None }
-
-module _ {I O : Type 0} (i : Inputs.Ghosts I) (o : Sink.Ghosts O) where
-  -- the device aside
-  abbrev pub Converted : Form → List (List ℕ) → I → I → O → O → Exit → Type 0
-  Converted f ws old new sink sink' result =
-      Did o (IsAsked i f ws old new result) (report f) (λ job answers cut. ⊤) sink sink' result
 
 module _ {I O D : Type 0} (i : Inputs.Ghosts I) (o : Sink.Ghosts O) (d : Device.Ghosts D) where
   -- what was asked for, what was written of it, and what was done to the device
@@ -54,7 +57,7 @@ module _ {I O D : Type 0} (i : Inputs.Ghosts I) (o : Sink.Ghosts O) (d : Device.
   RanForm None ws w w' result =
       Did o (λ job. job ≡ Err Usage) nothing_to_do (λ job answers cut. w.device ≡ w'.device) w.sink w'.sink result
   RanForm (Some f) ws w w' result =
-      Did o (IsAsked i f ws w.inputs w'.inputs result) (report f) (Touches d f w.device w'.device) w.sink w'.sink result
+      Did o (IsAsked i f ws w.inputs w'.inputs result) (report f.work) (Touches d f w.device w'.device) w.sink w'.sink result
 
   -- the same by the words
   abbrev pub Ran : List (List ℕ) → World I O D → World I O D → Exit → Type 0
@@ -72,18 +75,10 @@ EachHasCauses = (object : Object) → AnswersHaveCauses (setup object chip)
 
 -- ---- what the exits mean
 
--- the fault at which the run of a script stops: what else is asked for has none
-abbrev pub asked_fault : (f : Form) → Asked f → Option Fault
-asked_fault Replay job = (report Replay job []).fault
-asked_fault Reach asked = None
-asked_fault Isolate asked = fault_at (1 + length asked.2.events) asked.2.stop
-asked_fault Print object = None
-asked_fault Build object = None
-
--- the exit of what is asked for: that of the fault that refuses it, or at which its run stops, or Done
-abbrev pub job_exit : (f : Form) → Result (Asked f) Fault → Exit
-job_exit f (Ok asked) = exit_after (asked_fault f asked)
-job_exit f (Err fault) = exit_after (Some fault)
+-- the exit of what is asked for: that of the fault that refuses it, or at which its script stops, or Done
+abbrev pub job_exit : Result Asked Fault → Exit
+job_exit (Ok asked) = exit_after (fault_at (1 + length asked.script.events) asked.script.stop)
+job_exit (Err fault) = exit_after (Some fault)
 
 -- the exit is that of what the words ask for, unless memory is wanted or the sink fails
 module _ {O : Type 0} (o : Sink.Ghosts O) where
@@ -91,7 +86,7 @@ module _ {O : Type 0} (o : Sink.Ghosts O) where
   abbrev pub FormDecides : Option Form → List (List ℕ) → Moment → O → O → Exit → Type 0
   FormDecides None ws m old new result = result ≡ exit.Usage
   FormDecides (Some f) ws m old new result =
-      (again : Bool) × (2 ≤ m.room → again ≡ true) × EndsWith o (job_exit f (job_of f ws m again)) old new result
+      (again : Bool) × (2 ≤ m.room → again ≡ true) × EndsWith o (job_exit (asked_of f ws m again)) old new result
 
   -- the same by the words
   abbrev pub Decides : List (List ℕ) → Moment → O → O → Exit → Type 0
@@ -101,14 +96,15 @@ module _ {O : Type 0} (o : Sink.Ghosts O) where
 abbrev pub IsBeforeRun : Exit → Type 0
 IsBeforeRun result = (result ≡ exit.Usage) ⊎ ((result ≡ exit.BadObject) ⊎ ((result ≡ exit.BadText) ⊎ (result ≡ exit.Memory)))
 
--- by what the inputs show, one that the words name can't be begun or has a failing byte within its limit
+-- by what the inputs show, a script that the words name can't be begun after another input, or has a failing byte within its limit
+abbrev pub ScriptMayFail : Option ℕ → List (List ℕ) → Moment → Type 0
+ScriptMayFail None ws m = ⊥
+ScriptMayFail (Some k) ws m = (m.room < 2) ⊎ MayFail (word k ws) script_limit m
+
+-- one that the words name can't be begun or has a failing byte within its limit
 abbrev pub FormMayFail : Option Form → List (List ℕ) → Moment → Type 0
 FormMayFail None ws m = ⊥
-FormMayFail (Some Replay) ws m = (m.room < 2) ⊎ (MayFail (word 1 ws) object_limit m ⊎ MayFail (word 2 ws) script_limit m)
-FormMayFail (Some Reach) ws m = MayFail (word 1 ws) object_limit m
-FormMayFail (Some Isolate) ws m = (m.room < 2) ⊎ (MayFail (word 1 ws) object_limit m ⊎ MayFail (word 2 ws) script_limit m)
-FormMayFail (Some Print) ws m = MayFail (word 1 ws) object_limit m
-FormMayFail (Some Build) ws m = MayFail (word 1 ws) text_limit m
+FormMayFail (Some f) ws m = MayFail (word 1 ws) (source_limit f.source) m ⊎ ScriptMayFail f.script ws m
 
 -- the same by the words
 abbrev pub InputsMayFail : List (List ℕ) → Moment → Type 0

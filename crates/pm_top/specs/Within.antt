@@ -1,27 +1,71 @@
 -- What the parts of a run do. No user of this crate speaks of these words.
-use Rattle.std.specs.Prelude.{◌≡◌, ℕ, List, Result, Ok, IfOk}
+use Rattle.std.specs.Prelude.{◌≡◌, ◌⊎◌, ◌==◌, ℕ, List, [], ◌∷◌, None, Result, IfOk, IfSome, IsTrue}
+use Rattle.std.specs.List.{list_any}
+use Rattle.pm_base.specs.declared.errors.Exit.{Exit}
+use Rattle.pm_base.specs.declared.names.NodeId.{NodeId}
+use Rattle.pm_base.specs.declared.sink.Sink as Sink
 use Rattle.pm_base.specs.Inputs.{Moment}
 use Rattle.pm_base.specs.Prefix.{Prefix, ReadsPrefix}
+use Rattle.pm_object.specs.declared.object.MasterRec.{MasterRec}
 use Rattle.pm_object.specs.declared.object.Object.{Object}
-use Rattle.pm_base.specs.declared.names.NodeId.{NodeId}
+use Rattle.pm_object.specs.Grammar.{IsObject}
 use Rattle.pm_topology.specs.Chip.{chip}
-use Rattle.pm_reach.specs.declared.members.Reach.{Reach}
+use Rattle.pm_reach.specs.declared.members.Member.{Member}
 use Rattle.pm_reach.specs.Membership.{IsReach}
 use Rattle.pm_trace.specs.Reach.{reach_text}
+use Rattle.pm_trace.specs.Report.{Report, Reports, refusal}
 use Rattle.pm_trace.specs.declared.faults.Fault.{Fault}
+use Rattle.pm_trace.specs.declared.faults.Fault.TheVariants.{Memory}
+use Rattle.pm_top.specs.declared.works.Form.{Form}
+use Rattle.pm_top.specs.declared.works.Source.{Source}
+use Rattle.pm_top.specs.declared.reading.Subject.{Subject}
+use Rattle.pm_top.specs.Form.{word}
+use Rattle.pm_top.specs.Asked.{Says, object_by, source_limit, subject_of}
+
+-- ---- what is read
 
 -- a named input was read and judged
-pub record ReadsAs (judge : Prefix → Result Object Fault) (Says : List ℕ → Object → Type 0) (limit : ℕ) (shown : Type 0) (name : List ℕ) (before after : Moment) (verdict : Result Object Fault) : Type 0 where
+pub record ReadsAs (source : Source) (shown : Type 0) (name : List ℕ) (before after : Moment) (verdict : Result Object Fault) : Type 0 where
   pub prefix : Prefix
-  pub read : ReadsPrefix shown name limit before after prefix
-  pub is : judge prefix ≡ verdict
-  pub says : IfOk verdict (Says prefix.bytes)
+  pub read : ReadsPrefix shown name (source_limit source) before after prefix
+  pub is : object_by source prefix ≡ verdict
+  pub says : IfOk verdict (Says source prefix.bytes)
 
--- the text of what the master of an object can reach, where these are asked for
-pub record IsReachText (bytes : List ℕ) (asked : Result (Object × NodeId) Fault) : Type 0 where
-  pub object : Object
-  pub master : NodeId
-  pub found : Reach
-  pub is : asked ≡ Ok (object, master)
-  pub reach : IsReach object chip master found.members
-  pub text : bytes ≡ reach_text found.members
+-- the first name of a form was read and judged, and then the word that names a master
+pub record ReadsSubject (shown : Type 0) (f : Form) (ws : List (List ℕ)) (before after : Moment) (verdict : Result Subject Fault) : Type 0 where
+  pub prefix : Prefix
+  pub read : ReadsPrefix shown (word 1 ws) (source_limit f.source) before after prefix
+  pub is : subject_of f ws prefix ≡ verdict
+  pub says : IfOk verdict (λ subject. Says f.source prefix.bytes subject.object)
+
+-- the master is one of the object
+abbrev pub IsNamed : Subject → Type 0
+IsNamed subject = IfSome subject.master (λ master. IsTrue (list_any (λ (r : MasterRec). r.node == master.0) subject.object.masters))
+
+-- and the object is well formed
+pub record IsSubject (subject : Subject) : Type 0 where
+  pub object : IsObject subject.object
+  pub named : IsNamed subject
+
+-- ---- what is written
+
+-- a text of one piece
+abbrev pub one_piece : List ℕ → Report
+one_piece text = record { body = text ∷ []; fault = None }
+
+module _ {O : Type 0} (o : Sink.Ghosts O) where
+  -- a text of which this holds was written
+  pub record WritesOne (Holds : List ℕ → Type 0) (old new : O) (exit : Exit) : Type 0 where
+    pub text : List ℕ
+    pub holds : Holds text
+    pub reports : Reports o (one_piece text) old new exit
+
+  -- the same, or memory is wanted
+  abbrev pub Writes : (List ℕ → Type 0) → O → O → Exit → Type 0
+  Writes Holds old new exit = Reports o (refusal Memory) old new exit ⊎ WritesOne Holds old new exit
+
+-- the text of what a master of an object can reach
+pub record IsReachText (object : Object) (master : NodeId) (text : List ℕ) : Type 0 where
+  pub members : List Member
+  pub reach : IsReach object chip master members
+  pub is : text ≡ reach_text members

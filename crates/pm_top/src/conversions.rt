@@ -1,58 +1,35 @@
-//! An object is written as its text, and a text as the bytes of its object.
+//! An object is written as its text, or as its bytes.
 
-ghost use Rattle.std.specs.Prelude.{◌≡◌, ◌<◌, ◌∷◌, [], None, length, map, string_bytes};
+ghost use Rattle.std.specs.Prelude.{◌≡◌, ◌∷◌, [], None};
+ghost use Rattle.pm_object.specs.Grammar.{IsObject, Reads};
+ghost use Rattle.pm_objtext.specs.Printing.{text_of};
 ghost use Rattle.pm_trace.specs.Report.{Reports};
-ghost use Rattle.pm_top.specs.declared.form.Form.TheVariants as forms;
-ghost use Rattle.pm_top.specs.Done.{IsBuilt, IsPrinted};
-ghost use Rattle.pm_top.specs.Ran.{Converted};
+ghost use Rattle.pm_top.specs.Within.{Writes};
 
-use crate::form::word;
-use crate::objects::{read_object, read_text};
-use pm_base::{Exit, Failed, Inputs, NoMemory, Sink, write_all};
-use pm_object::encode;
+use pm_base::{Exit, Failed, NoMemory, Sink, write_all};
+use pm_object::{Object, encode};
 use pm_objtext::print;
 use pm_trace::{Fault, refuse};
 use std::alloc::Global;
 
-/// Writes the text of the object that the words name.
-pub(crate) fn print_object<I: Inputs, O: Sink>(
-    alloc: Global,
-    words: &[String],
-    inputs: &mut I,
-    out: &mut O,
-) -> Exit
-    requires place { 1 < length words.now }
-    ensures done { I.observable → O.observable → result ≡ Exit.Done
-        → IsPrinted I.Inputs O.Sink (map string_bytes words.now) inputs.old out.old out.new }
-    ensures ran { Converted I.Inputs O.Sink forms.Print (map string_bytes words.now) inputs.old inputs.new out.old out.new result }
+/// Writes the text of an object.
+pub(crate) fn print_object<O: Sink>(alloc: Global, object: &Object, out: &mut O) -> Exit
+    ensures { Writes O.Sink (λ text. text ≡ text_of object.now) out.old out.new result }
 {
-    match read_object(alloc, inputs, word(words, 1)) {
-        Ok(object) => match print(alloc, &object) {
-            Ok(text) => write_whole(text.as_slice(), out),
-            Err(NoMemory) => refuse(Fault::Memory, out),
-        },
-        Err(fault) => refuse(fault, out),
+    match print(alloc, object) {
+        Ok(text) => write_whole(text.as_slice(), out),
+        Err(NoMemory) => refuse(Fault::Memory, out),
     }
 }
 
-/// Writes the bytes of the object whose text the words name.
-pub(crate) fn build_object<I: Inputs, O: Sink>(
-    alloc: Global,
-    words: &[String],
-    inputs: &mut I,
-    out: &mut O,
-) -> Exit
-    requires place { 1 < length words.now }
-    ensures done { I.observable → O.observable → result ≡ Exit.Done
-        → IsBuilt I.Inputs O.Sink (map string_bytes words.now) inputs.old out.old out.new }
-    ensures ran { Converted I.Inputs O.Sink forms.Build (map string_bytes words.now) inputs.old inputs.new out.old out.new result }
+/// Writes the bytes of an object.
+pub(crate) fn build_object<O: Sink>(alloc: Global, object: &Object, out: &mut O) -> Exit
+    requires { IsObject object.now }
+    ensures { Writes O.Sink (λ bytes. Reads bytes object.now) out.old out.new result }
 {
-    match read_text(alloc, inputs, word(words, 1)) {
-        Ok(object) => match encode(alloc, &object) {
-            Ok(bytes) => write_whole(bytes.as_slice(), out),
-            Err(NoMemory) => refuse(Fault::Memory, out),
-        },
-        Err(fault) => refuse(fault, out),
+    match encode(alloc, object) {
+        Ok(bytes) => write_whole(bytes.as_slice(), out),
+        Err(NoMemory) => refuse(Fault::Memory, out),
     }
 }
 

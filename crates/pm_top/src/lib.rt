@@ -3,11 +3,13 @@
 #![tactic(auto)]
 
 mod conversions;
-mod form;
 mod isolating;
 mod objects;
 mod program;
 mod reaching;
+mod reading;
+mod replaying;
+mod works;
 
-pub use form::Form;
 pub use program::pm_main;
+pub use works::{Form, Source, Work};

@@ -5,7 +5,8 @@ ghost use Rattle.pm_object.specs.Grammar.{IsObject, Reads};
 ghost use Rattle.pm_object.specs.Reading.{reading};
 ghost use Rattle.pm_objtext.specs.Building.{building};
 ghost use Rattle.pm_objtext.specs.Meaning.{Means};
-ghost use Rattle.pm_top.specs.Job.{built_of, object_of, object_or_fault, text_or_fault, object_limit, text_limit};
+ghost use Rattle.pm_top.specs.declared.works.Source.TheVariants as source;
+ghost use Rattle.pm_top.specs.Asked.{object_or_fault, text_or_fault};
 ghost use Rattle.pm_top.specs.Within.{ReadsAs};
 
 use pm_base::{Inputs, StopReason, gather};
@@ -26,8 +27,9 @@ pub(crate) fn read_object<I: Inputs>(
     inputs: &mut I,
     name: &str,
 ) -> Result<Object, Fault>
-    ensures { (result ≡ Err Fault.Memory)
-        ⊎ ReadsAs object_of Reads object_limit I.observable name.now (I.state inputs.old) (I.state inputs.new) result }
+    ensures read { (result ≡ Err Fault.Memory)
+        ⊎ ReadsAs source.Object I.observable name.now (I.state inputs.old) (I.state inputs.new) result }
+    ensures formed { IfOk result IsObject }
 {
     let Ok(prefix) = gather(alloc, inputs, name, OBJECT_LIMIT) else {
         return Err(Fault::Memory);
@@ -42,6 +44,7 @@ pub(crate) fn read_object<I: Inputs>(
 fn judge(alloc: Global, bytes: &[u8]) -> Result<Object, Fault>
     ensures exact { (result ≡ Err Fault.Memory) ⊎ (object_or_fault (reading bytes.now) ≡ result) }
     ensures reads { IfOk result (Reads bytes.now) }
+    ensures formed { IfOk result IsObject }
 {
     match decode(alloc, bytes) {
         Ok(object) => Ok(object),
@@ -57,7 +60,7 @@ pub(crate) fn read_text<I: Inputs>(
     name: &str,
 ) -> Result<Object, Fault>
     ensures read { (result ≡ Err Fault.Memory)
-        ⊎ ReadsAs built_of Means text_limit I.observable name.now (I.state inputs.old) (I.state inputs.new) result }
+        ⊎ ReadsAs source.Text I.observable name.now (I.state inputs.old) (I.state inputs.new) result }
     ensures formed { IfOk result IsObject }
 {
     let Ok(prefix) = gather(alloc, inputs, name, TEXT_LIMIT) else {

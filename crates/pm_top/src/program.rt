@@ -1,34 +1,24 @@
 //! The top call: a run of the program.
 
-ghost use Rattle.std.specs.Prelude.{◌≡◌, ◌<◌, ◌↔◌, None, Some, length, map, string_bytes};
+ghost use Rattle.std.specs.Prelude.{◌≡◌, ◌↔◌, None, Some, map, string_bytes};
 ghost use Rattle.pm_base.specs.declared.names.Unit.{Unit};
 ghost use Rattle.pm_base.specs.Faults.{Rose};
 ghost use Rattle.pm_base.specs.Sink.{HasFailed, IsUnfailed};
 ghost use Rattle.pm_object.specs.Grammar.{IsObject};
 ghost use Rattle.pm_topology.specs.Chip.{chip};
 ghost use Rattle.pm_trace.specs.Exits.{IsStarved};
-ghost use Rattle.pm_replay.specs.Replayed.{IsRun, Replayed};
-ghost use Rattle.pm_run.specs.Run.{setup};
 ghost use Rattle.pm_replay.specs.Safe.{IsSafe};
 ghost use Rattle.pm_base.specs.World.{world};
-ghost use Rattle.pm_top.specs.declared.form.Form.TheVariants as forms;
-ghost use Rattle.pm_top.specs.Done.{IsDone};
-ghost use Rattle.pm_top.specs.Theorem.{IsReplayed};
-ghost use Rattle.pm_top.specs.Form.{form};
+ghost use Rattle.pm_top.specs.Done.{IsDone, WorkDone};
+ghost use Rattle.pm_top.specs.Form.{form, form_of};
 ghost use Rattle.pm_top.specs.Ran.{Decides, EachHasCauses, EachKeepsApart, InputsMayFail, IsBeforeRun, Ran, RanForm};
 
-use crate::conversions::{build_object, print_object};
-use crate::form::{Form, form_of, word};
-use crate::isolating::isolate;
-use crate::objects::read_object;
-use crate::reaching::write_reach;
+use crate::reading::{read_subject, script_word};
+use crate::works::{Work, do_work, form_of, work_of};
 use pm_apart::driven_runs_keep_apart;
-use pm_base::{Exit, Inputs, NoMemory, Sink};
+use pm_base::{Exit, Inputs, Sink};
 use pm_causes::runs_have_causes;
 use pm_device::Device;
-use pm_object::Object;
-use pm_replay::replay;
-use pm_topology::zynqmp;
 use pm_trace::{Fault, exits_say, refuse};
 use std::alloc::Global;
 
@@ -103,59 +93,40 @@ fn run_words<I: Inputs, O: Sink, D: Device>(
     ensures ran { Ran I.Inputs O.Sink D.Device (map string_bytes words.now)
         (world inputs.old out.old dev.old) (world inputs.new out.new dev.new) result }
 {
-    match form_of(words) {
+    match work_of(words) {
+        Some(work) => run_work(alloc, work, words, inputs, out, dev),
         None => refuse(Fault::Usage, out),
-        Some(Form::Print) => print_object(alloc, words, inputs, out),
-        Some(Form::Build) => build_object(alloc, words, inputs, out),
-        Some(Form::Reach) => write_reach(alloc, words, inputs, out),
-        Some(Form::Isolate) => isolate(alloc, words, inputs, out),
-        Some(Form::Replay) => run_script(alloc, words, inputs, out, dev),
     }
 }
 
-/// Runs the script of one name over the object of another.
-fn run_script<I: Inputs, O: Sink, D: Device>(
+/// Reads what the form of a work reads, and does the work.
+fn run_work<I: Inputs, O: Sink, D: Device>(
     alloc: Global,
+    work: Work,
     words: &[String],
     inputs: &mut I,
     out: &mut O,
     dev: &mut D,
 ) -> Exit
-    requires places { 2 < length words.now }
     requires idle { D.values_observable → (unit : Unit) → (D.state dev.old).value unit ≡ 0 }
     ensures done { I.observable → O.observable → result ≡ Exit.Done
-        → IsReplayed I.Inputs O.Sink D.Device (map string_bytes words.now)
+        → WorkDone I.Inputs O.Sink D.Device work (map string_bytes words.now)
         (world inputs.old out.old dev.old) (world inputs.new out.new dev.new) }
     ensures safe { IsSafe D.Device chip dev.old dev.new }
-    ensures ran { RanForm I.Inputs O.Sink D.Device (Some forms.Replay) (map string_bytes words.now)
+    ensures ran { RanForm I.Inputs O.Sink D.Device (Some (form_of work)) (map string_bytes words.now)
         (world inputs.old out.old dev.old) (world inputs.new out.new dev.new) result }
 {
-    match read_object(alloc, inputs, word(words, 1)) {
-        Ok(object) => run_object(alloc, object, inputs, word(words, 2), out, dev),
+    let form = form_of(work);
+    match read_subject(alloc, form, words, inputs) {
+        Ok(subject) => do_work(
+            alloc,
+            work,
+            subject,
+            inputs,
+            script_word(form, words),
+            out,
+            dev,
+        ),
         Err(fault) => refuse(fault, out),
-    }
-}
-
-/// Runs a script over an object and the chip.
-fn run_object<I: Inputs, O: Sink, D: Device>(
-    alloc: Global,
-    object: Object,
-    inputs: &mut I,
-    script: &str,
-    out: &mut O,
-    dev: &mut D,
-) -> Exit
-    requires object { IsObject object }
-    requires idle { D.values_observable → (unit : Unit) → (D.state dev.old).value unit ≡ 0 }
-    ensures done { I.observable → O.observable → result ≡ Exit.Done
-        → IsRun I.Inputs O.Sink D.Device (setup object chip) script.now
-        (world inputs.old out.old dev.old) (world inputs.new out.new dev.new) }
-    ensures safe { IsSafe D.Device chip dev.old dev.new }
-    ensures ran { Replayed I.Inputs O.Sink D.Device (setup object chip) script.now
-        (world inputs.old out.old dev.old) (world inputs.new out.new dev.new) result }
-{
-    match zynqmp(alloc) {
-        Ok(chip) => replay(alloc, object, chip, inputs, script, out, dev),
-        Err(NoMemory) => refuse(Fault::Memory, out),
     }
 }

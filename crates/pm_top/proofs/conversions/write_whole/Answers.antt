@@ -1,4 +1,4 @@
-use Rattle.pm_top.proofs.ConversionLemmas.{one_broken}
+use Rattle.pm_top.proofs.WritingLemmas.{one_broken}
 use Rattle.pm_top.proofs.conversions.write_whole.Goals as goal
 
 pub returns-in-Err : goal.returns-in-Err

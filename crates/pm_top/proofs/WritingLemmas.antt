@@ -1,0 +1,77 @@
+-- A text of one piece, and what was read to its end.
+use Rattle.std.proofs.Common.{◌≡◌, ℕ, ◌<◌, ◌≤◌, Bool, true, nat_lt, List, [], ◌∷◌, length, Option, Some, None, Result, Ok, Err, if◌then◌else◌, refl, sym, ◌∙◌, ap, subst, arith}
+use Rattle.std.proofs.lemmas.Bool.{lt-ltb}
+use Rattle.std.proofs.lemmas.List.{append-nil}
+use Rattle.std.proofs.lemmas.Option.{slice_get_within}
+use Rattle.pm_base.specs.declared.errors.Exit.{Exit}
+use Rattle.pm_base.specs.declared.errors.Exit.TheVariants as exit
+use Rattle.pm_base.specs.declared.prefix.StopReason.{StopReason}
+use Rattle.pm_base.specs.declared.prefix.StopReason.TheVariants as reason
+use Rattle.pm_base.specs.declared.sink.Sink as Sink
+use Rattle.pm_base.specs.Prefix.{HasSize, Prefix}
+use Rattle.pm_base.specs.Sink.{Wrote}
+use Rattle.pm_base.specs.Writing.{BreaksIn, Leaves}
+use Rattle.pm_object.specs.declared.object.Object.{Object}
+use Rattle.pm_object.specs.declared.object.ObjectFault.{ObjectFault}
+use Rattle.pm_object.specs.Reading.{reading}
+use Rattle.pm_objtext.specs.declared.fault.TextFault.{TextFault}
+use Rattle.pm_objtext.specs.Building.{building}
+use Rattle.pm_objtext.specs.Meaning.{Means}
+use Rattle.pm_trace.specs.declared.faults.Fault.{Fault}
+use Rattle.pm_trace.specs.Report.{Reports, exit_of}
+use Rattle.pm_top.specs.declared.works.Source.{Source}
+use Rattle.pm_top.specs.declared.works.Source.TheVariants as source
+use Rattle.pm_top.specs.Asked.{Says, built_of, judged, object_by, object_limit, object_of, object_or_fault, source_limit, text_limit, text_or_fault}
+use Rattle.pm_top.specs.Within.{one_piece}
+use Rattle.pm_top.proofs.SubjectLemmas.{err_is_ok}
+
+-- ---- an object that says something was read to its end
+
+object_ok : (read : Result Object ObjectFault) (o : Object) → object_or_fault read ≡ Ok o → (p : Object) × (read ≡ Ok p)
+object_ok (Ok p) o is = (p, refl)
+object_ok (Err error) o is = absurd (err_is_ok is)
+
+too_long : (bytes : List ℕ) (o : Object) → 16384 < length bytes → reading bytes ≡ Ok o → ⊥
+unfolding reading
+too_long bytes o long is = let test : nat_lt 16384 (length bytes) ≡ true = lt-ltb 16384 (length bytes) long in err_is_ok (rw test at is)
+
+object_end : (p : Prefix) (o : Object) → HasSize object_limit p.stop (length p.bytes) → object_of p ≡ Ok o → p.stop ≡ reason.End
+object_end p o size is = by p.stop size is
+  where
+    by : (stop : StopReason) → HasSize object_limit stop (length p.bytes) → judged stop (object_or_fault (reading p.bytes)) ≡ Ok o → stop ≡ reason.End
+    by reason.End size is = refl
+    by reason.Limit size is = let read = object_ok (reading p.bytes) o is in absurd (too_long p.bytes read.0 (omega arith) read.1)
+    by reason.Failure size is = absurd (err_is_ok is)
+    by reason.Unbegun size is = absurd (err_is_ok is)
+
+text_end : (p : Prefix) (o : Object) → HasSize text_limit p.stop (length p.bytes) → Means p.bytes o → built_of p ≡ Ok o → p.stop ≡ reason.End
+text_end p o size means is = by p.stop size is
+  where
+    by : (stop : StopReason) → HasSize text_limit stop (length p.bytes) → judged stop (text_or_fault (building p.bytes)) ≡ Ok o → stop ≡ reason.End
+    by reason.End size is = refl
+    by reason.Limit size is = let short : length p.bytes ≤ 1048576 = means.short in absurd (omega arith)
+    by reason.Failure size is = absurd (err_is_ok is)
+    by reason.Unbegun size is = absurd (err_is_ok is)
+
+pub source_end : (s : Source) (p : Prefix) (o : Object) → HasSize (source_limit s) p.stop (length p.bytes) → Says s p.bytes o → object_by s p ≡ Ok o → p.stop ≡ reason.End
+source_end source.Object p o size says is = object_end p o size is
+source_end source.Text p o size says is = text_end p o size says is
+
+-- ---- one piece
+
+module _ {O : Type 0} (o : Sink.Ghosts O) (text : List ℕ) (old new : O) where
+  -- the sink broke off within the piece
+  pub one_broken : BreaksIn o 0 (text ∷ []) old new → Reports o (one_piece text) old new exit.WriteFault
+  one_broken breaks = record { cut = Some 0; left = breaks; ends = refl }
+
+  pub wrote_one : (result : Exit) → Reports o (one_piece text) old new result → result ≡ exit.Done → Wrote o.observable text (o.state old) (o.state new)
+  wrote_one result reports is = by reports.cut reports.left reports.ends
+    where
+      first : (k : ℕ) → k < 1 → nat_lt k 1 ≡ true
+      first k within = lt-ltb k 1 within
+
+      by : (cut : Option ℕ) → Leaves o (text ∷ []) cut old new → result ≡ exit_of (one_piece text) cut → Wrote o.observable text (o.state old) (o.state new)
+      by None left ends = subst (λ (bytes : List ℕ). Wrote o.observable bytes (o.state old) (o.state new)) (append-nil text) left
+      by (Some k) left ends =
+          let broke : result ≡ exit.WriteFault = ends ∙ ap (λ (b : Bool). if b then exit.WriteFault else exit.Done) (first k (slice_get_within (text ∷ []) k left.piece left.is)) in
+          let clash : exit.Done ≡ exit.WriteFault = sym is ∙ broke in cc

@@ -1,0 +1,98 @@
+//! What a form reads before its script: the object, and then the master that a word names.
+
+ghost use Rattle.std.specs.Prelude.{◌≡◌, ◌⊎◌, ◌==◌, IfOk, IfSome, IsTrue, map, string_bytes};
+ghost use Rattle.std.specs.List.{list_any};
+ghost use Rattle.pm_object.specs.Grammar.{IsObject};
+ghost use Rattle.pm_top.specs.Asked.{master_of, script_word, with_master};
+ghost use Rattle.pm_top.specs.Within.{IsNamed, IsSubject, ReadsAs, ReadsSubject};
+
+use crate::objects::{read_object, read_text};
+use crate::works::{Form, Source, word};
+use pm_base::{Inputs, NodeId, number};
+use pm_object::{Object, has_key};
+use pm_trace::Fault;
+use std::alloc::Global;
+
+/// What a work is done on: an object, and a master of it, where a word names one.
+#[derive(Debug, Drop)]
+pub struct Subject {
+    pub object: Object,
+    pub master: Option<NodeId>,
+}
+
+/// Reads the object of a form, and then the master that a word of it names.
+pub(crate) fn read_subject<I: Inputs>(
+    alloc: Global,
+    form: Form,
+    words: &[String],
+    inputs: &mut I,
+) -> Result<Subject, Fault>
+    ensures read { (result ≡ Err Fault.Memory)
+        ⊎ ReadsSubject I.observable form (map string_bytes words.now) (I.state inputs.old) (I.state inputs.new) result }
+    ensures sound { IfOk result IsSubject }
+{
+    match read_source(alloc, form.source, inputs, word(words, 1)) {
+        Ok(object) => with_master(object, form.node, words),
+        Err(fault) => Err(fault),
+    }
+}
+
+/// Reads the named object, from its bytes or from its text.
+fn read_source<I: Inputs>(
+    alloc: Global,
+    source: Source,
+    inputs: &mut I,
+    name: &str,
+) -> Result<Object, Fault>
+    ensures read { (result ≡ Err Fault.Memory)
+        ⊎ ReadsAs source I.observable name.now (I.state inputs.old) (I.state inputs.new) result }
+    ensures formed { IfOk result IsObject }
+{
+    match source {
+        Source::Object => read_object(alloc, inputs, name),
+        Source::Text => read_text(alloc, inputs, name),
+    }
+}
+
+/// The object with the master that the word at a place names, where there is one.
+fn with_master(object: Object, node: Option<usize>, words: &[String]) -> Result<Subject, Fault>
+    ensures exact { result ≡ with_master object node (map string_bytes words.now) }
+    ensures named { IfOk result IsNamed }
+{
+    let Some(place) = node else {
+        return Ok(Subject {
+            object,
+            master: None,
+        });
+    };
+    match master_of(&object, word(words, place)) {
+        Some(master) => Ok(Subject {
+            object,
+            master: Some(master),
+        }),
+        None => Err(Fault::Node),
+    }
+}
+
+/// The master of an object that a word names.
+fn master_of(object: &Object, name: &str) -> Option<NodeId>
+    ensures exact { result ≡ master_of object.now name.now }
+    ensures named { IfSome result (λ node. IsTrue (list_any (λ r. r.node == node.0) object.now.masters)) }
+{
+    let node = number(name.as_bytes(), u64::from(u32::MAX))? as u32;
+    if has_key(object.masters.as_slice(), node) {
+        Some(NodeId(node))
+    } else {
+        None
+    }
+}
+
+/// The word that names the script of a form: an empty one where there is none.
+pub(crate) fn script_word(form: Form, words: &[String]) -> &str
+    ensures { result.now ≡ script_word form.script (map string_bytes words.now) }
+{
+    match form.script {
+        Some(place) => word(words, place),
+        None => "",
+    }
+}
