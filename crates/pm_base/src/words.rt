@@ -52,8 +52,9 @@ fn word_of(text: &[u8], k: usize) -> Option<(usize, usize)>
     }
 }
 
+/// Whether a byte parts two words: a space or a tab.
 #[tactic(auto, unfolding(crate::specs::Words::is_blank))]
-fn is_blank(byte: u8) -> bool
+pub fn is_blank(byte: u8) -> bool
     ensures { result ≡ is_blank byte }
 {
     byte == b' ' || byte == b'\t'

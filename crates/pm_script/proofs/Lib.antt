@@ -1,4 +1,6 @@
-pub mod BootLemmas
+pub mod ArgumentsLemmas
+pub mod FormsLemmas
 pub mod MeaningLemmas
 pub mod NamedLemmas
+pub mod SentencesLemmas
 pub mod WordsLemmas

@@ -1,9 +1,9 @@
 -- The first nine words of a line.
-use Rattle.std.proofs.Common.{◌≡◌, ℕ, ◌≤◌, ◌==◌, ◌||◌, Bool, List, [], ◌∷◌, ◌++◌, length, take, Option, None, Some, slice_get, refl, sym, ◌∙◌, ap, arith}
+use Rattle.std.proofs.Common.{◌≡◌, ℕ, ◌≤◌, List, [], ◌∷◌, ◌++◌, length, take, None, Some, slice_get, refl, sym, ◌∙◌, ap}
 use Rattle.std.proofs.Math.Seq.{take-append_seam}
 use Rattle.std.proofs.lemmas.List.{append-nil, append_assoc, take_all}
 use Rattle.pm_base.specs.Lines.{without_return}
-use Rattle.pm_base.specs.Words.{is_blank, words, words_from}
+use Rattle.pm_base.specs.Words.{words, words_from}
 use Rattle.pm_base.proofs.WordTexts.{word_within}
 
 pub words_is : (line : List ℕ) → words line ≡ words_from None 0 (without_return line)
@@ -13,10 +13,6 @@ words_is line = refl
 -- a word begins at most where it ends, and ends within its line
 pub within_line : (line : List ℕ) (k : ℕ) (place : ℕ × ℕ) → slice_get (words line) k ≡ Some place → (place.0 ≤ place.1) × (place.1 ≤ length line)
 within_line = word_within
-
-pub is_blank_is : (byte : ℕ) → is_blank byte ≡ (byte == 32) || (byte == 9)
-unfolding is_blank
-is_blank_is byte = refl
 
 -- what was found, with what is left, is all that there is
 module _ {X : Type 0} (found left all : List X) (so_far : found ++ left ≡ all) where

@@ -1,3 +1,5 @@
+pub mod Forms
 pub mod Meaning
+pub mod Sentences
 pub mod Script
 pub mod Named

@@ -1,5 +1,5 @@
 -- The script of a text: the events of its lines up to the first one without a meaning, and why no more follow.
-use Rattle.std.specs.Prelude.{◌≡◌, ℕ, List, [], ◌∷◌, Option, Some, None, Result, Ok, Err}
+use Rattle.std.specs.Prelude.{ℕ, List, [], ◌∷◌, Option, Some, None, Result, Ok, Err}
 use Rattle.pm_base.specs.declared.events.Event.{Event}
 use Rattle.pm_base.specs.declared.lines.Ending.{Ending}
 use Rattle.pm_base.specs.declared.lines.Ending.TheVariants.{Whole, Cut}

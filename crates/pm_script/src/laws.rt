@@ -1,12 +1,33 @@
-//! What is read of a named script.
+//! What each kind of line means, and what is read of a named script.
 
-ghost use Rattle.std.specs.Prelude.{◌≡◌, ℕ, List, Some, None};
+ghost use Rattle.std.specs.Prelude.{◌≡◌, ℕ, List, [], ◌∷◌, Some, None, Ok, Err, codes, false};
+ghost use Rattle.std.specs.List.{list_any};
+ghost use Rattle.std.specs.Str.{bytes_eq};
+ghost use Rattle.pm_base.specs.declared.events.Event.TheVariants.{Pass};
 ghost use Rattle.pm_base.specs.Inputs.{MayFail, Moment};
 ghost use Rattle.pm_base.specs.Prefix.{IsUnread, Prefix};
 ghost use Rattle.pm_base.specs.declared.prefix.StopReason.TheVariants.{Unbegun};
+ghost use Rattle.pm_script.specs.declared.meaning.LineFault.TheVariants.{Unknown};
+ghost use Rattle.pm_script.specs.Forms.{line_forms};
+ghost use Rattle.pm_script.specs.Meaning.{words_meaning};
+ghost use Rattle.pm_script.specs.Sentences.{boot_meaning, gic_meaning, ipi_meaning, irq_meaning, tick_meaning, wfi_meaning};
 ghost use Rattle.pm_script.specs.Named.{IsHeldWhole, IsUnreadable, script_in};
 ghost use Rattle.pm_script.specs.Script.{Script, script_from, script_limit, script_lines, script_of, stop_of};
 ghost use Rattle.pm_script.specs.Script.Stop.{End};
+
+/// What the table of line forms says, kind by kind: a line without a word does nothing, each keyword has its sentence, and
+/// any other first word is unknown.
+pub fn each_kind_has_its_sentence()
+    ensures empty { words_meaning [] ≡ Ok Pass }
+    ensures ipi { (words : List (List ℕ)) → words_meaning (codes "ipi" ∷ words) ≡ ipi_meaning words }
+    ensures boot { (words : List (List ℕ)) → words_meaning (codes "boot" ∷ words) ≡ boot_meaning words }
+    ensures wfi { (words : List (List ℕ)) → words_meaning (codes "wfi" ∷ words) ≡ wfi_meaning words }
+    ensures irq { (words : List (List ℕ)) → words_meaning (codes "irq" ∷ words) ≡ irq_meaning words }
+    ensures gic { (words : List (List ℕ)) → words_meaning (codes "gic" ∷ words) ≡ gic_meaning words }
+    ensures tick { (words : List (List ℕ)) → words_meaning (codes "tick" ∷ words) ≡ tick_meaning words }
+    ensures unknown { (word : List ℕ) (words : List (List ℕ))
+        → list_any (λ row. bytes_eq row.keyword word) line_forms ≡ false → words_meaning (word ∷ words) ≡ Err Unknown }
+{}
 
 /// What is read of a named script: one that can't be begun is none, and any other one is that of its lines. It
 /// can't be begun or read on only where what was read broke off by a failure, and it comes to its end only where

@@ -1,11 +1,12 @@
 //! What each line of a script means, and what is read of a named script.
 #![tactic(auto)]
 
+mod forms;
 pub mod laws;
 pub mod meaning;
 pub mod script;
 mod words;
 
-pub use laws::scripts_are_read;
+pub use laws::{each_kind_has_its_sentence, scripts_are_read};
 pub use meaning::{LineFault, parse_line};
 pub use script::SCRIPT_LIMIT;

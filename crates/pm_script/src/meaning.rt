@@ -1,11 +1,13 @@
 //! What a line of a script means.
 
-ghost use Rattle.std.specs.Prelude.{◌≡◌, drop};
+ghost use Rattle.std.specs.Prelude.{◌≡◌, ◌≤◌, drop, length};
 ghost use Rattle.pm_base.specs.Words.{word_texts};
-ghost use Rattle.pm_script.specs.Meaning.{meaning, ipi_meaning, boot_meaning, wfi_meaning, irq_meaning, gic_meaning, tick_meaning};
+ghost use Rattle.pm_script.specs.Forms.{row_of};
+ghost use Rattle.pm_script.specs.Meaning.{form_meaning, meaning, words_meaning};
 
+use crate::forms::{LineForm, event_of, form_of};
 use crate::words::LineWords;
-use pm_base::{Event, Message, NodeId, TOO_LONG, is_plain, without_return};
+use pm_base::{Event, TOO_LONG, is_plain, without_return};
 
 /// Why a line of a script has no meaning. Where a line has several faults, the first of `Long`,
 /// `NotAscii`, `Unknown`, `Count` and `Number` is answered.
@@ -37,93 +39,33 @@ pub fn parse_line(line: &[u8]) -> Result<Event, LineFault>
     if !is_plain(without_return(line)) {
         return Err(LineFault::NotAscii);
     }
-    let words = LineWords::of(line);
+    parse_words(&LineWords::of(line))
+}
+
+/// What a line with these words means. Its first word says which form it has.
+fn parse_words(words: &LineWords) -> Result<Event, LineFault>
+    ensures { result ≡ words_meaning (word_texts words.now) }
+{
     match words.text_at(0) {
         None => Ok(Event::Pass),
-        Some(b"ipi") => parse_ipi(&words),
-        Some(b"boot") => parse_boot(&words),
-        Some(b"wfi") => parse_wfi(&words),
-        Some(b"irq") => parse_irq(&words),
-        Some(b"gic") => parse_gic(&words),
-        Some(b"tick") => parse_tick(&words),
-        Some(_) => Err(LineFault::Unknown),
+        Some(keyword) => match form_of(keyword) {
+            None => Err(LineFault::Unknown),
+            Some(form) => parse_form(form, words),
+        },
     }
 }
 
-/// The message of a line `ipi M API` and 0 to 5 arguments.
-fn parse_ipi(words: &LineWords) -> Result<Event, LineFault>
-    ensures { result ≡ ipi_meaning (drop 1 (word_texts words.now)) }
+/// What a line of this form means.
+fn parse_form(form: LineForm, words: &LineWords) -> Result<Event, LineFault>
+    requires { length form.3.now ≤ 7 }
+    ensures { result ≡ form_meaning (row_of form) (drop 1 (word_texts words.now)) }
 {
-    if !words.has_words(3, 8) {
+    let LineForm(_, kind, least, widths) = form;
+    if !words.has_arguments(least, widths.len()) {
         return Err(LineFault::Count);
     }
-    let master = NodeId(words.number_at(1)?);
-    let api = words.number_at(2)?;
-    let args = [
-        words.number_at(3)?,
-        words.number_at(4)?,
-        words.number_at(5)?,
-        words.number_at(6)?,
-        words.number_at(7)?,
-    ];
-    Ok(Event::Ipi {
-        master,
-        message: Message { api, args },
-    })
-}
-
-/// The start of a processor of a line `boot P ADDRESS`.
-fn parse_boot(words: &LineWords) -> Result<Event, LineFault>
-    ensures { result ≡ boot_meaning (drop 1 (word_texts words.now)) }
-{
-    if !words.has_words(3, 3) {
-        return Err(LineFault::Count);
+    match words.arguments(widths) {
+        None => Err(LineFault::Number),
+        Some(arguments) => Ok(event_of(kind, &arguments)),
     }
-    let proc = NodeId(words.number_at(1)?);
-    let address = words.address_at(2)?;
-    Ok(Event::Boot { proc, address })
-}
-
-/// The wait of a processor of a line `wfi P`.
-fn parse_wfi(words: &LineWords) -> Result<Event, LineFault>
-    ensures { result ≡ wfi_meaning (drop 1 (word_texts words.now)) }
-{
-    if !words.has_words(2, 2) {
-        return Err(LineFault::Count);
-    }
-    let proc = NodeId(words.number_at(1)?);
-    Ok(Event::Wfi { proc })
-}
-
-/// The interrupt of a slave of a line `irq S`.
-fn parse_irq(words: &LineWords) -> Result<Event, LineFault>
-    ensures { result ≡ irq_meaning (drop 1 (word_texts words.now)) }
-{
-    if !words.has_words(2, 2) {
-        return Err(LineFault::Count);
-    }
-    let slave = NodeId(words.number_at(1)?);
-    Ok(Event::Irq { slave })
-}
-
-/// The interrupt at a processor itself of a line `gic P`.
-fn parse_gic(words: &LineWords) -> Result<Event, LineFault>
-    ensures { result ≡ gic_meaning (drop 1 (word_texts words.now)) }
-{
-    if !words.has_words(2, 2) {
-        return Err(LineFault::Count);
-    }
-    let proc = NodeId(words.number_at(1)?);
-    Ok(Event::Gic { proc })
-}
-
-/// The units of time of a line `tick N`.
-fn parse_tick(words: &LineWords) -> Result<Event, LineFault>
-    ensures { result ≡ tick_meaning (drop 1 (word_texts words.now)) }
-{
-    if !words.has_words(2, 2) {
-        return Err(LineFault::Count);
-    }
-    let count = words.number_at(1)?;
-    Ok(Event::Tick { count })
 }

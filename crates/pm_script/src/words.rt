@@ -1,16 +1,20 @@
 //! The words of a line, found in one pass.
 
-ghost use Rattle.std.specs.Prelude.{◌≡◌, ◌↔◌, ◌<◌, ◌≤◌, length, slice_get, take, option_copied, IsTrue, None};
+ghost use Rattle.std.specs.Prelude.{◌≡◌, ◌↔◌, ◌<◌, ◌≤◌, ◌-◌, drop, length, slice_get, take, option_copied, option_map, IsTrue, None};
 ghost use Rattle.pm_base.specs.Words.{is_blank, words, words_from, word_texts};
-ghost use Rattle.pm_script.specs.Meaning.{given_number, given_address};
+ghost use Rattle.pm_script.specs.Forms.{arguments_of};
 
-use crate::meaning::LineFault;
+use crate::forms::{Argument, Width, argument_of};
 use arrayvec::ArrayVec;
-use pm_base::{number, without_return};
+use pm_base::without_return;
+use pm_base::words::is_blank;
 use std::marker::Model;
 
 /// The places of words: the first of each, and the place after its end.
 type Places = ArrayVec<(usize, usize), 9>;
+
+/// The arguments of a line. No form has more than seven.
+pub(crate) type Arguments = ArrayVec<Argument, 7>;
 
 /// A line with the places of its first nine words, one more than the most that a line with a meaning has.
 /// Contracts see the line.
@@ -42,12 +46,12 @@ impl<'a> LineWords<'a> {
         }
     }
 
-    /// Whether the line has `least` to `most` words.
-    pub fn has_words(&self, least: usize, most: usize) -> bool
-        requires { most < 9 }
-        ensures { IsTrue result ↔ ((least ≤ length (words self.now)) × (length (words self.now) ≤ most)) }
+    /// Whether `least` to `most` words follow the first word.
+    pub fn has_arguments(&self, least: usize, most: usize) -> bool
+        requires { most ≤ 7 }
+        ensures { IsTrue result ↔ ((least ≤ length (words self.now) - 1) × (length (words self.now) - 1 ≤ most)) }
     {
-        let count = self.places.len();
+        let count = self.places.len().saturating_sub(1);
         least <= count && count <= most
     }
 
@@ -69,29 +73,20 @@ impl<'a> LineWords<'a> {
         self.places.get(k).copied()
     }
 
-    /// The number of the word at place `k`. It is 0 where there is no such word.
-    pub fn number_at(&self, k: usize) -> Result<u32, LineFault>
-        requires { k < 9 }
-        ensures { result ≡ given_number (slice_get (word_texts self.now) k) }
+    /// The arguments after the first word, each by its width, if every one is a number of its width. A word without a
+    /// width is none.
+    pub fn arguments(&self, widths: &[Width]) -> Option<Arguments>
+        requires { length widths.now ≤ 7 }
+        ensures { option_map (λ found. found.items) result ≡ arguments_of widths.now (drop 1 (word_texts self.now)) }
     {
-        match self.text_at(k) {
-            None => Ok(0),
-            Some(text) => match number(text, u32::MAX.into()) {
-                Some(value) => Ok(value as u32),
-                None => Err(LineFault::Number),
-            },
+        let mut arguments = Arguments::new();
+        'widths: for (place, &width) in widths.iter().enumerate() {
+            let Some(text) = self.text_at(place + 1) else {
+                return Some(arguments);
+            };
+            arguments.push(argument_of(width, text)?);
         }
-    }
-
-    /// The number of 64 bits of the word at place `k`. It is 0 where there is no such word.
-    pub fn address_at(&self, k: usize) -> Result<u64, LineFault>
-        requires { k < 9 }
-        ensures { result ≡ given_address (slice_get (word_texts self.now) k) }
-    {
-        match self.text_at(k) {
-            None => Ok(0),
-            Some(text) => number(text, u64::MAX).ok_or(LineFault::Number),
-        }
+        Some(arguments)
     }
 }
 
@@ -120,11 +115,4 @@ fn first_places(text: &[u8]) -> Places
         places.push((first, text.len()));
     }
     places
-}
-
-#[tactic(auto, using(crate::proofs::WordsLemmas::is_blank_is))]
-fn is_blank(byte: u8) -> bool
-    ensures { result ≡ is_blank byte }
-{
-    byte == b' ' || byte == b'\t'
 }

@@ -1,0 +1,101 @@
+-- The sentence of each kind of line follows from its row of the table.
+use Rattle.std.proofs.Common.{◌≡◌, ℕ, zero, suc, ◌≤◌, Bool, true, false, ◌&&◌, Option, Some, None, List, [], ◌∷◌, length, find, map, option_map, unwrap_or, is_some, ok_or, refl, arith, ◌∙◌, ap, sym, Err, Ok, nat_le, if◌then◌else◌, codes}
+use Rattle.std.specs.List.{AllByRecursion, list_all, list_any}
+use Rattle.std.specs.Str.{bytes_eq}
+use Rattle.std.proofs.lemmas.Bool.Decides.{nat_tests}
+use Rattle.pm_base.specs.declared.events.Event.{Event}
+use Rattle.pm_base.specs.declared.events.Event.TheVariants as events
+use Rattle.pm_script.specs.declared.forms.Argument.{Argument}
+use Rattle.pm_script.specs.declared.forms.Argument.TheVariants as arguments
+use Rattle.pm_script.specs.declared.forms.Kind.TheVariants as kinds
+use Rattle.pm_script.specs.declared.forms.Width.{Width}
+use Rattle.pm_script.specs.declared.forms.Width.TheVariants as widths
+use Rattle.pm_script.specs.declared.meaning.LineFault.TheVariants.{Number, Unknown}
+use Rattle.pm_script.specs.Forms.{Row, arguments_of, event_of, line_forms, number_at, row, with_first}
+use Rattle.pm_script.specs.Meaning.{form_meaning, found_meaning, words_meaning}
+use Rattle.pm_script.specs.Sentences.{address_of_word, boot_meaning, boot_event, gic_meaning, ipi_meaning, irq_meaning, is_number, message_event, number_of_place, number_of_word, numbers_meaning, tick_meaning, wfi_meaning}
+
+-- the argument of 32 bits that a word is
+abbrev as_number : List ℕ → Argument
+as_number word = arguments.Number (unwrap_or (number_of_word word) 0)
+
+-- a first argument before the others
+first_and : (value : Option ℕ) (all : Bool) (rest : List Argument) → with_first (option_map (λ number. arguments.Number number) value) (if all then Some rest else None) ≡ (if is_some value && all then Some (arguments.Number (unwrap_or value 0) ∷ rest) else None)
+first_and None true rest = refl
+first_and None false rest = refl
+first_and (Some n) true rest = refl
+first_and (Some n) false rest = refl
+
+-- words that are all to be numbers of 32 bits
+all_numbers : (given : List Width) (words : List (List ℕ)) → AllByRecursion (λ width. width ≡ widths.Number) given → length words ≤ length given → arguments_of given words ≡ (if list_all is_number words then Some (map as_number words) else None)
+all_numbers [] [] all few = refl
+all_numbers [] (word ∷ words) all few = absurd (omega arith)
+all_numbers (width ∷ given) [] all few = refl
+all_numbers (width ∷ given) (word ∷ words) all few =
+    rw (all.0, all_numbers given words all.1 (omega arith)) (first_and (number_of_word word) (list_all is_number words) (map as_number words))
+
+-- the number at a place
+place_of : (words : List (List ℕ)) (k : ℕ) → number_at (map as_number words) k ≡ number_of_place words k
+place_of [] k = refl
+place_of (word ∷ words) zero = refl
+place_of (word ∷ words) (suc k) = place_of words k
+
+event_or : (event : List Argument → Event) (spoken : Event) (all : Bool) (given : List Argument) → event given ≡ spoken → ok_or (option_map event (if all then Some given else None)) Number ≡ (if all then Ok spoken else Err Number)
+event_or event spoken true given is = ap Ok is
+event_or event spoken false given is = refl
+
+-- a row whose arguments are all numbers of 32 bits
+numbers_row : (row : Row) (spoken : List (List ℕ) → Event) → AllByRecursion (λ width. width ≡ widths.Number) row.widths → ((words : List (List ℕ)) → event_of row.kind (map as_number words) ≡ spoken words) → (words : List (List ℕ)) → form_meaning row words ≡ numbers_meaning row.least (length row.widths) spoken words
+numbers_row row spoken all same words = by (nat_le row.least (length words)) (nat_le (length words) (length row.widths)) refl refl
+  where
+    by : (enough few : Bool) → nat_le row.least (length words) ≡ enough → nat_le (length words) (length row.widths) ≡ few → form_meaning row words ≡ numbers_meaning row.least (length row.widths) spoken words
+    by true true least most =
+        let within : length words ≤ length row.widths = grind (arith, nat_tests) in
+        rw (least, most, all_numbers row.widths words all within) (event_or (event_of row.kind) (spoken words) (list_all is_number words) (map as_number words) (same words))
+    by false few least most = rw least refl
+    by true false least most = rw (least, most) refl
+
+message_same : (words : List (List ℕ)) → event_of kinds.Ipi (map as_number words) ≡ message_event words
+message_same words = rw (place_of words 0, place_of words 1, place_of words 2, place_of words 3, place_of words 4, place_of words 5, place_of words 6) refl
+
+pub message : (words : List (List ℕ)) → words_meaning (codes "ipi" ∷ words) ≡ ipi_meaning words
+message words = numbers_row (row (codes "ipi") kinds.Ipi 2 (widths.Number ∷ widths.Number ∷ widths.Number ∷ widths.Number ∷ widths.Number ∷ widths.Number ∷ widths.Number ∷ [])) message_event (refl, (refl, (refl, (refl, (refl, (refl, (refl, tt))))))) message_same words
+
+pub waits : (words : List (List ℕ)) → words_meaning (codes "wfi" ∷ words) ≡ wfi_meaning words
+waits words = numbers_row (row (codes "wfi") kinds.Wfi 1 (widths.Number ∷ [])) (λ words. events.Wfi (record { 0 = number_of_place words 0 })) (refl, tt) (λ words. ap (λ n. events.Wfi (record { 0 = n })) (place_of words 0)) words
+
+pub interrupts : (words : List (List ℕ)) → words_meaning (codes "irq" ∷ words) ≡ irq_meaning words
+interrupts words = numbers_row (row (codes "irq") kinds.Irq 1 (widths.Number ∷ [])) (λ words. events.Irq (record { 0 = number_of_place words 0 })) (refl, tt) (λ words. ap (λ n. events.Irq (record { 0 = n })) (place_of words 0)) words
+
+pub wakes : (words : List (List ℕ)) → words_meaning (codes "gic" ∷ words) ≡ gic_meaning words
+wakes words = numbers_row (row (codes "gic") kinds.Gic 1 (widths.Number ∷ [])) (λ words. events.Gic (record { 0 = number_of_place words 0 })) (refl, tt) (λ words. ap (λ n. events.Gic (record { 0 = n })) (place_of words 0)) words
+
+pub ticks : (words : List (List ℕ)) → words_meaning (codes "tick" ∷ words) ≡ tick_meaning words
+ticks words = numbers_row (row (codes "tick") kinds.Tick 1 (widths.Number ∷ [])) (λ words. events.Tick (number_of_place words 0)) (refl, tt) (λ words. ap events.Tick (place_of words 0)) words
+
+boots_by : (proc address : Option ℕ) → ok_or (option_map (event_of kinds.Boot) (with_first (option_map (λ number. arguments.Number number) proc) (with_first (option_map (λ address. arguments.Address address) address) (Some [])))) Number ≡ boot_event proc address
+boots_by None address = refl
+boots_by (Some proc) None = refl
+boots_by (Some proc) (Some address) = refl
+
+and_false : (b : Bool) → (b && false) ≡ false
+and_false true = refl
+and_false false = refl
+
+pub boots : (words : List (List ℕ)) → words_meaning (codes "boot" ∷ words) ≡ boot_meaning words
+boots [] = refl
+boots (proc ∷ []) = refl
+boots (proc ∷ address ∷ []) = boots_by (number_of_word proc) (address_of_word address)
+boots (proc ∷ address ∷ word ∷ words) = let many : nat_le (length (proc ∷ address ∷ word ∷ words)) 2 ≡ false = grind (arith, nat_tests) in rw (many, and_false (nat_le 2 (length (proc ∷ address ∷ word ∷ words)))) refl
+
+not_found : {X : Type 0} (test : X → Bool) (xs : List X) → list_any test xs ≡ false → find test xs ≡ None
+not_found test [] none = refl
+not_found test (x ∷ xs) none = by (test x) refl none (not_found test xs)
+  where
+    by : (b : Bool) → test x ≡ b → list_any test (x ∷ xs) ≡ false → (list_any test xs ≡ false → find test xs ≡ None) → find test (x ∷ xs) ≡ None
+    by true is none later = let some : list_any test (x ∷ xs) ≡ true = rw is refl in cc
+    by false is none later = let rest : list_any test (x ∷ xs) ≡ list_any test xs = rw is refl in rw is (later (sym rest ∙ none))
+
+-- a first word that no row has
+pub none_found : (word : List ℕ) (words : List (List ℕ)) → list_any (λ row. bytes_eq row.keyword word) line_forms ≡ false → words_meaning (word ∷ words) ≡ Err Unknown
+none_found word words none = ap (λ (row : Option Row). found_meaning row words) (not_found (λ (row : Row). bytes_eq row.keyword word) line_forms none)

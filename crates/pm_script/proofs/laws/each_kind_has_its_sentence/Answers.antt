@@ -1,0 +1,15 @@
+use Rattle.std.proofs.Common.{refl}
+use Rattle.pm_script.proofs.SentencesLemmas.{boots, interrupts, message, none_found, ticks, waits, wakes}
+use Rattle.pm_script.proofs.laws.each_kind_has_its_sentence.Goals as goal
+
+pub returns : goal.returns
+returns c = record {
+  empty = refl;
+  ipi = message;
+  boot = boots;
+  wfi = waits;
+  irq = interrupts;
+  gic = wakes;
+  tick = ticks;
+  unknown = none_found;
+}
