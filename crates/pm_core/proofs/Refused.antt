@@ -1,9 +1,9 @@
 -- A refused message changes nothing.
-use Rattle.std.proofs.Common.{◌≡◌, ℕ, Bool, true, false, not, ◌&&◌, ◌==◌, if◌then◌else◌, IsTrue, List, [], ◌∷◌, ◌++◌, ◌+◌, map, Option, Some, None, refl, ap, ◌∙◌}
+use Rattle.std.proofs.Common.{◌≡◌, ℕ, Bool, true, false, not, ◌&&◌, ◌==◌, if◌then◌else◌, IsTrue, List, [], ◌∷◌, ◌++◌, ◌+◌, map, Option, Some, None, refl, ap, ◌∙◌, ◌||◌, ◌⊎◌, inl, inr}
 use Rattle.std.specs.Prelude.{flat_map, option_and_then}
 use Rattle.std.proofs.lemmas.Bool.{eq-eqb}
 use Rattle.pm_base.specs.declared.events.Event.{Event}
-use Rattle.pm_base.specs.declared.events.Event.TheVariants.{Ipi}
+use Rattle.pm_base.specs.declared.events.Event.TheVariants.{Ipi, Boot, Wfi, Irq, Gic}
 use Rattle.pm_base.specs.declared.names.Mode.{Mode}
 use Rattle.pm_base.specs.declared.names.Mode.TheVariants.{Off, Active, Asleep, Suspending}
 use Rattle.pm_base.specs.declared.names.NodeId.{NodeId}
@@ -11,6 +11,7 @@ use Rattle.pm_base.specs.declared.names.Unit.{Unit}
 use Rattle.pm_base.specs.declared.names.Unit.TheVariants.{Node, Line}
 use Rattle.pm_ipi.specs.Calls.{ack_of, call_of, node_of}
 use Rattle.pm_ipi.specs.declared.calls.Call.{Call}
+use Rattle.pm_ipi.specs.declared.calls.Call.TheVariants as calls
 use Rattle.pm_notify.specs.declared.notes.Note.TheVariants.{Change, ZeroUsers}
 use Rattle.pm_notify.specs.declared.notes.Waiting.{Waiting}
 use Rattle.pm_notify.specs.MasterNotes.{MasterNotes}
@@ -33,8 +34,9 @@ use Rattle.pm_calls.specs.Checks.{Cause, Fits, Stands, first_failing}
 use Rattle.pm_state.specs.Prims.{Prim}
 use Rattle.pm_state.specs.Stages.{after_stages, path_from}
 use Rattle.pm_state.specs.State.{State, in_force}
-use Rattle.pm_calls.specs.calls.{called}
-use Rattle.pm_core.specs.Step.{call_in, effect, call_at, may_call, is_refused, message_stages, modes_in, served, verdict}
+use Rattle.pm_calls.specs.calls.{called, only_reads}
+use Rattle.pm_values.proofs.RestLaw.{none_among}
+use Rattle.pm_core.specs.Step.{call_in, effect, call_at, may_call, may_change, is_refused, message_stages, modes_in, served, stages, verdict}
 use Rattle.pm_tell.specs.Telling.{tellings}
 use Rattle.pm_state.specs.Talk.{Talk, talked, wait_of}
 use Rattle.pm_tell.specs.Opening.{forgets_from, talk_of}
@@ -76,26 +78,6 @@ none_end m (request ∷ pending) before =
 none_forgets : (m : ℕ) (masters : List MasterRec) (before : State) → forgets_from (turns_along before []) m masters ≡ []
 none_forgets m [] before = refl
 none_forgets m (master ∷ masters) before = none_forgets (m + 1) masters before
-
--- where the book stays nothing happened to any node
-nothing_freed : (used : Bool) → (used && not used) ≡ false
-nothing_freed true = refl
-nothing_freed false = refl
-
-none_about : (changed freed : Bool) (unit : Unit) → changed ≡ false → freed ≡ false → notes_about changed freed unit ≡ []
-none_about changed freed (Node node) same kept =
-    ap (λ c. log_if c node Change ++ log_if freed node ZeroUsers) same ∙ ap (λ f. log_if false node Change ++ log_if f node ZeroUsers) kept
-none_about changed freed (Line line) same kept = refl
-
-none_happened : (book : State) (unit : Unit) → happened book book unit ≡ []
-none_happened book unit =
-    none_about (not (value unit book == value unit book)) (used unit book && not (used unit book)) unit
-    (ap not (eq-eqb (value unit book) (value unit book) refl)) (nothing_freed (used unit book))
-
-none_among : (book : State) (units : List Unit) → flat_map (happened book book) units ≡ []
-none_among book [] = refl
-none_among book (unit ∷ units) =
-    ap (λ ws. ws ++ flat_map (happened book book) units) (none_happened book unit) ∙ none_among book units
 
 -- and where there is nothing to tell and no mode changes, no notes change
 abbrev no_news : News
@@ -180,3 +162,48 @@ refused_stays (Ipi master message) book fails =
     stays book (served (Ipi master message) book) (message_stages (call_in master call book)) (says_of (verdict (call_in master call book))) nothing.stages nothing.says
     (none_kept master call book (master_place master book) refl)
 refused_stays _ book fails = cc
+
+-- ---- an event that has no stage
+
+-- whatever the checks say
+none_by : (cause : Cause) → stages_by cause [] ≡ []
+none_by (Stands Fits) = refl
+none_by _ = refl
+
+-- a call that only reads
+reads_none : (m : ℕ) (call : Call) (book : State) → only_reads call ≡ true → (called m call book).stages ≡ []
+reads_none m calls.GetApiVersion book reads = refl
+reads_none m (calls.GetNodeStatus node) book reads = refl
+reads_none m (calls.GetOpCharacteristic node characteristic) book reads = refl
+reads_none m (calls.ResetGetStatus line) book reads = refl
+reads_none m _ book reads = cc
+
+read_if : (call : Call) (book : State) (m : ℕ) (heard : Bool) → only_reads call ≡ true → message_stages (if heard then Some (called m call book) else None) ≡ []
+read_if call book m true reads =
+    let cause : Cause = first_failing (called m call book).checks in
+    ap (stages_by cause) (reads_none m call book reads) ∙ none_by cause
+read_if call book m false reads = refl
+
+read_at : (call : Call) (book : State) (place : Option ℕ) → only_reads call ≡ true → message_stages (option_and_then (call_at call book) place) ≡ []
+read_at call book None reads = refl
+read_at call book (Some m) reads = read_if call book m (may_call m book) reads
+
+refused_or_read : (refusal reads : Bool) → not (refusal || reads) ≡ false → IsTrue refusal ⊎ (reads ≡ true)
+refused_or_read true reads is = inl refl
+refused_or_read false true is = inr refl
+refused_or_read false false is = cc
+
+-- an event that may have no stages has none
+pub none_staged : (event : Event) (book : State) → may_change event (served event book) ≡ false → stages event book ≡ []
+none_staged (Ipi master message) book stays =
+    let call : Call = call_of message in
+    let place : Option ℕ = master_place master book in
+    elim (refused_or_read (is_refusal (verdict (call_in master call book))) (only_reads call) stays) [
+      | inl fails ↦ (refused_at call book place fails).stages
+      | inr reads ↦ read_at call book place reads
+    ]
+none_staged (Boot proc address) book stays = cc
+none_staged (Wfi proc) book stays = cc
+none_staged (Irq slave) book stays = cc
+none_staged (Gic proc) book stays = cc
+none_staged _ book stays = refl

@@ -31,7 +31,7 @@ use Rattle.pm_state.specs.Values.{value}
 use Rattle.pm_values.proofs.CachesLaw.{moves_are}
 use Rattle.pm_state.proofs.LoadLaw.{get_or-replicate_any}
 use Rattle.pm_values.proofs.AlongLaw.{HasOneAtMost}
-use Rattle.pm_values.proofs.StartsLaw.{TellsDown, starts_are}
+use Rattle.pm_values.proofs.RestLaw.{starts_all, there}
 
 -- ---- one stage at most
 
@@ -123,18 +123,6 @@ step_moves event old new kinds values is kinds_are values_are =
     ∙ moves_are (effect event old) (λ u. value u old) kinds values kinds_are values_are
 
 -- the processors that start
-starts_all : (downs : List Bool) (before : Unit → ℕ) (down : ℕ → Bool) (after : State) (kinds : List UnitKind) (values : List (Unit × ℕ)) → kinds ≡ map (kind_of_unit after.fixed.topology) (units after) → values ≡ map (λ u. (u, before u)) (units after) → TellsDown downs down after → starts_by downs after.now.core.procs kinds values ≡ starts down after
-starts_all downs before down after kinds values kinds_are values_are tells =
-    ap (λ ks. starts_by downs after.now.core.procs ks values) kinds_are
-    ∙ (ap (starts_by downs after.now.core.procs (map (kind_of_unit after.fixed.topology) (units after))) values_are
-    ∙ starts_are downs before down after (units after) tells)
-
-there : (t : Topology) (node : NodeId) (p : ℕ) → IsKind t node (Proc p) → p < length t.procs
-there t node p is = elim ((slice_get_cases t.procs p).1) [
-  | inl here ↦ here.1
-  | inr past ↦ let none : None ≡ Some is.0 = sym past.1 ∙ is.1 in cc
-]
-
 pub step_starts : KindLaws → (event : Event) (old new : State) (along : Trail) (kinds : List UnitKind) (values : List (Unit × ℕ)) → new ≡ after_stages (stages event old) old → IsTrail old (path event old) along → kinds ≡ map (kind_of_unit old.fixed.topology) (units old) → values ≡ valued old → starts_by along.downs new.now.core.procs kinds values ≡ starts (was_down (old ∷ path event old)) (effect event old)
 step_starts laws event old new along kinds values is trailed kinds_are values_are =
     let t : Topology = old.fixed.topology in

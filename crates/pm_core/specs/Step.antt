@@ -1,5 +1,5 @@
 -- The step: what an event does to the book, and what it puts out.
-use Rattle.std.specs.Prelude.{ℕ, Bool, true, false, not, ◌&&◌, List, [], ◌∷◌, Option, Some, None, option_and_then, if◌then◌else◌}
+use Rattle.std.specs.Prelude.{ℕ, Bool, true, false, not, ◌&&◌, ◌||◌, List, [], ◌∷◌, Option, Some, None, option_and_then, if◌then◌else◌}
 use Rattle.pm_base.specs.declared.names.LineId.{LineId}
 use Rattle.pm_base.specs.declared.names.NodeId.{NodeId}
 use Rattle.pm_base.specs.declared.names.Mode.{Mode}
@@ -24,7 +24,7 @@ use Rattle.pm_tell.specs.Callbacks.{News, callbacks, late_replies}
 use Rattle.pm_tell.specs.Ended.{ended_from}
 use Rattle.pm_values.specs.Turns.{turns_along}
 use Rattle.pm_calls.specs.Events.{boot, wait, interrupt, raised}
-use Rattle.pm_calls.specs.calls.{called}
+use Rattle.pm_calls.specs.calls.{called, only_reads}
 use Rattle.pm_state.specs.Members.{mode_of_master}
 use Rattle.pm_values.specs.Notifications.{notifications}
 use Rattle.pm_core.specs.Outbox.{Outputs}
@@ -206,3 +206,17 @@ outputs_at_load book = record {
 abbrev pub is_refused : Event → State → Bool
 is_refused (Ipi master message) book = is_refusal (verdict (call_in master (call_of message) book))
 is_refused _ book = false
+
+-- an event that is no message and may have stages: any but that time passes, that a node of the device fails or works
+-- again, and that nothing happens
+abbrev pub is_action : Event → Bool
+is_action (Boot proc address) = true
+is_action (Wfi proc) = true
+is_action (Irq slave) = true
+is_action (Gic proc) = true
+is_action _ = false
+
+-- an event may have stages, by the verdict on its message: one that is dropped or refused, or that only reads, has none
+abbrev pub may_change : Event → Option Served → Bool
+may_change event None = is_action event
+may_change event (Some served) = not (is_refusal served.verdict || only_reads served.call)

@@ -16,7 +16,7 @@ ghost use Rattle.pm_state.specs.Nodes.{master_mode, mode, row};
 
 use crate::laws::books_stay_sound;
 use crate::outbox::Outbox;
-use crate::step::{advance, answer, time_of};
+use crate::step::{advance, answer, may_change, time_of};
 use pm_base::{Event, Mode, NoMemory, NodeId, Unit};
 use pm_object::Object;
 use pm_rows::Row;
@@ -34,9 +34,9 @@ use std::marker::Model;
 /// and what is logged of a step until the masters are told of it.
 #[derive(Drop)]
 pub struct Book {
-    tables: Tables,
-    caches: Caches,
-    telling: Telling,
+    pub(crate) tables: Tables,
+    pub(crate) caches: Caches,
+    pub(crate) telling: Telling,
 }
 
 impl Model for Book {
@@ -124,7 +124,6 @@ impl Book {
         ensures ready { HasRoomFor self.new out.new }
         // A message that is dropped, or whose status isn't 0, changes nothing.
         ensures refused { IsTrue (is_refused event.now self.old) → self.new ≡ self.old }
-
         // What holds of every book (`stays_sound`).
         ensures sound { IsSound self.new }
         ensures met { MeetsRequirements self.new (λ u. value u self.new) }
@@ -136,7 +135,8 @@ impl Book {
         out.clear();
         let count = time_of(&self.tables, event);
         let served = advance(&mut self.tables, &self.caches, event, &mut self.telling);
-        self.caches.update(
+        self.caches.follow(
+            may_change(event, served),
             &self.tables,
             &self.telling.along,
             &mut out.moved,

@@ -4,6 +4,8 @@
 #![tactic(auto)]
 
 mod book;
+#[cfg(test)]
+mod fields;
 mod laws;
 mod outbox;
 mod replies;

@@ -2,9 +2,10 @@
 
 ghost use Rattle.std.specs.Prelude.{◌≡◌, false, length};
 ghost use Rattle.pm_ipi.specs.Calls.{ack_of, node_of};
+ghost use Rattle.pm_calls.specs.calls.{only_reads};
 ghost use Rattle.pm_values.specs.Caches.{AreKept};
 ghost use Rattle.pm_state.specs.Stages.{after_stages, path_from};
-ghost use Rattle.pm_core.specs.Step.{acknowledged, answer_by, answer_of, call_in, may_call, is_ipi, message_stages, path, served, stages, time_of, verdict};
+ghost use Rattle.pm_core.specs.Step.{acknowledged, answer_by, answer_of, call_in, is_action, may_call, may_change, is_ipi, message_stages, path, served, stages, time_of, verdict};
 ghost use Rattle.pm_state.specs.State.{in_force};
 ghost use Rattle.pm_tell.specs.Telling.{HasPlaces};
 ghost use Rattle.pm_values.specs.Along.{Completes, IsTrail, modes_of, trail_from};
@@ -126,6 +127,40 @@ fn may_call(tables: &Tables, m: usize) -> bool
     ensures { result ≡ may_call m tables.now }
 {
     !tables.is_halted() && is_awake(tables.mode_of_master(m))
+}
+
+/// Whether an event that is no message may have stages.
+fn is_action(event: &Event) -> bool
+    ensures { result ≡ is_action event.now }
+{
+    matches!(
+        event,
+        Event::Boot { .. } | Event::Wfi { .. } | Event::Irq { .. } | Event::Gic { .. }
+    )
+}
+
+/// Whether a call only reads the book.
+fn only_reads(call: &Call) -> bool
+    ensures { result ≡ only_reads call.now }
+{
+    matches!(
+        call,
+        Call::GetApiVersion
+            | Call::GetNodeStatus { .. }
+            | Call::GetOpCharacteristic { .. }
+            | Call::ResetGetStatus { .. }
+    )
+}
+
+/// Whether an event may have stages, by the verdict on its message. Where it may not, the book stays but for
+/// what is told.
+pub(crate) fn may_change(event: &Event, served: Option<Served>) -> bool
+    ensures { result ≡ may_change event.now served }
+{
+    match served {
+        Some(served) => matches!(served.verdict, Verdict::Accepted(_)) && !only_reads(&served.call),
+        None => is_action(event),
+    }
 }
 
 /// What the sender of a message gets by the verdict on it, in the book after it.

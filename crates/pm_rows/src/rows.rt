@@ -119,19 +119,9 @@ impl Rows {
         found(&self.table, Sought::Rival(master, slave)).map(|entry| entry.seed.master)
     }
 
-    /// Changes the row of a pair, where it is there, and no other. What it costs is told of nobody.
-    pub fn change(&mut self, master: usize, slave: usize, by: Change)
-        ensures { self.new ≡ row_changed master slave by self.old }
-    {
-        pass_all(
-            &mut self.table,
-            &self.known,
-            self.boot,
-            Pass::One(master, slave, by),
-        );
-    }
-
-    fn count_change<L: Ledger>(
+    /// Changes the row of a pair, where it is there, and no other. Each row that is read and each count that
+    /// changes is a step.
+    pub fn change<L: Ledger>(
         &mut self,
         master: usize,
         slave: usize,
@@ -162,7 +152,7 @@ impl Rows {
         ensures rows { self.new ≡ row_changed master slave (Request caps) self.old }
         ensures cost { IsCheap master slave self.old steps.old steps.new }
     {
-        self.count_change(master, slave, Change::Request(caps), steps);
+        self.change(master, slave, Change::Request(caps), steps);
     }
 
     /// The slave isn't used by the master any more. Its arming and its hold stay (UG1200,
@@ -171,7 +161,7 @@ impl Rows {
         ensures rows { self.new ≡ row_changed master slave Release self.old }
         ensures cost { IsCheap master slave self.old steps.old steps.new }
     {
-        self.count_change(master, slave, Change::Release, steps);
+        self.change(master, slave, Change::Release, steps);
     }
 
     /// The master requires these capabilities of the slave: at once while it is active, and from its
@@ -181,7 +171,7 @@ impl Rows {
         ensures cost { IsCheap master slave self.old steps.old steps.new }
     {
         let mode = self.mode(master);
-        self.count_change(master, slave, Change::Set(mode, caps), steps);
+        self.change(master, slave, Change::Set(mode, caps), steps);
     }
 
     /// The master allows this latency of the slave at most (UG1200, PM_SET_MAX_LATENCY).
@@ -195,14 +185,19 @@ impl Rows {
         ensures rows { self.new ≡ row_changed master slave (Limit latency) self.old }
         ensures cost { IsCheap master slave self.old steps.old steps.new }
     {
-        self.count_change(master, slave, Change::Limit(latency), steps);
+        self.change(master, slave, Change::Limit(latency), steps);
     }
 
     /// The slave's interrupt wakes this processor of the master, or none (UG1200, PM_SET_WAKEUP_SOURCE).
     pub fn arm(&mut self, master: usize, slave: usize, target: Option<NodeId>)
         ensures { self.new ≡ row_changed master slave (Arm target) self.old }
     {
-        self.change(master, slave, Change::Arm(target));
+        pass_all(
+            &mut self.table,
+            &self.known,
+            self.boot,
+            Pass::One(master, slave, Change::Arm(target)),
+        );
     }
 
     /// Drops each hold of a master (UG1200, PM_INIT_FINALIZE).

@@ -43,11 +43,18 @@ impl Model for Table {
 
     ghost view = { λ table. record {
       entries = entries_of table.seeds table.cells;
-      tally = record { access = table.access; context = table.context; wakeup = table.wakeup; users = table.users; limits = table.limits };
+      tally = record {
+        access = table.access;
+        context = table.context;
+        wakeup = table.wakeup;
+        users = table.users;
+        limits = table.limits;
+      };
     } };
 
     ghost invariant = { λ table.
-        IsKept table.seeds table.cells (length table.users) table.narrow table.spans.first.items table.spans.past.items };
+        IsKept table.seeds table.cells (length table.users) table.narrow table.spans.first.items
+        table.spans.past.items };
 }
 
 /// A list of these pairs.
@@ -197,7 +204,8 @@ impl Table {
         requires ready { AreReady (counted_in from entry) self.old.tally }
         ensures entries { self.new.entries ≡ slice_set self.old.entries k (record entry { row = row }) }
         ensures tally { self.new.tally
-            ≡ moved (counted_in from entry) (counted_in to (record entry { row = row })) self.new.entries self.old.tally }
+            ≡ moved (counted_in from entry) (counted_in to (record entry { row = row }))
+            self.new.entries self.old.tally }
         ensures steps { steps.new ≤ steps.old + (4 + permitted_on entry.seed.slave self.old.entries) }
     {
         let slave = entry.seed.slave;

@@ -1,6 +1,6 @@
 //! The stages of a step: changes of the book, after which the rows follow the masters whose mode changed.
 
-ghost use Rattle.std.specs.Prelude.{◌≡◌, ◌∷◌, []};
+ghost use Rattle.std.specs.Prelude.{◌≡◌, ◌<◌, ◌∷◌, []};
 ghost use Rattle.pm_state.specs.Members.{mode_of_master, owner_at, owns, first_own};
 ghost use Rattle.pm_state.specs.Prims.{changed, At_row, Halt, Put_proc, Reload, Settle, Put_line};
 ghost use Rattle.pm_state.specs.Stages.{after_stage, follow_at, followed};
@@ -8,9 +8,11 @@ ghost use Rattle.pm_state.specs.Stages.{after_stage, follow_at, followed};
 use crate::load::start;
 use crate::members::owner_at;
 use crate::tables::Tables;
-use pm_base::Mode;
+use pm_base::{Mode, Steps};
 use pm_procs::{Proc, same_mode};
 use pm_rows::Change;
+use std::marker::Brand;
+use std::sync::ledger::{Blank, Ledger};
 
 impl Tables {
     /// The place of the configured master that has the processor at a place.
@@ -67,8 +69,19 @@ impl Tables {
     pub fn row_stage(&mut self, master: usize, slave: usize, by: Change)
         ensures { self.new ≡ after_stage (At_row master slave by ∷ []) self.old }
     {
-        self.rows.change(master, slave, by);
+        self.change_row::<Brand>(master, slave, by, Blank::new(1));
         self.follow();
+    }
+
+    /// Changes the row of a pair by a counted call of the rows, with a counter that is thrown away.
+    fn change_row<L: Ledger>(&mut self, master: usize, slave: usize, by: Change, blank: Blank)
+        requires name { blank.name ≡ L.name }
+        requires parts { blank.parts ≡ L.parts }
+        requires some { 0 < blank.parts }
+        ensures { self.new ≡ changed (At_row master slave by ∷ []) self.old }
+    {
+        self.rows
+            .change(master, slave, by, &mut Steps::<L>::new(blank));
     }
 
     /// The stage in which a master drops its holds.

@@ -7,5 +7,6 @@ pub mod MetLaw
 pub mod MovesLemmas
 pub mod NeededLaw
 pub mod NoticesLaw
+pub mod RestLaw
 pub mod StartsLaw
 pub mod Wants

@@ -1,5 +1,6 @@
 -- What a book keeps of its values, so that they needn't be found again. Each of it is a function of the book.
-use Rattle.std.specs.Prelude.{◌≡◌, ℕ, ◌==◌, ◌&&◌, Bool, false, not, cond, if◌then◌else◌, List, [], ◌∷◌, ◌++◌, map, length, slice_get, unwrap_or, Option, Some, None}
+use Rattle.std.specs.Prelude.{◌≡◌, ◌≤◌, ℕ, ◌+◌, ◌==◌, ◌&&◌, Bool, false, not, cond, if◌then◌else◌, List, [], ◌∷◌, ◌++◌, map, length, slice_get, unwrap_or, Option, Some, None}
+use Rattle.pm_base.specs.BoundedList.{Bounded}
 use Rattle.pm_base.specs.declared.names.Unit.{Unit}
 use Rattle.pm_base.specs.declared.names.Unit.TheVariants.{Node, Line}
 use Rattle.pm_topology.specs.declared.topology.SlaveDef.{SlaveDef}
@@ -21,8 +22,8 @@ use Rattle.pm_values.specs.declared.caches.UnitKind.TheVariants.{Entry, Reset}
 use Rattle.pm_values.specs.declared.starts.Start.{Start}
 use Rattle.pm_notify.specs.declared.notes.Waiting.{Waiting}
 use Rattle.pm_rows.specs.Rows.{Rows}
-use Rattle.pm_values.specs.Notifications.{is_used, notes_about, used_at}
-use Rattle.pm_values.specs.Along.{down_logged}
+use Rattle.pm_values.specs.Notifications.{is_used, notes_about, notice_count, used_at}
+use Rattle.pm_values.specs.Along.{IsTrail, Trail, down_logged}
 use Rattle.pm_state.specs.State.{Fixed, CoreHalf, State}
 use Rattle.pm_state.specs.Units.{units}
 use Rattle.pm_state.specs.Values.{placed, chosen, need_of, run_of, forest, line_at, value, value_at}
@@ -152,3 +153,43 @@ pub record AreKept (book : State) (caches : Caches) : Type 0 where
   pub used : caches.used.items ≡ placed (use_of book.now.core) 0 book.fixed.topology.slaves
   pub power : caches.power ≡ forest book.fixed book.now.core
   pub values : caches.values ≡ valued book
+
+-- the states are chosen, and the power nodes are found, by this book; what is kept besides is as it was
+pub record IsChosen (book : State) (before after : Caches) : Type 0 where
+  pub states : after.states.items ≡ placed (chosen book.now.core) 0 book.fixed.topology.slaves
+  pub needs : after.needs.items ≡ placed (need_of book.now.core) 0 book.fixed.topology.slaves
+  pub runs : after.runs.items ≡ placed (run_of book.now.core) 0 book.fixed.topology.procs
+  pub power : after.power ≡ forest book.fixed book.now.core
+  pub kinds : after.kinds.items ≡ before.kinds.items
+  pub used : after.used.items ≡ before.used.items
+  pub values : after.values ≡ before.values
+
+-- caches of a chip, with room for what a step moves, starts and has to tell; nothing is among the starts yet
+pub record HasRoom (t : Topology) (caches : Caches) (moved : Bounded Unit) (starts : Bounded Start)
+    (notices : Bounded Waiting) : Type 0 where
+  pub places : HasPlaces t caches
+  pub room : length moved.items + length caches.values ≤ moved.room
+  pub none : starts.items ≡ []
+  pub procs : length t.procs ≤ starts.room
+  pub few : notice_count (length caches.values) ≤ notices.room
+
+-- what is found where a book follows on what was kept: behind the units that moved before, those whose value isn't the
+-- one that was kept; the processors that are active and were down by what is logged; and what happened to nodes
+pub record Finds (book : State) (downs : List Bool) (caches : Caches) (moved_before moved_after : Bounded Unit)
+    (starts_before starts_after : Bounded Start) (notices_before notices_after : Bounded Waiting) : Type 0 where
+  pub moved : moved_after ≡ record moved_before {
+    items = moved_before.items ++ moved_by (value_by book.fixed book.now.core) caches.kinds.items caches.values;
+  }
+  pub starts : starts_after ≡ record starts_before {
+    items = starts_by downs book.now.core.procs caches.kinds.items caches.values;
+  }
+  pub notices : notices_after ≡ record notices_before {
+    items = noticed_by (value_by book.fixed book.now.core) (freed_by caches.used.items book.now.core.rows)
+        caches.kinds.items caches.values;
+  }
+  pub few : length notices_after.items ≤ notice_count (length caches.values)
+
+-- the step to this book had no stage: the caches are its own already, and nothing else is logged along the step
+pub record IsStill (book : State) (along : Trail) (caches : Caches) : Type 0 where
+  pub kept : AreKept book caches
+  pub trail : IsTrail book [] along

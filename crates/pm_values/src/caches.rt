@@ -1,10 +1,9 @@
 //! What the book keeps of its values.
 
-ghost use Rattle.std.specs.Prelude.{◌≡◌, ◌+◌, ◌≤◌, ◌++◌, [], IfOk, length, map, option_map, slice_get};
+ghost use Rattle.std.specs.Prelude.{◌≡◌, IfOk, false, length, map, option_map, slice_get};
 ghost use Rattle.pm_topology.specs.Units.{units_of};
 ghost use Rattle.pm_topology.specs.UnitMap.{all_at};
-ghost use Rattle.pm_values.specs.Caches.{AreKept, HasPlaces, freed_by, kind_of_unit, moved_by, noticed_by, starts_by, value_by, value_kept};
-ghost use Rattle.pm_values.specs.Notifications.{notice_count};
+ghost use Rattle.pm_values.specs.Caches.{AreKept, Finds, HasPlaces, HasRoom, IsChosen, IsStill, kind_of_unit, value_kept};
 
 use crate::along::Along;
 use crate::moves::log_moves;
@@ -79,6 +78,16 @@ impl Caches {
         self.values.get(unit).unwrap_or(0)
     }
 
+    /// Chooses the state of each slave, and finds which power nodes are up by that and by the processors that run.
+    fn choose(&mut self, tables: &Tables)
+        requires { HasPlaces tables.now.fixed.topology self.old }
+        ensures { IsChosen tables.now self.old self.new }
+    {
+        choose(tables, &mut self.states, &mut self.needs);
+        log_runs(tables, &mut self.runs);
+        self.power.recompute(&self.needs, &self.runs);
+    }
+
     /// Brings all that is kept up to date, and puts the units whose value isn't the one before into `moved`, the
     /// processors that are active now and were down by what is kept along the step into `starts`, and what
     /// happened to nodes into `notices`, in the order of the units.
@@ -90,30 +99,14 @@ impl Caches {
         starts: &mut BoundedList<Start>,
         notices: &mut BoundedList<Waiting>,
     )
-        requires places { HasPlaces tables.now.fixed.topology self.old }
-        requires room { length moved.old.items + length self.old.values ≤ moved.old.room }
-        requires starts { starts.old.items ≡ [] }
-        requires procs { length tables.now.fixed.topology.procs ≤ starts.old.room }
-        requires notices { notice_count (length self.old.values) ≤ notices.old.room }
+        requires { HasRoom tables.now.fixed.topology self.old moved.old starts.old notices.old }
         ensures kept { AreKept tables.now self.new }
-        ensures moved { moved.new ≡ record moved.old {
-          items = moved.old.items
-              ++ moved_by (value_by tables.now.fixed tables.now.now.core) self.old.kinds.items self.old.values;
-        } }
-        ensures starts { starts.new ≡ record starts.old {
-          items = starts_by along.now.downs tables.now.now.core.procs self.old.kinds.items self.old.values;
-        } }
-        ensures notices { notices.new ≡ record notices.old {
-          items = noticed_by (value_by tables.now.fixed tables.now.now.core)
-              (freed_by self.old.used.items tables.now.now.core.rows) self.old.kinds.items self.old.values;
-        } }
-        ensures few { length notices.new.items ≤ notice_count (length self.old.values) }
+        ensures found { Finds tables.now along.now.downs self.old moved.old moved.new starts.old starts.new
+            notices.old notices.new }
     {
         units_stand_in_order();
         kinds_are_exact();
-        choose(tables, &mut self.states, &mut self.needs);
-        log_runs(tables, &mut self.runs);
-        self.power.recompute(&self.needs, &self.runs);
+        self.choose(tables);
         let ups = self.power.ups();
         log_starts(along, &self.kinds, tables.procs(), &self.values, starts);
         notices.clear();
@@ -135,6 +128,30 @@ impl Caches {
             moved,
         );
         log_uses(tables, &mut self.used);
+    }
+
+    /// The same after a step, with nothing to do unless it had stages that may change the book.
+    pub fn follow(
+        &mut self,
+        changes: bool,
+        tables: &Tables,
+        along: &Along,
+        moved: &mut BoundedList<Unit>,
+        starts: &mut BoundedList<Start>,
+        notices: &mut BoundedList<Waiting>,
+    )
+        requires room { HasRoom tables.now.fixed.topology self.old moved.old starts.old notices.old }
+        requires still { changes ≡ false → IsStill tables.now along.now self.old }
+        ensures kept { AreKept tables.now self.new }
+        ensures found { Finds tables.now along.now.downs self.old moved.old moved.new starts.old starts.new
+            notices.old notices.new }
+    {
+        kinds_are_exact();
+        if changes {
+            self.update(tables, along, moved, starts, notices);
+        } else {
+            notices.clear();
+        }
     }
 }
 

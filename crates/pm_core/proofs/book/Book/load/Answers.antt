@@ -16,21 +16,26 @@ use Rattle.pm_values.proofs.CachesLaw.{moves_are}
 use Rattle.pm_core.proofs.StepLaw.{load_starts}
 use Rattle.pm_core.proofs.book.Book.load.Goals as goal
 
-pub update-requires-clause-room : goal.update-requires-clause-room
-update-requires-clause-room c =
+pub update-requires : goal.update-requires
+update-requires c =
     let zeros : length c.in_ok-caches.caches.values ≡ length (units_of c.in_ok-tables.tables.fixed.topology) =
     ap length c.in_ok-caches.ensures.zeros ∙ length-map (units_of c.in_ok-tables.tables.fixed.topology) (λ u. (u, 0))
     in
     let topology : length (units_of c.in_ok-tables.tables.fixed.topology) ≡ length (units_of c.args.topology) =
     ap (λ (b : State). length (units_of b.fixed.topology)) c.in_ok-tables.ensures.book
     in
+    let procs : length c.in_ok-tables.tables.fixed.topology.procs ≡ length c.args.topology.procs =
+    ap (λ (b : State). length b.fixed.topology.procs) c.in_ok-tables.ensures.book
+    in
     let few : length (units_of c.args.topology) ≤ entry_count c.args.topology = c.units_stand_in_order.ensures.few c.args.topology in
     let none = ap length c.clear.ensures.empty.moved in
-    omega (arith, zeros, topology, few, none, c.requires.room.moved, c.clear.ensures.room.moved)
-
-pub update-requires-clause-notices : goal.update-requires-clause-notices
-update-requires-clause-notices c =
-    omega (arith, c.units.ensures, c.in_ok-telling.ensures.notices)
+    record {
+      places = c.in_ok-caches.ensures.places;
+      room = omega (arith, zeros, topology, few, none, c.requires.room.moved, c.clear.ensures.room.moved);
+      none = c.clear.ensures.empty.starts;
+      procs = omega (arith, procs, c.requires.room.starts, c.clear.ensures.room.starts);
+      few = omega (arith, c.units.ensures, c.in_ok-telling.ensures.notices);
+    }
 
 -- where the room for what is told can't be had, nothing was put out since the outbox was cleared
 if_err : {T E : Type 0} {P : E → Type 0} (r : Result T E) → ((e : E) → P e) → IfErr r P
@@ -59,7 +64,7 @@ invariant_of-result c =
         along = load_places _ _ _ _ c.in_ok-telling.telling.along c.in_ok-telling.ensures.along c.masters.ensures
             (c.len-procs.ensures ∙ ap (λ (t : Topology). length t.procs) c.topology.ensures.topology);
         ended = omega (arith, c.masters.ensures, c.in_ok-telling.ensures.ended);
-        notices = omega (arith, zeros, c.units.ensures, c.in_ok-telling.ensures.notices, ap (λ (l : Bounded Waiting). l.room) c.update.ensures.notices);
+        notices = omega (arith, zeros, c.units.ensures, c.in_ok-telling.ensures.notices, ap (λ (l : Bounded Waiting). l.room) c.update.ensures.found.notices);
       },
     )
 
@@ -73,10 +78,10 @@ returns-clause-out c =
     let book = c.in_ok-tables.tables in
     let caches = c.in_ok-caches.caches in
     record {
-      moved = ap (λ (s : Bounded Unit). s.items) c.update.ensures.moved ∙ (
+      moved = ap (λ (s : Bounded Unit). s.items) c.update.ensures.found.moved ∙ (
           ap (λ xs. xs ++ moved_by (value_by book.fixed book.now.core) caches.kinds.items caches.values) c.clear.ensures.empty.moved
           ∙ moves_are book (λ _. 0) caches.kinds.items caches.values c.in_ok-caches.ensures.places.kinds c.in_ok-caches.ensures.zeros);
-      starts = ap (λ (s : Bounded Start). s.items) c.update.ensures.starts
+      starts = ap (λ (s : Bounded Start). s.items) c.update.ensures.found.starts
           ∙ load_starts book _ _ c.in_ok-telling.telling.along caches.kinds.items caches.values c.in_ok-telling.ensures.along c.in_ok-caches.ensures.places.kinds c.in_ok-caches.ensures.zeros;
       pulse = c.clear.ensures.empty.pulse;
       late = c.clear.ensures.empty.late;

@@ -1,7 +1,8 @@
-use Rattle.std.proofs.Common.{◌≡◌, ◌≤◌, ◌++◌, ◌∷◌, length, sym, ◌∙◌, ap, subst, arith}
+use Rattle.std.proofs.Common.{◌≡◌, ◌≤◌, ◌++◌, ◌∷◌, [], List, length, sym, ◌∙◌, ap, subst, arith}
 use Rattle.std.proofs.lemmas.List.{length-map}
 use Rattle.pm_base.specs.declared.names.Unit.{Unit}
 use Rattle.pm_notify.specs.declared.notes.Waiting.{Waiting}
+use Rattle.pm_topology.specs.declared.topology.Topology.{Topology}
 use Rattle.pm_topology.specs.Units.{units_of, entry_count}
 use Rattle.pm_values.specs.Caches.{AreKept, moved_by, value_by}
 use Rattle.pm_tell.specs.Callbacks.{callbacks, late_replies}
@@ -12,10 +13,10 @@ use Rattle.pm_state.specs.Sound.{AreNotes, IsBook}
 use Rattle.pm_tell.specs.declared.callbacks.Callback.{Callback}
 use Rattle.pm_tell.specs.declared.late.Late.{Late}
 use Rattle.pm_values.specs.declared.starts.Start.{Start}
-use Rattle.pm_state.specs.Stages.{after_stages}
+use Rattle.pm_state.specs.Stages.{after_stages, path_from}
 use Rattle.pm_values.specs.Starts.{starts, was_down}
 use Rattle.pm_state.specs.State.{State, in_force}
-use Rattle.pm_core.specs.Step.{effect, ended, served, modes_in, news, opening, path, pulse, stages, answer_by, answer_to}
+use Rattle.pm_core.specs.Step.{effect, ended, may_change, served, modes_in, news, opening, path, pulse, stages, answer_by, answer_to}
 use Rattle.pm_tell.specs.Telling.{notes_after, tellings, HasPlaces, news_in, opening_in}
 use Rattle.pm_tell.specs.Ended.{ended_from}
 use Rattle.pm_values.specs.Notifications.{notifications}
@@ -25,26 +26,48 @@ use Rattle.pm_calls.specs.Verdict.{aborted_by}
 use Rattle.pm_values.proofs.CachesLaw.{kept_places, kept_talked}
 use Rattle.pm_core.proofs.EndedLaw.{IsTold, stages_talk, step_told}
 use Rattle.pm_values.proofs.NoticesLaw.{notices_are}
-use Rattle.pm_core.proofs.Refused.{refused_stays}
+use Rattle.pm_core.proofs.Refused.{none_staged, refused_stays}
 use Rattle.pm_core.proofs.SoundSteps.{kept_by}
 use Rattle.pm_core.proofs.StepLaw.{step_moves, step_starts}
 use Rattle.pm_core.proofs.book.Book.step.Goals as goal
 
-pub update-requires-clause-places : goal.update-requires-clause-places
-update-requires-clause-places c =
-    kept_places c.self.inside.tables c.self.inside.caches c.advance-served.new.tables.fixed.topology
-    (ap (λ (b : State). b.fixed.topology) c.advance-served.ensures.book) c.self.invariant.1
-
-pub update-requires-clause-room : goal.update-requires-clause-room
-update-requires-clause-room c =
+pub follow-requires-clause-room : goal.follow-requires-clause-room
+follow-requires-clause-room c =
     let old = c.self.inside.tables in
+    let topology = ap (λ (b : State). b.fixed.topology) c.advance-served.ensures.book in
     let values : length c.self.inside.caches.values ≡ length (units old) =
     ap length c.self.invariant.1.values ∙ length-map (units old) (λ u. (u, value u old))
     in
     let same : length (units old) ≡ length (units_of c.args.self.now.fixed.topology) = ap (λ (b : State). length (units b)) c.self.view_is in
+    let procs : length c.advance-served.new.tables.fixed.topology.procs ≡ length c.args.self.now.fixed.topology.procs =
+    ap (λ (t : Topology). length t.procs) topology ∙ ap (λ (b : State). length b.fixed.topology.procs) c.self.view_is
+    in
     let few : length (units_of c.args.self.now.fixed.topology) ≤ entry_count c.args.self.now.fixed.topology = c.units_stand_in_order.ensures.few c.args.self.now.fixed.topology in
     let none = ap length c.clear.ensures.empty.moved in
-    omega (arith, values, same, few, none, c.requires.room.moved, c.clear.ensures.room.moved)
+    record {
+      places = kept_places old c.self.inside.caches c.advance-served.new.tables.fixed.topology topology c.self.invariant.1;
+      room = omega (arith, values, same, few, none, c.requires.room.moved, c.clear.ensures.room.moved);
+      none = c.clear.ensures.empty.starts;
+      procs = omega (arith, procs, c.requires.room.starts, c.clear.ensures.room.starts);
+      few = omega (arith, values, c.self.invariant.2.notices, ap (λ (l : Bounded _). l.room) c.advance-served.ensures.notices);
+    }
+
+-- where the event may have no stage, the book after its stages is the one before them
+pub follow-requires-clause-still : goal.follow-requires-clause-still
+follow-requires-clause-still c = λ stays.
+    let event = c.args.event.now in
+    let old = c.self.inside.tables in
+    let none : stages event old ≡ [] =
+    none_staged event old (ap (may_change event) (sym c.advance-served.ensures.served) ∙ (sym c.may_change.ensures ∙ stays))
+    in
+    let is : c.advance-served.new.tables ≡ old = c.advance-served.ensures.book ∙ ap (λ ss. after_stages ss old) none in
+    let Kept : State → Type 0 = λ b. AreKept b c.self.inside.caches in
+    let Logged : List State → Type 0 = λ books. IsTrail old books c.advance-served.new.telling.along in
+    let From : State → Type 0 = λ b. IsTrail b [] c.advance-served.new.telling.along in
+    record {
+      kept = subst Kept (sym is) c.self.invariant.1;
+      trail = subst From (sym is) (subst Logged (ap (λ ss. path_from ss old) none) c.advance-served.ensures.along);
+    }
 
 pub tell-requires-clause-each : goal.tell-requires-clause-each
 tell-requires-clause-each c =
@@ -53,14 +76,6 @@ tell-requires-clause-each c =
     ∙ (ap (λ t. length t.pending) (stages_talk (stages c.args.event.now old) old)
     ∙ (c.self.invariant.0.sound.pending.each
     ∙ sym (ap (λ (b : State). length (in_force b).masters) c.advance-served.ensures.book)))
-
-pub update-requires-clause-notices : goal.update-requires-clause-notices
-update-requires-clause-notices c =
-    let old = c.self.inside.tables in
-    let values : length c.self.inside.caches.values ≡ length (units old) =
-    ap length c.self.invariant.1.values ∙ length-map (units old) (λ u. (u, value u old))
-    in
-    omega (arith, values, c.self.invariant.2.notices, ap (λ (l : Bounded _). l.room) c.advance-served.ensures.notices)
 
 pub tell-requires-clause-notes : goal.tell-requires-clause-notes
 tell-requires-clause-notes c =
@@ -77,7 +92,7 @@ tell-requires-clause-few c =
     in
     let same : length (units c.advance-served.new.tables) ≡ length (units old) = ap (λ (b : State). length (units b)) c.advance-served.ensures.book in
     let few : length (units c.advance-served.new.tables) ≤ entry_count c.advance-served.new.tables.fixed.topology = c.units_stand_in_order.ensures.few c.advance-served.new.tables.fixed.topology in
-    omega (arith, values, same, few, c.update.ensures.few)
+    omega (arith, values, same, few, c.follow.ensures.found.few)
 
 pub tell-requires-clause-places : goal.tell-requires-clause-places
 tell-requires-clause-places c =
@@ -86,7 +101,7 @@ tell-requires-clause-places c =
       modes = places.modes;
       along = places.along;
       ended = places.ended;
-      notices = omega (arith, places.notices, ap (λ (l : Bounded Waiting). l.room) c.update.ensures.notices);
+      notices = omega (arith, places.notices, ap (λ (l : Bounded Waiting). l.room) c.follow.ensures.found.notices);
     }
 
 -- what was logged until the masters were told
@@ -109,7 +124,7 @@ told c =
       ended_are = c.tell.ensures.ended
           ∙ ap (λ (n : Trail). ended_from (λ m. turns_logged m n.turns) (aborted_by (says_in c.advance-served.result)) c.time_of-count.result 0 mid.now.talk.pending)
           (sym c.tell.ensures.along);
-      notices_are = ap (λ (l : Bounded Waiting). l.items) (c.tell.ensures.notices ∙ c.update.ensures.notices)
+      notices_are = ap (λ (l : Bounded Waiting). l.items) (c.tell.ensures.notices ∙ c.follow.ensures.found.notices)
           ∙ (notices_are c.kinds_are_exact.ensures old mid caches.kinds.items caches.used.items caches.values fixed c.self.invariant.1.kinds c.self.invariant.1.used c.self.invariant.1.values
           ∙ ap (notifications old) c.advance-served.ensures.book);
     })
@@ -120,8 +135,8 @@ answer-out-requires c =
     let mid = c.advance-served.new.tables in
     let telling = c.tell.new.telling in
     let changes = tellings (news_in telling) (mode_logged telling.modes.items) (opening_in telling (says_in c.advance-served.result) c.time_of-count.result mid) c.advance-served.result mid in
-    let P : State → Type 0 = λ b. AreKept b c.update.new.self in
-    subst P (sym c.tell.ensures.book) (kept_talked changes mid c.update.new.self c.update.ensures.kept)
+    let P : State → Type 0 = λ b. AreKept b c.follow.new.self in
+    subst P (sym c.tell.ensures.book) (kept_talked changes mid c.follow.new.self c.follow.ensures.kept)
 
 pub invariant_of-self : goal.invariant_of-self
 invariant_of-self c =
@@ -131,10 +146,10 @@ invariant_of-self c =
     let new = c.tell.new.tables in
     let telling = c.tell.new.telling in
     let changes = tellings (news_in telling) (mode_logged telling.modes.items) (opening_in telling (says_in c.advance-served.result) c.time_of-count.result mid) c.advance-served.result mid in
-    let P : State → Type 0 = λ b. AreKept b c.update.new.self in
+    let P : State → Type 0 = λ b. AreKept b c.follow.new.self in
     let Q : State → Type 0 = λ b. HasPlaces b.fixed.topology (length (in_force b).masters) telling in (
       kept_by c.books_stay_sound.ensures.step event old new (told c).book c.self.invariant.0,
-      subst P (sym c.tell.ensures.book) (kept_talked changes mid c.update.new.self c.update.ensures.kept),
+      subst P (sym c.tell.ensures.book) (kept_talked changes mid c.follow.new.self c.follow.ensures.kept),
       subst Q (sym c.tell.ensures.book) c.tell.ensures.places,
     )
 
@@ -167,12 +182,12 @@ returns-clause-out c =
     let caches = c.self.inside.caches in
     let told_callbacks = callbacks (news_in telling) (mode_logged telling.modes.items) (notes_after (opening_in telling (says_in c.advance-served.result) c.time_of-count.result mid) mid) new in
     record {
-      moved = ap (λ (s : Bounded Unit). s.items) c.update.ensures.moved ∙ (
+      moved = ap (λ (s : Bounded Unit). s.items) c.follow.ensures.found.moved ∙ (
           ap (λ xs. xs ++ moved_by (value_by mid.fixed mid.now.core) caches.kinds.items caches.values) c.clear.ensures.empty.moved
           ∙ (step_moves event old mid caches.kinds.items caches.values c.advance-served.ensures.book c.self.invariant.1.kinds c.self.invariant.1.values
           ∙ ap (λ (b : State). moved (λ u. value u b) (effect event b)) c.self.view_is));
       pulse = c.pulse_in-out.ensures ∙ (ap pulse_in c.advance-served.ensures.served ∙ ap (pulse event) c.self.view_is);
-      starts = ap (λ (s : Bounded Start). s.items) c.update.ensures.starts
+      starts = ap (λ (s : Bounded Start). s.items) c.follow.ensures.found.starts
           ∙ (step_starts c.kinds_are_exact.ensures event old mid c.advance-served.new.telling.along caches.kinds.items caches.values c.advance-served.ensures.book c.advance-served.ensures.along c.self.invariant.1.kinds c.self.invariant.1.values
           ∙ ap (λ (b : State). starts (was_down (b ∷ path event b)) (effect event b)) c.self.view_is);
       late = ap (λ (s : Bounded Late). s.items) c.tell.ensures.late

@@ -3,10 +3,13 @@ use Rattle.pm_base.specs.declared.names.Unit.{Unit}
 use Rattle.pm_values.specs.declared.caches.UnitKind.{UnitKind}
 use Rattle.pm_power.specs.Forest.{ups}
 use Rattle.pm_notify.specs.declared.notes.Waiting.{Waiting}
+use Rattle.pm_topology.specs.UnitMap.{units_in}
+use Rattle.pm_values.specs.declared.starts.Start.{Start}
+use Rattle.pm_values.specs.Notifications.{notice_count}
 use Rattle.pm_values.specs.Caches.{freed_by, moved_by, noticed_by, starts_by, unit_value, use_of, value_by}
 use Rattle.pm_base.specs.BoundedList.{Bounded}
-use Rattle.pm_state.specs.Values.{placed, chosen, need_of, run_of, forest}
-use Rattle.pm_values.proofs.CachesLaw.{written_back, forest_is, valued_is, unit_value_is}
+use Rattle.pm_state.specs.Values.{placed, chosen}
+use Rattle.pm_values.proofs.CachesLaw.{written_back, valued_is, unit_value_is}
 use Rattle.pm_values.proofs.MovesLemmas.{moved_by-same}
 use Rattle.pm_values.proofs.NoticesLaw.{noticed_by-same}
 use Rattle.pm_state.proofs.PlacedLemmas.{length-placed}
@@ -17,96 +20,69 @@ pub log_starts-requires-clause-room : goal.log_starts-requires-clause-room
 log_starts-requires-clause-room c =
     let t = c.args.tables.now.fixed.topology in
     let procs = c.procs.result.now.procs in
-    let none = ap length c.requires.starts in
+    let none = ap length c.requires.none in
     let downs = c.args.along.now.downs in
-    let few : length (starts_by downs procs c.deref-3.result.now c.args.self.now.values) ≤ length t.procs =
-    starts_few c.units_stand_in_order.ensures c.kinds_are_exact.ensures t downs procs c.deref-3.result.now c.args.self.now.values
-    (c.deref-3.ensures.value ∙ c.requires.places.kinds)
+    let few : length (starts_by downs procs c.deref.result.now c.choose.new.self.values) ≤ length t.procs =
+    starts_few c.units_stand_in_order.ensures c.kinds_are_exact.ensures t downs procs c.deref.result.now c.choose.new.self.values
+    (c.deref.ensures.value ∙ (c.choose.ensures.kinds ∙ c.requires.places.kinds))
     in
     omega (arith, none, few, c.requires.procs)
 
--- the states are written, and the needs, and which processors run
-states_are : (c : goal.After-self-4-1) → take c.args.self.now.states.len (c.choose.new.states ++ drop (length c.choose.new.states) c.args.self.now.states.items) ≡ placed (chosen c.args.tables.now.now.core) 0 c.args.tables.now.fixed.topology.slaves
-states_are c =
-    let places : length c.choose.new.states ≡ c.args.self.now.states.len =
-    ap length c.choose.ensures.states ∙ (length-placed (chosen c.args.tables.now.now.core) 0 c.args.tables.now.fixed.topology.slaves
-    ∙ (sym c.requires.places.states ∙ (ap length (sym c.deref_mut.ensures.value) ∙ c.deref_mut.ensures.len)))
-    in
-    written_back c.choose.new.states c.args.self.now.states.items c.args.self.now.states.len places ∙ c.choose.ensures.states
-
-needs_are : (c : goal.After-self-4-1) → take c.args.self.now.needs.len (c.choose.new.needs ++ drop (length c.choose.new.needs) c.args.self.now.needs.items) ≡ placed (need_of c.args.tables.now.now.core) 0 c.args.tables.now.fixed.topology.slaves
-needs_are c =
-    let places : length c.choose.new.needs ≡ c.args.self.now.needs.len =
-    ap length c.choose.ensures.needs ∙ (length-placed (need_of c.args.tables.now.now.core) 0 c.args.tables.now.fixed.topology.slaves
-    ∙ (sym c.requires.places.needs ∙ (ap length (sym c.deref_mut-2.ensures.value) ∙ c.deref_mut-2.ensures.len)))
-    in
-    written_back c.choose.new.needs c.args.self.now.needs.items c.args.self.now.needs.len places ∙ c.choose.ensures.needs
-
-runs_are : (c : goal.After-self-4-1) → take c.args.self.now.runs.len (c.log_runs.new.runs ++ drop (length c.log_runs.new.runs) c.args.self.now.runs.items) ≡ placed (run_of c.args.tables.now.now.core) 0 c.args.tables.now.fixed.topology.procs
-runs_are c =
-    let places : length c.log_runs.new.runs ≡ c.args.self.now.runs.len =
-    ap length c.log_runs.ensures ∙ (length-placed (run_of c.args.tables.now.now.core) 0 c.args.tables.now.fixed.topology.procs
-    ∙ (sym c.requires.places.runs ∙ (ap length (sym c.deref_mut-3.ensures.value) ∙ c.deref_mut-3.ensures.len)))
-    in
-    written_back c.log_runs.new.runs c.args.self.now.runs.items c.args.self.now.runs.len places ∙ c.log_runs.ensures
-
-used_is : (c : goal.After-self-4-1) → take c.args.self.now.used.len (c.log_uses.new.used ++ drop (length c.log_uses.new.used) c.args.self.now.used.items) ≡ placed (use_of c.args.tables.now.now.core) 0 c.args.tables.now.fixed.topology.slaves
+-- whether each slave is used is written
+used_is : (c : goal.After-self-1) → take c.choose.new.self.used.len (c.log_uses.new.used ++ drop (length c.log_uses.new.used) c.choose.new.self.used.items) ≡ placed (use_of c.args.tables.now.now.core) 0 c.args.tables.now.fixed.topology.slaves
 used_is c =
-    let places : length c.log_uses.new.used ≡ c.args.self.now.used.len =
+    let places : length c.log_uses.new.used ≡ c.choose.new.self.used.len =
     ap length c.log_uses.ensures ∙ (length-placed (use_of c.args.tables.now.now.core) 0 c.args.tables.now.fixed.topology.slaves
-    ∙ (sym c.requires.places.used ∙ (ap length (sym c.deref_mut-4.ensures.value) ∙ c.deref_mut-4.ensures.len)))
+    ∙ (sym c.requires.places.used ∙ (ap length (sym (c.deref_mut.ensures.value ∙ c.choose.ensures.used)) ∙ c.deref_mut.ensures.len)))
     in
-    written_back c.log_uses.new.used c.args.self.now.used.items c.args.self.now.used.len places ∙ c.log_uses.ensures
-
--- and so the power nodes are those of the book
-power_is : (c : goal.After-self-4-1) → c.recompute.new.self ≡ forest c.args.tables.now.fixed c.args.tables.now.now.core
-power_is c =
-    c.recompute.ensures
-    ∙ forest_is c.args.tables.now.fixed c.args.tables.now.now.core c.args.self.now.power c.deref.result.now c.deref-2.result.now
-    (c.deref.ensures.value ∙ needs_are c) (c.deref-2.ensures.value ∙ runs_are c) c.requires.places.powers c.requires.places.children
+    written_back c.log_uses.new.used c.choose.new.self.used.items c.choose.new.self.used.len places ∙ c.log_uses.ensures
 
 pub returns-clause-kept : goal.returns-clause-kept
 returns-clause-kept c =
+    let book = c.args.tables.now in
     record {
-      kinds = c.requires.places.kinds;
-      states = states_are c;
-      needs = needs_are c;
-      runs = runs_are c;
+      kinds = c.choose.ensures.kinds ∙ c.requires.places.kinds;
+      states = c.choose.ensures.states;
+      needs = c.choose.ensures.needs;
+      runs = c.choose.ensures.runs;
       used = used_is c;
-      power = power_is c;
+      power = c.choose.ensures.power;
       values = c.log_moves.ensures.values
-          ∙ valued_is c.args.tables.now c.deref-8.result.now c.args.tables.now.now.core.procs c.ups-ups.result.now c.args.tables.now.now.core.lines c.deref-7.result.now c.args.self.now.values
-          (c.deref-8.ensures.value ∙ states_are c) refl (c.ups-ups.ensures ∙ ap ups (power_is c)) refl
-          c.requires.places.units (c.deref-7.ensures.value ∙ c.requires.places.kinds);
+          ∙ valued_is book c.deref-6.result.now book.now.core.procs c.ups-ups.result.now book.now.core.lines c.deref-5.result.now c.choose.new.self.values
+          (c.deref-6.ensures.value ∙ c.choose.ensures.states) refl (c.ups-ups.ensures ∙ ap ups c.choose.ensures.power) refl
+          (ap units_in c.choose.ensures.values ∙ c.requires.places.units) (c.deref-5.ensures.value ∙ (c.choose.ensures.kinds ∙ c.requires.places.kinds));
     }
 
-pub returns-clause-moved : goal.returns-clause-moved
-returns-clause-moved c =
+pub returns-clause-found : goal.returns-clause-found
+returns-clause-found c =
     let book = c.args.tables.now in
     let old = c.args.self.now in
-    let before = c.args.moved.now in
-    let with : List Unit → Bounded Unit = λ items. record before { items = before.items ++ items } in
-    let new : UnitKind → ℕ = unit_value c.deref-8.result.now c.args.tables.now.now.core.procs c.ups-ups.result.now c.args.tables.now.now.core.lines in
-    c.log_moves.ensures.moved
-    ∙ (ap (λ ks. with (moved_by new ks old.values)) c.deref-7.ensures.value
-    ∙ ap with (moved_by-same new (value_by book.fixed book.now.core)
-    (unit_value_is book.fixed book.now.core c.deref-8.result.now c.args.tables.now.now.core.procs c.ups-ups.result.now c.args.tables.now.now.core.lines
-    (c.deref-8.ensures.value ∙ states_are c) refl (c.ups-ups.ensures ∙ ap ups (power_is c)) refl)
-    old.kinds.items old.values))
-
-pub returns-clause-notices : goal.returns-clause-notices
-returns-clause-notices c =
-    let book = c.args.tables.now in
-    let old = c.args.self.now in
-    let before = c.args.notices.now in
-    let with : List Waiting → Bounded Waiting = λ items. record before { items = items } in
-    let new : UnitKind → ℕ = unit_value c.deref-5.result.now c.args.tables.now.now.core.procs c.ups-ups.result.now c.args.tables.now.now.core.lines in
+    let new_by : List ℕ → UnitKind → ℕ = λ states. unit_value states book.now.core.procs c.ups-ups.result.now book.now.core.lines in
+    let is : (states : List ℕ) → states ≡ placed (chosen book.now.core) 0 book.fixed.topology.slaves → (kind : UnitKind) → new_by states kind ≡ value_by book.fixed book.now.core kind =
+    λ states are. unit_value_is book.fixed book.now.core states book.now.core.procs c.ups-ups.result.now book.now.core.lines are refl (c.ups-ups.ensures ∙ ap ups c.choose.ensures.power) refl
+    in
+    let moved_to : List Unit → Bounded Unit = λ items. record c.args.moved.now { items = c.args.moved.now.items ++ items } in
+    let started_to : List Start → Bounded Start = λ items. record c.args.starts.now { items = items } in
+    let noticed_to : List Waiting → Bounded Waiting = λ items. record c.args.notices.now { items = items } in
     let freed : UnitKind → Bool = freed_by old.used.items book.now.core.rows in
-    c.log_notices.ensures.notices
-    ∙ (ap (λ (s : Bounded Waiting). record s { items = s.items ++ noticed_by new (freed_by c.deref-6.result.now book.now.core.rows) c.deref-4.result.now old.values }) c.clear.ensures
-    ∙ (ap (λ us. with (noticed_by new (freed_by us book.now.core.rows) c.deref-4.result.now old.values)) c.deref-6.ensures.value
-    ∙ (ap (λ ks. with (noticed_by new freed ks old.values)) c.deref-4.ensures.value
-    ∙ ap with (noticed_by-same new (value_by book.fixed book.now.core) freed
-    (unit_value_is book.fixed book.now.core c.deref-5.result.now c.args.tables.now.now.core.procs c.ups-ups.result.now c.args.tables.now.now.core.lines
-    (c.deref-5.ensures.value ∙ states_are c) refl (c.ups-ups.ensures ∙ ap ups (power_is c)) refl)
-    old.kinds.items old.values))))
+    record {
+      moved = c.log_moves.ensures.moved
+          ∙ (ap (λ ks. moved_to (moved_by (new_by c.deref-6.result.now) ks c.choose.new.self.values)) (c.deref-5.ensures.value ∙ c.choose.ensures.kinds)
+          ∙ (ap (λ vs. moved_to (moved_by (new_by c.deref-6.result.now) old.kinds.items vs)) c.choose.ensures.values
+          ∙ ap moved_to (moved_by-same (new_by c.deref-6.result.now) (value_by book.fixed book.now.core) (is c.deref-6.result.now (c.deref-6.ensures.value ∙ c.choose.ensures.states)) old.kinds.items old.values)));
+      starts = c.log_starts.ensures
+          ∙ (ap (λ ss. started_to (ss ++ starts_by c.args.along.now.downs c.procs.result.now.procs c.deref.result.now c.choose.new.self.values)) c.requires.none
+          ∙ (ap (λ ps. started_to (starts_by c.args.along.now.downs ps c.deref.result.now c.choose.new.self.values)) c.procs.ensures.procs
+          ∙ (ap (λ ks. started_to (starts_by c.args.along.now.downs book.now.core.procs ks c.choose.new.self.values)) (c.deref.ensures.value ∙ c.choose.ensures.kinds)
+          ∙ ap (λ vs. started_to (starts_by c.args.along.now.downs book.now.core.procs old.kinds.items vs)) c.choose.ensures.values)));
+      notices = c.log_notices.ensures.notices
+          ∙ (ap (λ (s : Bounded Waiting). record s { items = s.items ++ noticed_by (new_by c.deref-3.result.now) (freed_by c.deref-4.result.now book.now.core.rows) c.deref-2.result.now c.choose.new.self.values }) c.clear.ensures
+          ∙ (ap (λ us. noticed_to (noticed_by (new_by c.deref-3.result.now) (freed_by us book.now.core.rows) c.deref-2.result.now c.choose.new.self.values)) (c.deref-4.ensures.value ∙ c.choose.ensures.used)
+          ∙ (ap (λ ks. noticed_to (noticed_by (new_by c.deref-3.result.now) freed ks c.choose.new.self.values)) (c.deref-2.ensures.value ∙ c.choose.ensures.kinds)
+          ∙ (ap (λ vs. noticed_to (noticed_by (new_by c.deref-3.result.now) freed old.kinds.items vs)) c.choose.ensures.values
+          ∙ ap noticed_to (noticed_by-same (new_by c.deref-3.result.now) (value_by book.fixed book.now.core) freed (is c.deref-3.result.now (c.deref-3.ensures.value ∙ c.choose.ensures.states)) old.kinds.items old.values)))));
+      few =
+          let empty : length c.clear.new.self.items ≡ 0 = ap (λ (s : Bounded Waiting). length s.items) c.clear.ensures in
+          let same : notice_count (length c.choose.new.self.values) ≡ notice_count (length old.values) = ap (λ vs. notice_count (length vs)) c.choose.ensures.values in
+          omega (arith, empty, same, c.log_notices.ensures.few);
+    }

@@ -3,7 +3,7 @@ use Rattle.std.specs.Prelude.{count_by}
 use Rattle.pm_rows.specs.Rows.{Rows, is_at}
 use Rattle.pm_rows.specs.Counted.{permitted_on}
 use Rattle.pm_rows.proofs.Turns.{change_costs}
-use Rattle.pm_rows.proofs.rows.Rows.count_change.Goals as goal
+use Rattle.pm_rows.proofs.rows.Rows.change.Goals as goal
 
 pub returns-clause-cost : goal.returns-clause-cost
 returns-clause-cost g c =

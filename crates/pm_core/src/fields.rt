@@ -1,0 +1,58 @@
+//! Which fields the book has.
+
+ghost use Rattle.std.specs.Prelude.{IfOk};
+ghost use Rattle.pm_topology.specs.Masters.{ObeysMasterRules};
+ghost use Rattle.pm_topology.specs.WellFormed.{IsWellFormed};
+
+use crate::book::Book;
+use crate::outbox::Outbox;
+use pm_base::{List, NoMemory};
+use pm_object::Object;
+use pm_topology::{Topology, zynqmp};
+use std::alloc::Global;
+use std::test::Fail;
+
+/// Takes a book apart by a pattern that names every field and has no rest. The rows of the book are in its
+/// `Rows` alone, among the tables: what is kept of the values has no row, and what is logged of a step has
+/// none either. A further field has to be named here, so that nobody adds a second copy of the rows unseen.
+fn take_apart(book: &Book) {
+    let Book {
+        tables: _,
+        caches: _,
+        telling: _,
+    } = book;
+}
+
+fn chip(alloc: Global) -> Result<Topology, NoMemory>
+    ensures formed { IfOk result IsWellFormed }
+    ensures masters { IfOk result ObeysMasterRules }
+{
+    zynqmp(alloc)
+}
+
+/// An object that configures no master.
+fn empty_object(alloc: Global) -> Object {
+    Object {
+        extra: List::new(alloc),
+        order: List::new(alloc),
+        masters: List::new(alloc),
+        slaves: List::new(alloc),
+        groups: List::new(alloc),
+        power: List::new(alloc),
+        reset: List::new(alloc),
+        shutdown: List::new(alloc),
+        base_mask: 0,
+        overlay_mask: 0,
+        gpo: 0,
+    }
+}
+
+#[test]
+fn book_fields(rt: HostRuntime) -> Result<(), Fail> {
+    let chip = chip(rt.alloc())?;
+    let object = empty_object(rt.alloc());
+    let mut out = Outbox::load(rt.alloc(), &chip, object.masters.len())?;
+    let book = Book::load(rt.alloc(), object, chip, &mut out)?;
+    take_apart(&book);
+    Ok(())
+}
