@@ -30,30 +30,32 @@ pub record IsCarried {D : Type 0} (Does : Act → D → D → Type 0) (kept now 
   pub given : Chain Does (orders_in after) old new
   pub safe : IsSafe kept book (part_in now after)
 
-module _ {D : Type 0} (Does : Act → D → D → Type 0) (kept left now : Kept) (book : State) (before after : Outbox) (old new : D) where
+module _ {D : Type 0} (Does : Act → D → D → Type 0) (kept start left now : Kept) (book : State) (before after : Outbox) (old new : D) where
   -- the record that is left and the outbox are the part of the step
-  part_is : plan book.fixed.topology (λ u. value u book) (turns_of book.fixed.topology before.pulse) kept (answers_in after) ≡ record { done = after.done.items; kept = left }
+  part_is : plan book.fixed.topology (λ u. value u book) (turns_of book.fixed.topology before.pulse) start (answers_in after) ≡ record { done = after.done.items; kept = left }
       → now ≡ marked (λ u. value u book) left
       → after.answer ≡ before.answer
-      → part_in now after ≡ part_of kept (answers_in after) book (outputs_in before)
+      → part_in now after ≡ part_of start (answers_in after) book (outputs_in before)
   part_is planned marks answer =
       let values : Unit → ℕ = λ u. value u book in
       ap (λ (kept : Kept). part_in kept after) marks
       ∙ ap (λ answer. record { commands = after.done.items; kept = marked values left; answer = answer }) answer
       ∙ sym (ap (λ (c : Carried). record { commands = c.done; kept = marked values c.kept; answer = before.answer }) planned)
 
-  -- the turns of a step were taken, and then the record was marked; each part of the step is safe
+  -- the turns of a step were taken from a record that comes to the same, and then the record was marked; each part of the
+  -- step is safe
   pub carried : ((answers : List Bool) (outputs : Outputs) → IsSafe kept book (part_of kept answers book outputs))
+      → ((answers : List Bool) (outputs : Outputs) → part_of start answers book outputs ≡ part_of kept answers book outputs)
       → before.done.items ≡ []
-      → Takes Does book.fixed.topology (λ u. value u book) (turns_of book.fixed.topology before.pulse) kept left before.done.items after.done.items old new
+      → Takes Does book.fixed.topology (λ u. value u book) (turns_of book.fixed.topology before.pulse) start left before.done.items after.done.items old new
       → KeepsRest before after
       → now ≡ marked (λ u. value u book) left
       → IsCarried Does kept now book before after old new
-  carried safe fresh takes rest marks =
+  carried safe same fresh takes rest marks =
       let all : takes.done ≡ after.done.items = sym (takes.put ∙ ap (λ done. done ++ takes.done) fresh) in
-      let Planned : List Done → Type 0 = λ done. plan book.fixed.topology (λ u. value u book) (turns_of book.fixed.topology before.pulse) kept (answers_of done) ≡ record { done = done; kept = left } in
+      let Planned : List Done → Type 0 = λ done. plan book.fixed.topology (λ u. value u book) (turns_of book.fixed.topology before.pulse) start (answers_of done) ≡ record { done = done; kept = left } in
       let Given : List Done → Type 0 = λ done. Chain Does (orders_of done) old new in
-      let part = part_is (subst Planned all takes.planned) marks rest.answer in
+      let part = part_is (subst Planned all takes.planned) marks rest.answer ∙ same (answers_in after) (outputs_in before) in
       record {
         part = part;
         given = subst Given all takes.given;

@@ -19,3 +19,8 @@ pub mod StepLaw
 pub mod TakesLemmas
 pub mod TurnsLemmas
 pub mod UsedLemmas
+pub mod VisitsLemmas
+pub mod AlikeLemmas
+pub mod IdleLemmas
+pub mod ExpectLemmas
+pub mod MovedLemmas

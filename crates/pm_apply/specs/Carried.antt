@@ -1,9 +1,9 @@
 -- What some turns of a step did: to the list of commands, the record and the device.
-use Rattle.std.specs.Prelude.{◌≡◌, ℕ, ◌==◌, true, not, List, ◌++◌}
+use Rattle.std.specs.Prelude.{◌≡◌, ℕ, ◌==◌, ◌⊎◌, true, not, List, ◌++◌}
 use Rattle.pm_base.specs.declared.names.Unit.{Unit}
 use Rattle.pm_topology.specs.declared.topology.Topology.{Topology}
 use Rattle.pm_device.specs.Act.{Act, Chain}
-use Rattle.pm_topology.specs.Units.{has_unit}
+use Rattle.pm_topology.specs.Units.{has_in, has_unit}
 use Rattle.pm_core.specs.declared.outbox.Done.{Done}
 use Rattle.pm_core.specs.declared.outbox.Outbox.{Outbox}
 use Rattle.pm_apply.specs.declared.turns.Turn.{Turn}
@@ -33,3 +33,8 @@ pub record KeepsRest (before after : Outbox) : Type 0 where
 -- the marks of a record: each unit of the chip lags exactly where its value isn't this one
 abbrev pub AreMarked : Topology → (Unit → ℕ) → Kept → Type 0
 AreMarked t values kept = (unit : Unit) → has_unit t unit ≡ true → lags_in kept unit ≡ not (kept_value kept unit == values unit)
+
+-- what a step finds: each unit of the chip is one of these that moved, or lags, or has this value in the record
+abbrev pub DifferencesAreMarked : Topology → (Unit → ℕ) → List Unit → Kept → Type 0
+DifferencesAreMarked t values moved kept = (unit : Unit) → has_unit t unit ≡ true
+    → (has_in moved unit ≡ true) ⊎ ((lags_in kept unit ≡ true) ⊎ (kept_value kept unit ≡ values unit))

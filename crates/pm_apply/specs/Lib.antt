@@ -4,3 +4,4 @@ pub mod Part
 pub mod Plan
 pub mod Record
 pub mod Room
+pub mod Visits

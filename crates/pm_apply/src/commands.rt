@@ -1,24 +1,27 @@
 //! A device is made to follow the book.
 
-ghost use Rattle.std.specs.Prelude.{◌≡◌, ◌+◌, ◌<◌, ◌≤◌, ◌∷◌, [], IfSome, length, option_to_list};
+ghost use Rattle.std.specs.Prelude.{◌≡◌, ◌+◌, ◌<◌, ◌≤◌, ◌∷◌, [], IfSome, length, option_to_list, slice_get};
+ghost use Rattle.pm_topology.specs.UnitMap.{units_in};
+ghost use Rattle.pm_topology.specs.Units.{units_of};
 ghost use Rattle.pm_topology.specs.WellFormed.{IsWellFormed};
 ghost use Rattle.pm_state.specs.Fed.{IsFed};
 ghost use Rattle.pm_core.specs.Outbox.{HasRoomFor, KeepsRoom, outputs_in};
 ghost use Rattle.pm_state.specs.Values.{value};
 ghost use Rattle.pm_device.specs.Act.{AreHarmless, Chain, ShowsAll};
-ghost use Rattle.pm_apply.specs.Carried.{AreMarked, KeepsRest, Takes};
+ghost use Rattle.pm_apply.specs.Carried.{AreMarked, DifferencesAreMarked, KeepsRest, Takes};
 ghost use Rattle.pm_apply.specs.Order.{IsOrdered, LagsAreExplained};
 ghost use Rattle.pm_apply.specs.Part.{answers_in, orders_in, part_in, part_of};
-ghost use Rattle.pm_apply.specs.Plan.{due, turns_of, with_pulse};
+ghost use Rattle.pm_apply.specs.Plan.{due, turns_of, unit_turns, with_pulse};
 ghost use Rattle.pm_apply.specs.Record.{IsRecordOf, StandsAs, kept_value};
 ghost use Rattle.pm_apply.specs.Room.{most_of};
+ghost use Rattle.pm_apply.specs.Visits.{IsReady};
 
-use crate::kept::Kept;
-use crate::laws::each_part_is_safe;
-use crate::turns::{Turn, due, pulse_before, turn_at, turn_count};
+use crate::kept::{Kept, KeptValue};
+use crate::laws::{each_part_is_safe, orders_join};
+use crate::turns::{Turn, due, is_visited, pulse_before, turn_at, turn_count};
 use pm_core::{Book, Done, Outbox};
 use pm_device::{Device, chain_shows};
-use pm_topology::units_stand_in_order;
+use pm_topology::{kinds_are_exact, unit_maps, units_stand_in_order};
 
 /// Issues the commands that make the device follow the book, in order, and puts each into `out.done`
 /// with the value before it and its answer. Power nodes go up first, parents before children; then
@@ -28,11 +31,14 @@ use pm_topology::units_stand_in_order;
 /// tried again at the next call. No memory is taken.
 ///
 /// The outbox was loaded for the book's topology and holds no command yet, and the record is one of
-/// that topology.
+/// that topology. Each unit whose value in the record isn't the book's moved in the step, or lags: turns are
+/// taken for units that moved or lag and for the line that is pulsed, and where there are none nothing is
+/// looked at.
 pub fn carry<D: Device>(dev: &mut D, kept: &mut Kept, book: &Book, out: &mut Outbox)
     requires room { HasRoomFor book.now out.old }
     requires fresh { out.old.done.items ≡ [] }
     requires record { IsRecordOf book.now.fixed.topology kept.old }
+    requires marked { DifferencesAreMarked book.now.fixed.topology (λ u. value u book.now) out.old.moved.items kept.old }
     // Exactly the step's plan under the answers that the device gave, and its record.
     ensures part { part_in kept.new out.new ≡ part_of kept.old (answers_in out.new) book.now (outputs_in out.old) }
     // The device was given these commands with these answers, in this order, and nothing else.
@@ -63,9 +69,47 @@ pub fn carry<D: Device>(dev: &mut D, kept: &mut Kept, book: &Book, out: &mut Out
     ensures answer { out.new.answer ≡ out.old.answer }
 {
     each_part_is_safe();
+    units_stand_in_order();
+    kinds_are_exact();
+    unit_maps::<KeptValue>();
+    kept.expect(out.moved.as_slice());
+    kept.expect_line(out.pulse);
     take_turns(dev, kept, book, out);
     kept.mark(book);
     chain_shows::<D>();
+}
+
+/// The same whatever the record marks: each unit of the chip is visited. This is for the first step, and for a
+/// record of which the caller doesn't know whether its marks are those of the last step.
+pub fn carry_all<D: Device>(dev: &mut D, kept: &mut Kept, book: &Book, out: &mut Outbox)
+    requires room { HasRoomFor book.now out.old }
+    requires fresh { out.old.done.items ≡ [] }
+    requires record { IsRecordOf book.now.fixed.topology kept.old }
+    ensures part { part_in kept.new out.new ≡ part_of kept.old (answers_in out.new) book.now (outputs_in out.old) }
+    ensures given { Chain D.Does (orders_in out.new) dev.old dev.new }
+    ensures shown { ShowsAll D.values_observable D.nodes_observable (orders_in out.new) (D.state dev.old)
+        (D.state dev.new) }
+    ensures stands { D.values_observable → StandsAs kept.old (D.state dev.old) → StandsAs kept.new (D.state dev.new) }
+    ensures marks { AreMarked book.now.fixed.topology (λ u. value u book.now) kept.new }
+    ensures ordered { IsOrdered book.now.fixed.topology (kept_value kept.old) (orders_in out.new) }
+    ensures explained { LagsAreExplained book.now.fixed.topology (λ u. value u book.now) kept.new out.new.done.items }
+    ensures known { AreHarmless book.now.fixed.topology (orders_in out.new) }
+    ensures record { IsRecordOf book.now.fixed.topology kept.new }
+    ensures room { KeepsRoom out.old out.new }
+    ensures ready { HasRoomFor book.now out.new }
+    ensures moved { out.new.moved ≡ out.old.moved }
+    ensures pulse { out.new.pulse ≡ out.old.pulse }
+    ensures starts { out.new.starts ≡ out.old.starts }
+    ensures late { out.new.late ≡ out.old.late }
+    ensures callbacks { out.new.callbacks ≡ out.old.callbacks }
+    ensures answer { out.new.answer ≡ out.old.answer }
+{
+    units_stand_in_order();
+    kinds_are_exact();
+    unit_maps::<KeptValue>();
+    orders_join();
+    kept.expect_all(book);
+    carry(dev, kept, book, out);
 }
 
 /// Takes a turn: where it has a command, the device is given it, the record follows where the device
@@ -123,19 +167,49 @@ fn take_unit_turn<D: Device>(
     take_turn(dev, kept, book, out, turn);
 }
 
+/// Takes the turn at a place, where its unit is visited. No other unit has a command.
+fn take_turn_at<D: Device>(dev: &mut D, kept: &mut Kept, book: &Book, out: &mut Outbox, k: usize)
+    requires within { k < length (unit_turns book.now.fixed.topology) }
+    requires room { IfSome (slice_get (unit_turns book.now.fixed.topology) k) (λ turn. length out.old.done.items
+        + most_of book.now.fixed.topology (λ u. value u book.now) (with_pulse out.old.pulse turn) ≤ out.old.done.room) }
+    requires units { units_in kept.old ≡ units_of book.now.fixed.topology }
+    requires ready { IsReady (λ u. value u book.now) out.old.pulse kept.old }
+    ensures takes { IfSome (slice_get (unit_turns book.now.fixed.topology) k)
+        (λ turn. Takes D.Does book.now.fixed.topology (λ u. value u book.now) (with_pulse out.old.pulse turn)
+        kept.old kept.new out.old.done.items out.new.done.items dev.old dev.new) }
+    ensures rest { KeepsRest out.old out.new }
+{
+    units_stand_in_order();
+    kinds_are_exact();
+    unit_maps::<KeptValue>();
+    if !is_visited(k, book, kept) {
+        return;
+    }
+    take_unit_turn(dev, kept, book, out, turn_at(k, book));
+}
+
 /// Takes the turns of a step, one after another.
 fn take_turns<D: Device>(dev: &mut D, kept: &mut Kept, book: &Book, out: &mut Outbox)
     requires room { HasRoomFor book.now out.old }
     requires fresh { out.old.done.items ≡ [] }
+    requires record { IsRecordOf book.now.fixed.topology kept.old }
+    requires ready { IsReady (λ u. value u book.now) out.old.pulse kept.old }
     ensures formed { IsWellFormed book.now.fixed.topology }
     ensures fed { IsFed book.now.fixed.topology (λ u. value u book.now) }
     ensures takes { Takes D.Does book.now.fixed.topology (λ u. value u book.now)
         (turns_of book.now.fixed.topology out.old.pulse) kept.old kept.new out.old.done.items out.new.done.items
         dev.old dev.new }
+    ensures ready { IsReady (λ u. value u book.now) out.old.pulse kept.new }
     ensures rest { KeepsRest out.old out.new }
 {
     units_stand_in_order();
-    for k in 0..turn_count(book) {
-        take_unit_turn(dev, kept, book, out, turn_at(k, book));
+    kinds_are_exact();
+    unit_maps::<KeptValue>();
+    let turns = turn_count(book);
+    if !kept.any_lags() {
+        return;
+    }
+    for k in 0..turns {
+        take_turn_at(dev, kept, book, out, k);
     }
 }

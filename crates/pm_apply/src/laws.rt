@@ -9,8 +9,9 @@ ghost use Rattle.pm_topology.specs.Units.{has_unit};
 ghost use Rattle.pm_core.specs.declared.outbox.Done.{Done};
 ghost use Rattle.pm_core.specs.Outbox.{Outputs};
 ghost use Rattle.pm_state.specs.State.{State};
+ghost use Rattle.pm_state.specs.Units.{moved};
 ghost use Rattle.pm_state.specs.Values.{value};
-ghost use Rattle.pm_apply.specs.Carried.{AreMarked};
+ghost use Rattle.pm_apply.specs.Carried.{AreMarked, DifferencesAreMarked};
 ghost use Rattle.pm_apply.specs.Order.{IsOrdered, LagsAreExplained};
 ghost use Rattle.pm_apply.specs.Part.{AllSucceed, AllYes, Kept, orders_of, part_of};
 ghost use Rattle.pm_apply.specs.Plan.{answers_of};
@@ -95,4 +96,15 @@ pub fn at_zero_is_a_record()
     units_stand_in_order();
     kinds_are_exact();
     unit_maps::<KeptValue>();
+}
+
+/// Where the marks of a record are those of the last step, each unit whose value isn't the book's after the next
+/// step moves in it, or lags.
+pub fn marks_suffice()
+    ensures { (old : State) (new : State) (kept : Kept)
+        → new.fixed ≡ old.fixed
+        → AreMarked old.fixed.topology (λ u. value u old) kept
+        → DifferencesAreMarked new.fixed.topology (λ u. value u new) (moved (λ u. value u old) new) kept }
+{
+    units_stand_in_order();
 }

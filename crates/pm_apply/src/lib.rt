@@ -7,7 +7,9 @@ mod kept;
 mod laws;
 mod turns;
 
-pub use commands::carry;
+pub use commands::{carry, carry_all};
 pub use kept::{Kept, KeptValue};
-pub use laws::{a_part_without_refusal, at_zero_is_a_record, each_part_is_safe, orders_join};
+pub use laws::{
+    a_part_without_refusal, at_zero_is_a_record, each_part_is_safe, marks_suffice, orders_join,
+};
 pub use turns::Turn;

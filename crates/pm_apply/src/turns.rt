@@ -1,13 +1,15 @@
 //! The turns of a step: each may issue one command.
 
-ghost use Rattle.std.specs.Prelude.{◌≡◌, ◌<◌, ◌==◌, ◌&&◌, ◌||◌, not, length, option_to_list, slice_get, Some};
+ghost use Rattle.std.specs.Prelude.{◌≡◌, ◌<◌, ◌==◌, ◌&&◌, ◌||◌, false, not, length, option_to_list, slice_get, Some};
 ghost use Rattle.pm_base.specs.declared.names.Unit.TheVariants.{Node};
 ghost use Rattle.pm_topology.specs.WellFormed.{IsWellFormed};
-ghost use Rattle.pm_topology.specs.Units.{needs_power, parent_of_unit};
+ghost use Rattle.pm_topology.specs.UnitMap.{units_in};
+ghost use Rattle.pm_topology.specs.Units.{needs_power, parent_of_unit, units_of};
 ghost use Rattle.pm_state.specs.Fed.{IsFed};
 ghost use Rattle.pm_state.specs.Values.{value};
 ghost use Rattle.pm_apply.specs.Plan.{due, is_fed, is_place, is_power, is_power_kind, is_used, power_off, power_value, power_on, apply, pulse, pulse_before, pulse_turn, unit_turns, where_due};
 ghost use Rattle.pm_apply.specs.Record.{kept_value};
+ghost use Rattle.pm_apply.specs.Visits.{IsIdleAt};
 
 use crate::kept::Kept;
 use pm_base::{Command, LineId, Unit};
@@ -53,6 +55,16 @@ pub(crate) fn turn_at(k: usize, book: &Book) -> Turn
     } else {
         Turn::PowerOff(powers - 1 - (k - powers - units))
     }
+}
+
+/// Whether a turn is taken: that of a power node is, and that of another unit where it lags.
+pub(crate) fn is_visited(k: usize, book: &Book, kept: &Kept) -> bool
+    requires units { units_in kept.now ≡ units_of book.now.fixed.topology }
+    ensures { result ≡ false → IsIdleAt book.now.fixed.topology kept.now k }
+{
+    units_stand_in_order();
+    let powers = book.topology().powers.len();
+    k < powers || kept.lags_at(k - powers)
 }
 
 /// The pulse that stands before a turn: before that of a reset line that is pulsed.

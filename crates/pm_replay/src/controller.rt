@@ -1,17 +1,19 @@
 //! A runner, and the values that its device last took.
 
-ghost use Rattle.std.specs.Prelude.{◌≡◌, IfOk};
+ghost use Rattle.std.specs.Prelude.{◌≡◌, [], true, IfOk};
 ghost use Rattle.pm_device.specs.Act.{Chain};
 ghost use Rattle.pm_topology.specs.Masters.{ObeysMasterRules};
 ghost use Rattle.pm_topology.specs.WellFormed.{IsWellFormed};
 ghost use Rattle.pm_state.specs.Load.{load_of};
-ghost use Rattle.pm_core.specs.Outbox.{Holds};
+ghost use Rattle.pm_state.specs.Values.{value};
+ghost use Rattle.pm_core.specs.Outbox.{Holds, outputs_in};
 ghost use Rattle.pm_core.specs.Step.{effect, outputs, outputs_at_load};
 ghost use Rattle.pm_apply.specs.Part.{answers_in, orders_in, part_in, part_of};
-ghost use Rattle.pm_apply.specs.Record.{at_zero};
+ghost use Rattle.pm_apply.specs.Carried.{AreMarked, DifferencesAreMarked};
+ghost use Rattle.pm_apply.specs.Record.{IsRecordOf, at_zero};
 ghost use Rattle.pm_trace.specs.Step.{notices_in, notices_of};
 
-use pm_apply::{Kept, carry};
+use pm_apply::{Kept, carry, carry_all, marks_suffice};
 use pm_base::{Event, NoMemory};
 use pm_core::{Book, Outbox};
 use pm_device::Device;
@@ -27,9 +29,14 @@ use std::marker::Model;
 pub struct Controller {
     runner: Runner,
     kept: Kept,
+    /// Set once the device was made to follow the book. From then on the record marks each unit that lags.
+    follows: bool,
 }
 
 impl Model for Controller {
+    ghost use Rattle.std.specs.Prelude.{◌≡◌, true};
+    ghost use Rattle.pm_state.specs.Values.{value};
+    ghost use Rattle.pm_apply.specs.Carried.{AreMarked};
     ghost use Rattle.pm_apply.specs.Record.{IsRecordOf};
     ghost use Rattle.pm_replay.specs.Controls.{Controls};
 
@@ -37,7 +44,8 @@ impl Model for Controller {
 
     ghost view = { λ c. record { book = c.runner.book; kept = c.kept; outbox = c.runner.outbox } };
 
-    ghost invariant = { λ c. IsRecordOf c.runner.book.fixed.topology c.kept };
+    ghost invariant = { λ c. IsRecordOf c.runner.book.fixed.topology c.kept
+        × (c.follows ≡ true → AreMarked c.runner.book.fixed.topology (λ u. value u c.runner.book) c.kept) };
 }
 
 impl Controller {
@@ -55,7 +63,11 @@ impl Controller {
     {
         let kept = Kept::load(alloc, &topology)?;
         let runner = Runner::load(alloc, object, topology)?;
-        Ok(Controller { runner, kept })
+        Ok(Controller {
+            runner,
+            kept,
+            follows: false,
+        })
     }
 
     pub fn book(&self) -> &Book
@@ -87,12 +99,8 @@ impl Controller {
         ensures notices { notices_in self.new.outbox ≡ notices_of (outputs_at_load self.old.book) }
         ensures given { Chain D.Does (orders_in self.new.outbox) dev.old dev.new }
     {
-        carry(
-            dev,
-            &mut self.kept,
-            &self.runner.book,
-            &mut self.runner.outbox,
-        );
+        follow(dev, &mut self.kept, &mut self.runner, false);
+        self.follows = true;
     }
 
     /// One event, and the commands that make the device follow the book.
@@ -103,12 +111,33 @@ impl Controller {
         ensures notices { notices_in self.new.outbox ≡ notices_of (outputs event.now self.old.book) }
         ensures given { Chain D.Does (orders_in self.new.outbox) dev.old dev.new }
     {
+        marks_suffice();
         self.runner.step(event);
-        carry(
-            dev,
-            &mut self.kept,
-            &self.runner.book,
-            &mut self.runner.outbox,
-        );
+        follow(dev, &mut self.kept, &mut self.runner, self.follows);
+        self.follows = true;
+    }
+}
+
+/// Makes the device follow the book. Where it isn't known that the record marks each unit that lags, each unit is
+/// visited.
+fn follow<D: Device>(dev: &mut D, kept: &mut Kept, runner: &mut Runner, is_marked: bool)
+    requires record { IsRecordOf runner.old.book.fixed.topology kept.old }
+    requires fresh { runner.old.outbox.done.items ≡ [] }
+    requires marked { is_marked ≡ true → DifferencesAreMarked runner.old.book.fixed.topology
+        (λ u. value u runner.old.book) runner.old.outbox.moved.items kept.old }
+    ensures book { runner.new.book ≡ runner.old.book }
+    ensures record { IsRecordOf runner.new.book.fixed.topology kept.new }
+    ensures marks { AreMarked runner.new.book.fixed.topology (λ u. value u runner.new.book) kept.new }
+    ensures part { part_in kept.new runner.new.outbox
+        ≡ part_of kept.old (answers_in runner.new.outbox) runner.old.book (outputs_in runner.old.outbox) }
+    ensures given { Chain D.Does (orders_in runner.new.outbox) dev.old dev.new }
+    ensures starts { runner.new.outbox.starts ≡ runner.old.outbox.starts }
+    ensures late { runner.new.outbox.late ≡ runner.old.outbox.late }
+    ensures callbacks { runner.new.outbox.callbacks ≡ runner.old.outbox.callbacks }
+{
+    if is_marked {
+        carry(dev, kept, &runner.book, &mut runner.outbox);
+    } else {
+        carry_all(dev, kept, &runner.book, &mut runner.outbox);
     }
 }

@@ -10,7 +10,7 @@ ghost use Rattle.pm_trace.specs.Step.{notices_in, notices_of, step_text};
 ghost use Rattle.pm_served.specs.Played.{Played, Writes, WritesOn};
 ghost use Rattle.pm_served.specs.Served.{split_of};
 
-use pm_apply::{Kept, carry};
+use pm_apply::{Kept, carry_all};
 use pm_base::{Event, Failed, Sink, write_all};
 use pm_core::Outbox;
 use pm_device::Device;
@@ -55,7 +55,7 @@ fn carry_out<D: Device>(event: &Event, runner: &mut Runner, kept: &mut Kept, dev
     ensures given { Chain D.Does (orders_in runner.new.outbox) dev.old dev.new }
 {
     runner.step(event);
-    carry(dev, kept, &runner.book, &mut runner.outbox);
+    carry_all(dev, kept, &runner.book, &mut runner.outbox);
 }
 
 /// Writes the lines of a core step. A sink that has failed before within the line is given nothing more.

@@ -2,10 +2,12 @@
 
 ghost use Rattle.pm_topology.specs.WellFormed.{IsWellFormed};
 ghost use Rattle.pm_topology.specs.Masters.{ObeysMasterRules};
+ghost use Rattle.pm_state.specs.Values.{value};
+ghost use Rattle.pm_apply.specs.Carried.{AreMarked};
 ghost use Rattle.pm_apply.specs.Record.{IsRecordOf};
 
 use crate::rows::all_right;
-use pm_apply::{Kept, carry};
+use pm_apply::{Kept, carry, carry_all, marks_suffice};
 use pm_base::{Event, LineId, Message, NoMemory, NodeId, Unit};
 use pm_core::Outbox;
 use pm_device::{Device, ListedDevice, ModelDevice};
@@ -27,6 +29,7 @@ struct Drive {
     kept: Kept,
     desk: Box<Desk>,
     ghost record_of: { IsRecordOf desk.value.book.fixed.topology kept },
+    ghost marks: { AreMarked desk.value.book.fixed.topology (λ u. value u desk.value.book) kept },
 }
 
 /// The book at load, and the commands that follow it.
@@ -42,7 +45,7 @@ fn started<D: Device>(
     let mut kept = Kept::load(alloc, &chip)?;
     let mut boxed = desk_with(alloc, object, chip)?;
     let desk = &mut *boxed;
-    carry(dev, &mut kept, &desk.book, &mut desk.out);
+    carry_all(dev, &mut kept, &desk.book, &mut desk.out);
     Ok(Drive { kept, desk: boxed })
 }
 
@@ -70,6 +73,7 @@ fn call(api: u32) -> Event {
 impl Drive {
     /// An event, and the commands that follow it.
     fn take<D: Device>(&mut self, event: &Event, dev: &mut D) {
+        marks_suffice();
         let desk = &mut *self.desk;
         desk.book.step(event, &mut desk.out);
         carry(dev, &mut self.kept, &desk.book, &mut desk.out);

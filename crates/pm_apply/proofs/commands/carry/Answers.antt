@@ -1,8 +1,25 @@
-use Rattle.std.proofs.Common.{rules, List, Bool}
+use Rattle.std.proofs.Common.{rules, List, Bool, subst}
 use Rattle.pm_core.specs.Outbox.{Outputs}
 use Rattle.pm_apply.specs.Part.{orders_in, part_of}
+use Rattle.pm_base.specs.declared.names.Unit.{Unit}
+use Rattle.pm_state.specs.Values.{value}
+use Rattle.pm_apply.specs.Visits.{Marks}
+use Rattle.pm_apply.proofs.AlikeLemmas.{alike_part}
+use Rattle.pm_apply.proofs.ExpectLemmas.{alike_then, ready_then, record_then}
 use Rattle.pm_apply.proofs.CarryLemmas.{IsSafe, carried, stands_then}
 use Rattle.pm_apply.proofs.commands.carry.Goals as goal
+
+pub take_turns-requires-clause-record : goal.take_turns-requires-clause-record
+take_turns-requires-clause-record g c =
+    record_then (record { units = c.units_stand_in_order.ensures; kinds = c.kinds_are_exact.ensures; table = c.unit_maps.ensures }) c.args.book.now.fixed.topology (λ u. value u c.args.book.now) c.args.out.now.pulse c.args.out.now.moved.items
+    c.args.kept.now c.expect.new.self c.expect_line.new.self c.requires.«record» c.requires.marked
+    (subst (λ (units : List Unit). Marks units c.args.kept.now c.expect.new.self) c.as_slice.ensures c.expect.ensures) c.expect_line.ensures
+
+pub take_turns-requires-clause-ready : goal.take_turns-requires-clause-ready
+take_turns-requires-clause-ready g c =
+    ready_then (record { units = c.units_stand_in_order.ensures; kinds = c.kinds_are_exact.ensures; table = c.unit_maps.ensures }) c.args.book.now.fixed.topology (λ u. value u c.args.book.now) c.args.out.now.pulse c.args.out.now.moved.items
+    c.args.kept.now c.expect.new.self c.expect_line.new.self c.requires.«record» c.requires.marked
+    (subst (λ (units : List Unit). Marks units c.args.kept.now c.expect.new.self) c.as_slice.ensures c.expect.ensures) c.expect_line.ensures
 
 pub returns : goal.returns
 returns g c =
@@ -20,8 +37,12 @@ returns g c =
       marks = c.each_part_is_safe.ensures.marks kept answers book outputs well c.requires.«record»;
       follows = c.each_part_is_safe.ensures.values kept answers book outputs well c.requires.«record»;
     } in
-    let step = carried g.D.Device.Does kept c.take_turns.new.kept left book c.args.out.now out dev c.take_turns.new.dev
-    safe c.requires.fresh c.take_turns.ensures.takes c.take_turns.ensures.rest c.mark.ensures
+    let alike = alike_then (record { units = c.units_stand_in_order.ensures; kinds = c.kinds_are_exact.ensures; table = c.unit_maps.ensures }) book.fixed.topology (λ u. value u book) c.args.out.now.pulse c.args.out.now.moved.items
+    kept c.expect.new.self c.expect_line.new.self c.requires.«record» c.requires.marked
+    (subst (λ (units : List Unit). Marks units c.args.kept.now c.expect.new.self) c.as_slice.ensures c.expect.ensures) c.expect_line.ensures
+    in
+    let step = carried g.D.Device.Does kept c.expect_line.new.self c.take_turns.new.kept left book c.args.out.now out dev c.take_turns.new.dev
+    safe (alike_part (record { units = c.units_stand_in_order.ensures; kinds = c.kinds_are_exact.ensures; table = c.unit_maps.ensures }) c.expect_line.new.self kept book alike) c.requires.fresh c.take_turns.ensures.takes c.take_turns.ensures.rest c.mark.ensures
     in
     let shown = c.chain_shows.ensures (orders_in out) dev c.take_turns.new.dev step.given in
     record {

@@ -1,4 +1,4 @@
-use Rattle.std.proofs.Common.{◌≡◌, ◌≤◌, ◌+◌, ◌++◌, ◌∷◌, [], List, length, sym, subst, arith}
+use Rattle.std.proofs.Common.{◌≤◌, ◌+◌, ◌++◌, ◌∷◌, [], List, length, sym, subst, arith}
 use Rattle.std.specs.Prelude.{option_to_list}
 use Rattle.pm_state.specs.Values.{value}
 use Rattle.pm_apply.specs.declared.turns.Turn.{Turn}

@@ -10,6 +10,6 @@ pub returns-clause-notices : goal.returns-clause-notices
 returns-clause-notices g c =
     let old = c.self.inside in
     let H : Controls → Type 0 = λ controls. Holds (outputs_at_load controls.book) controls.outbox in
-    let P : Controls → Type 0 = λ controls. notices_in c.carry.new.out ≡ notices_of (outputs_at_load controls.book) in
+    let P : Controls → Type 0 = λ controls. notices_in c.follow.new.runner.outbox ≡ notices_of (outputs_at_load controls.book) in
     let held : Holds (outputs_at_load old.runner.book) old.runner.outbox = subst H (sym c.self.view_is) c.requires.out in
-    subst P c.self.view_is (notices_are (outputs_at_load old.runner.book) old.runner.outbox c.carry.new.out held c.carry.ensures.starts c.carry.ensures.late c.carry.ensures.callbacks)
+    subst P c.self.view_is (notices_are (outputs_at_load old.runner.book) old.runner.outbox c.follow.new.runner.outbox held c.follow.ensures.starts c.follow.ensures.late c.follow.ensures.callbacks)

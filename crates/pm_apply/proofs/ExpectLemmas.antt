@@ -1,0 +1,148 @@
+-- Units are marked: nothing but their marks changes.
+use Rattle.std.proofs.Common.{◌≡◌, ℕ, ◌+◌, ◌==◌, Bool, true, false, not, ◌&&◌, if◌then◌else◌, Option, Some, List, [], ◌∷◌, ◌++◌, take, slice_get, refl, sym, ap, subst, ◌∙◌, ◌⊎◌, inl, inr, suc, arith}
+use Rattle.std.specs.Prelude.{is_some, unwrap_or}
+use Rattle.std.proofs.lemmas.Bool.{both_ways, or_cases}
+use Rattle.std.proofs.lemmas.List.{take_more}
+use Rattle.std.proofs.lemmas.List.Folds.{list_any-append}
+use Rattle.std.proofs.lemmas.Option.{slice_get_within, get_or_from_slice_get}
+use Rattle.pm_base.specs.declared.names.LineId.{LineId}
+use Rattle.pm_base.specs.declared.names.Unit.{Unit}
+use Rattle.pm_base.specs.declared.names.Unit.TheVariants.{Node}
+use Rattle.pm_topology.specs.declared.topology.Topology.{Topology}
+use Rattle.pm_topology.specs.UnitMap.{remade, set_entry, units_in, value_of, with_value}
+use Rattle.pm_topology.specs.Units.{has_in, has_unit, rises, same_unit, units_of}
+use Rattle.pm_apply.proofs.Below.{ChipLaws}
+use Rattle.pm_apply.specs.declared.kept.KeptValue.{KeptValue}
+use Rattle.pm_apply.specs.Carried.{DifferencesAreMarked}
+use Rattle.pm_apply.specs.Record.{Kept, IsRecordOf, idle, kept_value, lags_in, mark, marked}
+use Rattle.pm_apply.specs.Visits.{IsReady, Marks, expected, pulsed}
+use Rattle.pm_apply.proofs.RecordLemmas.{kept_value-marked, units_in-marked}
+use Rattle.pm_apply.proofs.VisitsLemmas.{kept_at}
+
+-- ---- one unit
+
+-- a mark is made anew from the value, which stays
+marked_entry : (values : Unit → ℕ) (u : Unit) (now : KeptValue) (e : Unit × KeptValue) → (same_unit e.0 u ≡ true → e.1.value ≡ now.value) → remade (mark values) (set_entry u now e) ≡ remade (mark values) e
+marked_entry values u now e same = at (same_unit e.0 u) refl
+  where
+    at : (is : Bool) → same_unit e.0 u ≡ is → remade (mark values) (if is then (e.0, now) else e) ≡ remade (mark values) e
+    at true is = ap (λ v. (e.0, record { value = v; lags = not (v == values e.0) })) (sym (same is))
+    at false is = refl
+
+marked_set : (values : Unit → ℕ) (u : Unit) (now : KeptValue) (kept : Kept) → ((k : ℕ) (e : Unit × KeptValue) → slice_get kept k ≡ Some e → same_unit e.0 u ≡ true → e.1.value ≡ now.value) → marked values (with_value u now kept) ≡ marked values kept
+marked_set values u now [] same = refl
+marked_set values u now (e ∷ kept) same =
+    let first = marked_entry values u now e (same 0 e refl) in
+    let later = marked_set values u now kept (λ k e here. same (suc k) e here) in
+    cc
+
+module _ (laws : ChipLaws) (u : Unit) (kept : Kept) (rising : rises (units_in kept) ≡ true) where
+  expected_alike : (values : Unit → ℕ) → marked values (expected u kept) ≡ marked values kept
+  expected_alike values =
+      marked_set values u (record { value = kept_value kept u; lags = true }) kept
+      (λ k e here is. ap (λ (k : KeptValue). k.value) (sym (kept_at laws.units kept k e rising here)) ∙ ap (kept_value kept) (laws.units.same e.0 u is))
+
+  lags_then : (x : Unit) (same has : Bool) → same_unit u x ≡ same → is_some (value_of kept u) ≡ has
+      → (lags_in kept x ≡ true) ⊎ ((same ≡ true) × (has ≡ true))
+      → (unwrap_or (if same && has then Some (record { value = kept_value kept u; lags = true }) else value_of kept x) idle).lags ≡ true
+  lags_then x true true is there why = refl
+  lags_then x true false is there why = elim why [ inl lags ↦ lags | inr off ↦ let gone : false ≡ true = off.1 in cc ]
+  lags_then x false has is there why = elim why [ inl lags ↦ lags | inr off ↦ let other : false ≡ true = off.0 in cc ]
+
+  lags_in-expected : (x : Unit) → (lags_in kept x ≡ true) ⊎ ((same_unit u x ≡ true) × (is_some (value_of kept u) ≡ true)) → lags_in (expected u kept) x ≡ true
+  lags_in-expected x why =
+      ap (λ (found : Option KeptValue). (unwrap_or found idle).lags) (laws.table.set u (record { value = kept_value kept u; lags = true }) kept x)
+      ∙ lags_then x (same_unit u x) (is_some (value_of kept u)) refl refl why
+
+  only : (x : Unit) → has_in (u ∷ []) x ≡ true → same_unit u x ≡ true
+  only x has = elim (or_cases (same_unit u x) false has) [ inl is ↦ is | inr off ↦ absurd (both_ways false refl off) ]
+
+  pub marks_one : Marks (u ∷ []) kept (expected u kept)
+  marks_one = record {
+    alike = expected_alike;
+    these = λ x has there.
+        let is = only x has in
+        lags_in-expected x (inr (is, laws.table.there kept u ∙ (ap (has_in (units_in kept)) (laws.units.same u x is) ∙ there)));
+    others = λ x lags. lags_in-expected x (inl lags);
+  }
+
+-- ---- several units
+
+pub marks_none : (kept : Kept) → Marks [] kept kept
+marks_none kept = record { alike = λ values. refl; these = λ x has there. cc; others = λ x lags. lags }
+
+module _ (laws : ChipLaws) where
+  -- the units stay
+  same_units : (units : List Unit) (before after : Kept) → Marks units before after → units_in after ≡ units_in before
+  same_units units before after marks =
+      sym (units_in-marked laws (λ u. 0) after) ∙ ap units_in (marks.alike (λ u. 0)) ∙ units_in-marked laws (λ u. 0) before
+
+  -- and so do their values
+  pub same_values : (units : List Unit) (before after : Kept) → Marks units before after → (x : Unit) → kept_value after x ≡ kept_value before x
+  same_values units before after marks x =
+      sym (kept_value-marked laws (λ u. 0) after x) ∙ ap (λ kept. kept_value kept x) (marks.alike (λ u. 0)) ∙ kept_value-marked laws (λ u. 0) before x
+
+  pub marks_trans : (first second : List Unit) (before middle after : Kept) → Marks first before middle → Marks second middle after → Marks (first ++ second) before after
+  marks_trans first second before middle after one two = record {
+    alike = λ values. two.alike values ∙ one.alike values;
+    these = λ x has there.
+        elim (or_cases (has_in first x) (has_in second x) (sym (list_any-append (λ u. same_unit u x) first second) ∙ has)) [
+          | inl here ↦ two.others x (one.these x here there)
+          | inr later ↦ two.these x later (ap (λ us. has_in us x) (same_units first before middle one) ∙ there)
+        ];
+    others = λ x lags. two.others x (one.others x lags);
+  }
+
+  pub marks_next : (units : List Unit) (k : ℕ) (u : Unit) (before middle after : Kept) → slice_get units k ≡ Some u → Marks (take k units) before middle → Marks (u ∷ []) middle after → Marks (take (k + 1) units) before after
+  marks_next units k u before middle after here one two =
+      let more : take (k + 1) units ≡ take k units ++ u ∷ [] =
+      take_more units k u (slice_get_within units k u here)
+      ∙ ap (λ u. take k units ++ u ∷ []) (get_or_from_slice_get units k u u here)
+      in
+      let P : List Unit → Type 0 = λ units. Marks units before after in
+      subst P (sym more) (marks_trans (take k units) (u ∷ []) before middle after one two)
+
+  pub record_marked : (t : Topology) (units : List Unit) (before after : Kept) → IsRecordOf t before → Marks units before after → IsRecordOf t after
+  record_marked t units before after record_of marks = record {
+    units = same_units units before after marks ∙ record_of.units;
+    up_or_down = λ w p here.
+        let same = same_values units before after marks (Node p.node) in
+        let up = record_of.up_or_down w p here in
+        omega arith;
+  }
+
+  -- where all are marked, each unit of the chip lags
+  pub all_marked : (t : Topology) (before after : Kept) → IsRecordOf t before → Marks (units_of t) before after → (unit : Unit) → has_unit t unit ≡ true → lags_in after unit ≡ true
+  all_marked t before after record_of marks unit has =
+      let listed : has_in (units_of t) unit ≡ true = laws.units.found t unit ∙ has in
+      marks.these unit listed (ap (λ us. has_in us unit) record_of.units ∙ listed)
+
+  -- ---- the record before the turns
+
+  module _ (t : Topology) (values : Unit → ℕ) (pulse : Option LineId) (moved : List Unit) (before middle after : Kept)
+      (record_of : IsRecordOf t before) (found : DifferencesAreMarked t values moved before)
+      (one : Marks moved before middle) (two : Marks (pulsed pulse) middle after) where
+    both_marks : Marks (moved ++ pulsed pulse) before after
+    both_marks = marks_trans moved (pulsed pulse) before middle after one two
+
+    pub alike_then : (values : Unit → ℕ) → marked values after ≡ marked values before
+    alike_then values = both_marks.alike values
+
+    pub record_then : IsRecordOf t after
+    record_then = record_marked t (moved ++ pulsed pulse) before after record_of both_marks
+
+    pub ready_then : IsReady values pulse after
+    ready_then = record {
+      stands = λ x has idle.
+          let there : has_in (units_in before) x ≡ true = ap (λ us. has_in us x) (sym (same_units (moved ++ pulsed pulse) before after both_marks)) ∙ has in
+          let known : has_unit t x ≡ true = sym (laws.units.found t x) ∙ (ap (λ us. has_in us x) (sym record_of.units) ∙ there) in
+          elim (found x known) [
+            | inl moves ↦ absurd (both_ways (lags_in after x) idle (two.others x (one.these x moves there)))
+            | inr rest ↦ elim rest [
+              | inl lags ↦ absurd (both_ways (lags_in after x) idle (both_marks.others x lags))
+              | inr stands ↦ same_values (moved ++ pulsed pulse) before after both_marks x ∙ stands
+            ]
+          ];
+      line = λ x line has.
+          two.these x line (ap (λ us. has_in us x) (sym (same_units (pulsed pulse) middle after two)) ∙ has);
+    }

@@ -1,0 +1,293 @@
+-- What a step visits: a unit that isn't marked has no command, and the turns of a step leave that so.
+use Rattle.std.proofs.Common.{◌≡◌, ℕ, ◌-◌, ◌<◌, ◌≤◌, length, arith, Bool, true, false, ◌&&◌, cond, if◌then◌else◌, Option, Some, None, List, [], ◌∷◌, ◌++◌, map, slice_get, refl, sym, ap, subst, ◌∙◌, ◌⊎◌, inl, inr, zero, suc}
+use Rattle.std.specs.Prelude.{⊤, IfSome, is_some, unwrap_or, reverse}
+use Rattle.std.specs.List.{list_all}
+use Rattle.std.specs.Option.{option_map}
+use Rattle.std.proofs.lemmas.Bool.{and_from, both_ways, cases_Bool, or_left, or_right}
+use Rattle.std.proofs.lemmas.Bool.Decides.{nat_tests}
+use Rattle.std.proofs.lemmas.List.Folds.{list_all-append}
+use Rattle.std.proofs.lemmas.Option.{slice_get-map, slice_get_cases}
+use Rattle.pm_base.proofs.Booleans.{both}
+use Rattle.pm_base.specs.declared.names.LineId.{LineId}
+use Rattle.pm_base.specs.declared.names.Unit.{Unit}
+use Rattle.pm_base.specs.declared.names.Unit.TheVariants.{Node, Line}
+use Rattle.pm_base.specs.declared.names.Command.{Command}
+use Rattle.pm_topology.specs.declared.topology.Topology.{Topology}
+use Rattle.pm_topology.specs.UnitMap.{units_in, value_of}
+use Rattle.pm_topology.specs.Units.{UnitLaws, has_in, is_before, rises, same_unit, units_of}
+use Rattle.pm_apply.proofs.Below.{ChipLaws}
+use Rattle.pm_apply.specs.declared.kept.KeptValue.{KeptValue}
+use Rattle.pm_apply.specs.declared.turns.Turn.{Turn}
+use Rattle.pm_apply.specs.declared.turns.Turn.TheVariants.{PowerOn, Pulse, Apply, PowerOff}
+use Rattle.pm_apply.specs.Record.{Kept, idle, keep, kept_of, kept_value, lags_in, mark, marked}
+use Rattle.pm_apply.specs.Plan.{Carried, after_answer, answers_of, power_places, unit_turns, due, later_answers, next_answer, plan, pulse_turn, take_turn, with_pulse}
+use Rattle.pm_apply.specs.Visits.{IsIdleAt, IsReady, LagsNotAt, NoneLags, StandsAt, StandsElsewhere, pulsed}
+use Rattle.pm_apply.specs.Carried.{Takes}
+use Rattle.pm_device.specs.Act.{Act}
+use Rattle.pm_core.specs.declared.outbox.Done.{Done}
+use Rattle.pm_apply.proofs.TurnsLemmas.{turn_between}
+use Rattle.pm_apply.proofs.RecordLemmas.{units_in-after_answer, kept_value-keep}
+use Rattle.pm_apply.proofs.MarksLemmas.{mark_stays}
+use Rattle.pm_apply.proofs.OrdersDue.{raises, pulses, settles, lowers}
+
+-- ---- an entry of the record by its place
+
+-- what comes later in a rising list is another unit
+later_is_other : (a b : Unit) → is_before a b ≡ true → same_unit a b ≡ false
+later_is_other (Node a) (Node b) later = grind (arith, nat_tests)
+later_is_other (Node a) (Line b) later = refl
+later_is_other (Line a) (Node b) later = cc
+later_is_other (Line a) (Line b) later = grind (arith, nat_tests)
+
+before_entry : (p : Unit → Bool) (entries : Kept) (k : ℕ) (e : Unit × KeptValue) → list_all p (units_in entries) ≡ true → slice_get entries k ≡ Some e → p e.0 ≡ true
+before_entry p [] k e all here = cc
+before_entry p (x ∷ entries) zero e all here =
+    let same : x ≡ e = cc in
+    ap (λ (e : Unit × KeptValue). p e.0) (sym same) ∙ (both (p x.0) (list_all p (units_in entries)) all).0
+before_entry p (x ∷ entries) (suc k) e all here = before_entry p entries k e (both (p x.0) (list_all p (units_in entries)) all).1 here
+
+pub value_at : UnitLaws → (entries : Kept) (k : ℕ) (e : Unit × KeptValue) → rises (units_in entries) ≡ true → slice_get entries k ≡ Some e → value_of entries e.0 ≡ Some e.1
+value_at laws [] k e rising here = cc
+value_at laws (x ∷ entries) zero e rising here =
+    let same : x ≡ e = cc in
+    ap (λ (x : Unit × KeptValue). if same_unit x.0 e.0 then Some x.1 else value_of entries e.0) same
+    ∙ ap (λ b. if b then Some e.1 else value_of entries e.0) (laws.itself e.0)
+value_at laws (x ∷ entries) (suc k) e rising here =
+    let parts = both (list_all (is_before x.0) (units_in entries)) (rises (units_in entries)) rising in
+    let other = later_is_other x.0 e.0 (before_entry (is_before x.0) entries k e parts.0 here) in
+    ap (λ b. if b then Some x.1 else value_of entries e.0) other ∙ value_at laws entries k e parts.1 here
+
+pub kept_at : UnitLaws → (entries : Kept) (k : ℕ) (e : Unit × KeptValue) → rises (units_in entries) ≡ true → slice_get entries k ≡ Some e → kept_of entries e.0 ≡ e.1
+kept_at laws entries k e rising here = ap (λ (found : Option KeptValue). unwrap_or found idle) (value_at laws entries k e rising here)
+
+has_at : UnitLaws → (entries : Kept) (k : ℕ) (e : Unit × KeptValue) → slice_get entries k ≡ Some e → has_in (units_in entries) e.0 ≡ true
+has_at laws [] k e here = cc
+has_at laws (x ∷ entries) zero e here =
+    let same : x ≡ e = cc in
+    or_left _ _ (ap (λ (x : Unit × KeptValue). same_unit x.0 e.0) same ∙ laws.itself e.0)
+has_at laws (x ∷ entries) (suc k) e here = or_right (same_unit x.0 e.0) _ (has_at laws entries k e here)
+
+-- ---- places that aren't visited
+
+-- a unit that doesn't lag has its turn behind those in which power nodes go up
+pub idle_at : UnitLaws → (t : Topology) (kept : Kept) (k powers : ℕ) → units_in kept ≡ units_of t → powers ≡ length t.powers → powers ≤ k → LagsNotAt (k - powers) kept → IsIdleAt t kept k
+idle_at laws t kept k powers units is past found =
+    let rising : rises (units_in kept) ≡ true = ap rises units ∙ (laws.are t).rising in
+    record {
+      unit = found.entry.0;
+      here = turn_between t k (k - powers) found.entry.0 (omega arith)
+          (ap (λ us. slice_get us (k - powers)) (sym units) ∙ slice_get-map (λ (e : Unit × KeptValue). e.0) kept (k - powers) ∙ ap (option_map (λ (e : Unit × KeptValue). e.0)) found.here);
+      known = has_at laws kept (k - powers) found.entry found.here;
+      idle = ap (λ (k : KeptValue). k.lags) (kept_at laws kept (k - powers) found.entry rising found.here) ∙ found.idle;
+    }
+
+-- what holds of the element that is found
+pub holds_where : {X : Type 0} (P : X → Type 0) (found : Option X) → ((x : X) → found ≡ Some x → P x) → IfSome found P
+holds_where P None holds = tt
+holds_where P (Some x) holds = holds x refl
+
+pub where_found : {X : Type 0} (P : X → Type 0) (found : Option X) (x : X) → found ≡ Some x → P x → IfSome found P
+where_found {X = X} P found x here holds = let Q : Option X → Type 0 = λ found. IfSome found P in subst Q (sym here) holds
+
+-- an entry that doesn't lag has the value that its unit has
+stands_of : UnitLaws → (values : Unit → ℕ) (kept : Kept) (k : ℕ) (e : Unit × KeptValue) → rises (units_in kept) ≡ true → StandsElsewhere values kept → slice_get kept k ≡ Some e → StandsAt values e
+stands_of laws values kept k e rising stands here =
+    λ lags.
+    let at = kept_at laws kept k e rising here in
+    ap (λ (k : KeptValue). k.value) (sym at) ∙ stands e.0 (has_at laws kept k e here) (ap (λ (k : KeptValue). k.lags) at ∙ lags)
+
+pub stands_at : UnitLaws → (values : Unit → ℕ) (kept : Kept) (k : ℕ) → rises (units_in kept) ≡ true → StandsElsewhere values kept → IfSome (slice_get kept k) (λ e. StandsAt values e)
+stands_at laws values kept k rising stands =
+    holds_where (λ e. StandsAt values e) (slice_get kept k) (λ e here. stands_of laws values kept k e rising stands here)
+
+each_stays : (values : Unit → ℕ) (kept : Kept) → ((k : ℕ) (e : Unit × KeptValue) → slice_get kept k ≡ Some e → mark values e.0 e.1 ≡ e.1) → kept ≡ marked values kept
+each_stays values [] stays = refl
+each_stays values (e ∷ kept) stays =
+    let first : (e.0, mark values e.0 e.1) ≡ e = ap (λ (k : KeptValue). (e.0, k)) (stays 0 e refl) in
+    let later = each_stays values kept (λ k e here. stays (suc k) e here) in
+    ap (λ (es : Kept). e ∷ es) later ∙ ap (λ (e : Unit × KeptValue). e ∷ marked values kept) (sym first)
+
+-- where none lags, and each has its value, the marks are right
+pub marks_stay : UnitLaws → (values : Unit → ℕ) (kept : Kept) → rises (units_in kept) ≡ true → StandsElsewhere values kept → NoneLags kept → kept ≡ marked values kept
+marks_stay laws values kept rising stands none =
+    each_stays values kept
+    (λ k e here.
+    let lags = ap (λ (k : KeptValue). k.lags) (sym (kept_at laws kept k e rising here)) ∙ none e.0 in
+    mark_stays values e lags (stands_of laws values kept k e rising stands here))
+
+-- ---- marks stay
+
+lags_in-keep : ChipLaws → (u : Unit) (v : ℕ) (kept : Kept) (x : Unit) → lags_in (keep u v kept) x ≡ lags_in kept x
+lags_in-keep laws u v kept x =
+    let now : KeptValue = record { value = v; lags = lags_in kept u } in
+    ap (λ (found : Option KeptValue). (unwrap_or found idle).lags) (laws.table.set u now kept x) ∙ at (same_unit u x) (is_some (value_of kept u)) refl
+  where
+    at : (same has : Bool) → same_unit u x ≡ same → (unwrap_or (if same && has then Some (record { value = v; lags = lags_in kept u }) else value_of kept x) idle).lags ≡ lags_in kept x
+    at true true is = ap (lags_in kept) (laws.units.same u x is)
+    at true false is = refl
+    at false has is = refl
+
+pub lags_in-after_answer : ChipLaws → (c : Command) (ok : Bool) (kept : Kept) (x : Unit) → lags_in (after_answer c ok kept) x ≡ lags_in kept x
+lags_in-after_answer laws c true kept x = lags_in-keep laws c.unit c.value kept x
+lags_in-after_answer laws c false kept x = refl
+
+kept_gone : ChipLaws → (c : Command) (kept : Kept) (x : Unit) → has_in (units_in kept) c.unit ≡ false → kept_value (keep c.unit c.value kept) x ≡ kept_value kept x
+kept_gone laws c kept x gone =
+    let now : KeptValue = record { value = c.value; lags = lags_in kept c.unit } in
+    ap (λ (found : Option KeptValue). (unwrap_or found idle).value) (laws.table.set c.unit now kept x)
+    ∙ at (same_unit c.unit x) (is_some (value_of kept c.unit)) (laws.table.there kept c.unit ∙ gone)
+  where
+    at : (same has : Bool) → has ≡ false → (unwrap_or (if same && has then Some (record { value = c.value; lags = lags_in kept c.unit }) else value_of kept x) idle).value ≡ kept_value kept x
+    at true true is = cc
+    at true false is = refl
+    at false has is = refl
+
+-- ---- the turns of a step
+
+abbrev no_pulse : Turn → Bool
+no_pulse (Pulse line) = false
+no_pulse _ = true
+
+all_at : {X : Type 0} (p : X → Bool) (xs : List X) (k : ℕ) (x : X) → list_all p xs ≡ true → slice_get xs k ≡ Some x → p x ≡ true
+all_at p [] k x all here = cc
+all_at p (y ∷ xs) zero x all here = let same : y ≡ x = cc in ap p (sym same) ∙ (both (p y) (list_all p xs) all).0
+all_at p (y ∷ xs) (suc k) x all here = all_at p xs k x (both (p y) (list_all p xs) all).1 here
+
+no_raise : (places : List ℕ) → list_all no_pulse (map PowerOn places) ≡ true
+no_raise [] = refl
+no_raise (w ∷ places) = no_raise places
+
+no_lower : (places : List ℕ) → list_all no_pulse (map PowerOff places) ≡ true
+no_lower [] = refl
+no_lower (w ∷ places) = no_lower places
+
+no_settle : (units : List Unit) → list_all no_pulse (map Apply units) ≡ true
+no_settle [] = refl
+no_settle (u ∷ units) = no_settle units
+
+none_pulses : (t : Topology) → list_all no_pulse (unit_turns t) ≡ true
+none_pulses t =
+    list_all-append no_pulse (map PowerOn (power_places t)) (map Apply (units_of t) ++ map PowerOff (reverse (power_places t)))
+    ∙ and_from _ _ (no_raise (power_places t))
+    (list_all-append no_pulse (map Apply (units_of t)) (map PowerOff (reverse (power_places t))) ∙ and_from _ _ (no_settle (units_of t)) (no_lower (reverse (power_places t))))
+
+-- each of these turns
+abbrev pub Each : (Turn → Type 0) → List Turn → Type 0
+Each P [] = ⊤
+Each P (turn ∷ turns) = P turn × Each P turns
+
+pub Each-append : (P : Turn → Type 0) (turns others : List Turn) → Each P turns → Each P others → Each P (turns ++ others)
+Each-append P [] others each more = more
+Each-append P (turn ∷ turns) others each more = (each.0, Each-append P turns others each.1 more)
+
+-- a pulse is that of the line that is pulsed
+abbrev pub IsPulseOf : Option LineId → Turn → Type 0
+IsPulseOf pulse (Pulse line) = pulse ≡ Some line
+IsPulseOf pulse _ = ⊤
+
+pulsed_has : UnitLaws → (pulse : Option LineId) (line : LineId) → pulse ≡ Some line → has_in (pulsed pulse) (Line line) ≡ true
+pulsed_has laws pulse line is = ap (λ pulse. has_in (pulsed pulse) (Line line)) is ∙ or_left _ _ (laws.itself (Line line))
+
+-- the record within a step: that of these units, in which each that isn't marked has the book's value
+pub record IsOpen (values : Unit → ℕ) (pulse : Option LineId) (units : List Unit) (kept : Kept) : Type 0 where
+  pub are : units_in kept ≡ units
+  pub ready : IsReady values pulse kept
+
+module _ (laws : ChipLaws) (t : Topology) (values : Unit → ℕ) (pulse : Option LineId) where
+  -- a command brings its unit to the book's value, or is that of the line that is pulsed
+  towards : (turn : Turn) (kept : Kept) (c : Command) → IsPulseOf pulse turn → due t values kept turn ≡ Some c → (c.value ≡ values c.unit) ⊎ (has_in (pulsed pulse) c.unit ≡ true)
+  towards (PowerOn w) kept c of is =
+      let r = raises t values kept w c is in
+      inl (ap (λ (c : Command). c.value) r.is ∙ sym r.value ∙ ap (λ (c : Command). values c.unit) (sym r.is))
+  towards (Pulse line) kept c of is =
+      inr (ap (λ (c : Command). has_in (pulsed pulse) c.unit) (pulses t values kept line c is) ∙ pulsed_has laws.units pulse line of)
+  towards (Apply unit) kept c of is =
+      let s = settles t values kept unit c is in
+      inl (ap (λ (c : Command). c.value) s.is ∙ ap (λ (c : Command). values c.unit) (sym s.is))
+  towards (PowerOff w) kept c of is =
+      let l = lowers t values kept w c is in
+      inl (ap (λ (c : Command). c.value) l.is ∙ sym l.value ∙ ap (λ (c : Command). values c.unit) (sym l.is))
+
+  value_after : (units : List Unit) (kept : Kept) (c : Command) (x : Unit) (same : Bool)
+      → IsOpen values pulse units kept
+      → (c.value ≡ values c.unit) ⊎ (has_in (pulsed pulse) c.unit ≡ true)
+      → same_unit c.unit x ≡ same
+      → has_in (units_in kept) x ≡ true → lags_in kept x ≡ false
+      → has_in (units_in kept) c.unit ≡ true
+      → cond same c.value (kept_value kept x) ≡ values x
+  value_after units kept c x false opened to is has idle there = opened.ready.stands x has idle
+  value_after units kept c x true opened to is has idle there =
+      let one = laws.units.same c.unit x is in
+      elim to [
+        | inl book ↦ book ∙ ap values one
+        | inr line ↦ absurd (both_ways (lags_in kept x) idle (opened.ready.line x (ap (has_in (pulsed pulse)) (sym one) ∙ line) has))
+      ]
+
+  stands_after : (units : List Unit) (kept : Kept) (c : Command) (ok : Bool) → IsOpen values pulse units kept
+      → (c.value ≡ values c.unit) ⊎ (has_in (pulsed pulse) c.unit ≡ true)
+      → (x : Unit) → has_in (units_in kept) x ≡ true → lags_in kept x ≡ false
+      → kept_value (after_answer c ok kept) x ≡ values x
+  stands_after units kept c false opened to x has idle = opened.ready.stands x has idle
+  stands_after units kept c true opened to x has idle =
+      elim (cases_Bool (has_in (units_in kept) c.unit)) [
+        | inl there ↦ kept_value-keep laws c.unit c.value kept x there ∙ value_after units kept c x (same_unit c.unit x) opened to refl has idle there
+        | inr gone ↦ kept_gone laws c kept x gone ∙ opened.ready.stands x has idle
+      ]
+
+  -- the command of a turn leaves it so
+  turn_open : (units : List Unit) (turn : Turn) (kept : Kept) (c : Command) (ok : Bool) → IsPulseOf pulse turn → due t values kept turn ≡ Some c → IsOpen values pulse units kept → IsOpen values pulse units (after_answer c ok kept)
+  turn_open units turn kept c ok of is opened =
+      let same : units_in (after_answer c ok kept) ≡ units_in kept = units_in-after_answer laws c ok kept in
+      let there : (x : Unit) → has_in (units_in (after_answer c ok kept)) x ≡ true → has_in (units_in kept) x ≡ true = λ x has. ap (λ us. has_in us x) (sym same) ∙ has in
+      record {
+        are = same ∙ opened.are;
+        ready = record {
+          stands = λ x has idle. stands_after units kept c ok opened (towards turn kept c of is) x (there x has) (sym (lags_in-after_answer laws c ok kept x) ∙ idle);
+          line = λ x line has. lags_in-after_answer laws c ok kept x ∙ opened.ready.line x line (there x has);
+        };
+      }
+
+  take_open : (units : List Unit) (turn : Turn) (command : Option Command) (kept : Kept) (answers : List Bool) (later : Kept → List Bool → Carried)
+      → IsPulseOf pulse turn
+      → due t values kept turn ≡ command
+      → ((kept : Kept) (answers : List Bool) → IsOpen values pulse units kept → IsOpen values pulse units (later kept answers).kept)
+      → IsOpen values pulse units kept → IsOpen values pulse units (take_turn command kept answers later).kept
+  take_open units turn None kept answers later of is next opened = next kept answers opened
+  take_open units turn (Some c) kept answers later of is next opened =
+      next (after_answer c (next_answer answers) kept) (later_answers answers) (turn_open units turn kept c (next_answer answers) of is opened)
+
+  pub plan_open : (units : List Unit) (turns : List Turn) (kept : Kept) (answers : List Bool) → Each (IsPulseOf pulse) turns → IsOpen values pulse units kept → IsOpen values pulse units (plan t values turns kept answers).kept
+  plan_open units [] kept answers of opened = opened
+  plan_open units (turn ∷ turns) kept answers of opened =
+      take_open units turn (due t values kept turn) kept answers (plan t values turns) of.0 refl (λ kept answers. plan_open units turns kept answers of.1) opened
+
+-- the turns of a unit, with its pulse
+by_test : (pulse : Option LineId) (line : LineId) (unit : Unit) (is : Bool) → pulse ≡ Some line → Each (IsPulseOf pulse) ((if is then Pulse line ∷ [] else []) ++ Apply unit ∷ [])
+by_test pulse line unit true is = (is, (tt, tt))
+by_test pulse line unit false is = (tt, tt)
+
+by_line : (pulse found : Option LineId) (unit : Unit) → pulse ≡ found → Each (IsPulseOf pulse) (pulse_turn found unit ++ Apply unit ∷ [])
+by_line pulse None unit is = (tt, tt)
+by_line pulse (Some line) unit is = by_test pulse line unit (same_unit (Line line) unit) is
+
+are_pulses : (pulse : Option LineId) (turn : Turn) → no_pulse turn ≡ true → Each (IsPulseOf pulse) (with_pulse pulse turn)
+are_pulses pulse (PowerOn w) unpulsed = (tt, tt)
+are_pulses pulse (Pulse line) unpulsed = cc
+are_pulses pulse (Apply unit) unpulsed = by_line pulse pulse unit refl
+are_pulses pulse (PowerOff w) unpulsed = (tt, tt)
+
+-- the record after the turn at a place
+pub open_after : ChipLaws → {D : Type 0} (Does : Act → D → D → Type 0) (t : Topology) (values : Unit → ℕ) (pulse : Option LineId) (units : List Unit) (k : ℕ) (turn : Turn) (kept after : Kept) (done done₁ : List Done) (m m₁ : D)
+    → slice_get (unit_turns t) k ≡ Some turn
+    → Takes Does t values (with_pulse pulse turn) kept after done done₁ m m₁
+    → IsOpen values pulse units kept → IsOpen values pulse units after
+open_after laws Does t values pulse units k turn kept after done done₁ m m₁ here takes opened =
+    subst (IsOpen values pulse units) (ap (λ (c : Carried). c.kept) takes.planned)
+    (plan_open laws t values pulse units (with_pulse pulse turn) kept (answers_of takes.done) (are_pulses pulse turn (all_at no_pulse (unit_turns t) k turn (none_pulses t) here)) opened)
+
+pub turn_there : (turns : List Turn) (k : ℕ) → k < length turns → (turn : Turn) × (slice_get turns k ≡ Some turn)
+turn_there turns k within =
+    elim ((slice_get_cases turns k).1) [
+      | inl there ↦ (there.0, there.2)
+      | inr past ↦ absurd (omega (arith, past.0))
+    ]

@@ -1,0 +1,58 @@
+-- What a step visits: the units that moved, those that lag and the line that is pulsed. Each other unit has the book's
+-- value in the record, and has no command.
+use Rattle.std.specs.Prelude.{◌≡◌, ℕ, true, false, Option, Some, None, List, [], ◌∷◌, slice_get}
+use Rattle.pm_base.specs.declared.names.LineId.{LineId}
+use Rattle.pm_base.specs.declared.names.Unit.{Unit}
+use Rattle.pm_base.specs.declared.names.Unit.TheVariants.{Line}
+use Rattle.pm_topology.specs.declared.topology.Topology.{Topology}
+use Rattle.pm_topology.specs.UnitMap.{units_in, with_value}
+use Rattle.pm_topology.specs.Units.{has_in}
+use Rattle.pm_apply.specs.declared.kept.KeptValue.{KeptValue}
+use Rattle.pm_apply.specs.declared.turns.Turn.TheVariants.{Apply}
+use Rattle.pm_apply.specs.Plan.{unit_turns}
+use Rattle.pm_apply.specs.Record.{Kept, kept_value, lags_in, marked}
+
+-- no unit lags
+abbrev pub NoneLags : Kept → Type 0
+NoneLags kept = (unit : Unit) → lags_in kept unit ≡ false
+
+-- the entry at a place, which doesn't lag
+pub record LagsNotAt (place : ℕ) (kept : Kept) : Type 0 where
+  pub entry : Unit × KeptValue
+  pub here : slice_get kept place ≡ Some entry
+  pub idle : entry.1.lags ≡ false
+
+-- the turn at a place is that of a unit that doesn't lag
+pub record IsIdleAt (t : Topology) (kept : Kept) (k : ℕ) : Type 0 where
+  pub unit : Unit
+  pub here : slice_get (unit_turns t) k ≡ Some (Apply unit)
+  pub known : has_in (units_in kept) unit ≡ true
+  pub idle : lags_in kept unit ≡ false
+
+-- an entry that doesn't lag has this value
+abbrev pub StandsAt : (Unit → ℕ) → Unit × KeptValue → Type 0
+StandsAt values e = e.1.lags ≡ false → e.1.value ≡ values e.0
+
+-- each unit of the record that doesn't lag has this value
+abbrev pub StandsElsewhere : (Unit → ℕ) → Kept → Type 0
+StandsElsewhere values kept = (unit : Unit) → has_in (units_in kept) unit ≡ true → lags_in kept unit ≡ false → kept_value kept unit ≡ values unit
+
+-- the unit of a line that is pulsed, if one is
+abbrev pub pulsed : Option LineId → List Unit
+pulsed None = []
+pulsed (Some line) = Line line ∷ []
+
+-- a unit is marked; nothing changes where it isn't there
+abbrev pub expected : Unit → Kept → Kept
+expected unit kept = with_value unit (record { value = kept_value kept unit; lags = true }) kept
+
+-- these units were marked, and nothing else changed
+pub record Marks (units : List Unit) (before after : Kept) : Type 0 where
+  pub alike : (values : Unit → ℕ) → marked values after ≡ marked values before
+  pub these : (unit : Unit) → has_in units unit ≡ true → has_in (units_in before) unit ≡ true → lags_in after unit ≡ true
+  pub others : (unit : Unit) → lags_in before unit ≡ true → lags_in after unit ≡ true
+
+-- the record before the turns of a step: a unit that isn't marked has the book's value, and the line that is pulsed is marked
+pub record IsReady (values : Unit → ℕ) (pulse : Option LineId) (kept : Kept) : Type 0 where
+  pub stands : StandsElsewhere values kept
+  pub line : (unit : Unit) → has_in (pulsed pulse) unit ≡ true → has_in (units_in kept) unit ≡ true → lags_in kept unit ≡ true
