@@ -26,7 +26,8 @@ impl Module {
         requires from { 256 ≤ first }
         requires ordered { first ≤ last }
         requires to { last ≤ 65535 }
-        ensures { ranged ⟦<dyn Responder as Responder>⟧ result ≡ record { first = first; last = last; says = says handler } }
+        ensures { ranged ⟦<dyn Responder as Responder>⟧ result
+            ≡ record { first = first; last = last; says = says handler } }
     {
         Module {
             first,
@@ -44,7 +45,8 @@ impl Module {
 
     /// Whether a word is in the ranges of both.
     pub(crate) fn overlaps(&self, other: &Module) -> bool
-        ensures { result ≡ have_common_word (ranged ⟦<dyn Responder as Responder>⟧ self.now) (ranged ⟦<dyn Responder as Responder>⟧ other.now) }
+        ensures { result ≡ have_common_word (ranged ⟦<dyn Responder as Responder>⟧ self.now)
+            (ranged ⟦<dyn Responder as Responder>⟧ other.now) }
     {
         self.first <= other.last && other.first <= self.last
     }

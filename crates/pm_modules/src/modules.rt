@@ -63,7 +63,8 @@ impl Modules {
     /// `Overlap` where a word is in its range and in that of a module that is stored, and else `Full` where
     /// eight are stored. Both hand the module back, and nothing changes.
     pub fn add(&mut self, added: Module) -> Result<(), AddError>
-        ensures added { OnOk result (ranges ⟦<dyn Responder as Responder>⟧ self.new ≡ ranges ⟦<dyn Responder as Responder>⟧ self.old ++ ranged ⟦<dyn Responder as Responder>⟧ added ∷ []) }
+        ensures added { OnOk result (ranges ⟦<dyn Responder as Responder>⟧ self.new
+            ≡ ranges ⟦<dyn Responder as Responder>⟧ self.old ++ ranged ⟦<dyn Responder as Responder>⟧ added ∷ []) }
         ensures fits { OnOk result (refusal ⟦<dyn Responder as Responder>⟧ added self.old ≡ None) }
         ensures refused { IfErr result (λ error. refusal ⟦<dyn Responder as Responder>⟧ added self.old ≡ Some error) }
         ensures kept { OnErr result (self.new ≡ self.old) }

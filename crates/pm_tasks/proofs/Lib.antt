@@ -1,2 +1,3 @@
 mod Passing
 mod Tables
+pub mod HistoryLemmas

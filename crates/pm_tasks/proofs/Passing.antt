@@ -1,12 +1,11 @@
 -- Tasks that are passed over, called, started and taken out, key by key.
-use Rattle.std.proofs.Common.{◌≡◌, ℕ, zero, suc, ◌+◌, Bool, true, false, List, [], ◌∷◌, ◌++◌, map, take, drop, get_or, set, length, Option, Some, None, refl, ap, sym, ◌∙◌, arith}
+use Rattle.std.proofs.Common.{◌≡◌, ℕ, zero, suc, ◌+◌, Bool, true, false, List, [], ◌∷◌, map, drop, get_or, set, length, Option, Some, None, refl, ap, sym, ◌∙◌, arith}
 use Rattle.std.specs.Prelude.{count_by, filter, is_some}
 use Rattle.std.specs.Option.{option_map}
 use Rattle.std.proofs.lemmas.Bool.Decides.{nat_tests}
 use Rattle.std.proofs.lemmas.List.{take-append-drop}
 use Rattle.std.proofs.lemmas.List.Sums.{length-filter}
-use Rattle.pm_tasks.specs.declared.tasks.Fired.{Fired}
-use Rattle.pm_tasks.specs.Timetable.{Period, Timed, called, due_from, is_due, rounds, ticked}
+use Rattle.pm_tasks.specs.Timetable.{Period, Timed, called, due_from, is_due, ticked}
 use Rattle.pm_tasks.specs.Stored.{settled, is_due_at}
 
 -- nothing is due between a time and the same time

@@ -1,11 +1,10 @@
 -- What contracts see of the tasks after each call. `f` is what they see of one task.
-use Rattle.std.proofs.Common.{◌≡◌, ◌≢◌, ℕ, zero, suc, ◌+◌, ◌≤◌, ◌<◌, Bool, true, false, List, [], ◌∷◌, ◌++◌, map, take, drop, get_or, set, length, Option, Some, None, refl, ap, sym, ◌∙◌, arith, add-one}
-use Rattle.std.specs.Prelude.{count_by, is_some, ◌&&◌, not, ◌==◌}
+use Rattle.std.proofs.Common.{◌≡◌, ◌≢◌, ℕ, suc, ◌+◌, ◌≤◌, ◌<◌, Bool, true, false, List, [], ◌∷◌, map, drop, get_or, set, length, Option, Some, None, refl, ap, sym, ◌∙◌, arith, add-one}
+use Rattle.std.specs.Prelude.{count_by, is_some, ◌&&◌, ◌==◌}
 use Rattle.std.specs.Option.{option_map}
 use Rattle.std.proofs.lemmas.Bool.Decides.{nat_tests}
 use Rattle.std.proofs.lemmas.List.{map-set, drop_all, length-map}
 use Rattle.slab.specs.Slab.{Slab}
-use Rattle.pm_tasks.specs.declared.tasks.Fired.{Fired}
 use Rattle.pm_tasks.specs.Timetable.{Timed, Timetable, Adds, advanced, called, can_start, cancelled, due_from, is_due, is_stored, planned, started}
 use Rattle.pm_tasks.specs.Stored.{seen, settled, is_due_at}
 use Rattle.pm_tasks.proofs.Passing.{at_rest, rest_due, settled_already, pass_slots, pass_due, call_slots, call_due, stored_at, stored_count}

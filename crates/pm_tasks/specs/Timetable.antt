@@ -1,5 +1,5 @@
 -- The tasks by their keys, the time, and which calls are left of those that are due.
-use Rattle.std.specs.Prelude.{◌≡◌, ◌≢◌, ℕ, ◌+◌, ◌-◌, ◌/◌, ◌%◌, ◌^◌, ◌==◌, ◌&&◌, not, nat_lt, Bool, false, if◌then◌else◌, List, [], ◌∷◌, map, take, drop, count_by, slice_index_or, slice_set, Option, Some, None, is_some}
+use Rattle.std.specs.Prelude.{◌≡◌, ◌≢◌, ℕ, ◌+◌, ◌-◌, ◌/◌, ◌%◌, ◌^◌, ◌==◌, ◌&&◌, not, nat_lt, Bool, false, if◌then◌else◌, List, [], ◌∷◌, map, count_by, slice_index_or, slice_set, Option, Some, None, is_some}
 use Rattle.std.specs.Option.{option_map}
 use Rattle.pm_tasks.specs.declared.tasks.Fired.{Fired}
 

@@ -3,8 +3,10 @@
 #![tactic(auto)]
 
 pub mod handler;
+pub mod history;
 mod stored;
 pub mod tasks;
 
 pub use handler::{Counter, Handler};
+pub use history::{Happening, Line, run};
 pub use tasks::{Fired, Tasks};

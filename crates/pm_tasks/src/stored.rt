@@ -56,7 +56,8 @@ impl Task {
 
     /// Calls the handler.
     pub(crate) fn fire(&mut self, at: u64) -> u32
-        ensures called { timed ⟦<dyn Handler as Handler>⟧ self.new ≡ called (timed ⟦<dyn Handler as Handler>⟧ self.old) }
+        ensures called { timed ⟦<dyn Handler as Handler>⟧ self.new
+            ≡ called (timed ⟦<dyn Handler as Handler>⟧ self.old) }
         ensures answer { result ≡ (timed ⟦<dyn Handler as Handler>⟧ self.new).calls }
     {
         self.handler.fire(at)
@@ -65,7 +66,8 @@ impl Task {
     /// It runs from a time on, at this interval.
     pub(crate) fn run(&mut self, from: u64, interval: u32)
         requires { 0 < interval }
-        ensures { timed ⟦<dyn Handler as Handler>⟧ self.new ≡ planned from interval (timed ⟦<dyn Handler as Handler>⟧ self.old) }
+        ensures { timed ⟦<dyn Handler as Handler>⟧ self.new
+            ≡ planned from interval (timed ⟦<dyn Handler as Handler>⟧ self.old) }
     {
         self.plan = Some(Plan { from, interval });
     }

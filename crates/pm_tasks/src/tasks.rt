@@ -64,8 +64,10 @@ impl Tasks {
     /// Hands the handler back where as many tasks are stored as there is room for, and nothing changes.
     pub fn add(&mut self, handler: Box<dyn Handler>) -> Result<usize, Box<dyn Handler>>
         requires { (timetable ⟦<dyn Handler as Handler>⟧ self.old).left ≡ [] }
-        ensures added { IfOk result (λ key. Adds (timetable ⟦<dyn Handler as Handler>⟧ self.old) (timetable ⟦<dyn Handler as Handler>⟧ self.new) key (calls handler)) }
-        ensures full { IsErr result ↔ (stored_count (timetable ⟦<dyn Handler as Handler>⟧ self.old) ≡ (timetable ⟦<dyn Handler as Handler>⟧ self.old).limit) }
+        ensures added { IfOk result (λ key. Adds (timetable ⟦<dyn Handler as Handler>⟧ self.old)
+            (timetable ⟦<dyn Handler as Handler>⟧ self.new) key (calls handler)) }
+        ensures full { IsErr result ↔ (stored_count (timetable ⟦<dyn Handler as Handler>⟧ self.old)
+            ≡ (timetable ⟦<dyn Handler as Handler>⟧ self.old).limit) }
         ensures back { IfErr result (λ back. back ≡ handler) }
         ensures kept { OnErr result (self.new ≡ self.old) }
     {
@@ -85,7 +87,8 @@ impl Tasks {
     pub fn start(&mut self, key: usize, interval: u32) -> bool
         requires { (timetable ⟦<dyn Handler as Handler>⟧ self.old).left ≡ [] }
         ensures answer { result ≡ can_start key interval (timetable ⟦<dyn Handler as Handler>⟧ self.old) }
-        ensures started { timetable ⟦<dyn Handler as Handler>⟧ self.new ≡ started key interval (timetable ⟦<dyn Handler as Handler>⟧ self.old) }
+        ensures started { timetable ⟦<dyn Handler as Handler>⟧ self.new
+            ≡ started key interval (timetable ⟦<dyn Handler as Handler>⟧ self.old) }
     {
         if interval == 0 {
             return false;
@@ -107,7 +110,8 @@ impl Tasks {
         requires { (timetable ⟦<dyn Handler as Handler>⟧ self.old).left ≡ [] }
         ensures handler { result ≡ option_map (λ task. task.handler) (get self.old.tasks key) }
         ensures answer { is_some result ≡ is_stored key (timetable ⟦<dyn Handler as Handler>⟧ self.old) }
-        ensures cancelled { timetable ⟦<dyn Handler as Handler>⟧ self.new ≡ cancelled key (timetable ⟦<dyn Handler as Handler>⟧ self.old) }
+        ensures cancelled { timetable ⟦<dyn Handler as Handler>⟧ self.new
+            ≡ cancelled key (timetable ⟦<dyn Handler as Handler>⟧ self.old) }
     {
         self.before = self.time;
         match self.tasks.try_remove(key) {
@@ -116,11 +120,30 @@ impl Tasks {
         }
     }
 
+    /// Takes the task under a key out, and drops its handler. Answers whether a task has the key; else nothing
+    /// changes.
+    pub fn drop_task(&mut self, key: usize) -> bool
+        requires { (timetable ⟦<dyn Handler as Handler>⟧ self.old).left ≡ [] }
+        ensures answer { result ≡ is_stored key (timetable ⟦<dyn Handler as Handler>⟧ self.old) }
+        ensures cancelled { timetable ⟦<dyn Handler as Handler>⟧ self.new
+            ≡ cancelled key (timetable ⟦<dyn Handler as Handler>⟧ self.old) }
+    {
+        self.before = self.time;
+        match self.tasks.try_remove(key) {
+            Some(task) => {
+                drop(task);
+                true
+            }
+            None => false,
+        }
+    }
+
     /// The time moves on. The tasks that are due then are called by `take`, each once.
     pub fn advance(&mut self, count: u32)
         requires settled { (timetable ⟦<dyn Handler as Handler>⟧ self.old).left ≡ [] }
         requires fits { (timetable ⟦<dyn Handler as Handler>⟧ self.old).now + count < 2 ^ 64 }
-        ensures { timetable ⟦<dyn Handler as Handler>⟧ self.new ≡ advanced count (timetable ⟦<dyn Handler as Handler>⟧ self.old) }
+        ensures { timetable ⟦<dyn Handler as Handler>⟧ self.new
+            ≡ advanced count (timetable ⟦<dyn Handler as Handler>⟧ self.old) }
     {
         self.before = self.time;
         self.time += count as u64;
@@ -131,8 +154,12 @@ impl Tasks {
     pub fn take(&mut self) -> Option<Fired>
         ensures none { IfNone result ((timetable ⟦<dyn Handler as Handler>⟧ self.old).left ≡ []) }
         ensures done { IfNone result ((timetable ⟦<dyn Handler as Handler>⟧ self.new).left ≡ []) }
-        ensures one { IfSome result (λ fired. (timetable ⟦<dyn Handler as Handler>⟧ self.old).left ≡ fired ∷ (timetable ⟦<dyn Handler as Handler>⟧ self.new).left) }
-        ensures rest { timetable ⟦<dyn Handler as Handler>⟧ self.new ≡ record (timetable ⟦<dyn Handler as Handler>⟧ self.old) { left = (timetable ⟦<dyn Handler as Handler>⟧ self.new).left } }
+        ensures one { IfSome result (λ fired. (timetable ⟦<dyn Handler as Handler>⟧ self.old).left
+            ≡ fired ∷ (timetable ⟦<dyn Handler as Handler>⟧ self.new).left) }
+        ensures rest { timetable ⟦<dyn Handler as Handler>⟧ self.new
+            ≡ record (timetable ⟦<dyn Handler as Handler>⟧ self.old) {
+              left = (timetable ⟦<dyn Handler as Handler>⟧ self.new).left;
+            } }
     {
         let key = self.first_due()?;
         let at = self.time;
@@ -146,8 +173,10 @@ impl Tasks {
     fn first_due(&self) -> Option<usize>
         ensures none { IfNone result ((timetable ⟦<dyn Handler as Handler>⟧ self.now).left ≡ []) }
         ensures fits { IfSome result (λ key. key + 1 < 2 ^ 64) }
-        ensures due { IfSome result (λ key. is_due_at self.now.before self.now.time key (stored ⟦<dyn Handler as Handler>⟧ self.now.tasks) ≡ true) }
-        ensures passed { IfSome result (λ key. seen self.now.before self.now.time key self.now.limit (stored ⟦<dyn Handler as Handler>⟧ self.now.tasks) ≡ timetable ⟦<dyn Handler as Handler>⟧ self.now) }
+        ensures due { IfSome result (λ key. is_due_at self.now.before self.now.time key
+            (stored ⟦<dyn Handler as Handler>⟧ self.now.tasks) ≡ true) }
+        ensures passed { IfSome result (λ key. seen self.now.before self.now.time key self.now.limit
+            (stored ⟦<dyn Handler as Handler>⟧ self.now.tasks) ≡ timetable ⟦<dyn Handler as Handler>⟧ self.now) }
     {
         for key in self.next..self.tasks.capacity() {
             if self.is_due(key) {
@@ -159,7 +188,8 @@ impl Tasks {
 
     /// Whether the task under a key is due.
     fn is_due(&self, key: usize) -> bool
-        ensures { result ≡ is_due_at self.now.before self.now.time key (stored ⟦<dyn Handler as Handler>⟧ self.now.tasks) }
+        ensures { result ≡ is_due_at self.now.before self.now.time key
+            (stored ⟦<dyn Handler as Handler>⟧ self.now.tasks) }
     {
         match self.tasks.get(key) {
             Some(task) => task.is_due(self.before, self.time),

@@ -1,4 +1,3 @@
-use Rattle.std.proofs.Common.{refl, sym, ◌∙◌, ap}
 use Rattle.pm_tasks.specs.Stored.{timed}
 use Rattle.pm_tasks.proofs.Tables as table
 use Rattle.pm_tasks.proofs.tasks.Tasks.advance.Goals as goal

@@ -1,4 +1,4 @@
-use Rattle.std.proofs.Common.{refl, sym, ◌∙◌, ap}
+use Rattle.std.proofs.Common.{sym}
 use Rattle.pm_tasks.specs.Stored.{timed}
 use Rattle.pm_tasks.proofs.Tables as table
 use Rattle.pm_tasks.proofs.tasks.Tasks.cancel.Goals as goal
