@@ -9,7 +9,7 @@ import stat
 import subprocess
 
 from forms import (
-    BAD_LINE, BAD_OBJECT, BAD_TEXT, FORMS, LIMITS, NO_MEMORY, TOO_LARGE, UNREADABLE, UNWRITABLE, USAGE, files_of, form_of,
+    BAD_LINE, BAD_OBJECT, BAD_TEXT, FORMS, LIMITS, MOST_LINES, NO_MEMORY, TOO_LARGE, UNREADABLE, UNWRITABLE, USAGE, files_of, form_of,
 )  # fmt: skip
 from lines import EVENTS, RECORDS, count, first_fault, form_fault, like, number_of, words_of
 
@@ -352,6 +352,8 @@ def sentence(program, words, written, status, target):
         return unwritable(target)
     if status == NO_MEMORY:
         return "there isn't enough memory"
+    if status == BAD_TEXT and form_of(words) and words[0] == "make":
+        return f"'{words[1]}' is no number of lines: 1 to {MOST_LINES} are"
     if status == BAD_TEXT and form_of(words) and words[0] != "build":
         return no_master(run)
     tell = {

@@ -7,6 +7,7 @@ FORMS = {
     "isolate": ("OBJ", "SCRIPT", "NODE"),
     "print": ("OBJ",),
     "build": ("TEXT",),
+    "make": ("N",),
 }
 
 # The exits of the program.
@@ -16,6 +17,9 @@ NOT_RUN = 125
 
 # The most bytes that are read of each kind of file.
 LIMITS = {"OBJ": 16_384, "TEXT": 1_048_576, "SCRIPT": 16_777_216}
+
+# The most lines of a script that is made.
+MOST_LINES = 200_000
 
 
 def form_of(words):

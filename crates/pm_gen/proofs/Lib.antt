@@ -1,2 +1,3 @@
 pub mod LaboratoryLemmas
 pub mod LinesLemmas
+pub mod MeaningLemmas

@@ -2,7 +2,6 @@
 use Rattle.std.specs.Prelude.{ℕ, List, [], ◌∷◌, ◌++◌}
 use Rattle.pm_object.specs.declared.object.MasterRec.{MasterRec}
 use Rattle.pm_object.specs.declared.object.SlaveRec.{SlaveRec}
-use Rattle.pm_object.specs.declared.object.Pair.{Pair}
 use Rattle.pm_object.specs.declared.object.Section.TheVariants.{Masters, Slaves, Power, Reset}
 use Rattle.pm_object.specs.declared.object.Object.{Object}
 

@@ -1,5 +1,7 @@
 -- The script that is made from a number.
 use Rattle.std.specs.Prelude.{ℕ, zero, suc, ◌+◌, ◌*◌, ◌/◌, ◌%◌, ◌^◌, ◌==◌, nat_le, if◌then◌else◌, List, [], ◌∷◌, ◌++◌, codes, decimal, get_or}
+use Rattle.pm_base.specs.declared.events.Event.{Event}
+use Rattle.pm_script.specs.Named.{IsScript}
 
 -- the number after another, of 64 bits, by Knuth's constants for a linear congruential generator
 abbrev pub next : ℕ → ℕ
@@ -49,3 +51,7 @@ opening = codes "ipi 1 21\nboot 7 0\n"
 -- the script of a number: so many lines after the opening ones, which begin with the number itself
 abbrev pub made : ℕ → List ℕ
 made n = opening ++ lines_from n n
+
+-- each line of a script has a meaning
+abbrev pub HasMeaning : List ℕ → Type 0
+HasMeaning text = (events : List Event) × IsScript text events

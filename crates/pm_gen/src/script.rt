@@ -1,7 +1,7 @@
 //! A script of any length, made from a number.
 
-ghost use Rattle.std.specs.Prelude.{◌≡◌, ◌++◌, ◌<◌, IfOk, OnOk};
-ghost use Rattle.pm_gen.specs.Script.{about, device_at, line_by, line_of, made, next};
+ghost use Rattle.std.specs.Prelude.{◌≡◌, ◌+◌, ◌*◌, ◌++◌, ◌<◌, ◌≤◌, length, IfOk, OnOk};
+ghost use Rattle.pm_gen.specs.Script.{HasMeaning, about, device_at, line_by, line_of, made, next};
 
 use itoa::Buffer;
 use pm_base::NoMemory;
@@ -13,9 +13,12 @@ const DEVICES: [u32; 5] = [11, 28, 33, 39, 46];
 /// The first two lines: the configuration is said to be set, and processor 7 starts.
 const OPENING: &[u8] = b"ipi 1 21\nboot 7 0\n";
 
-/// The script of a number: two opening lines, and then so many lines. The one error is want of memory.
+/// The script of a number: two opening lines, and then so many lines. Each of them has a meaning, and none has more than 18
+/// bytes. The one error is want of memory.
 pub fn make(alloc: Global, n: u32) -> Result<Vec<u8>, NoMemory>
-    ensures { IfOk result (λ text. text.items ≡ made n) }
+    ensures exact { IfOk result (λ text. text.items ≡ made n) }
+    ensures meant { IfOk result (λ text. HasMeaning text.items) }
+    ensures short { IfOk result (λ text. length text.items ≤ 18 * (n + 1)) }
 {
     let mut text = Vec::new(alloc);
     put(&mut text, OPENING)?;

@@ -10,6 +10,8 @@ mod isolate;
 #[cfg(test)]
 mod limits;
 #[cfg(test)]
+mod making;
+#[cfg(test)]
 mod reach;
 #[cfg(test)]
 mod sinks;

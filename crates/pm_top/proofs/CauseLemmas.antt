@@ -13,11 +13,13 @@ use Rattle.pm_script.proofs.NamedLemmas as named
 use Rattle.pm_trace.specs.Scripts.{script_or_fault}
 use Rattle.pm_trace.proofs.ScriptsLemmas.{Unreadable, unreadable_in}
 use Rattle.pm_top.specs.declared.works.Form.{Form}
+use Rattle.pm_top.specs.declared.works.Source.{Source}
+use Rattle.pm_top.specs.declared.works.Source.TheVariants as source
 use Rattle.pm_top.specs.declared.reading.Subject.{Subject}
 use Rattle.pm_top.specs.Form.{word}
-use Rattle.pm_top.specs.Asked.{Asked, asked_of, first_prefix, script_by, second_prefix, source_limit, subject_of, then_script, with_script}
+use Rattle.pm_top.specs.Asked.{Asked, asked_of, first_prefix, object_limit, script_by, second_prefix, source_prefix, subject_of, text_limit, then_script, with_script}
 use Rattle.pm_top.specs.Job.{Job, Meets}
-use Rattle.pm_top.specs.Ran.{FormMayFail, ScriptMayFail}
+use Rattle.pm_top.specs.Ran.{FormMayFail, ScriptMayFail, SourceMayFail}
 use Rattle.pm_top.proofs.Unread.{FailsToRead}
 use Rattle.pm_top.proofs.SubjectLemmas.{subject_kind}
 
@@ -27,6 +29,11 @@ script_unread p fails = named.script_unread p (unreadable_in (script_of p) fails
 
 first_fails : (limit : ℕ) (m : Moment) (name : List ℕ) → IsUnread (first_prefix limit m name).stop → MayFail name limit m
 first_fails limit m name unread = prefix_fails limit (m.file name) m.room (first_prefix limit m name) refl unread
+
+source_fails : (s : Source) (m : Moment) (name : List ℕ) → IsUnread (source_prefix s m name).stop → SourceMayFail s name m
+source_fails source.Object m name unread = first_fails object_limit m name unread
+source_fails source.Text m name unread = first_fails text_limit m name unread
+source_fails source.Number m name unread = absurd unread
 
 one_or_more : (room : ℕ) (again : Bool) → (2 ≤ room → again ≡ true) → again ≡ false → room < 2
 one_or_more room again more not = elim (cases_lt room 2) [
@@ -66,10 +73,10 @@ module _ (ws : List (List ℕ)) (m : Moment) (again : Bool) (more : 2 ≤ m.room
   script_cause (Some k) fails = second_fails m again (word k ws) more (script_unread (second_prefix script_limit m again (word k ws)) fails)
 
   pub job_cause : (f : Form) (job : Result Job Fault) → Meets job (asked_of f ws m again) → FailsToRead job → FormMayFail (Some f) ws m
-  job_cause f job meets fails = by (subject_of f ws (first_prefix (source_limit f.source) m (word 1 ws))) refl job meets fails
+  job_cause f job meets fails = by (subject_of f ws (source_prefix f.source m (word 1 ws))) refl job meets fails
     where
-      by : (v : Result Subject Fault) → subject_of f ws (first_prefix (source_limit f.source) m (word 1 ws)) ≡ v → (job : Result Job Fault) → Meets job (then_script v (script_by f.script ws m again)) → FailsToRead job → FormMayFail (Some f) ws m
+      by : (v : Result Subject Fault) → subject_of f ws (source_prefix f.source m (word 1 ws)) ≡ v → (job : Result Job Fault) → Meets job (then_script v (script_by f.script ws m again)) → FailsToRead job → FormMayFail (Some f) ws m
       by (Ok subject) is job meets fails = inr (script_cause f.script (unreadable subject (script_by f.script ws m again) job meets fails))
       by (Err due) is (Ok job) meets fails = absurd meets
       by (Err due) is (Err fault) meets fails =
-          inl (first_fails (source_limit f.source) m (word 1 ws) ((subject_kind f ws (first_prefix (source_limit f.source) m (word 1 ws)) due is).unread (sym meets ∙ fails)))
+          inl (source_fails f.source m (word 1 ws) ((subject_kind f ws (source_prefix f.source m (word 1 ws)) due is).unread (sym meets ∙ fails)))

@@ -22,7 +22,7 @@ use Rattle.pm_top.specs.declared.works.Work.{Work}
 use Rattle.pm_top.specs.Asked.{Asked, asked_of}
 use Rattle.pm_top.specs.Job.{IsAsked, IsFaultOf, IsKnown, Job, Meets}
 use Rattle.pm_top.specs.Done.{report}
-use Rattle.pm_top.specs.Ran.{FormDecides, IsBeforeRun, job_exit}
+use Rattle.pm_top.specs.Ran.{FormDecides, IsBeforeRun, StarvesFirst, job_exit}
 use Rattle.pm_top.proofs.Unread.{FailsToRead, fails}
 
 some_is : {X : Type 0} {x y : X} → ◌≡◌ {A = Option X} (Some x) (Some y) → x ≡ y
@@ -41,11 +41,11 @@ comes_before exit.WriteFault = false
 comes_before exit.Memory = true
 comes_before exit.TooLarge = false
 
-early : (e : Exit) → IsBeforeRun e → comes_before e ≡ true
-early e (inl is) = ap comes_before is
-early e (inr (inl is)) = ap comes_before is
-early e (inr (inr (inl is))) = ap comes_before is
-early e (inr (inr (inr is))) = ap comes_before is
+early : (f : Option Form) (e : Exit) → IsBeforeRun f e → comes_before e ≡ true
+early f e (inl is) = ap comes_before is
+early f e (inr (inl is)) = ap comes_before is
+early f e (inr (inr (inl is))) = ap comes_before is
+early f e (inr (inr (inr is))) = ap comes_before is.0
 
 stops_late : (n : ℕ) (stop : Stop) → comes_before (exit_after (fault_at n stop)) ≡ false
 stops_late n End = refl
@@ -90,15 +90,28 @@ module _ {I O : Type 0} (i : Inputs.Ghosts I) (o : Sink.Ghosts O) (say : ExitsSa
         by (Ok job) known at = no_fault f.work job did.answers Usage refl at
 
     -- a job that isn't refused ends after its run was begun
-    pub not_before : (job : Job) → did.job ≡ Ok job → IsBeforeRun result → ⊥
+    pub not_before : (job : Job) → did.job ≡ Ok job → IsBeforeRun (Some f) result → ⊥
     not_before job is before = by said.ends
       where
         begun : comes_before (exit_after (report_of (report f.work) did.job did.answers).fault) ≡ false
         begun = ap (λ (j : Result Job Fault). comes_before (exit_after (report_of (report f.work) j did.answers).fault)) is ∙ late f.work job did.answers
 
         by : EndsBy o (exit_after (report_of (report f.work) did.job did.answers).fault) sink sink' result → ⊥
-        by (inl ends) = let clash : true ≡ false = sym (early result before) ∙ ap comes_before ends ∙ begun in cc
-        by (inr broken) = let clash : true ≡ false = sym (early result before) ∙ ap comes_before broken.0 in cc
+        by (inl ends) = let clash : true ≡ false = sym (early (Some f) result before) ∙ ap comes_before ends ∙ begun in cc
+        by (inr broken) = let clash : true ≡ false = sym (early (Some f) result before) ∙ ap comes_before broken.0 in cc
+
+    -- where memory was wanted, the exit came before a run only if it is that of want of memory which comes first
+    pub starved_first : did.job ≡ Err Memory → IsBeforeRun (Some f) result → StarvesFirst (Some f)
+    starved_first is before = by before
+      where
+        ended : result ≡ exit.Memory
+        ended = did.ends ∙ ap (λ (j : Result Job Fault). exit_of (report_of (report f.work) j did.answers) did.cut) is ∙ refused_exit Memory did.cut
+
+        by : IsBeforeRun (Some f) result → StarvesFirst (Some f)
+        by (inl other) = let clash : exit.Memory ≡ exit.Usage = sym ended ∙ other in cc
+        by (inr (inl other)) = let clash : exit.Memory ≡ exit.BadObject = sym ended ∙ other in cc
+        by (inr (inr (inl other))) = let clash : exit.Memory ≡ exit.BadText = sym ended ∙ other in cc
+        by (inr (inr (inr at))) = at.1
 
     pub unread : result ≡ exit.ReadFault → FailsToRead did.job
     unread is = fails f.work did.job did.answers (said.read is)

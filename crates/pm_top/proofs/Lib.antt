@@ -2,7 +2,9 @@ pub mod CauseLemmas
 pub mod ExitsLemmas
 pub mod JobLemmas
 pub mod MainLemmas
+pub mod MakingLemmas
 pub mod SubjectLemmas
+pub mod TakingLemmas
 pub mod Unread
 pub mod WorkLemmas
 pub mod WritingLemmas

@@ -19,9 +19,7 @@ use Rattle.pm_objtext.specs.Building.{building}
 use Rattle.pm_objtext.specs.Meaning.{Means}
 use Rattle.pm_trace.specs.declared.faults.Fault.{Fault}
 use Rattle.pm_trace.specs.Report.{Reports, exit_of}
-use Rattle.pm_top.specs.declared.works.Source.{Source}
-use Rattle.pm_top.specs.declared.works.Source.TheVariants as source
-use Rattle.pm_top.specs.Asked.{Says, built_of, judged, object_by, object_limit, object_of, object_or_fault, source_limit, text_limit, text_or_fault}
+use Rattle.pm_top.specs.Asked.{built_of, judged, object_limit, object_of, object_or_fault, text_limit, text_or_fault}
 use Rattle.pm_top.specs.Within.{one_piece}
 use Rattle.pm_top.proofs.SubjectLemmas.{err_is_ok}
 
@@ -35,7 +33,7 @@ too_long : (bytes : List ℕ) (o : Object) → 16384 < length bytes → reading 
 unfolding reading
 too_long bytes o long is = let test : nat_lt 16384 (length bytes) ≡ true = lt-ltb 16384 (length bytes) long in err_is_ok (rw test at is)
 
-object_end : (p : Prefix) (o : Object) → HasSize object_limit p.stop (length p.bytes) → object_of p ≡ Ok o → p.stop ≡ reason.End
+pub object_end : (p : Prefix) (o : Object) → HasSize object_limit p.stop (length p.bytes) → object_of p ≡ Ok o → p.stop ≡ reason.End
 object_end p o size is = by p.stop size is
   where
     by : (stop : StopReason) → HasSize object_limit stop (length p.bytes) → judged stop (object_or_fault (reading p.bytes)) ≡ Ok o → stop ≡ reason.End
@@ -44,7 +42,7 @@ object_end p o size is = by p.stop size is
     by reason.Failure size is = absurd (err_is_ok is)
     by reason.Unbegun size is = absurd (err_is_ok is)
 
-text_end : (p : Prefix) (o : Object) → HasSize text_limit p.stop (length p.bytes) → Means p.bytes o → built_of p ≡ Ok o → p.stop ≡ reason.End
+pub text_end : (p : Prefix) (o : Object) → HasSize text_limit p.stop (length p.bytes) → Means p.bytes o → built_of p ≡ Ok o → p.stop ≡ reason.End
 text_end p o size means is = by p.stop size is
   where
     by : (stop : StopReason) → HasSize text_limit stop (length p.bytes) → judged stop (text_or_fault (building p.bytes)) ≡ Ok o → stop ≡ reason.End
@@ -52,10 +50,6 @@ text_end p o size means is = by p.stop size is
     by reason.Limit size is = let short : length p.bytes ≤ 1048576 = means.short in absurd (omega arith)
     by reason.Failure size is = absurd (err_is_ok is)
     by reason.Unbegun size is = absurd (err_is_ok is)
-
-pub source_end : (s : Source) (p : Prefix) (o : Object) → HasSize (source_limit s) p.stop (length p.bytes) → Says s p.bytes o → object_by s p ≡ Ok o → p.stop ≡ reason.End
-source_end source.Object p o size says is = object_end p o size is
-source_end source.Text p o size says is = text_end p o size says is
 
 -- ---- one piece
 

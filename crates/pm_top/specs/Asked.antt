@@ -1,6 +1,6 @@
--- What the words ask for, by what the inputs hold: the object, then the master, and then the script that a form reads, or the fault
--- that refuses it.
-use Rattle.std.specs.Prelude.{◌≡◌, ℕ, ◌==◌, Bool, if◌then◌else◌, List, [], Option, Some, None, Result, Ok, Err}
+-- What the words ask for, by what the inputs hold: the object or the number of lines, then the master, and then the script that a
+-- form reads, or the fault that refuses it.
+use Rattle.std.specs.Prelude.{◌≡◌, ℕ, ◌==◌, Bool, if◌then◌else◌, List, [], unwrap_or, Option, Some, None, Result, Ok, Err}
 use Rattle.std.specs.List.{list_any}
 use Rattle.pm_base.specs.Inputs.{Moment}
 use Rattle.pm_base.specs.declared.names.NodeId.{NodeId}
@@ -13,13 +13,14 @@ use Rattle.pm_object.specs.declared.object.Object.{Object}
 use Rattle.pm_object.specs.declared.object.ObjectFault.{ObjectFault}
 use Rattle.pm_object.specs.Grammar.{Reads}
 use Rattle.pm_object.specs.Reading.{reading}
+use Rattle.pm_gen.specs.Laboratory.{laboratory}
 use Rattle.pm_objtext.specs.declared.fault.TextFault.{TextFault}
 use Rattle.pm_objtext.specs.Building.{building}
 use Rattle.pm_objtext.specs.Meaning.{Means}
 use Rattle.pm_script.specs.Script.{Script, over, script_limit, script_of}
 use Rattle.pm_script.specs.Script.Stop.{End as AtEnd}
 use Rattle.pm_trace.specs.declared.faults.Fault.{Fault}
-use Rattle.pm_trace.specs.declared.faults.Fault.TheVariants.{Object as BadObject, Text as BadText, Node, Read}
+use Rattle.pm_trace.specs.declared.faults.Fault.TheVariants.{Object as BadObject, Text as BadText, Node, Number, Read}
 use Rattle.pm_trace.specs.Scripts.{script_or_fault}
 use Rattle.pm_top.specs.declared.works.Form.{Form}
 use Rattle.pm_top.specs.declared.works.Source.{Source}
@@ -62,24 +63,61 @@ object_of p = judged p.stop (object_or_fault (reading p.bytes))
 abbrev pub built_of : Prefix → Result Object Fault
 built_of p = judged p.stop (text_or_fault (building p.bytes))
 
--- the most bytes of either
-abbrev pub source_limit : Source → ℕ
-source_limit source.Object = object_limit
-source_limit source.Text = text_limit
+-- ---- how many lines are asked for
 
--- the object of what was read of a name
+-- the most lines of a script that is made, beside its opening
+abbrev pub line_limit : ℕ
+line_limit = 200000
+
+-- one line or more
+abbrev pub some_lines : Option ℕ → Option ℕ
+some_lines None = None
+some_lines (Some n) = if n == 0 then None else Some n
+
+-- how many lines a word asks for: none where it is no number, or no such number
+abbrev pub lines_asked : List ℕ → Option ℕ
+lines_asked word = some_lines (at_most line_limit (number_of word))
+
+-- the laboratory's object, where lines are asked for
+abbrev pub laboratory_if : Option ℕ → Result Object Fault
+laboratory_if None = Err Number
+laboratory_if (Some n) = Ok laboratory
+
+abbrev pub laboratory_for : List ℕ → Result Object Fault
+laboratory_for word = laboratory_if (lines_asked word)
+
+-- ---- what the first word after the command comes to
+
+-- what is read of a name
+abbrev pub first_prefix : ℕ → Moment → List ℕ → Prefix
+first_prefix limit m name = prefix_of limit (m.file name) m.room
+
+-- a number is its own word: nothing is read
+abbrev pub itself : List ℕ → Prefix
+itself word = record { bytes = word; stop = End }
+
+abbrev pub source_prefix : Source → Moment → List ℕ → Prefix
+source_prefix source.Object m name = first_prefix object_limit m name
+source_prefix source.Text m name = first_prefix text_limit m name
+source_prefix source.Number m name = itself name
+
+-- the object of that
 abbrev pub object_by : Source → Prefix → Result Object Fault
 object_by source.Object p = object_of p
 object_by source.Text p = built_of p
+object_by source.Number p = laboratory_for p.bytes
 
--- bytes are those of an object, or a text that says it
+-- bytes are those of an object, or a text that says it; with a number the object is the laboratory's
 abbrev pub Says : Source → List ℕ → Object → Type 0
 Says source.Object bytes object = Reads bytes object
 Says source.Text bytes object = Means bytes object
+Says source.Number bytes object = object ≡ laboratory
 
--- what is read of the first name
-abbrev pub first_prefix : ℕ → Moment → List ℕ → Prefix
-first_prefix limit m name = prefix_of limit (m.file name) m.room
+-- how many lines a script has that is made: 0 where none is
+abbrev pub lines_by : Source → List ℕ → ℕ
+lines_by source.Object word = 0
+lines_by source.Text word = 0
+lines_by source.Number word = unwrap_or (lines_asked word) 0
 
 -- what is read of the second name, where another input can be begun
 abbrev pub second_prefix : ℕ → Moment → Bool → List ℕ → Prefix
@@ -97,23 +135,23 @@ abbrev pub master_of : Object → List ℕ → Option NodeId
 master_of object name = if_master object (at_most 4294967295 (number_of name))
 
 -- an object with a master of it: without one the word names none
-abbrev pub with_named : Object → Option NodeId → Result Subject Fault
-with_named object (Some master) = Ok (record { object = object; master = Some master })
-with_named object None = Err Node
+abbrev pub with_named : Object → ℕ → Option NodeId → Result Subject Fault
+with_named object lines (Some master) = Ok (record { object = object; master = Some master; lines = lines })
+with_named object lines None = Err Node
 
 -- an object with the master that the word at a place names, where there is one
-abbrev pub with_master : Object → Option ℕ → List (List ℕ) → Result Subject Fault
-with_master object None ws = Ok (record { object = object; master = None })
-with_master object (Some k) ws = with_named object (master_of object (word k ws))
+abbrev pub with_master : Object → ℕ → Option ℕ → List (List ℕ) → Result Subject Fault
+with_master object lines None ws = Ok (record { object = object; master = None; lines = lines })
+with_master object lines (Some k) ws = with_named object lines (master_of object (word k ws))
 
 -- the object first, and then the master
-abbrev pub subject_by : Result Object Fault → Option ℕ → List (List ℕ) → Result Subject Fault
-subject_by (Ok object) place ws = with_master object place ws
-subject_by (Err fault) place ws = Err fault
+abbrev pub subject_by : Result Object Fault → ℕ → Option ℕ → List (List ℕ) → Result Subject Fault
+subject_by (Ok object) lines place ws = with_master object lines place ws
+subject_by (Err fault) lines place ws = Err fault
 
--- what the work of a form is done on, by what was read of its first name
+-- what the work of a form is done on, by what its first word came to
 abbrev pub subject_of : Form → List (List ℕ) → Prefix → Result Subject Fault
-subject_of f ws p = subject_by (object_by f.source p) f.node ws
+subject_of f ws p = subject_by (object_by f.source p) (lines_by f.source (word 1 ws)) f.node ws
 
 -- ---- and then the script
 
@@ -147,4 +185,4 @@ then_script (Err fault) script = Err fault
 -- what the words ask for in this form by what the inputs hold, where a second input can be begun or not
 abbrev pub asked_of : Form → List (List ℕ) → Moment → Bool → Result Asked Fault
 asked_of f ws m again =
-    then_script (subject_of f ws (first_prefix (source_limit f.source) m (word 1 ws))) (script_by f.script ws m again)
+    then_script (subject_of f ws (source_prefix f.source m (word 1 ws))) (script_by f.script ws m again)

@@ -15,6 +15,12 @@ use Rattle.pm_reach.specs.declared.members.Member.{Member}
 use Rattle.pm_reach.specs.Membership.{IsReach}
 use Rattle.pm_device.specs.declared.device.Device as Device
 use Rattle.pm_script.specs.Named.{IsScript}
+use Rattle.pm_drive.specs.Drive.{driven}
+use Rattle.pm_drive.specs.Drove.{Drove}
+use Rattle.pm_drive.specs.Text.{run_text}
+use Rattle.pm_gen.specs.Laboratory.{laboratory}
+use Rattle.pm_gen.specs.Script.{made}
+use Rattle.pm_gen.specs.Summary.{summary}
 use Rattle.pm_trace.specs.Reach.{reach_text}
 use Rattle.pm_isolate.specs.Differences.{isolate_text}
 use Rattle.pm_isolate.specs.Listed.{AreListed}
@@ -28,10 +34,11 @@ use Rattle.pm_isolate.specs.Differences.{isolate_report}
 use Rattle.pm_trace.specs.Report.{Report}
 use Rattle.pm_trace.specs.Scripts.{fault_at}
 use Rattle.pm_top.specs.declared.works.Work.{Work}
-use Rattle.pm_top.specs.declared.works.Work.TheVariants.{Replay, Reach, Isolate, Print, Build}
+use Rattle.pm_top.specs.declared.works.Work.TheVariants.{Replay, Reach, Isolate, Print, Build, Make}
 use Rattle.pm_top.specs.Form.{word, work_of}
-use Rattle.pm_top.specs.Asked.{master_of}
+use Rattle.pm_top.specs.Asked.{lines_asked, master_of}
 use Rattle.pm_top.specs.Job.{Job}
+use Rattle.pm_top.specs.Making.{Makes}
 use Rattle.pm_top.specs.Theorem.{IsReplayed}
 use Rattle.pm_top.specs.declared.reading.Subject.{Subject}
 use Rattle.pm_top.specs.Within.{IsReachText, Writes}
@@ -50,6 +57,8 @@ body_of Isolate job answers =
     (isolate_report (setup job.asked.subject.object chip) (unwrap_or job.asked.subject.master no_master) job.members job.asked.script).body
 body_of Print job answers = text_of job.asked.subject.object ∷ []
 body_of Build job answers = little_endian (words_of job.asked.subject.object) ∷ []
+body_of Make job answers =
+    summary job.asked.subject.lines (run_text (setup job.asked.subject.object chip) answers job.events) ∷ []
 
 -- and then the fault at which its script stops, if it does
 abbrev pub report : Work → Job → List (List Bool) → Report
@@ -111,14 +120,27 @@ module _ {I O : Type 0} (i : Inputs.Ghosts I) (o : Sink.Ghosts O) where
     pub text : (o.state new).bytes ≡ (o.state old).bytes ++ little_endian (words_of object)
     pub reads : Reads (little_endian (words_of object)) object
 
+module _ {O D : Type 0} (o : Sink.Ghosts O) (d : Device.Ghosts D) where
+  -- the word is a number of lines, and the summary was written of the run of the script of so many lines over the laboratory's
+  -- object, through which the device was driven
+  pub record IsMade (ws : List (List ℕ)) (sink sink' : O) (device device' : D) : Type 0 where
+    pub n : ℕ
+    pub events : List Event
+    pub answers : List (List Bool)
+    pub asked : lines_asked (word 1 ws) ≡ Some n
+    pub means : IsScript (made n) events
+    pub text : (o.state sink').bytes ≡ (o.state sink).bytes ++ summary n (run_text (setup laboratory chip) answers events)
+    pub drove : Drove d (setup laboratory chip) (driven (setup laboratory chip) answers events) device device'
+
 module _ {I O D : Type 0} (i : Inputs.Ghosts I) (o : Sink.Ghosts O) (d : Device.Ghosts D) where
-  -- what a work asks for was done. Only a replay touches the device
+  -- what a work asks for was done. A replay and a run that is made drive the device, and nothing else touches it
   abbrev pub WorkDone : Work → List (List ℕ) → World I O D → World I O D → Type 0
   WorkDone Replay ws w w' = IsReplayed i o d ws w w'
   WorkDone Reach ws w w' = IsReached i o ws w.inputs w.sink w'.sink × (w.device ≡ w'.device)
   WorkDone Isolate ws w w' = IsIsolated i o ws w.inputs w.sink w'.sink × (w.device ≡ w'.device)
   WorkDone Print ws w w' = IsPrinted i o ws w.inputs w.sink w'.sink × (w.device ≡ w'.device)
   WorkDone Build ws w w' = IsBuilt i o ws w.inputs w.sink w'.sink × (w.device ≡ w'.device)
+  WorkDone Make ws w w' = IsMade o d ws w.sink w'.sink w.device w'.device
 
   -- words that ask for nothing are never done
   abbrev pub DoneIf : Option Work → List (List ℕ) → World I O D → World I O D → Type 0
@@ -158,3 +180,5 @@ module _ {I O D : Type 0} (i : Inputs.Ghosts I) (o : Sink.Ghosts O) (d : Device.
   Worked Isolate subject name w w' exit = ForMaster subject (λ master. Compares subject.object master name w w' exit)
   Worked Print subject name w w' exit = OnlyWrites (λ text. text ≡ text_of subject.object) w w' exit
   Worked Build subject name w w' exit = OnlyWrites (λ bytes. Reads bytes subject.object) w w' exit
+  Worked Make subject name w w' exit =
+      Makes o d (setup subject.object chip) subject.lines w.sink w'.sink w.device w'.device exit × (w.inputs ≡ w'.inputs)

@@ -4,22 +4,24 @@ use Rattle.std.specs.Str.{bytes_eq}
 use Rattle.pm_top.specs.declared.works.Form.{Form}
 use Rattle.pm_top.specs.declared.works.Source.TheVariants as source
 use Rattle.pm_top.specs.declared.works.Work.{Work}
-use Rattle.pm_top.specs.declared.works.Work.TheVariants.{Replay, Reach, Isolate, Print, Build}
+use Rattle.pm_top.specs.declared.works.Work.TheVariants.{Replay, Reach, Isolate, Print, Build, Make}
 
--- `replay OBJ SCRIPT`, `reach OBJ NODE`, `isolate OBJ SCRIPT NODE`, `print OBJ`, `build TEXT`: what is read, and the places of the words
--- that name a master and a script
+-- `replay OBJ SCRIPT`, `reach OBJ NODE`, `isolate OBJ SCRIPT NODE`, `print OBJ`, `build TEXT`, `make N`: what is read, and the
+-- places of the words that name a master and a script
 abbrev pub form_of : Work → Form
 form_of Replay = record { source = source.Object; node = None; script = Some 2; work = Replay }
 form_of Reach = record { source = source.Object; node = Some 2; script = None; work = Reach }
 form_of Isolate = record { source = source.Object; node = Some 3; script = Some 2; work = Isolate }
 form_of Print = record { source = source.Object; node = None; script = None; work = Print }
 form_of Build = record { source = source.Text; node = None; script = None; work = Build }
+form_of Make = record { source = source.Number; node = None; script = None; work = Make }
 
 -- what two words ask for by the first
 abbrev pub work_of_two : List ℕ → Option Work
 work_of_two first =
     if bytes_eq first (codes "print") then Some Print
     else if bytes_eq first (codes "build") then Some Build
+    else if bytes_eq first (codes "make") then Some Make
     else None
 
 -- what three words ask for by the first

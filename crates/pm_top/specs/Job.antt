@@ -1,24 +1,29 @@
--- What a form has to do: what it asks for, and what the master can reach; or the fault that refuses it.
+-- What a form has to do: what it asks for, what the master can reach, and the events of a script that is made; or the fault that
+-- refuses it.
 use Rattle.std.specs.Prelude.{◌≡◌, ℕ, ◌≤◌, ◌⊎◌, Bool, true, is_some, List, IfNone, IfSome, IsSome, Result, Ok, Err, ⊤}
 use Rattle.pm_base.specs.Faults.{Rose}
 use Rattle.pm_base.specs.declared.errors.Exit.{Exit}
 use Rattle.pm_base.specs.declared.errors.Exit.TheVariants.{ReadFault}
+use Rattle.pm_base.specs.declared.events.Event.{Event}
 use Rattle.pm_base.specs.Inputs.{Moment}
 use Rattle.pm_base.specs.declared.inputs.Inputs as Inputs
+use Rattle.pm_gen.specs.Script.{made}
 use Rattle.pm_topology.specs.Chip.{chip}
 use Rattle.pm_reach.specs.declared.members.Member.{Member}
 use Rattle.pm_reach.specs.Membership.{IsReach}
+use Rattle.pm_script.specs.Named.{IsScript}
 use Rattle.pm_trace.specs.declared.faults.Fault.{Fault}
-use Rattle.pm_trace.specs.declared.faults.Fault.TheVariants.{Object as BadObject, Text as BadText, Line, Memory, Node, Read, Size, Usage}
+use Rattle.pm_trace.specs.declared.faults.Fault.TheVariants.{Object as BadObject, Text as BadText, Line, Memory, Node, Number, Read, Size, Usage}
 use Rattle.pm_top.specs.declared.works.Form.{Form}
 use Rattle.pm_top.specs.declared.works.Source.TheVariants as source
 use Rattle.pm_top.specs.declared.reading.Subject.{Subject}
 use Rattle.pm_top.specs.Asked.{Asked, asked_of, no_script}
 
--- what is asked for, and the members of the reach of its master, where there is one
+-- what is asked for, the members of the reach of its master, where there is one, and the events of a script that is made
 pub record Job : Type 0 where
   pub asked : Asked
   pub members : List Member
+  pub events : List Event
 
 -- what the master of a subject can reach on the chip, where it has one
 abbrev pub IsFound : Subject → List Member → Type 0
@@ -42,15 +47,18 @@ IsFaultOf f Memory = ⊤
 IsFaultOf f (BadObject fault) = f.source ≡ source.Object
 IsFaultOf f (BadText fault) = f.source ≡ source.Text
 IsFaultOf f Node = IsSome f.node
+IsFaultOf f Number = f.source ≡ source.Number
 IsFaultOf f Usage = ⊥
 IsFaultOf f (Line n cause) = ⊥
 IsFaultOf f Size = ⊥
 
--- a job is one of the form: it has a master where a word names one, whose reach is over the chip, and a script where a word names one
+-- a job is one of the form: it has a master where a word names one, whose reach is over the chip, a script where a word names one,
+-- and the events of the lines that are made where a word is their number
 pub record IsOf (f : Form) (job : Job) : Type 0 where
   pub named : is_some job.asked.subject.master ≡ is_some f.node
   pub reach : IsFound job.asked.subject job.members
   pub unread : IfNone f.script (job.asked.script ≡ no_script)
+  pub made : f.source ≡ source.Number → IsScript (made job.asked.subject.lines) job.events
 
 -- and a refusal is one of the form's
 abbrev pub IsKnown : Form → Result Job Fault → Type 0

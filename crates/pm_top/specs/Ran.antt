@@ -1,5 +1,5 @@
 -- What a run of the program did, on every exit, and what each exit means.
-use Rattle.std.specs.Prelude.{◌≡◌, ℕ, ◌+◌, ◌<◌, ◌≤◌, ◌⊎◌, Bool, true, false, List, [], length, Option, Some, None, Result, Ok, Err, ⊤}
+use Rattle.std.specs.Prelude.{◌≡◌, ℕ, ◌+◌, ◌<◌, ◌≤◌, ◌⊎◌, Bool, true, List, [], length, Option, Some, None, Result, Ok, Err, ⊤}
 use Rattle.pm_base.specs.declared.errors.Exit.{Exit}
 use Rattle.pm_base.specs.declared.errors.Exit.TheVariants as exit
 use Rattle.pm_base.specs.declared.inputs.Inputs as Inputs
@@ -9,9 +9,12 @@ use Rattle.pm_object.specs.declared.object.Object.{Object}
 use Rattle.pm_object.specs.Grammar.{IsObject}
 use Rattle.pm_topology.specs.Chip.{chip}
 use Rattle.pm_device.specs.declared.device.Device as Device
+use Rattle.pm_drive.specs.Drive.{driven}
+use Rattle.pm_drive.specs.Drove.{Drove}
+use Rattle.pm_gen.specs.Laboratory.{laboratory}
 use Rattle.pm_script.specs.Script.{script_limit}
 use Rattle.pm_trace.specs.declared.faults.Fault.{Fault}
-use Rattle.pm_trace.specs.declared.faults.Fault.TheVariants.{Usage}
+use Rattle.pm_trace.specs.declared.faults.Fault.TheVariants.{Memory, Usage}
 use Rattle.pm_trace.specs.Exits.{EndsWith}
 use Rattle.pm_trace.specs.Faults.{exit_after}
 use Rattle.pm_trace.specs.Report.{Did, Report}
@@ -21,31 +24,44 @@ use Rattle.pm_replay.specs.Replayed.{AnswersHaveCauses, RunsKeepApart}
 use Rattle.pm_run.specs.Run.{setup}
 use Rattle.pm_base.specs.World.{World}
 use Rattle.pm_top.specs.declared.works.Form.{Form}
+use Rattle.pm_top.specs.declared.works.Source.{Source}
+use Rattle.pm_top.specs.declared.works.Source.TheVariants as source
 use Rattle.pm_top.specs.declared.works.Work.{Work}
-use Rattle.pm_top.specs.declared.works.Work.TheVariants.{Replay}
+use Rattle.pm_top.specs.declared.works.Work.TheVariants.{Replay, Make}
 use Rattle.pm_top.specs.Form.{form, word}
-use Rattle.pm_top.specs.Asked.{Asked, asked_of, source_limit}
+use Rattle.pm_top.specs.Asked.{Asked, asked_of, lines_by, object_limit, text_limit}
 use Rattle.pm_top.specs.Job.{IsAsked, Job}
 use Rattle.pm_top.specs.Done.{report}
+use Rattle.pm_top.specs.Making.{WasDriven}
 
 -- ---- what was done
 
--- a replay drives the device, and no other work touches it
-abbrev pub drives : Work → Bool
-drives Replay = true
-drives work = false
+-- a work drives the device through the lines that it writes, through a whole run before it writes, or not at all
+pub data Drives : Type 0 where
+  AsItWrites : Drives
+  BeforeItWrites : Drives
+  Never : Drives
+
+abbrev pub drives : Work → Drives
+drives Replay = AsItWrites
+drives Make = BeforeItWrites
+drives work = Never
 
 module _ {D : Type 0} (d : Device.Ghosts D) where
-  -- what is done to the device under these answers, up to the cut: it is driven through the steps of the script, or nothing
-  -- touches it
-  abbrev pub TouchesIf : Bool → D → D → Result Job Fault → List (List Bool) → Option ℕ → Type 0
-  TouchesIf true old new (Ok job) answers cut = Touched d (setup job.asked.subject.object chip) old new (Ok job.asked.script) answers cut
-  TouchesIf true old new (Err fault) answers cut = old ≡ new
-  TouchesIf false old new job answers cut = old ≡ new
+  -- what is done to the device under these answers, up to the cut: it is driven through the steps of the script; or through all
+  -- those of a script of so many lines that is made, or some of them where memory is wanted; or nothing touches it
+  abbrev pub TouchesBy : Drives → ℕ → D → D → Result Job Fault → List (List Bool) → Option ℕ → Type 0
+  TouchesBy AsItWrites n old new (Ok job) answers cut = Touched d (setup job.asked.subject.object chip) old new (Ok job.asked.script) answers cut
+  TouchesBy AsItWrites n old new (Err fault) answers cut = old ≡ new
+  TouchesBy BeforeItWrites n old new (Ok job) answers cut =
+      Drove d (setup job.asked.subject.object chip) (driven (setup job.asked.subject.object chip) answers job.events) old new
+  TouchesBy BeforeItWrites n old new (Err fault) answers cut =
+      (old ≡ new) ⊎ ((fault ≡ Memory) × WasDriven d (setup laboratory chip) n old new)
+  TouchesBy Never n old new job answers cut = old ≡ new
 
-  -- the same by the work of a form
-  abbrev pub Touches : Form → D → D → Result Job Fault → List (List Bool) → Option ℕ → Type 0
-  Touches f old new job answers cut = TouchesIf (drives f.work) old new job answers cut
+  -- the same by the work of a form and the number of lines that its words ask for
+  abbrev pub Touches : Form → List (List ℕ) → D → D → Result Job Fault → List (List Bool) → Option ℕ → Type 0
+  Touches f ws old new job answers cut = TouchesBy (drives f.work) (lines_by f.source (word 1 ws)) old new job answers cut
 
 -- words without a form have no job
 abbrev pub nothing_to_do : ⊤ → List (List Bool) → Report
@@ -57,7 +73,7 @@ module _ {I O D : Type 0} (i : Inputs.Ghosts I) (o : Sink.Ghosts O) (d : Device.
   RanForm None ws w w' result =
       Did o (λ job. job ≡ Err Usage) nothing_to_do (λ job answers cut. w.device ≡ w'.device) w.sink w'.sink result
   RanForm (Some f) ws w w' result =
-      Did o (IsAsked i f ws w.inputs w'.inputs result) (report f.work) (Touches d f w.device w'.device) w.sink w'.sink result
+      Did o (IsAsked i f ws w.inputs w'.inputs result) (report f.work) (Touches d f ws w.device w'.device) w.sink w'.sink result
 
   -- the same by the words
   abbrev pub Ran : List (List ℕ) → World I O D → World I O D → Exit → Type 0
@@ -92,19 +108,31 @@ module _ {O : Type 0} (o : Sink.Ghosts O) where
   abbrev pub Decides : List (List ℕ) → Moment → O → O → Exit → Type 0
   Decides ws m old new result = FormDecides (form ws) ws m old new result
 
+-- want of memory comes before a script is run, unless the run is kept in memory
+abbrev pub StarvesFirst : Option Form → Type 0
+StarvesFirst None = ⊤
+StarvesFirst (Some f) = drives f.work ≡ BeforeItWrites → ⊥
+
 -- an exit that comes before a script is run
-abbrev pub IsBeforeRun : Exit → Type 0
-IsBeforeRun result = (result ≡ exit.Usage) ⊎ ((result ≡ exit.BadObject) ⊎ ((result ≡ exit.BadText) ⊎ (result ≡ exit.Memory)))
+abbrev pub IsBeforeRun : Option Form → Exit → Type 0
+IsBeforeRun f result =
+    (result ≡ exit.Usage) ⊎ ((result ≡ exit.BadObject) ⊎ ((result ≡ exit.BadText) ⊎ ((result ≡ exit.Memory) × StarvesFirst f)))
 
 -- by what the inputs show, a script that the words name can't be begun after another input, or has a failing byte within its limit
 abbrev pub ScriptMayFail : Option ℕ → List (List ℕ) → Moment → Type 0
 ScriptMayFail None ws m = ⊥
 ScriptMayFail (Some k) ws m = (m.room < 2) ⊎ MayFail (word k ws) script_limit m
 
+-- a first name can't be begun or has a failing byte within its limit; of a number nothing is read
+abbrev pub SourceMayFail : Source → List ℕ → Moment → Type 0
+SourceMayFail source.Object name m = MayFail name object_limit m
+SourceMayFail source.Text name m = MayFail name text_limit m
+SourceMayFail source.Number name m = ⊥
+
 -- one that the words name can't be begun or has a failing byte within its limit
 abbrev pub FormMayFail : Option Form → List (List ℕ) → Moment → Type 0
 FormMayFail None ws m = ⊥
-FormMayFail (Some f) ws m = MayFail (word 1 ws) (source_limit f.source) m ⊎ ScriptMayFail f.script ws m
+FormMayFail (Some f) ws m = SourceMayFail f.source (word 1 ws) m ⊎ ScriptMayFail f.script ws m
 
 -- the same by the words
 abbrev pub InputsMayFail : List (List ℕ) → Moment → Type 0

@@ -1,5 +1,5 @@
 -- What the parts of a run do. No user of this crate speaks of these words.
-use Rattle.std.specs.Prelude.{◌≡◌, ◌⊎◌, ◌==◌, ℕ, List, [], ◌∷◌, None, Result, IfOk, IfSome, IsTrue}
+use Rattle.std.specs.Prelude.{◌≡◌, ◌⊎◌, ◌==◌, ◌≤◌, ℕ, List, [], ◌∷◌, None, Result, IfOk, IfSome, IsTrue}
 use Rattle.std.specs.List.{list_any}
 use Rattle.pm_base.specs.declared.errors.Exit.{Exit}
 use Rattle.pm_base.specs.declared.names.NodeId.{NodeId}
@@ -20,21 +20,28 @@ use Rattle.pm_top.specs.declared.works.Form.{Form}
 use Rattle.pm_top.specs.declared.works.Source.{Source}
 use Rattle.pm_top.specs.declared.reading.Subject.{Subject}
 use Rattle.pm_top.specs.Form.{word}
-use Rattle.pm_top.specs.Asked.{Says, object_by, source_limit, subject_of}
+use Rattle.pm_top.specs.declared.works.Source.TheVariants as source
+use Rattle.pm_top.specs.Asked.{Says, itself, line_limit, object_by, object_limit, subject_of, text_limit}
 
 -- ---- what is read
 
--- a named input was read and judged
+-- a name came to this: it was read within the limit of its kind, or is a number itself
+abbrev pub Takes : Source → Type 0 → List ℕ → Moment → Moment → Prefix → Type 0
+Takes source.Object shown name before after prefix = ReadsPrefix shown name object_limit before after prefix
+Takes source.Text shown name before after prefix = ReadsPrefix shown name text_limit before after prefix
+Takes source.Number shown name before after prefix = (prefix ≡ itself name) × (before ≡ after)
+
+-- a name was taken and judged
 pub record ReadsAs (source : Source) (shown : Type 0) (name : List ℕ) (before after : Moment) (verdict : Result Object Fault) : Type 0 where
   pub prefix : Prefix
-  pub read : ReadsPrefix shown name (source_limit source) before after prefix
+  pub read : Takes source shown name before after prefix
   pub is : object_by source prefix ≡ verdict
   pub says : IfOk verdict (Says source prefix.bytes)
 
--- the first name of a form was read and judged, and then the word that names a master
+-- the first name of a form was taken and judged, and then the word that names a master
 pub record ReadsSubject (shown : Type 0) (f : Form) (ws : List (List ℕ)) (before after : Moment) (verdict : Result Subject Fault) : Type 0 where
   pub prefix : Prefix
-  pub read : ReadsPrefix shown (word 1 ws) (source_limit f.source) before after prefix
+  pub read : Takes f.source shown (word 1 ws) before after prefix
   pub is : subject_of f ws prefix ≡ verdict
   pub says : IfOk verdict (λ subject. Says f.source prefix.bytes subject.object)
 
@@ -42,10 +49,11 @@ pub record ReadsSubject (shown : Type 0) (f : Form) (ws : List (List ℕ)) (befo
 abbrev pub IsNamed : Subject → Type 0
 IsNamed subject = IfSome subject.master (λ master. IsTrue (list_any (λ (r : MasterRec). r.node == master.0) subject.object.masters))
 
--- and the object is well formed
+-- and the object is well formed, and a script that is made isn't too long
 pub record IsSubject (subject : Subject) : Type 0 where
   pub object : IsObject subject.object
   pub named : IsNamed subject
+  pub few : subject.lines ≤ line_limit
 
 -- ---- what is written
 

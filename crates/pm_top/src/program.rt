@@ -25,8 +25,9 @@ use std::alloc::Global;
 /// Does all that the program does, for its words without its own name. `replay OBJ SCRIPT` runs the
 /// script of one name over the object of another, `reach OBJ NODE` writes what a master of an object can
 /// reach, `isolate OBJ SCRIPT NODE` writes that and what differs between the run of the script and the run
-/// without the messages of the master, `print OBJ` writes the text of an object, and `build TEXT` the bytes of the object that a text
-/// says. No other words have a form. A replay makes the device, which stands at 0 everywhere, follow the
+/// without the messages of the master, `print OBJ` writes the text of an object, `build TEXT` the bytes of
+/// the object that a text says, and `make N` the summary of the run of a script of N lines that is made. No
+/// other words have a form. `replay` and `make` make the device, which stands at 0 everywhere, follow the
 /// book of requirements; no other words command it.
 pub fn pm_main<I: Inputs, O: Sink, D: Device>(
     alloc: Global,
@@ -37,7 +38,7 @@ pub fn pm_main<I: Inputs, O: Sink, D: Device>(
 ) -> Exit
     requires idle { D.values_observable → (unit : Unit) → (D.state dev.old).value unit ≡ 0 }
     // On Done the inputs held what the words name, and the whole text of what the words ask for was
-    // written; a replay drove the device through the run of that script over that object.
+    // written; `replay` and `make` drove the device through the run of the script over the object.
     ensures done { I.observable → O.observable → result ≡ Exit.Done
         → IsDone I.Inputs O.Sink D.Device (map string_bytes words.now)
         (world inputs.old out.old dev.old) (world inputs.new out.new dev.new) }
@@ -57,7 +58,7 @@ pub fn pm_main<I: Inputs, O: Sink, D: Device>(
     // Each answer of a run of whichever object has its causes in the book before its step.
     ensures causes { EachHasCauses }
     // Before a script is run nothing is done to the device.
-    ensures untouched { IsBeforeRun result → dev.old ≡ dev.new }
+    ensures untouched { IsBeforeRun (form (map string_bytes words.now)) result → dev.old ≡ dev.new }
     // On Memory nothing was written but the fault line, as far as the sink took it.
     ensures memory { result ≡ Exit.Memory → IsStarved O.Sink out.old out.new }
     // ReadFault comes only where the inputs' count of faults rose.

@@ -1,4 +1,4 @@
-//! What a form reads before its script: the object, and then the master that a word names.
+//! What a form reads before its script: the object or the number of lines, and then the master that a word names.
 
 ghost use Rattle.std.specs.Prelude.{◌≡◌, ◌⊎◌, ◌==◌, IfOk, IfSome, IsTrue, map, string_bytes};
 ghost use Rattle.std.specs.List.{list_any};
@@ -6,6 +6,7 @@ ghost use Rattle.pm_object.specs.Grammar.{IsObject};
 ghost use Rattle.pm_top.specs.Asked.{master_of, script_word, with_master};
 ghost use Rattle.pm_top.specs.Within.{IsNamed, IsSubject, ReadsAs, ReadsSubject};
 
+use crate::making::{laboratory_for, lines_by};
 use crate::objects::{read_object, read_text};
 use crate::works::{Form, Source, word};
 use pm_base::{Inputs, NodeId, number};
@@ -13,11 +14,13 @@ use pm_object::{Object, has_key};
 use pm_trace::Fault;
 use std::alloc::Global;
 
-/// What a work is done on: an object, and a master of it, where a word names one.
+/// What a work is done on: an object, a master of it, where a word names one, and how many lines a script has that
+/// is made, or 0.
 #[derive(Debug, Drop)]
 pub struct Subject {
     pub object: Object,
     pub master: Option<NodeId>,
+    pub lines: u32,
 }
 
 /// Reads the object of a form, and then the master that a word of it names.
@@ -31,13 +34,14 @@ pub(crate) fn read_subject<I: Inputs>(
         ⊎ ReadsSubject I.observable form (map string_bytes words.now) (I.state inputs.old) (I.state inputs.new) result }
     ensures sound { IfOk result IsSubject }
 {
-    match read_source(alloc, form.source, inputs, word(words, 1)) {
-        Ok(object) => with_master(object, form.node, words),
+    let name = word(words, 1);
+    match read_source(alloc, form.source, inputs, name) {
+        Ok(object) => with_master(object, lines_by(form.source, name), form.node, words),
         Err(fault) => Err(fault),
     }
 }
 
-/// Reads the named object, from its bytes or from its text.
+/// Reads the named object, from its bytes or from its text; for a number of lines it is the laboratory's.
 fn read_source<I: Inputs>(
     alloc: Global,
     source: Source,
@@ -51,24 +55,32 @@ fn read_source<I: Inputs>(
     match source {
         Source::Object => read_object(alloc, inputs, name),
         Source::Text => read_text(alloc, inputs, name),
+        Source::Number => laboratory_for(alloc, name),
     }
 }
 
 /// The object with the master that the word at a place names, where there is one.
-fn with_master(object: Object, node: Option<usize>, words: &[String]) -> Result<Subject, Fault>
-    ensures exact { result ≡ with_master object node (map string_bytes words.now) }
+fn with_master(
+    object: Object,
+    lines: u32,
+    node: Option<usize>,
+    words: &[String],
+) -> Result<Subject, Fault>
+    ensures exact { result ≡ with_master object lines node (map string_bytes words.now) }
     ensures named { IfOk result IsNamed }
 {
     let Some(place) = node else {
         return Ok(Subject {
             object,
             master: None,
+            lines,
         });
     };
     match master_of(&object, word(words, place)) {
         Some(master) => Ok(Subject {
             object,
             master: Some(master),
+            lines,
         }),
         None => Err(Fault::Node),
     }

@@ -8,6 +8,9 @@ ghost use Rattle.pm_topology.specs.Chip.{chip};
 ghost use Rattle.pm_replay.specs.Replayed.{IsRun, Replayed};
 ghost use Rattle.pm_replay.specs.Safe.{IsSafe};
 ghost use Rattle.pm_run.specs.Run.{setup};
+ghost use Rattle.pm_script.specs.Named.{script_in};
+ghost use Rattle.pm_trace.specs.Exits.{EndsWith};
+ghost use Rattle.pm_trace.specs.Scripts.{script_exit, script_or_fault};
 
 use pm_base::{Exit, Inputs, NoMemory, Sink};
 use pm_device::Device;
@@ -31,6 +34,8 @@ pub(crate) fn replay_over<I: Inputs, O: Sink, D: Device>(
     ensures done { I.observable → O.observable → result ≡ Exit.Done
         → IsRun I.Inputs O.Sink D.Device (setup object chip) script.now
         (world inputs.old out.old dev.old) (world inputs.new out.new dev.new) }
+    ensures decided { I.observable
+        → EndsWith O.Sink (script_exit (script_or_fault (script_in (I.state inputs.old) script.now))) out.old out.new result }
     ensures safe { IsSafe D.Device chip dev.old dev.new }
     ensures ran { Replayed I.Inputs O.Sink D.Device (setup object chip) script.now
         (world inputs.old out.old dev.old) (world inputs.new out.new dev.new) result }

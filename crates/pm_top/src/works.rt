@@ -11,6 +11,7 @@ ghost use Rattle.pm_top.specs.Within.{IsSubject};
 
 use crate::conversions::{build_object, print_object};
 use crate::isolating::isolate;
+use crate::making::make_over;
 use crate::reaching::write_reach;
 use crate::reading::Subject;
 use crate::replaying::replay_over;
@@ -25,6 +26,8 @@ pub enum Source {
     Object,
     /// The text of one.
     Text,
+    /// Nothing: it is how many lines a script has that is made, and the object is the laboratory's.
+    Number,
 }
 
 /// What is done with what a form reads.
@@ -40,6 +43,8 @@ pub enum Work {
     Print,
     /// The bytes of the object are written.
     Build,
+    /// A script that is made is run over the object, and the summary of its run is written.
+    Make,
 }
 
 /// A form of the words: what is read, in the order in which it is read, and the work.
@@ -55,7 +60,7 @@ pub struct Form {
 }
 
 /// The form of a work: `replay OBJ SCRIPT`, `reach OBJ NODE`, `isolate OBJ SCRIPT NODE`, `print OBJ`,
-/// `build TEXT`.
+/// `build TEXT`, `make N`.
 pub(crate) fn form_of(work: Work) -> Form
     ensures { result ≡ form_of work }
 {
@@ -65,6 +70,7 @@ pub(crate) fn form_of(work: Work) -> Form
         Work::Isolate => (Source::Object, Some(3), Some(2)),
         Work::Print => (Source::Object, None, None),
         Work::Build => (Source::Text, None, None),
+        Work::Make => (Source::Number, None, None),
     };
     Form {
         source,
@@ -93,6 +99,7 @@ fn work_of_two(first: &str) -> Option<Work>
     match first {
         "print" => Some(Work::Print),
         "build" => Some(Work::Build),
+        "make" => Some(Work::Make),
         _ => None,
     }
 }
@@ -158,5 +165,6 @@ pub(crate) fn do_work<I: Inputs, O: Sink, D: Device>(
         ),
         Work::Print => print_object(alloc, &subject.object, out),
         Work::Build => build_object(alloc, &subject.object, out),
+        Work::Make => make_over(alloc, subject.object, subject.lines, out, dev),
     }
 }

@@ -12,7 +12,7 @@ use Rattle.pm_base.specs.Sink.{HasFailed, Wrote}
 use Rattle.pm_base.specs.Writing.{Leaves}
 use Rattle.pm_base.proofs.SinkLemmas.{BreaksIn-failed}
 use Rattle.pm_trace.specs.declared.faults.Fault.{Fault}
-use Rattle.pm_trace.specs.declared.faults.Fault.TheVariants.{Line, Memory, Node, Object, Read, Size, Text, Usage}
+use Rattle.pm_trace.specs.declared.faults.Fault.TheVariants.{Line, Memory, Node, Number, Object, Read, Size, Text, Usage}
 use Rattle.pm_trace.specs.Exits.{EndsBy, ExitSays, IsWhole}
 use Rattle.pm_trace.specs.Faults.{exit_after}
 use Rattle.pm_trace.specs.Report.{Report, exit_of, fault_lines, pieces}
@@ -41,6 +41,7 @@ only (Some Read) = refl
 only (Some Memory) = refl
 only (Some Size) = tt
 only (Some Node) = tt
+only (Some Number) = tt
 
 -- an exit that is another one than that of a failed sink is that of the fault
 only_at : (due e : Exit) (fault : Option Fault) → e ≡ exit_after fault → e ≡ due → Only due fault

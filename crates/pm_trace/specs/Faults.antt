@@ -3,7 +3,7 @@ use Rattle.std.specs.Prelude.{ℕ, List, [], ◌∷◌, Option, Some, None, code
 use Rattle.pm_base.specs.declared.errors.Exit.{Exit}
 use Rattle.pm_base.specs.declared.errors.Exit.TheVariants as exit
 use Rattle.pm_trace.specs.declared.faults.Fault.{Fault}
-use Rattle.pm_trace.specs.declared.faults.Fault.TheVariants.{Usage, Object, Text, Line, Read, Memory, Size, Node}
+use Rattle.pm_trace.specs.declared.faults.Fault.TheVariants.{Usage, Object, Text, Line, Read, Memory, Size, Node, Number}
 use Rattle.pm_object.specs.declared.object.ObjectCause.{ObjectCause}
 use Rattle.pm_object.specs.declared.object.ObjectCause.TheVariants as objects
 use Rattle.pm_objtext.specs.declared.fault.TextCause.{TextCause}
@@ -55,6 +55,7 @@ fault_words Read = word.Name (codes "read") ∷ []
 fault_words Memory = word.Name (codes "memory") ∷ []
 fault_words Size = word.Name (codes "size") ∷ []
 fault_words Node = word.Name (codes "node") ∷ []
+fault_words Number = word.Name (codes "number") ∷ []
 
 -- the line of a fault
 abbrev pub fault_text : Fault → List ℕ
@@ -70,6 +71,7 @@ exit_by Read = exit.ReadFault
 exit_by Memory = exit.Memory
 exit_by Size = exit.TooLarge
 exit_by Node = exit.BadText
+exit_by Number = exit.BadText
 
 -- the exit of a command after all that it writes
 abbrev pub exit_after : Option Fault → Exit

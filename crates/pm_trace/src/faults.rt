@@ -28,6 +28,8 @@ pub enum Fault {
     Size,
     /// A word names no master of the object.
     Node,
+    /// A word is no number of lines that a script is made with.
+    Number,
 }
 
 /// Leaves in `line` the line of a fault with its line feed.
@@ -67,6 +69,7 @@ pub fn write_fault(fault: Fault, line: &mut TextLine)
         Fault::Memory => write_line(line, name(b"fault"), &[name(b"memory")]),
         Fault::Size => write_line(line, name(b"fault"), &[name(b"size")]),
         Fault::Node => write_line(line, name(b"fault"), &[name(b"node")]),
+        Fault::Number => write_line(line, name(b"fault"), &[name(b"number")]),
     }
 }
 
@@ -98,7 +101,7 @@ pub fn exit(fault: Fault) -> Exit
     match fault {
         Fault::Usage => Exit::Usage,
         Fault::Object(_) => Exit::BadObject,
-        Fault::Text(_) | Fault::Node => Exit::BadText,
+        Fault::Text(_) | Fault::Node | Fault::Number => Exit::BadText,
         Fault::Line(_, _) => Exit::BadLine,
         Fault::Read => Exit::ReadFault,
         Fault::Memory => Exit::Memory,

@@ -1,6 +1,7 @@
-use Rattle.std.proofs.Common.{inl, inr, refl, [], Err}
+use Rattle.std.proofs.Common.{◌∙◌, inl, inr, refl, [], Err}
 use Rattle.pm_trace.specs.declared.faults.Fault.TheVariants.{Memory}
 use Rattle.pm_trace.proofs.ScriptsLemmas.{memory_exit}
+use Rattle.pm_top.proofs.ExitsLemmas.{refused_exit}
 use Rattle.pm_top.proofs.replaying.replay_over.Goals as goal
 
 pub returns-in-Err-clause-ran : goal.returns-in-Err-clause-ran
@@ -13,3 +14,6 @@ returns-in-Err-clause-ran g c = record {
   ends = c.refuse.ensures.ends;
   touched = refl;
 }
+
+pub returns-in-Err-clause-decided : goal.returns-in-Err-clause-decided
+returns-in-Err-clause-decided g c = λ seen. inr (inl (c.refuse.ensures.ends ∙ refused_exit Memory c.refuse.ensures.cut))
