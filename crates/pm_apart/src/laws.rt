@@ -30,8 +30,10 @@ pub fn texts_are_lines()
     ensures steps { (n : ℕ) (xs : List Driven) → concat (texts n xs) ≡ concat (map line_text (step_lines n xs)) }
     ensures run { (c : Setup) (answers : List (List Bool)) (events : List Event)
         → run_text c answers events ≡ concat (map line_text (run_lines c answers events)) }
-    ensures about { (n : ℕ) (xs : List Driven) (unit : Unit) → filter (is_about unit) (step_lines n xs) ≡ set_lines unit n xs }
-    ensures whole { (c : Setup) (answers : List (List Bool)) (events : List Event) (unit : Unit) → IsWellFormed c.topology
+    ensures about { (n : ℕ) (xs : List Driven) (unit : Unit) → filter (is_about unit) (step_lines n xs)
+        ≡ set_lines unit n xs }
+    ensures whole { (c : Setup) (answers : List (List Bool)) (events : List Event) (unit : Unit)
+        → IsWellFormed c.topology
         → has_unit c.topology unit ≡ true
         → filter (is_about unit) (run_lines c answers events)
         ≡ set_lines unit 0 (driven c answers events) ++ closing_line_of c (driven c answers events) unit }
@@ -45,12 +47,17 @@ pub fn texts_are_lines()
 /// given on the unit, with the same values before them, as in the run without the messages of the master; its closing line
 /// is the same; and so of all lines of the run those about the unit.
 pub fn lines_stay_apart()
-    ensures commands { (c : Setup) (m : NodeId) (events : List Event) (unit : Unit) → IsObject c.object → IsWellFormed c.topology
+    ensures commands { (c : Setup) (m : NodeId) (events : List Event) (unit : Unit) → IsObject c.object
+        → IsWellFormed c.topology
         → IsOutOfReach c m unit → AreDrivenAlike unit (driven c [] events) (driven c [] (quiet m events)) }
-    ensures closing { (c : Setup) (m : NodeId) (events : List Event) (unit : Unit) → IsObject c.object → IsWellFormed c.topology
-        → IsOutOfReach c m unit → closing_line_of c (driven c [] events) unit ≡ closing_line_of c (driven c [] (quiet m events)) unit }
-    ensures steps { (c : Setup) (events : List Event) (cut : Option ℕ) → IsObject c.object → IsWellFormed c.topology → StepsStayApart c [] events cut }
-    ensures run { (c : Setup) (events : List Event) → IsObject c.object → IsWellFormed c.topology → StaysApart c [] events }
+    ensures closing { (c : Setup) (m : NodeId) (events : List Event) (unit : Unit) → IsObject c.object
+        → IsWellFormed c.topology
+        → IsOutOfReach c m unit → closing_line_of c (driven c [] events) unit
+        ≡ closing_line_of c (driven c [] (quiet m events)) unit }
+    ensures steps { (c : Setup) (events : List Event) (cut : Option ℕ) → IsObject c.object
+        → IsWellFormed c.topology → StepsStayApart c [] events cut }
+    ensures run { (c : Setup) (events : List Event) → IsObject c.object → IsWellFormed c.topology
+        → StaysApart c [] events }
 {
     reach_keeps_apart();
     reach_is_closed();
@@ -72,8 +79,10 @@ pub fn driven_lines_stay_apart<D: Device>()
         → NoFailure D.Device c.topology (until cut (driven c answers events)) old new
         → Drove D.Device c (until cut (driven c answers events)) old new
         → StepsStayApart c answers events cut }
-    ensures run { (c : Setup) (events : List Event) (answers : List (List Bool)) (old new : D) → IsObject c.object → IsWellFormed c.topology
-        → NoFailure D.Device c.topology (driven c answers events) old new → Drove D.Device c (driven c answers events) old new
+    ensures run { (c : Setup) (events : List Event) (answers : List (List Bool)) (old new : D)
+        → IsObject c.object → IsWellFormed c.topology
+        → NoFailure D.Device c.topology (driven c answers events) old new
+        → Drove D.Device c (driven c answers events) old new
         → StaysApart c answers events }
 {
     lines_stay_apart();
@@ -84,7 +93,8 @@ pub fn driven_lines_stay_apart<D: Device>()
 /// reported no failure; and whatever it refused, beyond the reach the books of the run are as in that one, and so are the lines
 /// of starts, drops and callbacks. The same of the script lines of the run alone, up to where the text breaks off.
 pub fn driven_runs_keep_apart<D: Device>()
-    ensures run { (c : Setup) (events : List Event) (answers : List (List Bool)) (old new : D) → IsObject c.object → IsWellFormed c.topology
+    ensures run { (c : Setup) (events : List Event) (answers : List (List Bool)) (old new : D)
+        → IsObject c.object → IsWellFormed c.topology
         → Drove D.Device c (driven c answers events) old new
         → KeepsApart D.Device c answers events old new }
     ensures steps { (c : Setup) (events : List Event) (answers : List (List Bool)) (cut : Option ℕ) (old new : D)

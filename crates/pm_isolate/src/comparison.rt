@@ -59,7 +59,8 @@ pub fn compare<I: Inputs, O: Sink>(
         → IsCompared I.Inputs O.Sink (setup object topology) m script.now inputs.old out.old out.new }
     // What the input holds decides the exit, unless memory is wanted or the sink fails.
     ensures decided { I.observable
-        → EndsWith O.Sink (script_exit (script_or_fault (script_in (I.state inputs.old) script.now))) out.old out.new result }
+        → EndsWith O.Sink (script_exit (script_or_fault
+        (script_in (I.state inputs.old) script.now))) out.old out.new result }
     // On every exit: what was asked for, and what was written of it.
     ensures ran { Compared I.Inputs O.Sink (setup object topology) m script.now
         inputs.old inputs.new out.old out.new result }
@@ -154,7 +155,8 @@ fn run<I: Inputs, O: Sink>(
     out: &mut O,
 ) -> Exit
     ensures ran { OfScript I.observable id (I.state inputs.old)
-        (λ s. Reports O.Sink (report_behind prepared.old.reach.items (rest_report m s prepared.old.worlds)) out.old out.new result) }
+        (λ s. Reports O.Sink (report_behind prepared.old.reach.items
+        (rest_report m s prepared.old.worlds)) out.old out.new result) }
     ensures fault { result ≡ Exit.ReadFault → Rose (I.state inputs.old).faults (I.state inputs.new).faults }
 {
     match write_all(out, prepared.reach.as_slice()) {

@@ -38,7 +38,8 @@ pub fn run_lines<I: Inputs>(
 ) -> Result<LinesEnd, LineStop>
     ensures ran { OfScript I.observable id (I.state inputs.old) (λ s. RanLines m s worlds.old worlds.new result) }
     ensures ends { IfOk result (λ end. end.stop ≢ Unbegun) }
-    ensures fault { IfOk result (λ end. end.stop ≡ Failure → Rose (I.state inputs.old).faults (I.state inputs.new).faults) }
+    ensures fault { IfOk result (λ end. end.stop ≡ Failure
+        → Rose (I.state inputs.old).faults (I.state inputs.new).faults) }
 {
     let mut watcher = Watcher { worlds, m };
     each_line(inputs, id, &mut watcher)

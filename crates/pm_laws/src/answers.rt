@@ -36,10 +36,12 @@ pub fn answers_agree()
 pub fn callbacks_agree()
     ensures both { (border : Border) (event : Event) (a b : State) → IsObject a.fixed.object
         → IsClosed a.fixed.object a.fixed.topology border → IsSound a → IsSound b → Agree border a b
-        → callbacks_beyond a.fixed.object border (outputs event a).callbacks ≡ callbacks_beyond a.fixed.object border (outputs event b).callbacks }
+        → callbacks_beyond a.fixed.object border (outputs event a).callbacks
+        ≡ callbacks_beyond a.fixed.object border (outputs event b).callbacks }
     ensures hidden { (border : Border) (event : Event) (book : State) → IsObject book.fixed.object
         → IsClosed book.fixed.object book.fixed.topology border → IsSound book
-        → is_hidden border event book ≡ true → callbacks_beyond book.fixed.object border (outputs event book).callbacks ≡ [] }
+        → is_hidden border event book ≡ true → callbacks_beyond book.fixed.object border
+        (outputs event book).callbacks ≡ [] }
 {
     laws_below();
 }

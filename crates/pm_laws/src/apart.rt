@@ -65,10 +65,12 @@ pub fn steps_keep_apart()
 pub fn reach_keeps_apart()
     ensures events { (c : Setup) (m : NodeId) (event : Event) (a b : Stand)
         → Beside m (split c event a).events (split c (quiet_event m event) b).events }
-    ensures cores { (c : Setup) (m : NodeId) (es fs : List Event) (a b : State) → IsObject c.object → IsWellFormed c.topology
+    ensures cores { (c : Setup) (m : NodeId) (es fs : List Event) (a b : State) → IsObject c.object
+        → IsWellFormed c.topology
         → Beside m es fs → IsBookOf c a → IsBookOf c b → Agree (border_of c.object c.topology m) a b
         → AreBeside c m a b (cores_of es a) (cores_of fs b) }
-    ensures after { (c : Setup) (m : NodeId) (es fs : List Event) (a b : State) → IsObject c.object → IsWellFormed c.topology
+    ensures after { (c : Setup) (m : NodeId) (es fs : List Event) (a b : State) → IsObject c.object
+        → IsWellFormed c.topology
         → Beside m es fs → IsBookOf c a → IsBookOf c b → Agree (border_of c.object c.topology m) a b
         → Agree (border_of c.object c.topology m) (book_after es a) (book_after fs b) }
     ensures line { (c : Setup) (m : NodeId) (event : Event) (a b : Stand) → IsObject c.object → IsWellFormed c.topology

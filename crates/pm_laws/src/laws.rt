@@ -95,7 +95,8 @@ pub fn talks_agree()
     ensures alike { (border : Border) (first second : List Talk) (a b : State) → HasSome border
         → talk_part border first ≡ talk_part border second
         → Agree border a b → Agree border (talked first a) (talked second b) }
-    ensures hidden { (border : Border) (changes : List Talk) (a b : State) → HasSome border → IsTalkUnseen border changes
+    ensures hidden { (border : Border) (changes : List Talk) (a b : State) → HasSome border
+        → IsTalkUnseen border changes
         → Agree border a b → Agree border (talked changes a) b }
 {}
 
@@ -125,7 +126,8 @@ pub fn paths_agree()
     ensures last_hidden { (border : Border) (stages : List (List Prim)) (still now : State) → KnowsModes still
         → AreHidden border stages → Agree border still now → Agree border still (after_stages stages now) }
     ensures alike { (border : Border) (first second : List (List Prim)) (a b : State) → border.some ≡ true
-        → AreAlike border first second → Agree border a b → Both (Agree border) (path_from first a) (path_from second b) }
+        → AreAlike border first second → Agree border a b
+        → Both (Agree border) (path_from first a) (path_from second b) }
     ensures last_alike { (border : Border) (first second : List (List Prim)) (a b : State) → border.some ≡ true
         → AreAlike border first second → Agree border a b
         → Agree border (after_stages first a) (after_stages second b) }

@@ -17,7 +17,8 @@ pub fn run(book: &mut Book, events: &[Event], out: &mut Outbox)
     requires room { HasRoomFor book.old out.old }
     ensures book { book.new ≡ book_after events.now book.old }
     ensures fixed { book.new.fixed ≡ book.old.fixed }
-    ensures out { MatchOption (last_outputs None events.now book.old) (out.new ≡ out.old) (λ outputs. Holds outputs out.new) }
+    ensures out { MatchOption (last_outputs None events.now book.old) (out.new ≡ out.old)
+        (λ outputs. Holds outputs out.new) }
     ensures nothing { events.now ≡ [] → (book.new ≡ book.old) × (out.new ≡ out.old) }
 
     // From a book at load, with what the load puts out, this is where the load and then these core events lead to.

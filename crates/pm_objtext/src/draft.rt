@@ -5,6 +5,7 @@ ghost use Rattle.pm_objtext.specs.SoFar.{start, header_size, words_in, stage_aft
 ghost use Rattle.pm_objtext.specs.Causes.{stands, repeats, lacks_masters, breaks_masters, cause_of, end_cause};
 ghost use Rattle.pm_objtext.specs.Draft.{so_far, accepting, reading, finished};
 ghost use Rattle.pm_objtext.specs.declared.fault.BuildError.TheVariants.{Bad};
+ghost use Rattle.pm_objtext.specs.declared.stage.Stage.TheVariants.{In};
 ghost use Rattle.pm_objtext.specs.Answers.{Gives, GivesInto};
 
 use crate::fault::{BuildError, TextCause, TextFault};
@@ -168,10 +169,7 @@ impl Draft {
                 append(&mut self.extra, extra.as_slice())?;
             }
             Item::Opens(section) => {
-                self.stage = Stage::In {
-                    section,
-                    filled: false,
-                };
+                self.stage = opened(section, false);
                 self.order.push(section)?;
             }
             Item::Master(master) => self.masters.push(master)?,
@@ -182,18 +180,12 @@ impl Draft {
             Item::Reset(pair) => self.reset.push(pair)?,
             Item::Shutdown(pair) => self.shutdown.push(pair)?,
             Item::Config(base, overlay) => {
-                self.stage = Stage::In {
-                    section: Section::Config,
-                    filled: true,
-                };
+                self.stage = opened(Section::Config, true);
                 self.base_mask = base;
                 self.overlay_mask = overlay;
             }
             Item::Gpo(word) => {
-                self.stage = Stage::In {
-                    section: Section::Gpo,
-                    filled: true,
-                };
+                self.stage = opened(Section::Gpo, true);
                 self.gpo = word;
             }
         }
@@ -343,4 +335,11 @@ fn append(list: &mut List<u32>, words: &[u32]) -> Result<(), NoMemory>
         list.push(*word)?;
     }
     Ok(())
+}
+
+/// The stage within a section that has its record, or has none yet.
+fn opened(section: Section, filled: bool) -> Stage
+    ensures { result ≡ In section filled }
+{
+    Stage::In { section, filled }
 }

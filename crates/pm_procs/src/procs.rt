@@ -63,7 +63,11 @@ impl Model for Procs {
 
     ghost Value = { Procs };
 
-    ghost view = { λ procs. record { procs = procs.procs.items; members = procs.members; pending = procs.pending.items } };
+    ghost view = { λ procs. record {
+      procs = procs.procs.items;
+      members = procs.members;
+      pending = procs.pending.items;
+    } };
 }
 
 impl Procs {

@@ -62,12 +62,16 @@ unit_members object t kind routes units = filter_map (λ unit. unit_member objec
 
 -- ---- all
 
+-- the slaves, then the power nodes, and then the lines of these units that paths bring in
+abbrev pub part_members : Object → Topology → List Route → List Unit → List Member
+part_members object t routes units =
+    unit_members object t members.Slave routes units
+    ++ (unit_members object t members.Power routes units ++ unit_members object t members.Line routes units)
+
 -- what paths bring into a reach: masters in the order of the object, and then slaves, power nodes and lines by number
 abbrev pub members_of : Object → Topology → List Route → List Member
 members_of object t routes =
-    master_members object routes
-    ++ (unit_members object t members.Slave routes (units_of t)
-    ++ (unit_members object t members.Power routes (units_of t) ++ unit_members object t members.Line routes (units_of t)))
+    master_members object routes ++ part_members object t routes (units_of t)
 
 -- these are the members of the reach of a master: what the least paths from it bring in
 pub record IsReach (object : Object) (t : Topology) (m : NodeId) (found : List Member) : Type 0 where

@@ -48,35 +48,24 @@ fn members_of(
     let units = units_of(alloc, t)?;
     let mut members = List::new(alloc);
     push_masters(alloc, object, routes, &mut members)?;
-    let units = units.as_slice();
-    push_units(
-        alloc,
-        object,
-        t,
-        MemberKind::Slave,
-        units,
-        routes,
-        &mut members,
-    )?;
-    push_units(
-        alloc,
-        object,
-        t,
-        MemberKind::Power,
-        units,
-        routes,
-        &mut members,
-    )?;
-    push_units(
-        alloc,
-        object,
-        t,
-        MemberKind::Line,
-        units,
-        routes,
-        &mut members,
-    )?;
+    push_parts(alloc, object, t, units.as_slice(), routes, &mut members)?;
     Ok(members)
+}
+
+/// Puts the slaves, then the power nodes, and then the reset lines that paths bring in after the members.
+fn push_parts(
+    alloc: Global,
+    object: &Object,
+    t: &Topology,
+    units: &[Unit],
+    routes: &[Route],
+    members: &mut List<Member>,
+) -> Result<(), NoMemory>
+    ensures { OnOk result (members.new ≡ members.old ++ spec.part_members object.now t.now routes.now units.now) }
+{
+    push_units(alloc, object, t, MemberKind::Slave, units, routes, members)?;
+    push_units(alloc, object, t, MemberKind::Power, units, routes, members)?;
+    push_units(alloc, object, t, MemberKind::Line, units, routes, members)
 }
 
 /// The place of a master in the object.

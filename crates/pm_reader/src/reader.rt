@@ -64,7 +64,8 @@ impl LineReader {
     /// a read that fails behind a line doesn't keep that line back.
     pub fn next<I: Inputs>(&mut self, inputs: &mut I, id: u32, line: &mut LineBuf) -> Taken
         // It read some bytes, and its answer is right of all that it then held.
-        ensures turn { Turn I.observable id (I.state inputs.old) (I.state inputs.new) self.old self.new result line.new.items }
+        ensures turn { Turn I.observable id (I.state inputs.old)
+            (I.state inputs.new) self.old self.new result line.new.items }
         // Where it saw the end of this input, the input is at its end.
         ensures knows { KnowsEnd I.observable id self.old (I.state inputs.old)
             → KnowsEnd I.observable id self.new (I.state inputs.new) }
@@ -86,7 +87,8 @@ impl LineReader {
     /// The answer, where what is held decides it.
     fn give(&mut self, line: &mut LineBuf) -> Option<Taken>
         ensures calm { IfSome result (λ taken. taken ≢ Taken.Fault) }
-        ensures gives { MatchOption result (NeedsMore self.old self.new) (λ taken. Gives self.old taken line.new.items self.new) }
+        ensures gives { MatchOption result (NeedsMore self.old self.new)
+            (λ taken. Gives self.old taken line.new.items self.new) }
     {
         line.clear();
         let text = self.within();
@@ -105,7 +107,8 @@ impl LineReader {
         requires none { position (λ byte. byte == 10) (take 256 (within self.old)) ≡ None }
         requires room { array_vec_len line.old ≡ 0 }
         ensures calm { IfSome result (λ taken. taken ≢ Taken.Fault) }
-        ensures gives { MatchOption result (NeedsMore self.old self.new) (λ taken. Gives self.old taken line.new.items self.new) }
+        ensures gives { MatchOption result (NeedsMore self.old self.new)
+            (λ taken. Gives self.old taken line.new.items self.new) }
     {
         if self.within().len() >= TOO_LONG {
             Some(Taken::Long)

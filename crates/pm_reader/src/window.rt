@@ -43,7 +43,8 @@ fn read_between<I: Inputs>(
     ensures taken { MatchResult result
         (λ count. Took I.observable id (take count (drop start buf.new)) (I.state inputs.old) (I.state inputs.new))
         (λ _. Took I.observable id [] (I.state inputs.old) (I.state inputs.new)) }
-    ensures end { I.observable → IfOk result (λ count. start < stop → count ≡ 0 ↔ (rest ((I.state inputs.old).input id) ≡ [])) }
+    ensures end { I.observable → IfOk result
+        (λ count. start < stop → count ≡ 0 ↔ (rest ((I.state inputs.old).input id) ≡ [])) }
     ensures failed { I.observable → IsErr result ↔ IsStuck ((I.state inputs.old).input id) }
 {
     inputs.read(id, &mut buf[start..stop])

@@ -155,9 +155,19 @@ fn two_rows_of_a_pair_change_together(rt: HostRuntime) -> Result<(), Fail> {
         0,
         &[pair(0, 0, 1, false), pair(0, 0, 1, false)],
     )?;
-    rows.change(0, 0, Change::Set(Mode::Active, Caps(6)));
-    assert_eq!(rt; told(&rows, 0), (6, None, 2));
-    rows.change(0, 0, Change::Release);
-    assert_eq!(rt; told(&rows, 0), (0, None, 0));
+    change_twice::<Brand>(&rt, &mut rows, Blank::new(1));
     Ok(())
+}
+
+/// A requirement of both rows of the pair, and then their release.
+fn change_twice<L: Ledger>(rt: &impl Abort, rows: &mut Rows, blank: Blank)
+    requires name { blank.name ≡ L.name }
+    requires parts { blank.parts ≡ L.parts }
+    requires some { 0 < blank.parts }
+{
+    let mut steps = Steps::<L>::new(blank);
+    rows.change(0, 0, Change::Set(Mode::Active, Caps(6)), &mut steps);
+    assert_eq!(rt; told(rows, 0), (6, None, 2));
+    rows.change(0, 0, Change::Release, &mut steps);
+    assert_eq!(rt; told(rows, 0), (0, None, 0));
 }

@@ -39,11 +39,28 @@ fn prepared(alloc: Global, mode: Mode, used: bool, from: RowSeed) -> Result<Rows
     let mut rows = Rows::load(alloc, 2, 1, boot, &[from])?;
     rows.shift(0, mode);
     if used {
-        rows.change(0, 0, Change::Request(Caps(1)));
-        rows.change(0, 0, Change::Set(Mode::Suspending, Caps(2)));
-        rows.change(0, 0, Change::Limit(9));
+        change_all::<Brand>(&mut rows, &TO_USED, Blank::new(1));
     }
     Ok(rows)
+}
+
+/// What makes a row used like that.
+static TO_USED: [(usize, Change); 3] = [
+    (0, Change::Request(Caps(1))),
+    (0, Change::Set(Mode::Suspending, Caps(2))),
+    (0, Change::Limit(9)),
+];
+
+/// Changes the rows of these masters on the one slave, one after another.
+fn change_all<L: Ledger>(rows: &mut Rows, changes: &[(usize, Change)], blank: Blank)
+    requires name { blank.name ≡ L.name }
+    requires parts { blank.parts ≡ L.parts }
+    requires some { 0 < blank.parts }
+{
+    let mut steps = Steps::<L>::new(blank);
+    for (master, by) in changes {
+        rows.change(*master, 0, *by, &mut steps);
+    }
 }
 
 /// The capabilities now and next of a row that is used.
@@ -315,15 +332,15 @@ fn wanted_in_all(caps: u32, limit: Option<u32>) -> Wanted {
 fn rows_of_several_masters_are_joined(rt: HostRuntime) -> Result<(), Fail> {
     let mut rows = started(rt.alloc(), true, &[1, 2])?;
     assert_eq!(rt; rows.wanted(0), wanted_in_all(5, None));
-    rows.change(1, 0, Change::Limit(300));
-    rows.change(2, 0, Change::Limit(299));
+    let limits = [(1, Change::Limit(300)), (2, Change::Limit(299))];
+    change_all::<Brand>(&mut rows, &limits, Blank::new(1));
     assert_eq!(rt; rows.wanted(0), wanted_in_all(5, Some(299)));
     assert_eq!(rt;
         [rows.usage(0, 0), rows.usage(1, 0), rows.usage(2, 0)],
         [2, 3, 3]
     );
-    rows.change(2, 0, Change::Release);
-    rows.change(2, 0, Change::Limit(7));
+    let releases = [(2, Change::Release), (2, Change::Limit(7))];
+    change_all::<Brand>(&mut rows, &releases, Blank::new(1));
     assert_eq!(rt; rows.wanted(0), wanted_in_all(1, Some(300)));
     assert_eq!(rt;
         [rows.usage(0, 0), rows.usage(1, 0), rows.usage(2, 0)],
