@@ -1,6 +1,7 @@
 -- What a chain of acts shows, and where none of its orders is refused.
 use Rattle.std.proofs.Common.{◌≡◌, ℕ, ◌+◌, ◌≤◌, ◌||◌, Bool, true, false, not, cond, inl, inr, List, [], ◌∷◌, ◌++◌, refl, sym, ap, ◌∙◌, subst, arith}
 use Rattle.std.proofs.lemmas.Bool.{cases_lt}
+use Rattle.std.proofs.lemmas.List.{append-nil, append_assoc}
 use Rattle.pm_base.specs.declared.names.Command.{Command}
 use Rattle.pm_base.specs.declared.names.NodeId.{NodeId}
 use Rattle.pm_base.specs.declared.names.Unit.{Unit}
@@ -98,6 +99,18 @@ module _ {D : Type 0} (values_observable nodes_observable : Type 0) (Does : Act 
       subst P chain (shows_none (state old))
   chain_shows (act ∷ acts) old new chain =
       shows_more act acts (state old) (state chain.0) (state new) (shows act old chain.0 chain.1) (chain_shows acts chain.0 new chain.2)
+
+-- ---- a chain is logged
+
+-- where each act is added to a log, a chain of acts is
+pub chain_logged : {D : Type 0} (Does : Act → D → D → Type 0) (log : D → List Act)
+    → ((act : Act) (old new : D) → Does act old new → log new ≡ log old ++ act ∷ [])
+    → (acts : List Act) (old new : D) → Chain Does acts old new → log new ≡ log old ++ acts
+chain_logged Does log logs [] old new chain = ap log (sym chain) ∙ sym (append-nil (log old))
+chain_logged Does log logs (act ∷ acts) old new chain =
+    chain_logged Does log logs acts chain.0 new chain.2
+    ∙ ap (λ before. before ++ acts) (logs act old chain.0 chain.1)
+    ∙ append_assoc (log old) (act ∷ []) acts
 
 -- ---- where no order is refused
 

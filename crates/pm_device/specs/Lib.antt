@@ -4,4 +4,5 @@ pub mod Chains
 pub mod Device
 pub mod Fresh
 pub mod Listed
+pub mod Logged
 pub mod Model

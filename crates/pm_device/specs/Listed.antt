@@ -1,5 +1,5 @@
 -- A device that fails at listed commands.
-use Rattle.std.specs.Prelude.{◌≡◌, ℕ, ◌+◌, ◌-◌, ◌^◌, ◌==◌, min, Bool, true, false, not, ◌||◌, unwrap_or, List, [], ⊤}
+use Rattle.std.specs.Prelude.{◌≡◌, ℕ, ◌+◌, ◌-◌, ◌^◌, ◌==◌, min, Bool, true, false, not, ◌||◌, unwrap_or, List, [], ◌∷◌, ◌++◌, ⊤}
 use Rattle.std.specs.List.{list_any}
 use Rattle.pm_base.specs.declared.names.Unit.{Unit}
 use Rattle.pm_base.specs.declared.names.Command.{Command}
@@ -8,12 +8,14 @@ use Rattle.pm_device.specs.Act.{Act, Order, Rig, Shows}
 use Rattle.pm_device.specs.Device.{DeviceMoment}
 use Rattle.pm_device.specs.Cells.{is_there}
 
--- the values of the units, the numbers of the commands that fail, how many commands were given, and how many failed
+-- the values of the units, the numbers of the commands that fail, how many commands were given, how many failed, and the
+-- acts since it was new, in their order
 pub record Listed : Type 0 where
   pub values : List (Unit × ℕ)
   pub failing : List ℕ
   pub commands : ℕ
   pub faults : ℕ
+  pub log : List Act
 
 -- what it shows: its values alone, beside its count of faults
 abbrev pub listed_moment : Listed → DeviceMoment
@@ -38,10 +40,14 @@ listed_after command true d =
     record d { values = with_value command.unit command.value d.values; commands = next d.commands }
 listed_after command false d = record d { commands = next d.commands; faults = next d.faults }
 
--- after an act; a node that is rigged changes nothing
+-- the units and the counts after an act; a node that is rigged changes nothing
+abbrev pub listed_done : Act → Listed → Listed
+listed_done (Order command ok) d = listed_after command ok d
+listed_done (Rig node broken) d = d
+
+-- after an act, which is logged
 abbrev pub listed_by : Act → Listed → Listed
-listed_by (Order command ok) d = listed_after command ok d
-listed_by (Rig node broken) d = d
+listed_by act d = record (listed_done act d) { log = d.log ++ act ∷ [] }
 
 -- an order is refused exactly where it fails by its number or its unit
 abbrev pub IsAnsweredBy : Act → Listed → Type 0

@@ -1,5 +1,5 @@
 -- A device that fails on broken nodes.
-use Rattle.std.specs.Prelude.{◌≡◌, ℕ, Bool, true, false, not, ◌||◌, List, ⊤}
+use Rattle.std.specs.Prelude.{◌≡◌, ℕ, Bool, true, false, not, ◌||◌, List, [], ◌∷◌, ◌++◌, ⊤}
 use Rattle.pm_base.specs.Faults.{raised}
 use Rattle.pm_base.specs.declared.names.Command.{Command}
 use Rattle.pm_base.specs.declared.names.Unit.{Unit}
@@ -9,10 +9,11 @@ use Rattle.pm_device.specs.Act.{Act, Order, Rig, Shows}
 use Rattle.pm_device.specs.Device.{DeviceMoment}
 use Rattle.pm_device.specs.Cells.{broken_of, cell_of, is_broken_cell, is_there, set_broken, set_value}
 
--- the units, and how many commands failed
+-- the units, how many commands failed, and the acts since it was new, in their order
 pub record Bench : Type 0 where
   pub cells : List (Unit × Cell)
   pub faults : ℕ
+  pub log : List Act
 
 -- what it shows
 abbrev pub moment_of : Bench → DeviceMoment
@@ -36,10 +37,14 @@ bench_after command false b = record b { faults = raised b.faults }
 abbrev pub bench_rigged : NodeId → Bool → Bench → Bench
 bench_rigged node broken b = record b { cells = set_broken node broken b.cells }
 
--- after an act
+-- the units and the count after an act
+abbrev pub bench_done : Act → Bench → Bench
+bench_done (Order command ok) b = bench_after command ok b
+bench_done (Rig node broken) b = bench_rigged node broken b
+
+-- after an act, which is logged
 abbrev pub bench_by : Act → Bench → Bench
-bench_by (Order command ok) b = bench_after command ok b
-bench_by (Rig node broken) b = bench_rigged node broken b
+bench_by act b = record (bench_done act b) { log = b.log ++ act ∷ [] }
 
 -- an act leads from the one to the other
 pub record BenchDoes (act : Act) (old new : Bench) : Type 0 where

@@ -7,6 +7,8 @@ ghost use Rattle.pm_topology.specs.declared.topology.Topology.{Topology};
 ghost use Rattle.pm_device.specs.Act.{Act, AllMatch, AreHarmless, Chain, ShowsAll, refusals, shown_by, values_after};
 ghost use Rattle.pm_device.specs.Device.{DeviceMoment};
 ghost use Rattle.pm_device.specs.Fresh.{IsWhole};
+ghost use Rattle.pm_device.specs.Listed.{Listed, ListedDoes};
+ghost use Rattle.pm_device.specs.Model.{Bench, BenchDoes};
 
 use crate::device::Device;
 
@@ -26,6 +28,14 @@ pub fn chains_join<D: Device>()
         → Chain D.Does acts old middle → D.Does act middle new → Chain D.Does (acts ++ act ∷ []) old new }
     ensures append { (first second : List Act) (old middle new : D)
         → Chain D.Does first old middle → Chain D.Does second middle new → Chain D.Does (first ++ second) old new }
+{}
+
+/// A chain of acts on a device in memory is exactly what the device logged meanwhile: no other acts, and
+/// no other order of these.
+pub fn chains_are_logged()
+    ensures model { (acts : List Act) (old new : Bench) → Chain BenchDoes acts old new → new.log ≡ old.log ++ acts }
+    ensures listed { (acts : List Act) (old new : Listed) → Chain ListedDoes acts old new
+        → new.log ≡ old.log ++ acts }
 {}
 
 /// No order of a chain is refused where the count of faults didn't rise; nor where the device was whole

@@ -1,6 +1,6 @@
 //! A device that fails at listed commands.
 
-ghost use Rattle.std.specs.Prelude.{◌≡◌, ◌==◌, IfOk, is_ok, not};
+ghost use Rattle.std.specs.Prelude.{◌≡◌, ◌==◌, IfOk, [], is_ok, not};
 ghost use Rattle.std.specs.List.{list_any};
 ghost use Rattle.pm_base.specs.Faults.{HasCause};
 ghost use Rattle.pm_base.specs.declared.names.Unit.{Unit as Part};
@@ -10,19 +10,21 @@ ghost use Rattle.pm_device.specs.Listed.{listed_after, listed_moment, next, next
 
 use crate::cells::is_there;
 use crate::device::Device;
+use crate::log::{Entry, Log};
 use pm_base::{Command, Failed, NoMemory, NodeId, Unit};
 use pm_topology::{Topology, UnitMap};
 use std::alloc::Global;
 use std::marker::Model;
 
 /// A device in memory. It fails exactly the commands with listed numbers, counted from 1, and those
-/// on units that the chip doesn't have.
+/// on units that the chip doesn't have. Its log has each act on it, in their order.
 #[derive(Drop)]
 pub struct ListedDevice {
     values: UnitMap<u32>,
     failing: Vec<u32>,
     commands: u64,
     faults: u64,
+    log: Log,
 }
 
 impl Model for ListedDevice {
@@ -35,6 +37,7 @@ impl Model for ListedDevice {
       failing = device.failing.items;
       commands = device.commands;
       faults = device.faults;
+      log = device.log.acts;
     } };
 }
 
@@ -49,6 +52,7 @@ impl ListedDevice {
         ensures fresh { IfOk result (λ device. IsFresh t.now (listed_moment device)) }
         ensures failing { IfOk result (λ device. device.failing ≡ failing.now) }
         ensures first { IfOk result (λ device. device.commands ≡ 0) }
+        ensures log { IfOk result (λ device. device.log ≡ []) }
     {
         let values = UnitMap::load(alloc, t, 0)?;
         Ok(ListedDevice {
@@ -56,6 +60,7 @@ impl ListedDevice {
             failing: Vec::from_slice(alloc, failing).map_err(|_| NoMemory)?,
             commands: 0,
             faults: 0,
+            log: Log::new(),
         })
     }
 
@@ -87,7 +92,7 @@ impl ListedDevice {
 impl Device for ListedDevice {
     ghost use Rattle.std.specs.Prelude.{⊤};
     ghost use Rattle.pm_device.specs.Act.{Order, Rig};
-    ghost use Rattle.pm_device.specs.Listed.{ListedDoes, listed_moment};
+    ghost use Rattle.pm_device.specs.Listed.{ListedDoes, listed_by, listed_moment, next, next_fails};
 
     ghost values_observable = { ⊤ };
 
@@ -103,15 +108,19 @@ impl Device for ListedDevice {
         ensures listed { is_ok result ≡ not (next_fails self.old command.unit) }
         ensures number { self.new.commands ≡ next self.old.commands }
         ensures failing { self.new.failing ≡ self.old.failing }
-        ensures after { self.new ≡ listed_after command (is_ok result) self.old }
+        ensures after { self.new ≡ listed_by (Order command (is_ok result)) self.old }
     {
-        self.carry_out(command)
+        let result = self.carry_out(command);
+        self.log.push(&Entry::Order(command, result.is_ok()));
+        result
     }
 
-    fn rig(&mut self, _node: NodeId, _broken: bool)
-        ensures does { ListedDoes (Rig _node _broken) self.old self.new }
-        ensures same { self.new ≡ self.old }
-    {}
+    fn rig(&mut self, node: NodeId, broken: bool)
+        ensures does { ListedDoes (Rig node broken) self.old self.new }
+        ensures after { self.new ≡ listed_by (Rig node broken) self.old }
+    {
+        self.log.push(&Entry::Rig(node, broken));
+    }
 }
 
 /// Whether a command of this number is to fail.

@@ -1,6 +1,6 @@
 //! A device that fails on broken nodes.
 
-ghost use Rattle.std.specs.Prelude.{◌≡◌, ◌||◌, IfOk, is_ok, not, true, false};
+ghost use Rattle.std.specs.Prelude.{◌≡◌, ◌||◌, IfOk, [], is_ok, not, true, false};
 ghost use Rattle.pm_base.specs.Faults.{HasCause};
 ghost use Rattle.pm_base.specs.declared.names.Unit.{Unit as Part};
 ghost use Rattle.pm_device.specs.Act.{Order, Rig, broken_by, value_by};
@@ -11,17 +11,19 @@ ghost use Rattle.pm_device.specs.Model.{bench_after, bench_rigged, does_fail, mo
 
 use crate::cells::{self, Cell};
 use crate::device::Device;
+use crate::log::{Entry, Log};
 use pm_base::{Command, Failed, NoMemory, NodeId, Unit};
 use pm_topology::{Topology, UnitMap};
 use std::alloc::Global;
 use std::marker::Model;
 
 /// A device in memory. It fails exactly on nodes that were broken by `rig`, and on units that the
-/// chip doesn't have.
+/// chip doesn't have. Its log has each act on it, in their order.
 #[derive(Drop)]
 pub struct ModelDevice {
     cells: UnitMap<Cell>,
     faults: u64,
+    log: Log,
 }
 
 impl Model for ModelDevice {
@@ -29,7 +31,7 @@ impl Model for ModelDevice {
 
     ghost Value = { Bench };
 
-    ghost view = { λ device. record { cells = device.cells; faults = device.faults } };
+    ghost view = { λ device. record { cells = device.cells; faults = device.faults; log = device.log.acts } };
 }
 
 impl ModelDevice {
@@ -42,9 +44,14 @@ impl ModelDevice {
     pub fn new(alloc: Global, t: &Topology) -> Result<ModelDevice, NoMemory>
         ensures fresh { IfOk result (λ device. IsFresh t.now (moment_of device)) }
         ensures whole { IfOk result (λ device. IsWhole t.now (moment_of device)) }
+        ensures log { IfOk result (λ device. device.log ≡ []) }
     {
         let cells = cells::idle_cells(alloc, t)?;
-        Ok(ModelDevice { cells, faults: 0 })
+        Ok(ModelDevice {
+            cells,
+            faults: 0,
+            log: Log::new(),
+        })
     }
 
     /// The value of a unit, and 0 of an unknown one.
@@ -89,7 +96,7 @@ impl ModelDevice {
 impl Device for ModelDevice {
     ghost use Rattle.std.specs.Prelude.{⊤};
     ghost use Rattle.pm_device.specs.Act.{Order, Rig};
-    ghost use Rattle.pm_device.specs.Model.{BenchDoes, bench_after, bench_rigged, does_fail, moment_of};
+    ghost use Rattle.pm_device.specs.Model.{BenchDoes, bench_by, does_fail, moment_of};
 
     ghost values_observable = { ⊤ };
 
@@ -105,16 +112,19 @@ impl Device for ModelDevice {
         ensures cause { HasCause self.old.faults self.new.faults result }
         ensures does { BenchDoes (Order command (is_ok result)) self.old self.new }
         ensures answer { is_ok result ≡ not (does_fail self.old command.unit) }
-        ensures after { self.new ≡ bench_after command (is_ok result) self.old }
+        ensures after { self.new ≡ bench_by (Order command (is_ok result)) self.old }
     {
-        self.carry_out(command)
+        let result = self.carry_out(command);
+        self.log.push(&Entry::Order(command, result.is_ok()));
+        result
     }
 
     fn rig(&mut self, node: NodeId, broken: bool)
         ensures does { BenchDoes (Rig node broken) self.old self.new }
-        ensures after { self.new ≡ bench_rigged node broken self.old }
+        ensures after { self.new ≡ bench_by (Rig node broken) self.old }
     {
         self.set_broken(node, broken);
+        self.log.push(&Entry::Rig(node, broken));
     }
 }
 

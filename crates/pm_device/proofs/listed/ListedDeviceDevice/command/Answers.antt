@@ -1,7 +1,17 @@
+use Rattle.std.proofs.Common.{ap, ◌∙◌, ◌∷◌, [], ◌++◌, subst, sym, is_ok}
+use Rattle.pm_device.specs.Act.{Act, Order}
+use Rattle.pm_device.specs.Listed.{Listed, ListedDoes}
 use Rattle.pm_device.proofs.DeviceLaw.{listed_ordered}
 use Rattle.pm_device.proofs.listed.ListedDeviceDevice.command.Goals as goal
 
 pub returns-clause-does : goal.returns-clause-does
 returns-clause-does c =
-    listed_ordered c.args.command c.args.self.now c.carry_out.new.self c.carry_out.result
-    c.carry_out.ensures.answer c.carry_out.ensures.after c.carry_out.ensures.cause c.carry_out.ensures.values
+    let done = c.carry_out-result.ensures in
+    let act : Act = Order c.args.command (is_ok c.carry_out-result.result) in
+    let logged = c.push.ensures
+    ∙ ap (λ ok. c.self.inside.log.acts ++ Order c.args.command ok ∷ []) c.is_ok.ensures.value
+    ∙ ap (λ (d : Listed). d.log ++ act ∷ []) c.self.view_is in
+    let P : Listed → Type 0 = λ d. ListedDoes act c.args.self.now (record d { log = c.push.new.self.acts }) in
+    subst P (sym c.self.view_is)
+    (listed_ordered c.args.command c.args.self.now c.carry_out-result.new.self c.push.new.self.acts c.carry_out-result.result
+    done.answer done.after done.cause done.values logged)
