@@ -1,6 +1,9 @@
 -- The status words (UG1200, error codes of the power management API).
 use Rattle.std.specs.Prelude.{ℕ}
 
+abbrev pub success : ℕ
+success = 0
+
 abbrev pub failure : ℕ
 failure = 1
 
@@ -9,6 +12,9 @@ invalid_parameter = 15
 
 abbrev pub no_feature : ℕ
 no_feature = 19
+
+abbrev pub internal : ℕ
+internal = 2000
 
 abbrev pub no_access : ℕ
 no_access = 2002

@@ -9,6 +9,8 @@ pub const FAILURE: u32 = 1;
 pub const INVALID_PARAMETER: u32 = 15;
 /// No such call, or a capability that the slave lacks.
 pub const NO_FEATURE: u32 = 19;
+/// A device didn't follow the call.
+pub const INTERNAL: u32 = 2000;
 /// The object doesn't permit it, or the caller doesn't use the slave.
 pub const NO_ACCESS: u32 = 2002;
 /// No such node, or not of the kind that the call takes.

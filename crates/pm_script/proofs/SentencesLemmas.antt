@@ -3,6 +3,7 @@ use Rattle.std.proofs.Common.{◌≡◌, ℕ, zero, suc, ◌≤◌, Bool, true, 
 use Rattle.std.specs.List.{AllByRecursion, list_all, list_any}
 use Rattle.std.specs.Str.{bytes_eq}
 use Rattle.std.proofs.lemmas.Bool.Decides.{nat_tests}
+use Rattle.std.proofs.lemmas.Slice.Eq.{bytes_eq-Decides}
 use Rattle.pm_base.specs.declared.events.Event.{Event}
 use Rattle.pm_base.specs.declared.events.Event.TheVariants as events
 use Rattle.pm_script.specs.declared.forms.Argument.{Argument}
@@ -13,7 +14,7 @@ use Rattle.pm_script.specs.declared.forms.Width.TheVariants as widths
 use Rattle.pm_script.specs.declared.meaning.LineFault.TheVariants.{Number, Unknown}
 use Rattle.pm_script.specs.Forms.{Row, arguments_of, event_of, line_forms, number_at, row, with_first}
 use Rattle.pm_script.specs.Meaning.{form_meaning, found_meaning, words_meaning}
-use Rattle.pm_script.specs.Sentences.{address_of_word, boot_meaning, boot_event, gic_meaning, ipi_meaning, irq_meaning, is_number, message_event, number_of_place, number_of_word, numbers_meaning, tick_meaning, wfi_meaning}
+use Rattle.pm_script.specs.Sentences.{IsNoKeyword, address_of_word, boot_meaning, boot_event, break_meaning, gic_meaning, mend_meaning, ipi_meaning, irq_meaning, is_number, message_event, number_of_place, number_of_word, numbers_meaning, tick_meaning, wfi_meaning}
 
 -- the argument of 32 bits that a word is
 abbrev as_number : List ℕ → Argument
@@ -73,6 +74,12 @@ wakes words = numbers_row (row (codes "gic") kinds.Gic 1 (widths.Number ∷ []))
 pub ticks : (words : List (List ℕ)) → words_meaning (codes "tick" ∷ words) ≡ tick_meaning words
 ticks words = numbers_row (row (codes "tick") kinds.Tick 1 (widths.Number ∷ [])) (λ words. events.Tick (number_of_place words 0)) (refl, tt) (λ words. ap events.Tick (place_of words 0)) words
 
+pub breaks : (words : List (List ℕ)) → words_meaning (codes "break" ∷ words) ≡ break_meaning words
+breaks words = numbers_row (row (codes "break") kinds.Break 1 (widths.Number ∷ [])) (λ words. events.Break (record { 0 = number_of_place words 0 })) (refl, tt) (λ words. ap (λ n. events.Break (record { 0 = n })) (place_of words 0)) words
+
+pub mends : (words : List (List ℕ)) → words_meaning (codes "mend" ∷ words) ≡ mend_meaning words
+mends words = numbers_row (row (codes "mend") kinds.Mend 1 (widths.Number ∷ [])) (λ words. events.Mend (record { 0 = number_of_place words 0 })) (refl, tt) (λ words. ap (λ n. events.Mend (record { 0 = n })) (place_of words 0)) words
+
 boots_by : (proc address : Option ℕ) → ok_or (option_map (event_of kinds.Boot) (with_first (option_map (λ number. arguments.Number number) proc) (with_first (option_map (λ address. arguments.Address address) address) (Some [])))) Number ≡ boot_event proc address
 boots_by None address = refl
 boots_by (Some proc) None = refl
@@ -96,6 +103,15 @@ not_found test (x ∷ xs) none = by (test x) refl none (not_found test xs)
     by true is none later = let some : list_any test (x ∷ xs) ≡ true = rw is refl in cc
     by false is none later = let rest : list_any test (x ∷ xs) ≡ list_any test xs = rw is refl in rw is (later (sym rest ∙ none))
 
--- a first word that no row has
-pub none_found : (word : List ℕ) (words : List (List ℕ)) → list_any (λ row. bytes_eq row.keyword word) line_forms ≡ false → words_meaning (word ∷ words) ≡ Err Unknown
-none_found word words none = ap (λ (row : Option Row). found_meaning row words) (not_found (λ (row : Row). bytes_eq row.keyword word) line_forms none)
+-- no row has a word that is none of their keywords
+no_row : (word : List ℕ) (rows : List Row) → AllByRecursion (λ keyword. keyword ≡ word → ⊥) (map (λ row. row.keyword) rows) → list_any (λ row. bytes_eq row.keyword word) rows ≡ false
+no_row word [] others = refl
+no_row word (row ∷ rows) others = by (bytes_eq row.keyword word) refl (no_row word rows others.1)
+  where
+    by : (same : Bool) → bytes_eq row.keyword word ≡ same → list_any (λ row. bytes_eq row.keyword word) rows ≡ false → list_any (λ row. bytes_eq row.keyword word) (row ∷ rows) ≡ false
+    by true is later = absurd (others.0 ((bytes_eq-Decides row.keyword word).0 is))
+    by false is later = rw is later
+
+-- a first word that is no keyword
+pub none_found : (word : List ℕ) (words : List (List ℕ)) → IsNoKeyword word → words_meaning (word ∷ words) ≡ Err Unknown
+none_found word words others = ap (λ (row : Option Row). found_meaning row words) (not_found (λ (row : Row). bytes_eq row.keyword word) line_forms (no_row word line_forms others))

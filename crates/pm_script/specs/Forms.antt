@@ -7,7 +7,7 @@ use Rattle.pm_base.specs.Numbers.{number_of, at_most}
 use Rattle.pm_script.specs.declared.forms.Argument.{Argument}
 use Rattle.pm_script.specs.declared.forms.Argument.TheVariants as arguments
 use Rattle.pm_script.specs.declared.forms.Kind.{Kind}
-use Rattle.pm_script.specs.declared.forms.Kind.TheVariants.{Ipi, Boot, Wfi, Irq, Gic, Tick}
+use Rattle.pm_script.specs.declared.forms.Kind.TheVariants.{Ipi, Boot, Wfi, Irq, Gic, Tick, Break, Mend}
 use Rattle.pm_script.specs.declared.forms.LineForm.{LineForm}
 use Rattle.pm_script.specs.declared.forms.Width.{Width}
 use Rattle.pm_script.specs.declared.forms.Width.TheVariants.{Number, Address}
@@ -32,6 +32,8 @@ line_forms =
     ∷ row (codes "irq") Irq 1 (Number ∷ [])
     ∷ row (codes "gic") Gic 1 (Number ∷ [])
     ∷ row (codes "tick") Tick 1 (Number ∷ [])
+    ∷ row (codes "break") Break 1 (Number ∷ [])
+    ∷ row (codes "mend") Mend 1 (Number ∷ [])
     ∷ []
 
 -- the first row of the table with this keyword
@@ -80,6 +82,8 @@ event_of Wfi given = events.Wfi (record { 0 = number_at given 0 })
 event_of Irq given = events.Irq (record { 0 = number_at given 0 })
 event_of Gic given = events.Gic (record { 0 = number_at given 0 })
 event_of Tick given = events.Tick (number_at given 0)
+event_of Break given = events.Break (record { 0 = number_at given 0 })
+event_of Mend given = events.Mend (record { 0 = number_at given 0 })
 
 -- the row that a form of the code is, and the first of some forms with a keyword
 abbrev pub row_of : LineForm → Row

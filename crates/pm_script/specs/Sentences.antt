@@ -1,8 +1,8 @@
 -- What each kind of line means in a sentence of its own: the table of line forms says the same of all of them at once.
-use Rattle.std.specs.Prelude.{ℕ, ◌-◌, ◌^◌, ◌&&◌, Bool, nat_le, if◌then◌else◌, List, [], ◌∷◌, length, slice_get, Option, Some, None, is_some, unwrap_or, option_and_then, Result, Ok, Err}
-use Rattle.std.specs.List.{list_all}
+use Rattle.std.specs.Prelude.{◌≡◌, codes, ℕ, ◌-◌, ◌^◌, ◌&&◌, Bool, nat_le, if◌then◌else◌, List, [], ◌∷◌, length, slice_get, Option, Some, None, is_some, unwrap_or, option_and_then, Result, Ok, Err}
+use Rattle.std.specs.List.{AllByRecursion, list_all}
 use Rattle.pm_base.specs.declared.events.Event.{Event}
-use Rattle.pm_base.specs.declared.events.Event.TheVariants.{Ipi, Boot, Wfi, Irq, Gic, Tick}
+use Rattle.pm_base.specs.declared.events.Event.TheVariants.{Ipi, Boot, Wfi, Irq, Gic, Tick, Break, Mend}
 use Rattle.pm_base.specs.Numbers.{number_of, at_most}
 use Rattle.pm_script.specs.declared.meaning.LineFault.{LineFault}
 use Rattle.pm_script.specs.declared.meaning.LineFault.TheVariants.{Number, Count}
@@ -63,3 +63,20 @@ gic_meaning words = numbers_meaning 1 1 (λ words. Gic (record { 0 = number_of_p
 -- `tick N`: N units of time pass
 abbrev pub tick_meaning : List (List ℕ) → Result Event LineFault
 tick_meaning words = numbers_meaning 1 1 (λ words. Tick (number_of_place words 0)) words
+
+-- `break N`: the device's node N fails from now on
+abbrev pub break_meaning : List (List ℕ) → Result Event LineFault
+break_meaning words = numbers_meaning 1 1 (λ words. Break (record { 0 = number_of_place words 0 })) words
+
+-- `mend N`: the device's node N works again
+abbrev pub mend_meaning : List (List ℕ) → Result Event LineFault
+mend_meaning words = numbers_meaning 1 1 (λ words. Mend (record { 0 = number_of_place words 0 })) words
+
+-- the first words of lines
+abbrev pub keywords : List (List ℕ)
+keywords =
+    codes "ipi" ∷ codes "boot" ∷ codes "wfi" ∷ codes "irq" ∷ codes "gic" ∷ codes "tick" ∷ codes "break" ∷ codes "mend" ∷ []
+
+-- a word is none of them
+abbrev pub IsNoKeyword : List ℕ → Type 0
+IsNoKeyword word = AllByRecursion (λ keyword. keyword ≡ word → ⊥) keywords

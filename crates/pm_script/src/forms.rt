@@ -38,6 +38,8 @@ pub(crate) enum Kind {
     Irq,
     Gic,
     Tick,
+    Break,
+    Mend,
 }
 
 /// The form of a line: its first word, what it says, how many arguments it has at least, and what each argument is. It
@@ -46,13 +48,15 @@ pub(crate) enum Kind {
 pub(crate) struct LineForm(pub &'static [u8], pub Kind, pub usize, pub &'static [Width]);
 
 /// The table of the forms of a script's lines.
-static FORMS: [LineForm; 6] = [
+static FORMS: [LineForm; 8] = [
     LineForm(b"ipi", Kind::Ipi, 2, &[Width::Number; 7]),
     LineForm(b"boot", Kind::Boot, 2, &[Width::Number, Width::Address]),
     LineForm(b"wfi", Kind::Wfi, 1, &[Width::Number]),
     LineForm(b"irq", Kind::Irq, 1, &[Width::Number]),
     LineForm(b"gic", Kind::Gic, 1, &[Width::Number]),
     LineForm(b"tick", Kind::Tick, 1, &[Width::Number]),
+    LineForm(b"break", Kind::Break, 1, &[Width::Number]),
+    LineForm(b"mend", Kind::Mend, 1, &[Width::Number]),
 ];
 
 /// The form of a line with this first word.
@@ -131,5 +135,11 @@ pub(crate) fn event_of(kind: Kind, arguments: &[Argument]) -> Event
             proc: NodeId(number(0)),
         },
         Kind::Tick => Event::Tick { count: number(0) },
+        Kind::Break => Event::Break {
+            node: NodeId(number(0)),
+        },
+        Kind::Mend => Event::Mend {
+            node: NodeId(number(0)),
+        },
     }
 }

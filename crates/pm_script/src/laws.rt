@@ -1,16 +1,14 @@
 //! What each kind of line means, and what is read of a named script.
 
-ghost use Rattle.std.specs.Prelude.{◌≡◌, ℕ, List, [], ◌∷◌, Some, None, Ok, Err, codes, false};
-ghost use Rattle.std.specs.List.{list_any};
-ghost use Rattle.std.specs.Str.{bytes_eq};
+ghost use Rattle.std.specs.Prelude.{◌≡◌, ℕ, List, [], ◌∷◌, Some, None, Ok, Err, codes};
 ghost use Rattle.pm_base.specs.declared.events.Event.TheVariants.{Pass};
 ghost use Rattle.pm_base.specs.Inputs.{MayFail, Moment};
 ghost use Rattle.pm_base.specs.Prefix.{IsUnread, Prefix};
 ghost use Rattle.pm_base.specs.declared.prefix.StopReason.TheVariants.{Unbegun};
 ghost use Rattle.pm_script.specs.declared.meaning.LineFault.TheVariants.{Unknown};
-ghost use Rattle.pm_script.specs.Forms.{line_forms};
 ghost use Rattle.pm_script.specs.Meaning.{words_meaning};
-ghost use Rattle.pm_script.specs.Sentences.{boot_meaning, gic_meaning, ipi_meaning, irq_meaning, tick_meaning, wfi_meaning};
+ghost use Rattle.pm_script.specs.Sentences.{IsNoKeyword, boot_meaning, break_meaning, gic_meaning, ipi_meaning, irq_meaning};
+ghost use Rattle.pm_script.specs.Sentences.{mend_meaning, tick_meaning, wfi_meaning};
 ghost use Rattle.pm_script.specs.Named.{IsHeldWhole, IsUnreadable, script_in};
 ghost use Rattle.pm_script.specs.Script.{Script, script_from, script_limit, script_lines, script_of, stop_of};
 ghost use Rattle.pm_script.specs.Script.Stop.{End};
@@ -25,8 +23,9 @@ pub fn each_kind_has_its_sentence()
     ensures irq { (words : List (List ℕ)) → words_meaning (codes "irq" ∷ words) ≡ irq_meaning words }
     ensures gic { (words : List (List ℕ)) → words_meaning (codes "gic" ∷ words) ≡ gic_meaning words }
     ensures tick { (words : List (List ℕ)) → words_meaning (codes "tick" ∷ words) ≡ tick_meaning words }
-    ensures unknown { (word : List ℕ) (words : List (List ℕ))
-        → list_any (λ row. bytes_eq row.keyword word) line_forms ≡ false → words_meaning (word ∷ words) ≡ Err Unknown }
+    ensures break_ { (words : List (List ℕ)) → words_meaning (codes "break" ∷ words) ≡ break_meaning words }
+    ensures mend { (words : List (List ℕ)) → words_meaning (codes "mend" ∷ words) ≡ mend_meaning words }
+    ensures unknown { (word : List ℕ) (words : List (List ℕ)) → IsNoKeyword word → words_meaning (word ∷ words) ≡ Err Unknown }
 {}
 
 /// What is read of a named script: one that can't be begun is none, and any other one is that of its lines. It

@@ -28,8 +28,8 @@ pub enum LineFault {
 /// What a line without its line feed means. A line with no word is `Event::Pass`; the line
 /// `ipi M API` with 0 to 5 arguments is a message of master M; in `boot P ADDRESS` a boot loader starts
 /// processor P at an address of 64 bits; in `wfi P` processor P waits for an interrupt; in `irq S` slave S
-/// raises its interrupt; in `gic P` there is an interrupt at processor P itself; and in `tick N` N units of
-/// time pass.
+/// raises its interrupt; in `gic P` there is an interrupt at processor P itself; in `tick N` N units of
+/// time pass; from `break N` on node N of the device fails; and from `mend N` on it works again.
 pub fn parse_line(line: &[u8]) -> Result<Event, LineFault>
     ensures { result ≡ meaning line.now }
 {

@@ -152,7 +152,7 @@ const SPACES: &[u8] = &[b' '; 256];
 const ZEROS: &[u8] = &[0; 256];
 
 /// A line, and the first of its faults.
-static FAULTS: [(&[u8], LineFault); 51] = [
+static FAULTS: [(&[u8], LineFault); 58] = [
     (b"ipi 1 3 11#", LineFault::Number),
     (b"ipi 1 2 3 4 5 6 4294967296", LineFault::Number),
     (b"ipi -1 3", LineFault::Number),
@@ -184,7 +184,14 @@ static FAULTS: [(&[u8], LineFault); 51] = [
     (b"gic 0x100000000", LineFault::Number),
     (b"gic -7", LineFault::Number),
     (b"GIC 7", LineFault::Unknown),
-    (b"break 1", LineFault::Unknown),
+    (b"breaks 1", LineFault::Unknown),
+    (b"break", LineFault::Count),
+    (b"break 1 2", LineFault::Count),
+    (b"break 4294967296", LineFault::Number),
+    (b"Mend 1", LineFault::Unknown),
+    (b"mend", LineFault::Count),
+    (b"mend 1 2", LineFault::Count),
+    (b"mend x", LineFault::Number),
     (b"# \x7F", LineFault::NotAscii),
     (b"ipi 1 3\r\r", LineFault::NotAscii),
     (SPACES, LineFault::Long),
@@ -269,9 +276,9 @@ fn a_line_boots_a_processor(rt: HostRuntime) {
     all_right(&rt, wrong_boot());
 }
 
-/// A line, and what happens in it: a processor waits for an interrupt, a slave raises its own, or there is one
-/// at a processor itself.
-static EVENTS: [(&[u8], Event); 9] = [
+/// A line, and what happens in it: a processor waits for an interrupt, a slave raises its own, there is one at a
+/// processor itself, or a node breaks or is mended.
+static EVENTS: [(&[u8], Event); 11] = [
     (b"wfi 7", Event::Wfi { proc: NodeId(7) }),
     (
         b"wfi 0xffffffff",
@@ -296,6 +303,8 @@ static EVENTS: [(&[u8], Event); 9] = [
         },
     ),
     (b"\tgic 07 \r", Event::Gic { proc: NodeId(7) }),
+    (b"break 46", Event::Break { node: NodeId(46) }),
+    (b"\tmend 0x2E\r", Event::Mend { node: NodeId(46) }),
 ];
 
 fn wrong_event() -> Option<usize> {

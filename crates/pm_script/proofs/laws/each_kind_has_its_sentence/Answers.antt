@@ -1,5 +1,5 @@
 use Rattle.std.proofs.Common.{refl}
-use Rattle.pm_script.proofs.SentencesLemmas.{boots, interrupts, message, none_found, ticks, waits, wakes}
+use Rattle.pm_script.proofs.SentencesLemmas.{boots, breaks, interrupts, mends, message, none_found, ticks, waits, wakes}
 use Rattle.pm_script.proofs.laws.each_kind_has_its_sentence.Goals as goal
 
 pub returns : goal.returns
@@ -11,5 +11,7 @@ returns c = record {
   irq = interrupts;
   gic = wakes;
   tick = ticks;
+  break_ = breaks;
+  mend = mends;
   unknown = none_found;
 }
