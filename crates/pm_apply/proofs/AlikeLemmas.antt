@@ -20,6 +20,7 @@ use Rattle.pm_apply.specs.declared.turns.Turn.TheVariants.{PowerOn, Pulse, Apply
 use Rattle.pm_apply.specs.Part.{part_of}
 use Rattle.pm_apply.specs.Record.{Kept, kept_value, lags_in, mark, marked}
 use Rattle.pm_apply.specs.Plan.{Carried, after_answer, command, done_as, due, is_fed, is_place, is_power, is_used, later_answers, next_answer, plan, power_off, power_on, take_turn, turns_of, where_due}
+use Rattle.pm_apply.proofs.FailingLemmas.{part_by}
 use Rattle.pm_apply.proofs.RecordLemmas.{kept_value-marked}
 
 -- ---- what a turn has depends on the values alone
@@ -124,5 +125,5 @@ alike_part laws one two book alike answers outputs =
     let values : Unit → ℕ = λ u. value u book in
     let t = book.fixed.topology in
     let same = alike_plan laws t values (turns_of t outputs.pulse) one two answers (alike values) in
-    ap (λ done. record { commands = done; kept = marked values (plan t values (turns_of t outputs.pulse) one answers).kept; answer = outputs.answer }) same.done
-    ∙ ap (λ kept. record { commands = (plan t values (turns_of t outputs.pulse) two answers).done; kept = kept; answer = outputs.answer }) same.kept
+    ap (λ done. part_by values outputs done (marked values (plan t values (turns_of t outputs.pulse) one answers).kept)) same.done
+    ∙ ap (part_by values outputs (plan t values (turns_of t outputs.pulse) two answers).done) same.kept

@@ -9,11 +9,12 @@ use Rattle.pm_core.specs.declared.outbox.Outbox.{Outbox}
 use Rattle.pm_core.specs.Outbox.{Outputs, outputs_in}
 use Rattle.pm_state.specs.State.{State}
 use Rattle.pm_state.specs.Values.{value}
-use Rattle.pm_apply.specs.Carried.{AreMarked, KeepsRest, Takes}
+use Rattle.pm_apply.specs.Carried.{AreMarked, Takes}
 use Rattle.pm_apply.specs.Order.{IsOrdered, LagsAreExplained}
 use Rattle.pm_apply.specs.Part.{Part, answers_in, orders_in, orders_of, part_in, part_of}
-use Rattle.pm_apply.specs.Plan.{Carried, answers_of, plan, turns_of}
+use Rattle.pm_apply.specs.Plan.{answers_of, plan, turns_of}
 use Rattle.pm_apply.specs.Record.{IsRecordOf, Kept, StandsAs, kept_value, marked}
+use Rattle.pm_apply.proofs.FailingLemmas.{part_after, part_by}
 
 -- what holds of the commands of a step and of the record that they leave
 pub record IsSafe (kept : Kept) (book : State) (part : Part) : Type 0 where
@@ -34,28 +35,28 @@ module _ {D : Type 0} (Does : Act → D → D → Type 0) (kept start left now :
   -- the record that is left and the outbox are the part of the step
   part_is : plan book.fixed.topology (λ u. value u book) (turns_of book.fixed.topology before.pulse) start (answers_in after) ≡ record { done = after.done.items; kept = left }
       → now ≡ marked (λ u. value u book) left
-      → after.answer ≡ before.answer
+      → after.answer ≡ (part_by (λ u. value u book) (outputs_in before) after.done.items now).answer
       → part_in now after ≡ part_of start (answers_in after) book (outputs_in before)
   part_is planned marks answer =
       let values : Unit → ℕ = λ u. value u book in
-      ap (λ (kept : Kept). part_in kept after) marks
-      ∙ ap (λ answer. record { commands = after.done.items; kept = marked values left; answer = answer }) answer
-      ∙ sym (ap (λ (c : Carried). record { commands = c.done; kept = marked values c.kept; answer = before.answer }) planned)
+      ap (λ answer. record { commands = after.done.items; kept = now; answer = answer }) answer
+      ∙ ap (part_by values (outputs_in before) after.done.items) marks
+      ∙ sym (ap (part_after values (outputs_in before)) planned)
 
-  -- the turns of a step were taken from a record that comes to the same, and then the record was marked; each part of the
-  -- step is safe
+  -- the turns of a step were taken from a record that comes to the same, then the record was marked, and the answer is by
+  -- the record; each part of the step is safe
   pub carried : ((answers : List Bool) (outputs : Outputs) → IsSafe kept book (part_of kept answers book outputs))
       → ((answers : List Bool) (outputs : Outputs) → part_of start answers book outputs ≡ part_of kept answers book outputs)
       → before.done.items ≡ []
       → Takes Does book.fixed.topology (λ u. value u book) (turns_of book.fixed.topology before.pulse) start left before.done.items after.done.items old new
-      → KeepsRest before after
+      → after.answer ≡ (part_by (λ u. value u book) (outputs_in before) after.done.items now).answer
       → now ≡ marked (λ u. value u book) left
       → IsCarried Does kept now book before after old new
-  carried safe same fresh takes rest marks =
+  carried safe same fresh takes answer marks =
       let all : takes.done ≡ after.done.items = sym (takes.put ∙ ap (λ done. done ++ takes.done) fresh) in
       let Planned : List Done → Type 0 = λ done. plan book.fixed.topology (λ u. value u book) (turns_of book.fixed.topology before.pulse) start (answers_of done) ≡ record { done = done; kept = left } in
       let Given : List Done → Type 0 = λ done. Chain Does (orders_of done) old new in
-      let part = part_is (subst Planned all takes.planned) marks rest.answer ∙ same (answers_in after) (outputs_in before) in
+      let part = part_is (subst Planned all takes.planned) marks answer ∙ same (answers_in after) (outputs_in before) in
       record {
         part = part;
         given = subst Given all takes.given;

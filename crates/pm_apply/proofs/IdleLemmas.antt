@@ -20,7 +20,7 @@ use Rattle.pm_apply.specs.declared.turns.Turn.TheVariants.{PowerOn, Pulse, Apply
 use Rattle.pm_apply.specs.Carried.{Takes}
 use Rattle.pm_apply.specs.Record.{Kept, kept_value, lags_in}
 use Rattle.pm_apply.specs.Plan.{command, due, is_fed, is_power, is_used, power_off, power_on, power_places, pulse_turn, unit_turns, where_due, with_pulse}
-use Rattle.pm_apply.specs.Visits.{IsReady, NoneLags, pulsed}
+use Rattle.pm_apply.specs.Visits.{IsIdle, IsIdleTurn, IsReady, NoneLags, pulsed}
 use Rattle.pm_apply.proofs.OrdersUnits.{is_listed, power_is_listed}
 use Rattle.pm_apply.proofs.TakesLemmas.{Takes-none, Takes-refl, Takes-trans}
 use Rattle.pm_apply.proofs.TurnsLemmas.{raises, settles, lowers}
@@ -54,14 +54,11 @@ module _ (t : Topology) (values : Unit → ℕ) (kept : Kept) where
       ap (λ b. where_due b (command unit (values unit)))
       (no_change (not (is_power t unit)) (kept_value kept unit == values unit) (not (needs_power t unit (values unit)) || is_fed t kept (parent_of_unit t unit)) (eq-eqb (kept_value kept unit) (values unit) same))
 
-  -- the turn of a unit that doesn't lag
-  abbrev pub IsIdle : Turn → Type 0
-  IsIdle (PowerOn w) = (p : PowerDef) → slice_get t.powers w ≡ Some p → kept_value kept (Node p.node) ≡ values (Node p.node)
-  IsIdle (Pulse line) = ⊥
-  IsIdle (Apply unit) = (has_in (units_in kept) unit ≡ true) × (lags_in kept unit ≡ false)
-  IsIdle (PowerOff w) = (p : PowerDef) → slice_get t.powers w ≡ Some p → kept_value kept (Node p.node) ≡ values (Node p.node)
-
   module _ (laws : ChipLaws) (pulse : Option LineId) (ready : IsReady values pulse kept) where
+    -- a unit that doesn't lag has the book's value
+    stands : (unit : Unit) → IsIdle kept unit → kept_value kept unit ≡ values unit
+    stands unit idle = ready.stands unit idle.known idle.idle
+
     -- it isn't pulsed either
     unpulsed_by : (line : LineId) (unit : Unit) (same : Bool) → pulse ≡ Some line → has_in (units_in kept) unit ≡ true → lags_in kept unit ≡ false
         → same_unit (Line line) unit ≡ same → (if same then Pulse line ∷ [] else []) ≡ []
@@ -78,15 +75,15 @@ module _ (t : Topology) (values : Unit → ℕ) (kept : Kept) where
       abbrev pub Rests : List Turn → Type 0
       Rests turns = Takes Does t values turns kept kept done done now now
 
-      pub idle_takes : (turn : Turn) → IsIdle turn → Rests (with_pulse pulse turn)
-      idle_takes (PowerOn w) idle = Takes-none Does t values (PowerOn w) kept done now (idle_on (slice_get t.powers w) idle)
+      pub idle_takes : (turn : Turn) → IsIdleTurn t kept turn → Rests (with_pulse pulse turn)
+      idle_takes (PowerOn w) idle = Takes-none Does t values (PowerOn w) kept done now (idle_on (slice_get t.powers w) (λ p here. stands (Node p.node) (idle p here)))
       idle_takes (Pulse line) idle = absurd idle
       idle_takes (Apply unit) idle =
           let P : List Turn → Type 0 = λ before. Rests (before ++ Apply unit ∷ []) in
-          subst P (sym (unpulsed pulse unit refl idle.0 idle.1)) (Takes-none Does t values (Apply unit) kept done now (idle_apply unit (ready.stands unit idle.0 idle.1)))
-      idle_takes (PowerOff w) idle = Takes-none Does t values (PowerOff w) kept done now (idle_off w (slice_get t.powers w) idle)
+          subst P (sym (unpulsed pulse unit refl idle.known idle.idle)) (Takes-none Does t values (Apply unit) kept done now (idle_apply unit (stands unit idle)))
+      idle_takes (PowerOff w) idle = Takes-none Does t values (PowerOff w) kept done now (idle_off w (slice_get t.powers w) (λ p here. stands (Node p.node) (idle p here)))
 
-      all_idle : (turns : List Turn) → Each IsIdle turns → Rests (flat_map (with_pulse pulse) turns)
+      all_idle : (turns : List Turn) → Each (IsIdleTurn t kept) turns → Rests (flat_map (with_pulse pulse) turns)
       all_idle [] idle = Takes-refl Does t values kept done now
       all_idle (turn ∷ turns) idle =
           Takes-trans Does t values (with_pulse pulse turn) (flat_map (with_pulse pulse) turns) kept kept kept done done done now now now
@@ -94,27 +91,27 @@ module _ (t : Topology) (values : Unit → ℕ) (kept : Kept) where
 
       -- so it is in a whole step where no unit lags
       module _ (well : IsWellFormed t) (units : units_in kept ≡ units_of t) (none : NoneLags kept) where
-        listed : (x : Unit) → is_listed t x ≡ true → has_in (units_in kept) x ≡ true
-        listed x has = ap (λ us. has_in us x) units ∙ has
+        idles : (x : Unit) → is_listed t x ≡ true → IsIdle kept x
+        idles x has = record { known = ap (λ us. has_in us x) units ∙ has; idle = none x }
 
-        power_stands : (w : ℕ) (p : PowerDef) → slice_get t.powers w ≡ Some p → kept_value kept (Node p.node) ≡ values (Node p.node)
-        power_stands w p here = ready.stands (Node p.node) (listed (Node p.node) (power_is_listed laws t well w p here)) (none (Node p.node))
+        power_idles : (w : ℕ) (p : PowerDef) → slice_get t.powers w ≡ Some p → IsIdle kept (Node p.node)
+        power_idles w p here = idles (Node p.node) (power_is_listed laws t well w p here)
 
-        idle_raises : (places : List ℕ) → Each IsIdle (map PowerOn places)
+        idle_raises : (places : List ℕ) → Each (IsIdleTurn t kept) (map PowerOn places)
         idle_raises [] = tt
-        idle_raises (w ∷ places) = (power_stands w, idle_raises places)
+        idle_raises (w ∷ places) = (power_idles w, idle_raises places)
 
-        idle_lowers : (places : List ℕ) → Each IsIdle (map PowerOff places)
+        idle_lowers : (places : List ℕ) → Each (IsIdleTurn t kept) (map PowerOff places)
         idle_lowers [] = tt
-        idle_lowers (w ∷ places) = (power_stands w, idle_lowers places)
+        idle_lowers (w ∷ places) = (power_idles w, idle_lowers places)
 
-        idle_settles : (those : List Unit) → ((x : Unit) → list_any (λ u. same_unit u x) those ≡ true → is_listed t x ≡ true) → Each IsIdle (map Apply those)
+        idle_settles : (those : List Unit) → ((x : Unit) → list_any (λ u. same_unit u x) those ≡ true → is_listed t x ≡ true) → Each (IsIdleTurn t kept) (map Apply those)
         idle_settles [] among = tt
         idle_settles (u ∷ those) among =
-            ((listed u (among u (or_left _ _ (laws.units.itself u))), none u), idle_settles those (λ x is. among x (or_right (same_unit u x) _ is)))
+            (idles u (among u (or_left _ _ (laws.units.itself u))), idle_settles those (λ x is. among x (or_right (same_unit u x) _ is)))
 
         pub idle_step : Rests (flat_map (with_pulse pulse) (unit_turns t))
         idle_step =
             all_idle (unit_turns t)
-            (Each-append IsIdle (raises t) (settles t ++ lowers t) (idle_raises (power_places t))
-            (Each-append IsIdle (settles t) (lowers t) (idle_settles (units_of t) (λ x is. is)) (idle_lowers (reverse (power_places t)))))
+            (Each-append (IsIdleTurn t kept) (raises t) (settles t ++ lowers t) (idle_raises (power_places t))
+            (Each-append (IsIdleTurn t kept) (settles t) (lowers t) (idle_settles (units_of t) (λ x is. is)) (idle_lowers (reverse (power_places t)))))

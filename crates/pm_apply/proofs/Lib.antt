@@ -22,5 +22,6 @@ pub mod UsedLemmas
 pub mod VisitsLemmas
 pub mod AlikeLemmas
 pub mod IdleLemmas
-pub mod ExpectLemmas
+pub mod MarkingLemmas
 pub mod MovedLemmas
+pub mod FailingLemmas

@@ -9,11 +9,12 @@ use Rattle.pm_base.specs.declared.names.Unit.{Unit}
 use Rattle.pm_topology.specs.declared.topology.Topology.{Topology}
 use Rattle.pm_topology.specs.WellFormed.{IsWellFormed}
 use Rattle.pm_device.specs.Act.{AreHarmless, refusals, values_after}
-use Rattle.pm_topology.specs.Units.{has_unit}
+use Rattle.pm_topology.specs.Units.{has_in, has_unit}
 use Rattle.pm_core.specs.declared.outbox.Done.{Done}
 use Rattle.pm_core.specs.Outbox.{Outputs}
 use Rattle.pm_state.specs.State.{State}
 use Rattle.pm_topology.specs.Units.{units_of}
+use Rattle.pm_state.specs.Units.{moved}
 use Rattle.pm_state.specs.Values.{value}
 use Rattle.pm_state.specs.Fed.{IsFed}
 use Rattle.pm_apply.proofs.Below.{ChipLaws}
@@ -22,8 +23,9 @@ use Rattle.pm_apply.specs.Carried.{AreMarked}
 use Rattle.pm_apply.specs.Order.{FailedOn, IsOrdered, LagsAreExplained}
 use Rattle.pm_apply.specs.Part.{AllSucceed, AllYes, orders_of, part_of}
 use Rattle.pm_apply.specs.Plan.{Carried, after_answer, answers_of, before, done_as, due, later_answers, next_answer, plan, take_turn, turns_of}
-use Rattle.pm_apply.specs.Record.{Kept, IsRecordOf, kept_value, marked}
+use Rattle.pm_apply.specs.Record.{Kept, IsRecordOf, kept_value}
 use Rattle.pm_apply.proofs.ExplainedLaw.{explained}
+use Rattle.pm_apply.proofs.FailingLemmas.{book_is_told, moved_is_listed, part_after}
 use Rattle.pm_apply.proofs.MarksLemmas.{lags_in-marked}
 use Rattle.pm_apply.proofs.OrderLaw.{ordered}
 use Rattle.pm_apply.proofs.OrdersUnits.{is_listed, listed-is}
@@ -143,8 +145,7 @@ module _ (kept : Kept) (answers : List Bool) (book : State) (outputs : Outputs) 
   pub part_taken : AllSucceed (part_of kept answers book outputs).commands → part_of kept answers book outputs ≡ part_of kept [] book outputs
   part_taken all =
       let values : Unit → ℕ = λ u. value u book in
-      ap (λ (c : Carried). record { commands = c.done; kept = marked values c.kept; answer = outputs.answer })
-      (plan_taken book.fixed.topology values (turns_of book.fixed.topology outputs.pulse) kept answers all)
+      ap (part_after values outputs) (plan_taken book.fixed.topology values (turns_of book.fixed.topology outputs.pulse) kept answers all)
 
   pub part_succeeds : AllYes answers → AllSucceed (part_of kept answers book outputs).commands
   part_succeeds agreed = plan_succeeds book.fixed.topology (λ u. value u book) (turns_of book.fixed.topology outputs.pulse) kept answers agreed
@@ -158,17 +159,28 @@ module _ (kept : Kept) (answers : List Bool) (book : State) (outputs : Outputs) 
   pub part_used : part_of kept (answers_of (part_of kept answers book outputs).commands) book outputs ≡ part_of kept answers book outputs
   part_used =
       let values : Unit → ℕ = λ u. value u book in
-      ap (λ (c : Carried). record { commands = c.done; kept = marked values c.kept; answer = outputs.answer })
-      (plan-used book.fixed.topology values (turns_of book.fixed.topology outputs.pulse) kept answers)
+      ap (part_after values outputs) (plan-used book.fixed.topology values (turns_of book.fixed.topology outputs.pulse) kept answers)
 
   pub part_reaches : ChipLaws → IsWellFormed book.fixed.topology → IsFed book.fixed.topology (λ u. value u book) → IsRecordOf book.fixed.topology kept
-      → refusals (orders_of (part_of kept answers book outputs).commands) ≡ 0
+      → AllSucceed (part_of kept answers book outputs).commands
       → (unit : Unit) → has_unit book.fixed.topology unit ≡ true → kept_value (part_of kept answers book outputs).kept unit ≡ value unit book
-  part_reaches laws well fed record_of none unit has =
+  part_reaches laws well fed record_of all unit has =
       let left = kept_value (part_of kept answers book outputs).kept unit in
       elim (cases_Bool (left == value unit book)) [
         | inl same ↦ eqb-true left (value unit book) same
         | inr other ↦
             let why = part_explained laws kept answers book outputs well record_of fed unit has (eqb-false left (value unit book) other) in
-            absurd (none_failed _ (unrefused_succeed _ none) why.other why.failed)
+            absurd (none_failed _ all why.other why.failed)
       ]
+
+  -- and where each command succeeded the answer is the book's
+  pub part_answered : ChipLaws → IsWellFormed book.fixed.topology → IsFed book.fixed.topology (λ u. value u book) → IsRecordOf book.fixed.topology kept
+      → (before : Unit → ℕ) → outputs.moved ≡ moved before book
+      → AllSucceed (part_of kept answers book outputs).commands
+      → (part_of kept answers book outputs).answer ≡ outputs.answer
+  part_answered laws well fed record_of before is all =
+      let part = part_of kept answers book outputs in
+      book_is_told laws.units (λ u. value u book) outputs part.commands part.kept
+      (λ u has. part_reaches laws well fed record_of all u
+      (sym (laws.units.found book.fixed.topology u) ∙ moved_is_listed laws.units before book u (ap (λ units. has_in units u) (sym is) ∙ has)))
+      all

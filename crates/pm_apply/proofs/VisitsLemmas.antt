@@ -2,7 +2,7 @@
 use Rattle.std.proofs.Common.{◌≡◌, ℕ, ◌-◌, ◌<◌, ◌≤◌, length, arith, Bool, true, false, ◌&&◌, cond, if◌then◌else◌, Option, Some, None, List, [], ◌∷◌, ◌++◌, map, slice_get, refl, sym, ap, subst, ◌∙◌, ◌⊎◌, inl, inr, zero, suc}
 use Rattle.std.specs.Prelude.{⊤, IfSome, is_some, unwrap_or, reverse}
 use Rattle.std.specs.List.{list_all}
-use Rattle.std.specs.Option.{option_map}
+use Rattle.std.specs.Option.{option_map, option_map_or}
 use Rattle.std.proofs.lemmas.Bool.{and_from, both_ways, cases_Bool, or_left, or_right}
 use Rattle.std.proofs.lemmas.Bool.Decides.{nat_tests}
 use Rattle.std.proofs.lemmas.List.Folds.{list_all-append}
@@ -12,7 +12,9 @@ use Rattle.pm_base.specs.declared.names.LineId.{LineId}
 use Rattle.pm_base.specs.declared.names.Unit.{Unit}
 use Rattle.pm_base.specs.declared.names.Unit.TheVariants.{Node, Line}
 use Rattle.pm_base.specs.declared.names.Command.{Command}
+use Rattle.pm_topology.specs.declared.topology.PowerDef.{PowerDef}
 use Rattle.pm_topology.specs.declared.topology.Topology.{Topology}
+use Rattle.pm_topology.specs.WellFormed.{IsWellFormed}
 use Rattle.pm_topology.specs.UnitMap.{units_in, value_of}
 use Rattle.pm_topology.specs.Units.{UnitLaws, has_in, is_before, rises, same_unit, units_of}
 use Rattle.pm_apply.proofs.Below.{ChipLaws}
@@ -21,7 +23,7 @@ use Rattle.pm_apply.specs.declared.turns.Turn.{Turn}
 use Rattle.pm_apply.specs.declared.turns.Turn.TheVariants.{PowerOn, Pulse, Apply, PowerOff}
 use Rattle.pm_apply.specs.Record.{Kept, idle, keep, kept_of, kept_value, lags_in, mark, marked}
 use Rattle.pm_apply.specs.Plan.{Carried, after_answer, answers_of, power_places, unit_turns, due, later_answers, next_answer, plan, pulse_turn, take_turn, with_pulse}
-use Rattle.pm_apply.specs.Visits.{IsIdleAt, IsReady, LagsNotAt, NoneLags, StandsAt, StandsElsewhere, pulsed}
+use Rattle.pm_apply.specs.Visits.{IsIdle, IsIdleAt, power_lags, IsReady, LagsNotAt, NoneLags, StandsAt, StandsElsewhere, pulsed}
 use Rattle.pm_apply.specs.Carried.{Takes}
 use Rattle.pm_device.specs.Act.{Act}
 use Rattle.pm_core.specs.declared.outbox.Done.{Done}
@@ -29,6 +31,7 @@ use Rattle.pm_apply.proofs.TurnsLemmas.{turn_between}
 use Rattle.pm_apply.proofs.RecordLemmas.{units_in-after_answer, kept_value-keep}
 use Rattle.pm_apply.proofs.MarksLemmas.{mark_stays}
 use Rattle.pm_apply.proofs.OrdersDue.{raises, pulses, settles, lowers}
+use Rattle.pm_apply.proofs.OrdersUnits.{power_is_listed}
 
 -- ---- an entry of the record by its place
 
@@ -74,12 +77,22 @@ pub idle_at : UnitLaws → (t : Topology) (kept : Kept) (k powers : ℕ) → uni
 idle_at laws t kept k powers units is past found =
     let rising : rises (units_in kept) ≡ true = ap rises units ∙ (laws.are t).rising in
     record {
-      unit = found.entry.0;
+      turn = Apply found.entry.0;
       here = turn_between t k (k - powers) found.entry.0 (omega arith)
           (ap (λ us. slice_get us (k - powers)) (sym units) ∙ slice_get-map (λ (e : Unit × KeptValue). e.0) kept (k - powers) ∙ ap (option_map (λ (e : Unit × KeptValue). e.0)) found.here);
-      known = has_at laws kept (k - powers) found.entry found.here;
-      idle = ap (λ (k : KeptValue). k.lags) (kept_at laws kept (k - powers) found.entry rising found.here) ∙ found.idle;
+      idle = record {
+        known = has_at laws kept (k - powers) found.entry found.here;
+        idle = ap (λ (k : KeptValue). k.lags) (kept_at laws kept (k - powers) found.entry rising found.here) ∙ found.idle;
+      };
     }
+
+-- the power node at a place has its two turns, and is a unit of the record
+pub idle_power : ChipLaws → (t : Topology) (kept : Kept) → IsWellFormed t → units_in kept ≡ units_of t → (w : ℕ) → power_lags t kept w ≡ false
+    → (p : PowerDef) → slice_get t.powers w ≡ Some p → IsIdle kept (Node p.node)
+idle_power laws t kept well units w idle p here = record {
+  known = ap (λ us. has_in us (Node p.node)) units ∙ power_is_listed laws t well w p here;
+  idle = ap (λ found. option_map_or (λ (p : PowerDef). lags_in kept (Node p.node)) found false) (sym here) ∙ idle;
+}
 
 -- what holds of the element that is found
 pub holds_where : {X : Type 0} (P : X → Type 0) (found : Option X) → ((x : X) → found ≡ Some x → P x) → IfSome found P

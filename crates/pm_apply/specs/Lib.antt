@@ -1,4 +1,5 @@
 pub mod Carried
+pub mod Failing
 pub mod Order
 pub mod Part
 pub mod Plan

@@ -8,6 +8,7 @@ use Rattle.pm_core.specs.declared.replies.Answer.{Answer}
 use Rattle.pm_core.specs.Outbox.{Outputs}
 use Rattle.pm_state.specs.State.{State}
 use Rattle.pm_state.specs.Values.{value}
+use Rattle.pm_apply.specs.Failing.{falls_short, told_answer}
 use Rattle.pm_apply.specs.Plan.{answers_of, plan, turns_of}
 use Rattle.pm_apply.specs.Record.{marked}
 pub use Rattle.pm_apply.specs.Record.{Kept}
@@ -18,11 +19,16 @@ pub record Part : Type 0 where
   pub answer : Answer
 
 -- under these answers of the device (one that isn't there is a yes): the plan of the step, the record with its marks, and
--- the book's answer
+-- the book's answer, which is an internal error in place of success if the device didn't follow the step
 abbrev pub part_of : Kept → List Bool → State → Outputs → Part
 part_of kept answers book outputs =
     let carried = plan book.fixed.topology (λ u. value u book) (turns_of book.fixed.topology outputs.pulse) kept answers in
-    record { commands = carried.done; kept = marked (λ u. value u book) carried.kept; answer = outputs.answer }
+    let after = marked (λ u. value u book) carried.kept in
+    record {
+      commands = carried.done;
+      kept = after;
+      answer = told_answer (falls_short (λ u. value u book) outputs.moved outputs.pulse carried.done after) outputs.answer;
+    }
 
 -- commands with their answers, as the device has them
 abbrev pub order_of : Done → Act

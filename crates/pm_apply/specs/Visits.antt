@@ -1,14 +1,17 @@
--- What a step visits: the units that moved, those that lag and the line that is pulsed. Each other unit has the book's
--- value in the record, and has no command.
-use Rattle.std.specs.Prelude.{◌≡◌, ℕ, true, false, Option, Some, None, List, [], ◌∷◌, slice_get}
+-- What a step visits: the turns of the units that moved, of those that lag and of the line that is pulsed. All of them are
+-- marked first. Each other unit has the book's value in the record, and has no command.
+use Rattle.std.specs.Prelude.{◌≡◌, ℕ, Bool, true, false, Option, Some, None, List, [], ◌∷◌, slice_get}
+use Rattle.std.specs.Option.{option_map_or}
 use Rattle.pm_base.specs.declared.names.LineId.{LineId}
 use Rattle.pm_base.specs.declared.names.Unit.{Unit}
-use Rattle.pm_base.specs.declared.names.Unit.TheVariants.{Line}
+use Rattle.pm_base.specs.declared.names.Unit.TheVariants.{Node, Line}
+use Rattle.pm_topology.specs.declared.topology.PowerDef.{PowerDef}
 use Rattle.pm_topology.specs.declared.topology.Topology.{Topology}
 use Rattle.pm_topology.specs.UnitMap.{units_in, with_value}
 use Rattle.pm_topology.specs.Units.{has_in}
 use Rattle.pm_apply.specs.declared.kept.KeptValue.{KeptValue}
-use Rattle.pm_apply.specs.declared.turns.Turn.TheVariants.{Apply}
+use Rattle.pm_apply.specs.declared.turns.Turn.{Turn}
+use Rattle.pm_apply.specs.declared.turns.Turn.TheVariants.{PowerOn, Pulse, Apply, PowerOff}
 use Rattle.pm_apply.specs.Plan.{unit_turns}
 use Rattle.pm_apply.specs.Record.{Kept, kept_value, lags_in, marked}
 
@@ -22,12 +25,27 @@ pub record LagsNotAt (place : ℕ) (kept : Kept) : Type 0 where
   pub here : slice_get kept place ≡ Some entry
   pub idle : entry.1.lags ≡ false
 
--- the turn at a place is that of a unit that doesn't lag
-pub record IsIdleAt (t : Topology) (kept : Kept) (k : ℕ) : Type 0 where
-  pub unit : Unit
-  pub here : slice_get (unit_turns t) k ≡ Some (Apply unit)
+-- whether the power node at a place lags, and not so if there is none
+abbrev pub power_lags : Topology → Kept → ℕ → Bool
+power_lags t kept w = option_map_or (λ (p : PowerDef). lags_in kept (Node p.node)) (slice_get t.powers w) false
+
+-- a unit of the record that doesn't lag
+pub record IsIdle (kept : Kept) (unit : Unit) : Type 0 where
   pub known : has_in (units_in kept) unit ≡ true
   pub idle : lags_in kept unit ≡ false
+
+-- the turn of a unit that doesn't lag
+abbrev pub IsIdleTurn : Topology → Kept → Turn → Type 0
+IsIdleTurn t kept (PowerOn w) = (p : PowerDef) → slice_get t.powers w ≡ Some p → IsIdle kept (Node p.node)
+IsIdleTurn t kept (Pulse line) = ⊥
+IsIdleTurn t kept (Apply unit) = IsIdle kept unit
+IsIdleTurn t kept (PowerOff w) = (p : PowerDef) → slice_get t.powers w ≡ Some p → IsIdle kept (Node p.node)
+
+-- the turn at a place is that of a unit that doesn't lag
+pub record IsIdleAt (t : Topology) (kept : Kept) (k : ℕ) : Type 0 where
+  pub turn : Turn
+  pub here : slice_get (unit_turns t) k ≡ Some turn
+  pub idle : IsIdleTurn t kept turn
 
 -- an entry that doesn't lag has this value
 abbrev pub StandsAt : (Unit → ℕ) → Unit × KeptValue → Type 0
@@ -43,10 +61,10 @@ pulsed None = []
 pulsed (Some line) = Line line ∷ []
 
 -- a unit is marked; nothing changes where it isn't there
-abbrev pub expected : Unit → Kept → Kept
-expected unit kept = with_value unit (record { value = kept_value kept unit; lags = true }) kept
+abbrev pub with_mark : Unit → Kept → Kept
+with_mark unit kept = with_value unit (record { value = kept_value kept unit; lags = true }) kept
 
--- these units were marked, and nothing else changed
+-- these units were marked, no other lost its mark, and the record comes to the same once each unit is marked by its value
 pub record Marks (units : List Unit) (before after : Kept) : Type 0 where
   pub alike : (values : Unit → ℕ) → marked values after ≡ marked values before
   pub these : (unit : Unit) → has_in units unit ≡ true → has_in (units_in before) unit ≡ true → lags_in after unit ≡ true

@@ -16,6 +16,7 @@ ghost use Rattle.pm_apply.specs.Record.{IsRecordOf, StandsAs, kept_value};
 ghost use Rattle.pm_apply.specs.Room.{most_of};
 ghost use Rattle.pm_apply.specs.Visits.{IsReady};
 
+use crate::failing::told_answer;
 use crate::kept::{Kept, KeptValue};
 use crate::laws::{each_part_is_safe, orders_join};
 use crate::turns::{Turn, due, is_visited, pulse_before, turn_at, turn_count};
@@ -28,18 +29,20 @@ use pm_topology::{kinds_are_exact, unit_maps, units_stand_in_order};
 /// the other units take their values, a reset line that the step pulses after it went to 1; then power
 /// nodes go down, children before parents. A command is
 /// skipped where its unit would stand without power, or others below it would; a unit that differs is
-/// tried again at the next call. No memory is taken.
+/// tried again at the next call. An answer that tells success becomes an internal error if the device didn't
+/// follow the step. No memory is taken.
 ///
 /// The outbox was loaded for the book's topology and holds no command yet, and the record is one of
 /// that topology. Each unit whose value in the record isn't the book's moved in the step, or lags: turns are
-/// taken for units that moved or lag and for the line that is pulsed, and where there are none nothing is
-/// looked at.
+/// taken for units that moved or lag and for the line that is pulsed alone. Where there are none nothing is looked
+/// at; else the mark of each unit is.
 pub fn carry<D: Device>(dev: &mut D, kept: &mut Kept, book: &Book, out: &mut Outbox)
     requires room { HasRoomFor book.now out.old }
     requires fresh { out.old.done.items ≡ [] }
     requires record { IsRecordOf book.now.fixed.topology kept.old }
     requires marked { DifferencesAreMarked book.now.fixed.topology (λ u. value u book.now) out.old.moved.items kept.old }
-    // Exactly the step's plan under the answers that the device gave, and its record.
+    // Exactly the step's plan under the answers that the device gave, its record, and its answer, which is an internal
+    // error in place of success if the device didn't follow the step.
     ensures part { part_in kept.new out.new ≡ part_of kept.old (answers_in out.new) book.now (outputs_in out.old) }
     // The device was given these commands with these answers, in this order, and nothing else.
     ensures given { Chain D.Does (orders_in out.new) dev.old dev.new }
@@ -66,16 +69,16 @@ pub fn carry<D: Device>(dev: &mut D, kept: &mut Kept, book: &Book, out: &mut Out
     ensures starts { out.new.starts ≡ out.old.starts }
     ensures late { out.new.late ≡ out.old.late }
     ensures callbacks { out.new.callbacks ≡ out.old.callbacks }
-    ensures answer { out.new.answer ≡ out.old.answer }
 {
     each_part_is_safe();
     units_stand_in_order();
     kinds_are_exact();
     unit_maps::<KeptValue>();
-    kept.expect(out.moved.as_slice());
-    kept.expect_line(out.pulse);
+    kept.mark_moved(out.moved.as_slice());
+    kept.mark_pulsed(out.pulse);
     take_turns(dev, kept, book, out);
     kept.mark(book);
+    out.answer = told_answer(kept, book, out);
     chain_shows::<D>();
 }
 
@@ -102,13 +105,12 @@ pub fn carry_all<D: Device>(dev: &mut D, kept: &mut Kept, book: &Book, out: &mut
     ensures starts { out.new.starts ≡ out.old.starts }
     ensures late { out.new.late ≡ out.old.late }
     ensures callbacks { out.new.callbacks ≡ out.old.callbacks }
-    ensures answer { out.new.answer ≡ out.old.answer }
 {
     units_stand_in_order();
     kinds_are_exact();
     unit_maps::<KeptValue>();
     orders_join();
-    kept.expect_all(book);
+    kept.mark_each(book);
     carry(dev, kept, book, out);
 }
 
@@ -167,7 +169,7 @@ fn take_unit_turn<D: Device>(
     take_turn(dev, kept, book, out, turn);
 }
 
-/// Takes the turn at a place, where its unit is visited. No other unit has a command.
+/// Takes the turn at a place, if its unit is marked. No other unit has a command.
 fn take_turn_at<D: Device>(dev: &mut D, kept: &mut Kept, book: &Book, out: &mut Outbox, k: usize)
     requires within { k < length (unit_turns book.now.fixed.topology) }
     requires room { IfSome (slice_get (unit_turns book.now.fixed.topology) k) (λ turn. length out.old.done.items
@@ -189,6 +191,7 @@ fn take_turn_at<D: Device>(dev: &mut D, kept: &mut Kept, book: &Book, out: &mut 
 }
 
 /// Takes the turns of a step, one after another.
+/// Where no unit is marked none of them has a command.
 fn take_turns<D: Device>(dev: &mut D, kept: &mut Kept, book: &Book, out: &mut Outbox)
     requires room { HasRoomFor book.now out.old }
     requires fresh { out.old.done.items ≡ [] }

@@ -6,7 +6,7 @@ ghost use Rattle.pm_topology.specs.Units.{rises, units_of};
 ghost use Rattle.pm_state.specs.Values.{value};
 ghost use Rattle.pm_apply.specs.Plan.{after_answer};
 ghost use Rattle.pm_apply.specs.Record.{IsAtZero, IsRecordOf, at_zero, idle, keep, kept_of, kept_value, lags_in, mark, marked};
-ghost use Rattle.pm_apply.specs.Visits.{LagsNotAt, Marks, NoneLags, StandsAt, StandsElsewhere, expected, pulsed};
+ghost use Rattle.pm_apply.specs.Visits.{LagsNotAt, Marks, NoneLags, StandsAt, StandsElsewhere, with_mark, pulsed};
 
 use crate::laws::at_zero_is_a_record;
 use pm_base::{Command, LineId, NoMemory, Unit};
@@ -97,46 +97,46 @@ impl Kept {
     }
 
     /// Marks these units, which may lag from now on.
-    pub(crate) fn expect(&mut self, units: &[Unit])
+    pub(crate) fn mark_moved(&mut self, units: &[Unit])
         ensures { Marks units.now self.old self.new }
     {
         units_stand_in_order();
         kinds_are_exact();
         unit_maps::<KeptValue>();
         for unit in units {
-            self.expect_one(*unit);
+            self.mark_one(*unit);
         }
     }
 
     /// Marks each unit of the chip.
-    pub(crate) fn expect_all(&mut self, book: &Book)
+    pub(crate) fn mark_each(&mut self, book: &Book)
         ensures { Marks (units_of book.now.fixed.topology) self.old self.new }
     {
         units_stand_in_order();
         kinds_are_exact();
         unit_maps::<KeptValue>();
         for k in 0..book.units() {
-            self.expect_one(book.unit(k));
+            self.mark_one(book.unit(k));
         }
     }
 
     /// Marks a reset line, where there is one.
-    pub(crate) fn expect_line(&mut self, line: Option<LineId>)
+    pub(crate) fn mark_pulsed(&mut self, line: Option<LineId>)
         ensures { Marks (pulsed line) self.old self.new }
     {
         if let Some(line) = line {
-            self.expect_one(Unit::Line(line));
+            self.mark_one(Unit::Line(line));
         }
     }
 
-    fn expect_one(&mut self, unit: Unit)
+    fn mark_one(&mut self, unit: Unit)
         ensures { Marks (unit ∷ []) self.old self.new }
     {
         units_stand_in_order();
         kinds_are_exact();
         unit_maps::<KeptValue>();
         self.any_lags = true;
-        expect(&mut self.values, unit);
+        set_mark(&mut self.values, unit);
     }
 
     /// Takes down what a device answered to a command.
@@ -193,8 +193,8 @@ fn keep(values: &mut UnitMap<KeptValue>, command: Command)
 }
 
 /// Marks a unit. Nothing changes where the unit isn't there.
-fn expect(values: &mut UnitMap<KeptValue>, unit: Unit)
-    ensures entries { values.new ≡ expected unit values.old }
+fn set_mark(values: &mut UnitMap<KeptValue>, unit: Unit)
+    ensures entries { values.new ≡ with_mark unit values.old }
     ensures rising { rises (units_in values.old) ≡ true }
 {
     let kept = kept_of(values, unit);

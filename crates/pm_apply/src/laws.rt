@@ -56,7 +56,8 @@ pub fn each_part_is_safe()
 }
 
 /// Where no command of a step is refused, it is the step under a device that never refuses; and under
-/// answers of which none is a no each command succeeds, and the record has the book's values.
+/// answers of which none is a no each command succeeds, the record has the book's values, and the answer is the
+/// book's.
 pub fn a_part_without_refusal()
     ensures same { (kept : Kept) (answers : List Bool) (book : State) (outputs : Outputs)
         → refusals (orders_of (part_of kept answers book outputs).commands) ≡ 0
@@ -71,6 +72,10 @@ pub fn a_part_without_refusal()
         → refusals (orders_of (part_of kept answers book outputs).commands) ≡ 0
         → (unit : Unit) → has_unit book.fixed.topology unit ≡ true
         → kept_value (part_of kept answers book outputs).kept unit ≡ value unit book }
+    ensures answered { (kept : Kept) (answers : List Bool) (book : State) (outputs : Outputs) (before : Unit → ℕ)
+        → IsWellFormed book.fixed.topology → IsRecordOf book.fixed.topology kept → outputs.moved ≡ moved before book
+        → AllSucceed (part_of kept answers book outputs).commands
+        → (part_of kept answers book outputs).answer ≡ outputs.answer }
 {
     units_stand_in_order();
     kinds_are_exact();

@@ -3,6 +3,7 @@
 #![tactic(auto)]
 
 mod commands;
+mod failing;
 mod kept;
 mod laws;
 mod turns;

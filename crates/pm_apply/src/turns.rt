@@ -9,13 +9,14 @@ ghost use Rattle.pm_state.specs.Fed.{IsFed};
 ghost use Rattle.pm_state.specs.Values.{value};
 ghost use Rattle.pm_apply.specs.Plan.{due, is_fed, is_place, is_power, is_power_kind, is_used, power_off, power_value, power_on, apply, pulse, pulse_before, pulse_turn, unit_turns, where_due};
 ghost use Rattle.pm_apply.specs.Record.{kept_value};
-ghost use Rattle.pm_apply.specs.Visits.{IsIdleAt};
+ghost use Rattle.pm_apply.specs.Visits.{IsIdleAt, power_lags};
 
-use crate::kept::Kept;
+use crate::kept::{Kept, KeptValue};
 use pm_base::{Command, LineId, Unit};
 use pm_core::Book;
 use pm_topology::{
-    Kind, PowerDef, Topology, needs_power, parent_of_unit, same_unit, units_stand_in_order,
+    Kind, PowerDef, Topology, kinds_are_exact, needs_power, parent_of_unit, same_unit, unit_maps,
+    units_stand_in_order,
 };
 
 /// A turn of a step: the power node at a place goes up, a reset line is pulsed, a unit that is no power
@@ -57,14 +58,34 @@ pub(crate) fn turn_at(k: usize, book: &Book) -> Turn
     }
 }
 
-/// Whether a turn is taken: that of a power node is, and that of another unit where it lags.
+/// Whether the turn at a place is taken: that of a unit that lags is.
 pub(crate) fn is_visited(k: usize, book: &Book, kept: &Kept) -> bool
+    requires within { k < length (unit_turns book.now.fixed.topology) }
     requires units { units_in kept.now ≡ units_of book.now.fixed.topology }
     ensures { result ≡ false → IsIdleAt book.now.fixed.topology kept.now k }
 {
     units_stand_in_order();
-    let powers = book.topology().powers.len();
-    k < powers || kept.lags_at(k - powers)
+    kinds_are_exact();
+    unit_maps::<KeptValue>();
+    let t = book.topology();
+    let powers = t.powers.len();
+    if k >= powers && k - powers < book.units() {
+        return kept.lags_at(k - powers);
+    }
+    match turn_at(k, book) {
+        Turn::PowerOn(place) | Turn::PowerOff(place) => power_lags(place, t, kept),
+        Turn::Apply(_) | Turn::Pulse(_) => true,
+    }
+}
+
+/// Whether the power node at a place lags.
+fn power_lags(place: usize, t: &Topology, kept: &Kept) -> bool
+    ensures { result ≡ power_lags t.now kept.now place }
+{
+    match power_at(t, place) {
+        Some(power) => kept.lags(Unit::Node(power.node)),
+        None => false,
+    }
 }
 
 /// The pulse that stands before a turn: before that of a reset line that is pulsed.

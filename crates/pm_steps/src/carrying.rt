@@ -9,7 +9,7 @@ ghost use Rattle.pm_apply.specs.Record.{IsRecordOf};
 use crate::rows::all_right;
 use pm_apply::{Kept, carry, carry_all, marks_suffice};
 use pm_base::{Event, LineId, Message, NoMemory, NodeId, Unit};
-use pm_core::Outbox;
+use pm_core::{Answer, Outbox};
 use pm_device::{Device, ListedDevice, ModelDevice};
 use pm_object::{Object, decode};
 use pm_testing::{Desk, Trigger, bytes_of, chip, desk_with, event_of};
@@ -213,6 +213,43 @@ fn a_domain_stays_up_over_a_slave_that_is_broken(rt: HostRuntime) -> Result<(), 
     Ok(())
 }
 
+/// The status and the words that the caller is told.
+fn told(out: &Outbox) -> (u32, [u32; 3]) {
+    match out.answer {
+        Answer::Reply { response, .. } => {
+            let words = response.words;
+            (response.status, words)
+        }
+        _ => (u32::MAX, [0; 3]),
+    }
+}
+
+/// Whether node 28 is broken, a call, and the status and the words that the caller is told.
+type Told = (bool, u32, u32, [u32; 3]);
+
+/// The node is broken when it is requested, and is tried again at each later step.
+static TOLD: [Told; 4] = [
+    (true, REQUEST, 2000, [0, 0, 0]),
+    (true, STATUS, 0, [1, 1, 1]),
+    (false, STATUS, 0, [1, 1, 1]),
+    (false, REQUEST, 2004, [0, 0, 0]),
+];
+
+#[test]
+fn a_device_that_does_not_follow_is_an_internal_error(rt: HostRuntime) -> Result<(), Fail> {
+    let mut dev = Box::new(
+        rt.alloc(),
+        ModelDevice::new(rt.alloc(), &chip(rt.alloc())?)?,
+    )?;
+    let mut drive = drive_of(rt.alloc(), &mut *dev)?;
+    for (broken, api, status, words) in &TOLD {
+        dev.rig(NodeId(28), *broken);
+        drive.take(&call(*api), &mut *dev);
+        assert!(rt; told(&drive.desk.out) == (*status, *words));
+    }
+    Ok(())
+}
+
 /// A call of master 7 with these first two arguments.
 fn call_on(api: u32, first: u32, second: u32) -> Event {
     let message = Message {
@@ -241,31 +278,36 @@ fn are_done_on_line(out: &Outbox, commands: &[(u32, u32, bool)]) -> bool {
     done.len() == commands.len()
 }
 
-/// The action of a reset of line 28, the commands on the line, and what is kept of it then.
-type Reset = (u32, &'static [(u32, u32, bool)], u32, bool);
+/// The action of a reset of line 28, the commands on the line, what is kept of it then, and the status that the caller
+/// is told.
+type Reset = (u32, &'static [(u32, u32, bool)], u32, bool, u32);
 
 fn wrong_reset<D: Device>(drive: &mut Drive, dev: &mut D, resets: &[Reset]) -> Option<usize> {
     let line = Unit::Line(LineId(28));
-    for (place, (action, commands, value, lags)) in resets.iter().enumerate() {
+    for (place, (action, commands, value, lags, status)) in resets.iter().enumerate() {
         drive.take(&call_on(17, 28, *action), dev);
         let kept = (drive.kept.value(line), drive.kept.lags(line));
-        if !are_done_on_line(&drive.desk.out, commands) || kept != (*value, *lags) {
+        let told = told(&drive.desk.out).0;
+        if !are_done_on_line(&drive.desk.out, commands)
+            || kept != (*value, *lags)
+            || told != *status
+        {
             return Some(place);
         }
     }
     None
 }
 
-/// A pulse over a line that is released, and over one that is asserted: then the 0 alone.
+/// A pulse over a line that is released, and over one that is asserted: then the 0 alone. There is no action 3.
 static LINES: [Reset; 8] = [
-    (0, &[], 0, false),
-    (2, &[(0, 1, true), (1, 0, true)], 0, false),
-    (1, &[(0, 1, true)], 1, false),
-    (1, &[], 1, false),
-    (2, &[(1, 0, true)], 0, false),
-    (3, &[], 0, false),
-    (1, &[(0, 1, true)], 1, false),
-    (0, &[(1, 0, true)], 0, false),
+    (0, &[], 0, false, 0),
+    (2, &[(0, 1, true), (1, 0, true)], 0, false, 0),
+    (1, &[(0, 1, true)], 1, false, 0),
+    (1, &[], 1, false, 0),
+    (2, &[(1, 0, true)], 0, false, 0),
+    (3, &[], 0, false, 15),
+    (1, &[(0, 1, true)], 1, false, 0),
+    (0, &[(1, 0, true)], 0, false, 0),
 ];
 
 #[test]
@@ -279,19 +321,25 @@ fn a_line_is_pulsed_by_two_commands(rt: HostRuntime) -> Result<(), Fail> {
     Ok(())
 }
 
-/// The fifth command, the 1 of a pulse, fails: no 0 follows. The seventh, the 0 of another pulse, fails: it is
-/// given again with the next step.
-static FAILING: [Reset; 4] = [
-    (2, &[(0, 1, false)], 0, false),
-    (1, &[(0, 1, true)], 1, false),
-    (2, &[(1, 0, false)], 1, true),
-    (3, &[(1, 0, true)], 0, false),
+/// The fifth command, the 1 of a pulse, fails: no 0 follows. The seventh, the 0 of a pulse of a line that is asserted,
+/// fails: it is given again with the next step, which is refused. The tenth, the 0 of a whole pulse, fails: the line
+/// didn't move, so the call succeeds.
+static FAILING: [Reset; 6] = [
+    (2, &[(0, 1, false)], 0, false, 2000),
+    (1, &[(0, 1, true)], 1, false, 0),
+    (2, &[(1, 0, false)], 1, true, 2000),
+    (3, &[(1, 0, true)], 0, false, 15),
+    (2, &[(0, 1, true), (1, 0, false)], 1, true, 0),
+    (3, &[(1, 0, true)], 0, false, 15),
 ];
 
 #[test]
 fn a_pulse_may_fail(rt: HostRuntime) -> Result<(), Fail> {
     let chip = chip(rt.alloc())?;
-    let mut dev = Box::new(rt.alloc(), ListedDevice::new(rt.alloc(), &chip, &[5, 7])?)?;
+    let mut dev = Box::new(
+        rt.alloc(),
+        ListedDevice::new(rt.alloc(), &chip, &[5, 7, 10])?,
+    )?;
     let mut drive = drive_of(rt.alloc(), &mut *dev)?;
     all_right(&rt, wrong_reset(&mut drive, &mut *dev, &FAILING));
     Ok(())

@@ -2,7 +2,6 @@ use Rattle.std.proofs.Common.{◌≤◌, ◌+◌, length}
 use Rattle.std.specs.Prelude.{slice_get}
 use Rattle.pm_base.proofs.Options.{holds_of}
 use Rattle.pm_state.specs.Values.{value}
-use Rattle.pm_apply.specs.declared.turns.Turn.TheVariants.{Apply}
 use Rattle.pm_apply.specs.Carried.{Takes}
 use Rattle.pm_apply.specs.Plan.{unit_turns, with_pulse}
 use Rattle.pm_apply.specs.Room.{most_of}
@@ -17,8 +16,8 @@ returns-then-not-is_visited-clause-takes g c =
     let laws : ChipLaws = record { units = c.units_stand_in_order.ensures; kinds = c.kinds_are_exact.ensures; table = c.unit_maps.ensures } in
     let rests = c.is_visited.ensures c.if-not-is_visited.true in
     where_found (λ turn. Takes g.D.Device.Does t (λ u. value u c.args.book.now) (with_pulse c.args.out.now.pulse turn) c.args.kept.now c.args.kept.now c.args.out.now.done.items c.args.out.now.done.items c.args.dev.now c.args.dev.now)
-    (slice_get (unit_turns t) c.args.k) (Apply rests.unit) rests.here
-    (idle_takes t (λ u. value u c.args.book.now) c.args.kept.now laws c.args.out.now.pulse c.requires.ready g.D.Device.Does c.args.out.now.done.items c.args.dev.now (Apply rests.unit) (rests.known, rests.idle))
+    (slice_get (unit_turns t) c.args.k) rests.turn rests.here
+    (idle_takes t (λ u. value u c.args.book.now) c.args.kept.now laws c.args.out.now.pulse c.requires.ready g.D.Device.Does c.args.out.now.done.items c.args.dev.now rests.turn rests.idle)
 
 pub take_unit_turn-requires : goal.take_unit_turn-requires
 take_unit_turn-requires g c = record {

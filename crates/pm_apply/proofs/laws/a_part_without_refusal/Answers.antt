@@ -1,5 +1,5 @@
 use Rattle.pm_apply.proofs.Below.{ChipLaws}
-use Rattle.pm_apply.proofs.StepLaw.{part_agreed, part_reaches, part_succeeds, part_unrefused, unrefused_succeed}
+use Rattle.pm_apply.proofs.StepLaw.{part_agreed, part_answered, part_reaches, part_succeeds, part_unrefused, unrefused_succeed}
 use Rattle.pm_apply.proofs.laws.a_part_without_refusal.Goals as goal
 
 pub returns : goal.returns
@@ -10,5 +10,6 @@ returns c =
       agreed = part_agreed;
       succeeds = part_succeeds;
       unrefused = unrefused_succeed;
-      reaches = λ kept answers book outputs well record_of. part_reaches kept answers book outputs laws well (c.values_are_fed.ensures book well) record_of;
+      reaches = λ kept answers book outputs well record_of none. part_reaches kept answers book outputs laws well (c.values_are_fed.ensures book well) record_of (unrefused_succeed _ none);
+      answered = λ kept answers book outputs before well record_of. part_answered kept answers book outputs laws well (c.values_are_fed.ensures book well) record_of before;
     }

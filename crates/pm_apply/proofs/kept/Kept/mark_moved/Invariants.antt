@@ -1,6 +1,6 @@
 use Rattle.std.proofs.Common.{take}
 use Rattle.pm_apply.specs.Visits.{Marks}
-use Rattle.pm_apply.proofs.kept.Kept.expect.Given as goal
+use Rattle.pm_apply.proofs.kept.Kept.mark_moved.Given as goal
 
 -- the units so far are marked
 abbrev pub invariant-loop-unit : goal.invariant-loop-unit

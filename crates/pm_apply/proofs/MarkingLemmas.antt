@@ -15,7 +15,7 @@ use Rattle.pm_apply.proofs.Below.{ChipLaws}
 use Rattle.pm_apply.specs.declared.kept.KeptValue.{KeptValue}
 use Rattle.pm_apply.specs.Carried.{DifferencesAreMarked}
 use Rattle.pm_apply.specs.Record.{Kept, IsRecordOf, idle, kept_value, lags_in, mark, marked}
-use Rattle.pm_apply.specs.Visits.{IsReady, Marks, expected, pulsed}
+use Rattle.pm_apply.specs.Visits.{IsReady, Marks, with_mark, pulsed}
 use Rattle.pm_apply.proofs.RecordLemmas.{kept_value-marked, units_in-marked}
 use Rattle.pm_apply.proofs.VisitsLemmas.{kept_at}
 
@@ -37,8 +37,8 @@ marked_set values u now (e ∷ kept) same =
     cc
 
 module _ (laws : ChipLaws) (u : Unit) (kept : Kept) (rising : rises (units_in kept) ≡ true) where
-  expected_alike : (values : Unit → ℕ) → marked values (expected u kept) ≡ marked values kept
-  expected_alike values =
+  with_mark_alike : (values : Unit → ℕ) → marked values (with_mark u kept) ≡ marked values kept
+  with_mark_alike values =
       marked_set values u (record { value = kept_value kept u; lags = true }) kept
       (λ k e here is. ap (λ (k : KeptValue). k.value) (sym (kept_at laws.units kept k e rising here)) ∙ ap (kept_value kept) (laws.units.same e.0 u is))
 
@@ -49,21 +49,21 @@ module _ (laws : ChipLaws) (u : Unit) (kept : Kept) (rising : rises (units_in ke
   lags_then x true false is there why = elim why [ inl lags ↦ lags | inr off ↦ let gone : false ≡ true = off.1 in cc ]
   lags_then x false has is there why = elim why [ inl lags ↦ lags | inr off ↦ let other : false ≡ true = off.0 in cc ]
 
-  lags_in-expected : (x : Unit) → (lags_in kept x ≡ true) ⊎ ((same_unit u x ≡ true) × (is_some (value_of kept u) ≡ true)) → lags_in (expected u kept) x ≡ true
-  lags_in-expected x why =
+  lags_in-with_mark : (x : Unit) → (lags_in kept x ≡ true) ⊎ ((same_unit u x ≡ true) × (is_some (value_of kept u) ≡ true)) → lags_in (with_mark u kept) x ≡ true
+  lags_in-with_mark x why =
       ap (λ (found : Option KeptValue). (unwrap_or found idle).lags) (laws.table.set u (record { value = kept_value kept u; lags = true }) kept x)
       ∙ lags_then x (same_unit u x) (is_some (value_of kept u)) refl refl why
 
   only : (x : Unit) → has_in (u ∷ []) x ≡ true → same_unit u x ≡ true
   only x has = elim (or_cases (same_unit u x) false has) [ inl is ↦ is | inr off ↦ absurd (both_ways false refl off) ]
 
-  pub marks_one : Marks (u ∷ []) kept (expected u kept)
+  pub marks_one : Marks (u ∷ []) kept (with_mark u kept)
   marks_one = record {
-    alike = expected_alike;
+    alike = with_mark_alike;
     these = λ x has there.
         let is = only x has in
-        lags_in-expected x (inr (is, laws.table.there kept u ∙ (ap (has_in (units_in kept)) (laws.units.same u x is) ∙ there)));
-    others = λ x lags. lags_in-expected x (inl lags);
+        lags_in-with_mark x (inr (is, laws.table.there kept u ∙ (ap (has_in (units_in kept)) (laws.units.same u x is) ∙ there)));
+    others = λ x lags. lags_in-with_mark x (inl lags);
   }
 
 -- ---- several units

@@ -1,7 +1,7 @@
 use Rattle.std.proofs.Common.{take}
 use Rattle.pm_topology.specs.Units.{units_of}
 use Rattle.pm_apply.specs.Visits.{Marks}
-use Rattle.pm_apply.proofs.kept.Kept.expect_all.Given as goal
+use Rattle.pm_apply.proofs.kept.Kept.mark_each.Given as goal
 
 -- the units so far are marked
 abbrev pub invariant-loop-k : goal.invariant-loop-k

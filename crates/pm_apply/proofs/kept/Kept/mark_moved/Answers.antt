@@ -3,17 +3,17 @@ use Rattle.std.proofs.lemmas.List.{take_all}
 use Rattle.std.proofs.lemmas.Option.{slice_get-get_or}
 use Rattle.pm_base.specs.declared.names.Unit.{Unit}
 use Rattle.pm_apply.specs.Visits.{Marks}
-use Rattle.pm_apply.proofs.ExpectLemmas.{marks_next, marks_none}
-use Rattle.pm_apply.proofs.kept.Kept.expect.Goals as goal
+use Rattle.pm_apply.proofs.MarkingLemmas.{marks_next, marks_none}
+use Rattle.pm_apply.proofs.kept.Kept.mark_moved.Goals as goal
 
 pub loop-unit-init : goal.loop-unit-init
 loop-unit-init c = marks_none c.args.self.now
 
 pub loop-unit-preserved : goal.loop-unit-preserved
 loop-unit-preserved c =
-    marks_next (record { units = c.units_stand_in_order.ensures; kinds = c.kinds_are_exact.ensures; table = c.unit_maps.ensures }) c.args.units.now c.loop-unit.unit-index _ c.args.self.now c.loop-unit.self c.expect_one.new.self
+    marks_next (record { units = c.units_stand_in_order.ensures; kinds = c.kinds_are_exact.ensures; table = c.unit_maps.ensures }) c.args.units.now c.loop-unit.unit-index _ c.args.self.now c.loop-unit.self c.mark_one.new.self
     (slice_get-get_or c.args.units.now c.loop-unit.unit-index _ c.loop-unit-test.true)
-    c.loop-unit.invariant c.expect_one.ensures
+    c.loop-unit.invariant c.mark_one.ensures
 
 pub returns : goal.returns
 returns c =
