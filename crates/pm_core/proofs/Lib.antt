@@ -4,3 +4,4 @@ pub mod Refused
 pub mod RestartLaw
 pub mod SoundSteps
 pub mod StepLaw
+pub mod TouchedLaw

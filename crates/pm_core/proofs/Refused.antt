@@ -1,18 +1,14 @@
 -- A refused message changes nothing.
-use Rattle.std.proofs.Common.{◌≡◌, ℕ, Bool, true, false, not, ◌&&◌, ◌==◌, if◌then◌else◌, IsTrue, List, [], ◌∷◌, ◌++◌, ◌+◌, map, Option, Some, None, refl, ap, ◌∙◌, ◌||◌, ◌⊎◌, inl, inr}
-use Rattle.std.specs.Prelude.{flat_map, option_and_then}
-use Rattle.std.proofs.lemmas.Bool.{eq-eqb}
+use Rattle.std.proofs.Common.{◌≡◌, ℕ, Bool, true, false, not, if◌then◌else◌, IsTrue, List, [], ◌∷◌, ◌++◌, ◌+◌, map, Option, Some, None, refl, ap, ◌∙◌, ◌||◌, ◌⊎◌, inl, inr}
+use Rattle.std.specs.Prelude.{option_and_then}
 use Rattle.pm_base.specs.declared.events.Event.{Event}
 use Rattle.pm_base.specs.declared.events.Event.TheVariants.{Ipi, Boot, Wfi, Irq, Gic}
 use Rattle.pm_base.specs.declared.names.Mode.{Mode}
 use Rattle.pm_base.specs.declared.names.Mode.TheVariants.{Off, Active, Asleep, Suspending}
 use Rattle.pm_base.specs.declared.names.NodeId.{NodeId}
-use Rattle.pm_base.specs.declared.names.Unit.{Unit}
-use Rattle.pm_base.specs.declared.names.Unit.TheVariants.{Node, Line}
 use Rattle.pm_ipi.specs.Calls.{ack_of, call_of, node_of}
 use Rattle.pm_ipi.specs.declared.calls.Call.{Call}
 use Rattle.pm_ipi.specs.declared.calls.Call.TheVariants as calls
-use Rattle.pm_notify.specs.declared.notes.Note.TheVariants.{Change, ZeroUsers}
 use Rattle.pm_notify.specs.declared.notes.Waiting.{Waiting}
 use Rattle.pm_notify.specs.MasterNotes.{MasterNotes}
 use Rattle.pm_notify.specs.Notify.{notes_for}
@@ -29,7 +25,7 @@ use Rattle.pm_tell.specs.Ended.{ended_at, ended_from}
 use Rattle.pm_values.specs.Turns.{turns_along}
 use Rattle.pm_tell.specs.Served.{kept_at, kept_of, own_note}
 use Rattle.pm_state.specs.Members.{mode_of_master}
-use Rattle.pm_values.specs.Notifications.{happened, log_if, notes_about, notifications, used}
+use Rattle.pm_values.specs.Notifications.{notifications}
 use Rattle.pm_calls.specs.Checks.{Cause, Fits, Stands, first_failing}
 use Rattle.pm_state.specs.Prims.{Prim}
 use Rattle.pm_state.specs.Stages.{after_stages, path_from}
@@ -41,7 +37,7 @@ use Rattle.pm_tell.specs.Telling.{tellings}
 use Rattle.pm_state.specs.Talk.{Talk, talked, wait_of}
 use Rattle.pm_tell.specs.Opening.{forgets_from, talk_of}
 use Rattle.pm_state.specs.Units.{units}
-use Rattle.pm_state.specs.Values.{master_place, value}
+use Rattle.pm_state.specs.Values.{master_place}
 use Rattle.pm_calls.specs.Verdict.{Called, aborted_by, asked_by, is_refusal, response_of, says_of, stages_by, verdict_by, verdict_of}
 
 -- nothing comes of it

@@ -22,9 +22,12 @@ use Rattle.pm_calls.specs.declared.verdict.Verdict.{Verdict}
 use Rattle.pm_calls.specs.declared.verdict.Verdict.TheVariants.{Dropped, Refused, Accepted}
 use Rattle.pm_tell.specs.Callbacks.{News, callbacks, late_replies}
 use Rattle.pm_tell.specs.Ended.{ended_from}
+use Rattle.pm_values.specs.declared.touches.Touched.{Touched}
+use Rattle.pm_values.specs.declared.touches.Touched.TheVariants.{All, Nothing, Rows}
 use Rattle.pm_values.specs.Turns.{turns_along}
 use Rattle.pm_calls.specs.Events.{boot, wait, interrupt, raised}
-use Rattle.pm_calls.specs.calls.{called, only_reads}
+use Rattle.pm_calls.specs.Shapes.{Shape, Own_row, Own_arming}
+use Rattle.pm_calls.specs.calls.{called, only_reads, shape_of}
 use Rattle.pm_state.specs.Members.{mode_of_master}
 use Rattle.pm_values.specs.Notifications.{notifications}
 use Rattle.pm_core.specs.Outbox.{Outputs}
@@ -36,7 +39,7 @@ use Rattle.pm_state.specs.State.{State, in_force}
 use Rattle.pm_state.specs.Talk.{Talk, talked}
 use Rattle.pm_tell.specs.Opening.{forgets_from, talk_of}
 use Rattle.pm_state.specs.Units.{moved}
-use Rattle.pm_state.specs.Values.{master_place, value, point}
+use Rattle.pm_state.specs.Values.{master_place, slave_place, value, point}
 use Rattle.pm_calls.specs.Verdict.{Called, asked_by, aborted_by, is_refusal, renews_all, response_of, stages_of, verdict_of}
 use Rattle.pm_state.specs.Nodes.{master_mode}
 use Rattle.pm_tell.specs.Telling.{notes_after, tellings}
@@ -220,3 +223,25 @@ is_action _ = false
 abbrev pub may_change : Event → Option Served → Bool
 may_change event None = is_action event
 may_change event (Some served) = not (is_refusal served.verdict || only_reads served.call)
+
+-- the node of the slave on which a call of this shape changes the caller's row; then it changes nothing else of the book
+abbrev pub row_node : Shape → Option NodeId
+row_node (Own_row node by call) = Some node
+row_node (Own_arming target source enable) = Some source
+row_node _ = None
+
+-- what is touched where the rows on the slave at this place change, and nothing else, if there is a place
+abbrev pub touched_at : Option ℕ → Touched
+touched_at None = All
+touched_at (Some s) = Rows s
+
+abbrev pub row_place : Call → State → Option ℕ
+row_place call book = option_and_then (λ node. slave_place node book) (row_node (shape_of call))
+
+abbrev pub touched_by : Option Served → State → Touched
+touched_by None book = All
+touched_by (Some served) book = touched_at (row_place served.call book)
+
+-- what of a book an event may touch, by the verdict on its message: nothing, the rows on one slave, or anything
+abbrev pub touched : Event → Option Served → State → Touched
+touched event served book = if may_change event served then touched_by served book else Nothing

@@ -16,7 +16,7 @@ ghost use Rattle.pm_state.specs.Nodes.{master_mode, mode, row};
 
 use crate::laws::books_stay_sound;
 use crate::outbox::Outbox;
-use crate::step::{advance, answer, may_change, time_of};
+use crate::step::{advance, answer, time_of, touched};
 use pm_base::{Event, Mode, NoMemory, NodeId, Unit};
 use pm_object::Object;
 use pm_rows::Row;
@@ -136,7 +136,7 @@ impl Book {
         let count = time_of(&self.tables, event);
         let served = advance(&mut self.tables, &self.caches, event, &mut self.telling);
         self.caches.follow(
-            may_change(event, served),
+            touched(&self.tables, event, served),
             &self.tables,
             &self.telling.along,
             &mut out.moved,

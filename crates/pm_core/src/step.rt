@@ -2,10 +2,10 @@
 
 ghost use Rattle.std.specs.Prelude.{◌≡◌, false, length};
 ghost use Rattle.pm_ipi.specs.Calls.{ack_of, node_of};
-ghost use Rattle.pm_calls.specs.calls.{only_reads};
+ghost use Rattle.pm_calls.specs.calls.{only_reads, shape_of};
 ghost use Rattle.pm_values.specs.Caches.{AreKept};
 ghost use Rattle.pm_state.specs.Stages.{after_stages, path_from};
-ghost use Rattle.pm_core.specs.Step.{acknowledged, answer_by, answer_of, call_in, is_action, may_call, may_change, is_ipi, message_stages, path, served, stages, time_of, verdict};
+ghost use Rattle.pm_core.specs.Step.{acknowledged, answer_by, answer_of, call_in, is_action, may_call, may_change, is_ipi, message_stages, path, row_node, row_place, served, stages, time_of, touched, touched_at, verdict};
 ghost use Rattle.pm_state.specs.State.{in_force};
 ghost use Rattle.pm_tell.specs.Telling.{HasPlaces};
 ghost use Rattle.pm_values.specs.Along.{Completes, IsTrail, modes_of, trail_from};
@@ -17,7 +17,7 @@ use pm_ipi::{AckKind, Call, Response, decode_call};
 use pm_procs::is_awake;
 use pm_state::Tables;
 use pm_tell::{Served, Telling};
-use pm_values::{Along, Caches, point};
+use pm_values::{Along, Caches, Touched, point};
 
 /// The time that passes with an event: none while the book is halted.
 pub(crate) fn time_of(tables: &Tables, event: &Event) -> Option<u32>
@@ -154,12 +154,58 @@ fn only_reads(call: &Call) -> bool
 
 /// Whether an event may have stages, by the verdict on its message. Where it may not, the book stays but for
 /// what is told.
-pub(crate) fn may_change(event: &Event, served: Option<Served>) -> bool
+fn may_change(event: &Event, served: Option<Served>) -> bool
     ensures { result ≡ may_change event.now served }
 {
     match served {
         Some(served) => matches!(served.verdict, Verdict::Accepted(_)) && !only_reads(&served.call),
         None => is_action(event),
+    }
+}
+
+/// What of a book an event may touch, by the verdict on its message: nothing, the rows on one slave, or anything.
+pub(crate) fn touched(tables: &Tables, event: &Event, served: Option<Served>) -> Touched
+    ensures { result ≡ touched event.now served tables.now }
+{
+    if !may_change(event, served) {
+        return Touched::Nothing;
+    }
+    match served {
+        Some(served) => touched_at(row_place(tables, &served.call)),
+        None => Touched::All,
+    }
+}
+
+fn touched_at(place: Option<usize>) -> Touched
+    ensures { result ≡ touched_at place }
+{
+    match place {
+        Some(place) => Touched::Rows(place),
+        None => Touched::All,
+    }
+}
+
+/// The place of the slave on which a call changes the caller's row.
+fn row_place(tables: &Tables, call: &Call) -> Option<usize>
+    ensures { result ≡ row_place call.now tables.now }
+{
+    match row_node(call) {
+        Some(node) => tables.slave_place(node),
+        None => None,
+    }
+}
+
+/// The node of that slave. Such a call changes nothing else of the book.
+fn row_node(call: &Call) -> Option<NodeId>
+    ensures { result ≡ row_node (shape_of call.now) }
+{
+    match call {
+        Call::RequestNode { node, .. }
+        | Call::ReleaseNode { node }
+        | Call::SetRequirement { node, .. }
+        | Call::SetMaxLatency { node, .. } => Some(*node),
+        Call::SetWakeupSource { source, .. } => Some(*source),
+        _ => None,
     }
 }
 

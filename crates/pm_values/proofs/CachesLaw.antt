@@ -22,10 +22,13 @@ use Rattle.pm_topology.specs.UnitMap.{units_in, value_of, all_at}
 use Rattle.pm_power.specs.declared.child.Child.{Child}
 use Rattle.pm_power.specs.Forest.{Needs, ups}
 use Rattle.pm_power.specs.Needs.{child, children_of, with_needs}
+use Rattle.pm_base.specs.BoundedList.{Bounded}
+use Rattle.pm_notify.specs.declared.notes.Waiting.{Waiting}
+use Rattle.pm_values.specs.declared.starts.Start.{Start}
 use Rattle.pm_values.specs.declared.caches.Caches.{Caches}
 use Rattle.pm_values.specs.declared.caches.UnitKind.{UnitKind}
 use Rattle.pm_values.specs.declared.caches.UnitKind.TheVariants.{Entry, Reset}
-use Rattle.pm_values.specs.Caches.{AreKept, HasPlaces, idle, kind_of_unit, kind_value, moved_by, revalued, use_of, unit_value, valued, value_by, value_kept}
+use Rattle.pm_values.specs.Caches.{AreKept, HasPlaces, HasRoom, IsChosen, idle, kind_of_unit, kind_value, moved_by, revalued, use_of, unit_value, valued, value_by, value_kept}
 use Rattle.pm_state.specs.State.{Fixed, CoreHalf, State}
 use Rattle.pm_procs.specs.declared.procs.Proc.{Proc as Processor}
 use Rattle.pm_procs.specs.Modes.{is_awake}
@@ -204,6 +207,30 @@ kept_places book caches t same kept =
       children = ap (λ (n : Needs). map idle n.children) kept.power ∙ forest_idle book.fixed book.now.core;
       units = ap units_in kept.values ∙ units_of_valued (λ u. value u book) (units book);
     })
+
+-- once the states are chosen and the power nodes are found, there are the same places and the same room
+chosen_places : (book : State) (before after : Caches) → HasPlaces book.fixed.topology before → IsChosen book before after → HasPlaces book.fixed.topology after
+chosen_places book before after places chosen_by = record {
+  kinds = chosen_by.kinds ∙ places.kinds;
+  states = ap length chosen_by.states ∙ length-placed (chosen book.now.core) 0 book.fixed.topology.slaves;
+  needs = ap length chosen_by.needs ∙ length-placed (need_of book.now.core) 0 book.fixed.topology.slaves;
+  runs = ap length chosen_by.runs ∙ length-placed (run_of book.now.core) 0 book.fixed.topology.procs;
+  used = ap length chosen_by.used ∙ places.used;
+  powers = ap (λ (n : Needs). n.powers) chosen_by.power;
+  children = ap (λ (n : Needs). map idle n.children) chosen_by.power ∙ forest_idle book.fixed book.now.core;
+  units = ap units_in chosen_by.values ∙ places.units;
+}
+
+pub chosen_room : (book : State) (before after : Caches) (moved : Bounded Unit) (starts : Bounded Start) (notices : Bounded Waiting) → HasRoom book.fixed.topology before moved starts notices → IsChosen book before after → HasRoom book.fixed.topology after moved starts notices
+chosen_room book before after moved starts notices room chosen_by =
+    let same : length after.values ≡ length before.values = ap length chosen_by.values in
+    record {
+      places = chosen_places book before after room.places chosen_by;
+      room = omega (arith, same, room.room);
+      none = room.none;
+      procs = room.procs;
+      few = omega (arith, same, room.few);
+    }
 
 -- each unit with its value, once the values are written by the kinds
 pub valued_is : (book : State) (states : List ℕ) (procs : List Processor) (up lines : List Bool) (kinds : List UnitKind) (es : List (Unit × ℕ)) → states ≡ placed (chosen book.now.core) 0 book.fixed.topology.slaves → procs ≡ book.now.core.procs → up ≡ ups (forest book.fixed book.now.core) → lines ≡ book.now.core.lines → units_in es ≡ units book → kinds ≡ map (kind_of_unit book.fixed.topology) (units book) → revalued (unit_value states procs up lines) kinds es ≡ valued book

@@ -8,5 +8,7 @@ pub mod MovesLemmas
 pub mod NeededLaw
 pub mod NoticesLaw
 pub mod RestLaw
+pub mod SlaveLaw
 pub mod StartsLaw
+pub mod TouchesLaw
 pub mod Wants

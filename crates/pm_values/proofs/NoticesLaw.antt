@@ -67,7 +67,7 @@ freed_unit laws before after (Node node) fixed =
     ∙ ap (λ (f : Fixed). used_at kind before.now.core.rows && not (used_at (kind_of f.topology node) after.now.core.rows)) fixed
 freed_unit laws before after (Line line) fixed = refl
 
-noticed_all : (new : UnitKind → ℕ) (freed : UnitKind → Bool) (kind_in : Unit → UnitKind) (before now : Unit → ℕ) (gone : Unit → Bool) → ((u : Unit) → new (kind_in u) ≡ now u) → ((u : Unit) → freed (kind_in u) ≡ gone u) → (us : List Unit)
+pub noticed_all : (new : UnitKind → ℕ) (freed : UnitKind → Bool) (kind_in : Unit → UnitKind) (before now : Unit → ℕ) (gone : Unit → Bool) → ((u : Unit) → new (kind_in u) ≡ now u) → ((u : Unit) → freed (kind_in u) ≡ gone u) → (us : List Unit)
     → noticed_by new freed (map kind_in us) (map (λ u. (u, before u)) us) ≡ flat_map (λ u. notes_about (not (before u == now u)) (gone u) u) us
 noticed_all new freed kind_in before now gone are lost [] = refl
 noticed_all new freed kind_in before now gone are lost (u ∷ us) =

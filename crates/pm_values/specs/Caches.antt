@@ -164,6 +164,13 @@ pub record IsChosen (book : State) (before after : Caches) : Type 0 where
   pub used : after.used.items ≡ before.used.items
   pub values : after.values ≡ before.values
 
+-- the states and needs, the processors that run, and the power nodes are those of the book
+pub record AreChosen (book : State) (caches : Caches) : Type 0 where
+  pub states : caches.states.items ≡ placed (chosen book.now.core) 0 book.fixed.topology.slaves
+  pub needs : caches.needs.items ≡ placed (need_of book.now.core) 0 book.fixed.topology.slaves
+  pub runs : caches.runs.items ≡ placed (run_of book.now.core) 0 book.fixed.topology.procs
+  pub power : caches.power ≡ forest book.fixed book.now.core
+
 -- caches of a chip, with room for what a step moves, starts and has to tell; nothing is among the starts yet
 pub record HasRoom (t : Topology) (caches : Caches) (moved : Bounded Unit) (starts : Bounded Start)
     (notices : Bounded Waiting) : Type 0 where

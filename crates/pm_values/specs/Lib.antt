@@ -2,4 +2,5 @@ pub mod Along
 pub mod Caches
 pub mod Notifications
 pub mod Starts
+pub mod Touches
 pub mod Turns

@@ -1,21 +1,31 @@
 //! What the book keeps of its values.
 
-ghost use Rattle.std.specs.Prelude.{◌≡◌, IfOk, false, length, map, option_map, slice_get};
+ghost use Rattle.std.specs.Prelude.{◌≡◌, ◌<◌, ◌≤◌, ◌++◌, IfOk, Some, length, map, option_map, slice_get};
+ghost use Rattle.pm_base.specs.declared.names.Unit.TheVariants.{Node};
+ghost use Rattle.pm_topology.specs.declared.places.Kind.TheVariants.{Slave};
 ghost use Rattle.pm_topology.specs.Units.{units_of};
+ghost use Rattle.pm_state.specs.Values.{value};
+ghost use Rattle.pm_values.specs.declared.caches.UnitKind.TheVariants.{Entry};
 ghost use Rattle.pm_topology.specs.UnitMap.{all_at};
-ghost use Rattle.pm_values.specs.Caches.{AreKept, Finds, HasPlaces, HasRoom, IsChosen, IsStill, kind_of_unit, value_kept};
+ghost use Rattle.pm_values.specs.Caches.{AreChosen, AreKept, Finds, HasPlaces, HasRoom, IsChosen, freed_by, kind_of_unit, moved_at, noticed_at, value_kept};
+ghost use Rattle.pm_values.specs.Touches.{IsBefore, IsLogged, IsOfRows, IsTouched, rests};
 
 use crate::along::Along;
 use crate::moves::log_moves;
-use crate::needs::{choose, log_runs};
-use crate::notifications::{log_notices, log_uses};
+use crate::needs::{choose, choose_one, log_runs, set_need, slave_at, state_of};
+use crate::notifications::{freed, log_notice, log_notices, log_use, log_uses};
 use crate::starts::{Start, log_starts};
-use pm_base::{BoundedList, NoMemory, Unit};
+use crate::touches::Touched;
+use pm_base::{BoundedList, NoMemory, NodeId, Unit, at_or};
 use pm_notify::Waiting;
 use pm_power::Power;
 use pm_state::Tables;
-use pm_topology::{Kind, Topology, UnitMap, kinds_are_exact, units_of, units_stand_in_order};
+use pm_topology::{
+    Kind, SlaveDef, Topology, UnitMap, kinds_are_exact, units_of, units_stand_in_order,
+};
 use std::alloc::Global;
+use std::marker::Brand;
+use std::sync::ledger::Blank;
 
 /// What the value of a unit is found by: the kind of a node, or the place of a reset line.
 #[derive(Clone, Copy, Debug, PartialEq, Eq)]
@@ -104,9 +114,27 @@ impl Caches {
         ensures found { Finds tables.now along.now.downs self.old moved.old moved.new starts.old starts.new
             notices.old notices.new }
     {
+        self.choose(tables);
+        self.log_changes(tables, along, moved, starts, notices);
+    }
+
+    /// The same once the states are chosen and the power nodes are found.
+    fn log_changes(
+        &mut self,
+        tables: &Tables,
+        along: &Along,
+        moved: &mut BoundedList<Unit>,
+        starts: &mut BoundedList<Start>,
+        notices: &mut BoundedList<Waiting>,
+    )
+        requires room { HasRoom tables.now.fixed.topology self.old moved.old starts.old notices.old }
+        requires chosen { AreChosen tables.now self.old }
+        ensures kept { AreKept tables.now self.new }
+        ensures found { Finds tables.now along.now.downs self.old moved.old moved.new starts.old starts.new
+            notices.old notices.new }
+    {
         units_stand_in_order();
         kinds_are_exact();
-        self.choose(tables);
         let ups = self.power.ups();
         log_starts(along, &self.kinds, tables.procs(), &self.values, starts);
         notices.clear();
@@ -130,10 +158,10 @@ impl Caches {
         log_uses(tables, &mut self.used);
     }
 
-    /// The same after a step, with nothing to do unless it had stages that may change the book.
+    /// The same after a step that may have touched so much: what it didn't touch isn't found again.
     pub fn follow(
         &mut self,
-        changes: bool,
+        touched: Touched,
         tables: &Tables,
         along: &Along,
         moved: &mut BoundedList<Unit>,
@@ -141,17 +169,132 @@ impl Caches {
         notices: &mut BoundedList<Waiting>,
     )
         requires room { HasRoom tables.now.fixed.topology self.old moved.old starts.old notices.old }
-        requires still { changes ≡ false → IsStill tables.now along.now self.old }
+        requires touched { IsTouched touched tables.now along.now self.old }
         ensures kept { AreKept tables.now self.new }
         ensures found { Finds tables.now along.now.downs self.old moved.old moved.new starts.old starts.new
             notices.old notices.new }
     {
         kinds_are_exact();
-        if changes {
-            self.update(tables, along, moved, starts, notices);
-        } else {
-            notices.clear();
+        match touched {
+            Touched::Nothing => notices.clear(),
+            Touched::Rows(s) => self.follow_rows(s, tables, along, moved, starts, notices),
+            Touched::All => self.update(tables, along, moved, starts, notices),
         }
+    }
+
+    /// The same after a step that changed the rows on one slave alone: where that rests, all values do.
+    fn follow_rows(
+        &mut self,
+        s: usize,
+        tables: &Tables,
+        along: &Along,
+        moved: &mut BoundedList<Unit>,
+        starts: &mut BoundedList<Start>,
+        notices: &mut BoundedList<Waiting>,
+    )
+        requires room { HasRoom tables.now.fixed.topology self.old moved.old starts.old notices.old }
+        requires rows { IsOfRows s tables.now along.now self.old }
+        ensures kept { AreKept tables.now self.new }
+        ensures found { Finds tables.now along.now.downs self.old moved.old moved.new starts.old starts.new
+            notices.old notices.new }
+    {
+        kinds_are_exact();
+        if self.rests(s, tables) {
+            notices.clear();
+            log_use(tables, s, &mut self.used);
+        } else {
+            self.follow_slave(s, tables, along, moved, starts, notices);
+        }
+    }
+
+    /// The same where the slave doesn't rest: it alone changes unless the power node above it goes up or down.
+    fn follow_slave(
+        &mut self,
+        s: usize,
+        tables: &Tables,
+        along: &Along,
+        moved: &mut BoundedList<Unit>,
+        starts: &mut BoundedList<Start>,
+        notices: &mut BoundedList<Waiting>,
+    )
+        requires room { HasRoom tables.now.fixed.topology self.old moved.old starts.old notices.old }
+        requires rows { IsOfRows s tables.now along.now self.old }
+        ensures kept { AreKept tables.now self.new }
+        ensures found { Finds tables.now along.now.downs self.old moved.old moved.new starts.old starts.new
+            notices.old notices.new }
+    {
+        units_stand_in_order();
+        kinds_are_exact();
+        match slave_at(tables.topology().slaves.as_slice(), s) {
+            Some(slave) => {
+                let was_up = at_or(self.power.ups(), slave.parent, false);
+                self.choose_slave(s, slave, tables);
+                if at_or(self.power.ups(), slave.parent, false) == was_up {
+                    self.log_slave(s, slave.node, tables, moved, notices);
+                } else {
+                    self.log_changes(tables, along, moved, starts, notices);
+                }
+            }
+            None => self.update(tables, along, moved, starts, notices),
+        }
+    }
+
+    /// Chooses the state of the slave at a place, and finds which power nodes are up by that.
+    fn choose_slave(&mut self, s: usize, slave: &SlaveDef, tables: &Tables)
+        requires there { slice_get tables.now.fixed.topology.slaves s ≡ Some slave.now }
+        requires rows { IsBefore s tables.now self.old }
+        ensures { IsChosen tables.now self.old self.new }
+    {
+        kinds_are_exact();
+        let _chip = tables.topology();
+        let need = choose_one(tables, s, slave, &mut self.states, &mut self.needs);
+        set_need::<Brand>(&mut self.power, slave.node, need, Blank::new(1));
+    }
+
+    /// Writes the value of the slave at a place, which has this number, and whether it is used, puts it into `moved` if
+    /// its value isn't the one before, and what happened to it into `notices`.
+    fn log_slave(
+        &mut self,
+        s: usize,
+        node: NodeId,
+        tables: &Tables,
+        moved: &mut BoundedList<Unit>,
+        notices: &mut BoundedList<Waiting>,
+    )
+        requires moved { length moved.old.items < moved.old.room }
+        requires notices { 2 ≤ notices.old.room }
+        requires state { slice_get self.old.states.items s ≡ Some (value (Node node) tables.now) }
+        ensures caches { IsLogged s node tables.now self.old self.new }
+        ensures moved { moved.new ≡ record moved.old {
+          items = moved.old.items
+              ++ moved_at (value (Node node) tables.now) (Some (Node node, value_kept (Node node) self.old.values));
+        } }
+        ensures notices { notices.new ≡ record notices.old {
+          items = noticed_at (value (Node node) tables.now)
+              (freed_by self.old.used.items tables.now.now.core.rows (Entry (Slave s)))
+              (Some (Node node, value_kept (Node node) self.old.values));
+        } }
+        ensures few { length notices.new.items ≤ 2 }
+    {
+        let unit = Unit::Node(node);
+        let state = at_or(&self.states, s, 0);
+        let freed = freed(UnitKind::Entry(Kind::Slave(s)), &self.used, tables.rows());
+        let before = self.value(unit);
+        notices.clear();
+        log_notice(Some((unit, before)), state, freed, notices);
+        if before != state {
+            moved.push(unit);
+        }
+        self.values.set(unit, state);
+        log_use(tables, s, &mut self.used);
+    }
+
+    /// Whether the slave at a place is in the state that is kept, and wasn't left without users.
+    fn rests(&self, s: usize, tables: &Tables) -> bool
+        ensures { result ≡ rests s tables.now self.now }
+    {
+        state_of(tables, s) == at_or(&self.states, s, 0)
+            && !freed(UnitKind::Entry(Kind::Slave(s)), &self.used, tables.rows())
     }
 }
 

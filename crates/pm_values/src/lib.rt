@@ -10,6 +10,7 @@ mod moves;
 mod needs;
 mod notifications;
 mod starts;
+mod touches;
 mod turns;
 mod values;
 
@@ -17,5 +18,6 @@ pub use along::{Along, log_modes};
 pub use caches::Caches;
 pub use laws::{values_are_fed, values_meet};
 pub use starts::Start;
+pub use touches::Touched;
 pub use turns::Turns;
 pub use values::{point, value};

@@ -1,6 +1,6 @@
 //! What happens to nodes in a step: which change, and which have no users any more.
 
-ghost use Rattle.std.specs.Prelude.{◌≡◌, ◌+◌, ◌<◌, ◌≤◌, ◌++◌, length};
+ghost use Rattle.std.specs.Prelude.{◌≡◌, ◌+◌, ◌<◌, ◌≤◌, ◌++◌, length, slice_set};
 ghost use Rattle.pm_values.specs.Caches.{freed_by, noticed_at, noticed_by, unit_value, use_of};
 ghost use Rattle.pm_values.specs.Notifications as spec;
 ghost use Rattle.pm_values.specs.Notifications.{notice_count};
@@ -45,7 +45,7 @@ pub(crate) fn log_notices(
 }
 
 /// Whether a unit of this kind was used, and is used no more.
-fn freed(kind: UnitKind, used: &[bool], rows: &Rows) -> bool
+pub(crate) fn freed(kind: UnitKind, used: &[bool], rows: &Rows) -> bool
     ensures { result ≡ freed_by used.now rows.now kind }
 {
     match kind {
@@ -63,7 +63,7 @@ fn is_used(s: usize, rows: &Rows) -> bool
 }
 
 /// Puts what happened to the unit of an entry into `notices`, by its value before.
-fn log_notice(
+pub(crate) fn log_notice(
     entry: Option<(Unit, u32)>,
     value: u32,
     freed: bool,
@@ -97,6 +97,15 @@ pub(crate) fn log_uses(tables: &Tables, used: &mut [bool])
 {
     let t = tables.topology();
     for s in 0..t.slaves.len() {
+        used[s] = is_used(s, tables.rows());
+    }
+}
+
+/// Writes whether some master uses the slave at a place.
+pub(crate) fn log_use(tables: &Tables, s: usize, used: &mut [bool])
+    ensures { used.new ≡ slice_set used.old s (spec.is_used s tables.now.now.core.rows) }
+{
+    if s < used.len() {
         used[s] = is_used(s, tables.rows());
     }
 }

@@ -1,4 +1,4 @@
-use Rattle.std.proofs.Common.{◌≡◌, ◌≤◌, ◌++◌, ◌∷◌, [], List, length, sym, ◌∙◌, ap, subst, arith}
+use Rattle.std.proofs.Common.{◌≡◌, ◌≤◌, ◌++◌, ◌∷◌, length, sym, ◌∙◌, ap, subst, arith}
 use Rattle.std.proofs.lemmas.List.{length-map}
 use Rattle.pm_base.specs.declared.names.Unit.{Unit}
 use Rattle.pm_notify.specs.declared.notes.Waiting.{Waiting}
@@ -13,10 +13,10 @@ use Rattle.pm_state.specs.Sound.{AreNotes, IsBook}
 use Rattle.pm_tell.specs.declared.callbacks.Callback.{Callback}
 use Rattle.pm_tell.specs.declared.late.Late.{Late}
 use Rattle.pm_values.specs.declared.starts.Start.{Start}
-use Rattle.pm_state.specs.Stages.{after_stages, path_from}
+use Rattle.pm_state.specs.Stages.{after_stages}
 use Rattle.pm_values.specs.Starts.{starts, was_down}
 use Rattle.pm_state.specs.State.{State, in_force}
-use Rattle.pm_core.specs.Step.{effect, ended, may_change, served, modes_in, news, opening, path, pulse, stages, answer_by, answer_to}
+use Rattle.pm_core.specs.Step.{effect, ended, served, modes_in, news, opening, path, pulse, stages, answer_by, answer_to}
 use Rattle.pm_tell.specs.Telling.{notes_after, tellings, HasPlaces, news_in, opening_in}
 use Rattle.pm_tell.specs.Ended.{ended_from}
 use Rattle.pm_values.specs.Notifications.{notifications}
@@ -26,7 +26,10 @@ use Rattle.pm_calls.specs.Verdict.{aborted_by}
 use Rattle.pm_values.proofs.CachesLaw.{kept_places, kept_talked}
 use Rattle.pm_core.proofs.EndedLaw.{IsTold, stages_talk, step_told}
 use Rattle.pm_values.proofs.NoticesLaw.{notices_are}
-use Rattle.pm_core.proofs.Refused.{none_staged, refused_stays}
+use Rattle.pm_core.proofs.Refused.{refused_stays}
+use Rattle.pm_core.proofs.TouchedLaw.{step_touches}
+use Rattle.pm_values.specs.declared.touches.Touched.{Touched}
+use Rattle.pm_values.specs.Touches.{IsTouched}
 use Rattle.pm_core.proofs.SoundSteps.{kept_by}
 use Rattle.pm_core.proofs.StepLaw.{step_moves, step_starts}
 use Rattle.pm_core.proofs.book.Book.step.Goals as goal
@@ -52,22 +55,14 @@ follow-requires-clause-room c =
       few = omega (arith, values, c.self.invariant.2.notices, ap (λ (l : Bounded _). l.room) c.advance-served.ensures.notices);
     }
 
--- where the event may have no stage, the book after its stages is the one before them
-pub follow-requires-clause-still : goal.follow-requires-clause-still
-follow-requires-clause-still c = λ stays.
-    let event = c.args.event.now in
-    let old = c.self.inside.tables in
-    let none : stages event old ≡ [] =
-    none_staged event old (ap (may_change event) (sym c.advance-served.ensures.served) ∙ (sym c.may_change.ensures ∙ stays))
-    in
-    let is : c.advance-served.new.tables ≡ old = c.advance-served.ensures.book ∙ ap (λ ss. after_stages ss old) none in
-    let Kept : State → Type 0 = λ b. AreKept b c.self.inside.caches in
-    let Logged : List State → Type 0 = λ books. IsTrail old books c.advance-served.new.telling.along in
-    let From : State → Type 0 = λ b. IsTrail b [] c.advance-served.new.telling.along in
-    record {
-      kept = subst Kept (sym is) c.self.invariant.1;
-      trail = subst From (sym is) (subst Logged (ap (λ ss. path_from ss old) none) c.advance-served.ensures.along);
-    }
+-- what is kept is found again as far as the event may touch
+pub follow-requires-clause-touched : goal.follow-requires-clause-touched
+follow-requires-clause-touched c =
+    let mid = c.advance-served.new.tables in
+    let P : Touched → Type 0 = λ touched. IsTouched touched mid c.advance-served.new.telling.along c.self.inside.caches in
+    subst P (sym c.touched.ensures)
+    (step_touches c.args.event.now c.self.inside.tables mid c.advance-served.result c.advance-served.new.telling.along c.self.inside.caches
+    c.advance-served.ensures.book c.advance-served.ensures.served c.self.invariant.0.sound c.self.invariant.1 c.advance-served.ensures.along)
 
 pub tell-requires-clause-each : goal.tell-requires-clause-each
 tell-requires-clause-each c =
