@@ -18,6 +18,7 @@ use Rattle.pm_tell.specs.declared.late.Late.{Late}
 use Rattle.pm_values.specs.declared.starts.Start.{Start}
 use Rattle.pm_core.specs.declared.replies.Answer.{Answer}
 use Rattle.pm_core.specs.declared.replies.Answer.TheVariants.{Silent, Drop, Reply, Ack}
+use Rattle.pm_state.specs.Values.{value}
 use Rattle.pm_run.specs.Run.{Core, Line as ScriptLine, Setup, run}
 use Rattle.pm_laws.specs.Answers.{is_dropped}
 use Rattle.pm_laws.specs.Border.{Border, none_within}
@@ -29,6 +30,7 @@ use Rattle.pm_laws.specs.ReachBorder.{border_of, place_of}
 use Rattle.pm_laws.specs.Told.{callbacks_in, drops_in, is_others, starts_in}
 use Rattle.pm_laws.specs.Values.{is_beyond}
 use Rattle.pm_laws.specs.Worlds.{AreWorldsAlike, IsLineAlike}
+use Rattle.pm_apply.specs.Failing.{falls_short, told_answer}
 use Rattle.pm_apply.specs.Part.{Kept, Part, part_of}
 use Rattle.pm_apply.specs.Record.{at_zero}
 use Rattle.pm_trace.specs.declared.line.Word.{Word}
@@ -37,6 +39,7 @@ use Rattle.pm_trace.specs.declared.step.StepLine.TheVariants as told
 use Rattle.pm_trace.specs.Line.{numbers}
 use Rattle.pm_trace.specs.Step.{acknowledgement, answer_line, command_name, late_line, notices_of, told_lines, step_words}
 use Rattle.pm_drive.specs.Drive.{Given, answers_after, drive, driven, first_answers, give, kept_after, later_answers, until}
+use Rattle.pm_drive.specs.Drove.{IsTold}
 use Rattle.pm_drive.proofs.DroveLaw.{until-drive}
 use Rattle.pm_apart.specs.Lines.{given_lines, numbered, step_lines}
 use Rattle.pm_apart.specs.Telling.{TellsApart, is_call, tells_call, tells_drop, tells_start}
@@ -60,7 +63,7 @@ made_flat f G none parts (core ∷ cores) =
 module _ (T : List Word → Bool) (F : Core → List StepLine) where
   -- of the lines of a core step the test finds these
   abbrev Finds : Type 0
-  Finds = (n : ℕ) (g : Given) → g.part.answer ≡ g.core.outputs.answer → Drops g.core → filter T (given_lines n g) ≡ map (line_of n) (F g.core)
+  Finds = (n : ℕ) (g : Given) → IsTold g → Drops g.core → filter T (given_lines n g) ≡ map (line_of n) (F g.core)
 
   -- those of script lines, the first of which has this number
   abbrev found_from : ℕ → List ScriptLine → List (List Word)
@@ -207,7 +210,7 @@ module _ (c : Setup) (m : NodeId) (events : List Event) (alike : AreWorldsAlike 
   told_of what g = filter (tells_of what) (told_lines g.part.commands (notices_of g.core.outputs) g.part.answer)
 
   -- of the lines of a core step the test finds those that tell of it
-  found_of : (what : Tells) (F : Core → List StepLine) → ((g : Given) → g.part.answer ≡ g.core.outputs.answer → Drops g.core → told_of what g ≡ F g.core)
+  found_of : (what : Tells) (F : Core → List StepLine) → ((g : Given) → IsTold g → Drops g.core → told_of what g ≡ F g.core)
       → Finds (tells what) F
   found_of what F found n g answer drops =
       by_line (tells what) n (tells_of what) (of_line what n) (told_lines g.part.commands (notices_of g.core.outputs) g.part.answer)
@@ -323,6 +326,16 @@ module _ (c : Setup) (m : NodeId) (events : List Event) (alike : AreWorldsAlike 
   dropped_here d message true = refl
   dropped_here d message false = refl
 
+  -- whether a device followed the step makes no difference
+  drop_told : (short : Bool) (answer : Answer)
+      → filter (tells_of Drops_sent) (option_to_list (answer_line (told_answer short answer))) ≡ filter (tells_of Drops_sent) (option_to_list (answer_line answer))
+  drop_told false answer = refl
+  drop_told true Silent = refl
+  drop_told true (Drop master) = refl
+  drop_told true (Reply master response) = refl
+  drop_told true (Ack master node status point false) = refl
+  drop_told true (Ack master node status point true) = refl
+
   drop_answer : (core : Core) (answer : Answer) → answer ≡ core.outputs.answer → Drops core → filter (tells_of Drops_sent) (option_to_list (answer_line answer)) ≡ drops_told core
   drop_answer core answer is drops = by answer is ∙ ap (λ a. as_drops (if is_others c.object border m core.event then (core.event, is_dropped a) ∷ [] else [])) is
     where
@@ -337,10 +350,16 @@ module _ (c : Setup) (m : NodeId) (events : List Event) (alike : AreWorldsAlike 
           dropped_here d own.0 (sender_beyond d)
           ∙ ap (λ event. as_drops (if is_others c.object border m event then (event, true) ∷ [] else [])) (sym own.1)
 
+  drop_line : (g : Given) → IsTold g → Drops g.core → filter (tells_of Drops_sent) (option_to_list (answer_line g.part.answer)) ≡ drops_told g.core
+  drop_line g told drops =
+      let short : Bool = falls_short (λ u. value u g.core.after) g.core.outputs.moved g.core.outputs.pulse g.part.commands g.part.kept in
+      ap (λ answer. filter (tells_of Drops_sent) (option_to_list (answer_line answer))) told
+      ∙ (drop_told short g.core.outputs.answer ∙ drop_answer g.core g.core.outputs.answer refl drops)
+
   drops_found : Finds (tells Drops_sent) drops_told
   drops_found = found_of Drops_sent drops_told (λ g answer drops.
       five_parts (tells_of Drops_sent) g [] [] [] [] (drops_told g.core) (no_done Drops_sent g) (none_made (tells_of Drops_sent) told.Start (λ s. refl) g.core.outputs.starts)
-      (no_late Drops_sent g) (none_made (tells_of Drops_sent) told.Call (λ x. refl) g.core.outputs.callbacks) (drop_answer g.core g.part.answer answer drops))
+      (no_late Drops_sent g) (none_made (tells_of Drops_sent) told.Call (λ x. refl) g.core.outputs.callbacks) (drop_line g answer drops))
 
   -- ---- all of them
 

@@ -53,7 +53,7 @@ StepsStayApart c answers events cut =
 -- each processor the same mode; the same units move, the same processors start, and the same reset lines are pulsed; the same is
 -- asked of masters there, the same requests to them end, with the same late replies, and the same callbacks are made to them, but
 -- for those about nodes within the reach; the same messages of other masters are dropped, and those that name nothing within the
--- reach are answered the same
+-- reach are answered the same, before an internal error takes the place of success
 pub record BooksStayApart (c : Setup) (events : List Event) (m : NodeId) : Type 0 where
   pub beside : AreWorldsBeside c m events
   pub alike : AreWorldsAlike c m events

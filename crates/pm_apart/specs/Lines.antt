@@ -1,6 +1,6 @@
 -- The text of a run as its lines, each a list of words, and which of them are about a unit: the lines of the commands on it,
 -- and its closing line.
-use Rattle.std.specs.Prelude.{ℕ, ◌+◌, ◌==◌, Bool, true, false, ◌&&◌, ◌||◌, codes, if◌then◌else◌, List, [], ◌∷◌, ◌++◌, filter, flat_map, map}
+use Rattle.std.specs.Prelude.{ℕ, ◌+◌, ◌==◌, Bool, false, ◌&&◌, ◌||◌, codes, if◌then◌else◌, List, [], ◌∷◌, ◌++◌, filter, flat_map, map}
 use Rattle.std.specs.Str.{bytes_eq}
 use Rattle.pm_base.specs.declared.events.Event.{Event}
 use Rattle.pm_base.specs.declared.names.Unit.{Unit}

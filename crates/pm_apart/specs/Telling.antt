@@ -1,11 +1,10 @@
 -- The lines of a run, besides those of commands, that tell of what is beyond the reach of a master: which processors start, which
 -- messages of other masters are dropped, and which masters are asked to suspend or notified of a node. A reply and an
 -- acknowledgement have no words that say whether they are an answer or come later, so of these the relation of core steps speaks.
-use Rattle.std.specs.Prelude.{◌≡◌, ℕ, ◌==◌, Bool, true, false, not, ◌&&◌, ◌||◌, codes, List, [], ◌∷◌, filter, Option}
+use Rattle.std.specs.Prelude.{◌≡◌, ℕ, ◌==◌, Bool, false, not, ◌&&◌, ◌||◌, codes, List, [], ◌∷◌, filter, Option}
 use Rattle.pm_base.specs.declared.events.Event.{Event}
 use Rattle.pm_base.specs.declared.names.NodeId.{NodeId}
 use Rattle.pm_base.specs.declared.names.Unit.TheVariants.{Node}
-use Rattle.pm_object.specs.declared.object.Object.{Object}
 use Rattle.pm_ipi.specs.Callbacks.{init_suspend, notify}
 use Rattle.pm_run.specs.Run.{Setup}
 use Rattle.pm_laws.specs.Border.{Border, none_within}

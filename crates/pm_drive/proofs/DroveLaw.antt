@@ -1,7 +1,7 @@
 -- A device that was driven through the first lines of a run stands as the headline says.
 use Rattle.std.proofs.Common.{◌≡◌, ℕ, ◌+◌, Bool, true, List, [], ◌∷◌, ◌++◌, take, Option, Some, None, refl, sym, ◌∙◌, ap, subst, zero, suc, arith, inl, inr}
 use Rattle.std.specs.Prelude.{map}
-use Rattle.std.specs.Prelude.{⊤}
+use Rattle.std.specs.List.{AllByRecursion as Each}
 use Rattle.pm_base.specs.Faults.{Rose}
 use Rattle.pm_base.specs.declared.events.Event.{Event}
 use Rattle.pm_base.specs.declared.names.Unit.{Unit}
@@ -20,9 +20,10 @@ use Rattle.pm_run.specs.Run.{Core, IsBookOf, Line, Setup, Stand, book_after, cor
 use Rattle.pm_apply.specs.Part.{Kept, Part, orders_of, part_of}
 use Rattle.pm_apply.specs.Record.{IsRecordOf, at_zero, kept_value}
 use Rattle.pm_drive.specs.Drive.{Driven, acts, answers_after, drive, drive_line, driven, first_answers, last_book, last_kept, later_answers, until}
-use Rattle.pm_drive.specs.Drove.{Drove, Follows, NoFailure}
-use Rattle.pm_drive.proofs.DroveLemmas.{AllGo, Goes, Moves, OfRun, PartLaws, Reaches, last_after, lines_explained, lines_move, lines_reach, lines_same, none_left, none_right, part_moves, part_reaches}
+use Rattle.pm_drive.specs.Drove.{BreaksNone, Drove, Follows, IsFaulted, NoFailure}
+use Rattle.pm_drive.proofs.DroveLemmas.{AllGo, Moves, OfRun, PartLaws, Reaches, last_after, lines_explained, lines_harmless, lines_move, lines_reach, lines_same, none_left, none_right, part_moves, part_reaches}
 use Rattle.pm_drive.proofs.MetLemmas.{met_by}
+use Rattle.pm_drive.proofs.ToldLemmas.{LineMoved, answers_as_book, lines_faulted, lines_told, run_moved}
 
 -- ---- first lines
 
@@ -85,6 +86,16 @@ rest-go : (c : Setup) (cut : Option ℕ) (book : State) (lines : List Line) → 
 rest-go c None book lines go = go
 rest-go c (Some k) book lines go = take-go c k book lines go
 
+-- what holds of each line holds of each up to a cut
+take-all : {X : Type 0} (P : X → Type 0) (n : ℕ) (xs : List X) → Each P xs → Each P (take n xs)
+take-all P zero xs all = tt
+take-all P (suc n) [] all = tt
+take-all P (suc n) (x ∷ xs) all = (all.0, take-all P n xs all.1)
+
+until-all : {X : Type 0} (P : X → Type 0) (cut : Option ℕ) (xs : List X) → Each P xs → Each P (until cut xs)
+until-all P None xs all = all
+until-all P (Some k) xs all = take-all P (k + 1) xs all
+
 -- ---- the law
 
 module _ {D : Type 0} (d : Device.Ghosts D) (c : Setup) (well : IsWellFormed c.topology) (laws : PartLaws)
@@ -94,13 +105,14 @@ module _ {D : Type 0} (d : Device.Ghosts D) (c : Setup) (well : IsWellFormed c.t
     (still : (done : List Act) (old new : D) → Chain d.Does done old new → (Rose (d.state old).faults (d.state new).faults → ⊥) → refusals done ≡ 0)
     (whole : (t : Topology) (done : List Act) (old new : D) → Chain d.Does done old new → d.nodes_observable → IsWhole t (d.state old) → AreHarmless t done → refusals done ≡ 0)
   where
-    unrefused : (xs : List Driven) (old new : D) → Chain d.Does (acts xs) old new → AreHarmless c.topology (acts xs) → NoFailure d c.topology xs old new → refusals (acts xs) ≡ 0
+    unrefused : (xs : List Driven) (old new : D) → Chain d.Does (acts xs) old new → (BreaksNone xs → AreHarmless c.topology (acts xs)) → NoFailure d c.topology xs old new → refusals (acts xs) ≡ 0
     unrefused xs old new given harmless (inl none) = still (acts xs) old new given none
-    unrefused xs old new given harmless (inr sound) = whole c.topology (acts xs) old new given sound.0 sound.1 harmless
+    unrefused xs old new given harmless (inr sound) = whole c.topology (acts xs) old new given sound.0 sound.1 (harmless sound.2)
 
     -- lines that begin with line 0
     module _ (answers : List (List Bool)) (rest : List Line) (old new : D)
         (go : AllGo c (loaded c).book rest)
+        (all_moved : Each LineMoved (line_0 c ∷ rest))
         (idle : d.values_observable → (unit : Unit) → (d.state old).value unit ≡ 0)
         (given : Chain d.Does (acts (drive (at_zero c.topology) answers (line_0 c ∷ rest))) old new)
       where
@@ -124,6 +136,12 @@ module _ {D : Type 0} (d : Device.Ghosts D) (c : Setup) (well : IsWellFormed c.t
 
         moves : Moves c.topology first (last_kept first xs) (acts xs)
         moves = lines_move c well laws lines load first answers all_go zero_record
+
+        none_refused : NoFailure d c.topology xs old new → refusals (acts xs) ≡ 0
+        none_refused = unrefused xs old new given (lines_harmless c well laws lines load first answers all_go)
+
+        faulted : Each (λ (x : Driven). Each IsFaulted x.cores) xs
+        faulted = lines_faulted c well laws lines load first answers all_go all_moved zero_record
 
         stands : d.values_observable → (unit : Unit) → (d.state new).value unit ≡ kept_value (last_kept first xs) unit
         stands told unit =
@@ -155,7 +173,7 @@ module _ {D : Type 0} (d : Device.Ghosts D) (c : Setup) (well : IsWellFormed c.t
 
         follows : d.values_observable → NoFailure d c.topology xs old new → Follows (last_book load xs) (d.state new)
         follows told no_failure =
-            let none = unrefused xs old new given moves.harmless no_failure in
+            let none = none_refused no_failure in
             let book : State = last_book load xs in
             let is : IsBookOf c book = last_of_run lines first answers load loads all_go in
             let t : book.fixed.topology ≡ c.topology = ap (λ (f : Fixed). f.topology) is.fixed in
@@ -173,8 +191,10 @@ module _ {D : Type 0} (d : Device.Ghosts D) (c : Setup) (well : IsWellFormed c.t
           broken = seen.broken;
           ordered = laws.alike c.topology (kept_value first) (λ unit. 0) (acts xs) zeros moves.ordered;
           explained = lines_explained c well laws lines load first answers all_go zero_record;
+          told = record { told = lines_told lines first answers; faulted = faulted };
+          answered = λ no_failure. answers_as_book c well laws xs (none_refused no_failure) faulted;
           unfailing = λ no_failure.
-              lines_same c well laws lines first answers (unrefused xs old new given moves.harmless no_failure)
+              lines_same c well laws lines first answers (none_refused no_failure)
               ∙ ap (drive first []) (sym (lines-driven lines first answers));
           follows = follows;
         }
@@ -188,4 +208,5 @@ module _ {D : Type 0} (d : Device.Ghosts D) (c : Setup) (well : IsWellFormed c.t
         until-drive cut (run c events) first answers ∙ ap (drive first answers) (until-first cut (line_0 c) (lines_of c events (loaded c)))
         in
         let go : AllGo c (loaded c).book rest = rest-go c cut (loaded c).book (lines_of c events (loaded c)) (run_goes c keeps loads events).1 in
-        subst (λ (xs : List Driven). Drove d c xs old new) (sym is) (drove_from answers rest old new go idle (subst (λ (xs : List Driven). Chain d.Does (acts xs) old new) is given))
+        let moved : Each LineMoved (line_0 c ∷ rest) = subst (Each LineMoved) (until-first cut (line_0 c) (lines_of c events (loaded c))) (until-all LineMoved cut (run c events) (run_moved c events)) in
+        subst (λ (xs : List Driven). Drove d c xs old new) (sym is) (drove_from answers rest old new go moved idle (subst (λ (xs : List Driven). Chain d.Does (acts xs) old new) is given))

@@ -1,7 +1,9 @@
 -- What lines of a run that were driven come to.
-use Rattle.std.proofs.Common.{◌≡◌, ℕ, ◌+◌, Bool, true, List, [], ◌∷◌, ◌++◌, refl, sym, ◌∙◌, ap, subst, arith}
+use Rattle.std.proofs.Common.{◌≡◌, ℕ, ◌+◌, Bool, true, false, List, [], ◌∷◌, ◌++◌, refl, sym, ◌∙◌, ap, subst, arith}
 use Rattle.std.specs.Prelude.{⊤}
 use Rattle.std.specs.List.{AllByRecursion as Each}
+use Rattle.pm_base.specs.declared.events.Event.{Event}
+use Rattle.pm_base.specs.declared.events.Event.TheVariants.{Break, Mend}
 use Rattle.pm_base.specs.declared.names.Unit.{Unit}
 use Rattle.pm_topology.specs.declared.topology.Topology.{Topology}
 use Rattle.pm_topology.specs.Places.{KindLaws}
@@ -9,15 +11,17 @@ use Rattle.pm_topology.specs.WellFormed.{IsWellFormed}
 use Rattle.pm_device.specs.Act.{Act, AreHarmless, refusals, values_after}
 use Rattle.pm_topology.specs.Units.{has_unit}
 use Rattle.pm_device.specs.Chains.{values_after-same}
+use Rattle.pm_core.specs.declared.outbox.Done.{Done}
 use Rattle.pm_core.specs.Outbox.{Outputs}
 use Rattle.pm_state.specs.State.{Fixed, State}
+use Rattle.pm_state.specs.Units.{moved}
 use Rattle.pm_state.specs.Values.{value}
 use Rattle.pm_run.specs.Run.{Core, IsBookOf, Line, Setup}
 use Rattle.pm_apply.specs.Order.{IsOrdered, LagsAreExplained}
-use Rattle.pm_apply.specs.Part.{Kept, Part, orders_of, part_of}
+use Rattle.pm_apply.specs.Part.{AllSucceed, Kept, Part, orders_of, part_of}
 use Rattle.pm_apply.specs.Record.{IsRecordOf, kept_value}
-use Rattle.pm_drive.specs.Drive.{Driven, Given, acts, answers_after, drive, drive_line, first_answers, give, kept_after, last_book, last_kept, later_answers, orders_in_cores}
-use Rattle.pm_drive.specs.Drove.{AreExplained, IsExplained}
+use Rattle.pm_drive.specs.Drive.{Driven, Given, acts, acts_of, answers_after, breaks, drive, drive_line, first_answers, give, kept_after, last_book, last_kept, later_answers, orders_in_cores, rigs}
+use Rattle.pm_drive.specs.Drove.{AreExplained, BreaksNone, IsExplained}
 
 -- what holds of the part of each core step, whatever the device answers
 pub record PartLaws : Type 0 where
@@ -28,6 +32,8 @@ pub record PartLaws : Type 0 where
   pub values : (kept : Kept) (answers : List Bool) (book : State) (outputs : Outputs) → IsWellFormed book.fixed.topology → IsRecordOf book.fixed.topology kept → (unit : Unit) → kept_value (part_of kept answers book outputs).kept unit ≡ values_after (orders_of (part_of kept answers book outputs).commands) (kept_value kept) unit
   pub same : (kept : Kept) (answers : List Bool) (book : State) (outputs : Outputs) → refusals (orders_of (part_of kept answers book outputs).commands) ≡ 0 → part_of kept answers book outputs ≡ part_of kept [] book outputs
   pub reaches : (kept : Kept) (answers : List Bool) (book : State) (outputs : Outputs) → IsWellFormed book.fixed.topology → IsRecordOf book.fixed.topology kept → refusals (orders_of (part_of kept answers book outputs).commands) ≡ 0 → (unit : Unit) → has_unit book.fixed.topology unit ≡ true → kept_value (part_of kept answers book outputs).kept unit ≡ value unit book
+  pub answered : (kept : Kept) (answers : List Bool) (book : State) (outputs : Outputs) (before : Unit → ℕ) → IsWellFormed book.fixed.topology → IsRecordOf book.fixed.topology kept → outputs.moved ≡ moved before book → AllSucceed (part_of kept answers book outputs).commands → (part_of kept answers book outputs).answer ≡ outputs.answer
+  pub unrefused : (commands : List Done) → refusals (orders_of commands) ≡ 0 → AllSucceed commands
   pub join : (t : Topology) (values : Unit → ℕ) (first second : List Act) → IsOrdered t values first → IsOrdered t (values_after first values) second → IsOrdered t values (first ++ second)
   pub alike : (t : Topology) (values others : Unit → ℕ) (acts : List Act) → ((unit : Unit) → values unit ≡ others unit) → IsOrdered t values acts → IsOrdered t others acts
   pub refused : (first second : List Act) → refusals (first ++ second) ≡ refusals first + refusals second
@@ -40,7 +46,6 @@ pub record Moves (t : Topology) (kept last : Kept) (done : List Act) : Type 0 wh
   pub is_record : IsRecordOf t last
   pub values : (unit : Unit) → kept_value last unit ≡ values_after done (kept_value kept) unit
   pub ordered : IsOrdered t (kept_value kept) done
-  pub harmless : AreHarmless t done
 
 -- after core steps without answers there are none
 pub no_answers : (cores : List Core) → answers_after cores [] ≡ []
@@ -66,19 +71,24 @@ AllGo c book [] = ⊤
 AllGo c book (line ∷ lines) = Goes c book line × AllGo c line.after.book lines
 
 module _ (c : Setup) (well : IsWellFormed c.topology) (laws : PartLaws) where
-  topology_is : (book : State) → IsBookOf c book → book.fixed.topology ≡ c.topology
+  pub topology_is : (book : State) → IsBookOf c book → book.fixed.topology ≡ c.topology
   topology_is book is = ap (λ (f : Fixed). f.topology) is.fixed
 
   Moves-refl : (kept : Kept) → IsRecordOf c.topology kept → Moves c.topology kept kept []
-  Moves-refl kept is = record { is_record = is; values = λ unit. refl; ordered = tt; harmless = tt }
+  Moves-refl kept is = record { is_record = is; values = λ unit. refl; ordered = tt }
 
   Moves-trans : (kept mid last : Kept) (first second : List Act) → Moves c.topology kept mid first → Moves c.topology mid last second → Moves c.topology kept last (first ++ second)
   Moves-trans kept mid last first second one two = record {
     is_record = two.is_record;
     values = λ unit. two.values unit ∙ values_after-same second (kept_value mid) (values_after first (kept_value kept)) one.values unit ∙ sym (laws.after first second (kept_value kept) unit);
     ordered = laws.join c.topology (kept_value kept) first second one.ordered (laws.alike c.topology (kept_value mid) (values_after first (kept_value kept)) second one.values two.ordered);
-    harmless = laws.harmless c.topology first second one.harmless two.harmless;
   }
+
+  -- nothing moves where a node is broken or mended
+  rigs_move : (event : Event) (kept : Kept) → IsRecordOf c.topology kept → Moves c.topology kept kept (rigs event)
+  rigs_move (Break node) kept is = record { is_record = is; values = λ unit. refl; ordered = tt }
+  rigs_move (Mend node) kept is = record { is_record = is; values = λ unit. refl; ordered = tt }
+  rigs_move _ kept is = Moves-refl kept is
 
   -- one core step
   pub part_moves : (kept : Kept) (answers : List Bool) (core : Core) → IsBookOf c core.after → IsRecordOf c.topology kept → Moves c.topology kept (part_of kept answers core.after core.outputs).kept (orders_of (part_of kept answers core.after core.outputs).commands)
@@ -91,10 +101,9 @@ module _ (c : Setup) (well : IsWellFormed c.topology) (laws : PartLaws) where
         is_record = laws.is_record kept answers core.after core.outputs formed here;
         values = laws.values kept answers core.after core.outputs formed here;
         ordered = laws.ordered kept answers core.after core.outputs formed here;
-        harmless = laws.known kept answers core.after core.outputs formed;
       })
 
-  cores_move : (cores : List Core) (kept : Kept) (answers : List (List Bool)) → OfRun c cores → IsRecordOf c.topology kept
+  pub cores_move : (cores : List Core) (kept : Kept) (answers : List (List Bool)) → OfRun c cores → IsRecordOf c.topology kept
       → Moves c.topology kept (kept_after kept (give kept answers cores)) (orders_in_cores (give kept answers cores))
   cores_move [] kept answers books is = Moves-refl kept is
   cores_move (core ∷ cores) kept answers books is =
@@ -104,15 +113,51 @@ module _ (c : Setup) (well : IsWellFormed c.topology) (laws : PartLaws) where
       Moves-trans kept p.kept (kept_after p.kept rest) (orders_of p.commands) (orders_in_cores rest) one
       (cores_move cores p.kept (later_answers answers) books.1 one.is_record)
 
+  line_moves : (line : Line) (kept : Kept) (answers : List (List Bool)) → OfRun c line.cores → IsRecordOf c.topology kept
+      → Moves c.topology kept (drive_line kept answers line).kept (acts_of (drive_line kept answers line))
+  line_moves line kept answers books is =
+      let given : List Given = give kept answers line.cores in
+      Moves-trans kept kept (kept_after kept given) (rigs line.event) (orders_in_cores given) (rigs_move line.event kept is)
+      (cores_move line.cores kept answers books is)
+
   pub lines_move : (lines : List Line) (book : State) (kept : Kept) (answers : List (List Bool)) → AllGo c book lines → IsRecordOf c.topology kept
       → Moves c.topology kept (last_kept kept (drive kept answers lines)) (acts (drive kept answers lines))
   lines_move [] book kept answers go is = Moves-refl kept is
   lines_move (line ∷ lines) book kept answers go is =
       let x : Driven = drive_line kept answers line in
       let later : List (List Bool) = answers_after line.cores answers in
-      let one = cores_move line.cores kept answers go.0.cores is in
-      Moves-trans kept x.kept (last_kept x.kept (drive x.kept later lines)) (orders_in_cores x.cores) (acts (drive x.kept later lines)) one
+      let one = line_moves line kept answers go.0.cores is in
+      Moves-trans kept x.kept (last_kept x.kept (drive x.kept later lines)) (acts_of x) (acts (drive x.kept later lines)) one
       (lines_move lines line.after.book x.kept later go.1 one.is_record)
+
+  -- ---- nothing is done that can fail on a whole device
+
+  cores_harmless : (cores : List Core) (kept : Kept) (answers : List (List Bool)) → OfRun c cores
+      → AreHarmless c.topology (orders_in_cores (give kept answers cores))
+  cores_harmless [] kept answers books = tt
+  cores_harmless (core ∷ cores) kept answers books =
+      let p : Part = part_of kept (first_answers answers) core.after core.outputs in
+      let t : core.after.fixed.topology ≡ c.topology = topology_is core.after books.0 in
+      let here = laws.known kept (first_answers answers) core.after core.outputs (subst IsWellFormed (sym t) well) in
+      laws.harmless c.topology (orders_of p.commands) (orders_in_cores (give p.kept (later_answers answers) cores))
+      (subst (λ (t : Topology). AreHarmless t (orders_of p.commands)) t here)
+      (cores_harmless cores p.kept (later_answers answers) books.1)
+
+  rigs_harmless : (event : Event) → breaks event ≡ false → AreHarmless c.topology (rigs event)
+  rigs_harmless (Break node) none = cc
+  rigs_harmless (Mend node) none = (refl, tt)
+  rigs_harmless _ none = tt
+
+  pub lines_harmless : (lines : List Line) (book : State) (kept : Kept) (answers : List (List Bool)) → AllGo c book lines
+      → BreaksNone (drive kept answers lines) → AreHarmless c.topology (acts (drive kept answers lines))
+  lines_harmless [] book kept answers go none = tt
+  lines_harmless (line ∷ lines) book kept answers go none =
+      let given : List Given = give kept answers line.cores in
+      let later : List Driven = drive (kept_after kept given) (answers_after line.cores answers) lines in
+      let first = laws.harmless c.topology (rigs line.event) (orders_in_cores given) (rigs_harmless line.event none.0)
+      (cores_harmless line.cores kept answers go.0.cores) in
+      laws.harmless c.topology (rigs line.event ++ orders_in_cores given) (acts later) first
+      (lines_harmless lines line.after.book (kept_after kept given) (answers_after line.cores answers) go.1 none.1)
 
   -- ---- what lags is explained
 
@@ -158,6 +203,18 @@ module _ (c : Setup) (well : IsWellFormed c.topology) (laws : PartLaws) where
       ap (λ (gs : List Given). record { core = core; part = p } ∷ gs) two
       ∙ ap (λ (r : Part). record { core = core; part = r } ∷ give r.kept [] cores) one
 
+  -- where nothing is refused in a line and those after it, nothing is in the core steps of the line, nor after it
+  pub line_none : (line : Line) (given : List Given) (rest : List Driven) → refusals ((rigs line.event ++ orders_in_cores given) ++ acts rest) ≡ 0
+      → (refusals (orders_in_cores given) ≡ 0) × (refusals (acts rest) ≡ 0)
+  line_none line given rest none =
+      let first : List Act = rigs line.event ++ orders_in_cores given in
+      let split = laws.refused first (acts rest) in
+      let within = laws.refused (rigs line.event) (orders_in_cores given) in
+      let here = none_left (refusals first) (refusals (acts rest)) (refusals (first ++ acts rest)) split none in (
+        none_right (refusals (rigs line.event)) (refusals (orders_in_cores given)) (refusals first) within here,
+        none_right (refusals first) (refusals (acts rest)) (refusals (first ++ acts rest)) split none,
+      )
+
   pub lines_same : (lines : List Line) (kept : Kept) (answers : List (List Bool)) → refusals (acts (drive kept answers lines)) ≡ 0
       → drive kept answers lines ≡ drive kept [] lines
   lines_same [] kept answers none = refl
@@ -166,9 +223,9 @@ module _ (c : Setup) (well : IsWellFormed c.topology) (laws : PartLaws) where
       let others : List Given = give kept [] line.cores in
       let later : List (List Bool) = answers_after line.cores answers in
       let rest : List Driven = drive (kept_after kept given) later lines in
-      let split = laws.refused (orders_in_cores given) (acts rest) in
-      let one : given ≡ others = cores_same line.cores kept answers (none_left (refusals (orders_in_cores given)) (refusals (acts rest)) (refusals (orders_in_cores given ++ acts rest)) split none) in
-      let two : rest ≡ drive (kept_after kept given) [] lines = lines_same lines (kept_after kept given) later (none_right (refusals (orders_in_cores given)) (refusals (acts rest)) (refusals (orders_in_cores given ++ acts rest)) split none) in
+      let halves = line_none line given rest none in
+      let one : given ≡ others = cores_same line.cores kept answers halves.0 in
+      let two : rest ≡ drive (kept_after kept given) [] lines = lines_same lines (kept_after kept given) later halves.1 in
       ap (λ (xs : List Driven). drive_line kept answers line ∷ xs) two
       ∙ ap (λ (gs : List Given). record { line = line; cores = gs; kept = kept_after kept gs } ∷ drive (kept_after kept gs) [] lines) one
       ∙ ap (λ (answers : List (List Bool)). drive_line kept [] line ∷ drive (kept_after kept others) answers lines) (sym (no_answers line.cores))
@@ -205,7 +262,7 @@ module _ (c : Setup) (well : IsWellFormed c.topology) (laws : PartLaws) where
       let mid : Kept = kept_after kept given in
       let later : List (List Bool) = answers_after line.cores answers in
       let rest : List Driven = drive mid later lines in
-      let split = laws.refused (orders_in_cores given) (acts rest) in
-      let here : Reaches mid (last_after book line.cores) = cores_reach line.cores kept answers book reached go.0.cores is (none_left (refusals (orders_in_cores given)) (refusals (acts rest)) (refusals (orders_in_cores given ++ acts rest)) split none) in
+      let halves = line_none line given rest none in
+      let here : Reaches mid (last_after book line.cores) = cores_reach line.cores kept answers book reached go.0.cores is halves.0 in
       lines_reach lines mid later line.after.book (subst (Reaches mid) (sym go.0.ends) here) go.1 (cores_move line.cores kept answers go.0.cores is).is_record
-      (none_right (refusals (orders_in_cores given)) (refusals (acts rest)) (refusals (orders_in_cores given ++ acts rest)) split none)
+      halves.1

@@ -1,3 +1,4 @@
 pub mod DroveLaw
 pub mod DroveLemmas
 pub mod MetLemmas
+pub mod ToldLemmas

@@ -1,8 +1,9 @@
 -- The device's part of a run: its lines, in which no device occurs, each with the commands that make the device follow it, under
 -- the device's answers.
-use Rattle.std.specs.Prelude.{ℕ, ◌+◌, Bool, List, [], ◌∷◌, ◌++◌, flat_map, take, Option, Some, None}
+use Rattle.std.specs.Prelude.{ℕ, ◌+◌, Bool, true, false, List, [], ◌∷◌, ◌++◌, flat_map, take, Option, Some, None}
 use Rattle.pm_base.specs.declared.events.Event.{Event}
-use Rattle.pm_device.specs.Act.{Act}
+use Rattle.pm_base.specs.declared.events.Event.TheVariants.{Break, Mend}
+use Rattle.pm_device.specs.Act.{Act, Rig}
 use Rattle.pm_state.specs.State.{State}
 use Rattle.pm_run.specs.Run.{Core, Line, Setup, run, said}
 use Rattle.pm_apply.specs.Part.{Kept, Part, orders_of, part_of}
@@ -58,9 +59,16 @@ drive kept answers (line ∷ lines) =
 abbrev pub driven : Setup → List (List Bool) → List Event → List Driven
 driven c answers events = drive (at_zero c.topology) answers (said (run c events))
 
--- what a line of a script does to a device beside the commands that it causes
+-- what a line of a script does to a device before the commands that it causes: a node is broken, or works again
 abbrev pub rigs : Event → List Act
-rigs event = []
+rigs (Break node) = Rig node true ∷ []
+rigs (Mend node) = Rig node false ∷ []
+rigs _ = []
+
+-- a line that breaks a node
+abbrev pub breaks : Event → Bool
+breaks (Break node) = true
+breaks _ = false
 
 -- all that is done to the device, in order: in a line, and in all of them
 abbrev pub orders_in_cores : List Given → List Act

@@ -14,9 +14,10 @@ use pm_device::{Device, acts_append, chain_shows, none_is_refused};
 use pm_run::books_of_a_run;
 use pm_topology::kinds_are_exact;
 
-/// A device that stood at 0 everywhere and was given the commands of the first lines of a run, in
+/// A device that stood at 0 everywhere and was given the acts of the first lines of a run, in
 /// their order and with its answers, was driven through these lines: they are ordered whatever it
-/// answers, what lags is explained, and while it reports no failure it follows the book.
+/// answers, what lags is explained, success is answered unless the device didn't follow a step, and
+/// while it reports no failure it follows the book.
 pub fn driven_follows<D: Device>()
     ensures { (c : Setup) (events : List Event) (answers : List (List Bool)) (cut : Option ℕ) (old new : D)
         → IsWellFormed c.topology

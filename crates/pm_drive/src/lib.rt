@@ -2,5 +2,7 @@
 #![tactic(auto)]
 
 mod laws;
+mod rigs;
 
 pub use laws::driven_follows;
+pub use rigs::rig;

@@ -18,7 +18,7 @@ use Rattle.pm_reader.specs.Follow.{FailsWithin, Followed, GoesThrough}
 use Rattle.pm_reader.specs.declared.follow.LinesEnd as reader
 use Rattle.pm_script.specs.Script.{Script}
 use Rattle.pm_replay.specs.declared.lines.Player.{Player}
-use Rattle.pm_drive.specs.Drive.{Driven, acts, acts_of, last_book, last_kept, until}
+use Rattle.pm_drive.specs.Drive.{Driven, acts, acts_of, last_book, last_kept, orders_in_cores, rigs, until}
 use Rattle.pm_drive.specs.Text.{driven_text, texts}
 use Rattle.pm_replay.specs.Controls.{Controls}
 use Rattle.pm_replay.specs.Plays.{Plays}
@@ -64,26 +64,31 @@ module _ {O D : Type 0} (o : Sink.Ghosts O) (d : Device.Ghosts D) where
   RanAll-none : (c : Setup) (n : ℕ) (now : Controls) (old : O) (from : D) → RanAll c n [] now now old old from from
   RanAll-none c n now old from = record { answers = []; went = Went-nil old from; book = refl; kept = refl }
 
-  module _ (c : Setup) (n : ℕ) (event : Event) (events : List Event) (now mid : Controls) (old via new : O) (from between to : D) (ran : RanLine o d c n event now mid old via from between (Ok tt)) where
-    next : (later : List (List Bool)) → driven_from c now (ran.answers ++ later) (event ∷ events) ≡ driven_line c event now ran.answers ∷ driven_from c mid later events
-    next later = driven_next c event events now mid ran.answers later ran.fits ran.after ran.keeps
+  -- all that was done to the device in a line
+  line_given : (c : Setup) (n : ℕ) (event : Event) (now then : Controls) (old new : O) (from to : D) (result : Result ⊤ Failed) (ran : RanLine o d c n event now then old new from to result) → Chain d.Does (acts_of (driven_line c event now ran.cores.answers)) from to
+  line_given c n event now then old new from to result ran =
+      Chain-append d.Does (rigs event) (orders_in_cores (driven_line c event now ran.cores.answers).cores) from ran.between to ran.rigged ran.cores.given
 
-    went_next : (later : List (List Bool)) (cut : Option ℕ) → Went o d (texts (n + 1) (driven_from c mid later events)) (driven_from c mid later events) cut via new between to → Went o d (texts n (driven_from c now (ran.answers ++ later) (event ∷ events))) (driven_from c now (ran.answers ++ later) (event ∷ events)) (behind 1 cut) old new from to
+  module _ (c : Setup) (n : ℕ) (event : Event) (events : List Event) (now mid : Controls) (old via new : O) (from between to : D) (ran : RanLine o d c n event now mid old via from between (Ok tt)) where
+    next : (later : List (List Bool)) → driven_from c now (ran.cores.answers ++ later) (event ∷ events) ≡ driven_line c event now ran.cores.answers ∷ driven_from c mid later events
+    next later = driven_next c event events now mid ran.cores.answers later ran.cores.fits ran.cores.after ran.cores.keeps
+
+    went_next : (later : List (List Bool)) (cut : Option ℕ) → Went o d (texts (n + 1) (driven_from c mid later events)) (driven_from c mid later events) cut via new between to → Went o d (texts n (driven_from c now (ran.cores.answers ++ later) (event ∷ events))) (driven_from c now (ran.cores.answers ++ later) (event ∷ events)) (behind 1 cut) old new from to
     went_next later cut went =
         subst (λ (xs : List Driven). Went o d (texts n xs) xs (behind 1 cut) old new from to) (sym (next later))
-        (Went-cons n (driven_line c event now ran.answers) (texts (n + 1) (driven_from c mid later events)) (driven_from c mid later events) cut old via new from between to ran.writes ran.given went)
+        (Went-cons n (driven_line c event now ran.cores.answers) (texts (n + 1) (driven_from c mid later events)) (driven_from c mid later events) cut old via new from between to ran.cores.writes (line_given c n event now mid old via from between (Ok tt) ran) went)
 
     RanAll-next : (then : Controls) → RanAll c (n + 1) events mid then via new between to → RanAll c n (event ∷ events) now then old new from to
     RanAll-next then rest = record {
-      answers = ran.answers ++ rest.answers;
+      answers = ran.cores.answers ++ rest.answers;
       went = went_next rest.answers None rest.went;
-      book = rest.book ∙ ap (λ b. last_book b (driven_from c mid rest.answers events)) ran.after ∙ sym (ap (λ xs. last_book now.book xs) (next rest.answers));
-      kept = rest.kept ∙ ap (λ k. last_kept k (driven_from c mid rest.answers events)) ran.keeps ∙ sym (ap (λ xs. last_kept now.kept xs) (next rest.answers));
+      book = rest.book ∙ ap (λ b. last_book b (driven_from c mid rest.answers events)) ran.cores.after ∙ sym (ap (λ xs. last_book now.book xs) (next rest.answers));
+      kept = rest.kept ∙ ap (λ k. last_kept k (driven_from c mid rest.answers events)) ran.cores.keeps ∙ sym (ap (λ xs. last_kept now.kept xs) (next rest.answers));
     }
 
     RanSome-next : RanSome c (n + 1) events mid via new between to → RanSome c n (event ∷ events) now old new from to
     RanSome-next rest = record {
-      answers = ran.answers ++ rest.answers;
+      answers = ran.cores.answers ++ rest.answers;
       place = 1 + rest.place;
       went = went_next rest.answers (Some rest.place) rest.went;
     }
@@ -91,10 +96,10 @@ module _ {O D : Type 0} (o : Sink.Ghosts O) (d : Device.Ghosts D) where
   -- the sink broke off within the first of these lines, which was carried out to its end
   RanSome-first : (c : Setup) (n : ℕ) (event : Event) (events : List Event) (now then : Controls) (old new : O) (from to : D) (failed : Failed) → RanLine o d c n event now then old new from to (Err failed) → RanSome c n (event ∷ events) now old new from to
   RanSome-first c n event events now then old new from to failed ran = record {
-    answers = ran.answers ++ [];
+    answers = ran.cores.answers ++ [];
     place = 0;
-    went = subst (λ (xs : List Driven). Went o d (texts n xs) xs (Some 0) old new from to) (sym (driven_next c event events now then ran.answers [] ran.fits ran.after ran.keeps))
-        (Went-broken n (driven_line c event now ran.answers) (texts (n + 1) (driven_from c then [] events)) (driven_from c then [] events) old new from to ran.writes ran.given);
+    went = subst (λ (xs : List Driven). Went o d (texts n xs) xs (Some 0) old new from to) (sym (driven_next c event events now then ran.cores.answers [] ran.cores.fits ran.cores.after ran.cores.keeps))
+        (Went-broken n (driven_line c event now ran.cores.answers) (texts (n + 1) (driven_from c then [] events)) (driven_from c then [] events) old new from to ran.cores.writes (line_given c n event now then old new from to (Err failed) ran));
   }
 
   -- ---- the lines that a player follows

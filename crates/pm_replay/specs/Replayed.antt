@@ -42,6 +42,7 @@ module _ {D : Type 0} (d : Device.Ghosts D) where
     pub run : (answers : List (List Bool)) (events : List Event) → Drove d c (driven c answers events) old new → KeepsApart d c answers events old new
     pub steps : (answers : List (List Bool)) (events : List Event) (cut : Option ℕ) → Drove d c (until cut (driven c answers events)) old new → StepsKeepApart d c answers events cut old new
 
--- each answer of each run has the causes of its own core event in the book before it
+-- each answer of each run, before an internal error takes the place of success, has the causes of its own core event in the
+-- book before it
 abbrev pub AnswersHaveCauses : Setup → Type 0
 AnswersHaveCauses c = (events : List Event) → HaveCauses (cores_in (run c events))

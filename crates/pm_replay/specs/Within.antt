@@ -25,7 +25,7 @@ use Rattle.pm_trace.specs.Closing.{closing_text}
 use Rattle.pm_trace.specs.Report.{Report, exit_of, pieces}
 use Rattle.pm_trace.specs.Step.{core_text, notices_in, notices_of, step_text}
 use Rattle.pm_trace.specs.Scripts.{at_end, fault_at}
-use Rattle.pm_drive.specs.Drive.{Driven, Given, acts, drive, driven, give, kept_after, last_book, last_kept, orders_in_cores, until}
+use Rattle.pm_drive.specs.Drive.{Driven, Given, acts, drive, driven, give, kept_after, last_book, last_kept, orders_in_cores, rigs, until}
 use Rattle.pm_drive.specs.Text.{texts}
 use Rattle.pm_replay.specs.Controls.{Controls}
 use Rattle.pm_replay.specs.Replay.{replay_report}
@@ -98,10 +98,12 @@ module _ {O D : Type 0} (o : Sink.Ghosts O) (d : Device.Ghosts D) where
     pub given : Chain d.Does (orders_in_cores (give kept answers (cores_of events book))) from to
     pub writes : WritesOn o (given_text n (give kept answers (cores_of events book))) so_far result old new
 
-  -- a line was carried out to its end, and its text was written as far as the sink took it
-  abbrev pub RanLine : Setup → ℕ → Event → Controls → Controls → O → O → D → D → Result ⊤ Failed → Type 0
-  RanLine c n event now then old new from to result =
-      RanCores n (split c event (record { book = now.book })).events now.book now.kept then (Ok tt) result old new from to
+  -- a line was carried out to its end: first a node was broken or mended, if it asks for that, and then its core events
+  -- followed. Its text was written as far as the sink took it
+  pub record RanLine (c : Setup) (n : ℕ) (event : Event) (now then : Controls) (old new : O) (from to : D) (result : Result ⊤ Failed) : Type 0 where
+    pub between : D
+    pub rigged : Chain d.Does (rigs event) from between
+    pub cores : RanCores n (split c event (record { book = now.book })).events now.book now.kept then (Ok tt) result old new between to
 
   -- the device was made to follow the book at load
   pub record Started (now then : Controls) (from to : D) : Type 0 where

@@ -13,6 +13,7 @@ use crate::writing::write_step;
 use pm_base::{Event, Failed, Inputs, Sink};
 use pm_core::Outbox;
 use pm_device::Device;
+use pm_drive::rig;
 use pm_reader::{Follower, LineStop, LinesEnd, each_line};
 use pm_run::core_events;
 
@@ -56,7 +57,8 @@ pub(crate) fn run_lines<I: Inputs, O: Sink, D: Device>(
     each_line(inputs, id, &mut player)
 }
 
-/// Carries out the core events of a line to the last one, and writes the text of each while the sink takes it.
+/// Breaks or mends a node of the device where the line asks for that, carries out the core events of the line to the last
+/// one, and writes the text of each while the sink takes it.
 fn run_line<O: Sink, D: Device>(
     number: u32,
     event: &Event,
@@ -66,6 +68,7 @@ fn run_line<O: Sink, D: Device>(
 ) -> Result<(), Failed>
     ensures { (c : Setup) → RanLine O.Sink D.Device c number event.now controller.old controller.new out.old out.new dev.old dev.new result }
 {
+    rig(event, dev);
     let mut left = core_events(event);
     let mut written = Ok(());
     while let Some(core) = left.next() {

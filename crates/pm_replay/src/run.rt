@@ -36,10 +36,11 @@ use pm_trace::{Fault, refuse};
 use std::alloc::Global;
 
 /// Runs the named script over an object and a device. Step 0 makes the device follow the book at
-/// load; then each line is carried out, with the commands that it causes, and written before the next
-/// one is taken; then comes the closing table, or the fault line of the answer. Where the script can't
-/// be begun, no command is issued. After the load nothing takes memory, so want of memory comes before the
-/// first command and the first byte of output.
+/// load. Then each line breaks or mends a node of the device, if it asks for that, is carried out,
+/// with the commands that it causes, and is written before the next one is taken. Then comes the
+/// closing table, or the fault line of the answer. Where the script can't be begun, no command is
+/// issued. After the load nothing takes memory, so want of memory comes before the first command and
+/// the first byte of output.
 ///
 /// Answers Done, BadLine, ReadFault, WriteFault, Memory and TooLarge.
 pub fn replay<I: Inputs, O: Sink, D: Device>(

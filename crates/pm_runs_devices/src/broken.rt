@@ -30,13 +30,13 @@ ipi 7 14 15
 1 fail 62 0 1
 1 run 7 0
 2 fail 62 0 1
-2 reply 7 0 0 0 0
+2 reply 7 2000 0 0 0
 3 set 10 0 1
 3 fail 62 0 1
 3 set 28 0 1
 3 reply 7 0 0 0 0
 4 fail 62 0 1
-4 reply 7 0 0 0 0
+4 reply 7 2000 0 0 0
 5 fail 62 0 1
 5 reply 7 0 2 1 1
 6 fail 62 0 1
@@ -74,7 +74,7 @@ ipi 7 13 33 1 0 2
 1 fail 6 0 1
 1 run 7 0
 2 fail 6 0 1
-2 reply 7 0 0 0 0
+2 reply 7 2000 0 0 0
 3 fail 6 0 1
 3 set 33 0 1
 3 reply 7 0 0 0 0
@@ -128,12 +128,12 @@ ipi 7 13 63 1 0 2
 1 set 7 0 1
 1 run 7 0
 2 fail 10 0 1
-2 reply 7 0 0 0 0
+2 reply 7 2000 0 0 0
 3 fail 10 0 1
 3 set 55 0 1
 3 reply 7 0 0 0 0
 4 fail 10 0 1
-4 call 7 31 55 0 2 0
+4 call 7 31 55 2000 2 0
 5 fail 10 0 1
 5 reply 7 0 0 0 0
 6 reply 7 0 0 0 0
@@ -167,7 +167,7 @@ ipi 7 14 28
 1 run 7 0
 2 set 10 0 1
 2 fail 28 0 1
-2 reply 7 0 0 0 0
+2 reply 7 2000 0 0 0
 3 fail 28 0 1
 4 fail 28 0 1
 4 reply 7 0 1 1 1
@@ -194,10 +194,10 @@ ipi 7 15 55 3 0 2",
 1 set 7 0 1
 1 run 7 0
 2 fail 55 0 1
-2 reply 7 0 0 0 0
+2 reply 7 2000 0 0 0
 3 set 10 0 1
 3 fail 55 0 2
-3 reply 7 0 0 0 0
+3 reply 7 2000 0 0 0
 4 fail 55 0 2
 4 reply 7 0 0 0 0
 end power 6 1 1

@@ -61,6 +61,15 @@ fn script_of_steps(alloc: Global) -> Result<String, AllocError> {
     Ok(script)
 }
 
+/// The answer of a step of which a command failed: each command is on a unit that moves in its step.
+fn failed_answer(answer: &'static str) -> &'static str {
+    match answer {
+        "reply 7 0 0 0 0" => "reply 7 2000 0 0 0",
+        "call 7 31 55 0 2 0" => "call 7 31 55 2000 2 0",
+        _ => answer,
+    }
+}
+
 /// The text of the steps where the command at place `k` of the step at place `failing` fails alone.
 /// It and those of its step that wait for it are carried out in the next step.
 fn text_of_steps(alloc: Global, failing: usize, k: usize) -> Result<String, AllocError> {
@@ -74,8 +83,13 @@ fn text_of_steps(alloc: Global, failing: usize, k: usize) -> Result<String, Allo
         if let Some(command) = commands.get(first) {
             push_line(alloc, &mut text, number, "fail ", command)?;
         }
-        if !answer.is_empty() {
-            push_line(alloc, &mut text, number, "", answer)?;
+        let told = if place == failing {
+            failed_answer(answer)
+        } else {
+            answer
+        };
+        if !told.is_empty() {
+            push_line(alloc, &mut text, number, "", told)?;
         }
         for command in commands.iter().skip(first) {
             push_line(alloc, &mut text, number.saturating_add(1), "set ", command)?;

@@ -49,7 +49,7 @@ ipi 7 3 28
 1 set 7 0 1
 1 run 7 0
 2 fail 10 0 1
-2 reply 7 0 0 0 0
+2 reply 7 2000 0 0 0
 3 set 10 0 1
 3 set 28 0 1
 3 reply 7 0 1 1 1
@@ -108,7 +108,7 @@ ipi 7 14 28
 2 set 28 0 1
 2 reply 7 0 0 0 0
 3 fail 28 1 0
-3 reply 7 0 0 0 0
+3 reply 7 2000 0 0 0
 4 fail 28 1 0
 4 reply 7 0 0 0 0
 5 reply 7 0 0 0 0
@@ -142,7 +142,7 @@ ipi 7 14 28
 2 reply 7 0 0 0 0
 3 set 28 1 0
 3 fail 10 1 0
-3 reply 7 0 0 0 0
+3 reply 7 2000 0 0 0
 4 set 28 0 1
 4 reply 7 0 0 0 0
 5 set 28 1 0
@@ -170,9 +170,9 @@ ipi 7 13 28 1 0 2",
 1 run 7 0
 2 set 10 0 1
 2 fail 28 0 1
-2 reply 7 0 0 0 0
+2 reply 7 2000 0 0 0
 3 fail 10 1 0
-3 reply 7 0 0 0 0
+3 reply 7 2000 0 0 0
 4 set 28 0 1
 4 reply 7 0 0 0 0
 end power 6 1 1

@@ -13,12 +13,14 @@ const FORCING: &[u32] = &[
     0x101, 0x104, 1, 10, 0x100, 0x105, 2, 33, 0x1, 7, 0x1, 0x106, 1, 1, 0x101,
 ];
 
-/// What a command is for: a node, a reset line, or the 1 of a pulse, which isn't issued again where it fails.
+/// What a command is for: a node, a reset line, the 1 of a pulse, which isn't issued again where it fails, or the 0 behind it,
+/// of which the answer tells nothing: the line doesn't move in the book.
 #[derive(Clone, Copy)]
 enum On {
     Node,
     Line,
     Pulse,
+    Release,
 }
 
 /// A command: what it is for, its unit with the value before and after, and the places of those commands of its step that are
@@ -58,7 +60,7 @@ static STEPS: [(&str, &[Command], &[&str]); 12] = [
     ),
     (
         "ipi 1 17 33 2",
-        &[(On::Pulse, "33 0 1", &[1]), (On::Line, "33 1 0", &[])],
+        &[(On::Pulse, "33 0 1", &[1]), (On::Release, "33 1 0", &[])],
         &["reply 1 0 0 0 0"],
     ),
     // a reset stops processor 7, and its domain falls
@@ -125,14 +127,14 @@ static STEPS: [(&str, &[Command], &[&str]); 12] = [
 fn set_name(on: On) -> &'static str {
     match on {
         On::Node => "set ",
-        On::Line | On::Pulse => "line ",
+        On::Line | On::Pulse | On::Release => "line ",
     }
 }
 
 fn fail_name(on: On) -> &'static str {
     match on {
         On::Node => "fail ",
-        On::Line | On::Pulse => "linefail ",
+        On::Line | On::Pulse | On::Release => "linefail ",
     }
 }
 
@@ -207,6 +209,16 @@ fn push_again(
     Ok(())
 }
 
+/// A line of a step after its commands, where the one at place `k` failed.
+fn failed_line(line: &'static str, commands: &[Command], k: usize) -> &'static str {
+    match (line, commands.get(k)) {
+        (_, Some((On::Release, _, _))) => line,
+        ("reply 1 0 0 0 0", _) => "reply 1 2000 0 0 0",
+        ("reply 7 0 0 0 0", _) => "reply 7 2000 0 0 0",
+        _ => line,
+    }
+}
+
 /// The text of the steps where the command at place `k` of the step at place `failing` fails alone.
 fn text_of_steps(alloc: Global, failing: usize, k: usize) -> Result<String, AllocError> {
     let mut text = String::new(alloc);
@@ -215,7 +227,12 @@ fn text_of_steps(alloc: Global, failing: usize, k: usize) -> Result<String, Allo
         let fails = if place == failing { Some(k) } else { None };
         push_commands(alloc, &mut text, number, commands, fails)?;
         for line in lines.iter() {
-            push_line(alloc, &mut text, number, "", line)?;
+            let told = if place == failing {
+                failed_line(line, commands, k)
+            } else {
+                line
+            };
+            push_line(alloc, &mut text, number, "", told)?;
         }
         if place == failing {
             push_again(alloc, &mut text, number.saturating_add(1), commands, k)?;

@@ -9,8 +9,12 @@ use Rattle.pm_replay.proofs.lines.run_line.Goals as goal
 
 pub loop-core-init : goal.loop-core-init
 loop-core-init g c = λ then result new to ran cs.
-    let P : List Event → Type 0 = λ events. RanCores g.O.Sink g.D.Device c.args.number events c.args.controller.now.book c.args.controller.now.kept then (Ok tt) result c.args.out.now new c.args.dev.now to in
-    subst P (c.core_events-left.ensures cs (record { book = c.args.controller.now.book })) ran
+    let P : List Event → Type 0 = λ events. RanCores g.O.Sink g.D.Device c.args.number events c.args.controller.now.book c.args.controller.now.kept then (Ok tt) result c.args.out.now new c.rig.new.dev to in
+    record {
+      between = c.rig.new.dev;
+      rigged = c.rig.ensures;
+      cores = subst P (c.core_events-left.ensures cs (record { book = c.args.controller.now.book })) ran;
+    }
 
 pub loop-core-preserved : goal.loop-core-preserved
 loop-core-preserved g c = λ then result new to ran.

@@ -1,0 +1,229 @@
+//! Nodes that a script breaks and mends, and what the answer of a step tells of a device that doesn't follow it.
+
+use super::checks::check_with;
+use super::devices::check_listed;
+use pm_base::{Exit, MemSink};
+use pm_running::{LABORATORY, joined, listed, model, replay_of, run_with};
+use std::alloc::{AllocError, Global};
+use std::process::Abort;
+use std::test::Fail;
+
+/// The first line of each script here, and the text of the load and of that line: 14 commands.
+const FIRST: &str = "ipi 1 21\n";
+
+const OPENED: &str = "0 set 10 0 1
+0 set 62 0 1
+0 set 1 0 1
+0 set 2 0 1
+0 set 11 0 2
+0 set 28 0 1
+0 set 33 0 1
+0 set 39 0 1
+0 set 46 0 1
+0 run 2 0
+1 set 11 2 0
+1 set 28 1 0
+1 set 33 1 0
+1 set 39 1 0
+1 set 46 1 0
+1 reply 1 0 0 0 0
+";
+
+/// A script after its first line that breaks nodes and mends them, and its text after that line's.
+static BROKEN: [(&str, &str); 2] = [
+    (
+        "break 28
+ipi 1 13 28 1 0 2
+ipi 1 3 28
+mend 28
+",
+        "3 fail 28 0 1
+3 reply 1 2000 0 0 0
+4 fail 28 0 1
+4 reply 1 0 1 1 1
+5 set 28 0 1
+end power 1 1 1
+end proc 2 1 1
+end power 10 1 1
+end slave 28 1 1
+end power 62 1 1
+",
+    ),
+    // A number that is no node, that of a reset line too, breaks nothing.
+    (
+        "break 5000
+break 70
+ipi 1 17 33 1
+mend 70
+",
+        "4 line 33 0 1
+4 reply 1 0 0 0 0
+end power 1 1 1
+end proc 2 1 1
+end power 10 1 1
+end power 62 1 1
+end line 33 1 1
+",
+    ),
+];
+
+#[test]
+fn a_node_that_a_script_breaks(rt: HostRuntime) -> Result<(), Fail> {
+    for (script, text) in &BROKEN {
+        let mut device = model(rt.alloc())?;
+        let script = joined(rt.alloc(), &[FIRST, script])?;
+        let text = joined(rt.alloc(), &[OPENED, text])?;
+        check_with(
+            &rt,
+            &replay_of(LABORATORY, &script),
+            &text,
+            Exit::Done,
+            &mut *device,
+        )?;
+    }
+    Ok(())
+}
+
+/// Commands that fail, a script after its first line, and its text after that line's.
+static LISTED: [(&[u32], &str, &str); 3] = [
+    (
+        &[15, 16],
+        "ipi 1 13 28 1 0 2
+ipi 1 3 28
+",
+        "2 fail 28 0 1
+2 reply 1 2000 0 0 0
+3 fail 28 0 1
+3 reply 1 0 1 1 1
+end power 1 1 1
+end proc 2 1 1
+end power 10 1 1
+end slave 28 1 0
+end power 62 1 1
+",
+    ),
+    // The 1 of a pulse, and then the 0 behind it, which is tried again.
+    (
+        &[15],
+        "ipi 1 17 33 2
+",
+        "2 linefail 33 0 1
+2 reply 1 2000 0 0 0
+end power 1 1 1
+end proc 2 1 1
+end power 10 1 1
+end power 62 1 1
+",
+    ),
+    (
+        &[16],
+        "ipi 1 17 33 2
+#
+",
+        "2 line 33 0 1
+2 linefail 33 1 0
+2 reply 1 0 0 0 0
+3 line 33 1 0
+end power 1 1 1
+end proc 2 1 1
+end power 10 1 1
+end power 62 1 1
+",
+    ),
+];
+
+#[test]
+fn the_status_tells_of_a_device_that_does_not_follow(rt: HostRuntime) -> Result<(), Fail> {
+    for (failing, script, text) in &LISTED {
+        let script = joined(rt.alloc(), &[FIRST, script])?;
+        let mut whole = String::new(rt.alloc());
+        whole.push_str(OPENED)?;
+        whole.push_str(text)?;
+        check_listed(
+            &rt,
+            failing,
+            &replay_of(LABORATORY, &script),
+            whole.as_str(),
+            &[],
+        )?;
+    }
+    Ok(())
+}
+
+/// A domain that is forced off by another's sleep: 21 commands over a device that doesn't fail.
+const SLEEPING: &str = "ipi 1 21
+boot 7 0
+ipi 7 13 28 1 0 2
+ipi 1 7 2 0 0 0 0
+wfi 2
+ipi 7 14 28
+";
+
+/// The book's columns of the closing table, and how many commands failed.
+#[derive(Drop)]
+struct Seen {
+    book: String,
+    failed: usize,
+}
+
+fn push_book(line: &str, book: &mut String) -> Result<(), AllocError> {
+    let mut words = line.split_whitespace();
+    if words.next() != Some("end") {
+        return Ok(());
+    }
+    let (Some(kind), Some(number), Some(value)) = (words.next(), words.next(), words.next()) else {
+        return Ok(());
+    };
+    if value != "0" {
+        for word in [kind, number, value] {
+            book.push_str(word)?;
+            book.push_str(" ")?;
+        }
+    }
+    Ok(())
+}
+
+fn is_failed(line: &str) -> bool {
+    line.split_whitespace().nth(1) == Some("fail")
+}
+
+/// What is seen of the run where these commands fail.
+fn seen_with(rt: &(impl Abort + AllocGlobal), failing: &[u32]) -> Result<Seen, Fail> {
+    let mut device = listed(rt.alloc(), failing)?;
+    let mut out = MemSink::new(rt.alloc(), None)?;
+    let asked = replay_of(LABORATORY, SLEEPING.as_bytes());
+    let exit = run_with(rt.alloc(), &asked, &mut out, &mut *device)?;
+    assert_eq!(rt; exit, Exit::Done, "{failing:?}");
+    let text = std::str::from_utf8(out.bytes()).unwrap_or("");
+    let mut seen = Seen {
+        book: String::new(rt.alloc()),
+        failed: 0,
+    };
+    for line in text.lines() {
+        push_book(line, &mut seen.book)?;
+        if is_failed(line) {
+            seen.failed = seen.failed.saturating_add(1);
+        }
+    }
+    Ok(seen)
+}
+
+#[test]
+fn the_book_is_the_same_whichever_command_fails(rt: HostRuntime) -> Result<(), Fail> {
+    let whole = seen_with(&rt, &[])?;
+    assert_eq!(rt; whole.failed, 0);
+    assert_eq!(rt;
+        whole.book.as_str(),
+        "proc 2 2 power 6 1 proc 7 1 power 62 1 "
+    );
+    for command in 1..=21 {
+        let seen = seen_with(&rt, &[command])?;
+        assert_eq!(rt; seen.failed, 1, "command {command}");
+        assert_eq!(rt;
+            seen.book.as_str(),
+            whole.book.as_str(),
+            "command {command}"
+        );
+    }
+    Ok(())
+}
