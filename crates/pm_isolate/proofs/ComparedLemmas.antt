@@ -26,11 +26,11 @@ use Rattle.pm_trace.specs.Report.{Reports, refusal, report_of}
 use Rattle.pm_trace.specs.Scripts.{IsScriptOf, at_end, fault_at, script_fault}
 use Rattle.pm_trace.proofs.ScriptsLemmas as scripts
 use Rattle.pm_isolate.specs.declared.comparison.Prepared.{Prepared}
-use Rattle.pm_isolate.specs.declared.worlds.Worlds.{Worlds}
+use Rattle.pm_isolate.specs.Sides.{Sides}
 use Rattle.pm_isolate.specs.Compared.{Compared, Comparison, IsCompared, IsComparisonOf, TouchesNothing, comparison_report, script_of_job}
 use Rattle.pm_isolate.specs.Differences.{differences, isolate_report}
 use Rattle.pm_isolate.specs.Listed.{AreListed}
-use Rattle.pm_isolate.specs.Within.{IsPrepared, after, begun, end_text, report_behind, rest_report}
+use Rattle.pm_isolate.specs.Within.{IsPrepared, after, end_text, report_behind, rest_report}
 use Rattle.pm_isolate.proofs.MarksLemmas.{end_is}
 
 some_is_none : {X : Type 0} {x : X} → Some x ≡ None → ⊥
@@ -110,7 +110,7 @@ pub report_is : (c : Setup) (m : NodeId) (s : Script) (p : Prepared) (ready : Is
 report_is c m s p ready =
     let number : ℕ = 1 + length s.events in
     ap (λ (text : List ℕ). report_behind text (rest_report m s p.worlds)) ready.text
-    ∙ ap (λ (w : Worlds). report_behind (reach_text ready.members) (rest_report m s w)) ready.worlds
+    ∙ ap (λ (w : Sides). report_behind (reach_text ready.members) (rest_report m s w)) ready.worlds
     ∙ ap (λ (text : List ℕ). record { body = reach_text ready.members ∷ at_end s.stop text; fault = fault_at number s.stop }) (end_is c m s.events)
 
 -- the number of a line is told for a bad one alone
@@ -121,16 +121,16 @@ fault_anywhere j n reason.Failure = refl
 fault_anywhere j n reason.Unbegun = refl
 
 -- all lines were run, and what comes after them was written
-pub rest_closed : (m : NodeId) (s : Script) (r : StopReason) (now then : Worlds) (count : ℕ) → s.stop ≡ stop_of r → then ≡ after m s.events now → count ≡ length s.events → record { body = at_end (stop_of r) (end_text then count); fault = fault_at 0 (stop_of r) } ≡ rest_report m s now
+pub rest_closed : (m : NodeId) (s : Script) (r : StopReason) (now then : Sides) (count : ℕ) → s.stop ≡ stop_of r → then ≡ after m s.events now → count ≡ length s.events → record { body = at_end (stop_of r) (end_text then count); fault = fault_at 0 (stop_of r) } ≡ rest_report m s now
 rest_closed m s r now then count stop at number =
     let n : ℕ = 1 + length s.events in
     ap (λ (f : Option Fault). record { body = at_end (stop_of r) (end_text then count); fault = f }) (fault_anywhere 0 n r)
-    ∙ ap (λ (w : Worlds). record { body = at_end (stop_of r) (end_text w count); fault = fault_at n (stop_of r) }) at
+    ∙ ap (λ (w : Sides). record { body = at_end (stop_of r) (end_text w count); fault = fault_at n (stop_of r) }) at
     ∙ ap (λ (k : ℕ). record { body = at_end (stop_of r) (end_text (after m s.events now) k); fault = fault_at n (stop_of r) }) number
     ∙ ap (λ (stop : Stop). record { body = at_end stop (end_text (after m s.events now) (length s.events)); fault = fault_at n stop }) (sym stop)
 
 -- a line has no meaning
-pub rest_bad : (m : NodeId) (s : Script) (now : Worlds) (n : ℕ) (cause : LineFault) → s.stop ≡ Bad cause → n ≡ 1 + length s.events → refusal (Line n cause) ≡ rest_report m s now
+pub rest_bad : (m : NodeId) (s : Script) (now : Sides) (n : ℕ) (cause : LineFault) → s.stop ≡ Bad cause → n ≡ 1 + length s.events → refusal (Line n cause) ≡ rest_report m s now
 rest_bad m s now n cause stop is =
     ap (λ (n : ℕ). record { body = []; fault = Some (Line n cause) }) is
     ∙ ap (λ (stop : Stop). record { body = at_end stop (end_text (after m s.events now) (length s.events)); fault = fault_at (1 + length s.events) stop }) (sym stop)

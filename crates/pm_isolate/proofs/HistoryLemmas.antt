@@ -15,7 +15,7 @@ parts (x ∷ xs) (y ∷ ys) = not (x == y) || parts xs ys
 pub one : (x y : ℕ) → (x == y) ≡ true → x ≡ y
 one x y is = (Decides-eqb x y).0 is
 
-clash : {X : Type 0} → true ≡ false → X
+pub clash : {X : Type 0} → true ≡ false → X
 clash e = absurd cc
 
 -- ---- a transition isn't one of those that come later
@@ -102,7 +102,7 @@ same_itself : (ts : List Transition) → same_transitions ts ts ≡ true
 same_itself [] = refl
 same_itself (a ∷ ts) = ap (λ (c : Bool). c && same_transitions ts ts) (itself a) ∙ same_itself ts
 
-not_false : (b : Bool) → not b ≡ false → b ≡ true
+pub not_false : (b : Bool) → not b ≡ false → b ≡ true
 not_false true is = refl
 not_false false is = sym is
 

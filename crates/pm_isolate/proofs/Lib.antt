@@ -2,6 +2,9 @@ pub mod ComparedLemmas
 pub mod HistoryLemmas
 pub mod LinesLemmas
 pub mod ListedLaw
+pub mod LookedLemmas
 pub mod MarksLemmas
+pub mod MovesLemmas
+pub mod PlacesLemmas
 pub mod ReportLemmas
 pub mod WithinLaw

@@ -1,7 +1,5 @@
 -- Lines of a script that are run one after another in both books.
 use Rattle.std.proofs.Common.{◌≡◌, ℕ, ◌+◌, List, [], ◌∷◌, Result, Ok, Err, refl, sym, ◌∙◌, ap, arith, inl, inr}
-use Rattle.std.specs.Prelude.{⊤}
-use Rattle.pm_base.specs.declared.errors.Failed.{Failed}
 use Rattle.pm_base.specs.declared.events.Event.{Event}
 use Rattle.pm_base.specs.declared.names.NodeId.{NodeId}
 use Rattle.pm_reader.specs.declared.follow.LineStop.{LineStop}
@@ -10,7 +8,7 @@ use Rattle.pm_reader.specs.Follow.{FailsWithin, Followed, GoesThrough}
 use Rattle.pm_reader.specs.declared.follow.LinesEnd as reader
 use Rattle.pm_script.specs.Script.{Script}
 use Rattle.pm_isolate.specs.declared.lines.Watcher.{Watcher}
-use Rattle.pm_isolate.specs.declared.worlds.Worlds.{Worlds}
+use Rattle.pm_isolate.specs.Sides.{Sides}
 use Rattle.pm_isolate.specs.Within.{RanLines, Watches, after, stepped}
 
 err_is_ok : {X Y : Type 0} {x : X} {y : Y} → Err y ≡ Ok x → ⊥
@@ -26,7 +24,7 @@ through m n [] old new is same = record { worlds = ap (λ (w : Watcher). w.world
 through m n (event ∷ events) old new is (mid, one, rest) =
     let later = through m (n + 1) events mid new (one.m ∙ is) rest in
     record {
-      worlds = later.worlds ∙ ap (λ (w : Worlds). after m events w) (one.worlds ∙ ap (λ (m : NodeId). stepped m event old.worlds.now) is);
+      worlds = later.worlds ∙ ap (λ (w : Sides). after m events w) (one.worlds ∙ ap (λ (m : NodeId). stepped m event old.worlds.now) is);
       same = later.same ∙ one.same;
     }
 

@@ -1,43 +1,41 @@
 -- What is noted of each unit line by line is whether its transitions in the two runs differ.
-use Rattle.std.proofs.Common.{◌≡◌, ℕ, ◌+◌, ◌≤◌, ◌==◌, ◌||◌, ◌++◌, Bool, true, false, not, cond, if◌then◌else◌, List, [], ◌∷◌, Some, length, map, take, drop, suc, refl, sym, ◌∙◌, ap, arith}
+use Rattle.std.proofs.Common.{◌≡◌, ℕ, ◌+◌, ◌<◌, ◌==◌, ◌||◌, ◌++◌, Bool, true, false, not, cond, if◌then◌else◌, List, [], ◌∷◌, Option, Some, length, map, take, drop, get_or, suc, refl, sym, ◌∙◌, ap}
 use Rattle.std.specs.Prelude.{filter, slice_get}
 use Rattle.std.specs.List.{concat, flat_map}
-use Rattle.std.proofs.lemmas.List.{length-append, length-drop, length-map, length-take-le}
+use Rattle.std.proofs.lemmas.Option.{slice_get-get_or}
 use Rattle.pm_base.specs.declared.events.Event.{Event}
 use Rattle.pm_base.specs.declared.names.NodeId.{NodeId}
 use Rattle.pm_base.specs.declared.names.Unit.{Unit}
+use Rattle.pm_base.specs.declared.names.Unit.TheVariants.{Node}
 use Rattle.pm_base.proofs.Booleans.{equal}
 use Rattle.pm_topology.specs.declared.topology.Topology.{Topology}
-use Rattle.pm_topology.specs.UnitMap.{TablePlaceLaws, mapped, remade, with_value_at}
+use Rattle.pm_topology.specs.UnitMap.{TablePlaceLaws, mapped, with_value_at}
 use Rattle.pm_topology.specs.Units.{units_of}
 use Rattle.pm_state.specs.Load.{load_of}
 use Rattle.pm_run.specs.Run.{Setup, Stand, lines_of, run}
 use Rattle.pm_state.specs.State.{Fixed, State}
 use Rattle.pm_laws.specs.Quiet.{quiet, quiet_event}
 use Rattle.pm_state.specs.Values.{shown}
-use Rattle.pm_isolate.specs.declared.worlds.Worlds.{Worlds}
+use Rattle.pm_isolate.specs.Sides.{Sides}
 use Rattle.pm_isolate.specs.Differences.{difference_line, differences, steps_line}
+use Rattle.pm_isolate.specs.Marks.{Marks, renewed, renewed_at}
 use Rattle.pm_isolate.specs.Transitions.{differs, history}
-use Rattle.pm_isolate.specs.Within.{Marks, after, begun, end_text, line_book, mark_line, noted_in, stepped}
+use Rattle.pm_isolate.specs.Within.{after, begun, end_text, line_book, mark_line, noted_in, stepped}
 use Rattle.pm_isolate.proofs.HistoryLemmas.{parts, parts_tell}
 
 -- ---- one note
 
--- the marks keep their number while some of them are made anew
-pub marks_long : (f : Unit → Bool → Bool) (old : Marks) (place : ℕ) → place ≤ length old → length (mapped f (take place old) ++ drop place old) ≡ length old
-marks_long f old place within =
-    omega (arith, length-append (mapped f (take place old)) (drop place old), length-map (take place old) (remade f), length-take-le place old within, length-drop place old)
-
-pub note_step : TablePlaceLaws Bool → (f : Unit → Bool → Bool) (old now new : Marks) (place : ℕ) (mark : Unit × Bool) (next : Bool)
+pub note_step : TablePlaceLaws Bool → (f : Unit → Bool → Bool) (old now new : Marks) (place : ℕ)
     → now ≡ mapped f (take place old) ++ drop place old
-    → slice_get now place ≡ Some mark
-    → next ≡ f mark.0 mark.1
-    → new ≡ with_value_at place next now
+    → place < length old
+    → new ≡ renewed_at f now place
     → new ≡ mapped f (take (place + 1) old) ++ drop (place + 1) old
-note_step laws f old now new place mark next so_far here is sets =
-    let found : slice_get old place ≡ Some mark = sym (laws.next f old place) ∙ ap (λ (marks : Marks). slice_get marks place) (sym so_far) ∙ here in
+note_step laws f old now new place so_far inside sets =
+    let mark : Unit × Bool = get_or old place (Node (record { 0 = 0 }), false) in
+    let found : slice_get old place ≡ Some mark = slice_get-get_or old place (Node (record { 0 = 0 }), false) inside in
+    let here : slice_get now place ≡ Some mark = ap (λ (marks : Marks). slice_get marks place) so_far ∙ laws.next f old place ∙ found in
     sets
-    ∙ ap (λ (value : Bool). with_value_at place value now) is
+    ∙ ap (λ (o : Option (Unit × Bool)). renewed f place o now) here
     ∙ ap (λ (marks : Marks). with_value_at place (f mark.0 mark.1) marks) so_far
     ∙ laws.made f old place mark found
 
@@ -57,13 +55,13 @@ apart m [] a b u before = before
 apart m (e ∷ es) a b u before =
     apart m es (line_book e a) (line_book (quiet_event m e) b) u (noted_in (line_book e a) (line_book (quiet_event m e) b) u before)
 
-marks_after : (m : NodeId) (es : List Event) (w : Worlds) (g : Unit → Bool) (units : List Unit) → w.differs ≡ map (marked g) units → (after m es w).differs ≡ map (marked (λ u. apart m es w.loud w.quiet u (g u))) units
+marks_after : (m : NodeId) (es : List Event) (w : Sides) (g : Unit → Bool) (units : List Unit) → w.differs ≡ map (marked g) units → (after m es w).differs ≡ map (marked (λ u. apart m es w.loud w.quiet u (g u))) units
 marks_after m [] w g units is = is
 marks_after m (e ∷ es) w g units is =
     let f : Unit → Bool → Bool = noted_in (line_book e w.loud) (line_book (quiet_event m e) w.quiet) in
     marks_after m es (stepped m e w) (λ u. f u (g u)) units (ap (λ (marks : Marks). mapped f marks) is ∙ mapped_marked f g units)
 
-fixed_after : (m : NodeId) (es : List Event) (w : Worlds) → (after m es w).loud.fixed ≡ w.loud.fixed
+fixed_after : (m : NodeId) (es : List Event) (w : Sides) → (after m es w).loud.fixed ≡ w.loud.fixed
 fixed_after m [] w = refl
 fixed_after m (e ∷ es) w = fixed_after m es (stepped m e w)
 
@@ -118,7 +116,7 @@ text_is t g d same (u ∷ us) =
 pub end_is : (c : Setup) (m : NodeId) (es : List Event) → end_text (after m es (begun c)) (length es) ≡ differences c m es
 end_is c m es =
     let load : State = load_of c.object c.topology in
-    let w : Worlds = after m es (begun c) in
+    let w : Sides = after m es (begun c) in
     let g : Unit → Bool = λ u. apart m es load load u false in
     let t : w.loud.fixed.topology ≡ c.topology = ap (λ (f : Fixed). f.topology) (fixed_after m es (begun c)) in
     let marks : w.differs ≡ map (marked g) (units_of c.topology) = marks_after m es (begun c) (λ u. false) (units_of c.topology) refl in

@@ -28,12 +28,10 @@ use Rattle.pm_trace.specs.Report.{Report}
 use Rattle.pm_trace.specs.Scripts.{at_end, fault_at}
 use Rattle.pm_isolate.specs.declared.comparison.Prepared.{Prepared}
 use Rattle.pm_isolate.specs.declared.lines.Watcher.{Watcher}
-use Rattle.pm_isolate.specs.declared.worlds.Worlds.{Worlds}
+use Rattle.pm_isolate.specs.Sides.{Sides}
 use Rattle.pm_isolate.specs.Differences.{difference_line, steps_line}
-
--- each unit, with whether it was found to differ
-abbrev pub Marks : Type 0
-Marks = List (Unit × Bool)
+use Rattle.pm_isolate.specs.Marks.{Marks, renewed_along}
+use Rattle.pm_isolate.specs.Moves.{Logged}
 
 -- a unit differs where it did before, or where the two books show different values of it
 abbrev pub noted_in : State → State → Unit → Bool → Bool
@@ -42,8 +40,17 @@ noted_in a b unit before = before || not (shown unit a == shown unit b)
 abbrev pub noted : State → State → Marks → Marks
 noted a b marks = mapped (noted_in a b) marks
 
+-- so are the units at these places alone
+abbrev pub noted_along : State → State → List ℕ → Marks → Marks
+noted_along a b places marks = renewed_along (noted_in a b) places marks
+
+-- and those at the places that were logged and at these, or all units where all places were logged
+abbrev pub looked : State → State → Logged → List ℕ → Marks → Marks
+looked a b m procs marks =
+    if m.all then noted a b marks else noted_along a b procs (noted_along a b m.places.items marks)
+
 -- both books at load, which show the same
-abbrev pub begun : Setup → Worlds
+abbrev pub begun : Setup → Sides
 begun c = record {
   loud = load_of c.object c.topology;
   quiet = load_of c.object c.topology;
@@ -55,7 +62,7 @@ abbrev pub line_book : Event → State → State
 line_book event book = (line_of (setup_of book) event (record { book = book })).after.book
 
 -- one more line in both, but for a message of the master, which is left out of the quiet one
-abbrev pub stepped : NodeId → Event → Worlds → Worlds
+abbrev pub stepped : NodeId → Event → Sides → Sides
 stepped m event w = record {
   loud = line_book event w.loud;
   quiet = line_book (quiet_event m event) w.quiet;
@@ -63,12 +70,12 @@ stepped m event w = record {
 }
 
 -- one line after another
-abbrev pub after : NodeId → List Event → Worlds → Worlds
+abbrev pub after : NodeId → List Event → Sides → Sides
 after m [] w = w
 after m (event ∷ events) w = after m events (stepped m event w)
 
 -- the object and the chip of the two books
-abbrev pub setup_in : Worlds → Setup
+abbrev pub setup_in : Sides → Setup
 setup_in w = setup_of w.loud
 
 -- both books are as at load, and the text of the reach of the master is there
@@ -86,7 +93,7 @@ pub record Watches (n : ℕ) (event : Event) (old new : Watcher) (result : Resul
   pub ok : result ≡ Ok tt
 
 -- how lines end: all were carried out, or one has no meaning
-abbrev pub RanLines : NodeId → Script → Worlds → Worlds → Result reader.LinesEnd LineStop → Type 0
+abbrev pub RanLines : NodeId → Script → Sides → Sides → Result reader.LinesEnd LineStop → Type 0
 RanLines m s now last (Ok end) = (s.stop ≡ stop_of end.stop) × (last ≡ after m s.events now) × (end.count ≡ length s.events)
 RanLines m s now last (Err (stops.Bad n cause)) = (s.stop ≡ Bad cause) × (n ≡ 1 + length s.events)
 RanLines m s now last (Err stops.Broken) = ⊥
@@ -95,19 +102,19 @@ RanLines m s now last (Err stops.Broken) = ⊥
 abbrev pub mark_line : Topology → Unit × Bool → List ℕ
 mark_line t mark = if mark.1 then difference_line t mark.0 else []
 
-abbrev pub mark_lines : Worlds → List (List ℕ)
+abbrev pub mark_lines : Sides → List (List ℕ)
 mark_lines w = map (mark_line w.loud.fixed.topology) w.differs
 
 -- what is written at the end of so many script lines
-abbrev pub end_text : Worlds → ℕ → List ℕ
+abbrev pub end_text : Sides → ℕ → List ℕ
 end_text w count = concat (mark_lines w) ++ steps_line count
 
 -- what is written after the last line of a script that came to its end or could not be read on
-abbrev pub end_report : Stop → Worlds → ℕ → Report
+abbrev pub end_report : Stop → Sides → ℕ → Report
 end_report stop w count = record { body = at_end stop (end_text w count); fault = fault_at 0 stop }
 
 -- what is written of the lines of a script, and after them
-abbrev pub rest_report : NodeId → Script → Worlds → Report
+abbrev pub rest_report : NodeId → Script → Sides → Report
 rest_report m s w = record {
   body = at_end s.stop (end_text (after m s.events w) (length s.events));
   fault = fault_at (1 + length s.events) s.stop;

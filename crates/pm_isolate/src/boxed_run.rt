@@ -4,13 +4,17 @@ ghost use Rattle.std.specs.Prelude.{◌≡◌, IfOk};
 ghost use Rattle.pm_topology.specs.Masters.{ObeysMasterRules};
 ghost use Rattle.pm_topology.specs.WellFormed.{IsWellFormed};
 ghost use Rattle.pm_state.specs.Load.{load_of};
+ghost use Rattle.pm_state.specs.Units.{moved};
+ghost use Rattle.pm_state.specs.Values.{value};
 ghost use Rattle.pm_core.specs.Step.{effect};
+ghost use Rattle.pm_isolate.specs.Moves.{with_units};
 
+use crate::moves::Moves;
 use pm_base::{Event, NoMemory};
 use pm_core::Book;
 use pm_object::Object;
 use pm_run::Runner;
-use pm_topology::Topology;
+use pm_topology::{Topology, UnitMap};
 use std::alloc::Global;
 use std::marker::Model;
 
@@ -49,11 +53,14 @@ impl BoxedRun {
         &self.runner.book
     }
 
-    /// One event.
-    pub fn step(&mut self, event: &Event)
-        ensures { self.new ≡ effect event.now self.old }
+    /// One event. The places of the units whose value it changes are logged.
+    pub fn step(&mut self, event: &Event, marks: &UnitMap<bool>, moves: &mut Moves)
+        ensures book { self.new ≡ effect event.now self.old }
+        ensures moves { moves.new
+            ≡ with_units marks.now (moved (λ u. value u self.old) (effect event.now self.old)) moves.old }
     {
         self.runner.step(event);
+        moves.add_units(marks, self.runner.outbox.moved.as_slice());
     }
 }
 

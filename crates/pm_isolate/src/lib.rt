@@ -6,6 +6,8 @@ mod boxed_run;
 mod comparison;
 mod laws;
 mod lines;
+mod marks;
+mod moves;
 mod worlds;
 mod writing;
 

@@ -7,7 +7,7 @@ ghost use Rattle.pm_trace.specs.Line.{line_text, widths};
 ghost use Rattle.pm_isolate.specs.Differences.{difference_line};
 ghost use Rattle.pm_isolate.specs.Within.{Writes, end_text, mark_line, mark_lines};
 
-use crate::worlds::{Worlds, mark_at};
+use crate::worlds::Worlds;
 use pm_base::{Failed, Sink, Unit, write_all};
 use pm_topology::Topology;
 use pm_trace::{TextLine, Word, name, unit_name, write_line};
@@ -24,9 +24,9 @@ pub fn write_end<O: Sink>(worlds: &Worlds, count: u32, out: &mut O) -> Result<()
 fn write_marks<O: Sink>(worlds: &Worlds, out: &mut O) -> Result<(), Failed>
     ensures { Writes O.Sink (concat (mark_lines worlds.now)) out.old out.new result }
 {
-    let t = worlds.loud.book().topology();
-    for place in 0..worlds.differs.len() {
-        let (unit, differs) = mark_at(&worlds.differs, place);
+    let t = worlds.topology();
+    for place in 0..worlds.units() {
+        let (unit, differs) = worlds.mark(place);
         write_mark(t, unit, differs, out)?;
     }
     Ok(())

@@ -1,4 +1,4 @@
-use Rattle.std.proofs.Common.{refl, subst}
+use Rattle.std.proofs.Common.{subst}
 use Rattle.pm_reader.proofs.Named.{of_more}
 use Rattle.pm_script.specs.Script.{stop_of}
 use Rattle.pm_trace.proofs.ScriptsLemmas.{failure_by, line_is_read, read_by}

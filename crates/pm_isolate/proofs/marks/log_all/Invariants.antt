@@ -2,7 +2,7 @@
 use Rattle.std.proofs.Common.{◌≡◌, ◌++◌, drop, take}
 use Rattle.pm_topology.specs.UnitMap.{mapped}
 use Rattle.pm_isolate.specs.Within.{noted_in}
-use Rattle.pm_isolate.proofs.worlds.log.Given as goal
+use Rattle.pm_isolate.proofs.marks.log_all.Given as goal
 
 abbrev pub invariant-loop-place : goal.invariant-loop-place
-invariant-loop-place l = l.differs ≡ mapped (noted_in l.loud l.quiet) (take l.place l.fn.differs) ++ drop l.place l.fn.differs
+invariant-loop-place l = l.marks ≡ mapped (noted_in l.loud l.quiet) (take l.place l.fn.marks) ++ drop l.place l.fn.marks

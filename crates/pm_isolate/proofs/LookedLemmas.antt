@@ -1,0 +1,222 @@
+-- After a line it is enough to look at the units that moved and at the processors.
+use Rattle.std.proofs.Common.{◌≡◌, ℕ, ◌+◌, ◌==◌, ◌||◌, ◌++◌, Bool, true, false, not, cond, List, [], ◌∷◌, Option, Some, None, refl, sym, ◌∙◌, ap, subst, arith}
+use Rattle.std.specs.Prelude.{is_some, slice_get}
+use Rattle.std.specs.Option.{option_map}
+use Rattle.std.proofs.lemmas.List.Sums.{fold-append}
+use Rattle.std.proofs.lemmas.Option.{slice_get-map}
+use Rattle.pm_base.specs.declared.events.Event.{Event}
+use Rattle.pm_base.specs.declared.names.NodeId.{NodeId}
+use Rattle.pm_base.specs.declared.names.Unit.{Unit}
+use Rattle.pm_base.specs.declared.names.Unit.TheVariants.{Node, Line}
+use Rattle.pm_base.proofs.Booleans.{equal, none_of}
+use Rattle.pm_object.specs.declared.object.Object.{Object}
+use Rattle.pm_topology.specs.declared.places.Kind.{Kind}
+use Rattle.pm_topology.specs.declared.places.Kind.TheVariants.{Proc, Slave, Power, Unknown}
+use Rattle.pm_topology.specs.declared.topology.Topology.{Topology}
+use Rattle.pm_topology.specs.Places.{kind_of, proc_of}
+use Rattle.pm_topology.specs.UnitMap.{TablePlaceLaws, all_at, mapped, remade, units_in}
+use Rattle.pm_topology.specs.Units.{UnitLaws, rises, units_of}
+use Rattle.pm_state.specs.Load.{load_of}
+use Rattle.pm_state.specs.State.{CoreHalf, Fixed, State}
+use Rattle.pm_state.specs.Units.{units}
+use Rattle.pm_state.specs.Values.{point_at, shown, value, value_at}
+use Rattle.pm_core.specs.Step.{effect}
+use Rattle.pm_run.specs.Run.{book_after, setup_of, split}
+use Rattle.pm_isolate.specs.Marks.{Marks, has_place, is_proc, proc_places, renewed_along, renewed_at}
+use Rattle.pm_isolate.specs.Moves.{Logged, cleared, is_logged, line_moves}
+use Rattle.pm_laws.specs.Quiet.{quiet_event}
+use Rattle.pm_isolate.specs.Sides.{AreMarked, Sides}
+use Rattle.pm_isolate.specs.Within.{line_book, looked, noted, noted_in, stepped}
+use Rattle.pm_isolate.proofs.HistoryLemmas.{clash, not_false, one}
+use Rattle.pm_isolate.proofs.MovesLemmas.{unmoved}
+use Rattle.pm_isolate.proofs.PlacesLemmas.{neither_place, procs_there, renewed_all}
+
+-- ---- the value of a unit that is no processor is what is shown of it
+
+shown_by : (kind : Kind) (fixed : Fixed) (core : CoreHalf) → is_some (proc_of kind) ≡ false → point_at kind fixed core ≡ value_at kind fixed core
+shown_by (Proc p) fixed core other = clash other
+shown_by (Slave s) fixed core other = refl
+shown_by (Power w) fixed core other = refl
+shown_by Unknown fixed core other = refl
+
+shows_value : (u : Unit) (book : State) → is_proc book.fixed.topology u ≡ false → shown u book ≡ value u book
+shows_value (Node node) book other = shown_by (kind_of book.fixed.topology node) book.fixed book.now.core other
+shows_value (Line line) book other = refl
+
+-- ---- what is noted once more
+
+noted_twice : (a b : State) (u : Unit) (before : Bool) → noted_in a b u (noted_in a b u before) ≡ noted_in a b u before
+noted_twice a b u true = refl
+noted_twice a b u false = by (not (shown u a == shown u b))
+  where
+    by : (d : Bool) → (d || d) ≡ d
+    by true = refl
+    by false = refl
+
+not_noted : (a b : State) (u : Unit) (before : Bool) → (before ≡ false → shown u a ≡ shown u b) → noted_in a b u before ≡ before
+not_noted a b u true same = refl
+not_noted a b u false same = ap not (equal (shown u a) (shown u b) (same refl))
+
+noted_shows : (a b : State) (u : Unit) (before : Bool) → noted_in a b u before ≡ false → shown u a ≡ shown u b
+noted_shows a b u true none = clash none
+noted_shows a b u false none = one (shown u a) (shown u b) (not_false (shown u a == shown u b) none)
+
+-- what is noted of two books is marked
+marked_by : (a b : State) (marks : Marks) → b.fixed ≡ a.fixed → units_in (noted a b marks) ≡ units a → AreMarked a b (noted a b marks)
+marked_by a b marks fixed all = record { fixed = fixed; units = all; shows = shows }
+  where
+    by : (k : ℕ) (mark : Unit × Bool) (o : Option (Unit × Bool)) → option_map (remade (noted_in a b)) o ≡ Some mark → mark.1 ≡ false → shown mark.0 a ≡ shown mark.0 b
+    by k mark None at none = cc
+    by k mark (Some e) at none =
+        let same : (e.0, noted_in a b e.0 e.1) ≡ mark = cc in
+        subst (λ (x : Unit × Bool). x.1 ≡ false → shown x.0 a ≡ shown x.0 b) same (noted_shows a b e.0 e.1) none
+
+    shows : (k : ℕ) (mark : Unit × Bool) → slice_get (noted a b marks) k ≡ Some mark → mark.1 ≡ false → shown mark.0 a ≡ shown mark.0 b
+    shows k mark at none = by k mark (slice_get marks k) (sym (slice_get-map (remade (noted_in a b)) marks k) ∙ at) none
+
+-- at load no unit differs
+units_all : (units : List Unit) → units_in (all_at false units) ≡ units
+units_all [] = refl
+units_all (u ∷ units) = ap (λ us. u ∷ us) (units_all units)
+
+pub marked_first : (book : State) → AreMarked book book (all_at false (units book))
+marked_first book = record { fixed = refl; units = units_all (units book); shows = λ k mark at none. refl }
+
+-- ---- a line
+
+module _ (laws : TablePlaceLaws Bool) (a b a' b' : State) (marks : Marks) (m : Logged) (procs : List ℕ) where
+  -- the unit at a place that isn't looked at shows the same in both books, if it wasn't found to differ
+  shows_still : procs ≡ proc_places a.fixed.topology 0 (units a) → AreMarked a b marks → a'.fixed ≡ a.fixed → b'.fixed ≡ b.fixed
+      → (k : ℕ) (e : Unit × Bool) → slice_get marks k ≡ Some e → value e.0 a' ≡ value e.0 a → value e.0 b' ≡ value e.0 b → has_place procs k ≡ false
+      → e.1 ≡ false → shown e.0 a' ≡ shown e.0 b'
+  shows_still at_procs marked fixed fixed' k e at first second none not_yet =
+      let there : slice_get (units a) k ≡ Some e.0 =
+      ap (λ (us : List Unit). slice_get us k) (sym marked.units) ∙ slice_get-map (λ (x : Unit × Bool). x.0) marks k ∙ ap (option_map (λ (x : Unit × Bool). x.0)) at
+      in
+      let other : is_proc a.fixed.topology e.0 ≡ false = by (is_proc a.fixed.topology e.0) refl
+      (λ is. subst (λ (j : ℕ). has_place (proc_places a.fixed.topology 0 (units a)) j ≡ true) plain (procs_there a.fixed.topology 0 (units a) k e.0 there is))
+      (ap (λ (ps : List ℕ). has_place ps k) (sym at_procs) ∙ none)
+      in
+      let otherwise : (f : Fixed) → f ≡ a.fixed → is_proc f.topology e.0 ≡ false = λ f is. ap (λ (g : Fixed). is_proc g.topology e.0) is ∙ other in
+      shows_value e.0 a' (otherwise a'.fixed fixed)
+      ∙ first
+      ∙ sym (shows_value e.0 a other)
+      ∙ marked.shows k e at not_yet
+      ∙ shows_value e.0 b (otherwise b.fixed marked.fixed)
+      ∙ sym second
+      ∙ sym (shows_value e.0 b' (otherwise b'.fixed (fixed' ∙ marked.fixed)))
+    where
+      plain : 0 + k ≡ k
+      plain = omega arith
+
+      by : (d : Bool) → is_proc a.fixed.topology e.0 ≡ d → (is_proc a.fixed.topology e.0 ≡ true → has_place (proc_places a.fixed.topology 0 (units a)) k ≡ true) → has_place (proc_places a.fixed.topology 0 (units a)) k ≡ false → is_proc a.fixed.topology e.0 ≡ false
+      by true is there out = clash (sym (there is) ∙ out)
+      by false is there out = is
+
+  looked_all : procs ≡ proc_places a.fixed.topology 0 (units a) → AreMarked a b marks → a'.fixed ≡ a.fixed → b'.fixed ≡ b.fixed
+      → ((k : ℕ) (e : Unit × Bool) → slice_get marks k ≡ Some e → is_logged m k ≡ false → (value e.0 a' ≡ value e.0 a) × (value e.0 b' ≡ value e.0 b))
+      → looked a' b' m procs marks ≡ noted a' b' marks
+  looked_all at_procs marked fixed fixed' kept = by m.all refl
+    where
+      stays : m.all ≡ false → (k : ℕ) (e : Unit × Bool) → slice_get marks k ≡ Some e → has_place (m.places.items ++ procs) k ≡ false → noted_in a' b' e.0 e.1 ≡ e.1
+      stays some k e at none =
+          let parts = neither_place m.places.items procs k none in
+          let values = kept k e at (none_of m.all (has_place m.places.items k) some parts.0) in
+          not_noted a' b' e.0 e.1 (shows_still at_procs marked fixed fixed' k e at values.0 values.1 parts.1)
+
+      by : (all : Bool) → m.all ≡ all → cond all (noted a' b' marks) (renewed_along (noted_in a' b') procs (renewed_along (noted_in a' b') m.places.items marks)) ≡ noted a' b' marks
+      by true is = refl
+      by false is =
+          sym (fold-append (renewed_at (noted_in a' b')) marks m.places.items procs)
+          ∙ renewed_all laws (noted_in a' b') (noted_twice a' b') (m.places.items ++ procs) marks (stays is)
+
+-- ---- a script line in each book
+
+fixed_along : (events : List Event) (book : State) → (book_after events book).fixed ≡ book.fixed
+fixed_along [] book = refl
+fixed_along (event ∷ events) book = fixed_along events (effect event book)
+
+units_same : (f : Unit → Bool → Bool) (marks : Marks) → units_in (mapped f marks) ≡ units_in marks
+units_same f [] = refl
+units_same f (mark ∷ marks) = ap (λ us. mark.0 ∷ us) (units_same f marks)
+
+module _ (event other : Event) (a b : State) (marks : Marks) (marked : AreMarked a b marks) where
+  fixed_loud : (line_book event a).fixed ≡ a.fixed
+  fixed_loud = fixed_along (split (setup_of a) event (record { book = a })).events a
+
+  fixed_quiet : (line_book other b).fixed ≡ b.fixed
+  fixed_quiet = fixed_along (split (setup_of b) other (record { book = b })).events b
+
+  pub line_looked : UnitLaws → TablePlaceLaws Bool → (m : Logged) (procs : List ℕ) → procs ≡ proc_places a.fixed.topology 0 (units a)
+      → looked (line_book event a) (line_book other b) (line_moves marks other b (line_moves marks event a (cleared m))) procs marks ≡ noted (line_book event a) (line_book other b) marks
+  line_looked laws places m procs at_procs =
+      looked_all places a b (line_book event a) (line_book other b) marks (line_moves marks other b (line_moves marks event a (cleared m))) procs at_procs marked fixed_loud fixed_quiet kept
+    where
+      rising : rises (units_in marks) ≡ true
+      rising = ap rises marked.units ∙ (laws.are a.fixed.topology).rising
+
+      in_quiet : units_in marks ≡ units b
+      in_quiet = marked.units ∙ ap (λ (f : Fixed). units_of f.topology) (sym marked.fixed)
+
+      kept : (k : ℕ) (e : Unit × Bool) → slice_get marks k ≡ Some e → is_logged (line_moves marks other b (line_moves marks event a (cleared m))) k ≡ false
+          → (value e.0 (line_book event a) ≡ value e.0 a) × (value e.0 (line_book other b) ≡ value e.0 b)
+      kept k e at none =
+          let second = unmoved marks (split (setup_of b) other (record { book = b })).events b (line_moves marks event a (cleared m)) k e rising in_quiet at none in
+          let first = unmoved marks (split (setup_of a) event (record { book = a })).events a (cleared m) k e rising marked.units at second.0 in
+          (first.1, second.1)
+
+  pub line_marked : AreMarked (line_book event a) (line_book other b) (noted (line_book event a) (line_book other b) marks)
+  line_marked =
+      marked_by (line_book event a) (line_book other b) marks (fixed_quiet ∙ marked.fixed ∙ sym fixed_loud)
+      (units_same (noted_in (line_book event a) (line_book other b)) marks ∙ marked.units ∙ ap (λ (f : Fixed). units_of f.topology) (sym fixed_loud))
+
+  -- the places of the processors are those that they were
+  pub line_procs : (procs : List ℕ) → procs ≡ proc_places a.fixed.topology 0 (units a) → procs ≡ proc_places (line_book event a).fixed.topology 0 (units (line_book event a))
+  line_procs procs at = at ∙ ap (λ (f : Fixed). proc_places f.topology 0 (units_of f.topology)) (sym fixed_loud)
+
+-- ---- a step of both runs
+
+abbrev sides : State → State → Marks → Sides
+sides a b marks = record { loud = a; quiet = b; differs = marks }
+
+module _ (laws : UnitLaws) (places : TablePlaceLaws Bool) (master : NodeId) (event other : Event) (a b a' b' : State) (marks marks' : Marks) (m m0 m1 m2 : Logged) (procs : List ℕ)
+    (marked : AreMarked a b marks) (at_procs : procs ≡ proc_places a.fixed.topology 0 (units a)) (is_quiet : other ≡ quiet_event master event) (clears : m0 ≡ cleared m)
+    (loud : a' ≡ line_book event a) (moves : m1 ≡ line_moves marks event a m0) (quiet : b' ≡ line_book other b) (more : m2 ≡ line_moves marks other b m1) (notes : marks' ≡ looked a' b' m2 procs marks) where
+  marks_are : marks' ≡ noted (line_book event a) (line_book other b) marks
+  marks_are =
+      let logged : m2 ≡ line_moves marks other b (line_moves marks event a (cleared m)) =
+      more ∙ ap (λ (x : Logged). line_moves marks other b x) (moves ∙ ap (λ (x : Logged). line_moves marks event a x) clears)
+      in
+      notes
+      ∙ ap (λ (x : State). looked x b' m2 procs marks) loud
+      ∙ ap (λ (x : State). looked (line_book event a) x m2 procs marks) quiet
+      ∙ ap (λ (x : Logged). looked (line_book event a) (line_book other b) x procs marks) logged
+      ∙ line_looked event other a b marks marked laws places m procs at_procs
+
+  pub step_is : sides a' b' marks' ≡ stepped master event (sides a b marks)
+  step_is =
+      ap (λ (x : State). sides x b' marks') loud
+      ∙ ap (λ (x : State). sides (line_book event a) x marks') quiet
+      ∙ ap (λ (x : Marks). sides (line_book event a) (line_book other b) x) marks_are
+      ∙ ap (λ (e : Event). sides (line_book event a) (line_book e b) (noted (line_book event a) (line_book e b) marks)) is_quiet
+
+  pub step_marked : AreMarked a' b' marks'
+  step_marked =
+      subst (λ (x : State). AreMarked x b' marks') (sym loud)
+      (subst (λ (x : State). AreMarked (line_book event a) x marks') (sym quiet)
+      (subst (λ (x : Marks). AreMarked (line_book event a) (line_book other b) x) (sym marks_are) (line_marked event other a b marks marked)))
+
+  pub step_procs : procs ≡ proc_places a'.fixed.topology 0 (units a')
+  step_procs = subst (λ (x : State). procs ≡ proc_places x.fixed.topology 0 (units x)) (sym loud) (line_procs event other a b marks marked procs at_procs)
+
+-- ---- the load
+
+pub load_marked : (object : Object) (t : Topology) (a b : State) (marks : Marks) → a ≡ load_of object t → b ≡ load_of object t → marks ≡ all_at false (units_of t) → AreMarked a b marks
+load_marked object t a b marks loud quiet first =
+    subst (λ (x : State). AreMarked x b marks) (sym loud)
+    (subst (λ (x : State). AreMarked (load_of object t) x marks) (sym quiet)
+    (subst (λ (x : Marks). AreMarked (load_of object t) (load_of object t) x) (sym first) (marked_first (load_of object t))))
+
+pub load_procs : (object : Object) (t : Topology) (a : State) (us : List Unit) (procs : List ℕ) → a ≡ load_of object t → us ≡ units_of t → procs ≡ proc_places t 0 us → procs ≡ proc_places a.fixed.topology 0 (units a)
+load_procs object t a us procs loud all at =
+    subst (λ (x : State). procs ≡ proc_places x.fixed.topology 0 (units x)) (sym loud) (at ∙ ap (λ (x : List Unit). proc_places t 0 x) all)

@@ -1,0 +1,52 @@
+-- The places of the units that moved in a script line, in either book.
+use Rattle.std.specs.Prelude.{ℕ, ◌||◌, nat_lt, Bool, true, false, if◌then◌else◌, List, [], ◌∷◌, ◌++◌, fold, length, Option, None, Some}
+use Rattle.pm_base.specs.BoundedList.{Bounded}
+use Rattle.pm_base.specs.declared.events.Event.{Event}
+use Rattle.pm_base.specs.declared.names.Unit.{Unit}
+use Rattle.pm_topology.specs.UnitMap.{place_of}
+use Rattle.pm_state.specs.State.{State}
+use Rattle.pm_state.specs.Units.{moved}
+use Rattle.pm_state.specs.Values.{value}
+use Rattle.pm_core.specs.Step.{effect}
+use Rattle.pm_run.specs.Run.{setup_of, split}
+use Rattle.pm_isolate.specs.Marks.{Marks, has_place}
+
+-- the places that were logged, or all places, if there was no room for one
+pub record Logged : Type 0 where
+  pub places : Bounded ℕ
+  pub all : Bool
+
+-- no place is logged
+abbrev pub cleared : Logged → Logged
+cleared m = record { places = record m.places { items = [] }; all = false }
+
+-- one more place, or all places, if there is no room for it
+abbrev pub with_place : ℕ → Logged → Logged
+with_place place m =
+    if nat_lt (length m.places.items) m.places.room then record m { places = record m.places { items = m.places.items ++ place ∷ [] } }
+    else record m { all = true }
+
+-- the place of a unit, where it has one
+abbrev pub with_place_of : Option ℕ → Logged → Logged
+with_place_of None m = m
+with_place_of (Some place) m = with_place place m
+
+abbrev pub with_unit : Marks → Logged → Unit → Logged
+with_unit marks m unit = with_place_of (place_of marks unit) m
+
+abbrev pub with_units : Marks → List Unit → Logged → Logged
+with_units marks units m = fold (with_unit marks) m units
+
+-- a place is logged
+abbrev pub is_logged : Logged → ℕ → Bool
+is_logged m k = m.all || has_place m.places.items k
+
+-- with the places of the units that these core events move, one event after another
+abbrev pub logged_along : Marks → List Event → State → Logged → Logged
+logged_along marks [] book m = m
+logged_along marks (event ∷ events) book m =
+    logged_along marks events (effect event book) (with_units marks (moved (λ u. value u book) (effect event book)) m)
+
+-- and of those that a script line moves
+abbrev pub line_moves : Marks → Event → State → Logged → Logged
+line_moves marks event book m = logged_along marks (split (setup_of book) event (record { book = book })).events book m
