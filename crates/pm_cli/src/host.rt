@@ -10,7 +10,10 @@ use std::fs;
 use std::io::{Read, Write};
 use std::rt::Files;
 
-/// Files by their paths. An opening or a read that finds no memory counts as a fault.
+/// How many inputs a run begins at most.
+const INPUTS: usize = 4;
+
+/// Files by their paths. `new` takes all memory; that the host finds none for an opening or a read counts as a fault.
 #[derive(Drop)]
 pub struct HostInputs<'a, R: Files> {
     files: &'a R,
@@ -19,12 +22,14 @@ pub struct HostInputs<'a, R: Files> {
 }
 
 impl<'a, R: Files> HostInputs<'a, R> {
-    pub fn new(alloc: Global, files: &'a R) -> Self {
-        HostInputs {
+    /// All memory that the inputs take.
+    pub fn new(alloc: Global, files: &'a R) -> Result<Self, NoMemory> {
+        let begun = Vec::with_capacity(alloc, INPUTS).map_err(|_| NoMemory)?;
+        Ok(HostInputs {
             files,
-            begun: Vec::new(alloc),
+            begun,
             faults: 0,
-        }
+        })
     }
 
     /// Opens a file and keeps it under the next number.

@@ -33,7 +33,9 @@ fn run<R: Env + Files + Print + AllocGlobal>(rt: &R) -> Exit {
     let Ok(mut device) = device(rt.alloc()) else {
         return Exit::Memory;
     };
-    let mut inputs = HostInputs::new(rt.alloc(), rt);
+    let Ok(mut inputs) = HostInputs::new(rt.alloc(), rt) else {
+        return Exit::Memory;
+    };
     let Ok(mut out) = HostSink::new(rt.alloc(), io::writer(rt)) else {
         return Exit::Memory;
     };

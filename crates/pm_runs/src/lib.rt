@@ -4,6 +4,8 @@
 #[cfg(test)]
 mod checks;
 #[cfg(test)]
+mod each_byte;
+#[cfg(test)]
 mod inputs;
 #[cfg(test)]
 mod isolate;
@@ -11,6 +13,8 @@ mod isolate;
 mod limits;
 #[cfg(test)]
 mod making;
+#[cfg(test)]
+mod objects;
 #[cfg(test)]
 mod reach;
 #[cfg(test)]

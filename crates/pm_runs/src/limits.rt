@@ -2,17 +2,36 @@
 
 use super::checks::check;
 use pm_base::Exit;
-use pm_running::{ALONE, STANDS, STARTED, joined, replay_of};
+use pm_running::{OBJECT, joined, replay_of};
+use pm_script::SCRIPT_LIMIT;
 use std::alloc::{AllocError, Global};
 use std::test::Fail;
 
-/// A script of 16,777,216 bytes: comments of 255 bytes with their line feeds.
+/// What is written at load, and the closing table.
+const LOAD: &str = "0 set 10 0 1
+0 set 62 0 1
+0 set 1 0 1
+0 set 2 0 1
+0 set 11 0 2
+0 set 33 0 1
+0 run 2 0
+";
+
+const CLOSING: &str = "end power 1 1 1
+end proc 2 1 1
+end power 10 1 1
+end slave 11 2 2
+end slave 33 1 1
+end power 62 1 1
+";
+
+/// A script of the most bytes: comments of 255 bytes with their line feeds.
 fn script_of_the_limit(alloc: Global) -> Result<Vec<u8>, AllocError> {
     let mut line = [b' '; 256];
     line[0] = b'#';
     line[255] = b'\n';
     let mut script = Vec::new(alloc);
-    for _ in 0..65_536u32 {
+    for _ in 0..SCRIPT_LIMIT / 256 {
         script.extend_from_slice(&line)?;
     }
     Ok(script)
@@ -21,8 +40,8 @@ fn script_of_the_limit(alloc: Global) -> Result<Vec<u8>, AllocError> {
 #[test]
 fn a_script_of_the_limit(rt: HostRuntime) -> Result<(), Fail> {
     let script = script_of_the_limit(rt.alloc())?;
-    let text = joined(rt.alloc(), &[STARTED, STANDS])?;
-    check(&rt, &replay_of(ALONE, &script), None, &text, Exit::Done)
+    let text = joined(rt.alloc(), &[LOAD, CLOSING])?;
+    check(&rt, &replay_of(OBJECT, &script), None, &text, Exit::Done)
 }
 
 /// One byte more than the limit.
@@ -35,8 +54,14 @@ fn longer_script(alloc: Global) -> Result<Vec<u8>, AllocError> {
 #[test]
 fn a_script_of_one_byte_more_than_the_limit(rt: HostRuntime) -> Result<(), Fail> {
     let script = longer_script(rt.alloc())?;
-    let text = joined(rt.alloc(), &[STARTED, "fault size\n"])?;
-    check(&rt, &replay_of(ALONE, &script), None, &text, Exit::TooLarge)
+    let text = joined(rt.alloc(), &[LOAD, "fault size\n"])?;
+    check(
+        &rt,
+        &replay_of(OBJECT, &script),
+        None,
+        &text,
+        Exit::TooLarge,
+    )
 }
 
 /// Where the sink fails within the body the exit is WriteFault, and where it fails on the fault line alone
@@ -44,9 +69,9 @@ fn a_script_of_one_byte_more_than_the_limit(rt: HostRuntime) -> Result<(), Fail>
 #[test]
 fn such_a_script_over_a_sink_of_each_side_of_the_body(rt: HostRuntime) -> Result<(), Fail> {
     let script = longer_script(rt.alloc())?;
-    let asked = replay_of(ALONE, &script);
-    let body = STARTED.as_bytes();
-    let cut = body.get(..46).ok_or("all but the last byte")?;
-    check(&rt, &asked, Some(46), cut, Exit::WriteFault)?;
-    check(&rt, &asked, Some(47), body, Exit::TooLarge)
+    let asked = replay_of(OBJECT, &script);
+    let body = LOAD.as_bytes();
+    let cut = body.get(..85).ok_or("all but the last byte")?;
+    check(&rt, &asked, Some(85), cut, Exit::WriteFault)?;
+    check(&rt, &asked, Some(86), body, Exit::TooLarge)
 }

@@ -1,5 +1,7 @@
 pub mod CauseLemmas
+pub mod CompleteLemmas
 pub mod ExitsLemmas
+pub mod HeldWhole
 pub mod JobLemmas
 pub mod MainLemmas
 pub mod MakingLemmas

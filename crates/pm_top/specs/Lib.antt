@@ -6,3 +6,4 @@ pub mod Making
 pub mod Theorem
 pub mod Done
 pub mod Ran
+pub mod Complete

@@ -12,5 +12,6 @@ mod reading;
 mod replaying;
 mod works;
 
+pub use objects::OBJECT_LIMIT;
 pub use program::pm_main;
 pub use works::{Form, Source, Work};

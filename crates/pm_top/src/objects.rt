@@ -16,7 +16,7 @@ use pm_trace::Fault;
 use std::alloc::Global;
 
 /// The most bytes of an object.
-const OBJECT_LIMIT: u32 = 16_384;
+pub const OBJECT_LIMIT: u32 = 16_384;
 
 /// The most bytes of the text of an object.
 const TEXT_LIMIT: u32 = 1_048_576;

@@ -9,6 +9,7 @@ ghost use Rattle.pm_topology.specs.Chip.{chip};
 ghost use Rattle.pm_trace.specs.Exits.{IsStarved};
 ghost use Rattle.pm_replay.specs.Safe.{IsSafe};
 ghost use Rattle.pm_base.specs.World.{world};
+ghost use Rattle.pm_top.specs.Complete.{IsComplete};
 ghost use Rattle.pm_top.specs.Done.{IsDone, WorkDone};
 ghost use Rattle.pm_top.specs.Form.{form, form_of};
 ghost use Rattle.pm_top.specs.Ran.{Decides, EachHasCauses, EachKeepsApart, InputsMayFail, IsBeforeRun, Ran, RanForm};
@@ -19,6 +20,8 @@ use pm_apart::driven_runs_keep_apart;
 use pm_base::{Exit, Inputs, Sink};
 use pm_causes::runs_have_causes;
 use pm_device::Device;
+use pm_object::one_reading;
+use pm_objtext::one_meaning;
 use pm_trace::{Fault, exits_say, refuse};
 use std::alloc::Global;
 
@@ -47,6 +50,10 @@ pub fn pm_main<I: Inputs, O: Sink, D: Device>(
     // What the inputs hold decides the exit, unless memory is wanted or the sink fails.
     ensures decided { I.observable
         → Decides O.Sink (map string_bytes words.now) (I.state inputs.old) out.old out.new result }
+    // Where what the words ask for is right, the inputs show no cause of a fault and the sink doesn't fail, the run is
+    // Done, or memory is wanted.
+    ensures complete { IsComplete I.Inputs O.Sink D.Device (map string_bytes words.now)
+        (world inputs.old out.old dev.old) (world inputs.new out.new dev.new) result }
     // On every exit: what was asked for, what was written of it, and what was done to the device.
     ensures ran { Ran I.Inputs O.Sink D.Device (map string_bytes words.now)
         (world inputs.old out.old dev.old) (world inputs.new out.new dev.new) result }
@@ -61,7 +68,8 @@ pub fn pm_main<I: Inputs, O: Sink, D: Device>(
     ensures untouched { IsBeforeRun (form (map string_bytes words.now)) result → dev.old ≡ dev.new }
     // On Memory nothing was written but the fault line, as far as the sink took it.
     ensures memory { result ≡ Exit.Memory → IsStarved O.Sink out.old out.new }
-    // ReadFault comes only where the inputs' count of faults rose.
+    // ReadFault comes only where the inputs' count of faults rose. (Here and below a count at its last value, which can't
+    // rise, counts as one that rose.)
     ensures read_fault { result ≡ Exit.ReadFault → Rose (I.state inputs.old).faults (I.state inputs.new).faults }
     // Where the inputs are observable, ReadFault comes only where a name isn't there, one has a failing
     // byte, or fewer inputs can be begun than are named.
@@ -75,6 +83,8 @@ pub fn pm_main<I: Inputs, O: Sink, D: Device>(
     exits_say::<O>();
     driven_runs_keep_apart::<D>();
     runs_have_causes();
+    one_reading();
+    one_meaning();
     run_words(alloc, words, inputs, out, dev)
 }
 
