@@ -1,0 +1,10 @@
+pub mod ItemTexts
+pub mod Known
+pub mod LastLemmas
+pub mod Leads
+pub mod LineTexts
+pub mod LinesLemmas
+pub mod Owners
+pub mod Printed
+pub mod ReadingLemmas
+pub mod TakingLemmas

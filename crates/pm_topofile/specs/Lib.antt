@@ -1,0 +1,7 @@
+pub mod Answers
+pub mod Draft
+pub mod Meaning
+pub mod Printing
+pub mod Reading
+pub mod Table
+pub mod Taking
