@@ -5,7 +5,9 @@ import re
 LONGEST = 255
 
 # The first word of each line of a script, with the words that it takes after it: at least, at most.
-EVENTS = {"ipi": (2, 7), "boot": (2, 2), "wfi": (1, 1), "irq": (1, 1), "gic": (1, 1), "tick": (1, 1)}
+EVENTS = {
+    "ipi": (2, 7), "boot": (2, 2), "wfi": (1, 1), "irq": (1, 1), "gic": (1, 1), "tick": (1, 1), "break": (1, 1), "mend": (1, 1),
+}  # fmt: skip
 # The same of an object's text; a section is followed by its name.
 RECORDS = {
     "header": (0, 16), "section": (1, 1), "master": (5, 5), "slave": (3, 3), "group": (1, 1), "prefer": (4, 4),
@@ -15,7 +17,7 @@ SECTIONS = ("masters", "slaves", "prealloc", "power", "reset", "shutdown", "conf
 
 # A line of a script that certainly means something. It decides most lines at once.
 GOOD = re.compile(
-    rb"[ \t]*(?:(?:ipi(?:[ \t]+N){2,7}|boot(?:[ \t]+N){2}|(?:wfi|irq|gic|tick)[ \t]+N)(?=[ \t\r\n]|\Z)[ \t]*)?"
+    rb"[ \t]*(?:(?:ipi(?:[ \t]+N){2,7}|boot(?:[ \t]+N){2}|(?:wfi|irq|gic|tick|break|mend)[ \t]+N)(?=[ \t\r\n]|\Z)[ \t]*)?"
     rb"(?:#[\t -~]*)?\r?".replace(b"N", rb"(?:\d{1,9}|0x[\da-fA-F]{1,8})")
 )
 

@@ -16,6 +16,7 @@ from program import BadUse, read_file
 
 # The words after the first one of a line of a script, by what they mean; `ipi` has its own.
 SCRIPT = {"boot": ("node", "address"), "wfi": ("node",), "irq": ("node",), "gic": ("node",), "tick": ("time",)}
+SCRIPT |= {"break": ("node",), "mend": ("node",)}
 
 # The same of the text of an object.
 TEXT = {

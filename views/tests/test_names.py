@@ -110,7 +110,7 @@ class Interface(unittest.TestCase):
         self.assertGreater(len(found), 8)
         for number, name in found.items():
             self.assertEqual(names.STATUSES[number], name)
-        self.assertEqual(sorted(set(names.STATUSES) - set(found)), [2000, 2001])
+        self.assertEqual(sorted(set(names.STATUSES) - set(found)), [2001])
 
     def test_the_published_reset_lines(self):
         self.assertEqual(sorted(names.RESETS), list(range(1000, 1120)))
