@@ -14,20 +14,52 @@ pub struct Message {
 #[derive(Clone, Copy, Debug, PartialEq, Eq)]
 pub enum Event {
     /// A master sends a message.
-    Ipi { master: NodeId, message: Message },
+    Ipi {
+        master: NodeId,
+        message: Message,
+    },
     /// A boot loader starts a processor at an address.
-    Boot { proc: NodeId, address: u64 },
+    Boot {
+        proc: NodeId,
+        address: u64,
+    },
     /// A processor waits for an interrupt.
-    Wfi { proc: NodeId },
+    Wfi {
+        proc: NodeId,
+    },
     /// A slave raises its interrupt.
-    Irq { slave: NodeId },
+    Irq {
+        slave: NodeId,
+    },
     /// An interrupt at a processor itself.
-    Gic { proc: NodeId },
+    Gic {
+        proc: NodeId,
+    },
     /// Units of time pass.
-    Tick { count: u32 },
+    Tick {
+        count: u32,
+    },
+    /// A master puts a message into its box, from which it is served later.
+    Post {
+        master: NodeId,
+        message: Message,
+    },
+    /// The messages in all boxes are served.
+    Serve,
+    /// A processor calls the secure monitor (DEN0022): the number of the function, and its arguments. Missing arguments
+    /// are 0.
+    Smc {
+        proc: NodeId,
+        function: u32,
+        args: [u64; 3],
+    },
     /// A node of the device fails from now on.
-    Break { node: NodeId },
+    Break {
+        node: NodeId,
+    },
     /// A node of the device works again.
-    Mend { node: NodeId },
+    Mend {
+        node: NodeId,
+    },
     Pass,
 }

@@ -1,0 +1,28 @@
+-- The core events of a script line that are still to come.
+use Rattle.std.specs.Prelude.{Bool, true, false, List, [], ◌∷◌, length, Option, Some, None}
+use Rattle.pm_base.specs.declared.events.Event.{Event}
+use Rattle.pm_ipi.specs.Mail.{all_empty}
+use Rattle.pm_object.specs.declared.object.Object.{Object}
+use Rattle.pm_split.specs.declared.cores.CoreEvents.{CoreEvents}
+use Rattle.pm_split.specs.declared.cores.CoreEvents.TheVariants.{One, Served}
+use Rattle.pm_split.specs.Boxes.{Boxes, waiting_from}
+use Rattle.pm_split.specs.Split.{or_pass}
+
+abbrev pub listed : Option Event → List Event
+listed None = []
+listed (Some event) = event ∷ []
+
+-- a line that serves has a Pass if it served nothing
+abbrev pub to_serve : Bool → List Event → List Event
+to_serve true events = events
+to_serve false events = or_pass events
+
+-- those of a line, by what the boxes hold now
+abbrev pub events_left : Object → Boxes → CoreEvents → List Event
+events_left object boxes (One event) = listed event
+events_left object boxes (Served bit some) = to_serve some (waiting_from object boxes bit)
+
+-- the boxes once all of them were taken
+abbrev pub boxes_left : Boxes → CoreEvents → Boxes
+boxes_left boxes (One event) = boxes
+boxes_left boxes (Served bit some) = all_empty (length boxes)

@@ -1,0 +1,4 @@
+pub mod Boxes
+pub mod Split
+pub mod Left
+pub mod Served

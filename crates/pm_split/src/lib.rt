@@ -1,0 +1,10 @@
+//! What the event of a script line is split into: the core events that the book takes one after another, and the boxes
+//! into which messages are put and from which they are served.
+#![tactic(auto)]
+
+mod boxes;
+mod cores;
+mod laws;
+
+pub use cores::{CoreEvents, Split, split_event};
+pub use laws::boxes_are_served;
