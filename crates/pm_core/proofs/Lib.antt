@@ -1,7 +1,9 @@
 pub mod AskedLaw
+pub mod AwakeLaw
 pub mod EndedLaw
 pub mod Refused
 pub mod RestartLaw
 pub mod SoundSteps
 pub mod StepLaw
+pub mod StillLaw
 pub mod TouchedLaw

@@ -1,5 +1,5 @@
 -- A step touches no more of the book than its event may.
-use Rattle.std.proofs.Common.{◌≡◌, ◌≢◌, ℕ, ◌+◌, ◌<◌, ◌==◌, ◌&&◌, ◌||◌, Bool, true, false, not, cond, if◌then◌else◌, List, [], ◌∷◌, ◌++◌, length, map, Option, Some, None, refl, arith, sym, ap, ◌∙◌, subst}
+use Rattle.std.proofs.Common.{◌≡◌, ◌≢◌, ℕ, ◌+◌, ◌<◌, ◌==◌, ◌&&◌, Bool, true, false, not, cond, if◌then◌else◌, List, [], ◌∷◌, ◌++◌, length, map, Option, Some, None, refl, arith, sym, ap, ◌∙◌, subst}
 use Rattle.std.specs.Prelude.{count_by, find, fold, option_and_then}
 use Rattle.std.proofs.lemmas.Bool.{eqb-true}
 use Rattle.pm_base.proofs.Booleans.{both, unequal}
@@ -27,8 +27,8 @@ use Rattle.pm_state.specs.State.{CoreHalf, Fixed, State, in_force}
 use Rattle.pm_state.specs.Values.{master_place, slave_place}
 use Rattle.pm_calls.specs.Checks.{Cause, Fits, Stands, first_failing}
 use Rattle.pm_calls.specs.RowCalls.{changes_of, row_changes}
-use Rattle.pm_calls.specs.Shapes.{Shape, Own_arming, Own_row, shaped}
-use Rattle.pm_calls.specs.Verdict.{Called, stages_by}
+use Rattle.pm_calls.specs.Shapes.{Shape, Other_suspend, Own_abort, Own_arming, Own_notifier, Own_row, Own_suspend, shaped}
+use Rattle.pm_calls.specs.Verdict.{Called, stages_by, stages_of}
 use Rattle.pm_calls.specs.Views.{row_view_at}
 use Rattle.pm_calls.specs.calls.{called, shape_of}
 use Rattle.pm_calls.specs.calls.SetWakeupSource.{arming}
@@ -36,11 +36,13 @@ use Rattle.pm_tell.specs.declared.served.Served.{Served}
 use Rattle.pm_values.specs.declared.caches.Caches.{Caches}
 use Rattle.pm_values.specs.declared.touches.Touched.TheVariants.{Nothing}
 use Rattle.pm_values.specs.Along.{IsTrail, Trail}
-use Rattle.pm_values.specs.Caches.{AreKept, IsStill}
+use Rattle.pm_values.specs.Caches.{AreKept}
 use Rattle.pm_values.specs.Starts.{was_down}
-use Rattle.pm_values.specs.Touches.{ChangesRows, IsTouched}
-use Rattle.pm_core.specs.Step.{call_at, may_call, may_change, message_stages, path, row_node, served, stages, touched, touched_at, touched_by}
+use Rattle.pm_values.specs.Touches.{ChangesRows, IsStill, IsTouched, with_core}
+use Rattle.pm_core.specs.Step.{call_at, keeps_values, may_call, may_change, message_stages, path, row_node, served, stages, touched, touched_at, touched_by}
+use Rattle.pm_core.proofs.AwakeLaw.{LeavesValues, none_leaves, same_twice}
 use Rattle.pm_core.proofs.Refused.{none_staged}
+use Rattle.pm_core.proofs.StillLaw.{message_stays, shape_leaves}
 
 -- what is found passes the test
 found_passes : {X : Type 0} (p : X → Bool) (x : X) (xs : List X) (found : X) (here : Bool) → p x ≡ here → cond here (Some x) (find p xs) ≡ Some found → (find p xs ≡ Some found → p found ≡ true) → p found ≡ true
@@ -119,11 +121,6 @@ none_leave s book = record {
   downs = λ p. refl;
 }
 
-same_twice : (before after : Bool) → after ≡ before → (before || (after || false)) ≡ (after || false)
-same_twice false after same = refl
-same_twice true true same = refl
-same_twice true false same = cc
-
 stage_leaves : (s : ℕ) (prims : List Prim) (book : State) → follow (changed prims book) ≡ [] → ChangesRows s book.now.core (changed prims book).now.core → LeavesOthers s book (prims ∷ [])
 stage_leaves s prims book none changes =
     let is : after_stage prims book ≡ changed prims book = ap (λ ps. changed ps (changed prims book)) none in
@@ -181,27 +178,48 @@ record IsBefore (book : State) (stages : List (List Prim)) (along : Trail) (cach
   pub kept : AreKept book caches
   pub trail : IsTrail book (path_from stages book) along
 
+-- what is kept is that of the core half before, by what is fixed
+core_kept : (book : State) (stages : List (List Prim)) (along : Trail) (caches : Caches) → IsBefore book stages along caches → AreKept (with_core book.now.core (after_stages stages book)) caches
+core_kept book stages along caches before = record {
+  kinds = before.kept.kinds;
+  states = before.kept.states;
+  needs = before.kept.needs;
+  runs = before.kept.runs;
+  used = before.kept.used;
+  power = before.kept.power;
+  values = before.kept.values;
+}
+
+stays_still : (book : State) (stages : List (List Prim)) (along : Trail) (caches : Caches) → IsBefore book stages along caches → LeavesValues book stages → IsStill (after_stages stages book) along caches
+stays_still book stages along caches before leaves = record {
+  before = book.now.core;
+  kept = core_kept book stages along caches before;
+  changes = leaves.changes;
+  downs = λ p within. before.trail.downs p within ∙ leaves.downs p;
+}
+
 place_touched : (place : Option ℕ) (book : State) (stages : List (List Prim)) (along : Trail) (caches : Caches) → IsBefore book stages along caches → ((s : ℕ) → place ≡ Some s → LeavesOthers s book stages) → IsTouched (touched_at place) (after_stages stages book) along caches
 place_touched None book stages along caches before leaves = tt
 place_touched (Some s) book stages along caches before leaves =
     let own : LeavesOthers s book stages = leaves s refl in
     record {
       before = book.now.core;
-      kept = record {
-        kinds = before.kept.kinds;
-        states = before.kept.states;
-        needs = before.kept.needs;
-        runs = before.kept.runs;
-        used = before.kept.used;
-        power = before.kept.power;
-        values = before.kept.values;
-      };
+      kept = core_kept book stages along caches before;
       changes = own.changes;
       downs = λ p within. before.trail.downs p within ∙ own.downs p;
     }
 
+values_touched : (call : Call) (shape : Shape) (place : Option ℕ) (book : State) (along : Trail) (caches : Caches) → shape_of call ≡ shape → keeps_values shape ≡ true → IsBefore book (message_stages (option_and_then (call_at call book) place)) along caches
+    → IsStill (after_stages (message_stages (option_and_then (call_at call book) place)) book) along caches
+values_touched call shape place book along caches is keeps before =
+    stays_still book (message_stages (option_and_then (call_at call book) place)) along caches before
+    (message_stays call book place (λ m.
+    let Q : Called → Type 0 = λ c. LeavesValues book (stages_of c) in
+    let shapes : called m call book ≡ shaped m shape book = called_shaped m call book ∙ ap (λ shape. shaped m shape book) is in
+    subst Q (sym shapes) (shape_leaves m shape book before.sound keeps)))
+
 shape_touched : (call : Call) (shape : Shape) (place : Option ℕ) (book : State) (along : Trail) (caches : Caches) → shape_of call ≡ shape → IsBefore book (message_stages (option_and_then (call_at call book) place)) along caches
-    → IsTouched (touched_at (option_and_then (λ node. slave_place node book) (row_node shape))) (after_stages (message_stages (option_and_then (call_at call book) place)) book) along caches
+    → IsTouched (if keeps_values shape then Nothing else touched_at (option_and_then (λ node. slave_place node book) (row_node shape))) (after_stages (message_stages (option_and_then (call_at call book) place)) book) along caches
 shape_touched call (Own_row node by of) place book along caches is before =
     place_touched (slave_place node book) book (message_stages (option_and_then (call_at call book) place)) along caches before
     (λ s at. message_leaves s call book place (λ m.
@@ -214,6 +232,14 @@ shape_touched call (Own_arming target source enable) place book along caches is 
     let Q : Called → Type 0 = λ c. LeavesOthers s book c.stages in
     let shapes : called m call book ≡ shaped m (Own_arming target source enable) book = called_shaped m call book ∙ ap (λ shape. shaped m shape book) is in
     subst Q (sym shapes) (view_leaves m s (arming target enable) book (slave_place source book) before.sound at)))
+shape_touched call (Own_notifier node event enable) place book along caches is before =
+    values_touched call (Own_notifier node event enable) place book along caches is refl before
+shape_touched call (Other_suspend node ack latency state) place book along caches is before =
+    values_touched call (Other_suspend node ack latency state) place book along caches is refl before
+shape_touched call (Own_suspend node address) place book along caches is before =
+    values_touched call (Own_suspend node address) place book along caches is refl before
+shape_touched call (Own_abort node reason) place book along caches is before =
+    values_touched call (Own_abort node reason) place book along caches is refl before
 shape_touched call _ place book along caches is before = tt
 
 -- ---- a step
@@ -227,10 +253,8 @@ touched_if : (event : Event) (book : State) (along : Trail) (caches : Caches) (m
     → IsTouched (if may then touched_by (served event book) (after_stages (stages event book) book) else Nothing) (after_stages (stages event book) book) along caches
 touched_if event book along caches true is before = may_touch event book along caches before
 touched_if event book along caches false is before =
-    let none : stages event book ≡ [] = none_staged event book is in
-    let Still : List (List Prim) → Type 0 = λ ss. IsStill (after_stages ss book) along caches in
-    let Logged : List (List Prim) → Type 0 = λ ss. IsTrail book (path_from ss book) along in
-    subst Still (sym none) (record { kept = before.kept; trail = subst Logged none before.trail })
+    stays_still book (stages event book) along caches before
+    (subst (LeavesValues book) (sym (none_staged event book is)) (none_leaves book))
 
 -- what is kept before a step is found again as far as its event may touch
 pub step_touches : (event : Event) (book after : State) (found : Option Served) (along : Trail) (caches : Caches) → after ≡ after_stages (stages event book) book → found ≡ served event book → IsSound book → AreKept book caches → IsTrail book (path event book) along

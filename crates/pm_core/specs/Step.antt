@@ -26,7 +26,7 @@ use Rattle.pm_values.specs.declared.touches.Touched.{Touched}
 use Rattle.pm_values.specs.declared.touches.Touched.TheVariants.{All, Nothing, Rows}
 use Rattle.pm_values.specs.Turns.{turns_along}
 use Rattle.pm_calls.specs.Events.{boot, wait, interrupt, raised}
-use Rattle.pm_calls.specs.Shapes.{Shape, Own_row, Own_arming}
+use Rattle.pm_calls.specs.Shapes.{Shape, Other_suspend, Own_abort, Own_arming, Own_notifier, Own_row, Own_suspend}
 use Rattle.pm_calls.specs.calls.{called, only_reads, shape_of}
 use Rattle.pm_state.specs.Members.{mode_of_master}
 use Rattle.pm_values.specs.Notifications.{notifications}
@@ -224,6 +224,15 @@ abbrev pub may_change : Event → Option Served → Bool
 may_change event None = is_action event
 may_change event (Some served) = not (is_refusal served.verdict || only_reads served.call)
 
+-- a call of this shape changes no value: the caller is told of a node, another master is asked to suspend, or a
+-- processor of the caller that is active starts to suspend, or goes on in place of suspending
+abbrev pub keeps_values : Shape → Bool
+keeps_values (Own_notifier node event enable) = true
+keeps_values (Other_suspend node ack latency state) = true
+keeps_values (Own_suspend node address) = true
+keeps_values (Own_abort node reason) = true
+keeps_values _ = false
+
 -- the node of the slave on which a call of this shape changes the caller's row; then it changes nothing else of the book
 abbrev pub row_node : Shape → Option NodeId
 row_node (Own_row node by call) = Some node
@@ -238,10 +247,15 @@ touched_at (Some s) = Rows s
 abbrev pub row_place : Call → State → Option ℕ
 row_place call book = option_and_then (λ node. slave_place node book) (row_node (shape_of call))
 
+-- what a call touches that may have stages
+abbrev pub touched_in : Call → State → Touched
+touched_in call book = if keeps_values (shape_of call) then Nothing else touched_at (row_place call book)
+
 abbrev pub touched_by : Option Served → State → Touched
 touched_by None book = All
-touched_by (Some served) book = touched_at (row_place served.call book)
+touched_by (Some served) book = touched_in served.call book
 
--- what of a book an event may touch, by the verdict on its message: nothing, the rows on one slave, or anything
+-- what of a book an event may touch, by the verdict on its message: nothing that changes a value, the rows on one
+-- slave, or anything
 abbrev pub touched : Event → Option Served → State → Touched
 touched event served book = if may_change event served then touched_by served book else Nothing

@@ -5,7 +5,7 @@ ghost use Rattle.pm_ipi.specs.Calls.{ack_of, node_of};
 ghost use Rattle.pm_calls.specs.calls.{only_reads, shape_of};
 ghost use Rattle.pm_values.specs.Caches.{AreKept};
 ghost use Rattle.pm_state.specs.Stages.{after_stages, path_from};
-ghost use Rattle.pm_core.specs.Step.{acknowledged, answer_by, answer_of, call_in, is_action, may_call, may_change, is_ipi, message_stages, path, row_node, row_place, served, stages, time_of, touched, touched_at, verdict};
+ghost use Rattle.pm_core.specs.Step.{acknowledged, answer_by, answer_of, call_in, is_action, keeps_values, may_call, may_change, is_ipi, message_stages, path, row_node, row_place, served, stages, time_of, touched, touched_at, touched_in, verdict};
 ghost use Rattle.pm_state.specs.State.{in_force};
 ghost use Rattle.pm_tell.specs.Telling.{HasPlaces};
 ghost use Rattle.pm_values.specs.Along.{Completes, IsTrail, modes_of, trail_from};
@@ -163,7 +163,8 @@ fn may_change(event: &Event, served: Option<Served>) -> bool
     }
 }
 
-/// What of a book an event may touch, by the verdict on its message: nothing, the rows on one slave, or anything.
+/// What of a book an event may touch, by the verdict on its message: nothing that changes a value, the rows on one
+/// slave, or anything.
 pub(crate) fn touched(tables: &Tables, event: &Event, served: Option<Served>) -> Touched
     ensures { result ≡ touched event.now served tables.now }
 {
@@ -171,9 +172,33 @@ pub(crate) fn touched(tables: &Tables, event: &Event, served: Option<Served>) ->
         return Touched::Nothing;
     }
     match served {
-        Some(served) => touched_at(row_place(tables, &served.call)),
+        Some(served) => touched_in(tables, &served.call),
         None => Touched::All,
     }
+}
+
+/// The same of a call that may have stages.
+fn touched_in(tables: &Tables, call: &Call) -> Touched
+    ensures { result ≡ touched_in call.now tables.now }
+{
+    if keeps_values(call) {
+        return Touched::Nothing;
+    }
+    touched_at(row_place(tables, call))
+}
+
+/// Whether a call changes no value: the caller is told of a node, another master is asked to suspend, or a processor
+/// of the caller that is active starts to suspend, or goes on in place of suspending.
+fn keeps_values(call: &Call) -> bool
+    ensures { result ≡ keeps_values (shape_of call.now) }
+{
+    matches!(
+        call,
+        Call::RegisterNotifier { .. }
+            | Call::RequestSuspend { .. }
+            | Call::SelfSuspend { .. }
+            | Call::AbortSuspend { .. }
+    )
 }
 
 fn touched_at(place: Option<usize>) -> Touched

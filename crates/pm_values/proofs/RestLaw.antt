@@ -28,7 +28,7 @@ use Rattle.pm_values.specs.declared.caches.UnitKind.{UnitKind}
 use Rattle.pm_values.specs.declared.caches.UnitKind.TheVariants.{Entry, Reset}
 use Rattle.pm_values.specs.declared.starts.Start.{Start}
 use Rattle.pm_values.specs.Along.{Trail, down_logged}
-use Rattle.pm_values.specs.Caches.{AreKept, Finds, IsStill, freed_by, kind_of_unit, moved_by, noticed_by, starts_by, use_of, used_kept, value_by, valued}
+use Rattle.pm_values.specs.Caches.{AreKept, Finds, freed_by, kind_of_unit, moved_by, noticed_by, starts_by, use_of, used_kept, value_by, valued}
 use Rattle.pm_values.specs.Notifications.{happened, is_used, log_if, notes_about, used}
 use Rattle.pm_values.specs.Starts.{start_by, starts, starts_among, was_down}
 use Rattle.pm_values.proofs.CachesLaw.{moves_are, value_by_is}
@@ -157,21 +157,12 @@ still_used : (core : CoreHalf) (s : ℕ) (slave : Option SlaveDef) → (unwrap_o
 still_used core s None = refl
 still_used core s (Some slave) = nothing_freed (is_used s core.rows)
 
-still_kept : (book : State) (caches : Caches) → AreKept book caches → (kind : UnitKind) → freed_by caches.used.items book.now.core.rows kind ≡ false
-still_kept book caches kept (Entry (Slave s)) =
+pub none_left : (book : State) (caches : Caches) → AreKept book caches → (kind : UnitKind) → freed_by caches.used.items book.now.core.rows kind ≡ false
+none_left book caches kept (Entry (Slave s)) =
     ap (λ us. used_kept us (Slave s) && not (is_used s book.now.core.rows)) kept.used
     ∙ (ap (λ o. unwrap_or o false && not (is_used s book.now.core.rows)) (slice_get-placed (use_of book.now.core) 0 book.fixed.topology.slaves s s (omega arith))
     ∙ still_used book.now.core s (slice_get book.fixed.topology.slaves s))
-still_kept book caches kept (Entry (Proc p)) = refl
-still_kept book caches kept (Entry (Power w)) = refl
-still_kept book caches kept (Entry Unknown) = refl
-still_kept book caches kept (Reset place) = refl
-
--- where a step has no stage, all rests
-pub still_rests : (book : State) (along : Trail) (caches : Caches) → IsStill book along caches → IsAtRest book along caches
-still_rests book along caches still = record {
-  kinds = still.kept.kinds;
-  values = still.kept.values;
-  freed = still_kept book caches still.kept;
-  downs = still.trail.downs;
-}
+none_left book caches kept (Entry (Proc p)) = refl
+none_left book caches kept (Entry (Power w)) = refl
+none_left book caches kept (Entry Unknown) = refl
+none_left book caches kept (Reset place) = refl

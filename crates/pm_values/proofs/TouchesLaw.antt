@@ -1,4 +1,5 @@
--- Where a step changed the rows on one slave alone, and that rests, all that is kept is right, and nothing happened.
+-- Where a step changed no value, or changed the rows on one slave alone and that rests, all that is kept is right, and
+-- nothing happened.
 use Rattle.std.proofs.Common.{◌≡◌, ◌≢◌, ℕ, ◌+◌, ◌==◌, ◌&&◌, Bool, true, false, not, cond, List, [], ◌∷◌, ◌++◌, slice_get, unwrap_or, Option, Some, None, refl, zero, suc, arith, ap, sym, ◌∙◌, subst, inl, inr}
 use Rattle.std.specs.Prelude.{option_map, slice_set}
 use Rattle.std.proofs.lemmas.Bool.{cases_eq, eqb-true}
@@ -7,10 +8,10 @@ use Rattle.pm_base.specs.declared.names.Unit.{Unit}
 use Rattle.pm_base.specs.declared.names.Unit.TheVariants.{Node, Line}
 use Rattle.pm_topology.specs.declared.places.Kind.{Kind}
 use Rattle.pm_topology.specs.declared.places.Kind.TheVariants.{Proc, Slave, Power, Unknown}
+use Rattle.pm_topology.specs.declared.topology.ProcDef.{ProcDef}
 use Rattle.pm_topology.specs.declared.topology.SlaveDef.{SlaveDef}
 use Rattle.pm_topology.specs.Places.{kind_of, line_place}
 use Rattle.pm_topology.specs.Units.{needs_in}
-use Rattle.pm_power.specs.declared.child.Child.{Child}
 use Rattle.pm_power.specs.Forest.{is_up}
 use Rattle.pm_power.specs.Needs.{child}
 use Rattle.pm_procs.specs.Modes.{is_awake}
@@ -18,17 +19,17 @@ use Rattle.pm_procs.specs.Procs.{mode_at}
 use Rattle.pm_state.specs.Choice.{state_for}
 use Rattle.pm_state.specs.State.{CoreHalf, Fixed, State}
 use Rattle.pm_state.specs.Units.{units}
-use Rattle.pm_state.specs.Values.{chosen, forest, line_at, need_of, placed, proc_child, run_of, slave_child, state_at, value, value_at}
+use Rattle.pm_state.specs.Values.{chosen, forest, line_at, need_of, placed, proc_child, run_of, runs, slave_child, state_at, value, value_at}
 use Rattle.pm_state.proofs.PlacedLemmas.{slice_get-placed}
 use Rattle.pm_values.specs.declared.caches.Caches.{Caches}
 use Rattle.pm_values.specs.declared.caches.UnitKind.{UnitKind}
 use Rattle.pm_values.specs.declared.caches.UnitKind.TheVariants.{Entry, Reset}
 use Rattle.pm_values.specs.Along.{Trail}
-use Rattle.pm_values.specs.Caches.{freed_by, use_of, used_kept, valued}
+use Rattle.pm_values.specs.Caches.{AreKept, freed_by, use_of, used_kept, valued}
 use Rattle.pm_values.specs.Notifications.{is_used}
-use Rattle.pm_values.specs.Touches.{IsOfRows, rests, with_core}
+use Rattle.pm_values.specs.Touches.{IsOfRows, IsStill, rests, with_core}
 use Rattle.pm_values.proofs.MovesLemmas.{valued_same}
-use Rattle.pm_values.proofs.RestLaw.{IsAtRest, nothing_freed}
+use Rattle.pm_values.proofs.RestLaw.{IsAtRest, none_left, nothing_freed}
 
 -- ---- lists by place
 
@@ -95,26 +96,35 @@ children_same before after slaves same =
     placed_same (slave_child before) (slave_child after) 0 slaves
     (λ i at x is here. let place : i ≡ at = omega (arith, is) in ap (λ n. child x.node x.parent (needs_in n x)) (same at x (ap (λ n. slice_get slaves n) (sym place) ∙ here)))
 
-forest_same : (fixed : Fixed) (before after : CoreHalf) → SameStates before after fixed.topology.slaves → after.procs ≡ before.procs → forest fixed before ≡ forest fixed after
-forest_same fixed before after same procs =
-    let procs_with : List Child → List Child = λ cs. cs ++ placed (proc_child before) 0 fixed.topology.procs in
-    let running : List _ → List Child = λ ps. placed (λ p proc. child proc.node proc.parent (is_awake (mode_at p ps))) 0 fixed.topology.procs in
-    ap (λ cs. record { powers = fixed.topology.powers; children = procs_with cs }) (children_same before after fixed.topology.slaves same)
-    ∙ ap (λ ps. record { powers = fixed.topology.powers; children = placed (slave_child after) 0 fixed.topology.slaves ++ running ps }) (sym procs)
+-- each processor runs that ran
+abbrev SameRuns : CoreHalf → CoreHalf → Type 0
+SameRuns before after = (p : ℕ) → runs before p ≡ runs after p
+
+same_procs : (before after : CoreHalf) → after.procs ≡ before.procs → SameRuns before after
+same_procs before after procs = λ p. ap (λ ps. is_awake (mode_at p ps)) (sym procs)
+
+running_same : (before after : CoreHalf) (procs : List ProcDef) → SameRuns before after → placed (proc_child before) 0 procs ≡ placed (proc_child after) 0 procs
+running_same before after procs same =
+    placed_same (proc_child before) (proc_child after) 0 procs (λ i at x is here. ap (child x.node x.parent) (same at))
+
+forest_same : (fixed : Fixed) (before after : CoreHalf) → SameStates before after fixed.topology.slaves → SameRuns before after → forest fixed before ≡ forest fixed after
+forest_same fixed before after same running =
+    ap (λ cs. record { powers = fixed.topology.powers; children = cs ++ placed (proc_child before) 0 fixed.topology.procs }) (children_same before after fixed.topology.slaves same)
+    ∙ ap (λ cs. record { powers = fixed.topology.powers; children = placed (slave_child after) 0 fixed.topology.slaves ++ cs }) (running_same before after fixed.topology.procs running)
 
 state_same : (before after : CoreHalf) (slaves : List SlaveDef) (s : ℕ) (slave : Option SlaveDef) → SameStates before after slaves → slice_get slaves s ≡ slave → state_at s slave before ≡ state_at s slave after
 state_same before after slaves s None same is = refl
 state_same before after slaves s (Some slave) same is = same s slave is
 
-kind_same : (fixed : Fixed) (before after : CoreHalf) (kind : Kind) → SameStates before after fixed.topology.slaves → after.procs ≡ before.procs → value_at kind fixed before ≡ value_at kind fixed after
-kind_same fixed before after (Slave s) same procs = state_same before after fixed.topology.slaves s (slice_get fixed.topology.slaves s) same refl
-kind_same fixed before after (Power w) same procs = ap (λ f. cond (is_up f w) 1 0) (forest_same fixed before after same procs)
-kind_same fixed before after (Proc p) same procs = ap (λ ps. cond (is_awake (mode_at p ps)) 1 0) (sym procs)
-kind_same fixed before after Unknown same procs = refl
+kind_same : (fixed : Fixed) (before after : CoreHalf) (kind : Kind) → SameStates before after fixed.topology.slaves → SameRuns before after → value_at kind fixed before ≡ value_at kind fixed after
+kind_same fixed before after (Slave s) same running = state_same before after fixed.topology.slaves s (slice_get fixed.topology.slaves s) same refl
+kind_same fixed before after (Power w) same running = ap (λ f. cond (is_up f w) 1 0) (forest_same fixed before after same running)
+kind_same fixed before after (Proc p) same running = ap (λ b. cond b 1 0) (running p)
+kind_same fixed before after Unknown same running = refl
 
-value_same : (book : State) (before : CoreHalf) (unit : Unit) → SameStates before book.now.core book.fixed.topology.slaves → book.now.core.procs ≡ before.procs → book.now.core.lines ≡ before.lines → value unit (with_core before book) ≡ value unit book
-value_same book before (Node node) same procs lines = kind_same book.fixed before book.now.core (kind_of book.fixed.topology node) same procs
-value_same book before (Line line) same procs lines = ap (line_at (line_place book.fixed.topology.lines line.0)) (sym lines)
+value_same : (book : State) (before : CoreHalf) (unit : Unit) → SameStates before book.now.core book.fixed.topology.slaves → SameRuns before book.now.core → book.now.core.lines ≡ before.lines → value unit (with_core before book) ≡ value unit book
+value_same book before (Node node) same running lines = kind_same book.fixed before book.now.core (kind_of book.fixed.topology node) same running
+value_same book before (Line line) same running lines = ap (line_at (line_place book.fixed.topology.lines line.0)) (sym lines)
 
 -- ---- who uses the slaves
 
@@ -172,13 +182,13 @@ uses_kept s book along caches of =
 
 pub power_kept : (s : ℕ) (book : State) (along : Trail) (caches : Caches) → IsOfRows s book along caches → rests s book caches ≡ true → caches.power ≡ forest book.fixed book.now.core
 power_kept s book along caches of still =
-    of.kept.power ∙ forest_same book.fixed of.before book.now.core (states_same s book along caches of still) of.changes.procs
+    of.kept.power ∙ forest_same book.fixed of.before book.now.core (states_same s book along caches of still) (same_procs of.before book.now.core of.changes.procs)
 
 pub values_kept : (s : ℕ) (book : State) (along : Trail) (caches : Caches) → IsOfRows s book along caches → rests s book caches ≡ true → caches.values ≡ valued book
 values_kept s book along caches of still =
     of.kept.values
     ∙ valued_same (λ u. value u (with_core of.before book)) (λ u. value u book)
-    (λ u. value_same book of.before u (states_same s book along caches of still) of.changes.procs of.changes.lines) (units book)
+    (λ u. value_same book of.before u (states_same s book along caches of still) (same_procs of.before book.now.core of.changes.procs) of.changes.lines) (units book)
 
 pub all_rest : (s : ℕ) (book : State) (along : Trail) (caches : Caches) → IsOfRows s book along caches → rests s book caches ≡ true → IsAtRest book along caches
 all_rest s book along caches of still = record {
@@ -187,3 +197,32 @@ all_rest s book along caches of still = record {
   freed = none_freed s book along caches of still;
   downs = of.downs;
 }
+
+-- ---- no value changed
+
+pub still_kept : (book : State) (along : Trail) (caches : Caches) → IsStill book along caches → AreKept book caches
+still_kept book along caches still =
+    let before : CoreHalf = still.before in
+    let after : CoreHalf = book.now.core in
+    let slaves : List SlaveDef = book.fixed.topology.slaves in
+    let same : SameStates before after slaves =
+    λ s slave there. ap (λ wanted. state_for wanted slave.states) (sym (still.changes.wanted s))
+    in
+    let running : SameRuns before after = λ p. sym (still.changes.runs p) in
+    record {
+      kinds = still.kept.kinds;
+      states = still.kept.states ∙ chosen_same before after slaves same;
+      needs = still.kept.needs ∙ needs_same before after slaves same;
+      runs = still.kept.runs
+          ∙ placed_same (run_of before) (run_of after) 0 book.fixed.topology.procs (λ i at x is here. running at);
+      used = still.kept.used ∙ placed_same (use_of before) (use_of after) 0 slaves (λ i at x is here. sym (still.changes.used at));
+      power = still.kept.power ∙ forest_same book.fixed before after same running;
+      values = still.kept.values
+          ∙ valued_same (λ u. value u (with_core before book)) (λ u. value u book)
+          (λ u. value_same book before u same running still.changes.lines) (units book);
+    }
+
+pub still_rests : (book : State) (along : Trail) (caches : Caches) → IsStill book along caches → IsAtRest book along caches
+still_rests book along caches still =
+    let kept : AreKept book caches = still_kept book along caches still in
+    record { kinds = kept.kinds; values = kept.values; freed = none_left book caches kept; downs = still.downs }

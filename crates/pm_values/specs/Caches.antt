@@ -23,7 +23,7 @@ use Rattle.pm_values.specs.declared.starts.Start.{Start}
 use Rattle.pm_notify.specs.declared.notes.Waiting.{Waiting}
 use Rattle.pm_rows.specs.Rows.{Rows}
 use Rattle.pm_values.specs.Notifications.{is_used, notes_about, notice_count, used_at}
-use Rattle.pm_values.specs.Along.{IsTrail, Trail, down_logged}
+use Rattle.pm_values.specs.Along.{down_logged}
 use Rattle.pm_state.specs.State.{Fixed, CoreHalf, State}
 use Rattle.pm_state.specs.Units.{units}
 use Rattle.pm_state.specs.Values.{placed, chosen, need_of, run_of, forest, line_at, value, value_at}
@@ -195,8 +195,3 @@ pub record Finds (book : State) (downs : List Bool) (caches : Caches) (moved_bef
         caches.kinds.items caches.values;
   }
   pub few : length notices_after.items ≤ notice_count (length caches.values)
-
--- the step to this book had no stage: the caches are its own already, and nothing else is logged along the step
-pub record IsStill (book : State) (along : Trail) (caches : Caches) : Type 0 where
-  pub kept : AreKept book caches
-  pub trail : IsTrail book [] along

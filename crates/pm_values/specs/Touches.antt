@@ -6,19 +6,36 @@ use Rattle.pm_topology.specs.declared.places.Kind.TheVariants.{Slave}
 use Rattle.pm_topology.specs.UnitMap.{with_value}
 use Rattle.pm_rows.specs.Wanted.{wanted_of}
 use Rattle.pm_state.specs.State.{CoreHalf, State}
-use Rattle.pm_state.specs.Values.{state_at, value}
+use Rattle.pm_state.specs.Values.{runs, state_at, value}
 use Rattle.pm_values.specs.declared.caches.Caches.{Caches}
 use Rattle.pm_values.specs.declared.caches.UnitKind.TheVariants.{Entry}
 use Rattle.pm_values.specs.declared.touches.Touched.{Touched}
 use Rattle.pm_values.specs.declared.touches.Touched.TheVariants.{Nothing, Rows, All}
 use Rattle.pm_values.specs.Along.{Trail, down_logged}
-use Rattle.pm_values.specs.Caches.{AreKept, IsStill, freed_by}
+use Rattle.pm_values.specs.Caches.{AreKept, freed_by}
 use Rattle.pm_values.specs.Notifications.{is_used}
 use Rattle.pm_values.specs.Starts.{was_down}
 
 -- the book with this core half
 abbrev pub with_core : CoreHalf → State → State
 with_core core book = record book { now = record book.now { core = core } }
+
+-- a step from this core half to that one changed no value: the reset lines are as before, and so is whether each
+-- processor runs, what is wanted of each slave, and whether some master uses it
+pub record KeepsValues (before after : CoreHalf) : Type 0 where
+  pub runs : (p : ℕ) → runs after p ≡ runs before p
+  pub lines : after.lines ≡ before.lines
+  pub wanted : (s : ℕ) → wanted_of s after.rows ≡ wanted_of s before.rows
+  pub used : (s : ℕ) → is_used s after.rows ≡ is_used s before.rows
+
+-- what is kept is that of a book before, from which a step to this one changed no value; and along the step the
+-- processors were down that are down now
+pub record IsStill (book : State) (along : Trail) (caches : Caches) : Type 0 where
+  pub before : CoreHalf
+  pub kept : AreKept (with_core before book) caches
+  pub changes : KeepsValues before book.now.core
+  pub downs : (p : ℕ) → p < length book.fixed.topology.procs
+      → down_logged p along.downs ≡ was_down (book ∷ []) p
 
 -- a step from this core half to that one changed the rows on the slave at place s alone: the processors and the reset
 -- lines are as before, and so is what is wanted of each other slave, and whether some master uses it

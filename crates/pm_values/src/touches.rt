@@ -1,6 +1,7 @@
 //! What a step may have changed of what values are found by.
 
-/// What a step may have changed of what values are found by: nothing, the rows on the slave at a place, or anything.
+/// What a step may have changed of what values are found by: nothing that changes a value, the rows on the slave at
+/// a place, or anything.
 #[derive(Clone, Copy, Debug, PartialEq, Eq)]
 pub enum Touched {
     Nothing,
