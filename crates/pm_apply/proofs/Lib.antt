@@ -10,6 +10,7 @@ pub mod OrdersPowerOff
 pub mod OrdersPowerOn
 pub mod OrdersApply
 pub mod OrdersUnits
+pub mod PlacesLemmas
 pub mod PlanLeads
 pub mod PlanLemmas
 pub mod PulseLemmas
@@ -21,7 +22,9 @@ pub mod TurnsLemmas
 pub mod UsedLemmas
 pub mod VisitsLemmas
 pub mod AlikeLemmas
+pub mod GapLemmas
 pub mod IdleLemmas
+pub mod ListedLemmas
 pub mod MarkingLemmas
 pub mod MovedLemmas
 pub mod FailingLemmas

@@ -3,7 +3,7 @@ use Rattle.std.proofs.Common.{◌≡◌, ℕ, ◌-◌, ◌<◌, ◌≤◌, lengt
 use Rattle.std.specs.Prelude.{⊤, IfSome, is_some, unwrap_or, reverse}
 use Rattle.std.specs.List.{list_all}
 use Rattle.std.specs.Option.{option_map, option_map_or}
-use Rattle.std.proofs.lemmas.Bool.{and_from, both_ways, cases_Bool, or_left, or_right}
+use Rattle.std.proofs.lemmas.Bool.{and_from, both_ways, cases_Bool, cases_lt, or_left, or_right}
 use Rattle.std.proofs.lemmas.Bool.Decides.{nat_tests}
 use Rattle.std.proofs.lemmas.List.Folds.{list_all-append}
 use Rattle.std.proofs.lemmas.Option.{slice_get-map, slice_get_cases}
@@ -23,13 +23,12 @@ use Rattle.pm_apply.specs.declared.turns.Turn.{Turn}
 use Rattle.pm_apply.specs.declared.turns.Turn.TheVariants.{PowerOn, Pulse, Apply, PowerOff}
 use Rattle.pm_apply.specs.Record.{Kept, idle, keep, kept_of, kept_value, lags_in, mark, marked}
 use Rattle.pm_apply.specs.Plan.{Carried, after_answer, answers_of, power_places, unit_turns, due, later_answers, next_answer, plan, pulse_turn, take_turn, with_pulse}
-use Rattle.pm_apply.specs.Visits.{IsIdle, IsIdleAt, power_lags, IsReady, LagsNotAt, NoneLags, StandsAt, StandsElsewhere, pulsed}
+use Rattle.pm_apply.specs.Visits.{IsIdle, IsIdleAt, power_lags, IsReady, LagsNotAt, StandsAt, StandsElsewhere, pulsed}
 use Rattle.pm_apply.specs.Carried.{Takes}
 use Rattle.pm_device.specs.Act.{Act}
 use Rattle.pm_core.specs.declared.outbox.Done.{Done}
 use Rattle.pm_apply.proofs.TurnsLemmas.{turn_between}
 use Rattle.pm_apply.proofs.RecordLemmas.{units_in-after_answer, kept_value-keep}
-use Rattle.pm_apply.proofs.MarksLemmas.{mark_stays}
 use Rattle.pm_apply.proofs.OrdersDue.{raises, pulses, settles, lowers}
 use Rattle.pm_apply.proofs.OrdersUnits.{power_is_listed}
 
@@ -103,7 +102,7 @@ pub where_found : {X : Type 0} (P : X → Type 0) (found : Option X) (x : X) →
 where_found {X = X} P found x here holds = let Q : Option X → Type 0 = λ found. IfSome found P in subst Q (sym here) holds
 
 -- an entry that doesn't lag has the value that its unit has
-stands_of : UnitLaws → (values : Unit → ℕ) (kept : Kept) (k : ℕ) (e : Unit × KeptValue) → rises (units_in kept) ≡ true → StandsElsewhere values kept → slice_get kept k ≡ Some e → StandsAt values e
+pub stands_of : UnitLaws → (values : Unit → ℕ) (kept : Kept) (k : ℕ) (e : Unit × KeptValue) → rises (units_in kept) ≡ true → StandsElsewhere values kept → slice_get kept k ≡ Some e → StandsAt values e
 stands_of laws values kept k e rising stands here =
     λ lags.
     let at = kept_at laws kept k e rising here in
@@ -113,20 +112,12 @@ pub stands_at : UnitLaws → (values : Unit → ℕ) (kept : Kept) (k : ℕ) →
 stands_at laws values kept k rising stands =
     holds_where (λ e. StandsAt values e) (slice_get kept k) (λ e here. stands_of laws values kept k e rising stands here)
 
-each_stays : (values : Unit → ℕ) (kept : Kept) → ((k : ℕ) (e : Unit × KeptValue) → slice_get kept k ≡ Some e → mark values e.0 e.1 ≡ e.1) → kept ≡ marked values kept
+pub each_stays : (values : Unit → ℕ) (kept : Kept) → ((k : ℕ) (e : Unit × KeptValue) → slice_get kept k ≡ Some e → mark values e.0 e.1 ≡ e.1) → kept ≡ marked values kept
 each_stays values [] stays = refl
 each_stays values (e ∷ kept) stays =
     let first : (e.0, mark values e.0 e.1) ≡ e = ap (λ (k : KeptValue). (e.0, k)) (stays 0 e refl) in
     let later = each_stays values kept (λ k e here. stays (suc k) e here) in
     ap (λ (es : Kept). e ∷ es) later ∙ ap (λ (e : Unit × KeptValue). e ∷ marked values kept) (sym first)
-
--- where none lags, and each has its value, the marks are right
-pub marks_stay : UnitLaws → (values : Unit → ℕ) (kept : Kept) → rises (units_in kept) ≡ true → StandsElsewhere values kept → NoneLags kept → kept ≡ marked values kept
-marks_stay laws values kept rising stands none =
-    each_stays values kept
-    (λ k e here.
-    let lags = ap (λ (k : KeptValue). k.lags) (sym (kept_at laws kept k e rising here)) ∙ none e.0 in
-    mark_stays values e lags (stands_of laws values kept k e rising stands here))
 
 -- ---- marks stay
 
@@ -303,4 +294,12 @@ turn_there turns k within =
     elim ((slice_get_cases turns k).1) [
       | inl there ↦ (there.0, there.2)
       | inr past ↦ absurd (omega (arith, past.0))
+    ]
+
+-- what holds up to a place, and from it on
+pub holds_on : (P : ℕ → Type 0) (i j k : ℕ) → ((x : ℕ) → i ≤ x → x < j → P x) → ((x : ℕ) → j ≤ x → x < k → P x) → (x : ℕ) → i ≤ x → x < k → P x
+holds_on P i j k first later x after before =
+    elim (cases_lt x j) [
+      | inl early ↦ first x after early
+      | inr late ↦ later x late before
     ]

@@ -2,6 +2,7 @@ pub mod Carried
 pub mod Failing
 pub mod Order
 pub mod Part
+pub mod Places
 pub mod Plan
 pub mod Record
 pub mod Room

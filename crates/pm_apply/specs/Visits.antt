@@ -1,7 +1,8 @@
 -- What a step visits: the turns of the units that moved, of those that lag and of the line that is pulsed. All of them are
 -- marked first. Each other unit has the book's value in the record, and has no command.
-use Rattle.std.specs.Prelude.{◌≡◌, ℕ, Bool, true, false, Option, Some, None, List, [], ◌∷◌, slice_get}
+use Rattle.std.specs.Prelude.{◌≡◌, ℕ, ◌==◌, Bool, true, false, Option, Some, None, List, [], ◌∷◌, length, slice_get}
 use Rattle.std.specs.Option.{option_map_or}
+use Rattle.pm_base.specs.BoundedList.{Bounded}
 use Rattle.pm_base.specs.declared.names.LineId.{LineId}
 use Rattle.pm_base.specs.declared.names.Unit.{Unit}
 use Rattle.pm_base.specs.declared.names.Unit.TheVariants.{Node, Line}
@@ -12,12 +13,25 @@ use Rattle.pm_topology.specs.Units.{has_in}
 use Rattle.pm_apply.specs.declared.kept.KeptValue.{KeptValue}
 use Rattle.pm_apply.specs.declared.turns.Turn.{Turn}
 use Rattle.pm_apply.specs.declared.turns.Turn.TheVariants.{PowerOn, Pulse, Apply, PowerOff}
+use Rattle.pm_apply.specs.Places.{has_place}
 use Rattle.pm_apply.specs.Plan.{unit_turns}
-use Rattle.pm_apply.specs.Record.{Kept, kept_value, lags_in, marked}
+use Rattle.pm_apply.specs.Record.{Kept, kept_value, lags_in, mark, marked}
 
--- no unit lags
-abbrev pub NoneLags : Kept → Type 0
-NoneLags kept = (unit : Unit) → lags_in kept unit ≡ false
+-- each entry that lags stands at one of these places
+abbrev pub LagsWithin : List ℕ → Kept → Type 0
+LagsWithin places kept = (k : ℕ) (e : Unit × KeptValue) → slice_get kept k ≡ Some e → e.1.lags ≡ true → has_place places k ≡ true
+
+-- the mark of the unit at a place was made by its value; nothing else changed
+pub record Remakes (values : Unit → ℕ) (place : ℕ) (before after : Kept) : Type 0 where
+  pub alike : marked values after ≡ marked values before
+  pub here : (e : Unit × KeptValue) → slice_get after place ≡ Some e → mark values e.0 e.1 ≡ e.1
+  pub others : (k : ℕ) → (place == k) ≡ false → slice_get after k ≡ slice_get before k
+
+-- the places of the units that lag are listed, and both lists have room for the places of all units
+pub record ListsMarks (kept : Kept) (listed spare : Bounded ℕ) : Type 0 where
+  pub lags : LagsWithin listed.items kept
+  pub room : listed.room ≡ length kept
+  pub other : spare.room ≡ length kept
 
 -- the entry at a place, which doesn't lag
 pub record LagsNotAt (place : ℕ) (kept : Kept) : Type 0 where

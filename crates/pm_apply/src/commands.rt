@@ -19,7 +19,7 @@ ghost use Rattle.pm_apply.specs.Visits.{IsReady};
 use crate::failing::told_answer;
 use crate::kept::{Kept, KeptValue};
 use crate::laws::{each_part_is_safe, orders_join};
-use crate::turns::{Turn, due, is_visited, pulse_before, turn_at, turn_count};
+use crate::turns::{Turn, due, next_visited, pulse_before, turn_at, turn_count};
 use pm_core::{Book, Done, Outbox};
 use pm_device::{Device, chain_shows};
 use pm_topology::{kinds_are_exact, unit_maps, units_stand_in_order};
@@ -34,8 +34,8 @@ use pm_topology::{kinds_are_exact, unit_maps, units_stand_in_order};
 ///
 /// The outbox was loaded for the book's topology and holds no command yet, and the record is one of
 /// that topology. Each unit whose value in the record isn't the book's moved in the step, or lags: turns are
-/// taken for units that moved or lag and for the line that is pulsed alone. Where there are none nothing is looked
-/// at; else the mark of each unit is.
+/// taken for units that moved or lag and for the line that is pulsed alone, by the list of their places. Beside them
+/// the mark of each power node is looked at.
 pub fn carry<D: Device>(dev: &mut D, kept: &mut Kept, book: &Book, out: &mut Outbox)
     requires room { HasRoomFor book.now out.old }
     requires fresh { out.old.done.items ≡ [] }
@@ -169,29 +169,21 @@ fn take_unit_turn<D: Device>(
     take_turn(dev, kept, book, out, turn);
 }
 
-/// Takes the turn at a place, if its unit is marked. No other unit has a command.
+/// Takes the turn at a place.
 fn take_turn_at<D: Device>(dev: &mut D, kept: &mut Kept, book: &Book, out: &mut Outbox, k: usize)
     requires within { k < length (unit_turns book.now.fixed.topology) }
     requires room { IfSome (slice_get (unit_turns book.now.fixed.topology) k) (λ turn. length out.old.done.items
         + most_of book.now.fixed.topology (λ u. value u book.now) (with_pulse out.old.pulse turn) ≤ out.old.done.room) }
-    requires units { units_in kept.old ≡ units_of book.now.fixed.topology }
-    requires ready { IsReady (λ u. value u book.now) out.old.pulse kept.old }
     ensures takes { IfSome (slice_get (unit_turns book.now.fixed.topology) k)
         (λ turn. Takes D.Does book.now.fixed.topology (λ u. value u book.now) (with_pulse out.old.pulse turn)
         kept.old kept.new out.old.done.items out.new.done.items dev.old dev.new) }
     ensures rest { KeepsRest out.old out.new }
 {
-    units_stand_in_order();
-    kinds_are_exact();
-    unit_maps::<KeptValue>();
-    if !is_visited(k, book, kept) {
-        return;
-    }
     take_unit_turn(dev, kept, book, out, turn_at(k, book));
 }
 
 /// Takes the turns of a step, one after another.
-/// Where no unit is marked none of them has a command.
+/// The turn of a unit that isn't marked is passed over, since it has no command.
 fn take_turns<D: Device>(dev: &mut D, kept: &mut Kept, book: &Book, out: &mut Outbox)
     requires room { HasRoomFor book.now out.old }
     requires fresh { out.old.done.items ≡ [] }
@@ -209,10 +201,9 @@ fn take_turns<D: Device>(dev: &mut D, kept: &mut Kept, book: &Book, out: &mut Ou
     kinds_are_exact();
     unit_maps::<KeptValue>();
     let turns = turn_count(book);
-    if !kept.any_lags() {
-        return;
-    }
-    for k in 0..turns {
+    let mut k = next_visited(0, book, kept);
+    while k < turns {
         take_turn_at(dev, kept, book, out, k);
+        k = next_visited(k + 1, book, kept);
     }
 }

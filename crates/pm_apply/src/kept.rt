@@ -1,14 +1,17 @@
 //! The record: the value that a device last took for each unit.
 
-ghost use Rattle.std.specs.Prelude.{◌≡◌, [], ◌∷◌, true, false, IfOk, IfSome, slice_get};
-ghost use Rattle.pm_topology.specs.UnitMap.{units_in, with_value_at};
+ghost use Rattle.std.specs.Prelude.{◌≡◌, ℕ, ◌<◌, ◌≤◌, [], ◌∷◌, true, false, IfOk, length, slice_get, Some};
+ghost use Rattle.pm_base.specs.declared.names.Unit.{Unit as Part};
+ghost use Rattle.pm_topology.specs.UnitMap.{units_in};
 ghost use Rattle.pm_topology.specs.Units.{rises, units_of};
 ghost use Rattle.pm_state.specs.Values.{value};
+ghost use Rattle.pm_apply.specs.Places.{has_place};
 ghost use Rattle.pm_apply.specs.Plan.{after_answer};
 ghost use Rattle.pm_apply.specs.Record.{IsAtZero, IsRecordOf, at_zero, idle, keep, kept_of, kept_value, lags_in, mark, marked};
-ghost use Rattle.pm_apply.specs.Visits.{LagsNotAt, Marks, NoneLags, StandsAt, StandsElsewhere, with_mark, pulsed};
+ghost use Rattle.pm_apply.specs.Visits.{LagsNotAt, LagsWithin, Marks, Remakes, StandsElsewhere, with_mark, pulsed};
 
 use crate::laws::at_zero_is_a_record;
+use crate::places::Places;
 use pm_base::{Command, LineId, NoMemory, Unit};
 use pm_core::Book;
 use pm_topology::{
@@ -16,6 +19,7 @@ use pm_topology::{
 };
 use std::alloc::Global;
 use std::marker::Model;
+use std::mem::swap;
 
 /// The value that the device last took for a unit, and whether that differs from the book's.
 #[derive(Clone, Copy, Debug, PartialEq, Eq)]
@@ -28,21 +32,23 @@ pub struct KeptValue {
 #[derive(Drop)]
 pub struct Kept {
     values: UnitMap<KeptValue>,
-    /// Set where a unit may lag.
-    any_lags: bool,
+    /// The places of the units that are marked.
+    marked: Places,
+    /// Room for the places of those that stay so after a step.
+    spare: Places,
 }
 
 impl Model for Kept {
-    ghost use Rattle.std.specs.Prelude.{◌≡◌, false, List};
+    ghost use Rattle.std.specs.Prelude.{List};
     ghost use Rattle.pm_base.specs.declared.names.Unit.{Unit};
     ghost use Rattle.pm_apply.specs.declared.kept.KeptValue.{KeptValue};
-    ghost use Rattle.pm_apply.specs.Visits.{NoneLags};
+    ghost use Rattle.pm_apply.specs.Visits.{ListsMarks};
 
     ghost Value = { List (Unit × KeptValue) };
 
     ghost view = { λ kept. kept.values };
 
-    ghost invariant = { λ kept. kept.any_lags ≡ false → NoneLags kept.values };
+    ghost invariant = { λ kept. ListsMarks kept.values kept.marked kept.spare };
 }
 
 impl Kept {
@@ -58,9 +64,13 @@ impl Kept {
     {
         at_zero_is_a_record();
         let values = UnitMap::load(alloc, t, idle())?;
+        let end = values.len();
+        let marked = Places::load(alloc, end)?;
+        let spare = Places::load(alloc, end)?;
         Ok(Kept {
             values,
-            any_lags: false,
+            marked,
+            spare,
         })
     }
 
@@ -79,11 +89,14 @@ impl Kept {
         kept_of(&self.values, unit).lags
     }
 
-    /// Whether a unit may lag. Where none may, none does.
-    pub(crate) fn any_lags(&self) -> bool
-        ensures { result ≡ false → NoneLags self.now }
+    /// The place of the first unit from this one on that is marked, and the number of units where there is none.
+    pub(crate) fn next_marked(&self, from: usize) -> usize
+        requires { from ≤ length self.now }
+        ensures from { from ≤ result }
+        ensures end { result ≤ length self.now }
+        ensures idle { (k : ℕ) → from ≤ k → k < result → LagsNotAt k self.now }
     {
-        self.any_lags
+        self.marked.next(from)
     }
 
     /// Whether the unit at a place lags, and true past the last one.
@@ -135,8 +148,12 @@ impl Kept {
         units_stand_in_order();
         kinds_are_exact();
         unit_maps::<KeptValue>();
-        self.any_lags = true;
+        unit_map_places::<KeptValue>();
+        let Some(place) = self.values.place(unit) else {
+            return;
+        };
         set_mark(&mut self.values, unit);
+        self.marked.insert(place);
     }
 
     /// Takes down what a device answered to a command.
@@ -146,17 +163,26 @@ impl Kept {
         units_stand_in_order();
         kinds_are_exact();
         unit_maps::<KeptValue>();
-        if ok {
-            keep(&mut self.values, command);
+        if !ok {
+            return;
         }
+        keep(&mut self.values, command);
     }
 
-    /// Marks exactly the units whose value isn't the book's. Each unit that isn't marked has that value.
+    /// Marks exactly the units whose value isn't the book's. Each unit that isn't marked has that value, and isn't
+    /// looked at.
     pub(crate) fn mark(&mut self, book: &Book)
         requires { StandsElsewhere (λ u. value u book.now) self.old }
         ensures { self.new ≡ marked (λ u. value u book.now) self.old }
     {
-        self.any_lags = mark_all(&mut self.values, self.any_lags, book);
+        swap(&mut self.marked, &mut self.spare);
+        self.marked.clear();
+        mark_all(
+            &mut self.values,
+            self.spare.as_slice(),
+            &mut self.marked,
+            book,
+        );
     }
 }
 
@@ -180,7 +206,8 @@ fn kept_of(values: &UnitMap<KeptValue>, unit: Unit) -> KeptValue
 
 /// Keeps the value of a command for its unit. Nothing changes where the unit isn't there.
 fn keep(values: &mut UnitMap<KeptValue>, command: Command)
-    ensures { values.new ≡ keep command.unit command.value values.old }
+    ensures entries { values.new ≡ keep command.unit command.value values.old }
+    ensures rising { rises (units_in values.old) ≡ true }
 {
     let kept = kept_of(values, command.unit);
     values.set(
@@ -201,44 +228,45 @@ fn set_mark(values: &mut UnitMap<KeptValue>, unit: Unit)
     values.set(unit, KeptValue { lags: true, ..kept });
 }
 
-/// Marks exactly the units whose value isn't the book's, and answers whether there is one. Where none is
-/// marked before, none is looked at.
-fn mark_all(values: &mut UnitMap<KeptValue>, any_lags: bool, book: &Book) -> bool
+/// Of the units at these places marks exactly those whose value isn't the book's, and lists their places. Each other
+/// unit isn't marked, and has that value.
+fn mark_all(values: &mut UnitMap<KeptValue>, places: &[usize], listed: &mut Places, book: &Book)
     requires stands { StandsElsewhere (λ u. value u book.now) values.old }
-    requires known { any_lags ≡ false → NoneLags values.old }
+    requires lags { LagsWithin places.now values.old }
+    requires room { listed.old.room ≡ length values.old }
     ensures marked { values.new ≡ marked (λ u. value u book.now) values.old }
-    ensures any { result ≡ false → NoneLags values.new }
+    ensures lags { LagsWithin listed.new.items values.new }
+    ensures room { listed.new.room ≡ listed.old.room }
 {
     unit_map_places::<KeptValue>();
     units_stand_in_order();
-    let places = values.len();
-    if !any_lags {
-        return false;
+    kinds_are_exact();
+    unit_maps::<KeptValue>();
+    let _units = values.len();
+    for place in places {
+        mark_at(values, *place, listed, book);
     }
-    let mut any = false;
-    for place in 0..places {
-        any |= mark_at(values, place, book);
-    }
-    any
 }
 
-/// Marks the unit at a place exactly where its value isn't the book's, and answers whether it lags then.
-/// A unit that isn't marked isn't compared.
-fn mark_at(values: &mut UnitMap<KeptValue>, place: usize, book: &Book) -> bool
-    requires { IfSome (slice_get values.old place) (λ e. StandsAt (λ u. value u book.now) e) }
-    ensures marked { IfSome (slice_get values.old place) (λ e. values.new
-        ≡ with_value_at place (mark (λ u. value u book.now) e.0 e.1) values.old) }
-    ensures lags { IfSome (slice_get values.old place) (λ e. result ≡ (mark (λ u. value u book.now) e.0 e.1).lags) }
+/// Marks the unit at a place exactly where its value isn't the book's, and lists the place then.
+fn mark_at(values: &mut UnitMap<KeptValue>, place: usize, listed: &mut Places, book: &Book)
+    requires { listed.old.room ≡ length values.old }
+    ensures made { Remakes (λ u. value u book.now) place values.old values.new }
+    ensures lags { (e : Part × KeptValue) → slice_get values.new place ≡ Some e → e.1.lags ≡ true
+        → has_place listed.new.items place ≡ true }
+    ensures kept { (k : ℕ) → has_place listed.old.items k ≡ true → has_place listed.new.items k ≡ true }
+    ensures room { listed.new.room ≡ listed.old.room }
 {
+    unit_map_places::<KeptValue>();
     let Some((unit, kept)) = values.entry(place) else {
-        return false;
+        return;
     };
+    let kept = mark(unit, kept, book);
+    values.set_at(place, kept);
     if !kept.lags {
-        return false;
+        return;
     }
-    let marked = mark(unit, kept, book);
-    values.set_at(place, marked);
-    marked.lags
+    listed.insert(place);
 }
 
 fn mark(unit: Unit, kept: KeptValue, book: &Book) -> KeptValue

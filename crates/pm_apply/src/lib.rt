@@ -6,6 +6,7 @@ mod commands;
 mod failing;
 mod kept;
 mod laws;
+mod places;
 mod turns;
 
 pub use commands::{carry, carry_all};

@@ -1,6 +1,6 @@
 //! The turns of a step: each may issue one command.
 
-ghost use Rattle.std.specs.Prelude.{◌≡◌, ◌<◌, ◌==◌, ◌&&◌, ◌||◌, false, not, length, option_to_list, slice_get, Some};
+ghost use Rattle.std.specs.Prelude.{◌≡◌, ℕ, ◌<◌, ◌≤◌, ◌==◌, ◌&&◌, ◌||◌, false, not, length, option_to_list, slice_get, Some};
 ghost use Rattle.pm_base.specs.declared.names.Unit.TheVariants.{Node};
 ghost use Rattle.pm_topology.specs.WellFormed.{IsWellFormed};
 ghost use Rattle.pm_topology.specs.UnitMap.{units_in};
@@ -58,8 +58,55 @@ pub(crate) fn turn_at(k: usize, book: &Book) -> Turn
     }
 }
 
+/// The first place from this one on whose turn is taken. The turns before it are those of units that don't lag, and have
+/// no command. It is past the last turn where none is left.
+pub(crate) fn next_visited(from: usize, book: &Book, kept: &Kept) -> usize
+    requires { units_in kept.now ≡ units_of book.now.fixed.topology }
+    ensures from { from ≤ result }
+    ensures idle { (k : ℕ) → from ≤ k → k < result → IsIdleAt book.now.fixed.topology kept.now k }
+{
+    let powers = book.topology().powers.len();
+    let turns = turn_count(book);
+    let up = next_power(from, powers, book, kept);
+    let unit = next_unit(up, book, kept);
+    next_power(unit, turns, book, kept)
+}
+
+/// The same up to an end. The mark of each turn's unit is looked at.
+fn next_power(from: usize, end: usize, book: &Book, kept: &Kept) -> usize
+    requires within { end ≤ length (unit_turns book.now.fixed.topology) }
+    requires units { units_in kept.now ≡ units_of book.now.fixed.topology }
+    ensures from { from ≤ result }
+    ensures idle { (k : ℕ) → from ≤ k → k < result → IsIdleAt book.now.fixed.topology kept.now k }
+{
+    if from >= end {
+        return from;
+    }
+    for k in from..end {
+        if is_visited(k, book, kept) {
+            return k;
+        }
+    }
+    end
+}
+
+/// The same among the units, by the list of those that are marked.
+fn next_unit(from: usize, book: &Book, kept: &Kept) -> usize
+    requires { units_in kept.now ≡ units_of book.now.fixed.topology }
+    ensures from { from ≤ result }
+    ensures idle { (k : ℕ) → from ≤ k → k < result → IsIdleAt book.now.fixed.topology kept.now k }
+{
+    units_stand_in_order();
+    let powers = book.topology().powers.len();
+    if from < powers || from - powers >= book.units() {
+        return from;
+    }
+    let place = kept.next_marked(from - powers);
+    from + (place - (from - powers))
+}
+
 /// Whether the turn at a place is taken: that of a unit that lags is.
-pub(crate) fn is_visited(k: usize, book: &Book, kept: &Kept) -> bool
+fn is_visited(k: usize, book: &Book, kept: &Kept) -> bool
     requires within { k < length (unit_turns book.now.fixed.topology) }
     requires units { units_in kept.now ≡ units_of book.now.fixed.topology }
     ensures { result ≡ false → IsIdleAt book.now.fixed.topology kept.now k }

@@ -5,19 +5,8 @@ use Rattle.pm_state.specs.Values.{value}
 use Rattle.pm_apply.specs.Carried.{Takes}
 use Rattle.pm_apply.specs.Plan.{unit_turns, with_pulse}
 use Rattle.pm_apply.specs.Room.{most_of}
-use Rattle.pm_apply.proofs.Below.{ChipLaws}
-use Rattle.pm_apply.proofs.IdleLemmas.{idle_takes}
 use Rattle.pm_apply.proofs.VisitsLemmas.{where_found}
 use Rattle.pm_apply.proofs.commands.take_turn_at.Goals as goal
-
-pub returns-then-not-is_visited-clause-takes : goal.returns-then-not-is_visited-clause-takes
-returns-then-not-is_visited-clause-takes g c =
-    let t = c.args.book.now.fixed.topology in
-    let laws : ChipLaws = record { units = c.units_stand_in_order.ensures; kinds = c.kinds_are_exact.ensures; table = c.unit_maps.ensures } in
-    let rests = c.is_visited.ensures c.if-not-is_visited.true in
-    where_found (λ turn. Takes g.D.Device.Does t (λ u. value u c.args.book.now) (with_pulse c.args.out.now.pulse turn) c.args.kept.now c.args.kept.now c.args.out.now.done.items c.args.out.now.done.items c.args.dev.now c.args.dev.now)
-    (slice_get (unit_turns t) c.args.k) rests.turn rests.here
-    (idle_takes t (λ u. value u c.args.book.now) c.args.kept.now laws c.args.out.now.pulse c.requires.ready g.D.Device.Does c.args.out.now.done.items c.args.dev.now rests.turn rests.idle)
 
 pub take_unit_turn-requires : goal.take_unit_turn-requires
 take_unit_turn-requires g c = record {

@@ -1,4 +1,4 @@
-use Rattle.std.proofs.Common.{take}
+use Rattle.std.proofs.Common.{◌-◌, length, take}
 use Rattle.std.specs.Prelude.{flat_map}
 use Rattle.pm_topology.specs.Units.{units_of}
 use Rattle.pm_state.specs.Values.{value}
@@ -13,3 +13,6 @@ invariant-loop-k g l = record {
   opened : IsOpen (λ u. value u l.book) l.fn.out.pulse (units_of l.book.fixed.topology) l.kept;
   rest : KeepsRest l.fn.out l.out;
 }
+
+abbrev pub decreases-loop-k : goal.decreases-loop-k
+decreases-loop-k g l = length (unit_turns l.book.fixed.topology) - l.k

@@ -1,13 +1,11 @@
-use Rattle.std.proofs.Common.{◌≡◌, ◌++◌, take, drop}
-use Rattle.std.specs.List.{list_any}
-use Rattle.pm_topology.specs.UnitMap.{mapped}
+use Rattle.std.proofs.Common.{◌≡◌, drop}
 use Rattle.pm_state.specs.Values.{value}
-use Rattle.pm_apply.specs.Record.{mark}
-use Rattle.pm_apply.proofs.MarksLemmas.{differs}
+use Rattle.pm_apply.proofs.ListedLemmas.{IsRemade}
 use Rattle.pm_apply.proofs.kept.mark_all.Given as goal
 
+-- the units at the places so far are marked by their values, and each other unit is already
 abbrev pub invariant-loop-place : goal.invariant-loop-place
 invariant-loop-place l = record {
-  marked : l.values ≡ mapped (mark (λ u. value u l.book)) (take l.place l.fn.values) ++ drop l.place l.fn.values;
-  any : l.any ≡ list_any (differs (λ u. value u l.book)) (take l.place l.fn.values);
+  made : IsRemade (λ u. value u l.book) l.fn.values l.values l.listed.items (drop l.place-index l.places);
+  room : l.listed.room ≡ l.fn.listed.room;
 }

@@ -1,0 +1,18 @@
+use Rattle.std.proofs.Common.{◌≡◌, ℕ, length, ap, ◌∙◌, arith}
+use Rattle.pm_apply.specs.Visits.{IsIdleAt}
+use Rattle.pm_apply.proofs.TurnsLemmas.{length-unit_turns}
+use Rattle.pm_apply.proofs.VisitsLemmas.{holds_on}
+use Rattle.pm_apply.proofs.turns.next_visited.Goals as goal
+
+pub next_power-up-requires-clause-within : goal.next_power-up-requires-clause-within
+next_power-up-requires-clause-within c =
+    let t = c.args.book.now.fixed.topology in
+    let powers : c.len-powers.result ≡ length t.powers = c.len-powers.ensures ∙ ap (λ t. length t.powers) c.topology.ensures.topology in
+    omega (arith, powers, length-unit_turns t)
+
+pub returns-clause-idle : goal.returns-clause-idle
+returns-clause-idle c =
+    let P : ℕ → Type 0 = λ k. IsIdleAt c.args.book.now.fixed.topology c.args.kept.now k in
+    holds_on P c.args.from c.next_unit-unit.result c.next_power.result
+    (holds_on P c.args.from c.next_power-up.result c.next_unit-unit.result c.next_power-up.ensures.idle c.next_unit-unit.ensures.idle)
+    c.next_power.ensures.idle

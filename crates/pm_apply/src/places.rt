@@ -1,0 +1,94 @@
+//! A list of places in rising order.
+
+ghost use Rattle.std.specs.Prelude.{◌≡◌, ℕ, ◌<◌, ◌≤◌, ◌==◌, ◌||◌, [], false, IfOk, MatchResult, slice_get, Some};
+ghost use Rattle.pm_apply.specs.Places.{StandsBefore, has_place};
+
+use pm_base::NoMemory;
+use std::alloc::Global;
+use std::marker::Model;
+
+/// Places below an end in rising order, each once, with room for all of them. Contracts see the list of them, and the
+/// end as its room.
+#[derive(Drop)]
+pub(crate) struct Places {
+    items: Vec<usize>,
+    end: usize,
+}
+
+impl Model for Places {
+    ghost use Rattle.std.specs.Prelude.{ℕ, ◌≤◌, vec_capacity};
+    ghost use Rattle.pm_base.specs.BoundedList.{Bounded};
+    ghost use Rattle.pm_apply.specs.Places.{RiseWithin};
+
+    ghost Value = { Bounded ℕ };
+
+    ghost view = { λ places. record { items = places.items.items; room = places.end } };
+
+    ghost invariant = { λ places. record {
+      room : places.end ≤ vec_capacity places.items;
+      rise : RiseWithin 0 places.end places.items.items;
+    } };
+}
+
+impl Places {
+    /// No places yet, with room for all below an end.
+    pub(crate) fn load(alloc: Global, end: usize) -> Result<Places, NoMemory>
+        ensures { IfOk result (λ places. places ≡ record { items = []; room = end }) }
+    {
+        let items = Vec::with_capacity(alloc, end).map_err(|_| NoMemory)?;
+        Ok(Places { items, end })
+    }
+
+    /// The `i`-th place, counted from 0.
+    fn get(&self, i: usize) -> Option<usize>
+        ensures { result ≡ slice_get self.now.items i }
+    {
+        self.items.as_slice().get(i).copied()
+    }
+
+    /// The places in order.
+    pub(crate) fn as_slice(&self) -> &[usize]
+        ensures { result.now ≡ self.now.items }
+    {
+        self.items.as_slice()
+    }
+
+    /// The first place from this one on, and the end where there is none.
+    pub(crate) fn next(&self, from: usize) -> usize
+        requires { from ≤ self.now.room }
+        ensures from { from ≤ result }
+        ensures end { result ≤ self.now.room }
+        ensures none { (k : ℕ) → from ≤ k → k < result → has_place self.now.items k ≡ false }
+    {
+        match self.find(from) {
+            Ok(_) => from,
+            Err(i) => self.get(i).unwrap_or(self.end),
+        }
+    }
+
+    /// Takes all places out.
+    pub(crate) fn clear(&mut self)
+        ensures { self.new ≡ record self.old { items = [] } }
+    {
+        self.items.clear();
+    }
+
+    /// Puts a place in, where it isn't there yet.
+    pub(crate) fn insert(&mut self, place: usize)
+        requires within { place < self.old.room }
+        ensures room { self.new.room ≡ self.old.room }
+        ensures has { (k : ℕ) → has_place self.new.items k ≡ ((place == k) || has_place self.old.items k) }
+    {
+        if let Err(i) = self.find(place) {
+            self.items.insert(i, place).unwrap();
+        }
+    }
+
+    /// Where a place is, or else where it would go in.
+    fn find(&self, place: usize) -> Result<usize, usize>
+        ensures { MatchResult result (λ i. slice_get self.now.items i ≡ Some place)
+            (λ i. StandsBefore self.now.items place i) }
+    {
+        self.items.as_slice().binary_search(&place)
+    }
+}
