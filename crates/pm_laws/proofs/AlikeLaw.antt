@@ -1,5 +1,5 @@
 -- What is the same of two lines whose core steps are beside one another: list by list, over the core steps of each.
-use Rattle.std.proofs.Common.{◌≡◌, ◌==◌, Bool, true, false, not, ◌&&◌, if◌then◌else◌, List, [], ◌∷◌, ◌++◌, flat_map, refl, ap, sym, ◌∙◌, subst}
+use Rattle.std.proofs.Common.{◌≡◌, ◌==◌, Bool, true, false, not, ◌&&◌, if◌then◌else◌, List, [], ◌∷◌, ◌++◌, flat_map, length, refl, ap, sym, ◌∙◌, subst}
 use Rattle.pm_laws.proofs.Common.{Agree, Border, Both, Event, Fixed, Ipi, IsObject, IsWellFormed, NodeId, Pass, State, border_of, none_within, place_of}
 use Rattle.pm_base.proofs.Booleans.{equal, pair_of, both as both_pass}
 use Rattle.pm_ipi.specs.Calls.{call_of}
@@ -10,8 +10,9 @@ use Rattle.pm_laws.specs.Beside.{AreBeside, IsOwn, no_core, both_cores, left_cor
 use Rattle.pm_laws.specs.Quiet.{quiet, quiet_event}
 use Rattle.pm_laws.specs.Told.{SameTold, TellsNothing, answers_in, asked_in, callbacks_in, drops_in, ends_in, is_beyond_all, is_others, late_in, listed, moves_in, pulse_in, starts_in}
 use Rattle.pm_laws.specs.Values.{IsModeAlike, IsValueAlike}
-use Rattle.pm_laws.specs.Worlds.{AreWorldsAlike, AreWorldsBeside, IsLineAlike, IsLineBeside}
+use Rattle.pm_laws.specs.Worlds.{AreQuietBoxes, AreWorldsAlike, AreWorldsBeside, IsLineAlike, IsLineBeside}
 use Rattle.pm_laws.proofs.BesideLaw.{CoreLaws, line_beside, lines_beside}
+use Rattle.pm_laws.proofs.BoxesLaw.{load_boxes}
 
 -- what is known of two books that agree, and of the books of a run
 pub record BookLaws : Type 0 where
@@ -131,31 +132,36 @@ module _ (c : Setup) (m : NodeId) where
         callbacks = told (callbacks_in c.object border) (λ x y is. is.callbacks) (λ x is. is.callbacks) a b x.cores y.cores beside.cores;
         drops = drops_flat a b x.cores y.cores beside.cores;
         answers = answers_flat a b x.cores y.cores beside.cores;
+        boxes = beside.boxes;
+        busy = beside.busy;
       }
 
   module _ (laws : CoreLaws) (books : BookLaws) (object : IsObject c.object) (chip : IsWellFormed c.topology) where
     lines_alike : (events : List Event) (a b : Stand) → IsBookOf c a.book → IsBookOf c b.book → Agree border a.book b.book
+        → AreQuietBoxes c m a.boxes b.boxes
         → Both (IsLineAlike c m) (lines_of c events a) (lines_of c (quiet m events) b)
-    lines_alike [] a b first second agree = tt
-    lines_alike (event ∷ events) a b first second agree =
+    lines_alike [] a b first second agree boxes = tt
+    lines_alike (event ∷ events) a b first second agree boxes =
         let x : Line = line_of c event a in
         let y : Line = line_of c (quiet_event m event) b in
-        let beside : IsLineBeside c m a.book b.book x y = line_beside laws c m object chip event a b first second agree in
+        let beside : IsLineBeside c m a.book b.book x y = line_beside laws c m object chip event a b first second agree boxes in
         let next : IsBookOf c x.after.book = laws.line c event a chip first in (
           line_alike books object chip a.book b.book x y next beside,
-          lines_alike events x.after y.after next (laws.line c (quiet_event m event) b chip second) beside.agree,
+          lines_alike events x.after y.after next (laws.line c (quiet_event m event) b chip second) beside.agree beside.boxes,
         )
 
     pub worlds_beside : (events : List Event) → AreWorldsBeside c m events
     worlds_beside events =
         let at_load = books.load c chip in
         let agree = books.agrees c m object chip in
-        record { load = agree; lines = lines_beside laws c m object chip events (loaded c) (loaded c) at_load at_load agree }
+        let boxes : AreQuietBoxes c m (loaded c).boxes (loaded c).boxes = load_boxes c.object m (length c.object.masters) in
+        record { load = agree; boxes = boxes; lines = lines_beside laws c m object chip events (loaded c) (loaded c) at_load at_load agree boxes }
 
     pub worlds_alike : (events : List Event) → AreWorldsAlike c m events
     worlds_alike events =
         let at_load = books.load c chip in
-        let agree = books.agrees c m object chip in (
+        let agree = books.agrees c m object chip in
+        let boxes : AreQuietBoxes c m (loaded c).boxes (loaded c).boxes = load_boxes c.object m (length c.object.masters) in (
           record {
             books = agree;
             values = λ unit beyond. refl;
@@ -169,6 +175,8 @@ module _ (c : Setup) (m : NodeId) where
             callbacks = refl;
             drops = refl;
             answers = refl;
+            boxes = boxes;
+            busy = refl;
           },
-          lines_alike events (loaded c) (loaded c) at_load at_load agree,
+          lines_alike events (loaded c) (loaded c) at_load at_load agree boxes,
         )

@@ -1,13 +1,15 @@
 -- Core events that are beside one another have core steps that are: from books that agree beyond the reach of a master on. So it
 -- is line by line of a run and of the run without the messages of the master.
-use Rattle.std.proofs.Common.{List, [], ◌∷◌, refl, subst}
+use Rattle.std.proofs.Common.{List, [], ◌∷◌, refl, subst, sym}
 use Rattle.pm_laws.proofs.Common.{Agree, Border, Event, Fixed, IsObject, IsSound, IsWellFormed, NodeId, Pass, State, border_of, effect}
+use Rattle.pm_split.specs.Boxes.{Boxes}
+use Rattle.pm_split.specs.Split.{split_of}
 use Rattle.pm_run.specs.Run.{IsBookOf, Setup, Stand, book_after, core_of, cores_of, line_of, lines_of, split}
 use Rattle.pm_laws.specs.Beside.{AreBeside, Beside, IsOwn, none, both, left, rest, no_core, both_cores, left_core, rest_core}
 use Rattle.pm_laws.specs.Quiet.{quiet, quiet_event}
 use Rattle.pm_laws.specs.Told.{SameTold, TellsNothing}
-use Rattle.pm_laws.specs.Worlds.{AreLinesBeside, IsLineBeside}
-use Rattle.pm_laws.proofs.StepApart.{by_quiet}
+use Rattle.pm_laws.specs.Worlds.{AreLinesBeside, AreQuietBoxes, IsLineBeside}
+use Rattle.pm_laws.proofs.BoxesLaw.{IsSplitBeside, split_beside}
 
 -- the border of the master's reach
 abbrev around : Fixed → NodeId → Border
@@ -30,11 +32,12 @@ pub record CoreLaws : Type 0 where
   pub keeps : (c : Setup) (event : Event) (book : State) → IsWellFormed c.topology → IsBookOf c book → IsBookOf c (effect event book)
   pub line : (c : Setup) (event : Event) (stand : Stand) → IsWellFormed c.topology → IsBookOf c stand.book → IsBookOf c (line_of c event stand).after.book
 
--- the core events of a line, and of the same line without a message of the master
-pub splits_beside : (c : Setup) (m : NodeId) (event : Event) (a b : Stand) → Beside m (split c event a).events (split c (quiet_event m event) b).events
-splits_beside c m event a b =
-    by_quiet m (λ one other. Beside m (one ∷ []) (other ∷ []))
-    (λ one. both one [] [] none) (λ message. left _ [] (Pass ∷ []) refl (rest [] [] none)) event
+-- the core events of a line, and of the same line without a message of the master, by the boxes of the two worlds
+pub splits_beside : (c : Setup) (m : NodeId) (event : Event) (a b : Stand) → AreQuietBoxes c m a.boxes b.boxes
+    → IsSplitBeside c.object m (split c event a) (split c (quiet_event m event) b)
+splits_beside c m event a b quiet_boxes =
+    let P : Boxes → Type 0 = λ boxes. IsSplitBeside c.object m (split_of c.object event a.boxes) (split_of c.object (quiet_event m event) boxes) in
+    subst P (sym quiet_boxes) (split_beside c.object m a.boxes event)
 
 module _ (laws : CoreLaws) (c : Setup) (m : NodeId) (object : IsObject c.object) (chip : IsWellFormed c.topology) where
   abbrev border : Border
@@ -101,22 +104,26 @@ module _ (laws : CoreLaws) (c : Setup) (m : NodeId) (object : IsObject c.object)
   -- ---- lines
 
   pub line_beside : (event : Event) (a b : Stand) → IsBookOf c a.book → IsBookOf c b.book → Agree border a.book b.book
+      → AreQuietBoxes c m a.boxes b.boxes
       → IsLineBeside c m a.book b.book (line_of c event a) (line_of c (quiet_event m event) b)
-  line_beside event a b first second agree =
+  line_beside event a b first second agree boxes =
       let es : List Event = (split c event a).events in
       let fs : List Event = (split c (quiet_event m event) b).events in
-      let beside : Beside m es fs = splits_beside c m event a b in
+      let beside : IsSplitBeside c.object m (split c event a) (split c (quiet_event m event) b) = splits_beside c m event a b boxes in
       record {
-        cores = cores_beside es fs a.book b.book beside first second agree;
-        agree = agree_after es fs a.book b.book beside first second agree;
+        cores = cores_beside es fs a.book b.book beside.events first second agree;
+        agree = agree_after es fs a.book b.book beside.events first second agree;
+        boxes = beside.boxes;
+        busy = beside.busy;
       }
 
   pub lines_beside : (events : List Event) (a b : Stand) → IsBookOf c a.book → IsBookOf c b.book → Agree border a.book b.book
+      → AreQuietBoxes c m a.boxes b.boxes
       → AreLinesBeside c m a.book b.book (lines_of c events a) (lines_of c (quiet m events) b)
-  lines_beside [] a b first second agree = tt
-  lines_beside (event ∷ events) a b first second agree =
-      let now : IsLineBeside c m a.book b.book (line_of c event a) (line_of c (quiet_event m event) b) = line_beside event a b first second agree in (
+  lines_beside [] a b first second agree boxes = tt
+  lines_beside (event ∷ events) a b first second agree boxes =
+      let now : IsLineBeside c m a.book b.book (line_of c event a) (line_of c (quiet_event m event) b) = line_beside event a b first second agree boxes in (
         now,
         lines_beside events (line_of c event a).after (line_of c (quiet_event m event) b).after
-            (laws.line c event a chip first) (laws.line c (quiet_event m event) b chip second) now.agree,
+            (laws.line c event a chip first) (laws.line c (quiet_event m event) b chip second) now.agree now.boxes,
       )

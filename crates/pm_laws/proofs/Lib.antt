@@ -3,6 +3,7 @@ pub mod AgreeLaw
 pub mod AlikeLaw
 pub mod AnswersLaw
 pub mod BesideLaw
+pub mod BoxesLaw
 pub mod CallbacksLaw
 pub mod CallsAlike
 pub mod CallsHidden

@@ -3,6 +3,7 @@ use Rattle.std.proofs.Common.{◌≡◌, ℕ, ◌==◌, Bool, true, false, not, 
 use Rattle.std.specs.List.{list_any}
 use Rattle.std.proofs.lemmas.Bool.{eqb-true}
 use Rattle.pm_laws.proofs.Common.{Agree, BelowLaws, Border, Event, Fixed, Ipi, IsClosed, IsObject, IsSound, IsWellFormed, MasterRec, NodeId, Object, Pass, State, Topology, border_of, effect, is_hidden, is_within, master_place, none_within, place_of}
+use Rattle.pm_base.specs.declared.events.Event.TheVariants.{Post}
 use Rattle.pm_base.specs.declared.events.Message.{Message}
 use Rattle.pm_base.proofs.Booleans.{both}
 use Rattle.pm_reach.proofs.MembershipLaw.{is_there}
@@ -22,8 +23,9 @@ pub record ReachLaws : Type 0 where
 
 -- ---- an event, or nothing
 
--- what holds of each event in both, and of a message of the master in the one and nothing in the other
-module _ (m : NodeId) (R : Event → Event → Type 0) (same : (event : Event) → R event event) (own : (message : Message) → R (Ipi m message) Pass) where
+-- what holds of each event in both, and of a message of the master, sent or put into its box, in the one and nothing in the other
+module _ (m : NodeId) (R : Event → Event → Type 0) (same : (event : Event) → R event event) (own : (message : Message) → R (Ipi m message) Pass)
+    (put : (message : Message) → R (Post m message) Pass) where
   message_by : (master : NodeId) (message : Message) (mine : Bool) → (master.0 == m.0) ≡ mine
       → R (Ipi master message) (if mine then Pass else Ipi master message)
   message_by master message true is =
@@ -31,8 +33,16 @@ module _ (m : NodeId) (R : Event → Event → Type 0) (same : (event : Event) �
       subst P (sym (eqb-true master.0 m.0 is)) (own message)
   message_by master message false is = same (Ipi master message)
 
+  post_by : (master : NodeId) (message : Message) (mine : Bool) → (master.0 == m.0) ≡ mine
+      → R (Post master message) (if mine then Pass else Post master message)
+  post_by master message true is =
+      let P : ℕ → Type 0 = λ number. R (Post (record { 0 = number }) message) Pass in
+      subst P (sym (eqb-true master.0 m.0 is)) (put message)
+  post_by master message false is = same (Post master message)
+
   pub by_quiet : (event : Event) → R event (quiet_event m event)
   by_quiet (Ipi master message) = message_by master message (master.0 == m.0) refl
+  by_quiet (Post master message) = post_by master message (master.0 == m.0) refl
   by_quiet event = same event
 
 -- a master of the object is within its own reach, so that none of its messages is of a master beyond
@@ -101,6 +111,7 @@ agree_quiet reach laws m event a b object chip sound_a sound_b agree =
     let itself : Agree (border_in a m) a a = agree_self laws.units (border_in a m) a (reach.closed a.fixed.object a.fixed.topology m object chip) sound_a in
     agree_trans (border_in a m) (effect (Ipi m message) a) a (effect Pass b)
     (left_apart reach laws m a a object chip sound_a sound_a itself (Ipi m message) refl).0 still)
+    (λ message. (both_apart reach laws m a b object chip sound_a sound_b agree Pass).0)
     event
 
 pub told_quiet : ReachLaws → BelowLaws → (m : NodeId) (event : Event) (a b : State) → IsObject a.fixed.object → IsWellFormed a.fixed.topology
@@ -126,5 +137,18 @@ told_quiet reach laws m event a b object chip named sound_a sound_b agree =
       callbacks = first.callbacks ∙ sym second.callbacks;
       drop = λ beyond. absurd (own_beyond beyond);
       answer = λ beyond. absurd (own_beyond (both _ _ beyond).0);
+    })
+    (λ message.
+    let first = (both_apart reach laws m a b object chip sound_a sound_b agree Pass).1 in
+    record {
+      moves = first.moves;
+      starts = first.starts;
+      pulse = first.pulse;
+      asked = first.asked;
+      ends = first.ends;
+      late = first.late;
+      callbacks = first.callbacks;
+      drop = first.drop;
+      answer = first.answer;
     })
     event

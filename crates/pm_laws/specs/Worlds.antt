@@ -1,9 +1,13 @@
 -- Two runs side by side, line by line: one of them without the messages of a master. Beyond the reach of the master neither can be
 -- told from the other.
-use Rattle.std.specs.Prelude.{◌≡◌, ⊤, List, [], ◌∷◌, flat_map}
+use Rattle.std.specs.Prelude.{◌≡◌, ◌==◌, ℕ, ⊤, if◌then◌else◌, List, [], ◌∷◌, flat_map, Option, Some, None}
 use Rattle.pm_base.specs.declared.events.Event.{Event}
 use Rattle.pm_base.specs.declared.names.NodeId.{NodeId}
+use Rattle.pm_ipi.specs.Mail.{emptied}
 use Rattle.pm_state.specs.State.{State}
+use Rattle.pm_split.specs.Boxes.{Boxes, box_of}
+use Rattle.pm_split.specs.Split.{Note}
+use Rattle.pm_split.specs.Split.Note.{Busy}
 use Rattle.pm_run.specs.Run.{Core, Line, Setup, loaded, lines_of, run}
 use Rattle.pm_laws.specs.Agree.{Agree}
 use Rattle.pm_laws.specs.Beside.{AreBeside}
@@ -16,10 +20,29 @@ use Rattle.pm_laws.specs.Values.{IsModeAlike, IsValueAlike}
 
 -- ---- the law: how the core steps stand beside one another
 
--- the core steps of two lines are beside one another, from these two books on, and the books after the lines agree beyond
+-- boxes, of which the one at this place is empty
+abbrev pub without_box : Option ℕ → Boxes → Boxes
+without_box None boxes = boxes
+without_box (Some k) boxes = emptied k boxes
+
+-- the boxes of the quiet run are those of the loud one, but that the box of the master is empty
+abbrev pub AreQuietBoxes : Setup → NodeId → Boxes → Boxes → Type 0
+AreQuietBoxes c m loud quiet = quiet ≡ without_box (box_of c.object m) loud
+
+-- the masters but this one that are told that their boxes are full
+abbrev pub busy_of : NodeId → Note → List NodeId
+busy_of m (Busy master) = if master.0 == m.0 then [] else master ∷ []
+
+abbrev pub busy_others : NodeId → List Note → List NodeId
+busy_others m notes = flat_map (busy_of m) notes
+
+-- the core steps of two lines are beside one another, from these two books on, and the books after the lines agree beyond. So do
+-- the boxes, and the same other masters are told that theirs are full
 pub record IsLineBeside (c : Setup) (m : NodeId) (a b : State) (x y : Line) : Type 0 where
   pub cores : AreBeside c m a b x.cores y.cores
   pub agree : Agree (border_of c.object c.topology m) x.after.book y.after.book
+  pub boxes : AreQuietBoxes c m x.after.boxes y.after.boxes
+  pub busy : busy_others m x.notes ≡ busy_others m y.notes
 
 -- two lists of lines are equally long, and line by line so, from these two books on
 abbrev pub AreLinesBeside : Setup → NodeId → State → State → List Line → List Line → Type 0
@@ -29,10 +52,11 @@ AreLinesBeside c m a b (x ∷ xs) [] = ⊥
 AreLinesBeside c m a b (x ∷ xs) (y ∷ ys) =
     IsLineBeside c m a b x y × AreLinesBeside c m x.after.book y.after.book xs ys
 
--- the run of these events, and the run without the messages of the master: the load is the same in both, and its book agrees with
--- itself beyond; and the lines after it are beside one another
+-- the run of these events, and the run without the messages of the master: the load is the same in both, its book agrees with
+-- itself beyond, and its boxes are empty; and the lines after it are beside one another
 pub record AreWorldsBeside (c : Setup) (m : NodeId) (events : List Event) : Type 0 where
   pub load : Agree (border_of c.object c.topology m) (loaded c).book (loaded c).book
+  pub boxes : AreQuietBoxes c m (loaded c).boxes (loaded c).boxes
   pub lines : AreLinesBeside c m (loaded c).book (loaded c).book (lines_of c events (loaded c)) (lines_of c (quiet m events) (loaded c))
 
 -- ---- its consequences: what is the same of two lines
@@ -61,6 +85,9 @@ pub record IsAlikeBeyond (c : Setup) (m : NodeId) (border : Border) (x y : Line)
   -- are answered the same
   pub drops : of_line (drops_in c.object border m) x ≡ of_line (drops_in c.object border m) y
   pub answers : of_line (answers_in c.object c.topology border m) x ≡ of_line (answers_in c.object c.topology border m) y
+  -- each box holds the same but the master's own; and the same other masters are told that their boxes are full
+  pub boxes : AreQuietBoxes c m x.after.boxes y.after.boxes
+  pub busy : busy_others m x.notes ≡ busy_others m y.notes
 
 -- beyond the reach of the master
 abbrev pub IsLineAlike : Setup → NodeId → Line → Line → Type 0

@@ -18,7 +18,7 @@ ghost use Rattle.pm_laws.specs.Quiet.{quiet_event};
 ghost use Rattle.pm_laws.specs.ReachBorder.{border_of};
 ghost use Rattle.pm_laws.specs.Told.{SameTold, TellsNothing};
 ghost use Rattle.pm_laws.specs.Values.{IsModeAlike, IsValueAlike};
-ghost use Rattle.pm_laws.specs.Worlds.{AreWorldsAlike, AreWorldsBeside, IsLineBeside};
+ghost use Rattle.pm_laws.specs.Worlds.{AreQuietBoxes, AreWorldsAlike, AreWorldsBeside, IsLineBeside};
 
 use crate::laws::{books_agree, laws_below, reach_is_closed};
 use pm_run::books_of_a_run;
@@ -56,15 +56,18 @@ pub fn steps_keep_apart()
     reach_is_closed();
 }
 
-/// Nothing that a master sends changes what is beyond its reach. The core events of a script line, and of the same line
+/// Nothing that a master sends or puts into its box changes what is beyond its reach. The boxes of the two worlds are the
+/// same but for its own, which stays empty in the quiet one. So the core events of a script line, and of the same line
 /// without a message of the master, are beside one another, and then so are their core steps, from books that agree beyond
 /// the reach: what is in both tells the same there, and what is in one alone tells nothing. So a run, and the run without the
 /// messages of the master, are beside one another line by line; and line by line the same moves, starts, is pulsed, is asked
 /// of masters beyond, ends, is replied late and is called back, the same messages of others are dropped, and those that name
 /// nothing within are answered the same.
 pub fn reach_keeps_apart()
-    ensures events { (c : Setup) (m : NodeId) (event : Event) (a b : Stand)
+    ensures events { (c : Setup) (m : NodeId) (event : Event) (a b : Stand) → AreQuietBoxes c m a.boxes b.boxes
         → Beside m (split c event a).events (split c (quiet_event m event) b).events }
+    ensures boxes { (c : Setup) (m : NodeId) (event : Event) (a b : Stand) → AreQuietBoxes c m a.boxes b.boxes
+        → AreQuietBoxes c m (split c event a).boxes (split c (quiet_event m event) b).boxes }
     ensures cores { (c : Setup) (m : NodeId) (es fs : List Event) (a b : State) → IsObject c.object
         → IsWellFormed c.topology
         → Beside m es fs → IsBookOf c a → IsBookOf c b → Agree (border_of c.object c.topology m) a b
@@ -75,6 +78,7 @@ pub fn reach_keeps_apart()
         → Agree (border_of c.object c.topology m) (book_after es a) (book_after fs b) }
     ensures line { (c : Setup) (m : NodeId) (event : Event) (a b : Stand) → IsObject c.object → IsWellFormed c.topology
         → IsBookOf c a.book → IsBookOf c b.book → Agree (border_of c.object c.topology m) a.book b.book
+        → AreQuietBoxes c m a.boxes b.boxes
         → IsLineBeside c m a.book b.book (line_of c event a) (line_of c (quiet_event m event) b) }
     ensures beside { (c : Setup) (m : NodeId) (events : List Event) → IsObject c.object → IsWellFormed c.topology
         → AreWorldsBeside c m events }

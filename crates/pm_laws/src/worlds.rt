@@ -20,7 +20,9 @@ pub fn quiet_event(m: NodeId, event: &Event) -> Event
     ensures { result ≡ quiet_event m event.now }
 {
     match event {
-        Event::Ipi { master, .. } => { if master.0 == m.0 { Event::Pass } else { *event } }
+        Event::Ipi { master, .. } | Event::Post { master, .. } => {
+            if master.0 == m.0 { Event::Pass } else { *event }
+        }
         _ => *event,
     }
 }

@@ -1,5 +1,5 @@
 -- Each book of a run is sound and meets its requirements.
-use Rattle.std.proofs.Common.{◌<◌, List, [], ◌∷◌, length, refl, sym, subst, arith}
+use Rattle.std.proofs.Common.{◌<◌, List, [], ◌∷◌, length, refl, sym, subst}
 use Rattle.std.specs.List.{All, AllByRecursion as Each}
 use Rattle.std.proofs.lemmas.List.Elements.{All-from_recursion, All-nil, All-cons, All-append}
 use Rattle.pm_base.specs.declared.events.Event.{Event}
@@ -11,6 +11,7 @@ use Rattle.pm_state.specs.Sound.{IsSound, MeetsRequirements}
 use Rattle.pm_state.specs.State.{State, Fixed}
 use Rattle.pm_core.specs.Step.{effect}
 use Rattle.pm_state.specs.Values.{value}
+use Rattle.pm_split.proofs.SplitLaw.{some_event}
 use Rattle.pm_run.specs.Run.{Setup, Stand, Line, IsBookOf, HasBooksOf, split, cores_of, book_after, line_of, lines_of, loaded, core_0, cores_in, run}
 
 -- what keeps the books of a run: the first is sound, each step keeps it so, and a sound one meets its requirements
@@ -75,4 +76,4 @@ run_cores_keep laws c events well =
 
 -- each event has a core event
 pub a_core : (c : Setup) (event : Event) (stand : Stand) → 0 < length (split c event stand).events
-a_core c event stand = omega arith
+a_core c event stand = some_event c.object event stand.boxes

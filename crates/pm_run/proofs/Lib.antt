@@ -1,1 +1,2 @@
 pub mod BooksLaw
+pub mod ServedLaw

@@ -1,8 +1,9 @@
 -- The run: the book at load, and then one script line for each event. A line is split into core events, and each of these is a
 -- core step, which knows its own event and the books before and after it. No device occurs in it.
-use Rattle.std.specs.Prelude.{◌≡◌, List, [], ◌∷◌, flat_map}
+use Rattle.std.specs.Prelude.{◌≡◌, List, [], ◌∷◌, flat_map, length}
 use Rattle.pm_base.specs.declared.events.Event.{Event}
 use Rattle.pm_base.specs.declared.events.Event.TheVariants.{Pass}
+use Rattle.pm_ipi.specs.Mail.{all_empty}
 use Rattle.pm_object.specs.declared.object.Object.{Object}
 use Rattle.pm_topology.specs.declared.topology.Topology.{Topology}
 use Rattle.pm_state.specs.Load.{load_of}
@@ -11,6 +12,8 @@ use Rattle.pm_state.specs.Sound.{IsSound, MeetsRequirements}
 use Rattle.pm_state.specs.State.{State}
 use Rattle.pm_core.specs.Step.{effect, outputs, outputs_at_load}
 use Rattle.pm_state.specs.Values.{value}
+use Rattle.pm_split.specs.Boxes.{Boxes}
+use Rattle.pm_split.specs.Split.{Note, Split, split_of}
 
 -- what a run begins with
 pub record Setup : Type 0 where
@@ -24,9 +27,13 @@ setup object topology = record { object = object; topology = topology }
 abbrev pub setup_of : State → Setup
 setup_of book = setup book.fixed.object book.fixed.topology
 
--- where a run stands between two script lines
+-- where a run stands between two script lines: the book, and the boxes of the masters
 pub record Stand : Type 0 where
   pub book : State
+  pub boxes : Boxes
+
+abbrev pub stand_at : State → Boxes → Stand
+stand_at book boxes = record { book = book; boxes = boxes }
 
 -- a core step: its event, the books before and after it, and what it puts out
 pub record Core : Type 0 where
@@ -35,9 +42,6 @@ pub record Core : Type 0 where
   pub after : State
   pub outputs : Outputs
 
--- what a script line itself writes, beside what its core steps put out: nothing yet, so there is no kind of it
-pub data Note : Type 0 where
-
 -- a script line: its event, its core steps in order, its own notes, and where the run stands after it
 pub record Line : Type 0 where
   pub event : Event
@@ -45,14 +49,10 @@ pub record Line : Type 0 where
   pub notes : List Note
   pub after : Stand
 
--- what the event of a script line is split into: core events, of which there is always one, and notes
-pub record Split : Type 0 where
-  pub events : List Event
-  pub notes : List Note
-
--- each event is its own core event
+-- what the event of a script line is split into, by the boxes before it: core events, of which there is always one, the boxes
+-- after it, and notes
 abbrev pub split : Setup → Event → Stand → Split
-split c event stand = record { events = event ∷ []; notes = [] }
+split c event stand = split_of c.object event stand.boxes
 
 abbrev pub core_of : Event → State → Core
 core_of event book = record { event = event; before = book; after = effect event book; outputs = outputs event book }
@@ -72,7 +72,7 @@ line_of c event stand = record {
   event = event;
   cores = cores_of (split c event stand).events stand.book;
   notes = (split c event stand).notes;
-  after = record stand { book = book_after (split c event stand).events stand.book };
+  after = record { book = book_after (split c event stand).events stand.book; boxes = (split c event stand).boxes };
 }
 
 -- the lines of these events
@@ -80,9 +80,9 @@ abbrev pub lines_of : Setup → List Event → Stand → List Line
 lines_of c [] stand = []
 lines_of c (event ∷ events) stand = line_of c event stand ∷ lines_of c events (line_of c event stand).after
 
--- the load comes before all events
+-- the load comes before all events, and all boxes are empty then
 abbrev pub loaded : Setup → Stand
-loaded c = record { book = load_of c.object c.topology }
+loaded c = record { book = load_of c.object c.topology; boxes = all_empty (length c.object.masters) }
 
 -- the load as a core step: nothing happens in it but what the load itself puts out
 abbrev pub core_0 : Setup → Core

@@ -6,9 +6,12 @@ ghost use Rattle.pm_base.specs.declared.events.Event.{Event};
 ghost use Rattle.pm_topology.specs.WellFormed.{IsWellFormed};
 ghost use Rattle.pm_state.specs.State.{State};
 ghost use Rattle.pm_core.specs.Step.{effect};
+ghost use Rattle.pm_object.specs.Grammar.{IsObject};
 ghost use Rattle.pm_run.specs.Run.{Setup, Stand, IsBookOf, HasBooksOf, split, core_of, cores_of, book_after, line_of, loaded, cores_in, run};
+ghost use Rattle.pm_run.specs.Served.{EachServes};
 
 use pm_core::{books_stay_sound, values_meet};
+use pm_split::boxes_are_served;
 
 /// Each book of a run over a chip that passes its check has the object and the chip of the run's setup, is sound, and
 /// stands as its requirements ask for: the book at load, each that follows by an event, those along a list of core
@@ -31,4 +34,13 @@ pub fn books_of_a_run()
 {
     books_stay_sound();
     values_meet();
+}
+
+/// In a run over a well-formed object each line that serves sends the messages in all boxes, each once, by rising mask of
+/// their masters, and leaves all boxes empty.
+pub fn boxes_of_a_run()
+    ensures { (c : Setup) (events : List Event) → IsObject c.object
+        → EachServes c (loaded c).boxes (run c events) }
+{
+    boxes_are_served();
 }

@@ -1,10 +1,9 @@
 //! The run of a script: its lines, the core steps of each, and the books along them.
 #![tactic(auto)]
 
-pub mod cores;
 mod laws;
 mod runner;
 
-pub use cores::{CoreEvents, core_events};
-pub use laws::books_of_a_run;
+pub use laws::{books_of_a_run, boxes_of_a_run};
+pub use pm_split::{CoreEvents, Split};
 pub use runner::Runner;

@@ -1,28 +1,37 @@
-//! A book and the outbox of its last step, with no device.
+//! A book, the outbox of its last step and the boxes of its masters, with no device.
 
-ghost use Rattle.std.specs.Prelude.{◌≡◌, IfOk};
+ghost use Rattle.std.specs.Prelude.{◌≡◌, ◌∷◌, [], None, IfOk, MatchOption, length};
+ghost use Rattle.pm_ipi.specs.Mail.{all_empty};
 ghost use Rattle.pm_topology.specs.Masters.{ObeysMasterRules};
 ghost use Rattle.pm_topology.specs.WellFormed.{IsWellFormed};
 ghost use Rattle.pm_state.specs.Load.{load_of};
 ghost use Rattle.pm_core.specs.Outbox.{HasRoomFor, Holds};
 ghost use Rattle.pm_core.specs.Step.{effect, outputs, outputs_at_load};
+ghost use Rattle.pm_split.specs.Left.{boxes_left, events_left};
+ghost use Rattle.pm_split.specs.Split.{noted_busy};
+ghost use Rattle.pm_run.specs.Run.{loaded, setup, setup_of, split, stand_at};
 
 use pm_base::{Event, NoMemory};
 use pm_core::{Book, Outbox};
+use pm_ipi::Mail;
 use pm_object::Object;
+use pm_split::{CoreEvents, Split, split_event};
 use pm_topology::Topology;
 use std::alloc::Global;
 
-/// A book, and the outbox of its last step, which has the room that each step of the book asks for.
+/// A book, the outbox of its last step, which has the room that each step of the book asks for, and a box for each of
+/// its masters.
 #[derive(Drop)]
 pub struct Runner {
     pub book: Book,
     pub outbox: Outbox,
+    pub boxes: Mail,
     ghost room: { HasRoomFor book outbox },
+    ghost places: { length boxes ≡ length book.fixed.object.masters },
 }
 
 impl Runner {
-    /// The book of an object at load, and what the load puts out.
+    /// The book of an object at load, what the load puts out, and empty boxes.
     ///
     /// # Errors
     ///
@@ -31,17 +40,55 @@ impl Runner {
         requires formed { IsWellFormed topology }
         requires masters { ObeysMasterRules topology }
         ensures book { IfOk result (λ runner. runner.book ≡ load_of object topology) }
+        ensures boxes { IfOk result (λ runner. runner.boxes ≡ all_empty (length object.masters)) }
+        ensures stand { IfOk result (λ runner. stand_at runner.book runner.boxes ≡ loaded (setup object topology)) }
         ensures out { IfOk result (λ runner. Holds (outputs_at_load runner.book) runner.outbox) }
     {
-        let mut outbox = Outbox::load(alloc, &topology, object.masters.len())?;
+        let masters = object.masters.len();
+        let boxes = Mail::load(alloc, masters)?;
+        let mut outbox = Outbox::load(alloc, &topology, masters)?;
         let book = Book::load(alloc, object, topology, &mut outbox)?;
-        Ok(Runner { book, outbox })
+        Ok(Runner {
+            book,
+            outbox,
+            boxes,
+        })
     }
 
-    /// One event.
+    /// Splits the event of a script line, by the boxes. Its core events are taken by `next`.
+    pub fn split(&mut self, event: &Event) -> Split
+        ensures book { self.new.book ≡ self.old.book }
+        ensures outbox { self.new.outbox ≡ self.old.outbox }
+        ensures events { events_left self.old.book.fixed.object self.new.boxes result.cores
+            ≡ (split (setup_of self.old.book) event.now (stand_at self.old.book self.old.boxes)).events }
+        ensures boxes { boxes_left self.new.boxes result.cores
+            ≡ (split (setup_of self.old.book) event.now (stand_at self.old.book self.old.boxes)).boxes }
+        ensures notes { noted_busy result.busy
+            ≡ (split (setup_of self.old.book) event.now (stand_at self.old.book self.old.boxes)).notes }
+    {
+        split_event(self.book.object(), &mut self.boxes, event)
+    }
+
+    /// Takes the next core event of a line off, if there is one. At the end of a line that serves all boxes are empty.
+    pub fn next(&mut self, cores: &mut CoreEvents) -> Option<Event>
+        ensures book { self.new.book ≡ self.old.book }
+        ensures outbox { self.new.outbox ≡ self.old.outbox }
+        ensures events { MatchOption result
+            ((events_left self.old.book.fixed.object self.old.boxes cores.old ≡ [])
+            × (events_left self.old.book.fixed.object self.new.boxes cores.new ≡ []))
+            (λ event. events_left self.old.book.fixed.object self.old.boxes cores.old
+            ≡ event ∷ events_left self.old.book.fixed.object self.new.boxes cores.new) }
+        ensures boxes { boxes_left self.new.boxes cores.new ≡ boxes_left self.old.boxes cores.old }
+        ensures end { result ≡ None → self.new.boxes ≡ boxes_left self.old.boxes cores.old }
+    {
+        cores.next(self.book.object(), &mut self.boxes)
+    }
+
+    /// One core event.
     pub fn step(&mut self, event: &Event)
         ensures book { self.new.book ≡ effect event.now self.old.book }
         ensures fixed { self.new.book.fixed ≡ self.old.book.fixed }
+        ensures boxes { self.new.boxes ≡ self.old.boxes }
         ensures out { Holds (outputs event.now self.old.book) self.new.outbox }
     {
         self.book.step(event, &mut self.outbox);

@@ -1,0 +1,27 @@
+-- What the lines of a run that serve do with the boxes of the masters.
+use Rattle.std.specs.Prelude.{◌≡◌, ⊤, List, [], ◌∷◌, length, map}
+use Rattle.pm_base.specs.declared.events.Event.{Event}
+use Rattle.pm_base.specs.declared.events.Event.TheVariants.{Serve}
+use Rattle.pm_ipi.specs.Mail.{all_empty}
+use Rattle.pm_split.specs.Boxes.{Boxes}
+use Rattle.pm_split.specs.Served.{ServesAll}
+use Rattle.pm_split.specs.Split.{or_pass}
+use Rattle.pm_run.specs.Run.{Setup, Core, Line}
+
+-- the core events of a line
+abbrev pub events_of : Line → List Event
+events_of line = map (λ (core : Core). core.event) line.cores
+
+-- the messages in the boxes before the line are its core events, each once, by rising mask of their masters, and a Pass if there is
+-- none. All boxes are empty after it, and the line writes nothing of its own
+pub record EmptiesBoxes (c : Setup) (boxes : Boxes) (line : Line) : Type 0 where
+  pub served : List Event
+  pub all : ServesAll c.object boxes served
+  pub cores : events_of line ≡ or_pass served
+  pub empty : line.after.boxes ≡ all_empty (length c.object.masters)
+  pub notes : line.notes ≡ []
+
+-- so does each line that serves, from what the boxes hold before the first line
+abbrev pub EachServes : Setup → Boxes → List Line → Type 0
+EachServes c boxes [] = ⊤
+EachServes c boxes (line ∷ lines) = (line.event ≡ Serve → EmptiesBoxes c boxes line) × EachServes c line.after.boxes lines
