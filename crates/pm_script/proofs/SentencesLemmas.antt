@@ -6,15 +6,17 @@ use Rattle.std.proofs.lemmas.Bool.Decides.{nat_tests}
 use Rattle.std.proofs.lemmas.Slice.Eq.{bytes_eq-Decides}
 use Rattle.pm_base.specs.declared.events.Event.{Event}
 use Rattle.pm_base.specs.declared.events.Event.TheVariants as events
+use Rattle.pm_base.specs.declared.events.Message.{Message}
+use Rattle.pm_base.specs.declared.names.NodeId.{NodeId}
 use Rattle.pm_script.specs.declared.forms.Argument.{Argument}
 use Rattle.pm_script.specs.declared.forms.Argument.TheVariants as arguments
 use Rattle.pm_script.specs.declared.forms.Kind.TheVariants as kinds
 use Rattle.pm_script.specs.declared.forms.Width.{Width}
 use Rattle.pm_script.specs.declared.forms.Width.TheVariants as widths
 use Rattle.pm_script.specs.declared.meaning.LineFault.TheVariants.{Number, Unknown}
-use Rattle.pm_script.specs.Forms.{Row, arguments_of, event_of, line_forms, number_at, row, with_first}
+use Rattle.pm_script.specs.Forms.{Row, arguments_of, event_of, line_forms, message_of, number_at, row, with_first}
 use Rattle.pm_script.specs.Meaning.{form_meaning, found_meaning, words_meaning}
-use Rattle.pm_script.specs.Sentences.{IsNoKeyword, address_of_word, boot_meaning, boot_event, break_meaning, gic_meaning, mend_meaning, ipi_meaning, irq_meaning, is_number, message_event, number_of_place, number_of_word, numbers_meaning, tick_meaning, wfi_meaning}
+use Rattle.pm_script.specs.Sentences.{IsNoKeyword, address_of_word, boot_meaning, boot_event, break_meaning, gic_meaning, mend_meaning, ipi_meaning, irq_meaning, is_number, message_of_words, number_of_place, number_of_word, numbers_meaning, post_meaning, serve_meaning, tick_meaning, wfi_meaning}
 
 -- the argument of 32 bits that a word is
 abbrev as_number : List ℕ → Argument
@@ -56,11 +58,24 @@ numbers_row row spoken all same words = by (nat_le row.least (length words)) (na
     by false few least most = rw least refl
     by true false least most = rw (least, most) refl
 
-message_same : (words : List (List ℕ)) → event_of kinds.Ipi (map as_number words) ≡ message_event words
-message_same words = rw (place_of words 0, place_of words 1, place_of words 2, place_of words 3, place_of words 4, place_of words 5, place_of words 6) refl
+message_same : (words : List (List ℕ)) → message_of (map as_number words) ≡ message_of_words words
+message_same words = rw (place_of words 1, place_of words 2, place_of words 3, place_of words 4, place_of words 5, place_of words 6) refl
+
+-- the event of a sender and its message
+sent_same : (event : NodeId → Message → Event) (words : List (List ℕ))
+    → event (record { 0 = number_at (map as_number words) 0 }) (message_of (map as_number words)) ≡ event (record { 0 = number_of_place words 0 }) (message_of_words words)
+sent_same event words =
+    ap (λ (n : ℕ). event (record { 0 = n }) (message_of (map as_number words))) (place_of words 0)
+    ∙ ap (event (record { 0 = number_of_place words 0 })) (message_same words)
 
 pub message : (words : List (List ℕ)) → words_meaning (codes "ipi" ∷ words) ≡ ipi_meaning words
-message words = numbers_row (row (codes "ipi") kinds.Ipi 2 (widths.Number ∷ widths.Number ∷ widths.Number ∷ widths.Number ∷ widths.Number ∷ widths.Number ∷ widths.Number ∷ [])) message_event (refl, (refl, (refl, (refl, (refl, (refl, (refl, tt))))))) message_same words
+message words = numbers_row (row (codes "ipi") kinds.Ipi 2 (widths.Number ∷ widths.Number ∷ widths.Number ∷ widths.Number ∷ widths.Number ∷ widths.Number ∷ widths.Number ∷ [])) (λ words. events.Ipi (record { 0 = number_of_place words 0 }) (message_of_words words)) (refl, (refl, (refl, (refl, (refl, (refl, (refl, tt))))))) (sent_same events.Ipi) words
+
+pub posts : (words : List (List ℕ)) → words_meaning (codes "post" ∷ words) ≡ post_meaning words
+posts words = numbers_row (row (codes "post") kinds.Post 2 (widths.Number ∷ widths.Number ∷ widths.Number ∷ widths.Number ∷ widths.Number ∷ widths.Number ∷ widths.Number ∷ [])) (λ words. events.Post (record { 0 = number_of_place words 0 }) (message_of_words words)) (refl, (refl, (refl, (refl, (refl, (refl, (refl, tt))))))) (sent_same events.Post) words
+
+pub serves : (words : List (List ℕ)) → words_meaning (codes "serve" ∷ words) ≡ serve_meaning words
+serves words = numbers_row (row (codes "serve") kinds.Serve 0 []) (λ words. events.Serve) tt (λ words. refl) words
 
 pub waits : (words : List (List ℕ)) → words_meaning (codes "wfi" ∷ words) ≡ wfi_meaning words
 waits words = numbers_row (row (codes "wfi") kinds.Wfi 1 (widths.Number ∷ [])) (λ words. events.Wfi (record { 0 = number_of_place words 0 })) (refl, tt) (λ words. ap (λ n. events.Wfi (record { 0 = n })) (place_of words 0)) words

@@ -3,11 +3,12 @@ use Rattle.std.specs.Prelude.{ℕ, ◌-◌, ◌^◌, List, [], ◌∷◌, Option
 use Rattle.std.specs.Str.{bytes_eq}
 use Rattle.pm_base.specs.declared.events.Event.{Event}
 use Rattle.pm_base.specs.declared.events.Event.TheVariants as events
+use Rattle.pm_base.specs.declared.events.Message.{Message}
 use Rattle.pm_base.specs.Numbers.{number_of, at_most}
 use Rattle.pm_script.specs.declared.forms.Argument.{Argument}
 use Rattle.pm_script.specs.declared.forms.Argument.TheVariants as arguments
 use Rattle.pm_script.specs.declared.forms.Kind.{Kind}
-use Rattle.pm_script.specs.declared.forms.Kind.TheVariants.{Ipi, Boot, Wfi, Irq, Gic, Tick, Break, Mend}
+use Rattle.pm_script.specs.declared.forms.Kind.TheVariants.{Ipi, Boot, Wfi, Irq, Gic, Tick, Post, Serve, Break, Mend}
 use Rattle.pm_script.specs.declared.forms.LineForm.{LineForm}
 use Rattle.pm_script.specs.declared.forms.Width.{Width}
 use Rattle.pm_script.specs.declared.forms.Width.TheVariants.{Number, Address}
@@ -32,6 +33,8 @@ line_forms =
     ∷ row (codes "irq") Irq 1 (Number ∷ [])
     ∷ row (codes "gic") Gic 1 (Number ∷ [])
     ∷ row (codes "tick") Tick 1 (Number ∷ [])
+    ∷ row (codes "post") Post 2 (Number ∷ Number ∷ Number ∷ Number ∷ Number ∷ Number ∷ Number ∷ [])
+    ∷ row (codes "serve") Serve 0 []
     ∷ row (codes "break") Break 1 (Number ∷ [])
     ∷ row (codes "mend") Mend 1 (Number ∷ [])
     ∷ []
@@ -72,16 +75,21 @@ number_at given k = number_in (slice_get given k)
 abbrev pub address_at : List Argument → ℕ → ℕ
 address_at given k = address_in (slice_get given k)
 
+-- the message whose words follow the number of its sender
+abbrev pub message_of : List Argument → Message
+message_of given =
+    record { api = number_at given 1; args = number_at given 2 ∷ number_at given 3 ∷ number_at given 4 ∷ number_at given 5 ∷ number_at given 6 ∷ [] }
+
 -- the event that a line's arguments make
 abbrev pub event_of : Kind → List Argument → Event
-event_of Ipi given =
-    events.Ipi (record { 0 = number_at given 0 })
-    (record { api = number_at given 1; args = number_at given 2 ∷ number_at given 3 ∷ number_at given 4 ∷ number_at given 5 ∷ number_at given 6 ∷ [] })
+event_of Ipi given = events.Ipi (record { 0 = number_at given 0 }) (message_of given)
 event_of Boot given = events.Boot (record { 0 = number_at given 0 }) (address_at given 1)
 event_of Wfi given = events.Wfi (record { 0 = number_at given 0 })
 event_of Irq given = events.Irq (record { 0 = number_at given 0 })
 event_of Gic given = events.Gic (record { 0 = number_at given 0 })
 event_of Tick given = events.Tick (number_at given 0)
+event_of Post given = events.Post (record { 0 = number_at given 0 }) (message_of given)
+event_of Serve given = events.Serve
 event_of Break given = events.Break (record { 0 = number_at given 0 })
 event_of Mend given = events.Mend (record { 0 = number_at given 0 })
 

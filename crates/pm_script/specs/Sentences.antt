@@ -2,7 +2,8 @@
 use Rattle.std.specs.Prelude.{◌≡◌, codes, ℕ, ◌-◌, ◌^◌, ◌&&◌, Bool, nat_le, if◌then◌else◌, List, [], ◌∷◌, length, slice_get, Option, Some, None, is_some, unwrap_or, option_and_then, Result, Ok, Err}
 use Rattle.std.specs.List.{AllByRecursion, list_all}
 use Rattle.pm_base.specs.declared.events.Event.{Event}
-use Rattle.pm_base.specs.declared.events.Event.TheVariants.{Ipi, Boot, Wfi, Irq, Gic, Tick, Break, Mend}
+use Rattle.pm_base.specs.declared.events.Event.TheVariants.{Ipi, Boot, Wfi, Irq, Gic, Tick, Post, Serve, Break, Mend}
+use Rattle.pm_base.specs.declared.events.Message.{Message}
 use Rattle.pm_base.specs.Numbers.{number_of, at_most}
 use Rattle.pm_script.specs.declared.meaning.LineFault.{LineFault}
 use Rattle.pm_script.specs.declared.meaning.LineFault.TheVariants.{Number, Count}
@@ -28,14 +29,22 @@ numbers_meaning least most event words =
     if nat_le least (length words) && nat_le (length words) most then (if list_all is_number words then Ok (event words) else Err Number)
     else Err Count
 
--- `ipi M API` and 0 to 5 arguments: master M sends a message. Missing arguments are 0
-abbrev pub message_event : List (List ℕ) → Event
-message_event words =
-    Ipi (record { 0 = number_of_place words 0 })
-    (record { api = number_of_place words 1; args = number_of_place words 2 ∷ number_of_place words 3 ∷ number_of_place words 4 ∷ number_of_place words 5 ∷ number_of_place words 6 ∷ [] })
+-- the message whose words follow the number of its sender. Missing arguments are 0
+abbrev pub message_of_words : List (List ℕ) → Message
+message_of_words words =
+    record { api = number_of_place words 1; args = number_of_place words 2 ∷ number_of_place words 3 ∷ number_of_place words 4 ∷ number_of_place words 5 ∷ number_of_place words 6 ∷ [] }
 
+-- `ipi M API` and 0 to 5 arguments: master M sends a message
 abbrev pub ipi_meaning : List (List ℕ) → Result Event LineFault
-ipi_meaning words = numbers_meaning 2 7 message_event words
+ipi_meaning words = numbers_meaning 2 7 (λ words. Ipi (record { 0 = number_of_place words 0 }) (message_of_words words)) words
+
+-- `post M API` and 0 to 5 arguments: master M puts a message into its box
+abbrev pub post_meaning : List (List ℕ) → Result Event LineFault
+post_meaning words = numbers_meaning 2 7 (λ words. Post (record { 0 = number_of_place words 0 }) (message_of_words words)) words
+
+-- `serve`: the messages in all boxes are served
+abbrev pub serve_meaning : List (List ℕ) → Result Event LineFault
+serve_meaning words = numbers_meaning 0 0 (λ words. Serve) words
 
 -- the event of a processor and an address, if both are numbers
 abbrev pub boot_event : Option ℕ → Option ℕ → Result Event LineFault
@@ -75,7 +84,8 @@ mend_meaning words = numbers_meaning 1 1 (λ words. Mend (record { 0 = number_of
 -- the first words of lines
 abbrev pub keywords : List (List ℕ)
 keywords =
-    codes "ipi" ∷ codes "boot" ∷ codes "wfi" ∷ codes "irq" ∷ codes "gic" ∷ codes "tick" ∷ codes "break" ∷ codes "mend" ∷ []
+    codes "ipi" ∷ codes "boot" ∷ codes "wfi" ∷ codes "irq" ∷ codes "gic" ∷ codes "tick" ∷ codes "post" ∷ codes "serve"
+    ∷ codes "break" ∷ codes "mend" ∷ []
 
 -- a word is none of them
 abbrev pub IsNoKeyword : List ℕ → Type 0

@@ -5,7 +5,7 @@
 //! argument of another width is one more `Width` and `Argument`.
 
 ghost use Rattle.std.specs.Prelude.{◌≡◌, ◌≤◌, length, option_map, IfSome};
-ghost use Rattle.pm_script.specs.Forms.{address_at, argument_of, event_of, first_with, number_at, row_of, row_with};
+ghost use Rattle.pm_script.specs.Forms.{address_at, argument_of, event_of, first_with, message_of, number_at, row_of, row_with};
 
 use pm_base::{Event, Message, NodeId, number};
 
@@ -38,6 +38,8 @@ pub(crate) enum Kind {
     Irq,
     Gic,
     Tick,
+    Post,
+    Serve,
     Break,
     Mend,
 }
@@ -48,13 +50,15 @@ pub(crate) enum Kind {
 pub(crate) struct LineForm(pub &'static [u8], pub Kind, pub usize, pub &'static [Width]);
 
 /// The table of the forms of a script's lines.
-static FORMS: [LineForm; 8] = [
+static FORMS: [LineForm; 10] = [
     LineForm(b"ipi", Kind::Ipi, 2, &[Width::Number; 7]),
     LineForm(b"boot", Kind::Boot, 2, &[Width::Number, Width::Address]),
     LineForm(b"wfi", Kind::Wfi, 1, &[Width::Number]),
     LineForm(b"irq", Kind::Irq, 1, &[Width::Number]),
     LineForm(b"gic", Kind::Gic, 1, &[Width::Number]),
     LineForm(b"tick", Kind::Tick, 1, &[Width::Number]),
+    LineForm(b"post", Kind::Post, 2, &[Width::Number; 7]),
+    LineForm(b"serve", Kind::Serve, 0, &[]),
     LineForm(b"break", Kind::Break, 1, &[Width::Number]),
     LineForm(b"mend", Kind::Mend, 1, &[Width::Number]),
 ];
@@ -108,6 +112,17 @@ fn address_at(arguments: &[Argument], k: usize) -> u64
     }
 }
 
+/// The message whose words follow the number of its sender in a line's arguments.
+fn message_of(arguments: &[Argument]) -> Message
+    ensures { result ≡ message_of arguments.now }
+{
+    let number = |k| number_at(arguments, k);
+    Message {
+        api: number(1),
+        args: [number(2), number(3), number(4), number(5), number(6)],
+    }
+}
+
 /// The event that a line's arguments make.
 pub(crate) fn event_of(kind: Kind, arguments: &[Argument]) -> Event
     ensures { result ≡ event_of kind arguments.now }
@@ -116,10 +131,7 @@ pub(crate) fn event_of(kind: Kind, arguments: &[Argument]) -> Event
     match kind {
         Kind::Ipi => Event::Ipi {
             master: NodeId(number(0)),
-            message: Message {
-                api: number(1),
-                args: [number(2), number(3), number(4), number(5), number(6)],
-            },
+            message: message_of(arguments),
         },
         Kind::Boot => Event::Boot {
             proc: NodeId(number(0)),
@@ -135,6 +147,11 @@ pub(crate) fn event_of(kind: Kind, arguments: &[Argument]) -> Event
             proc: NodeId(number(0)),
         },
         Kind::Tick => Event::Tick { count: number(0) },
+        Kind::Post => Event::Post {
+            master: NodeId(number(0)),
+            message: message_of(arguments),
+        },
+        Kind::Serve => Event::Serve,
         Kind::Break => Event::Break {
             node: NodeId(number(0)),
         },

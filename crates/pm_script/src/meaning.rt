@@ -29,7 +29,8 @@ pub enum LineFault {
 /// `ipi M API` with 0 to 5 arguments is a message of master M; in `boot P ADDRESS` a boot loader starts
 /// processor P at an address of 64 bits; in `wfi P` processor P waits for an interrupt; in `irq S` slave S
 /// raises its interrupt; in `gic P` there is an interrupt at processor P itself; in `tick N` N units of
-/// time pass; from `break N` on node N of the device fails; and from `mend N` on it works again.
+/// time pass; in `post M API` with 0 to 5 arguments master M puts a message into its box; in `serve` the messages in all
+/// boxes are served; from `break N` on node N of the device fails; and from `mend N` on it works again.
 pub fn parse_line(line: &[u8]) -> Result<Event, LineFault>
     ensures { result ≡ meaning line.now }
 {

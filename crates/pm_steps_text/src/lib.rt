@@ -1,6 +1,9 @@
-//! Tests of the lines of a step: each answer, command, start, late reply, callback and fault is its line of text.
+//! Tests of the lines of a step and of a script line: each answer, command, start, late reply, callback, full box and
+//! fault is its line of text.
 #![tactic(auto)]
 
+#[cfg(test)]
+mod notes;
 #[cfg(test)]
 mod rows;
 #[cfg(test)]

@@ -152,7 +152,7 @@ const SPACES: &[u8] = &[b' '; 256];
 const ZEROS: &[u8] = &[0; 256];
 
 /// A line, and the first of its faults.
-static FAULTS: [(&[u8], LineFault); 58] = [
+static FAULTS: [(&[u8], LineFault); 69] = [
     (b"ipi 1 3 11#", LineFault::Number),
     (b"ipi 1 2 3 4 5 6 4294967296", LineFault::Number),
     (b"ipi -1 3", LineFault::Number),
@@ -184,6 +184,15 @@ static FAULTS: [(&[u8], LineFault); 58] = [
     (b"gic 0x100000000", LineFault::Number),
     (b"gic -7", LineFault::Number),
     (b"GIC 7", LineFault::Unknown),
+    (b"post", LineFault::Count),
+    (b"post 1", LineFault::Count),
+    (b"post 1 2 3 4 5 6 7 8", LineFault::Count),
+    (b"post x 1", LineFault::Number),
+    (b"post 1 2 3 4 5 6 4294967296", LineFault::Number),
+    (b"posts 1 1", LineFault::Unknown),
+    (b"serve 1", LineFault::Count),
+    (b"serves", LineFault::Unknown),
+    (b"Serve", LineFault::Unknown),
     (b"breaks 1", LineFault::Unknown),
     (b"break", LineFault::Count),
     (b"break 1 2", LineFault::Count),
@@ -201,6 +210,8 @@ static FAULTS: [(&[u8], LineFault); 58] = [
     (b"wfi 7 x", LineFault::Count),
     (b"irq x 46", LineFault::Count),
     (b"gic x 7", LineFault::Count),
+    (b"post x", LineFault::Count),
+    (b"serve x", LineFault::Count),
     (b"irq \x80", LineFault::NotAscii),
     (b"gic 7\r\r", LineFault::NotAscii),
     (b"boot x y z", LineFault::Count),
@@ -277,8 +288,8 @@ fn a_line_boots_a_processor(rt: HostRuntime) {
 }
 
 /// A line, and what happens in it: a processor waits for an interrupt, a slave raises its own, there is one at a
-/// processor itself, or a node breaks or is mended.
-static EVENTS: [(&[u8], Event); 11] = [
+/// processor itself, a master puts a message into its box, the boxes are served, or a node breaks or is mended.
+static EVENTS: [(&[u8], Event); 16] = [
     (b"wfi 7", Event::Wfi { proc: NodeId(7) }),
     (
         b"wfi 0xffffffff",
@@ -303,6 +314,38 @@ static EVENTS: [(&[u8], Event); 11] = [
         },
     ),
     (b"\tgic 07 \r", Event::Gic { proc: NodeId(7) }),
+    (
+        b"post 7 13 39 1 0 2",
+        Event::Post {
+            master: NodeId(7),
+            message: Message {
+                api: 13,
+                args: [39, 1, 0, 2, 0],
+            },
+        },
+    ),
+    (
+        b"post 0xFFFFFFFF 2 3 4 5 6 4294967295",
+        Event::Post {
+            master: NodeId(u32::MAX),
+            message: Message {
+                api: 2,
+                args: [3, 4, 5, 6, u32::MAX],
+            },
+        },
+    ),
+    (
+        b"\tpost 01 1 # 3\r",
+        Event::Post {
+            master: NodeId(1),
+            message: Message {
+                api: 1,
+                args: [0; 5],
+            },
+        },
+    ),
+    (b"serve", Event::Serve),
+    (b" serve\t# 1\r", Event::Serve),
     (b"break 46", Event::Break { node: NodeId(46) }),
     (b"\tmend 0x2E\r", Event::Mend { node: NodeId(46) }),
 ];
@@ -317,7 +360,7 @@ fn wrong_event() -> Option<usize> {
 }
 
 #[test]
-fn a_line_is_a_wait_or_an_interrupt(rt: HostRuntime) {
+fn a_line_is_an_event(rt: HostRuntime) {
     all_right(&rt, wrong_event());
 }
 

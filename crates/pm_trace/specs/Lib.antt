@@ -2,6 +2,7 @@ pub mod Closing
 pub mod Exits
 pub mod Faults
 pub mod Line
+pub mod Notes
 pub mod Reach
 pub mod Report
 pub mod Scripts

@@ -1,0 +1,18 @@
+-- The lines that a script line writes itself, after those of its core steps.
+use Rattle.std.specs.Prelude.{ℕ, List, [], ◌∷◌, codes, flat_map}
+use Rattle.pm_split.specs.Split.{Note}
+use Rattle.pm_split.specs.Split.Note.{Busy}
+use Rattle.pm_trace.specs.declared.line.Word.{Word}
+use Rattle.pm_trace.specs.declared.line.Word.TheVariants as word
+use Rattle.pm_trace.specs.Step.{numbered_line}
+
+-- the words of a note after the number of its line: of a post into a full box, the master
+abbrev pub note_words : Note → List Word
+note_words (Busy master) = word.Name (codes "busy") ∷ word.Number master.0 ∷ []
+
+-- the notes of line n
+abbrev pub note_line : ℕ → Note → List ℕ
+note_line n note = numbered_line n (note_words note)
+
+abbrev pub notes_text : ℕ → List Note → List ℕ
+notes_text n notes = flat_map (note_line n) notes

@@ -1,0 +1,19 @@
+//! The lines that a script line writes itself.
+
+ghost use Rattle.std.specs.Prelude.{◌≡◌};
+ghost use Rattle.pm_split.specs.Split.Note.{Busy};
+ghost use Rattle.pm_trace.specs.Notes.{note_line};
+
+use crate::line::{TextLine, Word, name, write_line};
+use pm_base::NodeId;
+
+/// Leaves in `line` the line of a post in script line `n` into the full box of a master.
+pub fn busy_line(n: u32, master: NodeId, line: &mut TextLine)
+    ensures { line.new.items ≡ note_line n (Busy master) }
+{
+    write_line(
+        line,
+        Word::Number(n),
+        &[name(b"busy"), Word::Number(master.0)],
+    );
+}
