@@ -1,6 +1,8 @@
+pub mod BusyLaw
 pub mod Cuts
 pub mod DropFacts
 pub mod FilterLemmas
+pub mod FoundLemmas
 pub mod LineCommands
 pub mod LinesLaw
 pub mod NodeCommands

@@ -1,5 +1,5 @@
 -- The lines that tell of what is beyond the reach of a master, besides those of commands, are those of the run without its messages.
-use Rattle.std.proofs.Common.{◌≡◌, ℕ, ◌+◌, ◌==◌, Bool, true, false, not, ◌&&◌, ◌||◌, cond, if◌then◌else◌, List, [], ◌∷◌, ◌++◌, Option, refl, ap, sym, ◌∙◌}
+use Rattle.std.proofs.Common.{◌≡◌, ℕ, ◌==◌, Bool, true, false, not, ◌&&◌, ◌||◌, cond, if◌then◌else◌, List, [], ◌∷◌, ◌++◌, Option, refl, ap, sym, ◌∙◌}
 use Rattle.std.specs.Prelude.{filter, flat_map, map, option_to_list, slice_index}
 use Rattle.std.specs.List.{AllByRecursion as Each}
 use Rattle.std.proofs.lemmas.List.{append-nil, map-append}
@@ -19,10 +19,11 @@ use Rattle.pm_values.specs.declared.starts.Start.{Start}
 use Rattle.pm_core.specs.declared.replies.Answer.{Answer}
 use Rattle.pm_core.specs.declared.replies.Answer.TheVariants.{Silent, Drop, Reply, Ack}
 use Rattle.pm_state.specs.Values.{value}
+use Rattle.pm_split.specs.Split.{Note}
+use Rattle.pm_split.specs.Split.Note.{Busy}
 use Rattle.pm_run.specs.Run.{Core, Line as ScriptLine, Setup, run}
 use Rattle.pm_laws.specs.Answers.{is_dropped}
 use Rattle.pm_laws.specs.Border.{Border, none_within}
-use Rattle.pm_laws.specs.Both.{Both}
 use Rattle.pm_laws.specs.Callbacks.{is_callback_beyond}
 use Rattle.pm_laws.specs.Hidden.{is_within}
 use Rattle.pm_laws.specs.Quiet.{quiet}
@@ -32,20 +33,21 @@ use Rattle.pm_laws.specs.Values.{is_beyond}
 use Rattle.pm_laws.specs.Worlds.{AreWorldsAlike, IsLineAlike}
 use Rattle.pm_apply.specs.Failing.{falls_short, told_answer}
 use Rattle.pm_apply.specs.Part.{Kept, Part, part_of}
-use Rattle.pm_apply.specs.Record.{at_zero}
 use Rattle.pm_trace.specs.declared.line.Word.{Word}
 use Rattle.pm_trace.specs.declared.step.StepLine.{StepLine}
 use Rattle.pm_trace.specs.declared.step.StepLine.TheVariants as told
 use Rattle.pm_trace.specs.Line.{numbers}
+use Rattle.pm_trace.specs.Notes.{note_words}
 use Rattle.pm_trace.specs.Step.{acknowledgement, answer_line, command_name, late_line, notices_of, told_lines, step_words}
-use Rattle.pm_drive.specs.Drive.{Given, answers_after, drive, driven, first_answers, give, kept_after, later_answers, until}
+use Rattle.pm_drive.specs.Drive.{Given, driven, first_answers, give, later_answers, until}
 use Rattle.pm_drive.specs.Drove.{IsTold}
-use Rattle.pm_drive.proofs.DroveLaw.{until-drive}
-use Rattle.pm_apart.specs.Lines.{given_lines, numbered, step_lines}
+use Rattle.pm_apart.specs.Lines.{given_lines, note_lines, numbered, step_lines}
 use Rattle.pm_apart.specs.Telling.{TellsApart, is_call, tells_call, tells_drop, tells_start}
-use Rattle.pm_apart.proofs.Cuts.{both_map, until_both, until_each}
-use Rattle.pm_apart.proofs.DropFacts.{Drops, LineDrops, run_drops}
+use Rattle.pm_apart.proofs.BusyLaw.{busy_apart}
+use Rattle.pm_apart.proofs.Cuts.{both_map}
+use Rattle.pm_apart.proofs.DropFacts.{Drops}
 use Rattle.pm_apart.proofs.FilterLemmas.{filter_made, kept_in, left_out}
+use Rattle.pm_apart.proofs.FoundLemmas.{IsFound, LineFinds, runs_found}
 use Rattle.pm_apart.proofs.TextsLaw.{made_twice, none_made}
 
 -- ---- lines that a test finds
@@ -60,15 +62,19 @@ made_flat f G none parts [] = sym none
 made_flat f G none parts (core ∷ cores) =
     ap (λ lines. G (f core) ++ lines) (made_flat f G none parts cores) ∙ sym (parts (f core) (flat_map f cores))
 
-module _ (T : List Word → Bool) (F : Core → List StepLine) where
+module _ (T : List Word → Bool) (F : Core → List StepLine) (none : (n : ℕ) (note : Note) → T (numbered n (note_words note)) ≡ false) where
+  -- it finds no note
+  no_notes : (n : ℕ) (notes : List Note) → filter T (note_lines n notes) ≡ []
+  no_notes n [] = refl
+  no_notes n (note ∷ notes) = left_out T (numbered n (note_words note)) (note_lines n notes) (none n note) ∙ no_notes n notes
+
   -- of the lines of a core step the test finds these
   abbrev Finds : Type 0
   Finds = (n : ℕ) (g : Given) → IsTold g → Drops g.core → filter T (given_lines n g) ≡ map (line_of n) (F g.core)
 
-  -- those of script lines, the first of which has this number
-  abbrev found_from : ℕ → List ScriptLine → List (List Word)
-  found_from n [] = []
-  found_from n (line ∷ lines) = map (line_of n) (flat_map F line.cores) ++ found_from (n + 1) lines
+  -- and of those of a script line these
+  abbrev lines_found : ℕ → ScriptLine → List (List Word)
+  lines_found n line = map (line_of n) (flat_map F line.cores)
 
   module _ (finds : Finds) where
     given_found : (n : ℕ) (cores : List Core) (kept : Kept) (answers : List (List Bool)) → Each Drops cores
@@ -83,41 +89,13 @@ module _ (T : List Word → Bool) (F : Core → List StepLine) where
         ∙ (ap (λ lines. map (line_of n) (F core) ++ lines) (given_found n cores part.kept (later_answers answers) drops.1)
         ∙ sym (map-append (line_of n) (F core) (flat_map F cores))))
 
-    driven_found : (n : ℕ) (lines : List ScriptLine) (kept : Kept) (answers : List (List Bool)) → Each LineDrops lines
-        → filter T (step_lines n (drive kept answers lines)) ≡ found_from n lines
-    driven_found n [] kept answers drops = refl
-    driven_found n (line ∷ lines) kept answers drops =
+    line_found : LineFinds T lines_found
+    line_found n kept answers line drops =
         let given : List Given = give kept answers line.cores in
-        let later = drive (kept_after kept given) (answers_after line.cores answers) lines in
-        filter-append T (flat_map (given_lines n) given) (step_lines (n + 1) later)
-        ∙ (ap (λ found. found ++ filter T (step_lines (n + 1) later)) (given_found n line.cores kept answers drops.0)
-        ∙ ap (λ found. map (line_of n) (flat_map F line.cores) ++ found) (driven_found (n + 1) lines (kept_after kept given) (answers_after line.cores answers) drops.1))
-
-    run_found : (c : Setup) (answers : List (List Bool)) (events : List Event) (cut : Option ℕ)
-        → filter T (step_lines 0 (until cut (driven c answers events))) ≡ found_from 0 (until cut (run c events))
-    run_found c answers events cut =
-        ap (λ xs. filter T (step_lines 0 xs)) (until-drive cut (run c events) (at_zero c.topology) answers)
-        ∙ driven_found 0 (until cut (run c events)) (at_zero c.topology) answers (until_each LineDrops cut (run c events) (run_drops c events))
-
-    -- two lines of which the same is found
-    abbrev IsFound : ScriptLine → ScriptLine → Type 0
-    IsFound x y = flat_map F x.cores ≡ flat_map F y.cores
-
-    found_same : (n : ℕ) (xs ys : List ScriptLine) → Both IsFound xs ys → found_from n xs ≡ found_from n ys
-    found_same n [] [] both = refl
-    found_same n [] (y ∷ ys) both = absurd both
-    found_same n (x ∷ xs) [] both = absurd both
-    found_same n (x ∷ xs) (y ∷ ys) both =
-        ap (λ lines. map (line_of n) lines ++ found_from (n + 1) xs) both.0
-        ∙ ap (λ lines. map (line_of n) (flat_map F y.cores) ++ lines) (found_same (n + 1) xs ys both.1)
-
-    pub runs_found : (c : Setup) (m : NodeId) (events : List Event) (answers others : List (List Bool)) (cut : Option ℕ)
-        → Both IsFound (run c events) (run c (quiet m events))
-        → filter T (step_lines 0 (until cut (driven c answers events))) ≡ filter T (step_lines 0 (until cut (driven c others (quiet m events))))
-    runs_found c m events answers others cut both =
-        run_found c answers events cut
-        ∙ (found_same 0 (until cut (run c events)) (until cut (run c (quiet m events))) (until_both IsFound cut (run c events) (run c (quiet m events)) both)
-        ∙ sym (run_found c others (quiet m events) cut))
+        filter-append T (flat_map (given_lines n) given) (note_lines n line.notes)
+        ∙ (ap (λ found. found ++ filter T (note_lines n line.notes)) (given_found n line.cores kept answers drops)
+        ∙ (ap (λ found. lines_found n line ++ found) (no_notes n line.notes)
+        ∙ append-nil (lines_found n line)))
 
 -- a test on what a line tells, of which the lines pass that it is made of
 module _ (T : List Word → Bool) (n : ℕ) (p : StepLine → Bool) (same : (line : StepLine) → T (line_of n line) ≡ p line) where
@@ -209,9 +187,13 @@ module _ (c : Setup) (m : NodeId) (events : List Event) (alike : AreWorldsAlike 
   abbrev told_of : Tells → Given → List StepLine
   told_of what g = filter (tells_of what) (told_lines g.part.commands (notices_of g.core.outputs) g.part.answer)
 
+  no_note : (what : Tells) (n : ℕ) (note : Note) → tells what (numbered n (note_words note)) ≡ false
+  no_note Starts n (Busy master) = refl
+  no_note _ n (Busy master) = refl
+
   -- of the lines of a core step the test finds those that tell of it
   found_of : (what : Tells) (F : Core → List StepLine) → ((g : Given) → IsTold g → Drops g.core → told_of what g ≡ F g.core)
-      → Finds (tells what) F
+      → Finds (tells what) F (no_note what)
   found_of what F found n g answer drops =
       by_line (tells what) n (tells_of what) (of_line what n) (told_lines g.part.commands (notices_of g.core.outputs) g.part.answer)
       ∙ ap (map (line_of n)) (found g answer drops)
@@ -239,7 +221,7 @@ module _ (c : Setup) (m : NodeId) (events : List Event) (alike : AreWorldsAlike 
   abbrev starts_told : Core → List StepLine
   starts_told core = map told.Start (starts_in c.object c.topology border core)
 
-  starts_found : Finds (tells Starts) starts_told
+  starts_found : Finds (tells Starts) starts_told (no_note Starts)
   starts_found = found_of Starts starts_told (λ g answer drops.
       five_parts (tells_of Starts) g [] (starts_told g.core) [] [] [] (no_done Starts g) (filter_made (tells_of Starts) start_beyond told.Start (λ s. refl) g.core.outputs.starts)
       (no_late Starts g) (none_made (tells_of Starts) told.Call (λ x. refl) g.core.outputs.callbacks) (no_start g.part.answer)
@@ -293,7 +275,7 @@ module _ (c : Setup) (m : NodeId) (events : List Event) (alike : AreWorldsAlike 
   abbrev callbacks_told : Core → List StepLine
   callbacks_told core = as_callbacks (callbacks_in c.object border core)
 
-  callbacks_found : Finds (tells Calls) callbacks_told
+  callbacks_found : Finds (tells Calls) callbacks_told (no_note Calls)
   callbacks_found = found_of Calls callbacks_told (λ g answer drops.
       five_parts (tells_of Calls) g [] [] [] (callbacks_told g.core) [] (no_done Calls g) (none_made (tells_of Calls) told.Start (λ s. refl) g.core.outputs.starts) (no_late Calls g)
       (filter_made (tells_of Calls) call_beyond told.Call (λ x. refl) g.core.outputs.callbacks ∙ ap (map told.Call) (by_both g.core.outputs.callbacks)) (no_call g.part.answer)
@@ -356,7 +338,7 @@ module _ (c : Setup) (m : NodeId) (events : List Event) (alike : AreWorldsAlike 
       ap (λ answer. filter (tells_of Drops_sent) (option_to_list (answer_line answer))) told
       ∙ (drop_told short g.core.outputs.answer ∙ drop_answer g.core g.core.outputs.answer refl drops)
 
-  drops_found : Finds (tells Drops_sent) drops_told
+  drops_found : Finds (tells Drops_sent) drops_told (no_note Drops_sent)
   drops_found = found_of Drops_sent drops_told (λ g answer drops.
       five_parts (tells_of Drops_sent) g [] [] [] [] (drops_told g.core) (no_done Drops_sent g) (none_made (tells_of Drops_sent) told.Start (λ s. refl) g.core.outputs.starts)
       (no_late Drops_sent g) (none_made (tells_of Drops_sent) told.Call (λ x. refl) g.core.outputs.callbacks) (drop_line g answer drops))
@@ -365,13 +347,14 @@ module _ (c : Setup) (m : NodeId) (events : List Event) (alike : AreWorldsAlike 
 
   -- so it is in two runs
   found_apart : {X : Type 0} (what : Tells) (f : Core → List X) (G : List X → List StepLine) → G [] ≡ [] → ((xs ys : List X) → G (xs ++ ys) ≡ G xs ++ G ys)
-      → ((x y : ScriptLine) → IsLineAlike c m x y → flat_map f x.cores ≡ flat_map f y.cores) → Finds (tells what) (λ core. G (f core))
+      → ((x y : ScriptLine) → IsLineAlike c m x y → flat_map f x.cores ≡ flat_map f y.cores) → Finds (tells what) (λ core. G (f core)) (no_note what)
       → (answers others : List (List Bool)) (cut : Option ℕ)
       → filter (tells what) (step_lines 0 (until cut (driven c answers events))) ≡ filter (tells what) (step_lines 0 (until cut (driven c others (quiet m events))))
   found_apart what f G none parts same finds answers others cut =
-      runs_found (tells what) (λ core. G (f core)) finds c m events answers others cut
-      (both_map (IsLineAlike c m) (IsFound (tells what) (λ core. G (f core)) finds)
-      (λ x y alike. made_flat f G none parts x.cores ∙ (ap G (same x y alike) ∙ sym (made_flat f G none parts y.cores)))
+      let found : ℕ → ScriptLine → List (List Word) = lines_found (tells what) (λ core. G (f core)) (no_note what) in
+      runs_found (tells what) found (line_found (tells what) (λ core. G (f core)) (no_note what) finds) c m events answers others cut
+      (both_map (IsLineAlike c m) (IsFound (tells what) found)
+      (λ x y alike n. ap (map (line_of n)) (made_flat f G none parts x.cores ∙ (ap G (same x y alike) ∙ sym (made_flat f G none parts y.cores))))
       (run c events) (run c (quiet m events)) alike)
 
   pub telling_apart : TellsApart c events m
@@ -379,4 +362,5 @@ module _ (c : Setup) (m : NodeId) (events : List Event) (alike : AreWorldsAlike 
     starts = found_apart Starts (starts_in c.object c.topology border) (map told.Start) refl (map-append told.Start) (λ x y same. same.starts) starts_found;
     drops = found_apart Drops_sent (drops_in c.object border m) as_drops refl (flat_map-append dropped_line) (λ x y same. same.drops) drops_found;
     callbacks = found_apart Calls (callbacks_in c.object border) as_callbacks refl callbacks_join (λ x y same. same.callbacks) callbacks_found;
+    busy = busy_apart c m events alike;
   }

@@ -15,6 +15,8 @@ use Rattle.pm_core.specs.declared.replies.Answer.TheVariants.{Silent, Drop, Repl
 use Rattle.pm_state.specs.Load.{load_of}
 use Rattle.pm_state.specs.State.{State}
 use Rattle.pm_state.specs.Units.{units}
+use Rattle.pm_split.specs.Split.{Note}
+use Rattle.pm_split.specs.Split.Note.{Busy}
 use Rattle.pm_run.specs.Run.{Setup}
 use Rattle.pm_apply.specs.Part.{Kept}
 use Rattle.pm_apply.specs.Record.{at_zero, kept_value}
@@ -25,10 +27,11 @@ use Rattle.pm_trace.specs.declared.step.StepLine.TheVariants as told
 use Rattle.pm_trace.specs.Closing.{closing_text, unit_name, unit_text}
 use Rattle.pm_state.specs.Values.{shown}
 use Rattle.pm_trace.specs.Line.{line_text, numbers}
+use Rattle.pm_trace.specs.Notes.{note_line, note_words, notes_text}
 use Rattle.pm_trace.specs.Step.{Notices, answer_line, command_name, core_text, late_line, notices_of, numbered_line, output_words, told_lines, step_words}
 use Rattle.pm_drive.specs.Drive.{Driven, Given, driven, last_book, last_kept}
-use Rattle.pm_drive.specs.Text.{driven_text, run_text, texts}
-use Rattle.pm_apart.specs.Lines.{closing_line, commands_of, commands_on, given_lines, is_about, is_on, numbered, run_lines, set_lines, step_lines, table_lines}
+use Rattle.pm_drive.specs.Text.{driven_text, given_text, run_text, texts}
+use Rattle.pm_apart.specs.Lines.{closing_line, commands_of, commands_on, driven_lines, given_lines, is_about, is_on, note_lines, numbered, run_lines, set_lines, step_lines, table_lines}
 use Rattle.pm_apart.proofs.FilterLemmas.{filter_made, left_out, none_of_both}
 
 -- ---- the text
@@ -46,20 +49,30 @@ core_is n (words ∷ lines) = ap (λ text. numbered_line n words ++ text) (core_
 joined : (a b c d : List ℕ) → a ≡ c → b ≡ d → a ++ b ≡ c ++ d
 joined a b c d first second = ap (λ xs. xs ++ b) first ∙ ap (λ xs. c ++ xs) second
 
-given_are : (n : ℕ) (given : List Given) → flat_map (λ (g : Given). core_text n g.core.outputs g.part) given ≡ text_of (flat_map (given_lines n) given)
+given_are : (n : ℕ) (given : List Given) → given_text n given ≡ text_of (flat_map (given_lines n) given)
 given_are n [] = refl
 given_are n (g ∷ given) =
     let lines = output_words g.part.commands (notices_of g.core.outputs) g.part.answer in
-    joined (core_text n g.core.outputs g.part) (flat_map (λ (g : Given). core_text n g.core.outputs g.part) given)
+    joined (core_text n g.core.outputs g.part) (given_text n given)
     (text_of (map (numbered n) lines)) (text_of (flat_map (given_lines n) given)) (core_is n lines) (given_are n given)
     ∙ sym (text_append (map (numbered n) lines) (flat_map (given_lines n) given))
+
+notes_are : (n : ℕ) (notes : List Note) → notes_text n notes ≡ text_of (note_lines n notes)
+notes_are n [] = refl
+notes_are n (note ∷ notes) = ap (λ text. note_line n note ++ text) (notes_are n notes)
+
+line_is : (n : ℕ) (x : Driven) → driven_text n x ≡ text_of (driven_lines n x)
+line_is n x =
+    joined (given_text n x.cores) (notes_text n x.line.notes) (text_of (flat_map (given_lines n) x.cores)) (text_of (note_lines n x.line.notes))
+    (given_are n x.cores) (notes_are n x.line.notes)
+    ∙ sym (text_append (flat_map (given_lines n) x.cores) (note_lines n x.line.notes))
 
 pub steps_are : (n : ℕ) (xs : List Driven) → concat (texts n xs) ≡ text_of (step_lines n xs)
 steps_are n [] = refl
 steps_are n (x ∷ xs) =
-    joined (driven_text n x) (concat (texts (n + 1) xs)) (text_of (flat_map (given_lines n) x.cores)) (text_of (step_lines (n + 1) xs))
-    (given_are n x.cores) (steps_are (n + 1) xs)
-    ∙ sym (text_append (flat_map (given_lines n) x.cores) (step_lines (n + 1) xs))
+    joined (driven_text n x) (concat (texts (n + 1) xs)) (text_of (driven_lines n x)) (text_of (step_lines (n + 1) xs))
+    (line_is n x) (steps_are (n + 1) xs)
+    ∙ sym (text_append (driven_lines n x) (step_lines (n + 1) xs))
 
 end_is : (idle : Bool) (words : List Word) → (if idle then [] else line_text words) ≡ text_of (if idle then [] else words ∷ [])
 end_is true words = refl
@@ -92,7 +105,7 @@ abbrev tells_on : Unit → StepLine → Bool
 tells_on unit (told.Command d) = is_on unit d
 tells_on unit _ = false
 
-pub none_made : {X : Type 0} (p : StepLine → Bool) (f : X → StepLine) → ((x : X) → p (f x) ≡ false) → (xs : List X) → filter p (map f xs) ≡ []
+pub none_made : {X Y : Type 0} (p : Y → Bool) (f : X → Y) → ((x : X) → p (f x) ≡ false) → (xs : List X) → filter p (map f xs) ≡ []
 none_made p f fails [] = refl
 none_made p f fails (x ∷ xs) = left_out p (f x) (map f xs) (fails x) ∙ none_made p f fails xs
 
@@ -170,9 +183,25 @@ module _ (u : Unit) (n : ℕ) where
       ∙ (sym (map-append set_line (filter (is_on u) g.part.commands) (filter (is_on u) (commands_of given)))
       ∙ ap (map set_line) (sym (filter-append (is_on u) g.part.commands (commands_of given))))))
 
+  -- no note is about a unit
+  note_apart : (x : Unit) (note : Note) → is_about x (numbered n (note_words note)) ≡ false
+  note_apart (Node node) (Busy master) = refl
+  note_apart (Line line) (Busy master) = refl
+
+  notes_apart : (notes : List Note) → filter (is_about u) (note_lines n notes) ≡ []
+  notes_apart [] = refl
+  notes_apart (note ∷ notes) = left_out (is_about u) (numbered n (note_words note)) (note_lines n notes) (note_apart u note) ∙ notes_apart notes
+
+  driven_about : (x : Driven) → filter (is_about u) (driven_lines n x) ≡ map set_line (commands_on u x)
+  driven_about x =
+      filter-append (is_about u) (flat_map (given_lines n) x.cores) (note_lines n x.line.notes)
+      ∙ (ap (λ lines. lines ++ filter (is_about u) (note_lines n x.line.notes)) (given_about x.cores)
+      ∙ (ap (λ lines. map set_line (commands_on u x) ++ lines) (notes_apart x.line.notes)
+      ∙ append-nil (map set_line (commands_on u x))))
+
 pub lines_about : (u : Unit) (n : ℕ) (xs : List Driven) → filter (is_about u) (step_lines n xs) ≡ set_lines u n xs
 lines_about u n [] = refl
 lines_about u n (x ∷ xs) =
-    filter-append (is_about u) (flat_map (given_lines n) x.cores) (step_lines (n + 1) xs)
-    ∙ (ap (λ lines. lines ++ filter (is_about u) (step_lines (n + 1) xs)) (given_about u n x.cores)
+    filter-append (is_about u) (driven_lines n x) (step_lines (n + 1) xs)
+    ∙ (ap (λ lines. lines ++ filter (is_about u) (step_lines (n + 1) xs)) (driven_about u n x)
     ∙ ap (λ lines. map (λ d. numbered n (step_words (told.Command d))) (commands_on u x) ++ lines) (lines_about u (n + 1) xs))

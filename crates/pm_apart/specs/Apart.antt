@@ -53,15 +53,16 @@ StepsStayApart c answers events cut =
 -- each processor the same mode; the same units move, the same processors start, and the same reset lines are pulsed; the same is
 -- asked of masters there, the same requests to them end, with the same late replies, and the same callbacks are made to them, but
 -- for those about nodes within the reach; the same messages of other masters are dropped, and those that name nothing within the
--- reach are answered the same, before an internal error takes the place of success
+-- reach are answered the same, before an internal error takes the place of success. The boxes of all other masters hold the same,
+-- and the same of these masters are told that theirs are full
 pub record BooksStayApart (c : Setup) (events : List Event) (m : NodeId) : Type 0 where
   pub beside : AreWorldsBeside c m events
   pub alike : AreWorldsAlike c m events
 
 module _ {D : Type 0} (d : Device.Ghosts D) where
-  -- the text of a run is that of its lines. Without a failure of the device nothing that a master sends changes one of them
-  -- that is about a unit beyond its reach; and whatever the device refuses, the books stay as they are there, and so do the lines
-  -- of starts, of drops and of callbacks
+  -- the text of a run is that of its lines. Without a failure of the device nothing that a master sends or puts into its box
+  -- changes one of them that is about a unit beyond its reach; and whatever the device refuses, the books stay as they are there,
+  -- and so do the lines of starts, of drops and of callbacks, and those of the full boxes of other masters
   pub record KeepsApart (c : Setup) (answers : List (List Bool)) (events : List Event) (old new : D) : Type 0 where
     pub lines : run_text c answers events ≡ concat (map line_text (run_lines c answers events))
     pub apart : NoFailure d c.topology (driven c answers events) old new → StaysApart c answers events

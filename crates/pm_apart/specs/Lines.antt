@@ -11,6 +11,7 @@ use Rattle.pm_core.specs.declared.outbox.Done.{Done}
 use Rattle.pm_state.specs.Load.{load_of}
 use Rattle.pm_state.specs.State.{State}
 use Rattle.pm_state.specs.Units.{units}
+use Rattle.pm_split.specs.Split.{Note}
 use Rattle.pm_run.specs.Run.{Setup}
 use Rattle.pm_apply.specs.Part.{Kept}
 use Rattle.pm_apply.specs.Record.{at_zero, kept_value}
@@ -20,6 +21,7 @@ use Rattle.pm_trace.specs.declared.step.StepLine.TheVariants as told
 use Rattle.pm_trace.specs.Closing.{unit_name}
 use Rattle.pm_state.specs.Values.{shown}
 use Rattle.pm_trace.specs.Line.{numbers}
+use Rattle.pm_trace.specs.Notes.{note_words}
 use Rattle.pm_trace.specs.Step.{notices_of, output_words, step_words}
 use Rattle.pm_drive.specs.Drive.{Driven, Given, driven, last_book, last_kept}
 
@@ -33,10 +35,18 @@ numbered n words = word.Number n ∷ words
 abbrev pub given_lines : ℕ → Given → List (List Word)
 given_lines n g = map (numbered n) (output_words g.part.commands (notices_of g.core.outputs) g.part.answer)
 
--- those of driven lines, the first of which has this number: of the core steps of each in order
+-- the lines that a line of this number writes itself
+abbrev pub note_lines : ℕ → List Note → List (List Word)
+note_lines n notes = map (λ note. numbered n (note_words note)) notes
+
+-- those of a driven line: of its core steps in order, and then its own
+abbrev pub driven_lines : ℕ → Driven → List (List Word)
+driven_lines n x = flat_map (given_lines n) x.cores ++ note_lines n x.line.notes
+
+-- those of driven lines, the first of which has this number
 abbrev pub step_lines : ℕ → List Driven → List (List Word)
 step_lines n [] = []
-step_lines n (x ∷ xs) = flat_map (given_lines n) x.cores ++ step_lines (n + 1) xs
+step_lines n (x ∷ xs) = driven_lines n x ++ step_lines (n + 1) xs
 
 -- the closing line of a unit: none where its value in the book and the kept one are 0
 abbrev pub end_line : Topology → Unit → ℕ → ℕ → List (List Word)

@@ -1,6 +1,7 @@
 -- The lines of a run, besides those of commands, that tell of what is beyond the reach of a master: which processors start, which
--- messages of other masters are dropped, and which masters are asked to suspend or notified of a node. A reply and an
--- acknowledgement have no words that say whether they are an answer or come later, so of these the relation of core steps speaks.
+-- messages of other masters are dropped, and which masters are asked to suspend or notified of a node; and the lines that tell other
+-- masters that their boxes are full. A reply and an acknowledgement have no words that say whether they are an answer or come later,
+-- so of these the relation of core steps speaks.
 use Rattle.std.specs.Prelude.{◌≡◌, ℕ, ◌==◌, Bool, false, not, ◌&&◌, ◌||◌, codes, List, [], ◌∷◌, filter, Option}
 use Rattle.pm_base.specs.declared.events.Event.{Event}
 use Rattle.pm_base.specs.declared.names.NodeId.{NodeId}
@@ -56,8 +57,13 @@ abbrev pub tells_call : Setup → Border → List Word → Bool
 tells_call c border line =
     is_told (codes "call") (λ master others. not (is_within border (place_of c.object (numbered_node master))) && calls_back border others) line
 
+-- a master but this one is told that its box is full
+abbrev pub tells_busy : NodeId → List Word → Bool
+tells_busy m line = is_told (codes "busy") (λ master others. not (master == m.0)) line
+
 -- whatever a device answers in the two runs: of the lines of a run, up to that within whose text it breaks off, if it does, those
--- that tell of what is beyond the reach of a master are those of the run without the messages of the master
+-- that tell of what is beyond the reach of a master are those of the run without the messages of the master, and so are those that
+-- tell other masters that their boxes are full
 pub record TellsApart (c : Setup) (events : List Event) (m : NodeId) : Type 0 where
   pub starts : (answers others : List (List Bool)) (cut : Option ℕ)
       → filter (tells_start c (border_of c.object c.topology m)) (step_lines 0 (until cut (driven c answers events)))
@@ -68,3 +74,6 @@ pub record TellsApart (c : Setup) (events : List Event) (m : NodeId) : Type 0 wh
   pub callbacks : (answers others : List (List Bool)) (cut : Option ℕ)
       → filter (tells_call c (border_of c.object c.topology m)) (step_lines 0 (until cut (driven c answers events)))
       ≡ filter (tells_call c (border_of c.object c.topology m)) (step_lines 0 (until cut (driven c others (quiet m events))))
+  pub busy : (answers others : List (List Bool)) (cut : Option ℕ)
+      → filter (tells_busy m) (step_lines 0 (until cut (driven c answers events)))
+      ≡ filter (tells_busy m) (step_lines 0 (until cut (driven c others (quiet m events))))

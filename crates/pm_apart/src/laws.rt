@@ -42,10 +42,10 @@ pub fn texts_are_lines()
     units_stand_in_order();
 }
 
-/// Over a device that never fails, nothing that a master sends changes what is written about a unit beyond its reach: a
-/// slave, a power node, a reset line, or a processor of a master beyond or of nobody. Step by step the same commands are
-/// given on the unit, with the same values before them, as in the run without the messages of the master; its closing line
-/// is the same; and so of all lines of the run those about the unit.
+/// Over a device that never fails, nothing that a master sends or puts into its box changes what is written about a unit
+/// beyond its reach: a slave, a power node, a reset line, or a processor of a master beyond or of nobody. Step by step the
+/// same commands are given on the unit, with the same values before them, as in the run without the messages of the master;
+/// its closing line is the same; and so of all lines of the run those about the unit.
 pub fn lines_stay_apart()
     ensures commands { (c : Setup) (m : NodeId) (events : List Event) (unit : Unit) → IsObject c.object
         → IsWellFormed c.topology
@@ -90,8 +90,9 @@ pub fn driven_lines_stay_apart<D: Device>()
 
 /// A device that was driven through a run keeps apart what is beyond the reach of each master: the text is that of its
 /// lines, of which those about a unit beyond are those of the run without the messages of the master, where the device
-/// reported no failure; and whatever it refused, beyond the reach the books of the run are as in that one, and so are the lines
-/// of starts, drops and callbacks. The same of the script lines of the run alone, up to where the text breaks off.
+/// reported no failure. Whatever it refused, beyond the reach the books of the run are as in that one, and so are the lines
+/// of starts, drops and callbacks, and those of the full boxes of other masters. The same of the script lines of the run
+/// alone, up to where the text breaks off.
 pub fn driven_runs_keep_apart<D: Device>()
     ensures run { (c : Setup) (events : List Event) (answers : List (List Bool)) (old new : D)
         → IsObject c.object → IsWellFormed c.topology

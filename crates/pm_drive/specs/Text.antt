@@ -6,12 +6,17 @@ use Rattle.pm_state.specs.Load.{load_of}
 use Rattle.pm_run.specs.Run.{Setup}
 use Rattle.pm_apply.specs.Record.{at_zero}
 use Rattle.pm_trace.specs.Closing.{closing_text}
+use Rattle.pm_trace.specs.Notes.{notes_text}
 use Rattle.pm_trace.specs.Step.{core_text}
 use Rattle.pm_drive.specs.Drive.{Driven, Given, driven, last_book, last_kept}
 
--- what is written of a script line: of each of its core steps, numbered by the line
+-- what is written of core steps, numbered by their line
+abbrev pub given_text : ℕ → List Given → List ℕ
+given_text n given = flat_map (λ (g : Given). core_text n g.core.outputs g.part) given
+
+-- what is written of a script line: of each of its core steps, and then its own notes
 abbrev pub driven_text : ℕ → Driven → List ℕ
-driven_text n x = flat_map (λ (g : Given). core_text n g.core.outputs g.part) x.cores
+driven_text n x = given_text n x.cores ++ notes_text n x.line.notes
 
 -- the texts of lines, the first of which has this number
 abbrev pub texts : ℕ → List Driven → List (List ℕ)

@@ -11,7 +11,9 @@ use Rattle.pm_base.proofs.SinkLemmas.{Wrote-refl}
 use Rattle.pm_device.specs.declared.device.Device as Device
 use Rattle.pm_device.specs.Act.{Chain}
 use Rattle.pm_device.specs.Chains.{Chain-append}
-use Rattle.pm_run.specs.Run.{Setup}
+use Rattle.pm_state.specs.State.{State}
+use Rattle.pm_core.specs.Step.{effect}
+use Rattle.pm_run.specs.Run.{Setup, book_after, setup_of, split}
 use Rattle.pm_reader.specs.declared.follow.LineStop.{LineStop}
 use Rattle.pm_reader.specs.declared.follow.LineStop.TheVariants as stops
 use Rattle.pm_reader.specs.Follow.{FailsWithin, Followed, GoesThrough}
@@ -19,10 +21,12 @@ use Rattle.pm_reader.specs.declared.follow.LinesEnd as reader
 use Rattle.pm_script.specs.Script.{Script}
 use Rattle.pm_replay.specs.declared.lines.Player.{Player}
 use Rattle.pm_drive.specs.Drive.{Driven, acts, acts_of, last_book, last_kept, orders_in_cores, rigs, until}
-use Rattle.pm_drive.specs.Text.{driven_text, texts}
-use Rattle.pm_replay.specs.Controls.{Controls}
+use Rattle.pm_drive.specs.Text.{driven_text, given_text, texts}
+use Rattle.pm_trace.specs.Notes.{notes_text}
+use Rattle.pm_replay.specs.Controls.{Controls, stand_in}
 use Rattle.pm_replay.specs.Plays.{Plays}
-use Rattle.pm_replay.specs.Within.{LinesEnd, RanLine, RanLines, Went, driven_from}
+use Rattle.pm_replay.specs.Within.{LinesEnd, RanLine, RanLines, Went, WritesOn, driven_from}
+use Rattle.pm_replay.proofs.CoresLemmas.{on-both}
 use Rattle.pm_replay.proofs.DriveLemmas.{driven_line, driven_next, until-cons}
 use Rattle.pm_replay.proofs.LeavesLemmas.{Leaves-before, Leaves-cons, behind}
 
@@ -69,14 +73,29 @@ module _ {O D : Type 0} (o : Sink.Ghosts O) (d : Device.Ghosts D) where
   line_given c n event now then old new from to result ran =
       Chain-append d.Does (rigs event) (orders_in_cores (driven_line c event now ran.cores.answers).cores) from ran.between to ran.rigged ran.cores.given
 
+  -- all that was written of it
+  line_written : (c : Setup) (n : ℕ) (event : Event) (now then : Controls) (old new : O) (from to : D) (result : Result ⊤ Failed) (ran : RanLine o d c n event now then old new from to result) → WritesOn o (driven_text n (driven_line c event now ran.cores.answers)) (Ok tt) result old new
+  line_written c n event now then old new from to result ran =
+      let x : Driven = driven_line c event now ran.cores.answers in
+      on-both o (given_text n x.cores) (notes_text n x.line.notes) (Ok tt) ran.far result old ran.via new ran.cores.writes ran.notes
+
+  -- the object and the chip of a run stay
+  same_setup : (events : List Event) (book : State) → setup_of (book_after events book) ≡ setup_of book
+  same_setup [] book = refl
+  same_setup (event ∷ events) book = same_setup events (effect event book)
+
+  setup_next : (c : Setup) (n : ℕ) (event : Event) (now then : Controls) (old new : O) (from to : D) (result : Result ⊤ Failed) → RanLine o d c n event now then old new from to result → setup_of now.book ≡ c → setup_of then.book ≡ c
+  setup_next c n event now then old new from to result ran is =
+      ap setup_of ran.cores.after ∙ (same_setup (split c event (stand_in now)).events now.book ∙ is)
+
   module _ (c : Setup) (n : ℕ) (event : Event) (events : List Event) (now mid : Controls) (old via new : O) (from between to : D) (ran : RanLine o d c n event now mid old via from between (Ok tt)) where
     next : (later : List (List Bool)) → driven_from c now (ran.cores.answers ++ later) (event ∷ events) ≡ driven_line c event now ran.cores.answers ∷ driven_from c mid later events
-    next later = driven_next c event events now mid ran.cores.answers later ran.cores.fits ran.cores.after ran.cores.keeps
+    next later = driven_next c event events now mid ran.cores.answers later ran.cores.fits ran.cores.after ran.boxes ran.cores.keeps
 
     went_next : (later : List (List Bool)) (cut : Option ℕ) → Went o d (texts (n + 1) (driven_from c mid later events)) (driven_from c mid later events) cut via new between to → Went o d (texts n (driven_from c now (ran.cores.answers ++ later) (event ∷ events))) (driven_from c now (ran.cores.answers ++ later) (event ∷ events)) (behind 1 cut) old new from to
     went_next later cut went =
         subst (λ (xs : List Driven). Went o d (texts n xs) xs (behind 1 cut) old new from to) (sym (next later))
-        (Went-cons n (driven_line c event now ran.cores.answers) (texts (n + 1) (driven_from c mid later events)) (driven_from c mid later events) cut old via new from between to ran.cores.writes (line_given c n event now mid old via from between (Ok tt) ran) went)
+        (Went-cons n (driven_line c event now ran.cores.answers) (texts (n + 1) (driven_from c mid later events)) (driven_from c mid later events) cut old via new from between to (line_written c n event now mid old via from between (Ok tt) ran) (line_given c n event now mid old via from between (Ok tt) ran) went)
 
     RanAll-next : (then : Controls) → RanAll c (n + 1) events mid then via new between to → RanAll c n (event ∷ events) now then old new from to
     RanAll-next then rest = record {
@@ -98,32 +117,34 @@ module _ {O D : Type 0} (o : Sink.Ghosts O) (d : Device.Ghosts D) where
   RanSome-first c n event events now then old new from to failed ran = record {
     answers = ran.cores.answers ++ [];
     place = 0;
-    went = subst (λ (xs : List Driven). Went o d (texts n xs) xs (Some 0) old new from to) (sym (driven_next c event events now then ran.cores.answers [] ran.cores.fits ran.cores.after ran.cores.keeps))
-        (Went-broken n (driven_line c event now ran.cores.answers) (texts (n + 1) (driven_from c then [] events)) (driven_from c then [] events) old new from to ran.cores.writes (line_given c n event now then old new from to (Err failed) ran));
+    went = subst (λ (xs : List Driven). Went o d (texts n xs) xs (Some 0) old new from to) (sym (driven_next c event events now then ran.cores.answers [] ran.cores.fits ran.cores.after ran.boxes ran.cores.keeps))
+        (Went-broken n (driven_line c event now ran.cores.answers) (texts (n + 1) (driven_from c then [] events)) (driven_from c then [] events) old new from to (line_written c n event now then old new from to (Err failed) ran) (line_given c n event now then old new from to (Err failed) ran));
   }
 
   -- ---- the lines that a player follows
 
-  ran_through : (c : Setup) (n : ℕ) (events : List Event) (old new : Player O D) → GoesThrough (Plays o d) n events old new → RanAll c n events old.controller.now new.controller.now old.out.now new.out.now old.dev.now new.dev.now
-  ran_through c n [] old new same = subst (λ (p : Player O D). RanAll c n [] old.controller.now p.controller.now old.out.now p.out.now old.dev.now p.dev.now) same (RanAll-none c n old.controller.now old.out.now old.dev.now)
-  ran_through c n (event ∷ events) old new (mid, one, rest) =
-      RanAll-next c n event events old.controller.now mid.controller.now old.out.now mid.out.now new.out.now old.dev.now mid.dev.now new.dev.now (one.ran c) new.controller.now (ran_through c (n + 1) events mid new rest)
+  ran_through : (c : Setup) (n : ℕ) (events : List Event) (old new : Player O D) → setup_of old.controller.now.book ≡ c → GoesThrough (Plays o d) n events old new → RanAll c n events old.controller.now new.controller.now old.out.now new.out.now old.dev.now new.dev.now
+  ran_through c n [] old new is same = subst (λ (p : Player O D). RanAll c n [] old.controller.now p.controller.now old.out.now p.out.now old.dev.now p.dev.now) same (RanAll-none c n old.controller.now old.out.now old.dev.now)
+  ran_through c n (event ∷ events) old new is (mid, one, rest) =
+      let next = setup_next c n event old.controller.now mid.controller.now old.out.now mid.out.now old.dev.now mid.dev.now (Ok tt) (one.ran c is) is in
+      RanAll-next c n event events old.controller.now mid.controller.now old.out.now mid.out.now new.out.now old.dev.now mid.dev.now new.dev.now (one.ran c is) new.controller.now (ran_through c (n + 1) events mid new next rest)
 
-  ran_within : (c : Setup) (n : ℕ) (events : List Event) (old new : Player O D) → FailsWithin (Plays o d) n events old new → RanSome c n events old.controller.now old.out.now new.out.now old.dev.now new.dev.now
-  ran_within c n [] old new none = absurd none
-  ran_within c n (event ∷ events) old new (inl (failed, one)) = RanSome-first c n event events old.controller.now new.controller.now old.out.now new.out.now old.dev.now new.dev.now failed (one.ran c)
-  ran_within c n (event ∷ events) old new (inr (mid, one, rest)) =
-      RanSome-next c n event events old.controller.now mid.controller.now old.out.now mid.out.now new.out.now old.dev.now mid.dev.now new.dev.now (one.ran c) (ran_within c (n + 1) events mid new rest)
+  ran_within : (c : Setup) (n : ℕ) (events : List Event) (old new : Player O D) → setup_of old.controller.now.book ≡ c → FailsWithin (Plays o d) n events old new → RanSome c n events old.controller.now old.out.now new.out.now old.dev.now new.dev.now
+  ran_within c n [] old new is none = absurd none
+  ran_within c n (event ∷ events) old new is (inl (failed, one)) = RanSome-first c n event events old.controller.now new.controller.now old.out.now new.out.now old.dev.now new.dev.now failed (one.ran c is)
+  ran_within c n (event ∷ events) old new is (inr (mid, one, rest)) =
+      let next = setup_next c n event old.controller.now mid.controller.now old.out.now mid.out.now old.dev.now mid.dev.now (Ok tt) (one.ran c is) is in
+      RanSome-next c n event events old.controller.now mid.controller.now old.out.now mid.out.now new.out.now old.dev.now mid.dev.now new.dev.now (one.ran c is) (ran_within c (n + 1) events mid new next rest)
 
-  pub ran_lines : (c : Setup) (n : ℕ) (s : Script) (old new : Player O D) (result : Result reader.LinesEnd LineStop) → Followed (Plays o d) n s old new result → RanLines o d c n s old.controller.now new.controller.now old.out.now new.out.now old.dev.now new.dev.now result
-  ran_lines c n s old new (Ok end) did =
-      let ran = ran_through c n s.events old new did.0 in
+  pub ran_lines : (c : Setup) (n : ℕ) (s : Script) (old new : Player O D) (result : Result reader.LinesEnd LineStop) → setup_of old.controller.now.book ≡ c → Followed (Plays o d) n s old new result → RanLines o d c n s old.controller.now new.controller.now old.out.now new.out.now old.dev.now new.dev.now result
+  ran_lines c n s old new (Ok end) is did =
+      let ran = ran_through c n s.events old new is did.0 in
       record { answers = ran.answers; cut = None; went = ran.went; ends = (refl, did.1, ran.book, ran.kept) }
-  ran_lines c n s old new (Err (stops.Bad m cause)) did =
-      let ran = ran_through c n s.events old new did.0 in
+  ran_lines c n s old new (Err (stops.Bad m cause)) is did =
+      let ran = ran_through c n s.events old new is did.0 in
       record { answers = ran.answers; cut = None; went = ran.went; ends = (refl, did.1, did.2) }
-  ran_lines c n s old new (Err stops.Broken) did =
-      let ran = ran_within c n s.events old new did in
+  ran_lines c n s old new (Err stops.Broken) is did =
+      let ran = ran_within c n s.events old new is did in
       record { answers = ran.answers; cut = Some ran.place; went = ran.went; ends = (ran.place, refl) }
 
   -- a player holds what it held

@@ -22,7 +22,8 @@ use Rattle.pm_device.specs.Act.{Act, Chain}
 use Rattle.pm_device.specs.Chains.{Chain-append}
 use Rattle.pm_state.specs.Load.{load_of}
 use Rattle.pm_core.specs.Outbox.{Holds}
-use Rattle.pm_run.specs.Run.{Setup, core_0, line_0, lines_of, setup, setup_of}
+use Rattle.pm_split.specs.Boxes.{Boxes}
+use Rattle.pm_run.specs.Run.{Setup, core_0, line_0, lines_of, loaded as at_load, setup, setup_of}
 use Rattle.pm_state.specs.State.{State}
 use Rattle.pm_core.specs.Step.{outputs_at_load}
 use Rattle.pm_apply.specs.Part.{Kept, Part, answers_in, orders_in, part_in, part_of}
@@ -86,16 +87,17 @@ fault-anywhere m n reason.Failure = refl
 fault-anywhere m n reason.Unbegun = refl
 
 -- the book of an object at load, a device that took nothing yet, and what the load puts out
-is_loaded : (c : Controls) (object : Object) (topology : Topology) → c.book ≡ load_of object topology → c.kept ≡ at_zero topology → Holds (outputs_at_load c.book) c.outbox → IsLoaded c
-is_loaded c object topology book kept out = record {
+is_loaded : (c : Controls) (object : Object) (topology : Topology) → c.book ≡ load_of object topology → c.kept ≡ at_zero topology → c.boxes ≡ (at_load (setup object topology)).boxes → Holds (outputs_at_load c.book) c.outbox → IsLoaded c
+is_loaded c object topology book kept boxes out = record {
   book = subst (λ (b : State). b ≡ load_of b.fixed.object b.fixed.topology) (sym book) refl;
   kept = kept ∙ ap (λ (b : State). at_zero b.fixed.topology) (sym book);
+  boxes = boxes ∙ ap (λ (b : State). (at_load (setup_of b)).boxes) (sym book);
   out = out;
 }
 
-pub loaded_by : (object : Object) (topology : Topology) (result : Result Controls NoMemory) → IfOk result (λ c. c.book ≡ load_of object topology) → IfOk result (λ c. c.kept ≡ at_zero topology) → IfOk result (λ c. Holds (outputs_at_load c.book) c.outbox) → IfOk result IsLoaded
-loaded_by object topology (Ok c) book kept out = is_loaded c object topology book kept out
-loaded_by object topology (Err error) book kept out = tt
+pub loaded_by : (object : Object) (topology : Topology) (result : Result Controls NoMemory) → IfOk result (λ c. c.book ≡ load_of object topology) → IfOk result (λ c. c.kept ≡ at_zero topology) → IfOk result (λ c. c.boxes ≡ (at_load (setup object topology)).boxes) → IfOk result (λ c. Holds (outputs_at_load c.book) c.outbox) → IfOk result IsLoaded
+loaded_by object topology (Ok c) book kept boxes out = is_loaded c object topology book kept boxes out
+loaded_by object topology (Err error) book kept boxes out = tt
 
 pub setup_by : (object : Object) (topology : Topology) (result : Result Controls NoMemory) → IfOk result (λ c. c.book ≡ load_of object topology) → IfOk result (λ c. setup_of c.book ≡ setup object topology)
 setup_by object topology (Ok c) book = ap setup_of book
@@ -186,8 +188,9 @@ module _ {O D : Type 0} (o : Sink.Ghosts O) (d : Device.Ghosts D) where
       ∙ ap (λ (k : Kept). part_of k (answers_in after.outbox) now.book (outputs_at_load now.book)) (sym loaded.kept)
       ∙ sym started.part
       in
-      ap (λ (p : Part). first_step c p ∷ drive p.kept later (lines_of c events (record { book = load }))) is
-      ∙ ap (λ (b : State). first_step c Q ∷ drive after.kept later (lines_of c events (record { book = b }))) (sym loaded.book ∙ sym started.book)
+      ap (λ (p : Part). first_step c p ∷ drive p.kept later (lines_of c events (at_load c))) is
+      ∙ ap (λ (b : State). first_step c Q ∷ drive after.kept later (lines_of c events (record { book = b; boxes = (at_load c).boxes }))) (sym loaded.book ∙ sym started.book)
+      ∙ ap (λ (b : Boxes). first_step c Q ∷ drive after.kept later (lines_of c events (record { book = after.book; boxes = b }))) (sym loaded.boxes ∙ sym started.boxes)
 
   -- the report of a script is that of its lines behind the text of step 0
   report_first : (now after : Controls) (s : Script) (later : List (List Bool)) (from to : D) → IsLoaded now → Started o d now after from to → replay_report (setup_of now.book) s (answers_in after.outbox ∷ later) ≡ report_after (step_text 0 after.outbox.done.items (notices_in after.outbox) after.outbox.answer ∷ []) (report_from (setup_of now.book) 1 after s later)
@@ -197,7 +200,7 @@ module _ {O D : Type 0} (o : Sink.Ghosts O) (d : Device.Ghosts D) where
       let Q : Part = part_in after.kept after.outbox in
       let ys : List Driven = driven_from (setup_of now.book) after later s.events in
       ap (λ (xs : List Driven). record { body = texts 0 xs ++ at_end s.stop (closing_text (last_book load xs) (last_kept (at_zero c.topology) xs)); fault = fault_at (1 + length s.events) s.stop }) (driven_first now after s.events later from to loaded started)
-      ∙ ap (λ (text : List ℕ). record { body = text ∷ (texts 1 ys ++ at_end s.stop (closing_text (last_book load ys) (last_kept after.kept ys))); fault = fault_at (1 + length s.events) s.stop }) (append-nil (core_text 0 (outputs_at_load load) Q))
+      ∙ ap (λ (text : List ℕ). record { body = text ∷ (texts 1 ys ++ at_end s.stop (closing_text (last_book load ys) (last_kept after.kept ys))); fault = fault_at (1 + length s.events) s.stop }) (append-nil (core_text 0 (outputs_at_load load) Q ++ []) ∙ append-nil (core_text 0 (outputs_at_load load) Q))
       ∙ ap (λ (b : State). record { body = core_text 0 (outputs_at_load load) Q ∷ (texts 1 ys ++ at_end s.stop (closing_text (last_book b ys) (last_kept after.kept ys))); fault = fault_at (1 + length s.events) s.stop }) (sym loaded.book ∙ sym started.book)
       ∙ ap (λ (notices : Notices). record { body = step_text 0 Q.commands notices Q.answer ∷ (texts 1 ys ++ at_end s.stop (closing_text (last_book after.book ys) (last_kept after.kept ys))); fault = fault_at (1 + length s.events) s.stop }) (ap (λ (b : State). notices_of (outputs_at_load b)) (sym loaded.book) ∙ sym started.notices)
 

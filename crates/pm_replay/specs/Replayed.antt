@@ -7,7 +7,8 @@ use Rattle.pm_base.specs.declared.sink.Sink as Sink
 use Rattle.pm_base.specs.Inputs.{Holds}
 use Rattle.pm_base.specs.World.{World}
 use Rattle.pm_device.specs.declared.device.Device as Device
-use Rattle.pm_run.specs.Run.{Setup, cores_in, run}
+use Rattle.pm_run.specs.Run.{Setup, cores_in, loaded, run}
+use Rattle.pm_run.specs.Served.{EachServes}
 use Rattle.pm_causes.specs.Caused.{HaveCauses}
 use Rattle.pm_script.specs.Named.{IsScript}
 use Rattle.pm_trace.specs.Report.{Did}
@@ -46,3 +47,8 @@ module _ {D : Type 0} (d : Device.Ghosts D) where
 -- book before it
 abbrev pub AnswersHaveCauses : Setup → Type 0
 AnswersHaveCauses c = (events : List Event) → HaveCauses (cores_in (run c events))
+
+-- in each run each line that serves sends the messages in all boxes, each once and by rising mask of their masters, and leaves all
+-- boxes empty
+abbrev pub LinesServe : Setup → Type 0
+LinesServe c = (events : List Event) → EachServes c (loaded c).boxes (run c events)

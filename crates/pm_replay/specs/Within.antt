@@ -1,6 +1,6 @@
 -- What the parts of a run do: what they write, what they do to the device, and how they end. No call of this crate's users
 -- speaks of these words.
-use Rattle.std.specs.Prelude.{◌≡◌, ℕ, ◌+◌, Bool, List, [], ◌∷◌, ◌++◌, flat_map, length, Option, Some, None, Result, Ok, Err, ⊤}
+use Rattle.std.specs.Prelude.{◌≡◌, ℕ, ◌+◌, Bool, List, [], ◌∷◌, ◌++◌, length, Option, Some, None, Result, Ok, Err, ⊤}
 use Rattle.pm_base.specs.declared.errors.Exit.{Exit}
 use Rattle.pm_base.specs.declared.errors.Failed.{Failed}
 use Rattle.pm_base.specs.declared.events.Event.{Event}
@@ -11,7 +11,7 @@ use Rattle.pm_device.specs.declared.device.Device as Device
 use Rattle.pm_device.specs.Act.{Chain}
 use Rattle.pm_state.specs.Load.{load_of}
 use Rattle.pm_core.specs.Outbox.{Holds}
-use Rattle.pm_run.specs.Run.{Setup, book_after, cores_of, lines_of, split}
+use Rattle.pm_run.specs.Run.{Setup, book_after, cores_of, lines_of, loaded, setup_of, split}
 use Rattle.pm_state.specs.State.{State}
 use Rattle.pm_core.specs.Step.{effect, outputs, outputs_at_load}
 use Rattle.pm_apply.specs.Part.{Kept, answers_in, orders_in, part_in, part_of}
@@ -23,22 +23,24 @@ use Rattle.pm_script.specs.Script.{Script, Stop, stop_of}
 use Rattle.pm_script.specs.Script.Stop.{Bad}
 use Rattle.pm_trace.specs.Closing.{closing_text}
 use Rattle.pm_trace.specs.Report.{Report, exit_of, pieces}
-use Rattle.pm_trace.specs.Step.{core_text, notices_in, notices_of, step_text}
+use Rattle.pm_trace.specs.Notes.{notes_text}
+use Rattle.pm_trace.specs.Step.{notices_in, notices_of, step_text}
 use Rattle.pm_trace.specs.Scripts.{at_end, fault_at}
 use Rattle.pm_drive.specs.Drive.{Driven, Given, acts, drive, driven, give, kept_after, last_book, last_kept, orders_in_cores, rigs, until}
-use Rattle.pm_drive.specs.Text.{texts}
-use Rattle.pm_replay.specs.Controls.{Controls}
+use Rattle.pm_drive.specs.Text.{given_text, texts}
+use Rattle.pm_replay.specs.Controls.{Controls, stand_in}
 use Rattle.pm_replay.specs.Replay.{replay_report}
 
 -- all is as at load, before the device is given anything
 pub record IsLoaded (c : Controls) : Type 0 where
   pub book : c.book ≡ load_of c.book.fixed.object c.book.fixed.topology
   pub kept : c.kept ≡ at_zero c.book.fixed.topology
+  pub boxes : c.boxes ≡ (loaded (setup_of c.book)).boxes
   pub out : Holds (outputs_at_load c.book) c.outbox
 
 -- the events of lines, driven from where a run stands
 abbrev pub driven_from : Setup → Controls → List (List Bool) → List Event → List Driven
-driven_from c now answers events = drive now.kept answers (lines_of c events (record { book = now.book }))
+driven_from c now answers events = drive now.kept answers (lines_of c events (stand_in now))
 
 -- what is written after the last line of a script that came to its end or could not be read on
 abbrev pub closing_report : Stop → State → Kept → Report
@@ -58,10 +60,6 @@ LinesEnd n s now xs cut then (Ok end) =
     (cut ≡ None) × (s.stop ≡ stop_of end.stop) × (then.book ≡ last_book now.book xs) × (then.kept ≡ last_kept now.kept xs)
 LinesEnd n s now xs cut then (Err (stops.Bad m cause)) = (cut ≡ None) × (s.stop ≡ Bad cause) × (m ≡ n + length s.events)
 LinesEnd n s now xs cut then (Err stops.Broken) = (k : ℕ) × (cut ≡ Some k)
-
--- what is written of core steps of line n
-abbrev pub given_text : ℕ → List Given → List ℕ
-given_text n given = flat_map (λ (g : Given). core_text n g.core.outputs g.part) given
 
 -- a piece was written, by the result
 module _ {O : Type 0} (o : Sink.Ghosts O) where
@@ -103,11 +101,16 @@ module _ {O D : Type 0} (o : Sink.Ghosts O) (d : Device.Ghosts D) where
   pub record RanLine (c : Setup) (n : ℕ) (event : Event) (now then : Controls) (old new : O) (from to : D) (result : Result ⊤ Failed) : Type 0 where
     pub between : D
     pub rigged : Chain d.Does (rigs event) from between
-    pub cores : RanCores n (split c event (record { book = now.book })).events now.book now.kept then (Ok tt) result old new between to
+    pub far : Result ⊤ Failed
+    pub via : O
+    pub cores : RanCores n (split c event (stand_in now)).events now.book now.kept then (Ok tt) far old via between to
+    pub boxes : then.boxes ≡ (split c event (stand_in now)).boxes
+    pub notes : WritesOn o (notes_text n (split c event (stand_in now)).notes) far result via new
 
   -- the device was made to follow the book at load
   pub record Started (now then : Controls) (from to : D) : Type 0 where
     pub book : then.book ≡ now.book
+    pub boxes : then.boxes ≡ now.boxes
     pub part : part_in then.kept then.outbox ≡ part_of now.kept (answers_in then.outbox) now.book (outputs_at_load now.book)
     pub notices : notices_in then.outbox ≡ notices_of (outputs_at_load now.book)
     pub given : Chain d.Does (orders_in then.outbox) from to

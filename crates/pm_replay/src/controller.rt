@@ -1,6 +1,6 @@
 //! A runner, and the values that its device last took.
 
-ghost use Rattle.std.specs.Prelude.{◌≡◌, [], true, IfOk};
+ghost use Rattle.std.specs.Prelude.{◌≡◌, ◌∷◌, [], None, true, IfOk, MatchOption};
 ghost use Rattle.pm_device.specs.Act.{Chain};
 ghost use Rattle.pm_topology.specs.Masters.{ObeysMasterRules};
 ghost use Rattle.pm_topology.specs.WellFormed.{IsWellFormed};
@@ -11,20 +11,24 @@ ghost use Rattle.pm_core.specs.Step.{effect, outputs, outputs_at_load};
 ghost use Rattle.pm_apply.specs.Part.{answers_in, orders_in, part_in, part_of};
 ghost use Rattle.pm_apply.specs.Carried.{AreMarked, DifferencesAreMarked};
 ghost use Rattle.pm_apply.specs.Record.{IsRecordOf, at_zero};
+ghost use Rattle.pm_split.specs.Left.{boxes_left, events_left};
+ghost use Rattle.pm_split.specs.Split.{noted_busy};
+ghost use Rattle.pm_run.specs.Run.{loaded, setup, setup_of, split};
 ghost use Rattle.pm_trace.specs.Step.{notices_in, notices_of};
+ghost use Rattle.pm_replay.specs.Controls.{stand_in};
 
 use pm_apply::{Kept, carry, carry_all, marks_suffice};
 use pm_base::{Event, NoMemory};
 use pm_core::{Book, Outbox};
 use pm_device::Device;
 use pm_object::Object;
-use pm_run::Runner;
+use pm_run::{CoreEvents, Runner, Split};
 use pm_topology::Topology;
 use std::alloc::Global;
 use std::marker::Model;
 
-/// The book, what its last step put out, and the values that the device last took. Contracts see
-/// these three.
+/// The book, what its last step put out, the boxes of the masters, and the values that the device last took. Contracts
+/// see these four.
 #[derive(Drop)]
 pub struct Controller {
     runner: Runner,
@@ -42,7 +46,7 @@ impl Model for Controller {
 
     ghost Value = { Controls };
 
-    ghost view = { λ c. record { book = c.runner.book; kept = c.kept; outbox = c.runner.outbox } };
+    ghost view = { λ c. record { book = c.runner.book; kept = c.kept; outbox = c.runner.outbox; boxes = c.runner.boxes } };
 
     ghost invariant = { λ c. IsRecordOf c.runner.book.fixed.topology c.kept
         × (c.follows ≡ true → AreMarked c.runner.book.fixed.topology (λ u. value u c.runner.book) c.kept) };
@@ -59,6 +63,7 @@ impl Controller {
         requires masters { ObeysMasterRules topology }
         ensures book { IfOk result (λ c. c.book ≡ load_of object topology) }
         ensures kept { IfOk result (λ c. c.kept ≡ at_zero topology) }
+        ensures boxes { IfOk result (λ c. c.boxes ≡ (loaded (setup object topology)).boxes) }
         ensures out { IfOk result (λ c. Holds (outputs_at_load c.book) c.outbox) }
     {
         let kept = Kept::load(alloc, &topology)?;
@@ -94,6 +99,7 @@ impl Controller {
     pub fn start<D: Device>(&mut self, dev: &mut D)
         requires out { Holds (outputs_at_load self.old.book) self.old.outbox }
         ensures book { self.new.book ≡ self.old.book }
+        ensures boxes { self.new.boxes ≡ self.old.boxes }
         ensures part { part_in self.new.kept self.new.outbox
             ≡ part_of self.old.kept (answers_in self.new.outbox) self.old.book (outputs_at_load self.old.book) }
         ensures notices { notices_in self.new.outbox ≡ notices_of (outputs_at_load self.old.book) }
@@ -103,9 +109,38 @@ impl Controller {
         self.follows = true;
     }
 
-    /// One event, and the commands that make the device follow the book.
+    /// Splits the event of a script line. Its core events are taken by `next`.
+    pub fn split(&mut self, event: &Event) -> Split
+        ensures book { self.new.book ≡ self.old.book }
+        ensures kept { self.new.kept ≡ self.old.kept }
+        ensures events { events_left self.old.book.fixed.object self.new.boxes result.cores
+            ≡ (split (setup_of self.old.book) event.now (stand_in self.old)).events }
+        ensures boxes { boxes_left self.new.boxes result.cores
+            ≡ (split (setup_of self.old.book) event.now (stand_in self.old)).boxes }
+        ensures notes { noted_busy result.busy ≡ (split (setup_of self.old.book) event.now (stand_in self.old)).notes }
+    {
+        self.runner.split(event)
+    }
+
+    /// Takes the next core event of a line off, if there is one.
+    pub fn next(&mut self, cores: &mut CoreEvents) -> Option<Event>
+        ensures book { self.new.book ≡ self.old.book }
+        ensures kept { self.new.kept ≡ self.old.kept }
+        ensures events { MatchOption result
+            ((events_left self.old.book.fixed.object self.old.boxes cores.old ≡ [])
+            × (events_left self.old.book.fixed.object self.new.boxes cores.new ≡ []))
+            (λ event. events_left self.old.book.fixed.object self.old.boxes cores.old
+            ≡ event ∷ events_left self.old.book.fixed.object self.new.boxes cores.new) }
+        ensures boxes { boxes_left self.new.boxes cores.new ≡ boxes_left self.old.boxes cores.old }
+        ensures end { result ≡ None → self.new.boxes ≡ boxes_left self.old.boxes cores.old }
+    {
+        self.runner.next(cores)
+    }
+
+    /// One core event, and the commands that make the device follow the book.
     pub fn step<D: Device>(&mut self, event: &Event, dev: &mut D)
         ensures book { self.new.book ≡ effect event.now self.old.book }
+        ensures boxes { self.new.boxes ≡ self.old.boxes }
         ensures part { part_in self.new.kept self.new.outbox
             ≡ part_of self.old.kept (answers_in self.new.outbox) self.new.book (outputs event.now self.old.book) }
         ensures notices { notices_in self.new.outbox ≡ notices_of (outputs event.now self.old.book) }
@@ -126,6 +161,7 @@ fn follow<D: Device>(dev: &mut D, kept: &mut Kept, runner: &mut Runner, is_marke
     requires marked { is_marked ≡ true → DifferencesAreMarked runner.old.book.fixed.topology
         (λ u. value u runner.old.book) runner.old.outbox.moved.items kept.old }
     ensures book { runner.new.book ≡ runner.old.book }
+    ensures boxes { runner.new.boxes ≡ runner.old.boxes }
     ensures record { IsRecordOf runner.new.book.fixed.topology kept.new }
     ensures marks { AreMarked runner.new.book.fixed.topology (λ u. value u runner.new.book) kept.new }
     ensures part { part_in kept.new runner.new.outbox

@@ -4,18 +4,19 @@ ghost use Rattle.std.specs.Prelude.{◌≡◌, ◌≢◌, IfOk};
 ghost use Rattle.pm_base.specs.Faults.{Rose};
 ghost use Rattle.pm_base.specs.declared.prefix.StopReason.TheVariants.{Failure, Unbegun};
 ghost use Rattle.pm_reader.specs.Follow.{OfScript};
-ghost use Rattle.pm_run.specs.Run.{Setup};
+ghost use Rattle.pm_split.specs.Split.{noted_busy};
+ghost use Rattle.pm_run.specs.Run.{Setup, setup_of};
+ghost use Rattle.pm_trace.specs.Notes.{notes_text};
 ghost use Rattle.pm_trace.specs.Step.{notices_in, step_text};
 ghost use Rattle.pm_replay.specs.Within.{RanLine, RanLines, WritesOn};
 
 use crate::controller::Controller;
-use crate::writing::write_step;
-use pm_base::{Event, Failed, Inputs, Sink};
+use crate::writing::{write_busy, write_step};
+use pm_base::{Event, Failed, Inputs, NodeId, Sink};
 use pm_core::Outbox;
 use pm_device::Device;
 use pm_drive::rig;
 use pm_reader::{Follower, LineStop, LinesEnd, each_line};
-use pm_run::core_events;
 
 /// What carries out each line of a script, makes the device follow it, and writes its text.
 #[derive(Drop)]
@@ -44,7 +45,7 @@ pub(crate) fn run_lines<I: Inputs, O: Sink, D: Device>(
     out: &mut O,
     dev: &mut D,
 ) -> Result<LinesEnd, LineStop>
-    ensures ran { (c : Setup) → OfScript I.observable id (I.state inputs.old)
+    ensures ran { (c : Setup) → setup_of controller.old.book ≡ c → OfScript I.observable id (I.state inputs.old)
         (λ s. RanLines O.Sink D.Device c 1 s controller.old controller.new out.old out.new dev.old dev.new result) }
     ensures ends { IfOk result (λ end. end.stop ≢ Unbegun) }
     ensures fault { IfOk result (λ end. end.stop ≡ Failure → Rose (I.state inputs.old).faults (I.state inputs.new).faults) }
@@ -58,7 +59,7 @@ pub(crate) fn run_lines<I: Inputs, O: Sink, D: Device>(
 }
 
 /// Breaks or mends a node of the device where the line asks for that, carries out the core events of the line to the last
-/// one, and writes the text of each while the sink takes it.
+/// one, and writes the text of each, and then the line's own, while the sink takes it.
 fn run_line<O: Sink, D: Device>(
     number: u32,
     event: &Event,
@@ -66,16 +67,18 @@ fn run_line<O: Sink, D: Device>(
     out: &mut O,
     dev: &mut D,
 ) -> Result<(), Failed>
-    ensures { (c : Setup) → RanLine O.Sink D.Device c number event.now controller.old controller.new out.old out.new dev.old dev.new result }
+    ensures { (c : Setup) → setup_of controller.old.book ≡ c
+        → RanLine O.Sink D.Device c number event.now controller.old controller.new out.old out.new dev.old dev.new result }
 {
     rig(event, dev);
-    let mut left = core_events(event);
+    let parts = controller.split(event);
+    let mut left = parts.cores;
     let mut written = Ok(());
-    while let Some(core) = left.next() {
+    while let Some(core) = controller.next(&mut left) {
         controller.step(&core, dev);
         written = write_on(written, number, controller.outbox(), out);
     }
-    written
+    note_on(written, number, parts.busy, out)
 }
 
 /// Writes the lines of a core step. A sink that has failed before within the line is given nothing more.
@@ -91,5 +94,24 @@ fn write_on<O: Sink>(
     match written {
         Ok(()) => write_step(number, outbox, out),
         Err(Failed) => Err(Failed),
+    }
+}
+
+/// Writes the line of a post into a full box, if there is one. A sink that has failed before within the line is given
+/// nothing more.
+fn note_on<O: Sink>(
+    written: Result<(), Failed>,
+    number: u32,
+    busy: Option<NodeId>,
+    out: &mut O,
+) -> Result<(), Failed>
+    ensures { WritesOn O.Sink (notes_text number (noted_busy busy)) written result out.old out.new }
+{
+    match busy {
+        None => written,
+        Some(master) => match written {
+            Ok(()) => write_busy(number, master, out),
+            Err(failed) => Err(failed),
+        },
     }
 }

@@ -16,7 +16,7 @@ ghost use Rattle.pm_replay.specs.Within.{IsLoaded, RanRest, RanScript, closing_r
 ghost use Rattle.pm_trace.specs.Exits.{EndsWith, IsStarved};
 ghost use Rattle.pm_trace.specs.Report.{Reports};
 ghost use Rattle.pm_trace.specs.Scripts.{script_exit, script_or_fault};
-ghost use Rattle.pm_replay.specs.Replayed.{AnswersHaveCauses, IsRun, Replayed, RunsKeepApart};
+ghost use Rattle.pm_replay.specs.Replayed.{AnswersHaveCauses, IsRun, LinesServe, Replayed, RunsKeepApart};
 ghost use Rattle.pm_run.specs.Run.{Setup, setup, setup_of};
 ghost use Rattle.pm_replay.specs.Safe.{IsSafe};
 ghost use Rattle.pm_base.specs.World.{world};
@@ -31,6 +31,7 @@ use pm_device::Device;
 use pm_drive::driven_follows;
 use pm_object::Object;
 use pm_reader::LineStop;
+use pm_run::boxes_of_a_run;
 use pm_topology::Topology;
 use pm_trace::{Fault, refuse};
 use std::alloc::Global;
@@ -74,6 +75,9 @@ pub fn replay<I: Inputs, O: Sink, D: Device>(
     ensures keeps { RunsKeepApart D.Device (setup object topology) dev.old dev.new }
     // Each answer of a run has its causes in the book before its step.
     ensures causes { AnswersHaveCauses (setup object topology) }
+    // Each line of a run that serves sends the messages in all boxes, each once and by rising mask of their masters, and
+    // leaves all boxes empty.
+    ensures boxes { LinesServe (setup object topology) }
     // On Memory nothing was written but the fault line, as far as the sink took it.
     ensures memory { result ≡ Exit.Memory → IsStarved O.Sink out.old out.new }
     // On Memory the device is as before.
@@ -91,6 +95,7 @@ pub fn replay<I: Inputs, O: Sink, D: Device>(
 {
     driven_runs_keep_apart::<D>();
     runs_have_causes();
+    boxes_of_a_run();
     run_named(alloc, object, topology, inputs, script, out, dev)
 }
 
@@ -175,7 +180,7 @@ fn run_rest<I: Inputs, O: Sink, D: Device>(
     out: &mut O,
     dev: &mut D,
 ) -> Exit
-    ensures ran { (c : Setup) → OfScript I.observable id (I.state inputs.old)
+    ensures ran { (c : Setup) → setup_of controller.old.book ≡ c → OfScript I.observable id (I.state inputs.old)
         (λ s. RanRest O.Sink D.Device c 1 s controller.old out.old out.new dev.old dev.new result) }
     ensures fault { result ≡ Exit.ReadFault → Rose (I.state inputs.old).faults (I.state inputs.new).faults }
 {

@@ -3,14 +3,16 @@
 ghost use Rattle.std.specs.Prelude.{◌≡◌, ◌<◌, Some, length, map, slice_get};
 ghost use Rattle.pm_apply.specs.Part.{part_in};
 ghost use Rattle.pm_state.specs.Units.{units};
+ghost use Rattle.pm_split.specs.Split.{noted_busy};
+ghost use Rattle.pm_trace.specs.Notes.{notes_text};
 ghost use Rattle.pm_trace.specs.Closing.{closing_lines, closing_text};
 ghost use Rattle.pm_trace.specs.Step.{notices_in, step_text};
 ghost use Rattle.pm_replay.specs.Within.{Writes};
 
 use crate::controller::Controller;
-use pm_base::{Failed, Sink, write_all};
+use pm_base::{Failed, NodeId, Sink, write_all};
 use pm_core::Outbox;
-use pm_trace::{TextLine, closing, entries, entry};
+use pm_trace::{TextLine, busy_line, closing, entries, entry};
 
 /// Writes the lines of a step.
 pub(crate) fn write_step<O: Sink>(number: u32, outbox: &Outbox, out: &mut O) -> Result<(), Failed>
@@ -22,6 +24,15 @@ pub(crate) fn write_step<O: Sink>(number: u32, outbox: &Outbox, out: &mut O) -> 
         write_all(out, line.as_slice())?;
     }
     Ok(())
+}
+
+/// Writes the line of a post into the full box of a master.
+pub(crate) fn write_busy<O: Sink>(number: u32, master: NodeId, out: &mut O) -> Result<(), Failed>
+    ensures { Writes O.Sink (notes_text number (noted_busy (Some master))) out.old out.new result }
+{
+    let mut line = TextLine::new();
+    busy_line(number, master, &mut line);
+    write_all(out, line.as_slice())
 }
 
 /// Writes the closing table.

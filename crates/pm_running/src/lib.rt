@@ -9,5 +9,7 @@ pub mod running;
 
 pub use asked::{Asked, joined, replay_of};
 pub use devices::{listed, model, node};
-pub use objects::{ALONE, DOMAINS, LABORATORY, OBJECT, STANDS, STARTED, USUAL};
+pub use objects::{
+    ALONE, BOXES, BOXES_SETTLED, DOMAINS, LABORATORY, OBJECT, STANDS, STARTED, USUAL,
+};
 pub use running::{bytes_of, run, run_with};

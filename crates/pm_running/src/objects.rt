@@ -20,6 +20,26 @@ pub const STARTED: &str = "0 set 62 0 1\n0 set 6 0 1\n0 set 7 0 1\n0 run 7 0\n";
 
 pub const STANDS: &str = "end power 6 1 1\nend proc 7 1 1\nend power 62 1 1\n";
 
+/// Three masters, in another order than that of their masks. Each may use slaves 11 and 33, of which 11 can be shared;
+/// master 7 may force domain 10 and shut down all.
+pub const BOXES: &[u32] = &[
+    2, 4, 1, 0x101, 3, 1, 0x4, 100, 0, 0, 7, 0x1, 100, 0, 0, 8, 0x2, 100, 0, 0, 0x102, 2, 11, 1,
+    0x7, 33, 0, 0x7, 0x104, 1, 10, 0x1, 0x106, 1, 1, 0x1,
+];
+
+/// What a run over it writes at load and of its first line, `ipi 1 21`.
+pub const BOXES_SETTLED: &str = "0 set 10 0 1
+0 set 62 0 1
+0 set 1 0 1
+0 set 2 0 1
+0 set 11 0 2
+0 set 33 0 1
+0 run 2 0
+1 set 11 2 0
+1 set 33 1 0
+1 reply 1 0 0 0 0
+";
+
 /// The real-time processors as two masters, of which the second may use a slave of each class, in each power
 /// domain: the memory 15 in the processors' own domain, the peripherals 28 and 42 below FPD and 33 below LPD,
 /// the external interrupts 49, the dynamic memory 55 below FPD and the block 63 below PLD.

@@ -2,6 +2,12 @@
 #![tactic(auto)]
 
 #[cfg(test)]
+mod boxes;
+#[cfg(test)]
+mod boxes_apart;
+#[cfg(test)]
+mod boxes_order;
+#[cfg(test)]
 mod checks;
 #[cfg(test)]
 mod each_byte;

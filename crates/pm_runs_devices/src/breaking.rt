@@ -3,6 +3,7 @@
 use super::checks::check_with;
 use super::devices::check_listed;
 use pm_base::{Exit, MemSink};
+use pm_gen::make;
 use pm_running::{LABORATORY, joined, listed, model, replay_of, run_with};
 use std::alloc::{AllocError, Global};
 use std::process::Abort;
@@ -159,11 +160,12 @@ wfi 2
 ipi 7 14 28
 ";
 
-/// The book's columns of the closing table, and how many commands failed.
+/// The book's columns of the closing table, how many commands the device was given, and how many of them failed.
 #[derive(Drop)]
 struct Seen {
     book: String,
-    failed: usize,
+    given: u32,
+    failed: u32,
 }
 
 fn push_book(line: &str, book: &mut String) -> Result<(), AllocError> {
@@ -183,47 +185,88 @@ fn push_book(line: &str, book: &mut String) -> Result<(), AllocError> {
     Ok(())
 }
 
-fn is_failed(line: &str) -> bool {
-    line.split_whitespace().nth(1) == Some("fail")
+/// Counts the command of a line, if the line is that of a command on a node.
+fn count_command(line: &str, seen: &mut Seen) {
+    match line.split_whitespace().nth(1) {
+        Some("set") => seen.given = seen.given.saturating_add(1),
+        Some("fail") => {
+            seen.given = seen.given.saturating_add(1);
+            seen.failed = seen.failed.saturating_add(1);
+        }
+        _ => {}
+    }
 }
 
-/// What is seen of the run where these commands fail.
-fn seen_with(rt: &(impl Abort + AllocGlobal), failing: &[u32]) -> Result<Seen, Fail> {
+/// What is seen of the run of a script where these commands fail.
+fn seen_with(
+    rt: &(impl Abort + AllocGlobal),
+    script: &[u8],
+    failing: &[u32],
+) -> Result<Seen, Fail> {
     let mut device = listed(rt.alloc(), failing)?;
     let mut out = MemSink::new(rt.alloc(), None)?;
-    let asked = replay_of(LABORATORY, SLEEPING.as_bytes());
+    let asked = replay_of(LABORATORY, script);
     let exit = run_with(rt.alloc(), &asked, &mut out, &mut *device)?;
     assert_eq!(rt; exit, Exit::Done, "{failing:?}");
     let text = std::str::from_utf8(out.bytes()).unwrap_or("");
     let mut seen = Seen {
         book: String::new(rt.alloc()),
+        given: 0,
         failed: 0,
     };
     for line in text.lines() {
         push_book(line, &mut seen.book)?;
-        if is_failed(line) {
-            seen.failed = seen.failed.saturating_add(1);
-        }
+        count_command(line, &mut seen);
     }
     Ok(seen)
 }
 
-#[test]
-fn the_book_is_the_same_whichever_command_fails(rt: HostRuntime) -> Result<(), Fail> {
-    let whole = seen_with(&rt, &[])?;
-    assert_eq!(rt; whole.failed, 0);
-    assert_eq!(rt;
-        whole.book.as_str(),
-        "proc 2 2 power 6 1 proc 7 1 power 62 1 "
-    );
-    for command in 1..=21 {
-        let seen = seen_with(&rt, &[command])?;
+/// Runs a script once for each command that a device which doesn't fail is given, with that command failing alone: one
+/// command fails, and the book's columns are those of the run in which none does.
+fn check_each_command(
+    rt: &(impl Abort + AllocGlobal),
+    script: &[u8],
+    whole: &Seen,
+) -> Result<(), Fail> {
+    for command in 1..=whole.given {
+        let seen = seen_with(rt, script, &[command])?;
         assert_eq!(rt; seen.failed, 1, "command {command}");
         assert_eq!(rt;
             seen.book.as_str(),
             whole.book.as_str(),
             "command {command}"
         );
+    }
+    Ok(())
+}
+
+#[test]
+fn the_book_is_the_same_whichever_command_fails(rt: HostRuntime) -> Result<(), Fail> {
+    let whole = seen_with(&rt, SLEEPING.as_bytes(), &[])?;
+    assert_eq!(rt; (whole.given, whole.failed), (21, 0));
+    assert_eq!(rt;
+        whole.book.as_str(),
+        "proc 2 2 power 6 1 proc 7 1 power 62 1 "
+    );
+    check_each_command(&rt, SLEEPING.as_bytes(), &whole)
+}
+
+/// Numbers of scripts that are made, and how many commands the device is given in the run of each.
+static MADE: [(u32, u32); 3] = [(8, 18), (50, 30), (60, 26)];
+
+#[test]
+fn the_book_of_a_made_script_is_the_same_whichever_command_fails(
+    rt: HostRuntime,
+) -> Result<(), Fail> {
+    for (number, commands) in &MADE {
+        let script = make(rt.alloc(), *number)?;
+        let whole = seen_with(&rt, &script, &[])?;
+        assert_eq!(rt;
+            (whole.given, whole.failed),
+            (*commands, 0),
+            "script {number}"
+        );
+        check_each_command(&rt, &script, &whole)?;
     }
     Ok(())
 }

@@ -23,6 +23,7 @@ returns g c =
       ran = ran;
       keeps = record { run = λ answers events drove. c.driven_runs_keep_apart.ensures.run cs events answers w.device w'.device c.requires.object c.requires.formed drove; steps = λ answers events cut drove. c.driven_runs_keep_apart.ensures.steps cs events answers cut w.device w'.device c.requires.object c.requires.formed drove };
       causes = λ events. c.runs_have_causes.ensures.run cs events;
+      boxes = λ events. c.boxes_of_a_run.ensures cs events c.requires.object;
       memory = scripts.did_memory g.I.Inputs g.O.Sink script_itself (replay_report cs) (of_script cs) name w.inputs w'.inputs w.sink w'.sink result Asks (λ job asked. asked) Touching ran;
       untouched = replay_untouched g.I.Inputs g.O.Sink g.D.Device cs name w w' result ran;
       read_fault = scripts.did_read_fault g.I.Inputs g.O.Sink script_itself (replay_report cs) (of_script cs) name w.inputs w'.inputs w.sink w'.sink result Asks (λ job asked. asked) Touching ran;

@@ -9,11 +9,11 @@ use Rattle.pm_replay.proofs.RestLemmas.{RanRest-bad, RanRest-broken, RanRest-clo
 use Rattle.pm_replay.proofs.run.run_rest.Goals as goal
 
 pub returns-in-Ok-clause-ran : goal.returns-in-Ok-clause-ran
-returns-in-Ok-clause-ran g c = λ cs.
+returns-in-Ok-clause-ran g c = λ cs is.
     let then = c.run_lines.new.controller in
     of_more g.I.Inputs.observable c.args.id (g.I.Inputs.state c.args.inputs.now) _ _
     (λ s ran. RanRest-closed g.O.Sink g.D.Device cs 1 s c.in-Ok.end.stop c.args.controller.now then c.args.out.now c.run_lines.new.out c.finish.new.out c.args.dev.now c.run_lines.new.dev c.finish.result c.in-Ok.end.count ran c.finish.ensures)
-    (c.in-Ok.ensures.ran cs)
+    (c.in-Ok.ensures.ran cs is)
 
 pub returns-in-Ok-clause-fault : goal.returns-in-Ok-clause-fault
 returns-in-Ok-clause-fault g c = λ is.
@@ -22,10 +22,10 @@ returns-in-Ok-clause-fault g c = λ is.
     c.in-Ok.ensures.fault (failure_by c.in-Ok.end.stop c.in-Ok.ensures.ends (read_by g.O.Sink (closing_report (stop_of c.in-Ok.end.stop) then.book then.kept) reports.cut c.run_lines.new.out c.finish.new.out c.finish.result reports.left reports.ends is))
 
 pub returns-in-Err-Bad-clause-ran : goal.returns-in-Err-Bad-clause-ran
-returns-in-Err-Bad-clause-ran g c = λ cs.
+returns-in-Err-Bad-clause-ran g c = λ cs is.
     of_more g.I.Inputs.observable c.args.id (g.I.Inputs.state c.args.inputs.now) _ _
     (λ s ran. RanRest-bad g.O.Sink g.D.Device cs 1 c.in-Err-Bad.number c.in-Err-Bad.cause s c.args.controller.now c.run_lines.new.controller c.args.out.now c.run_lines.new.out c.refuse.new.out c.args.dev.now c.run_lines.new.dev c.refuse.result ran c.refuse.ensures)
-    ((rw c.in-Err-Bad.field-0-is at c.in-Err-Bad.ensures.ran) cs)
+    ((rw c.in-Err-Bad.field-0-is at c.in-Err-Bad.ensures.ran) cs is)
 
 pub returns-in-Err-Bad-clause-fault : goal.returns-in-Err-Bad-clause-fault
 returns-in-Err-Bad-clause-fault g c = λ is.
@@ -33,7 +33,7 @@ returns-in-Err-Bad-clause-fault g c = λ is.
     absurd (line_is_read c.in-Err-Bad.number c.in-Err-Bad.cause (read_by g.O.Sink (refusal (Line c.in-Err-Bad.number c.in-Err-Bad.cause)) reports.cut c.run_lines.new.out c.refuse.new.out c.refuse.result reports.left reports.ends is))
 
 pub returns-in-Err-Broken-clause-ran : goal.returns-in-Err-Broken-clause-ran
-returns-in-Err-Broken-clause-ran g c = λ cs.
+returns-in-Err-Broken-clause-ran g c = λ cs is.
     of_more g.I.Inputs.observable c.args.id (g.I.Inputs.state c.args.inputs.now) _ _
     (λ s ran. RanRest-broken g.O.Sink g.D.Device cs 1 s c.args.controller.now c.run_lines.new.controller c.args.out.now c.run_lines.new.out c.args.dev.now c.run_lines.new.dev ran)
-    ((rw c.in-Err-Broken.field-0-is at c.in-Err-Broken.ensures.ran) cs)
+    ((rw c.in-Err-Broken.field-0-is at c.in-Err-Broken.ensures.ran) cs is)

@@ -1,0 +1,81 @@
+-- The lines that tell other masters that their boxes are full are those of the run without the messages of a master.
+use Rattle.std.proofs.Common.{◌≡◌, ℕ, ◌==◌, Bool, true, false, not, cond, if◌then◌else◌, List, [], ◌∷◌, ◌++◌, Option, refl, ap, ◌∙◌}
+use Rattle.std.specs.Prelude.{filter, flat_map, map}
+use Rattle.std.proofs.lemmas.List.Elements.{filter-append}
+use Rattle.pm_base.specs.declared.events.Event.{Event}
+use Rattle.pm_base.specs.declared.names.NodeId.{NodeId}
+use Rattle.pm_base.specs.declared.names.Unit.{Unit}
+use Rattle.pm_base.specs.declared.names.Unit.TheVariants.{Node, Line}
+use Rattle.pm_split.specs.Split.{Note}
+use Rattle.pm_split.specs.Split.Note.{Busy}
+use Rattle.pm_run.specs.Run.{Line as ScriptLine, Setup, run}
+use Rattle.pm_laws.specs.Quiet.{quiet}
+use Rattle.pm_laws.specs.Worlds.{AreWorldsAlike, IsLineAlike, busy_others}
+use Rattle.pm_trace.specs.declared.line.Word.{Word}
+use Rattle.pm_trace.specs.declared.step.StepLine.{StepLine}
+use Rattle.pm_trace.specs.declared.step.StepLine.TheVariants as told
+use Rattle.pm_trace.specs.Line.{numbers}
+use Rattle.pm_trace.specs.Notes.{note_words}
+use Rattle.pm_trace.specs.Step.{command_name, notices_of, step_words, told_lines}
+use Rattle.pm_drive.specs.Drive.{Given, driven, give, until}
+use Rattle.pm_apart.specs.Lines.{given_lines, note_lines, numbered, step_lines}
+use Rattle.pm_apart.specs.Telling.{tells_busy}
+use Rattle.pm_apart.proofs.Cuts.{both_map}
+use Rattle.pm_apart.proofs.FilterLemmas.{none_of_both}
+use Rattle.pm_apart.proofs.FoundLemmas.{IsFound, LineFinds, runs_found}
+use Rattle.pm_apart.proofs.TextsLaw.{made_twice, none_made}
+
+module _ (m : NodeId) where
+  -- no line of a core step tells of a full box
+  no_command : (n : ℕ) (x : Unit) (ok : Bool) (others : List Word) → tells_busy m (numbered n (command_name x ok ++ others)) ≡ false
+  no_command n (Node a) true others = refl
+  no_command n (Node a) false others = refl
+  no_command n (Line a) true others = refl
+  no_command n (Line a) false others = refl
+
+  no_line : (n : ℕ) (line : StepLine) → tells_busy m (numbered n (step_words line)) ≡ false
+  no_line n (told.Command d) = no_command n d.command.unit d.ok (numbers (d.from ∷ d.command.value ∷ []))
+  no_line n (told.Start start) = refl
+  no_line n (told.Reply master response) = refl
+  no_line n (told.Drop master) = refl
+  no_line n (told.Call callback) = refl
+
+  none_given : (n : ℕ) (given : List Given) → filter (tells_busy m) (flat_map (given_lines n) given) ≡ []
+  none_given n [] = refl
+  none_given n (g ∷ given) =
+      let lines : List StepLine = told_lines g.part.commands (notices_of g.core.outputs) g.part.answer in
+      none_of_both (tells_busy m) (given_lines n g) (flat_map (given_lines n) given)
+      (ap (filter (tells_busy m)) (made_twice step_words (numbered n) lines)
+      ∙ none_made (tells_busy m) (λ (line : StepLine). numbered n (step_words line)) (no_line n) lines)
+      (none_given n given)
+
+  -- the lines of the masters whose boxes are full
+  abbrev busy_line : ℕ → NodeId → List Word
+  busy_line n master = numbered n (note_words (Busy master))
+
+  abbrev busy_lines : ℕ → ScriptLine → List (List Word)
+  busy_lines n line = map (busy_line n) (busy_others m line.notes)
+
+  notes_found : (n : ℕ) (notes : List Note) → filter (tells_busy m) (note_lines n notes) ≡ map (busy_line n) (busy_others m notes)
+  notes_found n [] = refl
+  notes_found n (Busy master ∷ notes) = at (master.0 == m.0) (notes_found n notes)
+    where
+      later : List (List Word)
+      later = filter (tells_busy m) (note_lines n notes)
+
+      at : (own : Bool) → later ≡ map (busy_line n) (busy_others m notes)
+          → cond (not own) (busy_line n master ∷ later) later ≡ map (busy_line n) ((if own then [] else master ∷ []) ++ busy_others m notes)
+      at true same = same
+      at false same = ap (λ lines. busy_line n master ∷ lines) same
+
+  line_busy : LineFinds (tells_busy m) busy_lines
+  line_busy n kept answers line drops =
+      let given : List Given = give kept answers line.cores in
+      filter-append (tells_busy m) (flat_map (given_lines n) given) (note_lines n line.notes)
+      ∙ (ap (λ found. found ++ filter (tells_busy m) (note_lines n line.notes)) (none_given n given) ∙ notes_found n line.notes)
+
+pub busy_apart : (c : Setup) (m : NodeId) (events : List Event) → AreWorldsAlike c m events → (answers others : List (List Bool)) (cut : Option ℕ)
+    → filter (tells_busy m) (step_lines 0 (until cut (driven c answers events))) ≡ filter (tells_busy m) (step_lines 0 (until cut (driven c others (quiet m events))))
+busy_apart c m events alike answers others cut =
+    runs_found (tells_busy m) (busy_lines m) (line_busy m) c m events answers others cut
+    (both_map (IsLineAlike c m) (IsFound (tells_busy m) (busy_lines m)) (λ x y same n. ap (map (busy_line m n)) same.busy) (run c events) (run c (quiet m events)) alike)
