@@ -8,3 +8,4 @@ pub mod MovesLemmas
 pub mod PlacesLemmas
 pub mod ReportLemmas
 pub mod WithinLaw
+pub mod StandLemmas

@@ -21,12 +21,12 @@ use Rattle.pm_state.specs.State.{CoreHalf, Fixed, State}
 use Rattle.pm_state.specs.Units.{units}
 use Rattle.pm_state.specs.Values.{point_at, shown, value, value_at}
 use Rattle.pm_core.specs.Step.{effect}
-use Rattle.pm_run.specs.Run.{book_after, setup_of, split}
+use Rattle.pm_run.specs.Run.{Stand, book_after, loaded, setup, setup_of, split}
 use Rattle.pm_isolate.specs.Marks.{Marks, has_place, is_proc, proc_places, renewed_along, renewed_at}
 use Rattle.pm_isolate.specs.Moves.{Logged, cleared, is_logged, line_moves}
 use Rattle.pm_laws.specs.Quiet.{quiet_event}
 use Rattle.pm_isolate.specs.Sides.{AreMarked, Sides}
-use Rattle.pm_isolate.specs.Within.{line_book, looked, noted, noted_in, stepped}
+use Rattle.pm_isolate.specs.Within.{begun, line_after, looked, noted, noted_in, stepped}
 use Rattle.pm_isolate.proofs.HistoryLemmas.{clash, not_false, one}
 use Rattle.pm_isolate.proofs.MovesLemmas.{unmoved}
 use Rattle.pm_isolate.proofs.PlacesLemmas.{neither_place, procs_there, renewed_all}
@@ -140,76 +140,84 @@ units_same : (f : Unit → Bool → Bool) (marks : Marks) → units_in (mapped f
 units_same f [] = refl
 units_same f (mark ∷ marks) = ap (λ us. mark.0 ∷ us) (units_same f marks)
 
-module _ (event other : Event) (a b : State) (marks : Marks) (marked : AreMarked a b marks) where
-  fixed_loud : (line_book event a).fixed ≡ a.fixed
-  fixed_loud = fixed_along (split (setup_of a) event (record { book = a })).events a
+module _ (event other : Event) (a b : Stand) (marks : Marks) (marked : AreMarked a.book b.book marks) where
+  fixed_loud : (line_after event a).book.fixed ≡ a.book.fixed
+  fixed_loud = fixed_along (split (setup_of a.book) event a).events a.book
 
-  fixed_quiet : (line_book other b).fixed ≡ b.fixed
-  fixed_quiet = fixed_along (split (setup_of b) other (record { book = b })).events b
+  fixed_quiet : (line_after other b).book.fixed ≡ b.book.fixed
+  fixed_quiet = fixed_along (split (setup_of b.book) other b).events b.book
 
-  pub line_looked : UnitLaws → TablePlaceLaws Bool → (m : Logged) (procs : List ℕ) → procs ≡ proc_places a.fixed.topology 0 (units a)
-      → looked (line_book event a) (line_book other b) (line_moves marks other b (line_moves marks event a (cleared m))) procs marks ≡ noted (line_book event a) (line_book other b) marks
+  pub line_looked : UnitLaws → TablePlaceLaws Bool → (m : Logged) (procs : List ℕ) → procs ≡ proc_places a.book.fixed.topology 0 (units a.book)
+      → looked (line_after event a).book (line_after other b).book (line_moves marks other b (line_moves marks event a (cleared m))) procs marks ≡ noted (line_after event a).book (line_after other b).book marks
   line_looked laws places m procs at_procs =
-      looked_all places a b (line_book event a) (line_book other b) marks (line_moves marks other b (line_moves marks event a (cleared m))) procs at_procs marked fixed_loud fixed_quiet kept
+      looked_all places a.book b.book (line_after event a).book (line_after other b).book marks (line_moves marks other b (line_moves marks event a (cleared m))) procs at_procs marked fixed_loud fixed_quiet kept
     where
       rising : rises (units_in marks) ≡ true
-      rising = ap rises marked.units ∙ (laws.are a.fixed.topology).rising
+      rising = ap rises marked.units ∙ (laws.are a.book.fixed.topology).rising
 
-      in_quiet : units_in marks ≡ units b
+      in_quiet : units_in marks ≡ units b.book
       in_quiet = marked.units ∙ ap (λ (f : Fixed). units_of f.topology) (sym marked.fixed)
 
       kept : (k : ℕ) (e : Unit × Bool) → slice_get marks k ≡ Some e → is_logged (line_moves marks other b (line_moves marks event a (cleared m))) k ≡ false
-          → (value e.0 (line_book event a) ≡ value e.0 a) × (value e.0 (line_book other b) ≡ value e.0 b)
+          → (value e.0 (line_after event a).book ≡ value e.0 a.book) × (value e.0 (line_after other b).book ≡ value e.0 b.book)
       kept k e at none =
-          let second = unmoved marks (split (setup_of b) other (record { book = b })).events b (line_moves marks event a (cleared m)) k e rising in_quiet at none in
-          let first = unmoved marks (split (setup_of a) event (record { book = a })).events a (cleared m) k e rising marked.units at second.0 in
+          let second = unmoved marks (split (setup_of b.book) other b).events b.book (line_moves marks event a (cleared m)) k e rising in_quiet at none in
+          let first = unmoved marks (split (setup_of a.book) event a).events a.book (cleared m) k e rising marked.units at second.0 in
           (first.1, second.1)
 
-  pub line_marked : AreMarked (line_book event a) (line_book other b) (noted (line_book event a) (line_book other b) marks)
+  pub line_marked : AreMarked (line_after event a).book (line_after other b).book (noted (line_after event a).book (line_after other b).book marks)
   line_marked =
-      marked_by (line_book event a) (line_book other b) marks (fixed_quiet ∙ marked.fixed ∙ sym fixed_loud)
-      (units_same (noted_in (line_book event a) (line_book other b)) marks ∙ marked.units ∙ ap (λ (f : Fixed). units_of f.topology) (sym fixed_loud))
+      marked_by (line_after event a).book (line_after other b).book marks (fixed_quiet ∙ marked.fixed ∙ sym fixed_loud)
+      (units_same (noted_in (line_after event a).book (line_after other b).book) marks ∙ marked.units ∙ ap (λ (f : Fixed). units_of f.topology) (sym fixed_loud))
 
   -- the places of the processors are those that they were
-  pub line_procs : (procs : List ℕ) → procs ≡ proc_places a.fixed.topology 0 (units a) → procs ≡ proc_places (line_book event a).fixed.topology 0 (units (line_book event a))
+  pub line_procs : (procs : List ℕ) → procs ≡ proc_places a.book.fixed.topology 0 (units a.book) → procs ≡ proc_places (line_after event a).book.fixed.topology 0 (units (line_after event a).book)
   line_procs procs at = at ∙ ap (λ (f : Fixed). proc_places f.topology 0 (units_of f.topology)) (sym fixed_loud)
 
 -- ---- a step of both runs
 
-abbrev sides : State → State → Marks → Sides
+abbrev sides : Stand → Stand → Marks → Sides
 sides a b marks = record { loud = a; quiet = b; differs = marks }
 
-module _ (laws : UnitLaws) (places : TablePlaceLaws Bool) (master : NodeId) (event other : Event) (a b a' b' : State) (marks marks' : Marks) (m m0 m1 m2 : Logged) (procs : List ℕ)
-    (marked : AreMarked a b marks) (at_procs : procs ≡ proc_places a.fixed.topology 0 (units a)) (is_quiet : other ≡ quiet_event master event) (clears : m0 ≡ cleared m)
-    (loud : a' ≡ line_book event a) (moves : m1 ≡ line_moves marks event a m0) (quiet : b' ≡ line_book other b) (more : m2 ≡ line_moves marks other b m1) (notes : marks' ≡ looked a' b' m2 procs marks) where
-  marks_are : marks' ≡ noted (line_book event a) (line_book other b) marks
+module _ (laws : UnitLaws) (places : TablePlaceLaws Bool) (master : NodeId) (event other : Event) (a b a' b' : Stand) (marks marks' : Marks) (m m0 m1 m2 : Logged) (procs : List ℕ)
+    (marked : AreMarked a.book b.book marks) (at_procs : procs ≡ proc_places a.book.fixed.topology 0 (units a.book)) (is_quiet : other ≡ quiet_event master event) (clears : m0 ≡ cleared m)
+    (loud : a' ≡ line_after event a) (moves : m1 ≡ line_moves marks event a m0) (quiet : b' ≡ line_after other b) (more : m2 ≡ line_moves marks other b m1) (notes : marks' ≡ looked a'.book b'.book m2 procs marks) where
+  marks_are : marks' ≡ noted (line_after event a).book (line_after other b).book marks
   marks_are =
       let logged : m2 ≡ line_moves marks other b (line_moves marks event a (cleared m)) =
       more ∙ ap (λ (x : Logged). line_moves marks other b x) (moves ∙ ap (λ (x : Logged). line_moves marks event a x) clears)
       in
       notes
-      ∙ ap (λ (x : State). looked x b' m2 procs marks) loud
-      ∙ ap (λ (x : State). looked (line_book event a) x m2 procs marks) quiet
-      ∙ ap (λ (x : Logged). looked (line_book event a) (line_book other b) x procs marks) logged
+      ∙ ap (λ (x : Stand). looked x.book b'.book m2 procs marks) loud
+      ∙ ap (λ (x : Stand). looked (line_after event a).book x.book m2 procs marks) quiet
+      ∙ ap (λ (x : Logged). looked (line_after event a).book (line_after other b).book x procs marks) logged
       ∙ line_looked event other a b marks marked laws places m procs at_procs
 
   pub step_is : sides a' b' marks' ≡ stepped master event (sides a b marks)
   step_is =
-      ap (λ (x : State). sides x b' marks') loud
-      ∙ ap (λ (x : State). sides (line_book event a) x marks') quiet
-      ∙ ap (λ (x : Marks). sides (line_book event a) (line_book other b) x) marks_are
-      ∙ ap (λ (e : Event). sides (line_book event a) (line_book e b) (noted (line_book event a) (line_book e b) marks)) is_quiet
+      ap (λ (x : Stand). sides x b' marks') loud
+      ∙ ap (λ (x : Stand). sides (line_after event a) x marks') quiet
+      ∙ ap (λ (x : Marks). sides (line_after event a) (line_after other b) x) marks_are
+      ∙ ap (λ (e : Event). sides (line_after event a) (line_after e b) (noted (line_after event a).book (line_after e b).book marks)) is_quiet
 
-  pub step_marked : AreMarked a' b' marks'
+  pub step_marked : AreMarked a'.book b'.book marks'
   step_marked =
-      subst (λ (x : State). AreMarked x b' marks') (sym loud)
-      (subst (λ (x : State). AreMarked (line_book event a) x marks') (sym quiet)
-      (subst (λ (x : Marks). AreMarked (line_book event a) (line_book other b) x) (sym marks_are) (line_marked event other a b marks marked)))
+      subst (λ (x : Stand). AreMarked x.book b'.book marks') (sym loud)
+      (subst (λ (x : Stand). AreMarked (line_after event a).book x.book marks') (sym quiet)
+      (subst (λ (x : Marks). AreMarked (line_after event a).book (line_after other b).book x) (sym marks_are) (line_marked event other a b marks marked)))
 
-  pub step_procs : procs ≡ proc_places a'.fixed.topology 0 (units a')
-  step_procs = subst (λ (x : State). procs ≡ proc_places x.fixed.topology 0 (units x)) (sym loud) (line_procs event other a b marks marked procs at_procs)
+  pub step_procs : procs ≡ proc_places a'.book.fixed.topology 0 (units a'.book)
+  step_procs = subst (λ (x : Stand). procs ≡ proc_places x.book.fixed.topology 0 (units x.book)) (sym loud) (line_procs event other a b marks marked procs at_procs)
 
 -- ---- the load
+
+-- both runs begin at load, over one object and one chip
+pub begins : (object : Object) (t : Topology) (object' : Object) (t' : Topology) (a b : Stand) (marks : Marks) → object' ≡ object → t' ≡ t
+    → a ≡ loaded (setup object t) → b ≡ loaded (setup object' t') → marks ≡ all_at false (units_of t) → sides a b marks ≡ begun (setup object t)
+begins object t object' t' a b marks same same' loud quiet first =
+    ap (λ (x : Stand). sides x b marks) loud
+    ∙ ap (λ (x : Stand). sides (loaded (setup object t)) x marks) (quiet ∙ ap (λ (o : Object). loaded (setup o t')) same ∙ ap (λ (x : Topology). loaded (setup object x)) same')
+    ∙ ap (λ (x : Marks). sides (loaded (setup object t)) (loaded (setup object t)) x) first
 
 pub load_marked : (object : Object) (t : Topology) (a b : State) (marks : Marks) → a ≡ load_of object t → b ≡ load_of object t → marks ≡ all_at false (units_of t) → AreMarked a b marks
 load_marked object t a b marks loud quiet first =

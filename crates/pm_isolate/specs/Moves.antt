@@ -8,7 +8,7 @@ use Rattle.pm_state.specs.State.{State}
 use Rattle.pm_state.specs.Units.{moved}
 use Rattle.pm_state.specs.Values.{value}
 use Rattle.pm_core.specs.Step.{effect}
-use Rattle.pm_run.specs.Run.{setup_of, split}
+use Rattle.pm_run.specs.Run.{Stand, setup_of, split}
 use Rattle.pm_isolate.specs.Marks.{Marks, has_place}
 
 -- the places that were logged, or all places, if there was no room for one
@@ -48,5 +48,5 @@ logged_along marks (event ∷ events) book m =
     logged_along marks events (effect event book) (with_units marks (moved (λ u. value u book) (effect event book)) m)
 
 -- and of those that a script line moves
-abbrev pub line_moves : Marks → Event → State → Logged → Logged
-line_moves marks event book m = logged_along marks (split (setup_of book) event (record { book = book })).events book m
+abbrev pub line_moves : Marks → Event → Stand → Logged → Logged
+line_moves marks event stand m = logged_along marks (split (setup_of stand.book) event stand).events stand.book m

@@ -1,16 +1,17 @@
--- Two runs side by side: both books, and for each unit whether it was found to differ.
+-- Two runs side by side: where both stand, and for each unit whether it was found to differ.
 use Rattle.std.specs.Prelude.{◌≡◌, ℕ, Bool, false, Some, slice_get}
 use Rattle.pm_base.specs.declared.names.Unit.{Unit}
 use Rattle.pm_topology.specs.UnitMap.{units_in}
 use Rattle.pm_state.specs.State.{State}
 use Rattle.pm_state.specs.Units.{units}
 use Rattle.pm_state.specs.Values.{shown}
+use Rattle.pm_run.specs.Run.{Stand}
 use Rattle.pm_isolate.specs.Marks.{Marks}
 
--- the book with all messages, the quiet one without those of a master, and the marks of the units
+-- the run with all messages, the quiet one without those of a master, and the marks of the units
 pub record Sides : Type 0 where
-  pub loud : State
-  pub quiet : State
+  pub loud : Stand
+  pub quiet : Stand
   pub differs : Marks
 
 -- two books have one object and one chip, each unit of the chip has its mark, and one that wasn't found to differ shows the

@@ -13,8 +13,7 @@ use Rattle.pm_topology.specs.UnitMap.{all_at, mapped}
 use Rattle.pm_topology.specs.Units.{units_of}
 use Rattle.pm_reach.specs.declared.members.Member.{Member}
 use Rattle.pm_reach.specs.Membership.{IsReach}
-use Rattle.pm_state.specs.Load.{load_of}
-use Rattle.pm_run.specs.Run.{Setup, line_of, setup_of}
+use Rattle.pm_run.specs.Run.{Setup, Stand, line_of, loaded, setup_of}
 use Rattle.pm_state.specs.State.{State}
 use Rattle.pm_state.specs.Values.{shown}
 use Rattle.pm_laws.specs.Quiet.{quiet_event}
@@ -49,24 +48,24 @@ abbrev pub looked : State → State → Logged → List ℕ → Marks → Marks
 looked a b m procs marks =
     if m.all then noted a b marks else noted_along a b procs (noted_along a b m.places.items marks)
 
--- both books at load, which show the same
+-- both runs at load, which show the same
 abbrev pub begun : Setup → Sides
 begun c = record {
-  loud = load_of c.object c.topology;
-  quiet = load_of c.object c.topology;
+  loud = loaded c;
+  quiet = loaded c;
   differs = all_at false (units_of c.topology);
 }
 
--- a book after a script line, whose core events are carried out one after another
-abbrev pub line_book : Event → State → State
-line_book event book = (line_of (setup_of book) event (record { book = book })).after.book
+-- where a run stands after a script line, whose core events are carried out one after another
+abbrev pub line_after : Event → Stand → Stand
+line_after event stand = (line_of (setup_of stand.book) event stand).after
 
 -- one more line in both, but for a message of the master, which is left out of the quiet one
 abbrev pub stepped : NodeId → Event → Sides → Sides
 stepped m event w = record {
-  loud = line_book event w.loud;
-  quiet = line_book (quiet_event m event) w.quiet;
-  differs = noted (line_book event w.loud) (line_book (quiet_event m event) w.quiet) w.differs;
+  loud = line_after event w.loud;
+  quiet = line_after (quiet_event m event) w.quiet;
+  differs = noted (line_after event w.loud).book (line_after (quiet_event m event) w.quiet).book w.differs;
 }
 
 -- one line after another
@@ -76,7 +75,7 @@ after m (event ∷ events) w = after m events (stepped m event w)
 
 -- the object and the chip of the two books
 abbrev pub setup_in : Sides → Setup
-setup_in w = setup_of w.loud
+setup_in w = setup_of w.loud.book
 
 -- both books are as at load, and the text of the reach of the master is there
 pub record IsPrepared (c : Setup) (m : NodeId) (p : Prepared) : Type 0 where
@@ -103,7 +102,7 @@ abbrev pub mark_line : Topology → Unit × Bool → List ℕ
 mark_line t mark = if mark.1 then difference_line t mark.0 else []
 
 abbrev pub mark_lines : Sides → List (List ℕ)
-mark_lines w = map (mark_line w.loud.fixed.topology) w.differs
+mark_lines w = map (mark_line w.loud.book.fixed.topology) w.differs
 
 -- what is written at the end of so many script lines
 abbrev pub end_text : Sides → ℕ → List ℕ

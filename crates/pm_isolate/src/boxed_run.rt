@@ -1,35 +1,37 @@
 //! A runner on the heap.
 
-ghost use Rattle.std.specs.Prelude.{◌≡◌, IfOk};
+ghost use Rattle.std.specs.Prelude.{◌≡◌, ◌∷◌, [], None, IfOk, MatchOption};
 ghost use Rattle.pm_topology.specs.Masters.{ObeysMasterRules};
 ghost use Rattle.pm_topology.specs.WellFormed.{IsWellFormed};
-ghost use Rattle.pm_state.specs.Load.{load_of};
 ghost use Rattle.pm_state.specs.Units.{moved};
 ghost use Rattle.pm_state.specs.Values.{value};
 ghost use Rattle.pm_core.specs.Step.{effect};
+ghost use Rattle.pm_split.specs.Left.{boxes_left, events_left};
+ghost use Rattle.pm_run.specs.Run.{loaded, setup, setup_of, split, stand_at};
 ghost use Rattle.pm_isolate.specs.Moves.{with_units};
 
 use crate::moves::Moves;
 use pm_base::{Event, NoMemory};
 use pm_core::Book;
 use pm_object::Object;
-use pm_run::Runner;
+use pm_run::{CoreEvents, Runner, Split};
 use pm_topology::{Topology, UnitMap};
 use std::alloc::Global;
 use std::marker::Model;
 
-/// A runner on the heap, so that who has one holds no more than where it is. Contracts see its book.
+/// A runner on the heap, so that who has one holds no more than where it is. Contracts see where the run stands: its book
+/// and its boxes.
 #[derive(Drop)]
 pub struct BoxedRun {
     runner: Box<Runner>,
 }
 
 impl Model for BoxedRun {
-    ghost use Rattle.pm_state.specs.State.{State};
+    ghost use Rattle.pm_run.specs.Run.{Stand, stand_at};
 
-    ghost Value = { State };
+    ghost Value = { Stand };
 
-    ghost view = { λ run. run.runner.value.book };
+    ghost view = { λ run. stand_at run.runner.value.book run.runner.value.boxes };
 }
 
 impl BoxedRun {
@@ -41,34 +43,60 @@ impl BoxedRun {
     pub fn load(alloc: Global, object: Object, topology: Topology) -> Result<BoxedRun, NoMemory>
         requires formed { IsWellFormed topology }
         requires masters { ObeysMasterRules topology }
-        ensures { IfOk result (λ run. run ≡ load_of object topology) }
+        ensures { IfOk result (λ run. run ≡ loaded (setup object topology)) }
     {
         let runner = runner_of(alloc, object, topology)?;
         Ok(BoxedRun { runner })
     }
 
     pub fn book(&self) -> &Book
-        ensures { result.now ≡ self.now }
+        ensures { result.now ≡ self.now.book }
     {
         &self.runner.book
     }
 
-    /// One event. The places of the units whose value it changes are logged.
+    /// Splits the event of a script line. Its core events are taken by `next`.
+    pub fn split(&mut self, event: &Event) -> Split
+        ensures book { self.new.book ≡ self.old.book }
+        ensures events { events_left self.old.book.fixed.object self.new.boxes result.cores
+            ≡ (split (setup_of self.old.book) event.now self.old).events }
+        ensures boxes { boxes_left self.new.boxes result.cores
+            ≡ (split (setup_of self.old.book) event.now self.old).boxes }
+    {
+        self.runner.split(event)
+    }
+
+    /// Takes the next core event of a line off, if there is one.
+    pub fn next(&mut self, cores: &mut CoreEvents) -> Option<Event>
+        ensures book { self.new.book ≡ self.old.book }
+        ensures events { MatchOption result
+            ((events_left self.old.book.fixed.object self.old.boxes cores.old ≡ [])
+            × (events_left self.old.book.fixed.object self.new.boxes cores.new ≡ []))
+            (λ event. events_left self.old.book.fixed.object self.old.boxes cores.old
+            ≡ event ∷ events_left self.old.book.fixed.object self.new.boxes cores.new) }
+        ensures boxes { boxes_left self.new.boxes cores.new ≡ boxes_left self.old.boxes cores.old }
+        ensures end { result ≡ None → self.new.boxes ≡ boxes_left self.old.boxes cores.old }
+    {
+        self.runner.next(cores)
+    }
+
+    /// One core event. The places of the units whose value it changes are logged.
     pub fn step(&mut self, event: &Event, marks: &UnitMap<bool>, moves: &mut Moves)
-        ensures book { self.new ≡ effect event.now self.old }
+        ensures book { self.new.book ≡ effect event.now self.old.book }
+        ensures boxes { self.new.boxes ≡ self.old.boxes }
         ensures moves { moves.new
-            ≡ with_units marks.now (moved (λ u. value u self.old) (effect event.now self.old)) moves.old }
+            ≡ with_units marks.now (moved (λ u. value u self.old.book) (effect event.now self.old.book)) moves.old }
     {
         self.runner.step(event);
         moves.add_units(marks, self.runner.outbox.moved.as_slice());
     }
 }
 
-/// The book of an object at load, and its outbox, on the heap.
+/// The book of an object at load, its outbox and its boxes, on the heap.
 fn runner_of(alloc: Global, object: Object, topology: Topology) -> Result<Box<Runner>, NoMemory>
     requires formed { IsWellFormed topology }
     requires masters { ObeysMasterRules topology }
-    ensures { IfOk result (λ runner. runner.value.book ≡ load_of object topology) }
+    ensures { IfOk result (λ runner. stand_at runner.value.book runner.value.boxes ≡ loaded (setup object topology)) }
 {
     let runner = Runner::load(alloc, object, topology)?;
     Box::new(alloc, runner).map_err(|_| NoMemory)

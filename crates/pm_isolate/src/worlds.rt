@@ -5,7 +5,7 @@ ghost use Rattle.pm_topology.specs.Masters.{ObeysMasterRules};
 ghost use Rattle.pm_topology.specs.WellFormed.{IsWellFormed};
 ghost use Rattle.pm_run.specs.Run.{setup};
 ghost use Rattle.pm_isolate.specs.Moves.{line_moves};
-ghost use Rattle.pm_isolate.specs.Within.{begun, line_book, stepped};
+ghost use Rattle.pm_isolate.specs.Within.{begun, line_after, stepped};
 
 use crate::boxed_run::BoxedRun;
 use crate::marks::{log, mark_at, proc_places};
@@ -13,7 +13,6 @@ use crate::moves::Moves;
 use pm_base::{Event, NoMemory, NodeId, Unit};
 use pm_laws::quiet_event;
 use pm_object::Object;
-use pm_run::core_events;
 use pm_topology::{Topology, UnitMap, unit_map_places, units_of, units_stand_in_order};
 use std::alloc::Global;
 use std::marker::Model;
@@ -41,8 +40,8 @@ impl Model for Worlds {
 
     ghost view = { λ w. record { loud = w.loud; quiet = w.quiet; differs = w.differs } };
 
-    ghost invariant = { λ w. AreMarked w.loud w.quiet w.differs
-        × (w.procs.items ≡ proc_places w.loud.fixed.topology 0 (units w.loud)) };
+    ghost invariant = { λ w. AreMarked w.loud.book w.quiet.book w.differs
+        × (w.procs.items ≡ proc_places w.loud.book.fixed.topology 0 (units w.loud.book)) };
 }
 
 impl Worlds {
@@ -95,7 +94,7 @@ impl Worlds {
 
     /// The chip of both books.
     pub fn topology(&self) -> &Topology
-        ensures { result.now ≡ self.now.loud.fixed.topology }
+        ensures { result.now ≡ self.now.loud.book.fixed.topology }
     {
         self.loud.book().topology()
     }
@@ -116,13 +115,14 @@ impl Worlds {
     }
 }
 
-/// Carries out the core events of a script line in a book, and logs the places of the units that they move.
+/// Carries out the core events of a script line, and logs the places of the units that they move.
 fn step_line(runner: &mut BoxedRun, event: &Event, marks: &UnitMap<bool>, moves: &mut Moves)
-    ensures book { runner.new ≡ line_book event.now runner.old }
+    ensures stand { runner.new ≡ line_after event.now runner.old }
     ensures moves { moves.new ≡ line_moves marks.now event.now runner.old moves.old }
 {
-    let mut left = core_events(event);
-    while let Some(core) = left.next() {
+    let parts = runner.split(event);
+    let mut left = parts.cores;
+    while let Some(core) = runner.next(&mut left) {
         runner.step(&core, marks, moves);
     }
 }

@@ -138,7 +138,7 @@ pub(crate) static ASKED: [Turn; 9] = [
 ];
 
 /// Of slave 46, which is beyond, master 1 is told the same in both: that nobody uses it any more.
-static WATCHED: [Turn; 11] = [
+static WATCHED: [Turn; 14] = [
     (1, "ipi 1 21", "1 reply 1 0 0 0 0\n", "1 reply 1 0 0 0 0\n"),
     (2, "boot 108 0", "2 run 108 0\n", "2 run 108 0\n"),
     (
@@ -182,6 +182,10 @@ static WATCHED: [Turn; 11] = [
         "11 call 1 32 46 2 0 0\n11 reply 1 0 0 0 0\n",
         "11 call 1 32 46 2 0 0\n11 reply 1 0 0 0 0\n",
     ),
+    // a book knows no boxes
+    (12, "post 8 7 108 0 0 0 0", "", ""),
+    (13, "post 1 13 46 1 0 2", "", ""),
+    (14, "serve", "", ""),
 ];
 
 /// What is beyond the reach of master 8: the power node of its number, too.

@@ -15,6 +15,9 @@ const OBJECT: &[u32] = &[
     2, 2, 1, 0x101, 2, 1, 0x1, 100, 0x200, 0, 8, 0x200, 100, 0x200, 0, 0x102, 1, 46, 0, 0x1,
 ];
 
+/// Master 1, whose mask is greater and which may wake 8, and master 8.
+const WAKING: &[u32] = &[2, 1, 1, 0x101, 2, 1, 0x200, 100, 0, 0x1, 8, 0x1, 100, 0, 0];
+
 /// Master 8 is asked to suspend, by itself and then by 1; without its own messages the second is accepted,
 /// and times out. The callback of it that waits for 1 is about node 8, the master, and not the power node.
 const ASKED: &str = "ipi 1 21
@@ -35,12 +38,45 @@ ipi 8 7 108 0 0 0 0
 wfi 108
 ";
 
-/// The master that is left out, the script, and the whole text.
-type Case = (u32, &'static str, &'static str);
+/// The first messages of both masters are put into their boxes: that of 1, whose mask is less, is served first.
+const WAITING: &str = "ipi 1 21
+boot 108 0
+post 8 6 8 3 0 0
+post 1 6 8 3 0 0
+serve
+";
+
+/// Master 8 sleeps by a message from its box, beside one of 1.
+const SLEEPING_LATER: &str = "ipi 1 21
+boot 108 0
+post 8 7 108 0 0 0 0
+post 8 1
+post 1 13 46 1 0 2
+serve
+wfi 108
+";
+
+/// Master 8 begins to sleep, and master 1 wakes it: in one line, and in two.
+const WOKEN: &str = "boot 108 0
+post 8 7 108 0 0 0 0
+post 1 10 108 0 0 2
+serve
+";
+
+const WOKEN_LATER: &str = "boot 108 0
+post 8 7 108 0 0 0 0
+serve
+post 1 10 108 0 0 2
+serve
+";
+
+/// The object, the master that is left out, the script, and the whole text.
+type Case = (&'static [u32], u32, &'static str, &'static str);
 
 /// What master 8 reaches has number 8 once, as that of a master.
-static CASES: [Case; 3] = [
+static CASES: [Case; 8] = [
     (
+        OBJECT,
         8,
         ASKED,
         "master 8 self 8
@@ -49,6 +85,7 @@ steps 9
 ",
     ),
     (
+        OBJECT,
         8,
         SLEEPING,
         "master 8 self 8
@@ -58,6 +95,7 @@ steps 4
 ",
     ),
     (
+        OBJECT,
         1,
         ASKED,
         "master 1 self 1
@@ -68,24 +106,88 @@ differ proc 2
 steps 9
 ",
     ),
+    (
+        OBJECT,
+        8,
+        WAITING,
+        "master 8 self 8
+power 100 above 8
+steps 5
+",
+    ),
+    (
+        OBJECT,
+        8,
+        SLEEPING_LATER,
+        "master 8 self 8
+power 100 above 8
+differ proc 108
+steps 7
+",
+    ),
+    // after the line the processor has the mode that it had before
+    (
+        WAKING,
+        8,
+        WOKEN,
+        "master 8 self 8
+power 100 above 8
+steps 4
+",
+    ),
+    (
+        WAKING,
+        8,
+        WOKEN_LATER,
+        "master 8 self 8
+power 100 above 8
+differ proc 108
+steps 5
+",
+    ),
+    // without the message of 1 it doesn't
+    (
+        WAKING,
+        1,
+        WOKEN,
+        "master 1 self 1
+master 8 wake 1 8
+power 100 above 1
+differ proc 108
+steps 4
+",
+    ),
 ];
 
-/// The object of the tests.
+/// The object of the tests of books.
 pub(crate) fn object(alloc: Global) -> Result<Object, Fail>
     ensures { IfOk result IsObject }
 {
+    object_of(alloc, OBJECT)
+}
+
+/// The object of these words.
+fn object_of(alloc: Global, words: &[u32]) -> Result<Object, Fail>
+    ensures { IfOk result IsObject }
+{
     let mut bytes = Vec::new(alloc);
-    for word in OBJECT {
+    for word in words {
         bytes.extend_from_slice(&word.to_le_bytes())?;
     }
     Ok(decode(alloc, &bytes)?)
 }
 
-/// Compares the two runs of a script, where the number is that of a master of the object.
-fn compared(alloc: Global, m: u32, script: &str, out: &mut MemSink) -> Result<Option<Exit>, Fail> {
+/// Compares the two runs of a script over the object of these words, where the number is that of a master of it.
+fn compared(
+    alloc: Global,
+    words: &[u32],
+    m: u32,
+    script: &str,
+    out: &mut MemSink,
+) -> Result<Option<Exit>, Fail> {
     let mut inputs = MemInputs::new(alloc, &[])?;
     inputs.add("script", script.as_bytes())?;
-    let object = object(alloc)?;
+    let object = object_of(alloc, words)?;
     if has_key(object.masters.as_slice(), m) {
         let chip = small_chip(alloc)?;
         let exit = compare(alloc, object, chip, NodeId(m), &mut inputs, "script", out);
@@ -97,9 +199,9 @@ fn compared(alloc: Global, m: u32, script: &str, out: &mut MemSink) -> Result<Op
 
 #[test]
 fn a_number_of_a_master_and_of_a_power_node(rt: HostRuntime) -> Result<(), Fail> {
-    for (m, script, text) in &CASES {
+    for (words, m, script, text) in &CASES {
         let mut out = MemSink::new(rt.alloc(), None)?;
-        let exit = compared(rt.alloc(), *m, script, &mut out)?;
+        let exit = compared(rt.alloc(), words, *m, script, &mut out)?;
         assert_eq!(rt; exit, Some(Exit::Done), "{m}");
         assert_eq!(rt; out.bytes(), text.as_bytes(), "{m}");
     }
