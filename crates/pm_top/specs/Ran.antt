@@ -20,7 +20,7 @@ use Rattle.pm_trace.specs.Faults.{exit_after}
 use Rattle.pm_trace.specs.Report.{Did, Report}
 use Rattle.pm_trace.specs.Scripts.{fault_at}
 use Rattle.pm_replay.specs.Replay.{Touched}
-use Rattle.pm_replay.specs.Replayed.{AnswersHaveCauses, RunsKeepApart}
+use Rattle.pm_replay.specs.Replayed.{AnswersHaveCauses, LinesServe, RunsKeepApart}
 use Rattle.pm_run.specs.Run.{setup}
 use Rattle.pm_base.specs.World.{World}
 use Rattle.pm_top.specs.declared.works.Form.{Form}
@@ -88,6 +88,10 @@ EachKeepsApart d old new = (object : Object) → IsObject object → RunsKeepApa
 -- over whichever object: each answer has its causes in the book before its step
 abbrev pub EachHasCauses : Type 0
 EachHasCauses = (object : Object) → AnswersHaveCauses (setup object chip)
+
+-- over whichever object: each line that serves sends the messages in all boxes, and leaves them empty
+abbrev pub EachEmptiesBoxes : Type 0
+EachEmptiesBoxes = (object : Object) → IsObject object → LinesServe (setup object chip)
 
 -- ---- what the exits mean
 

@@ -12,7 +12,7 @@ ghost use Rattle.pm_base.specs.World.{world};
 ghost use Rattle.pm_top.specs.Complete.{IsComplete};
 ghost use Rattle.pm_top.specs.Done.{IsDone, WorkDone};
 ghost use Rattle.pm_top.specs.Form.{form, form_of};
-ghost use Rattle.pm_top.specs.Ran.{Decides, EachHasCauses, EachKeepsApart, InputsMayFail, IsBeforeRun, Ran, RanForm};
+ghost use Rattle.pm_top.specs.Ran.{Decides, EachEmptiesBoxes, EachHasCauses, EachKeepsApart, InputsMayFail, IsBeforeRun, Ran, RanForm};
 
 use crate::reading::{read_subject, script_word};
 use crate::works::{Work, do_work, form_of, work_of};
@@ -22,6 +22,7 @@ use pm_causes::runs_have_causes;
 use pm_device::Device;
 use pm_object::one_reading;
 use pm_objtext::one_meaning;
+use pm_run::boxes_of_a_run;
 use pm_trace::{Fault, exits_say, refuse};
 use std::alloc::Global;
 
@@ -64,6 +65,9 @@ pub fn pm_main<I: Inputs, O: Sink, D: Device>(
     ensures keeps { EachKeepsApart D.Device dev.old dev.new }
     // Each answer of a run of whichever object has its causes in the book before its step.
     ensures causes { EachHasCauses }
+    // Each line of a run of whichever object that serves sends the messages in all boxes, each once and by rising mask of
+    // their masters, and leaves all boxes empty.
+    ensures boxes { EachEmptiesBoxes }
     // Before a script is run nothing is done to the device.
     ensures untouched { IsBeforeRun (form (map string_bytes words.now)) result → dev.old ≡ dev.new }
     // On Memory nothing was written but the fault line, as far as the sink took it.
@@ -83,6 +87,7 @@ pub fn pm_main<I: Inputs, O: Sink, D: Device>(
     exits_say::<O>();
     driven_runs_keep_apart::<D>();
     runs_have_causes();
+    boxes_of_a_run();
     one_reading();
     one_meaning();
     run_words(alloc, words, inputs, out, dev)

@@ -40,5 +40,8 @@ returns-clause-keeps g c = λ object formed. record {
 pub returns-clause-causes : goal.returns-clause-causes
 returns-clause-causes g c = λ object events. c.runs_have_causes.ensures.run (setup object chip) events
 
+pub returns-clause-boxes : goal.returns-clause-boxes
+returns-clause-boxes g c = λ object is events. c.boxes_of_a_run.ensures (setup object chip) events is
+
 pub returns-clause-complete : goal.returns-clause-complete
 returns-clause-complete g c = is_complete c.one_reading.ensures.written (λ text object. (c.one_meaning.ensures.built text object).1) g.I.Inputs g.O.Sink g.D.Device (map string_bytes c.args.words.now) (world c.args.inputs.now c.args.out.now c.args.dev.now) (world c.run_words.new.inputs c.run_words.new.out c.run_words.new.dev) c.run_words.result (decides g.I.Inputs g.O.Sink c.exits_say.ensures g.D.Device (map string_bytes c.args.words.now) (world c.args.inputs.now c.args.out.now c.args.dev.now) (world c.run_words.new.inputs c.run_words.new.out c.run_words.new.dev) c.run_words.result c.run_words.ensures.ran) c.run_words.ensures.done (reading_fault g.I.Inputs g.O.Sink c.exits_say.ensures g.D.Device (map string_bytes c.args.words.now) (world c.args.inputs.now c.args.out.now c.args.dev.now) (world c.run_words.new.inputs c.run_words.new.out c.run_words.new.dev) c.run_words.result c.run_words.ensures.ran)
