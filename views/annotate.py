@@ -17,12 +17,6 @@ LONGEST = 255  # bytes of a line of a text
 WIDEST = 40  # no column of comments begins further right
 
 
-def master_masks(lines):
-    """The mask of each master of the text of an object."""
-    records = [list(map(int, line.split()[1:])) for line in lines if line.startswith("master ")]
-    return {node: mask for node, mask, *_ in records}
-
-
 def masters_in(mask, masters):
     """The masters whose bits a mask has, as names; bits of no master as a number."""
     found = [names.node_name(node) for node, bits in masters.items() if bits & mask]
@@ -74,7 +68,7 @@ MEANING_OF_RECORD = {
 
 def meanings_of_text(lines):
     """What the lines of `print` mean."""
-    masters = master_masks(lines)
+    masters = steps.master_masks(lines)
     for line in lines:
         word, *rest = line.split()
         meaning = MEANING_OF_RECORD.get(word)
@@ -119,9 +113,10 @@ def named(kind, number):
 
 
 def message_of(line):
-    """The message of a line of a script, as numbers: the master, the call and its words. None of any other line."""
+    """The message of a line of a script, sent or put into a box, as numbers: the master, the call and its words. None of
+    any other line."""
     words = [word for _, word in to_numbers.words_of(line)]
-    if not words or words[0] != "ipi":
+    if not words or words[0] not in to_numbers.MESSAGES:
         return None
     numbers = [to_numbers.value_of(word) for word in words[1:]]
     return numbers + [0] * (7 - len(numbers))
@@ -211,8 +206,8 @@ def meaning_of_end(kind, unit, value, kept):
     return f"{names.node_name(unit)} {shown}" + f"; the device has {names.state_name(unit, kept)}" * (not agrees)
 
 
-def meanings_of_replay(lines, script):
-    """What the lines of `replay` mean; `script` is in numbers."""
+def meanings_of_cores(lines, script):
+    """What the lines of `replay` mean where each line of the script, which is in numbers, is one core event."""
     split = [line.split() for line in lines]
     messages = {number: message_of(line) for number, line in enumerate(script, 1)}
     answered = answers(split, messages)
@@ -232,6 +227,14 @@ def meanings_of_replay(lines, script):
             yield f"{names.node_name(words[0])}: its request to suspend ended with {names.status_words(words[1])}"
         else:
             yield meaning_of_command(kind, *words)
+
+
+def meanings_of_replay(told):
+    """What the lines of a replay mean."""
+    meanings = meanings_of_cores(told.cores, told.script)
+    for line in told.lines:
+        _, kind, number, *_ = line.split()
+        yield f"{names.node_name(int(number))}: its box is full" if kind == "busy" else next(meanings)
 
 
 # The forms.
@@ -263,9 +266,8 @@ def show(lines, meanings):
 
 
 def replay(room, obj, script):
-    content, path = translated(script, room)
-    lines = run_text(["replay", obj, path], ["replay", obj, script])
-    show(lines, meanings_of_replay(lines, steps.script_lines(content)))
+    told = steps.replay_of(obj, to_numbers.in_numbers(read_file(script), script), room, script)
+    show(told.lines, meanings_of_replay(told))
 
 
 def reach(_room, obj, node):

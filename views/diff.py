@@ -2,7 +2,7 @@
 
 In the second run each message of NODE is an empty line, so that lines keep their numbers. By step it shows what
 differs: units with the values from and to, starts, answers, callbacks and late replies. What is NODE's own comes after
-the rest: its processors, what no other master may use, and what it is told.
+the rest: its processors, what no other master may use, and what it is told, but for the answers to its messages.
 """
 
 import re
@@ -82,18 +82,26 @@ def status_of(kind, words):
     return words[3] if kind == "call" and words[1] == ACKNOWLEDGE else -1
 
 
-def words_of(run, script):
-    """Of each step: the starts, answers and callbacks by what they are about."""
-    found = [{} for _ in run.changes]
-    for line, meaning in zip(run.lines, annotate.meanings_of_replay(run.lines, script)):
+def word_of(kind, words, meaning):
+    """A start, an answer or a callback by the words of its line and what they mean."""
+    status = status_of(kind, words)
+    said = {"run": f"starts at {words[-1]:#x}", "drop": "not heard"}.get(kind) or meaning.split(": ", 1)[1]
+    return Word(" ".join([kind, *map(str, words)]), f"{status} {said}" if kind == "reply" else said, status)
+
+
+def words_of(run, node):
+    """Of each step: the starts, answers and callbacks by what they are about. What the master is told by a message of its
+    own, which the other run lacks, is left out."""
+    told, found = run.replay, [{} for _ in run.changes]
+    senders = [(annotate.message_of(line) or [None])[0] for line in told.script]
+    for line, meaning in zip(told.cores, annotate.meanings_of_cores(told.cores, told.script)):
         step, kind, *rest = line.split()
-        if step != "end" and kind in ("run", "reply", "call", "drop"):
-            words = list(map(int, rest))
-            status = status_of(kind, words)
-            said = {"run": f"starts at {words[-1]:#x}", "drop": "not heard"}.get(kind) or meaning.split(": ", 1)[1]
-            shown = f"{status} {said}" if kind == "reply" else said
-            about = ("answer" if kind == "drop" else kind.replace("reply", "answer"), words[0])
-            found[int(step)].setdefault(about, []).append(Word(" ".join([kind, *rest]), shown, status))
+        if step == "end" or kind not in ("run", "reply", "call", "drop"):
+            continue
+        core, words = int(step), list(map(int, rest))
+        about = ("answer" if kind == "drop" else kind.replace("reply", "answer"), words[0])
+        if core == 0 or senders[core - 1] != node or about not in (("answer", node), ("call", node)):
+            found[[0, *told.numbers][core]].setdefault(about, []).append(word_of(kind, words, meaning))
     return found
 
 
@@ -134,10 +142,10 @@ def rows_of_words(words, others):
             yield Row(about, joined(ours, theirs), joined(theirs, ours), remark_of(ours, theirs))
 
 
-def rows_of_steps(runs, scripts):
+def rows_of_steps(runs, node):
     """Of each step, what differs."""
     moves = [moves_of(run) for run in runs]
-    words = [words_of(run, script) for run, script in zip(runs, scripts)]
+    words = [words_of(run, node) for run in runs]
     for step in range(len(runs[0].changes)):
         yield [*rows_of_units(*(run[step] for run in moves)), *rows_of_words(*(run[step] for run in words))]
 
@@ -202,12 +210,11 @@ def part(name, steps_with_rows, script):
 
 
 def text(found, node, rows, script, silenced):
-    """The text: of others, and then of the master itself. Answers to its own messages differ, and aren't shown."""
+    """The text: of others, and then of the master itself."""
     others, own = [], []
     for step, of_step in enumerate(rows):
-        told = [row for row in of_step if step not in silenced or row.subject not in (("answer", node), ("call", node))]
         for kept, part_of in ((others, False), (own, True)):
-            ours = [row for row in told if is_own(found, node, row.subject) == part_of]
+            ours = [row for row in of_step if is_own(found, node, row.subject) == part_of]
             if ours:
                 kept.append((step, ours))
     name = names.node_name(node)
@@ -231,7 +238,6 @@ def main(words):
         first = re.sub(rb"\r(?=\n|\Z)", b"", content)
         second, silenced = without_messages(first, node)
         runs = [steps.steps_of(path, each, room) for each in (first, second)]
-    scripts = [steps.script_lines(each) for each in (first, second)]
-    shown = text(found, node, list(rows_of_steps(runs, scripts)), scripts[0], silenced)
+    shown = text(found, node, list(rows_of_steps(runs, node)), steps.script_lines(first), silenced)
     print("".join(line + "\n" for line in shown), end="")
     return 0

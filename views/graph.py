@@ -9,6 +9,7 @@ import sys
 
 import annotate
 import names
+import steps
 from program import BadUse, run_text
 
 COLUMN = 8  # names in one column of a box
@@ -131,7 +132,7 @@ def main(words):
         raise BadUse("--dot is followed by reach OBJ NODE")
     node = annotate.node_in_numbers(words[2])
     reach = run_text(["reach", words[1], node], words)
-    masters = annotate.master_masks(run_text(["print", words[1]]))
+    masters = steps.master_masks(run_text(["print", words[1]]))
     start = next(number for kind, number, reason, _ in members_of(reach) if reason == "self")
     sys.stdout.writelines(line + "\n" for line in graph(reach, list(masters), start))
     return 0

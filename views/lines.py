@@ -6,7 +6,8 @@ LONGEST = 255
 
 # The first word of each line of a script, with the words that it takes after it: at least, at most.
 EVENTS = {
-    "ipi": (2, 7), "boot": (2, 2), "wfi": (1, 1), "irq": (1, 1), "gic": (1, 1), "tick": (1, 1), "break": (1, 1), "mend": (1, 1),
+    "ipi": (2, 7), "boot": (2, 2), "wfi": (1, 1), "irq": (1, 1), "gic": (1, 1), "tick": (1, 1),
+    "post": (2, 7), "serve": (0, 0), "break": (1, 1), "mend": (1, 1),
 }  # fmt: skip
 # The same of an object's text; a section is followed by its name.
 RECORDS = {
@@ -17,7 +18,8 @@ SECTIONS = ("masters", "slaves", "prealloc", "power", "reset", "shutdown", "conf
 
 # A line of a script that certainly means something. It decides most lines at once.
 GOOD = re.compile(
-    rb"[ \t]*(?:(?:ipi(?:[ \t]+N){2,7}|boot(?:[ \t]+N){2}|(?:wfi|irq|gic|tick|break|mend)[ \t]+N)(?=[ \t\r\n]|\Z)[ \t]*)?"
+    rb"[ \t]*(?:(?:(?:ipi|post)(?:[ \t]+N){2,7}|boot(?:[ \t]+N){2}|(?:wfi|irq|gic|tick|break|mend)[ \t]+N|serve)"
+    rb"(?=[ \t\r\n]|\Z)[ \t]*)?"
     rb"(?:#[\t -~]*)?\r?".replace(b"N", rb"(?:\d{1,9}|0x[\da-fA-F]{1,8})")
 )
 

@@ -9,6 +9,7 @@ import os
 from typing import NamedTuple
 
 import names
+import split
 import to_numbers
 from program import BadUse, Failed, run_text, write_file
 
@@ -25,8 +26,17 @@ class Unit(NamedTuple):
     number: int
 
 
+class Replay(NamedTuple):
+    """A replay, and that of the script which has a line of its own for each core event."""
+
+    lines: list  # that the program writes
+    cores: list  # that it writes over the second script: the same ones by other numbers, without those of full boxes
+    script: list  # the second script
+    numbers: list  # of each of its lines, that of the line which it comes from
+
+
 class Steps(NamedTuple):
-    lines: list  # of the replay
+    replay: Replay
     changes: list  # of step 0 and of each script line: pairs of a unit and its value, in their order
     closing: dict  # of the closing table: the value of each unit in the book
 
@@ -58,14 +68,18 @@ def closing_of(lines):
     return table
 
 
+def master_masks(lines):
+    """The mask of each master of the text of an object."""
+    records = [list(map(int, line.split()[1:])) for line in lines if line.startswith("master ")]
+    return {node: mask for node, mask, *_ in records}
+
+
 def owners(obj):
     """The processors of configured masters, each with its master: the first one of the object that has it."""
     found = {}
-    for line in run_text(["print", obj]):
-        if line.startswith("master "):
-            master = int(line.split()[1])
-            for proc in names.MASTERS[master]:
-                found.setdefault(proc, master)
+    for master in master_masks(run_text(["print", obj])):
+        for proc in names.MASTERS[master]:
+            found.setdefault(proc, master)
     return found
 
 
@@ -101,11 +115,20 @@ def questions(script, heard, owner):
     return made, asks
 
 
-def replay_of(obj, content, room, name=None):
+def lines_of(obj, content, room, name=None):
     """The lines of the replay of a script; `name` is that of its file, if it has one."""
     path = os.path.join(room, "script")
     write_file(path, content)
     return run_text(["replay", obj, path], ["replay", obj, name or path])
+
+
+def replay_of(obj, content, room, name=None):
+    """The replay of a script in numbers, from the file of that name; `room` is a folder for files."""
+    script, lines = script_lines(content), lines_of(obj, content, room, name)
+    if not split.has_boxes(script):
+        return Replay(lines, lines, script, list(range(1, len(script) + 1)))
+    cores, numbers = split.split(script, master_masks(run_text(["print", obj])))
+    return Replay(lines, lines_of(obj, content_of(cores), room), cores, numbers)
 
 
 def content_of(script):
@@ -117,7 +140,7 @@ def asked_modes(obj, script, heard, owner, room):
     """By step the mode of each processor, where it was asked for."""
     made, asks = questions(script, heard, owner)
     try:
-        lines = replay_of(obj, content_of(made), room)
+        lines = lines_of(obj, content_of(made), room)
     except Failed as failed:
         raise BadUse(f"the script is too long to ask for the modes of its processors (exit {failed.status})") from None
     modes = {}
@@ -137,12 +160,12 @@ def modes_without_a_master(obj, script, step, before, heard, room):
     if words[0] == "wfi":
         proc = to_numbers.value_of(words[1])
         return before | ({proc: ASLEEP} if before.get(proc) == SUSPENDING else {})
-    table = closing_of(replay_of(obj, content_of(script[:step]), room))
+    table = closing_of(lines_of(obj, content_of(script[:step]), room))
     return {proc: table.get(Unit("node", proc), 0) for proc in before}
 
 
 def modes_of(obj, script, changes, room):
-    """After each step the mode of each processor of a configured master."""
+    """After each step the mode of each processor of a configured master. Each line of the script is one core event."""
     owner = owners(obj)
     heard = awake(changes, owner)
     asked = asked_modes(obj, script, heard, owner, room)
@@ -167,9 +190,17 @@ def with_modes(changes, modes):
     return made
 
 
+def by_line(numbers, changes):
+    """The changes of each script line, by those of its core events."""
+    made = [[] for _ in range(max(numbers, default=0) + 1)]
+    for number, of_core in zip([0, *numbers], changes):
+        made[number] += of_core
+    return made
+
+
 def steps_of(obj, content, room, name=None):
     """The steps of the replay of a script in numbers, from the file of that name; `room` is a folder for files."""
-    script = script_lines(content)
-    lines = replay_of(obj, content, room, name)
-    changes = changes_of(lines, len(script))
-    return Steps(lines, with_modes(changes, modes_of(obj, script, changes, room)), closing_of(lines))
+    told = replay_of(obj, content, room, name)
+    changes = changes_of(told.cores, len(told.script))
+    changes = with_modes(changes, modes_of(obj, told.script, changes, room))
+    return Steps(told, by_line(told.numbers, changes), closing_of(told.lines))

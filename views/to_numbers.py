@@ -14,9 +14,12 @@ import faults
 import names
 from program import BadUse, read_file
 
-# The words after the first one of a line of a script, by what they mean; `ipi` has its own.
+# The words after the first one of a line of a script, by what they mean; those of a message say it themselves.
 SCRIPT = {"boot": ("node", "address"), "wfi": ("node",), "irq": ("node",), "gic": ("node",), "tick": ("time",)}
 SCRIPT |= {"break": ("node",), "mend": ("node",)}
+
+# The first words of lines with a message.
+MESSAGES = ("ipi", "post")
 
 # The same of the text of an object.
 TEXT = {
@@ -90,7 +93,7 @@ def unknown(kind, word):
 
 
 def kinds_of_message(words):
-    """Of a line `ipi M API ..`: what its words mean, as far as its call says."""
+    """Of a line `ipi M API ..` or `post M API ..`: what its words mean, as far as its call says."""
     number = names.number_of("call", words[2]) if len(words) > 2 else None
     if number is None and len(words) > 2:
         number = value_of(words[2])
@@ -100,7 +103,7 @@ def kinds_of_message(words):
 
 def kinds_of(words):
     """What the words after the first one of a line mean, or None of a line that has no such first word."""
-    if words[0] == "ipi":
+    if words[0] in MESSAGES:
         return kinds_of_message(words)
     return SCRIPT.get(words[0], TEXT.get(words[0]))
 

@@ -2,7 +2,7 @@
 
 A unit is a signal by its name: of a slave its state, of a processor its mode, of a power node whether it is up, of a
 reset line whether it is asserted. They lie in the scopes of their power domains. A script line is a unit of time, and
-0 is the load; a line that is pulsed changes twice at one time. Two signals are texts, as GTKWave reads them: the line
+0 is the load; a line that is pulsed changes twice at one time, and so may any unit in a line `serve`. Two signals are texts, as GTKWave reads them: the line
 of the script, and what is answered in it.
 """
 
@@ -22,7 +22,7 @@ FIRST_CODE, CODES = 33, 94  # a signal's code is made of these characters
 # The characters of a text that GTKWave reads escaped.
 ESCAPED = {ord(" "): "\\x20", ord("\t"): "\\t", ord("\\"): "\\\\"}
 
-ANSWERS = ("reply", "call", "drop")
+ANSWERS = ("reply", "call", "drop", "busy")
 
 
 def code_of(place):
@@ -91,10 +91,10 @@ def declarations(codes, texts):
     yield "$enddefinitions $end"
 
 
-def answers_of(lines, script):
+def answers_of(told):
     """By step what is answered and told in it, in words."""
     found = {}
-    for line, meaning in zip(lines, annotate.meanings_of_replay(lines, script)):
+    for line, meaning in zip(told.lines, annotate.meanings_of_replay(told)):
         step, kind, *_ = line.split()
         if step != "end" and kind in ANSWERS:
             found.setdefault(int(step), []).append(meaning)
@@ -107,7 +107,7 @@ def dump(told, script):
     codes = {unit: code_of(place) for place, unit in enumerate(units)}
     texts = {"line": code_of(len(units)), "answer": code_of(len(units) + 1)}
     yield from declarations(codes, texts)
-    first, answers = dict(told.changes[0]), answers_of(told.lines, script)
+    first, answers = dict(told.changes[0]), answers_of(told.replay)
     yield from ("#0", "$dumpvars", text_change("load", texts["line"]), text_change(answers.get(0, ""), texts["answer"]))
     yield from (value_text(unit, first.get(unit, 0), codes[unit]) for unit in units)
     yield "$end"

@@ -121,6 +121,32 @@ class Names(Case):
             },
         )
 
+    def test_messages_that_wait_in_boxes(self):
+        script = "boot 7 0\npost 7 1\npost 1 3 2\npost 1 21\npost 99 1\nserve\n"
+        self.check(
+            ["replay", example("laboratory.obj"), self.file("boxes.script", script)],
+            {
+                "4 busy 1": "APU: its box is full",
+                "5 drop 99": "node 99 isn't heard",
+                "6 reply 1 0 1 0 0": "APU: success, active",
+                "6 reply 7 0 65537 0 0": "RPU_0: success, version 1.1",
+            },
+        )
+
+    def test_a_late_reply_after_the_answer_to_another_message_of_a_line(self):
+        script = "boot RPU_0 0\nipi APU REQUEST_SUSPEND RPU_0 BLOCKING 0 0\npost RPU_0 ABORT_SUSPEND 100 RPU_0\npost APU 1\n"
+        script += "post APU 1\nserve # both\npost RPU_1 1\nserve\n"
+        self.check(
+            ["replay", example("laboratory.obj"), self.file("boxes.script", script)],
+            {
+                "5 busy 1": "APU: its box is full",
+                "6 reply 1 0 65537 0 0": "APU: success, version 1.1",
+                "6 reply 1 2005 0 0 0": "APU: its request to suspend ended with abort suspend",
+                "6 reply 7 0 0 0 0": "RPU_0: success",
+                "7 drop 8": "RPU_1 isn't heard",
+            },
+        )
+
     def test_the_words_of_answers(self):
         script = "ipi 1 1\nipi 1 4 11 3\nipi 1 4 11 1\nipi 1 3 10\nipi 1 3 2\nipi 1 18 33\nboot 7 0\nipi 1 13 28 1 0 2\nipi 7 13 28 1 0 2\n"
         self.check(

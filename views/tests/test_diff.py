@@ -103,6 +103,14 @@ class Text(Case):
         self.assertEqual(status, 0, built)
         return self.file("made.obj", built)
 
+    def test_served_messages(self):
+        script = "boot 7 0\npost 1 13 28 1 0 2\npost 7 13 28 1 0 2\npost 7 1\nserve\n"
+        self.assertEqual(self.rows(self.show(script, "1")), ["answer to RPU_0 2007 node used by APU | 0 success DENIED"])
+        asked = "boot 7 0\nipi 1 6 7 2 0 0\npost 1 1\npost 7 9 100 7\nserve\n"
+        self.assertIn("answer to RPU_0 0 success | 1 failure", self.rows(self.show(asked, "1")))
+        late = "2005 its request to suspend ended with abort suspend"
+        self.assertEqual(self.rows(self.show(asked, "7")), [f"answer to APU 0 success, version 1.1; {late} | 0 success, version 1.1"])
+
     def test_nothing_differs(self):
         text = "with the 0 messages of RPU_0 | without them\nof others: nothing differs\nof RPU_0 alone: nothing differs\n"
         self.assertEqual(self.show("ipi 1 21\n\nboot 7 0", "7"), text + "successes that others lose: 0 denied, 0 refused, 0 not heard\n")
@@ -193,9 +201,9 @@ class Comparison(Case):
 
 class Messages(unittest.TestCase):
     def test_the_messages_of_a_master_are_empty_lines(self):
-        content = b"ipi 1 21\n\tipi 0x7 21 # a\nipi 8 21\nirq 7\nipi 007 3\nipi 7\n#ipi 7 21\nipi 77 21"
-        wanted = b"ipi 1 21\n\nipi 8 21\nirq 7\n\n\n#ipi 7 21\nipi 77 21"
-        self.assertEqual(diff.without_messages(content, 7), (wanted, [2, 5, 6]))
+        content = b"ipi 1 21\n\tipi 0x7 21 # a\nipi 8 21\nirq 7\nipi 007 3\nipi 7\n#ipi 7 21\nipi 77 21\npost 7 1\nserve\npost 1 7"
+        wanted = b"ipi 1 21\n\nipi 8 21\nirq 7\n\n\n#ipi 7 21\nipi 77 21\n\nserve\npost 1 7"
+        self.assertEqual(diff.without_messages(content, 7), (wanted, [2, 5, 6, 9]))
         self.assertEqual(annotate.message_of("irq 7"), None)
 
 

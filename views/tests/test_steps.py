@@ -34,7 +34,12 @@ SCRIPTS = {
     "an interrupt of a slave": "ipi 1 11 2 46 1\nipi 1 7 2 0 0 64 0\nirq 46\nipi 1 7 2 0 0 64 0\n# asleep\nwfi 2\ntick 5\nirq 46\n",
     "an interrupt at a processor": "ipi 1 7 2 0 0 64 0\ngic 2\nwfi 2\nipi 1 7 2 0 0 64 0\nwfi 2\ngic 2\n",
     "woken without an answer": "boot 7 0\nipi 7 7 7 0 0 0 0\nipi 1 10 7 1 0 1\nwfi 7\nipi 7 7 7 0 0 0 0\nipi 7 9 100 7\n",
+    "a message in a box suspends": "boot 3 0\npost 1 7 3 0 0 0 0\npost 1 21\nserve\nwfi 3\nserve\n",
+    "a message in a box forces all": "boot 7 0\npost 7 8 10 2\npost 1 3 2\nserve\nboot 2 0\n",
     "the last one awake forces all": "ipi 1 7 2 0 0 0 0\nwfi 2\nboot 3 0\nipi 1 8 10 2\nboot 2 0\n",
+    "served messages": "boot 7 0\npost 7 9 100 7\npost 1 7 2 0 0 0 0\npost 7 8 10 1\nserve\nwfi 2\npost 7 7 7 0 0 0 0\nserve\nserve\n",
+    "one message undoes another": "boot 7 0\npost 7 10 2 0 0 2\npost 1 12 0 0\nserve\npost 1 8 6 2\npost 7 1\n# and\nserve",
+    "a message of no master": "post 8 1\nboot 7 0\npost 6 8 10 2\npost 7 8 10 2\nserve\n",
 }
 
 

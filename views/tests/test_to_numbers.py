@@ -64,6 +64,7 @@ class Numbers(Case):
             ("ipi APU SET_WAKEUP_SOURCE APU_0 GPIO 1", "ipi 1 11 2 46 1"),
             ("ipi 1 13 PD_OCM_1 0x1|CONTEXT 0 REQUEST_ACK_NO", "ipi 1 13 12 3 0 1"),
             ("ipi APU FEATURE_CHECK 13", "ipi 1 63 13"),
+            ("post APU REQUEST_NODE UART_0 ACCESS 0 BLOCKING\nserve", "post 1 13 33 1 0 2\nserve"),
             ("wfi APU_3\nirq GPIO\ngic RPU_1\nboot RPU_0 0x0", "wfi 5\nirq 46\ngic 8\nboot 7 0x0"),
         ]:
             self.assertEqual(self.text("--numbers", self.file("given", given)), wanted)
@@ -79,6 +80,7 @@ class Numbers(Case):
         for given, fault in [
             ("wfi 2\nwfi APU_4\n", "given:2: no node is named APU_4"),
             ("ipi APU REQUEST_NOD 1\n", "given:1: no call is named REQUEST_NOD"),
+            ("serve\npost APU REQUEST_NODE UART_9\n", "given:2: no node is named UART_9"),
             ("ipi APU REQUEST_NODE UART_0 READ\n", "given:1: no capability is named READ"),
             ("ipi APU REQUEST_NODE UART_0 ACCESS LOW\n", "given:1: the qos is a number, not LOW"),
             ("ipi APU RESET_ASSERT FPD ASSERT\n", "given:1: no reset line is named FPD"),

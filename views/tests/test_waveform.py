@@ -70,6 +70,16 @@ class Waveform(Case):
         self.assertEqual(dump.named("answer").changes, list(enumerate(answers)))
         self.assertEqual(dump.end, 5)
 
+    def test_what_a_line_serves_is_at_its_time(self):
+        script = self.file("boxes.script", "post 1 21\npost APU 17 33 2\nserve\npost 1 17 33 2\npost 8 1\nserve")
+        dump = self.dump(example("laboratory.obj"), script)
+        lines = ["load", "post APU INIT_FINALIZE", "post APU RESET_ASSERT UART_0 PULSE", "serve"]
+        lines += ["post APU RESET_ASSERT UART_0 PULSE", "post RPU_1 GET_API_VERSION", "serve"]
+        self.assertEqual(dump.named("line").changes, list(enumerate(lines)))
+        answers = ["", "", "APU: its box is full", "APU: success", "", "RPU_1 isn't heard", "APU: success"]
+        self.assertEqual(dump.named("answer").changes, list(enumerate(answers)))
+        self.assertEqual(dump.named("UART_0", ("reset_lines",)).changes, [(0, 0), (6, 1), (6, 0)])
+
     def test_a_script_with_carriage_returns(self):
         with open(example("sleep.script"), "rb") as file:
             script = file.read().replace(b"\n", b"\r\n")
