@@ -6,7 +6,7 @@ use Rattle.pm_base.specs.declared.names.Command.{Command}
 use Rattle.pm_base.specs.declared.names.NodeId.{NodeId}
 use Rattle.pm_base.specs.declared.names.Unit.{Unit}
 use Rattle.pm_base.specs.declared.names.Unit.TheVariants.{Node, Line}
-use Rattle.pm_device.specs.Act.{Act, Order, Rig, AllMatch, AreHarmless, Chain, Counts, Matches, Shows, ShowsAll, refused, refusals, shown_after, shown_by, value_by}
+use Rattle.pm_device.specs.Act.{Act, Order, Rig, Fit, AllMatch, AreHarmless, Chain, Counts, Matches, Shows, ShowsAll, refused, refusals, shown_after, shown_by, value_by}
 use Rattle.pm_base.specs.Faults.{Rose}
 use Rattle.pm_topology.specs.declared.topology.Topology.{Topology}
 use Rattle.pm_device.specs.Fresh.{IsWhole}
@@ -28,6 +28,7 @@ after-nodes (Rig node broken) a b same = record {
       ap (λ has. cond has (rigged node.0 broken a.broken) a.broken) (same.units (Node node))
       ∙ ap (λ nodes. cond (b.has (Node node)) (rigged node.0 broken nodes) nodes) same.broken;
 }
+after-nodes (Fit chip) a b same = record { units = λ unit. refl; broken = refl }
 
 by-nodes : (acts : List Act) (a b : DeviceMoment) → SameNodes a b → SameNodes (shown_by acts a) (shown_by acts b)
 by-nodes [] a b same = same
@@ -40,6 +41,7 @@ fails-same a b unit same =
 matches-same : (act : Act) (a b : DeviceMoment) → SameNodes a b → Matches act a → Matches act b
 matches-same (Order command ok) a b same matches = matches ∙ ap not (fails-same a b command.unit same)
 matches-same (Rig node broken) a b same matches = tt
+matches-same (Fit chip) a b same matches = tt
 
 all_match-same : (acts : List Act) (a b : DeviceMoment) → SameNodes a b → AllMatch acts a → AllMatch acts b
 all_match-same [] a b same all = tt
@@ -51,10 +53,12 @@ all_match-same (act ∷ acts) a b same all =
 counts-later : (act : Act) (before now : ℕ) → Counts act before now → before ≤ now
 counts-later (Order command ok) before now counts = counts.0
 counts-later (Rig node broken) before now counts = omega arith
+counts-later (Fit chip) before now counts = omega arith
 
 counts-refused : (act : Act) (before now : ℕ) → Counts act before now → RoseBy (refused act) before now
 counts-refused (Order command ok) before now counts = counts.1
 counts-refused (Rig node broken) before now counts = omega arith
+counts-refused (Fit chip) before now counts = omega arith
 
 rose-none : (count : ℕ) → RoseBy 0 count count
 rose-none count = omega arith
@@ -142,6 +146,10 @@ stays_whole t node now whole = record {
   either true = refl
   either false = refl
 
+-- and one that is fitted to the chip is whole
+fitted_whole : (t chip : Topology) (now : DeviceMoment) → chip ≡ t → IsWhole t (shown_after (Fit chip) now)
+fitted_whole t chip now is = record { units = λ unit has. ap (λ (c : Topology). has_unit c unit) is ∙ has; broken = refl }
+
 taken : (command : Command) (ok : Bool) → ok ≡ true → refused (Order command ok) ≡ 0
 taken command true is = refl
 taken command false is = cc
@@ -156,6 +164,9 @@ none_refused t (Order command ok ∷ acts) now whole harmless all =
 none_refused t (Rig node broken ∷ acts) now whole harmless all =
     let P : Bool → Type 0 = λ b. IsWhole t (shown_after (Rig node b) now) in
     let later : refusals acts ≡ 0 = none_refused t acts (shown_after (Rig node broken) now) (subst P (sym harmless.0) (stays_whole t node now whole)) harmless.1 all.1 in
+    omega arith
+none_refused t (Fit chip ∷ acts) now whole harmless all =
+    let later : refusals acts ≡ 0 = none_refused t acts (shown_after (Fit chip) now) (fitted_whole t chip now harmless.0) harmless.1 all.1 in
     omega arith
 
 module _ {D : Type 0} (values_observable nodes_observable : Type 0) (Does : Act → D → D → Type 0) (state : D → DeviceMoment)
@@ -190,3 +201,4 @@ pub AreHarmless-append : (t : Topology) (first second : List Act) → AreHarmles
 AreHarmless-append t [] second one two = two
 AreHarmless-append t (Order command ok ∷ first) second one two = (one.0, AreHarmless-append t first second one.1 two)
 AreHarmless-append t (Rig node broken ∷ first) second one two = (one.0, AreHarmless-append t first second one.1 two)
+AreHarmless-append t (Fit chip ∷ first) second one two = (one.0, AreHarmless-append t first second one.1 two)

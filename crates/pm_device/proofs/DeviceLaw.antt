@@ -1,12 +1,16 @@
 -- The two devices move as a device does.
-use Rattle.std.proofs.Common.{◌≡◌, ℕ, Bool, true, false, not, List, [], ◌∷◌, ◌++◌, refl, arith, ap, ◌∙◌, Result, Ok, Err, is_ok}
+use Rattle.std.proofs.Common.{◌≡◌, ℕ, Bool, true, false, not, cond, List, [], ◌∷◌, ◌++◌, Some, None, unwrap_or, refl, arith, ap, ◌∙◌, Result, Ok, Err, is_ok}
 use Rattle.pm_base.specs.Faults.{HasCause}
 use Rattle.pm_base.specs.declared.names.Unit.{Unit}
 use Rattle.pm_base.specs.declared.names.NodeId.{NodeId}
 use Rattle.pm_base.specs.declared.names.Command.{Command}
-use Rattle.pm_device.specs.Act.{Act, Order, Rig, Counts, broken_by, value_by}
+use Rattle.pm_device.specs.Act.{Act, Order, Rig, Fit, Counts, broken_by, value_by}
+use Rattle.pm_topology.specs.declared.topology.Topology.{Topology}
+use Rattle.pm_topology.specs.Units.{has_unit, units_of}
+use Rattle.pm_topology.specs.UnitMap.{all_at, value_of}
+use Rattle.pm_device.specs.declared.cells.Cell.{Cell}
 use Rattle.pm_device.specs.Device.{fails, rises}
-use Rattle.pm_device.specs.Cells.{broken_of}
+use Rattle.pm_device.specs.Cells.{broken_of, cell_of, idle, is_there}
 use Rattle.pm_device.specs.Model.{Bench, BenchDoes, moment_of, bench_after, bench_by, bench_done, bench_rigged, does_fail}
 use Rattle.pm_device.specs.Listed.{Listed, ListedDoes, listed_moment, listed_after, listed_by, listed_done, next_fails}
 
@@ -31,6 +35,7 @@ model_logged act b done log after logged =
     same : (act : Act) → (bench_done act b).log ≡ b.log
     same (Order command ok) = order command ok
     same (Rig node broken) = refl
+    same (Fit chip) = refl
 
 -- an order to a device that fails on broken nodes
 pub model_ordered : {T E : Type 0} (command : Command) (b new : Bench) (log : List Act) (result : Result T E)
@@ -77,6 +82,26 @@ model_rigged node broken b new log after values units nodes rising logged = reco
   after = model_logged (Rig node broken) b new log after logged;
 }
 
+-- and it is fitted to a chip
+pub model_fitted : (chip : Topology) (b : Bench) (cells : List (Unit × Cell)) (log : List Act)
+    → cells ≡ all_at idle (units_of chip)
+    → ((unit : Unit) → (cell_of cells unit).value ≡ 0)
+    → ((unit : Unit) → is_there cells unit ≡ has_unit chip unit)
+    → broken_of cells ≡ []
+    → log ≡ b.log ++ Fit chip ∷ []
+    → BenchDoes (Fit chip) b (record b { cells = cells; log = log })
+model_fitted chip b cells log made values units broken logged = record {
+  shows = record {
+    counted = refl;
+    values = λ seen. values;
+    units = λ seen. units;
+    broken = λ seen. broken;
+    matches = λ seen. tt;
+    rising = λ seen. ap rises broken;
+  };
+  after = model_logged (Fit chip) b (record b { cells = cells }) log (ap (λ cells. record b { cells = cells }) made) logged;
+}
+
 -- an act is done, and then logged
 listed_logged : (act : Act) (d done : Listed) (log : List Act)
     → done ≡ listed_done act d
@@ -93,6 +118,7 @@ listed_logged act d done log after logged =
     same : (act : Act) → (listed_done act d).log ≡ d.log
     same (Order command ok) = order command ok
     same (Rig node broken) = refl
+    same (Fit chip) = refl
 
 -- an order to a device that fails at listed commands
 pub listed_ordered : {T E : Type 0} (command : Command) (d new : Listed) (log : List Act) (result : Result T E)
@@ -129,5 +155,29 @@ listed_rigged node broken d log logged = record {
     rising = λ seen. absurd seen;
   };
   after = listed_logged (Rig node broken) d d log refl logged;
+  answer = tt;
+}
+
+-- a unit that stands at 0, or isn't there, shows 0
+none_set : (has : Bool) (least : ℕ) → unwrap_or (cond has (Some least) None) least ≡ least
+none_set true least = refl
+none_set false least = refl
+
+-- and fitted to a chip
+pub listed_fitted : (chip : Topology) (d : Listed) (values : List (Unit × ℕ)) (log : List Act)
+    → values ≡ all_at 0 (units_of chip)
+    → ((unit : Unit) → value_of values unit ≡ cond (has_unit chip unit) (Some 0) None)
+    → log ≡ d.log ++ Fit chip ∷ []
+    → ListedDoes (Fit chip) d (record d { values = values; log = log })
+listed_fitted chip d values log made zeros logged = record {
+  shows = record {
+    counted = refl;
+    values = λ seen unit. ap (λ value. unwrap_or value 0) (zeros unit) ∙ none_set (has_unit chip unit) 0;
+    units = λ seen unit. absurd seen;
+    broken = λ seen. absurd seen;
+    matches = λ seen. absurd seen;
+    rising = λ seen. absurd seen;
+  };
+  after = listed_logged (Fit chip) d (record d { values = values }) log (ap (λ values. record d { values = values }) made) logged;
   answer = tt;
 }

@@ -1,7 +1,7 @@
 -- Acts behind acts: chains are put together, and values after acts are those after the first and then the others.
 use Rattle.std.proofs.Common.{◌≡◌, ℕ, ◌&&◌, cond, List, [], ◌∷◌, ◌++◌, refl, sym, ap, subst}
 use Rattle.pm_base.specs.declared.names.Unit.{Unit}
-use Rattle.pm_device.specs.Act.{Act, Order, Rig, Chain, value_by, values_after}
+use Rattle.pm_device.specs.Act.{Act, Order, Rig, Fit, Chain, value_by, values_after}
 use Rattle.pm_topology.specs.Units.{same_unit}
 
 module _ {D : Type 0} (Does : Act → D → D → Type 0) where
@@ -29,6 +29,8 @@ values_after-same (Order command ok ∷ acts) f g same unit =
     (λ unit. ap (cond (ok && same_unit command.unit unit) command.value) (same unit)) unit
 values_after-same (Rig node broken ∷ acts) f g same unit =
     values_after-same acts (value_by (Rig node broken) f) (value_by (Rig node broken) g) same unit
+values_after-same (Fit chip ∷ acts) f g same unit =
+    values_after-same acts (value_by (Fit chip) f) (value_by (Fit chip) g) (λ unit. refl) unit
 
 -- after acts, and others behind them
 pub values_after-append : (first second : List Act) (value : Unit → ℕ) (unit : Unit)

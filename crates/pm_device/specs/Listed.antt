@@ -3,8 +3,9 @@ use Rattle.std.specs.Prelude.{◌≡◌, ℕ, ◌+◌, ◌-◌, ◌^◌, ◌==�
 use Rattle.std.specs.List.{list_any}
 use Rattle.pm_base.specs.declared.names.Unit.{Unit}
 use Rattle.pm_base.specs.declared.names.Command.{Command}
-use Rattle.pm_topology.specs.UnitMap.{value_of, with_value}
-use Rattle.pm_device.specs.Act.{Act, Order, Rig, Shows}
+use Rattle.pm_topology.specs.UnitMap.{all_at, value_of, with_value}
+use Rattle.pm_topology.specs.Units.{units_of}
+use Rattle.pm_device.specs.Act.{Act, Order, Rig, Fit, Shows}
 use Rattle.pm_device.specs.Device.{DeviceMoment}
 use Rattle.pm_device.specs.Cells.{is_there}
 
@@ -40,10 +41,11 @@ listed_after command true d =
     record d { values = with_value command.unit command.value d.values; commands = next d.commands }
 listed_after command false d = record d { commands = next d.commands; faults = next d.faults }
 
--- the units and the counts after an act; a node that is rigged changes nothing
+-- the units and the counts after an act; a node that is rigged changes nothing, and a fit none of the counts
 abbrev pub listed_done : Act → Listed → Listed
 listed_done (Order command ok) d = listed_after command ok d
 listed_done (Rig node broken) d = d
+listed_done (Fit chip) d = record d { values = all_at 0 (units_of chip) }
 
 -- after an act, which is logged
 abbrev pub listed_by : Act → Listed → Listed
@@ -53,6 +55,7 @@ listed_by act d = record (listed_done act d) { log = d.log ++ act ∷ [] }
 abbrev pub IsAnsweredBy : Act → Listed → Type 0
 IsAnsweredBy (Order command ok) d = ok ≡ not (next_fails d command.unit)
 IsAnsweredBy (Rig node broken) d = ⊤
+IsAnsweredBy (Fit chip) d = ⊤
 
 -- an act leads from the one to the other
 pub record ListedDoes (act : Act) (old new : Listed) : Type 0 where

@@ -5,9 +5,11 @@ use Rattle.pm_base.specs.declared.names.Command.{Command}
 use Rattle.pm_base.specs.declared.names.Unit.{Unit}
 use Rattle.pm_base.specs.declared.names.NodeId.{NodeId}
 use Rattle.pm_device.specs.declared.cells.Cell.{Cell}
-use Rattle.pm_device.specs.Act.{Act, Order, Rig, Shows}
+use Rattle.pm_device.specs.Act.{Act, Order, Rig, Fit, Shows}
 use Rattle.pm_device.specs.Device.{DeviceMoment}
-use Rattle.pm_device.specs.Cells.{broken_of, cell_of, is_broken_cell, is_there, set_broken, set_value}
+use Rattle.pm_topology.specs.UnitMap.{all_at}
+use Rattle.pm_topology.specs.Units.{units_of}
+use Rattle.pm_device.specs.Cells.{broken_of, cell_of, idle, is_broken_cell, is_there, set_broken, set_value}
 
 -- the units, how many commands failed, and the acts since it was new, in their order
 pub record Bench : Type 0 where
@@ -41,6 +43,7 @@ bench_rigged node broken b = record b { cells = set_broken node broken b.cells }
 abbrev pub bench_done : Act → Bench → Bench
 bench_done (Order command ok) b = bench_after command ok b
 bench_done (Rig node broken) b = bench_rigged node broken b
+bench_done (Fit chip) b = record b { cells = all_at idle (units_of chip) }
 
 -- after an act, which is logged
 abbrev pub bench_by : Act → Bench → Bench

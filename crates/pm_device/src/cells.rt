@@ -2,7 +2,8 @@
 
 ghost use Rattle.std.specs.Prelude.{◌≡◌, [], if◌then◌else◌, true, IfOk};
 ghost use Rattle.pm_base.specs.declared.names.Unit.{Unit as Part};
-ghost use Rattle.pm_topology.specs.Units.{has_unit, same_unit};
+ghost use Rattle.pm_topology.specs.UnitMap.{all_at};
+ghost use Rattle.pm_topology.specs.Units.{has_unit, same_unit, units_of};
 ghost use Rattle.pm_device.specs.Cells.{broken_of, cell_of, idle, is_broken_cell, is_there, set_broken, set_value};
 ghost use Rattle.pm_device.specs.Device.{is_broken, rigged, rises};
 
@@ -33,6 +34,7 @@ pub(crate) fn idle() -> Cell
 ///
 /// `NoMemory` where there is not enough memory.
 pub(crate) fn idle_cells(alloc: Global, t: &Topology) -> Result<UnitMap<Cell>, NoMemory>
+    ensures entries { IfOk result (λ cells. cells ≡ all_at idle (units_of t.now)) }
     ensures values { IfOk result (λ cells. (unit : Part) → (cell_of cells unit).value ≡ 0) }
     ensures units { IfOk result (λ cells. (unit : Part) → is_there cells unit ≡ has_unit t.now unit) }
     ensures broken { IfOk result (λ cells. broken_of cells ≡ []) }

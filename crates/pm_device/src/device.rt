@@ -1,13 +1,16 @@
 //! The trait of devices.
 
-use pm_base::{Command, Failed, NodeId};
+use pm_base::{Command, Failed, NoMemory, NodeId};
+use pm_topology::Topology;
+use std::alloc::Global;
 
 /// A device of units: nodes and reset lines. What it shows, where it does: the value of each unit,
 /// and the units that it has with the list of its broken nodes in rising order.
 pub trait Device {
-    ghost use Rattle.std.specs.Prelude.{is_ok};
+    ghost use Rattle.std.specs.Prelude.{◌≡◌, IfErr, IfOk, is_ok};
     ghost use Rattle.pm_base.specs.Faults.{HasCause};
-    ghost use Rattle.pm_device.specs.Act.{Act, Order, Rig, Shows};
+    ghost use Rattle.pm_base.specs.declared.names.Unit.{Unit};
+    ghost use Rattle.pm_device.specs.Act.{Act, Fit, Order, Rig, Shows};
     ghost use Rattle.pm_device.specs.Device.{DeviceMoment};
 
     /// Whether its values are observable.
@@ -20,8 +23,8 @@ pub trait Device {
     /// falls and stands still at its last value.
     ghost state: { Self → DeviceMoment };
 
-    /// One act leads from a device to a device. Generic code knows no way to it but `command` and
-    /// `rig`, so who shows a chain of these has done just these acts, in this order, and nothing else.
+    /// One act leads from a device to a device. Generic code knows no way to it but `command`, `rig` and
+    /// `fit`, so who shows a chain of these has done just these acts, in this order, and nothing else.
     ghost Does: { Act → Self → Self → Type 0 };
 
     /// Sets a unit to a value.
@@ -37,6 +40,17 @@ pub trait Device {
     /// Breaks or mends a node. Nothing changes for a node that the device doesn't have.
     fn rig(&mut self, node: NodeId, broken: bool)
         ensures does { Does (Rig node broken) self.old self.new };
+
+    /// Gives the device the units of a chip: it then has exactly these, each stands at 0, and none is broken. Before,
+    /// it stands at 0 where its values are observable. The count of faults stays.
+    ///
+    /// # Errors
+    ///
+    /// `NoMemory` where there is not enough memory. Nothing changed.
+    fn fit(&mut self, alloc: Global, t: &Topology) -> Result<(), NoMemory>
+        requires idle { values_observable → (unit : Unit) → (state self.old).value unit ≡ 0 }
+        ensures does { IfOk result (λ _. Does (Fit t.now) self.old self.new) }
+        ensures refused { IfErr result (λ _. self.new ≡ self.old) };
 
     /// What an act leads to is what it shows.
     ghost shows: { (act : Act) (old new : Self) → Does act old new

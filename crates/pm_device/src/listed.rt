@@ -90,8 +90,8 @@ impl ListedDevice {
 }
 
 impl Device for ListedDevice {
-    ghost use Rattle.std.specs.Prelude.{⊤};
-    ghost use Rattle.pm_device.specs.Act.{Order, Rig};
+    ghost use Rattle.std.specs.Prelude.{⊤, IfErr};
+    ghost use Rattle.pm_device.specs.Act.{Fit, Order, Rig};
     ghost use Rattle.pm_device.specs.Listed.{ListedDoes, listed_by, listed_moment, next, next_fails};
 
     ghost values_observable = { ⊤ };
@@ -120,6 +120,19 @@ impl Device for ListedDevice {
         ensures after { self.new ≡ listed_by (Rig node broken) self.old }
     {
         self.log.push(&Entry::Rig(node, broken));
+    }
+
+    fn fit(&mut self, alloc: Global, t: &Topology) -> Result<(), NoMemory>
+        ensures does { IfOk result (λ _. ListedDoes (Fit t.now) self.old self.new) }
+        ensures refused { IfErr result (λ _. self.new ≡ self.old) }
+        ensures number { self.new.commands ≡ self.old.commands }
+        ensures failing { self.new.failing ≡ self.old.failing }
+        ensures after { IfOk result (λ _. self.new ≡ listed_by (Fit t.now) self.old) }
+    {
+        let values = UnitMap::load(alloc, t, 0)?;
+        self.values = values;
+        self.log.push_fit(t);
+        Ok(())
     }
 }
 

@@ -3,9 +3,10 @@
 
 ghost use Rattle.std.specs.Prelude.{◌≡◌, List, [], ◌∷◌, ◌++◌};
 ghost use Rattle.std.specs.Borrow.{ftrue};
-ghost use Rattle.pm_device.specs.Act.{Act};
+ghost use Rattle.pm_device.specs.Act.{Act, Fit};
 
 use pm_base::{Command, NodeId};
+use pm_topology::Topology;
 use std::marker::Model;
 
 /// An order, and whether it was carried out; or a node that is broken, or mended if the flag is false.
@@ -38,5 +39,10 @@ impl Log {
     /// Adds an act at the end.
     pub(crate) fn push(&mut self, _entry: &Entry)
         ensures { self.new.acts ≡ self.old.acts ++ act_of _entry.now ∷ [] }
+    {}
+
+    /// Adds a fit to a chip at the end.
+    pub(crate) fn push_fit(&mut self, _chip: &Topology)
+        ensures { self.new.acts ≡ self.old.acts ++ Fit _chip.now ∷ [] }
     {}
 }

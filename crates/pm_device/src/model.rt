@@ -94,8 +94,8 @@ impl ModelDevice {
 }
 
 impl Device for ModelDevice {
-    ghost use Rattle.std.specs.Prelude.{⊤};
-    ghost use Rattle.pm_device.specs.Act.{Order, Rig};
+    ghost use Rattle.std.specs.Prelude.{⊤, IfErr};
+    ghost use Rattle.pm_device.specs.Act.{Fit, Order, Rig};
     ghost use Rattle.pm_device.specs.Model.{BenchDoes, bench_by, does_fail, moment_of};
 
     ghost values_observable = { ⊤ };
@@ -125,6 +125,17 @@ impl Device for ModelDevice {
     {
         self.set_broken(node, broken);
         self.log.push(&Entry::Rig(node, broken));
+    }
+
+    fn fit(&mut self, alloc: Global, t: &Topology) -> Result<(), NoMemory>
+        ensures does { IfOk result (λ _. BenchDoes (Fit t.now) self.old self.new) }
+        ensures refused { IfErr result (λ _. self.new ≡ self.old) }
+        ensures after { IfOk result (λ _. self.new ≡ bench_by (Fit t.now) self.old) }
+    {
+        let cells = cells::idle_cells(alloc, t)?;
+        self.cells = cells;
+        self.log.push_fit(t);
+        Ok(())
     }
 }
 

@@ -12,7 +12,6 @@ use Rattle.pm_topology.specs.declared.topology.PowerDef.{PowerDef}
 use Rattle.pm_topology.specs.declared.topology.Topology.{Topology}
 use Rattle.pm_topology.specs.declared.places.Kind.{Kind}
 use Rattle.pm_topology.specs.declared.places.Kind.TheVariants.{Proc, Slave}
-use Rattle.pm_topology.specs.Masters.{ObeysMasterRules}
 use Rattle.pm_topology.specs.Places.{kind_of}
 use Rattle.pm_topology.specs.UnitMap.{units_in}
 use Rattle.pm_topology.specs.Units.{units_of}
@@ -108,10 +107,9 @@ pub record IsSound (book : State) : Type 0 where
   pub pending : HasPending book
   pub notes : HasNotes book
 
--- what holds in every book: the topology has passed its check and obeys the rules on masters, and the book is sound
+-- what holds in every book: the topology has passed its check, and the book is sound
 pub record IsBook (book : State) : Type 0 where
   pub formed : IsWellFormed book.fixed.topology
-  pub masters : ObeysMasterRules book.fixed.topology
   pub sound : IsSound book
 
 -- k is the first state of the slave at place s that meets what is wanted of the slave

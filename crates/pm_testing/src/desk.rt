@@ -2,7 +2,6 @@
 
 ghost use Rattle.std.specs.Prelude.{◌≡◌, [], IfOk};
 ghost use Rattle.pm_topology.specs.WellFormed.{IsWellFormed};
-ghost use Rattle.pm_topology.specs.Masters.{ObeysMasterRules};
 ghost use Rattle.pm_core.specs.Outbox.{HasRoomFor};
 
 use crate::events::{Trigger, event_of, message};
@@ -16,7 +15,6 @@ use std::test::Fail;
 /// The chip, of which callers need no more than what a book asks for.
 pub fn chip(alloc: Global) -> Result<Topology, NoMemory>
     ensures formed { IfOk result IsWellFormed }
-    ensures masters { IfOk result ObeysMasterRules }
 {
     zynqmp(alloc)
 }
@@ -32,7 +30,6 @@ pub struct Desk {
 /// The book at load, on the heap, so that a caller holds no more than where it is.
 pub fn desk_with(alloc: Global, object: Object, chip: Topology) -> Result<Box<Desk>, NoMemory>
     requires formed { IsWellFormed chip }
-    requires masters { ObeysMasterRules chip }
     ensures chip { IfOk result (λ desk. desk.value.book.fixed.topology ≡ chip) }
     ensures fresh { IfOk result (λ desk. desk.value.out.done.items ≡ []) }
 {

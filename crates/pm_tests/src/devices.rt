@@ -4,6 +4,8 @@ use crate::chip::chip;
 use crate::rows::all_right;
 use pm_base::{Command, LineId, NodeId, Unit};
 use pm_device::{Device, ListedDevice, ModelDevice};
+use pm_topology::{LineDef, Topology};
+use std::alloc::Global;
 use std::test::Fail;
 
 fn node(number: u32) -> Unit {
@@ -127,5 +129,52 @@ fn a_listed_device_fails_at_its_numbers(rt: HostRuntime) -> Result<(), Fail> {
     all_right(&rt, wrong_act(&mut device, &LISTED));
     all_right(&rt, wrong_listed(&device));
     all_right(&rt, wrong_act(&mut device, &[Act::Node(62, 4, true)]));
+    Ok(())
+}
+
+/// The chip with a reset line more.
+fn larger_chip(alloc: Global) -> Result<Topology, Fail> {
+    let mut larger = chip(alloc)?;
+    larger.lines.push(LineDef {
+        line: LineId(62),
+        target: None,
+    })?;
+    Ok(larger)
+}
+
+/// What a device that was fitted to the larger chip takes, whatever was broken before.
+static FITTED: [Act; 4] = [
+    Act::Node(28, 9, true),
+    Act::Line(62, 1, true),
+    Act::Node(62, 4, true),
+    Act::Node(70, 1, false),
+];
+
+#[test]
+fn a_fitted_model_has_the_units_of_its_chip(rt: HostRuntime) -> Result<(), Fail> {
+    let mut device = ModelDevice::new(rt.alloc(), &chip(rt.alloc())?)?;
+    all_right(&rt, wrong_act(&mut device, &MODEL));
+    device.fit(rt.alloc(), &larger_chip(rt.alloc())?)?;
+    assert_eq!(rt; device.value(node(62)), 0);
+    assert_eq!(rt; device.value(line(28)), 0);
+    all_right(&rt, wrong_act(&mut device, &FITTED));
+    assert_eq!(rt; device.value(line(62)), 1);
+    Ok(())
+}
+
+/// The numbers of the commands go on.
+#[test]
+fn a_fitted_listed_device_fails_at_its_later_numbers(rt: HostRuntime) -> Result<(), Fail> {
+    let mut device = ListedDevice::new(rt.alloc(), &chip(rt.alloc())?, &[2])?;
+    all_right(&rt, wrong_act(&mut device, &[Act::Node(62, 3, true)]));
+    device.fit(rt.alloc(), &larger_chip(rt.alloc())?)?;
+    assert_eq!(rt; device.value(node(62)), 0);
+    all_right(
+        &rt,
+        wrong_act(
+            &mut device,
+            &[Act::Line(62, 1, false), Act::Line(62, 1, true)],
+        ),
+    );
     Ok(())
 }

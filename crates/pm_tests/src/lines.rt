@@ -152,7 +152,7 @@ const SPACES: &[u8] = &[b' '; 256];
 const ZEROS: &[u8] = &[0; 256];
 
 /// A line, and the first of its faults.
-static FAULTS: [(&[u8], LineFault); 69] = [
+static FAULTS: [(&[u8], LineFault); 78] = [
     (b"ipi 1 3 11#", LineFault::Number),
     (b"ipi 1 2 3 4 5 6 4294967296", LineFault::Number),
     (b"ipi -1 3", LineFault::Number),
@@ -192,6 +192,14 @@ static FAULTS: [(&[u8], LineFault); 69] = [
     (b"posts 1 1", LineFault::Unknown),
     (b"serve 1", LineFault::Count),
     (b"serves", LineFault::Unknown),
+    (b"smc", LineFault::Count),
+    (b"smc 2", LineFault::Count),
+    (b"smc 2 1 0 0 0 0", LineFault::Count),
+    (b"smc 4294967296 1", LineFault::Number),
+    (b"smc 2 4294967296", LineFault::Number),
+    (b"smc 2 1 18446744073709551616", LineFault::Number),
+    (b"smc 2 1 0 0 -1", LineFault::Number),
+    (b"SMC 2 1", LineFault::Unknown),
     (b"Serve", LineFault::Unknown),
     (b"breaks 1", LineFault::Unknown),
     (b"break", LineFault::Count),
@@ -212,6 +220,7 @@ static FAULTS: [(&[u8], LineFault); 69] = [
     (b"gic x 7", LineFault::Count),
     (b"post x", LineFault::Count),
     (b"serve x", LineFault::Count),
+    (b"smc x", LineFault::Count),
     (b"irq \x80", LineFault::NotAscii),
     (b"gic 7\r\r", LineFault::NotAscii),
     (b"boot x y z", LineFault::Count),
@@ -288,8 +297,9 @@ fn a_line_boots_a_processor(rt: HostRuntime) {
 }
 
 /// A line, and what happens in it: a processor waits for an interrupt, a slave raises its own, there is one at a
-/// processor itself, a master puts a message into its box, the boxes are served, or a node breaks or is mended.
-static EVENTS: [(&[u8], Event); 16] = [
+/// processor itself, a master puts a message into its box, the boxes are served, a processor makes a power call, or a
+/// node breaks or is mended.
+static EVENTS: [(&[u8], Event); 19] = [
     (b"wfi 7", Event::Wfi { proc: NodeId(7) }),
     (
         b"wfi 0xffffffff",
@@ -346,6 +356,30 @@ static EVENTS: [(&[u8], Event); 16] = [
     ),
     (b"serve", Event::Serve),
     (b" serve\t# 1\r", Event::Serve),
+    (
+        b"smc 2 0x84000002",
+        Event::Smc {
+            proc: NodeId(2),
+            function: 0x8400_0002,
+            args: [0, 0, 0],
+        },
+    ),
+    (
+        b"smc 0xFFFFFFFF 4294967295 18446744073709551615 0x100000000 3",
+        Event::Smc {
+            proc: NodeId(u32::MAX),
+            function: u32::MAX,
+            args: [u64::MAX, 0x1_0000_0000, 3],
+        },
+    ),
+    (
+        b"\tsmc 03 1 4096 # 7\r",
+        Event::Smc {
+            proc: NodeId(3),
+            function: 1,
+            args: [4096, 0, 0],
+        },
+    ),
     (b"break 46", Event::Break { node: NodeId(46) }),
     (b"\tmend 0x2E\r", Event::Mend { node: NodeId(46) }),
 ];

@@ -16,4 +16,8 @@ mod rows;
 #[cfg(test)]
 mod topology_faults;
 #[cfg(test)]
+mod topology_limits;
+#[cfg(test)]
 mod topology_lists;
+#[cfg(test)]
+mod topology_masters;

@@ -2,7 +2,7 @@
 
 use crate::chip::chip;
 use crate::rows::all_right;
-use crate::topology_lists::{LINES, Lists, MASTERS, POWERS, PROCS, Power, Procs, SLAVES, built};
+use crate::topology_lists::{LINES, Lists, Master, POWERS, Power, Proc, SLAVES, built};
 use pm_base::NodeId;
 use pm_object::{Object, has_key};
 use pm_objtext::build;
@@ -232,7 +232,12 @@ fn each_member_has_its_path_and_reason(rt: HostRuntime) -> Result<(), Fail> {
 /// The power nodes of the small topology, and one more, with nothing below it.
 const EMPTY_DOMAIN: &[Power] = &[(9, None), (10, Some(0)), (8, Some(0))];
 
-const SMALL: Lists = (EMPTY_DOMAIN, PROCS, SLAVES, LINES, MASTERS);
+/// Two processors, the second of which two masters have. No chip that passes its check has that.
+const TWO_PROCS: &[Proc] = &[(2, 1), (3, 1)];
+
+const SHARING: &[Master] = &[(1, &[2, 3]), (6, &[3])];
+
+const SMALL: Lists = (EMPTY_DOMAIN, TWO_PROCS, SLAVES, LINES, SHARING);
 
 /// Master 6, which has a processor in common with master 1, may force a power node with nothing below it, or one that
 /// has all others and the processors of both below it.
@@ -282,10 +287,10 @@ fn a_power_node_with_nothing_below_is_never_reached(rt: HostRuntime) -> Result<(
 /// Masters 1 and 7 both have processor 3.
 const SHARED: Lists = (
     POWERS,
-    PROCS,
+    TWO_PROCS,
     SLAVES,
     LINES,
-    &[(1, Procs::Both), (7, Procs::One), (8, Procs::Nobody)],
+    &[(1, &[2, 3]), (7, &[3]), (8, &[])],
 );
 
 /// Master 8 may force processor 3, and so each master that has it.

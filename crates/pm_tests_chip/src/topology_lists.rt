@@ -12,7 +12,7 @@ pub(crate) type Slave = (u32, usize, States);
 
 pub(crate) type Line = (u32, u32);
 
-pub(crate) type Master = (u32, Procs);
+pub(crate) type Master = (u32, &'static [u32]);
 
 /// A small topology: powers by number and parent, processors by number and parent, slaves by number,
 /// parent and states, lines by number and target, masters by number and processors.
@@ -73,35 +73,17 @@ fn states_of(states: States) -> &'static [SlaveState] {
     }
 }
 
-/// The processors of a master: both, the second one, a slave among them, and none.
-#[derive(Clone, Copy)]
-pub(crate) enum Procs {
-    Both,
-    One,
-    Stranger,
-    Nobody,
-}
-
-fn procs_of(procs: Procs) -> &'static [NodeId] {
-    match procs {
-        Procs::Both => &[NodeId(2), NodeId(3)],
-        Procs::One => &[NodeId(3)],
-        Procs::Stranger => &[NodeId(2), NodeId(11)],
-        Procs::Nobody => &[],
-    }
-}
-
 // The lists of a topology that passes.
 
 pub(crate) const POWERS: &[Power] = &[(9, None), (10, Some(0))];
 
-pub(crate) const PROCS: &[Proc] = &[(2, 1), (3, 1)];
+pub(crate) const PROCS: &[Proc] = &[(2, 1), (3, 1), (7, 1), (8, 1)];
 
 pub(crate) const SLAVES: &[Slave] = &[(11, 1, States::Full), (12, 0, States::Full)];
 
 pub(crate) const LINES: &[Line] = &[(2, 2), (11, 11)];
 
-pub(crate) const MASTERS: &[Master] = &[(1, Procs::Both), (6, Procs::One)];
+pub(crate) const MASTERS: &[Master] = &[(1, &[2, 3]), (6, &[7]), (7, &[7]), (8, &[8])];
 
 pub(crate) fn power((number, parent): Power) -> PowerDef {
     PowerDef {
@@ -146,10 +128,18 @@ pub(crate) fn slave(alloc: Global, (number, parent, kind): Slave) -> Result<Slav
     })
 }
 
-pub(crate) fn master(alloc: Global, (number, kind): Master) -> Result<MasterDef, NoMemory> {
+fn node_list(alloc: Global, numbers: &[u32]) -> Result<List<NodeId>, NoMemory> {
+    let mut list = List::new(alloc);
+    for number in numbers {
+        list.push(NodeId(*number))?;
+    }
+    Ok(list)
+}
+
+pub(crate) fn master(alloc: Global, (number, procs): Master) -> Result<MasterDef, NoMemory> {
     Ok(MasterDef {
         node: NodeId(number),
-        procs: list_of(alloc, procs_of(kind))?,
+        procs: node_list(alloc, procs)?,
     })
 }
 

@@ -5,11 +5,16 @@ ghost use Rattle.pm_topology.specs.Chip.{power, proc};
 ghost use Rattle.pm_tests_needs.specs.Chain.{powers, procs};
 
 use pm_base::{List, NoMemory, NodeId};
-use pm_topology::{PowerDef, ProcDef, Topology};
+use pm_topology::{MasterDef, PowerDef, ProcDef, Topology};
 use std::alloc::Global;
 
-/// A chip of these power nodes and processors.
-fn chip(powers: List<PowerDef>, procs: List<ProcDef>, alloc: Global) -> Topology
+/// A chip of these power nodes, processors and masters.
+fn chip(
+    powers: List<PowerDef>,
+    procs: List<ProcDef>,
+    masters: List<MasterDef>,
+    alloc: Global,
+) -> Topology
     ensures powers { result.powers ≡ powers }
     ensures procs { result.procs ≡ procs }
     ensures slaves { result.slaves ≡ [] }
@@ -19,8 +24,25 @@ fn chip(powers: List<PowerDef>, procs: List<ProcDef>, alloc: Global) -> Topology
         procs,
         powers,
         lines: List::new(alloc),
-        masters: List::new(alloc),
+        masters,
     }
+}
+
+/// The masters by number, and the processor that each has.
+static MASTERS: [(u32, u32); 4] = [(1, 1), (6, 2), (7, 3), (8, 4)];
+
+/// The masters of each chip.
+fn masters(alloc: Global) -> Result<List<MasterDef>, NoMemory> {
+    let mut list = List::new(alloc);
+    for (number, proc) in MASTERS.iter() {
+        let mut procs = List::new(alloc);
+        procs.push(NodeId(*proc))?;
+        list.push(MasterDef {
+            node: NodeId(*number),
+            procs,
+        })?;
+    }
+    Ok(list)
 }
 
 /// A power node by its number, its parent's place, and whether it is held.
@@ -54,7 +76,12 @@ pub(crate) fn chain(alloc: Global) -> Result<Topology, NoMemory>
     ensures procs { IfOk result (λ t. t.procs ≡ procs) }
     ensures slaves { IfOk result (λ t. t.slaves ≡ []) }
 {
-    Ok(chip(chain_powers(alloc)?, chain_procs(alloc)?, alloc))
+    Ok(chip(
+        chain_powers(alloc)?,
+        chain_procs(alloc)?,
+        masters(alloc)?,
+        alloc,
+    ))
 }
 
 fn chain_powers(alloc: Global) -> Result<List<PowerDef>, NoMemory>
@@ -104,5 +131,5 @@ pub(crate) fn tree(alloc: Global) -> Result<Topology, NoMemory> {
     for (number, parent) in BELOW.iter() {
         procs.push(proc(*number, *parent))?;
     }
-    Ok(chip(powers, procs, alloc))
+    Ok(chip(powers, procs, masters(alloc)?, alloc))
 }

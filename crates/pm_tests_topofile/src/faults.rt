@@ -137,7 +137,7 @@ fn long_lines_and_long_texts_are_refused(rt: HostRuntime) -> Result<(), Fail> {
 }
 
 /// A text of good lines, and the rule that its topology breaks at a place.
-static BROKEN: [(&str, TopoCause, usize); 6] = [
+static BROKEN: [(&str, TopoCause, usize); 10] = [
     (
         "power 1 none 0 0 0\npower 1 none 0 0 0\n",
         TopoCause::Repeated,
@@ -153,9 +153,26 @@ static BROKEN: [(&str, TopoCause, usize); 6] = [
     ("owner 1 2\n", TopoCause::BadMember, 0),
     // a master that comes again after another one is an entry of its own
     (
-        "power 1 none 0 0 0\nproc 2 1 0 0\nowner 1 2\nowner 6 2\nowner 1 2\n",
+        "power 1 none 0 0 0\nproc 2 1 0 0\nproc 3 1 0 0\nowner 1 2\nowner 6 3\nowner 1 2\n",
         TopoCause::Repeated,
         2,
+    ),
+    // a processor that comes again in a later line of the same entry is named twice
+    (
+        "power 1 none 0 0 0\nproc 2 1 0 0\nowner 1 2\nowner 1 2\n",
+        TopoCause::BadMember,
+        0,
+    ),
+    (
+        "power 1 none 0 0 0\nproc 2 1 0 0\nowner 1 2\nowner 6 2\n",
+        TopoCause::Overlap,
+        1,
+    ),
+    ("", TopoCause::NoMaster, 0),
+    (
+        "power 62 none 1 20 3000\nproc 2 62 0 0\nproc 7 62 0 0\nowner 1 2\nowner 6 7\nowner 7 7\n",
+        TopoCause::NoMaster,
+        3,
     ),
 ];
 

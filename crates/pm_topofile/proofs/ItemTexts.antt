@@ -44,7 +44,7 @@ keyword_of-text : (k : Keyword) → keyword_of (keyword_text k) ≡ Some k
 keyword_of-text keywords.Power = refl
 keyword_of-text k = refl
 
-length-keyword_text : (k : Keyword) → length (keyword_text k) ≤ 5
+pub length-keyword_text : (k : Keyword) → length (keyword_text k) ≤ 5
 length-keyword_text keywords.Power = omega arith
 length-keyword_text k = omega arith
 
@@ -67,7 +67,7 @@ length-bare : (w : Option ℕ) → IsSmall w → length (bare w) ≤ 10
 length-bare None small = omega arith
 length-bare (Some n) small = omega (arith, length-decimal-le 10 n (omega arith) (omega arith) (omega arith))
 
-length-bares : (ws : List (Option ℕ)) → AreSmall ws → length (flat_map spaced (map bare ws)) ≤ 11 * length ws
+pub length-bares : (ws : List (Option ℕ)) → AreSmall ws → length (flat_map spaced (map bare ws)) ≤ 11 * length ws
 length-bares [] small = omega arith
 length-bares (w ∷ ws) small =
     omega (arith, length-append (bare w) (flat_map spaced (map bare ws)), length-bare w small.0, length-bares ws small.1)
@@ -76,7 +76,7 @@ word_text-bare : (w : Option ℕ) → word_text w ≡ 32 ∷ bare w
 word_text-bare None = refl
 word_text-bare (Some n) = refl
 
-words-bare : (ws : List (Option ℕ)) → flat_map word_text ws ≡ flat_map spaced (map bare ws)
+pub words-bare : (ws : List (Option ℕ)) → flat_map word_text ws ≡ flat_map spaced (map bare ws)
 words-bare [] = refl
 words-bare (w ∷ ws) = rw (word_text-bare w, words-bare ws) refl
 

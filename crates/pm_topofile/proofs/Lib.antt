@@ -2,8 +2,10 @@ pub mod ItemTexts
 pub mod Known
 pub mod LastLemmas
 pub mod Leads
+pub mod Lengths
 pub mod LineTexts
 pub mod LinesLemmas
+pub mod Members
 pub mod Owners
 pub mod Printed
 pub mod ReadingLemmas

@@ -22,6 +22,7 @@ use Rattle.pm_topology.proofs.WellFormedLaw.{faultless_where}
 use Rattle.pm_topofile.specs.Meaning.{meaning, most_bytes}
 use Rattle.pm_topofile.specs.Taking.{nothing, place_of, optional_place, taken, with_members}
 use Rattle.pm_topofile.specs.Printing.{IsSmall, AreSmall, IsSmallSlave, HasSmallNumbers, line_text, power_at, power_words, proc_words, slave_words, state_words, reset_words, owner_words, power_text, proc_text, slave_text, state_text, reset_text, owner_line, owner_lines, owner_text, number_of, text_of}
+use Rattle.pm_topofile.proofs.Lengths.{small_parts, text_short, within_limits}
 use Rattle.pm_topofile.proofs.LastLemmas.{with_state-last, with_members-same}
 use Rattle.pm_topofile.proofs.Leads.{Leads, number_in, leads_on, leads_line, leads_all, says_power, says_proc, says_slave, says_state, says_line, says_owner, numbers_of, nodes_again, AreSmallNodes, nodes_small, small_nodes}
 
@@ -218,10 +219,6 @@ record Parted (procs : List NodeId) (full : ℕ) : Type 0 where
   pub least : 16 * full < length (drop 16 procs)
   pub most : length (drop 16 procs) ≤ 16 * full + 16
 
-small_parts : (xs ys : List NodeId) → AreSmallNodes (xs ++ ys) → AreSmallNodes xs × AreSmallNodes ys
-small_parts [] ys small = (tt, small)
-small_parts (x ∷ xs) ys small = let both = small_parts xs ys small.1 in ((small.0, both.0), both.1)
-
 parted : (procs : List NodeId) (full : ℕ) → AreSmallNodes procs → 16 * suc full < length procs → length procs ≤ 16 * suc full + 16 → Parted procs full
 parted procs full small least most =
     let both = small_parts (take 16 procs) (drop 16 procs) (subst AreSmallNodes (sym (take-append-drop 16 procs)) small) in
@@ -293,17 +290,18 @@ lead_all t ok small =
     (subst (λ (text : List ℕ). Leads text (with_lines t.powers t.procs t.slaves t.lines) t []) ended fifth))))
 
 -- the law
-pub read_again : (t : Topology) → IsSupported t → HasSmallNumbers t → length (text_of t) ≤ most_bytes → meaning (text_of t) ≡ Ok t
+pub read_again : (t : Topology) → IsSupported t → HasSmallNumbers t → meaning (text_of t) ≡ Ok t
 unfolding meaning
-read_again t ok small short =
+read_again t ok small =
+    let short = text_short t (within_limits t ok.well_formed) small in
     let fits : nat_lt most_bytes (length (text_of t)) ≡ false = grind (arith, nat_tests) in
     let read = lead_all t ok small 1 in
     rw (fits, read.1, faultless_where t ok.well_formed) refl
 
 -- the same of what was printed
 pub again_where : {V E : Type 0} (items : V → List ℕ) (t : Topology) (result : Result V E)
-    → ((u : Topology) → IsSupported u → HasSmallNumbers u → length (text_of u) ≤ most_bytes → meaning (text_of u) ≡ Ok u)
+    → ((u : Topology) → IsSupported u → HasSmallNumbers u → meaning (text_of u) ≡ Ok u)
     → IfOk result (λ text. items text ≡ text_of t) → IfOk result (λ _. HasSmallNumbers t)
-    → IsSupported t → IfOk result (λ text. length (items text) ≤ most_bytes → meaning (items text) ≡ Ok t)
-again_where items t (Ok text) law printed small ok = λ short. subst (λ bytes. meaning bytes ≡ Ok t) (sym printed) (law t ok small (subst (λ bytes. length bytes ≤ most_bytes) printed short))
+    → IsSupported t → IfOk result (λ text. meaning (items text) ≡ Ok t)
+again_where items t (Ok text) law printed small ok = subst (λ bytes. meaning bytes ≡ Ok t) (sym printed) (law t ok small)
 again_where items t (Err e) law printed small ok = tt

@@ -1,11 +1,11 @@
 //! The text of a topology.
 
-ghost use Rattle.std.specs.Prelude.{◌≡◌, ◌++◌, ◌∷◌, [], map, option_and_then, ◌≤◌, length, Ok, IfOk, OnOk};
+ghost use Rattle.std.specs.Prelude.{◌≡◌, ◌++◌, ◌∷◌, [], map, option_and_then, Ok, IfOk, OnOk};
 ghost use Rattle.std.specs.List.{AllByRecursion, flat_map};
 ghost use Rattle.std.specs.Option.{option_map};
 ghost use Rattle.pm_topofile.specs.Printing.{AreSmall, HasSmallNumbers, IsSmall, IsSmallSlave, flag, line_text, number_of, owner_line, owner_text, owner_words, power_at, power_text, power_words, proc_text, proc_words, reset_text, reset_words, slave_text, slave_words, state_text, state_words, text_of, word_text};
 ghost use Rattle.pm_topology.specs.WellFormed.{IsSupported};
-ghost use Rattle.pm_topofile.specs.Meaning.{meaning, most_bytes};
+ghost use Rattle.pm_topofile.specs.Meaning.{meaning};
 
 use crate::laws::printed_topology_is_read_again;
 use crate::table::{Keyword, keyword_text};
@@ -241,9 +241,8 @@ fn print_lists(alloc: Global, t: &Topology) -> Result<Vec<u8>, NoMemory>
 pub fn print_topology(alloc: Global, t: &Topology) -> Result<Vec<u8>, NoMemory>
     ensures printed { IfOk result (λ text. text.items ≡ text_of t.now) }
     ensures small { IfOk result (λ _. HasSmallNumbers t.now) }
-    // The text means the topology that was printed, where it isn't too long.
-    ensures again { IsSupported t.now → IfOk result (λ text. length text.items ≤ most_bytes
-        → meaning text.items ≡ Ok t.now) }
+    // The text means the topology that was printed.
+    ensures again { IsSupported t.now → IfOk result (λ text. meaning text.items ≡ Ok t.now) }
 {
     printed_topology_is_read_again();
     print_lists(alloc, t)

@@ -6,23 +6,21 @@ use Rattle.std.proofs.lemmas.Bool.{eqb-true}
 use Rattle.std.proofs.lemmas.Bool.Decides.{nat_tests}
 use Rattle.pm_base.specs.declared.names.NodeId.{NodeId}
 use Rattle.pm_base.proofs.Booleans.{neither, none_of, either, first_passes, later_passes, both, pair_of, equal}
-use Rattle.pm_base.proofs.Tests.{absent_at, absent_from}
 use Rattle.pm_topology.specs.declared.topology.SlaveState.{SlaveState}
 use Rattle.pm_topology.specs.declared.topology.SlaveDef.{SlaveDef}
 use Rattle.pm_topology.specs.declared.topology.ProcDef.{ProcDef}
 use Rattle.pm_topology.specs.declared.topology.PowerDef.{PowerDef}
 use Rattle.pm_topology.specs.declared.topology.LineDef.{LineDef}
-use Rattle.pm_topology.specs.declared.topology.MasterDef.{MasterDef}
 use Rattle.pm_topology.specs.declared.topology.Topology.{Topology}
-use Rattle.pm_topology.specs.declared.faults.TopoCause.TheVariants.{Repeated, ParentLate, NoStates, LastNotFull, TooMany, BadTarget, BadMember}
-use Rattle.pm_topology.specs.FirstFault.{has_power, has_proc, has_slave, is_late, power_cause, proc_cause, slave_cause, covers, is_full, last_is_full, is_bad_target, line_cause, master_cause}
+use Rattle.pm_topology.specs.declared.faults.TopoCause.TheVariants.{Repeated, ParentLate, NoStates, LastNotFull, TooMany, BadTarget}
+use Rattle.pm_topology.specs.FirstFault.{has_power, has_proc, has_slave, is_late, power_cause, proc_cause, slave_cause, covers, is_full, last_is_full, is_bad_target, line_cause}
 use Rattle.pm_topology.specs.WellFormed.{EachEntry, HasFullLast, IsProc, IsSlave}
 use Rattle.pm_topology.proofs.Entries.{pass, passed, number_at, number_from}
 
-below : (a b : ℕ) → nat_le b a ≡ false → a < b
+pub below : (a b : ℕ) → nat_le b a ≡ false → a < b
 below a b e = grind (arith, nat_tests)
 
-not_at : (a b : ℕ) → a < b → nat_le b a ≡ false
+pub not_at : (a b : ℕ) → a < b → nat_le b a ≡ false
 not_at a b e = grind (arith, nat_tests)
 
 upto : (a b : ℕ) → nat_lt b a ≡ false → a ≤ b
@@ -31,17 +29,17 @@ upto a b e = grind (arith, nat_tests)
 not_past : (a b : ℕ) → a ≤ b → nat_lt b a ≡ false
 not_past a b e = grind (arith, nat_tests)
 
-some_of : (a : ℕ) → (a == 0) ≡ false → 0 < a
+pub some_of : (a : ℕ) → (a == 0) ≡ false → 0 < a
 some_of a e = grind (arith, nat_tests)
 
-not_none : (a : ℕ) → 0 < a → (a == 0) ≡ false
+pub not_none : (a : ℕ) → 0 < a → (a == 0) ≡ false
 not_none a e = grind (arith, nat_tests)
 
-denied : (b : Bool) → not b ≡ false → b ≡ true
+pub denied : (b : Bool) → not b ≡ false → b ≡ true
 denied true e = refl
 denied false e = cc
 
-affirmed : (b : Bool) → b ≡ true → not b ≡ false
+pub affirmed : (b : Bool) → b ≡ true → not b ≡ false
 affirmed true e = refl
 affirmed false e = cc
 
@@ -50,25 +48,25 @@ all_at p [] e k x here = cc
 all_at p (y ∷ ys) e zero x here = let same : y ≡ x = cc in ap p (sym same) ∙ (both (p y) _ e).0
 all_at p (y ∷ ys) e (suc k) x here = all_at p ys ((both (p y) _ e).1) k x here
 
-all_from : {X : Type 0} (p : X → Bool) (xs : List X) → EachEntry xs (λ _ x. p x ≡ true) → list_all p xs ≡ true
+pub all_from : {X : Type 0} (p : X → Bool) (xs : List X) → EachEntry xs (λ _ x. p x ≡ true) → list_all p xs ≡ true
 all_from p [] each = refl
 all_from p (y ∷ ys) each = pair_of (p y) _ (each 0 y refl) (all_from p ys (λ k x here. each (suc k) x here))
 
 pub record PowerKeeps (t : Topology) (k : ℕ) (p : PowerDef) : Type 0 where
-  pub within : k < 8
+  pub within : k < 64
   pub new : has_power p.node.0 (take k t.powers) ≡ false
   pub early : is_late k p.parent ≡ false
 
 pub power_keeps : (t : Topology) (k : ℕ) (p : PowerDef) → power_cause t k p ≡ None → PowerKeeps t k p
 power_keeps t k p e =
-    let few = pass (nat_le 8 k) TooMany _ e in
+    let few = pass (nat_le 64 k) TooMany _ e in
     let new = pass (has_power p.node.0 (take k t.powers)) Repeated _ few.1 in
     let early = pass (is_late k p.parent) ParentLate None new.1 in
-    record { within = below k 8 few.0; new = new.0; early = early.0 }
+    record { within = below k 64 few.0; new = new.0; early = early.0 }
 
 pub power_kept : (t : Topology) (k : ℕ) (p : PowerDef) → PowerKeeps t k p → power_cause t k p ≡ None
 power_kept t k p keeps =
-    passed _ TooMany _ (not_at k 8 keeps.within)
+    passed _ TooMany _ (not_at k 64 keeps.within)
     (passed _ Repeated _ keeps.new (passed _ ParentLate _ keeps.early refl))
 
 pub earlier : (k : ℕ) (parent : Option ℕ) → is_late k parent ≡ false → IfSome parent (λ w. w < k)
@@ -80,22 +78,22 @@ not_late k None e = refl
 not_late k (Some w) e = not_at w k e
 
 pub record ProcKeeps (t : Topology) (k : ℕ) (p : ProcDef) : Type 0 where
-  pub within : k < 8
+  pub within : k < 64
   pub no_power : has_power p.node.0 t.powers ≡ false
   pub new : has_proc p.node.0 (take k t.procs) ≡ false
   pub parent : p.parent < length t.powers
 
 pub proc_keeps : (t : Topology) (k : ℕ) (p : ProcDef) → proc_cause t k p ≡ None → ProcKeeps t k p
 proc_keeps t k p e =
-    let few = pass (nat_le 8 k) TooMany _ e in
+    let few = pass (nat_le 64 k) TooMany _ e in
     let new = pass (has_power p.node.0 t.powers || has_proc p.node.0 (take k t.procs)) Repeated _ few.1 in
     let early = pass (nat_le (length t.powers) p.parent) ParentLate None new.1 in
     let two = neither (has_power p.node.0 t.powers) _ new.0 in
-    record { within = below k 8 few.0; no_power = two.0; new = two.1; parent = below p.parent (length t.powers) early.0 }
+    record { within = below k 64 few.0; no_power = two.0; new = two.1; parent = below p.parent (length t.powers) early.0 }
 
 pub proc_kept : (t : Topology) (k : ℕ) (p : ProcDef) → ProcKeeps t k p → proc_cause t k p ≡ None
 proc_kept t k p keeps =
-    passed _ TooMany _ (not_at k 8 keeps.within)
+    passed _ TooMany _ (not_at k 64 keeps.within)
     (passed _ Repeated _ (none_of _ _ keeps.no_power keeps.new)
     (passed _ ParentLate _ (not_at p.parent (length t.powers) keeps.parent) refl))
 
@@ -127,7 +125,7 @@ full_from states (Some last) is full =
     subst P e (pair_of _ _ (equal full.last.latency 0 full.at_once) (all_from (covers full.last) states (λ k s here. equal _ _ (full.full k s here))))
 
 pub record SlaveKeeps (t : Topology) (k : ℕ) (s : SlaveDef) : Type 0 where
-  pub within : k < 64
+  pub within : k < 512
   pub no_power : has_power s.node.0 t.powers ≡ false
   pub no_proc : has_proc s.node.0 t.procs ≡ false
   pub new : has_slave s.node.0 (take k t.slaves) ≡ false
@@ -136,16 +134,16 @@ pub record SlaveKeeps (t : Topology) (k : ℕ) (s : SlaveDef) : Type 0 where
 
 pub slave_keeps : (t : Topology) (k : ℕ) (s : SlaveDef) → slave_cause t k s ≡ None → SlaveKeeps t k s
 slave_keeps t k s e =
-    let few = pass (nat_le 64 k || nat_lt 4 (length s.states)) TooMany _ e in
+    let few = pass (nat_le 512 k || nat_lt 4 (length s.states)) TooMany _ e in
     let new = pass (has_power s.node.0 t.powers || (has_proc s.node.0 t.procs || has_slave s.node.0 (take k t.slaves))) Repeated _ few.1 in
     let early = pass (nat_le (length t.powers) s.parent) ParentLate _ new.1 in
     let some = pass (length s.states == 0) NoStates _ early.1 in
     let full = pass (not (last_is_full s.states)) LastNotFull None some.1 in
-    let limits = neither (nat_le 64 k) _ few.0 in
+    let limits = neither (nat_le 512 k) _ few.0 in
     let others = neither (has_power s.node.0 t.powers) _ new.0 in
     let units = neither (has_proc s.node.0 t.procs) _ others.1 in
     record {
-      within = below k 64 limits.0;
+      within = below k 512 limits.0;
       no_power = others.0;
       no_proc = units.0;
       new = units.1;
@@ -155,7 +153,7 @@ slave_keeps t k s e =
 
 pub slave_kept : (t : Topology) (k : ℕ) (s : SlaveDef) → SlaveKeeps t k s → slave_cause t k s ≡ None
 slave_kept t k s keeps =
-    passed _ TooMany _ (none_of _ _ (not_at k 64 keeps.within) (not_past (length s.states) 4 keeps.states.few))
+    passed _ TooMany _ (none_of _ _ (not_at k 512 keeps.within) (not_past (length s.states) 4 keeps.states.few))
     (passed _ Repeated _ (none_of _ _ keeps.no_power (none_of _ _ keeps.no_proc keeps.new))
     (passed _ ParentLate _ (not_at s.parent (length t.powers) keeps.parent)
     (passed _ NoStates _ (not_none (length s.states) keeps.states.some)
@@ -178,47 +176,18 @@ target_from t (Some n) e =
     ])
 
 pub record LineKeeps (t : Topology) (k : ℕ) (l : LineDef) : Type 0 where
-  pub within : k < 64
+  pub within : k < 1024
   pub new : list_any (λ e. e.line.0 == l.line.0) (take k t.lines) ≡ false
   pub target : IfSome l.target (λ n. IsProc t n ⊎ IsSlave t n)
 
 pub line_keeps : (t : Topology) (k : ℕ) (l : LineDef) → line_cause t k l ≡ None → LineKeeps t k l
 line_keeps t k l e =
-    let few = pass (nat_le 64 k) TooMany _ e in
+    let few = pass (nat_le 1024 k) TooMany _ e in
     let new = pass (list_any (λ e. e.line.0 == l.line.0) (take k t.lines)) Repeated _ few.1 in
     let good = pass (is_bad_target t l.target) BadTarget None new.1 in
-    record { within = below k 64 few.0; new = new.0; target = target_at t l.target good.0 }
+    record { within = below k 1024 few.0; new = new.0; target = target_at t l.target good.0 }
 
 pub line_kept : (t : Topology) (k : ℕ) (l : LineDef) → LineKeeps t k l → line_cause t k l ≡ None
 line_kept t k l keeps =
-    passed _ TooMany _ (not_at k 64 keeps.within)
+    passed _ TooMany _ (not_at k 1024 keeps.within)
     (passed _ Repeated _ keeps.new (passed _ BadTarget _ (target_from t l.target keeps.target) refl))
-
-pub record MasterKeeps (t : Topology) (k : ℕ) (m : MasterDef) : Type 0 where
-  pub within : k < 4
-  pub new : list_any (λ e. e.node.0 == m.node.0) (take k t.masters) ≡ false
-  pub some : 0 < length m.procs
-  pub members : EachEntry m.procs (λ _ n. IsProc t n)
-
-pub master_keeps : (t : Topology) (k : ℕ) (m : MasterDef) → master_cause t k m ≡ None → MasterKeeps t k m
-master_keeps t k m e =
-    let few = pass (nat_le 4 k) TooMany _ e in
-    let new = pass (list_any (λ e. e.node.0 == m.node.0) (take k t.masters)) Repeated _ few.1 in
-    let good = pass ((length m.procs == 0) || list_any (λ n. not (has_proc n.0 t.procs)) m.procs) BadMember None new.1 in
-    let parts = neither (length m.procs == 0) _ good.0 in
-    record {
-      within = below k 4 few.0;
-      new = new.0;
-      some = some_of (length m.procs) parts.0;
-      members = λ j n here. number_at (λ (p : ProcDef). p.node.0) t.procs n.0 (denied _ (absent_at (λ (n : NodeId). not (has_proc n.0 t.procs)) m.procs parts.1 j n here));
-    }
-
-pub master_kept : (t : Topology) (k : ℕ) (m : MasterDef) → MasterKeeps t k m → master_cause t k m ≡ None
-master_kept t k m keeps =
-    passed _ TooMany _ (not_at k 4 keeps.within)
-    (passed _ Repeated _ keeps.new
-    (passed _ BadMember _
-    (none_of _ _ (not_none (length m.procs) keeps.some)
-    (absent_from (λ (n : NodeId). not (has_proc n.0 t.procs)) m.procs
-    (λ j n here. affirmed _ (number_from (λ (p : ProcDef). p.node.0) t.procs n.0 (keeps.members j n here)))))
-    refl))

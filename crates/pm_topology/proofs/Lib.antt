@@ -1,11 +1,11 @@
 pub mod Groups
 pub mod Entries
 pub mod Causes
+pub mod MastersLaw
 pub mod WellFormedLaw
 pub mod ChipLaw
 pub mod Upwards
 pub mod BelowLaw
 pub mod KindLaw
-pub mod MastersLaw
 pub mod UnitsLaw
 pub mod UnitMapLaw

@@ -1,73 +1,179 @@
--- The masters of the table of the chip obey the rules on masters.
-use Rattle.std.proofs.Common.{◌≡◌, ◌≢◌, ℕ, Bool, true, false, not, ◌||◌, ◌==◌, IsTrue, List, [], ◌∷◌, Some, slice_get, take, refl, zero, suc, subst}
-use Rattle.std.specs.List.{list_any, list_all}
+-- What the entry of a master without a cause keeps, and the other way round; and so for the rules on all masters.
+use Rattle.std.proofs.Common.{◌≡◌, ◌≢◌, ℕ, ◌<◌, Bool, true, false, not, ◌&&◌, ◌||◌, ◌==◌, nat_le, IsTrue, Some, None, List, [], ◌∷◌, length, take, slice_get, refl, zero, suc, sym, ap, ◌∙◌, arith, cond, ◌⊎◌, inl, inr}
+use Rattle.std.specs.List.{list_any}
+use Rattle.std.proofs.lemmas.Bool.{eqb-true}
 use Rattle.pm_base.specs.declared.names.NodeId.{NodeId}
+use Rattle.pm_base.proofs.Booleans.{neither, none_of, first_passes, later_passes, differs, unequal, equal}
+use Rattle.pm_base.proofs.Tests.{absent_at, absent_from, present_at, present_from}
+use Rattle.pm_topology.specs.declared.topology.ProcDef.{ProcDef}
 use Rattle.pm_topology.specs.declared.topology.MasterDef.{MasterDef}
-use Rattle.pm_topology.specs.Chip.{chip, slaves, masters, master, node}
-use Rattle.pm_topology.specs.WellFormed.{EachEntry, AreDistinct}
-use Rattle.pm_topology.specs.Masters.{master_numbers, is_master_number, may_have, share, may_share, ObeysMasterRules}
-use Rattle.pm_topology.proofs.Causes.{all_at}
-use Rattle.pm_topology.proofs.ChipLaw.{chip_sound}
-use Rattle.pm_base.proofs.Booleans.{unequal}
-use Rattle.pm_topology.proofs.Entries.{distinct_from, number_at}
+use Rattle.pm_topology.specs.declared.topology.Topology.{Topology}
+use Rattle.pm_topology.specs.declared.faults.TopoCause.TheVariants.{Repeated, TooMany, BadMember, Overlap}
+use Rattle.pm_topology.specs.declared.faults.TopoFault.{TopoFault}
+use Rattle.pm_topology.specs.FirstFault.{has_proc, is_bad_member, has_bad_members, overlap, master_cause, has_all_masters, missing_master}
+use Rattle.pm_topology.specs.Masters.{master_numbers, is_master_number, is_half_of, may_have, has_twice, share, may_share}
+use Rattle.pm_topology.specs.WellFormed.{EachEntry, AreDistinct, IsProc, ObeysMasterRules}
+use Rattle.pm_topology.proofs.Entries.{pass, passed, absent_before, absent_before-from, number_at, number_from}
+use Rattle.pm_topology.proofs.Causes.{below, not_at, some_of, not_none, denied, affirmed, all_at, all_from}
 
-abbrev four : List NodeId
-four = node 2 ∷ node 3 ∷ node 4 ∷ node 5 ∷ []
+-- ---- no processor twice
 
--- each of the four processors of the APU has another number than those before it
-new_at : EachEntry four (λ k x. list_any (λ e. e.0 == x.0) (take k four) ≡ false)
-new_at zero x here = refl
-new_at (suc zero) x here = let same : node 3 ≡ x = cc in rw (← same) refl
-new_at (suc (suc zero)) x here = let same : node 4 ≡ x = cc in rw (← same) refl
-new_at (suc (suc (suc zero))) x here = let same : node 5 ≡ x = cc in rw (← same) refl
-new_at (suc (suc (suc (suc k)))) x here = cc
+distinct_where : (nodes : List NodeId) → has_twice nodes ≡ false → AreDistinct (λ p. p.0) nodes
+distinct_where [] e j k x y here there same = cc
+distinct_where (p ∷ ps) e zero zero x y here there same = refl
+distinct_where (p ∷ ps) e zero (suc k) x y here there same =
+    let parts = neither (list_any (λ (q : NodeId). q.0 == p.0) ps) (has_twice ps) e in
+    let first : p ≡ x = cc in
+    let other = absent_at (λ (q : NodeId). q.0 == p.0) ps parts.0 k y there in
+    absurd (differs y.0 p.0 other (sym same ∙ ap (λ (n : NodeId). n.0) (sym first)))
+distinct_where (p ∷ ps) e (suc j) zero x y here there same =
+    let parts = neither (list_any (λ (q : NodeId). q.0 == p.0) ps) (has_twice ps) e in
+    let first : p ≡ y = cc in
+    let other = absent_at (λ (q : NodeId). q.0 == p.0) ps parts.0 j x here in
+    absurd (differs x.0 p.0 other (same ∙ ap (λ (n : NodeId). n.0) (sym first)))
+distinct_where (p ∷ ps) e (suc j) (suc k) x y here there same =
+    let parts = neither (list_any (λ (q : NodeId). q.0 == p.0) ps) (has_twice ps) e in
+    ap (λ (n : ℕ). suc n) (distinct_where ps parts.1 j k x y here there same)
 
-alone : (proc : NodeId) → AreDistinct (λ p. p.0) (proc ∷ [])
-alone proc zero zero x y here there same = refl
-alone proc zero (suc k) x y here there same = cc
-alone proc (suc j) k x y here there same = cc
+once_where : (nodes : List NodeId) → AreDistinct (λ p. p.0) nodes → has_twice nodes ≡ false
+once_where [] distinct = refl
+once_where (p ∷ ps) distinct =
+    none_of (list_any (λ (q : NodeId). q.0 == p.0) ps) (has_twice ps)
+    (absent_from (λ (q : NodeId). q.0 == p.0) ps
+    (λ k q here. unequal q.0 p.0 (λ same. let at = distinct (suc k) zero q p here refl same in absurd (omega arith))))
+    (once_where ps (λ j k x y here there same. let at = distinct (suc j) (suc k) x y here there same in omega arith))
 
-once_in : (procs : List NodeId) (number : ℕ) (m : MasterDef) → Some (master number procs) ≡ Some m → AreDistinct (λ p. p.0) procs → AreDistinct (λ p. p.0) m.procs
-once_in procs number m here distinct =
-    let same : master number procs ≡ m = cc in
-    let P : MasterDef → Type 0 = λ m. AreDistinct (λ (p : NodeId). p.0) m.procs in
-    subst P same distinct
+-- ---- no processor of two masters that may not share it
 
-once_at : EachEntry masters (λ _ m. AreDistinct (λ p. p.0) m.procs)
-once_at zero m here = once_in four 1 m here (distinct_from (λ (p : NodeId). p.0) four new_at)
-once_at (suc zero) m here = once_in (node 7 ∷ []) 6 m here (alone (node 7))
-once_at (suc (suc zero)) m here = once_in (node 7 ∷ []) 7 m here (alone (node 7))
-once_at (suc (suc (suc zero))) m here = once_in (node 8 ∷ []) 8 m here (alone (node 8))
-once_at (suc (suc (suc (suc k)))) m here = cc
+or_back : (a b : Bool) → (a || b) ≡ true → (b || a) ≡ true
+or_back true b e = later_passes b true refl
+or_back false b e = first_passes b false e
 
-may_where : (same shared may : Bool) → (same || (not shared || may)) ≡ true → same ≡ false → shared ≡ true → may ≡ true
-may_where true shared may is other shares = cc
-may_where false true may is other shares = is
-may_where false false may is other shares = cc
+share_back : (m n : MasterDef) → share m n ≡ true → share n m ≡ true
+share_back m n shares =
+    let one = present_at (λ (p : NodeId). list_any (λ (q : NodeId). q.0 == p.0) n.procs) m.procs shares in
+    let p : NodeId = one.1 in
+    let other = present_at (λ (q : NodeId). q.0 == p.0) n.procs one.3 in
+    let q : NodeId = other.1 in
+    present_from (λ (q : NodeId). list_any (λ (p : NodeId). p.0 == q.0) m.procs) n.procs other.0 q other.2
+    (present_from (λ (x : NodeId). x.0 == q.0) m.procs one.0 p one.2 (equal p.0 q.0 (sym (eqb-true q.0 p.0 other.3))))
 
-masters_distinct : AreDistinct (λ m. m.node.0) masters
-unfolding chip slaves
-masters_distinct = chip_sound.well_formed.masters_distinct
+may_where : (shared may : Bool) → (shared && not may) ≡ false → shared ≡ true → may ≡ true
+may_where true true e shares = refl
+may_where true false e shares = cc
+may_where false may e shares = cc
 
--- whether two masters share a processor only if they may
-abbrev fits : MasterDef → MasterDef → Bool
-fits m n = (m.node.0 == n.node.0) || (not (share m n) || may_share m n)
+no_overlap : (shared may : Bool) → (shared ≡ true → may ≡ true) → (shared && not may) ≡ false
+no_overlap true may f = affirmed may (f refl)
+no_overlap false may f = refl
 
-apart_at : (j k : ℕ) (m n : MasterDef) → slice_get masters j ≡ Some m → slice_get masters k ≡ Some n → j ≢ k → IsTrue (share m n) → IsTrue (may_share m n)
-apart_at j k m n here there other shares =
-    let fit : fits m n ≡ true = all_at (fits m) masters (all_at (λ (m : MasterDef). list_all (fits m) masters) masters refl j m here) k n there in
-    may_where (m.node.0 == n.node.0) (share m n) (may_share m n) fit
-    (unequal m.node.0 n.node.0 (λ same. other (masters_distinct j k m n here there same))) shares
+order : (j k : ℕ) → j ≢ k → (j < k) ⊎ (k < j)
+order zero zero other = absurd (other refl)
+order zero (suc k) other = inl (omega arith)
+order (suc j) zero other = inr (omega arith)
+order (suc j) (suc k) other =
+    elim (order j k (λ same. other (ap (λ (n : ℕ). suc n) same))) [
+      | inl less ↦ inl (omega arith)
+      | inr more ↦ inr (omega arith)
+    ]
 
--- the rules are tried on the written table, entry by entry
-pub chip_masters : ObeysMasterRules chip
-unfolding chip slaves
-chip_masters = record {
-  numbers = all_at (λ (m : MasterDef). is_master_number m.node.0) masters refl;
-  all = λ k n here. number_at (λ (m : MasterDef). m.node.0) masters n (all_at (λ (n : ℕ). list_any (λ (m : MasterDef). m.node.0 == n) masters) master_numbers refl k n here);
-  own = λ k m here.
-      all_at (λ (p : NodeId). may_have m.node.0 p.0) m.procs
-      (all_at (λ (m : MasterDef). list_all (λ (p : NodeId). may_have m.node.0 p.0) m.procs) masters refl k m here);
-  once = once_at;
-  apart = apart_at;
-}
+apart_where : (masters : List MasterDef)
+    → EachEntry masters (λ k m. list_any (overlap m) (take k masters) ≡ false)
+    → (j k : ℕ) (m n : MasterDef)
+    → slice_get masters j ≡ Some m
+    → slice_get masters k ≡ Some n
+    → j ≢ k
+    → IsTrue (share m n)
+    → IsTrue (may_share m n)
+apart_where masters each j k m n here there other shares =
+    elim (order j k other) [
+      | inl before ↦
+          or_back (is_half_of n.node.0 m.node.0) (is_half_of m.node.0 n.node.0) (may_where (share n m) (may_share n m)
+          (absent_before (overlap n) masters k (each k n there) j m before here) (share_back m n shares))
+      | inr after ↦
+          may_where (share m n) (may_share m n)
+          (absent_before (overlap m) masters j (each j m here) k n after there) shares
+    ]
+
+pub none_overlaps : (t : Topology) → ObeysMasterRules t
+    → EachEntry t.masters (λ k m. list_any (overlap m) (take k t.masters) ≡ false)
+none_overlaps t rules k m here =
+    absent_before-from (overlap m) t.masters k (λ j n within there.
+    no_overlap (share m n) (may_share m n)
+    (λ shares. rules.apart k j m n here there (λ same. absurd (omega arith)) shares))
+
+-- ---- an entry
+
+pub record MasterKeeps (t : Topology) (k : ℕ) (m : MasterDef) : Type 0 where
+  pub within : k < 4
+  pub new : list_any (λ e. e.node.0 == m.node.0) (take k t.masters) ≡ false
+  pub number : IsTrue (is_master_number m.node.0)
+  pub some : 0 < length m.procs
+  pub members : EachEntry m.procs (λ _ n. IsProc t n)
+  pub own : EachEntry m.procs (λ _ p. IsTrue (may_have m.node.0 p.0))
+  pub once : AreDistinct (λ p. p.0) m.procs
+  pub apart : list_any (overlap m) (take k t.masters) ≡ false
+
+pub master_keeps : (t : Topology) (k : ℕ) (m : MasterDef) → master_cause t k m ≡ None → MasterKeeps t k m
+master_keeps t k m e =
+    let few = pass (nat_le 4 k) TooMany _ e in
+    let new = pass (list_any (λ e. e.node.0 == m.node.0) (take k t.masters)) Repeated _ few.1 in
+    let good = pass (has_bad_members t m) BadMember _ new.1 in
+    let apart = pass (list_any (overlap m) (take k t.masters)) Overlap None good.1 in
+    let number = neither (not (is_master_number m.node.0)) _ good.0 in
+    let some = neither (length m.procs == 0) _ number.1 in
+    let each = neither (list_any (is_bad_member t m.node.0) m.procs) (has_twice m.procs) some.1 in
+    let member : EachEntry m.procs (λ _ n. is_bad_member t m.node.0 n ≡ false) = absent_at (is_bad_member t m.node.0) m.procs each.0 in
+    record {
+      within = below k 4 few.0;
+      new = new.0;
+      number = denied _ number.0;
+      some = some_of (length m.procs) some.0;
+      members = λ j n here. number_at (λ (p : ProcDef). p.node.0) t.procs n.0 (denied _ ((neither (not (has_proc n.0 t.procs)) _ (member j n here)).0));
+      own = λ j n here. denied _ ((neither (not (has_proc n.0 t.procs)) _ (member j n here)).1);
+      once = distinct_where m.procs each.1;
+      apart = apart.0;
+    }
+
+pub master_kept : (t : Topology) (k : ℕ) (m : MasterDef) → MasterKeeps t k m → master_cause t k m ≡ None
+master_kept t k m keeps =
+    passed _ TooMany _ (not_at k 4 keeps.within)
+    (passed _ Repeated _ keeps.new
+    (passed _ BadMember _
+    (none_of _ _ (affirmed _ keeps.number)
+    (none_of _ _ (not_none (length m.procs) keeps.some)
+    (none_of _ _
+    (absent_from (is_bad_member t m.node.0) m.procs (λ j n here.
+    none_of _ _
+    (affirmed _ (number_from (λ (p : ProcDef). p.node.0) t.procs n.0 (keeps.members j n here)))
+    (affirmed _ (keeps.own j n here))))
+    (once_where m.procs keeps.once))))
+    (passed _ Overlap _ keeps.apart refl)))
+
+-- ---- all masters
+
+all_where : (all : Bool) (fault : TopoFault) → cond all None (Some fault) ≡ None → all ≡ true
+all_where true fault e = refl
+all_where false fault e = cc
+
+missing_where : (all : Bool) (fault : TopoFault) → all ≡ true → cond all None (Some fault) ≡ None
+missing_where true fault e = refl
+missing_where false fault e = cc
+
+-- where each entry keeps its rules and none is missing, the masters obey the rules
+pub rules_from : (t : Topology) → EachEntry t.masters (MasterKeeps t) → missing_master t.masters ≡ None → ObeysMasterRules t
+rules_from t keep none =
+    let all = all_where (has_all_masters t.masters) _ none in
+    record {
+      numbers = λ k m here. (keep k m here).number;
+      all = λ k n here. number_at (λ (m : MasterDef). m.node.0) t.masters n (all_at (λ (n : ℕ). list_any (λ (m : MasterDef). m.node.0 == n) t.masters) master_numbers all k n here);
+      own = λ k m here. (keep k m here).own;
+      once = λ k m here. (keep k m here).once;
+      apart = apart_where t.masters (λ k m here. (keep k m here).apart);
+    }
+
+pub none_missing : (t : Topology) → ObeysMasterRules t → missing_master t.masters ≡ None
+none_missing t rules =
+    missing_where (has_all_masters t.masters) _
+    (all_from (λ (n : ℕ). list_any (λ (m : MasterDef). m.node.0 == n) t.masters) master_numbers
+    (λ k n here. number_from (λ (m : MasterDef). m.node.0) t.masters n (rules.all k n here)))

@@ -1,8 +1,10 @@
 -- A well-formed topology: what holds of its five lists, whichever way they are read.
-use Rattle.std.specs.Prelude.{◌≡◌, ◌≢◌, ℕ, ◌-◌, ◌<◌, ◌≤◌, ◌⊎◌, IfSome, Some, List, length, slice_get, bit_and}
+use Rattle.std.specs.Prelude.{◌≡◌, ◌≢◌, ℕ, ◌-◌, ◌<◌, ◌≤◌, ◌⊎◌, IsTrue, IfSome, Some, List, length, slice_get, bit_and}
 use Rattle.pm_base.specs.declared.names.NodeId.{NodeId}
+use Rattle.pm_topology.specs.declared.topology.MasterDef.{MasterDef}
 use Rattle.pm_topology.specs.declared.topology.SlaveState.{SlaveState}
 use Rattle.pm_topology.specs.declared.topology.Topology.{Topology}
+use Rattle.pm_topology.specs.Masters.{master_numbers, is_master_number, may_have, share, may_share}
 
 -- this holds of each entry and its place
 abbrev pub EachEntry : {X : Type 0} → List X → (ℕ → X → Type 0) → Type 0
@@ -35,12 +37,28 @@ IsProc t n = HasNumber (λ p. p.node.0) t.procs n.0
 abbrev pub IsSlave : Topology → NodeId → Type 0
 IsSlave t n = HasNumber (λ s. s.node.0) t.slaves n.0
 
+-- the rules on the numbers and the processors of masters
+pub record ObeysMasterRules (t : Topology) : Type 0 where
+  -- each master has the number of one, and each of these numbers has its master
+  pub numbers : EachEntry t.masters (λ _ m. IsTrue (is_master_number m.node.0))
+  pub all : EachEntry master_numbers (λ _ n. HasNumber (λ m. m.node.0) t.masters n)
+  -- a master has only processors that it may have, and none twice
+  pub own : EachEntry t.masters (λ _ m. EachEntry m.procs (λ _ p. IsTrue (may_have m.node.0 p.0)))
+  pub once : EachEntry t.masters (λ _ m. AreDistinct (λ p. p.0) m.procs)
+  -- masters that have a processor in common may have one
+  pub apart : (j k : ℕ) (m n : MasterDef)
+      → slice_get t.masters j ≡ Some m
+      → slice_get t.masters k ≡ Some n
+      → j ≢ k
+      → IsTrue (share m n)
+      → IsTrue (may_share m n)
+
 pub record IsWellFormed (t : Topology) : Type 0 where
   -- no list is over its limit
-  pub few_powers : length t.powers ≤ 8
-  pub few_procs : length t.procs ≤ 8
-  pub few_slaves : length t.slaves ≤ 64
-  pub few_lines : length t.lines ≤ 64
+  pub few_powers : length t.powers ≤ 64
+  pub few_procs : length t.procs ≤ 64
+  pub few_slaves : length t.slaves ≤ 512
+  pub few_lines : length t.lines ≤ 1024
   pub few_masters : length t.masters ≤ 4
   -- power nodes, processors and slaves share one space of numbers; lines and masters have one each
   pub powers_distinct : AreDistinct (λ p. p.node.0) t.powers
@@ -59,6 +77,7 @@ pub record IsWellFormed (t : Topology) : Type 0 where
   -- a line resets a processor or a slave, and a master has one processor at least
   pub targets : EachEntry t.lines (λ _ l. IfSome l.target (λ n. IsProc t n ⊎ IsSlave t n))
   pub members : EachEntry t.masters (λ _ m. (0 < length m.procs) × EachEntry m.procs (λ _ n. IsProc t n))
+  pub masters : ObeysMasterRules t
 
 -- no capability of a state has a bit other than ACCESS, CONTEXT and WAKEUP
 abbrev pub HasKnownCaps : Topology → Type 0

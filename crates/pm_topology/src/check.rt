@@ -3,21 +3,24 @@
 ghost use Rattle.std.specs.Prelude.{◌≡◌, ◌-◌, ◌≤◌, ◌&&◌, ◌==◌, ◌↔◌, None, IsOk, MatchResult, length, not};
 ghost use Rattle.std.specs.List.{list_any, list_all};
 ghost use Rattle.pm_topology.specs.WellFormed.{IsWellFormed};
-ghost use Rattle.pm_topology.specs.FirstFault.{covers, first_at, first_fault, has_power, has_proc, has_slave, is_bad_target, is_full, is_late, last_is_full, line_cause, master_cause, power_cause, proc_cause, slave_cause};
+ghost use Rattle.pm_topology.specs.FirstFault.{covers, first_at, first_fault, has_bad_members, has_power, has_proc, has_slave, is_bad_member, is_bad_target, is_full, is_late, last_is_full, line_cause, master_cause, missing_master, power_cause, proc_cause, slave_cause};
 
 use crate::faults::{TopoCause, TopoFault};
+use crate::masters::{
+    has_all_masters, has_master, has_twice, is_master_number, may_have, overlaps,
+};
 use crate::topology::{LineDef, MasterDef, PowerDef, ProcDef, SlaveDef, SlaveState, Topology};
 use bitflags::Flags;
 use pm_base::{LineId, NodeId};
 
 /// The limits of the lists of a topology, and of the states of a slave.
-const MAX_POWERS: usize = 8;
+const MAX_POWERS: usize = 64;
 
-const MAX_PROCS: usize = 8;
+const MAX_PROCS: usize = 64;
 
-const MAX_SLAVES: usize = 64;
+const MAX_SLAVES: usize = 512;
 
-const MAX_LINES: usize = 64;
+const MAX_LINES: usize = 1024;
 
 const MAX_MASTERS: usize = 4;
 
@@ -25,12 +28,13 @@ const MAX_STATES: usize = 4;
 
 impl Topology {
     /// Whether the topology keeps the rules: the power nodes first, then the processors, the
-    /// slaves, the reset lines and the masters.
+    /// slaves, the reset lines and the masters, and at last whether each master has its entry.
     ///
     /// # Errors
     ///
-    /// The fault is the first entry that breaks a rule, and of its causes the first in this order:
-    /// `TooMany`, `Repeated`, `ParentLate`, `NoStates`, `LastNotFull`, `BadTarget`, `BadMember`.
+    /// The fault is the first entry that breaks a rule, and of its causes the first in this order: `TooMany`,
+    /// `Repeated`, `ParentLate`, `NoStates`, `LastNotFull`, `BadTarget`, `BadMember`, `Overlap`. `NoMaster`
+    /// comes where every entry is good.
     pub fn check(&self) -> Result<(), TopoFault>
         ensures well_formed { IsOk result ↔ IsWellFormed self.now }
         ensures first { MatchResult result (λ _. first_fault self.now ≡ None)
@@ -47,7 +51,8 @@ impl Topology {
         self.check_procs()?;
         self.check_slaves()?;
         self.check_lines()?;
-        self.check_masters()
+        self.check_masters()?;
+        self.check_missing()
     }
 
     fn check_powers(&self) -> Result<(), TopoFault>
@@ -108,6 +113,21 @@ impl Topology {
             }
         }
         Ok(())
+    }
+
+    /// Whether each master has its entry.
+    fn check_missing(&self) -> Result<(), TopoFault>
+        ensures { let missing = missing_master self.now.masters in
+            MatchResult result (λ _. missing ≡ None) (λ fault. missing ≡ Some fault) }
+    {
+        if has_all_masters(self.masters.as_slice()) {
+            Ok(())
+        } else {
+            Err(TopoFault {
+                cause: TopoCause::NoMaster,
+                place: self.masters.len(),
+            })
+        }
     }
 
     /// The first rule that a power node breaks.
@@ -192,8 +212,10 @@ impl Topology {
             Some(TopoCause::TooMany)
         } else if has_master(&self.masters.as_slice()[..place], master.node) {
             Some(TopoCause::Repeated)
-        } else if master.procs.len() == 0 || self.has_stranger(master.procs.as_slice()) {
+        } else if self.has_bad_members(master) {
             Some(TopoCause::BadMember)
+        } else if overlaps(master, &self.masters.as_slice()[..place]) {
+            Some(TopoCause::Overlap)
         } else {
             None
         }
@@ -211,13 +233,29 @@ impl Topology {
         }
     }
 
-    /// Whether one of these nodes isn't a processor.
-    fn has_stranger(&self, nodes: &[NodeId]) -> bool
-        ensures { result ≡ list_any (λ n. not (has_proc n.0 self.now.procs)) nodes.now }
+    /// Whether a master isn't one, has no processors, or names something that is no processor, that it may
+    /// not have, or twice.
+    fn has_bad_members(&self, master: &MasterDef) -> bool
+        ensures { result ≡ has_bad_members self.now master.now }
     {
-        nodes
-            .iter()
-            .any(|node| !has_proc(self.procs.as_slice(), *node))
+        let procs = master.procs.as_slice();
+        !is_master_number(master.node)
+            || procs.is_empty()
+            || self.has_stranger(master.node, procs)
+            || has_twice(procs)
+    }
+
+    /// Whether one of these nodes is no processor, or none that the master may have.
+    fn has_stranger(&self, master: NodeId, nodes: &[NodeId]) -> bool
+        ensures { result ≡ list_any (is_bad_member self.now master.0) nodes.now }
+    {
+        nodes.iter().any(|node| self.is_stranger(master, *node))
+    }
+
+    fn is_stranger(&self, master: NodeId, node: NodeId) -> bool
+        ensures { result ≡ is_bad_member self.now master.0 node }
+    {
+        !has_proc(self.procs.as_slice(), node) || !may_have(master, node)
     }
 }
 
@@ -243,12 +281,6 @@ pub(crate) fn has_line(lines: &[LineDef], line: LineId) -> bool
     ensures { result ≡ list_any (λ e. e.line.0 == line.0) lines.now }
 {
     lines.iter().any(|entry| entry.line == line)
-}
-
-fn has_master(masters: &[MasterDef], node: NodeId) -> bool
-    ensures { result ≡ list_any (λ e. e.node.0 == node.0) masters.now }
-{
-    masters.iter().any(|master| master.node == node)
 }
 
 /// Whether a power node's parent doesn't stand earlier.

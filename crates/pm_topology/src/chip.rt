@@ -3,7 +3,6 @@
 
 ghost use Rattle.std.specs.Prelude.{◌≡◌, ◌++◌, IfOk, map};
 ghost use Rattle.std.specs.List.{flat_map};
-ghost use Rattle.pm_topology.specs.Masters.{ObeysMasterRules};
 ghost use Rattle.pm_topology.specs.WellFormed.{IsSupported};
 ghost use Rattle.pm_topology.specs.Chip.{chip, line_of, lines_of, master, masters, powers, proc, procs, power, slaves, slaves_in};
 
@@ -69,11 +68,10 @@ static GROUPS: [Group; 32] = [
 /// # Errors
 ///
 /// `NoMemory` where there is not enough memory.
-#[tactic(auto, using(crate::proofs::ChipLaw::chip_sound, crate::proofs::MastersLaw::chip_masters), unfolding(crate::specs::Chip::chip))]
+#[tactic(auto, using(crate::proofs::ChipLaw::chip_sound), unfolding(crate::specs::Chip::chip))]
 pub fn zynqmp(alloc: Global) -> Result<Topology, NoMemory>
     ensures table { IfOk result (λ topology. topology ≡ chip) }
     ensures sound { IfOk result IsSupported }
-    ensures masters { IfOk result ObeysMasterRules }
 {
     let slaves = slaves(alloc)?;
     let procs = procs(alloc)?;

@@ -24,9 +24,17 @@ pub enum TopoCause {
     /// A target of a reset line that is no processor and no slave.
     #[error("a target that is no processor and no slave")]
     BadTarget = 6,
-    /// A master without a processor, or with one that isn't a processor.
-    #[error("a master without processors, or a member that is none")]
+    /// An entry whose number isn't one of a master's, without a processor, or with a member that is no
+    /// processor, that this master may not have, or that is named twice.
+    #[error("a master that is none, without processors, or with a member that it can't have")]
     BadMember = 7,
+    /// A number of a master without an entry. The place is the one after the last entry.
+    #[error("a master without an entry")]
+    NoMaster = 8,
+    /// A processor that an earlier entry has too, where the two aren't the RPU in lock-step and one of
+    /// its halves.
+    #[error("a processor of two masters")]
+    Overlap = 9,
 }
 
 /// The first fault of a topology. `place` is the entry's place in its list, counted from 0.

@@ -7,6 +7,7 @@ pub mod chip;
 pub mod classes;
 pub mod faults;
 pub mod laws;
+pub mod masters;
 pub mod places;
 pub mod topology;
 pub mod unit_map;

@@ -1,0 +1,99 @@
+//! The rules on the numbers and the processors of masters.
+
+ghost use Rattle.std.specs.Prelude.{◌≡◌, ◌==◌, ◌||◌};
+ghost use Rattle.std.specs.List.{list_any};
+ghost use Rattle.pm_topology.specs.FirstFault.{has_all_masters, overlap};
+ghost use Rattle.pm_topology.specs.Masters.{has_twice, is_half_of, is_master_number, may_have};
+
+use crate::topology::MasterDef;
+use pm_base::NodeId;
+
+/// The numbers of masters: the APU, the RPU in lock-step, and its two halves.
+const APU: NodeId = NodeId(1);
+
+const RPU: NodeId = NodeId(6);
+
+const RPU_0: NodeId = NodeId(7);
+
+const RPU_1: NodeId = NodeId(8);
+
+pub(crate) fn is_master_number(node: NodeId) -> bool
+    ensures { result ≡ is_master_number node.0 }
+{
+    node == APU || node == RPU || node == RPU_0 || node == RPU_1
+}
+
+pub(crate) fn has_master(masters: &[MasterDef], node: NodeId) -> bool
+    ensures { result ≡ list_any (λ e. e.node.0 == node.0) masters.now }
+{
+    masters.iter().any(|master| master.node == node)
+}
+
+/// Whether each number of a master has its entry.
+pub(crate) fn has_all_masters(masters: &[MasterDef]) -> bool
+    ensures { result ≡ has_all_masters masters.now }
+{
+    has_master(masters, APU)
+        && has_master(masters, RPU)
+        && has_master(masters, RPU_0)
+        && has_master(masters, RPU_1)
+}
+
+/// Whether the one number is that of a half of the RPU, and the other that of the RPU in lock-step.
+fn is_half_of(half: NodeId, whole: NodeId) -> bool
+    ensures { result ≡ is_half_of half.0 whole.0 }
+{
+    whole == RPU && (half == RPU_0 || half == RPU_1)
+}
+
+/// Whether a master may have a processor: one with the number of a master is that master's alone, or
+/// also the RPU's in lock-step.
+pub(crate) fn may_have(master: NodeId, proc: NodeId) -> bool
+    ensures { result ≡ may_have master.0 proc.0 }
+{
+    !is_master_number(proc) || proc == master || is_half_of(proc, master)
+}
+
+/// Whether a master has a processor in common with one of these, without that it may.
+pub(crate) fn overlaps(master: &MasterDef, others: &[MasterDef]) -> bool
+    ensures { result ≡ list_any (overlap master.now) others.now }
+{
+    others.iter().any(|other| overlap(master, other))
+}
+
+fn overlap(one: &MasterDef, other: &MasterDef) -> bool
+    ensures { result ≡ overlap one.now other.now }
+{
+    share(one.procs.as_slice(), other.procs.as_slice()) && !may_share(one.node, other.node)
+}
+
+fn may_share(one: NodeId, other: NodeId) -> bool
+    ensures { result ≡ is_half_of one.0 other.0 || is_half_of other.0 one.0 }
+{
+    is_half_of(one, other) || is_half_of(other, one)
+}
+
+/// Whether these nodes have one in common.
+fn share(nodes: &[NodeId], others: &[NodeId]) -> bool
+    ensures { result ≡ list_any (λ p. list_any (λ q. q.0 == p.0) others.now) nodes.now }
+{
+    nodes.iter().any(|node| has_node(others, *node))
+}
+
+fn has_node(nodes: &[NodeId], node: NodeId) -> bool
+    ensures { result ≡ list_any (λ q. q.0 == node.0) nodes.now }
+{
+    nodes.iter().any(|other| *other == node)
+}
+
+/// Whether one of these nodes stands twice.
+pub(crate) fn has_twice(nodes: &[NodeId]) -> bool
+    ensures { result ≡ has_twice nodes.now }
+{
+    for (place, node) in nodes.iter().enumerate() {
+        if has_node(&nodes[place + 1..], *node) {
+            return true;
+        }
+    }
+    false
+}
