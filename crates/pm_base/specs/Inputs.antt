@@ -1,5 +1,6 @@
 -- What a source of inputs shows at a moment, and how that moves from call to call.
-use Rattle.std.specs.Prelude.{◌≡◌, ◌≢◌, ℕ, ◌+◌, ◌≤◌, ◌⊎◌, min, List, ◌++◌, [], drop, length, Option, Some, None, IfSome, IsSomeAnd}
+use Rattle.std.specs.Prelude.{◌≡◌, ◌≢◌, ℕ, ◌+◌, ◌≤◌, ◌⊎◌, min, List, ◌++◌, [], ◌∷◌, drop, length, Option, Some, None, IfSome, IsSomeAnd}
+use Rattle.pm_base.specs.Calls.{Call}
 
 -- what is shown of a name: its bytes, and its least failing byte, the place at which each read fails
 pub record File : Type 0 where
@@ -25,16 +26,22 @@ abbrev pub IsStuck : Input → Type 0
 IsStuck input = input.file.fails_at ≡ Some input.place
 
 -- all that is shown at a moment: each name's file where it is there, how many inputs can still be begun, each begun
--- input by its number, and how many calls have failed
+-- input by its number, how many calls have failed, and the calls since the source was new, in their order with their
+-- answers
 pub record Moment : Type 0 where
   pub file : List ℕ → Option File
   pub room : ℕ
   pub input : ℕ → Input
   pub faults : ℕ
+  pub calls : List Call
 
--- a moment of a source of which nothing is observable but its count
-abbrev pub unobserved : ℕ → Moment
-unobserved faults = record { file = λ _. None; room = 0; input = λ _. nothing; faults = faults }
+-- a moment of a source of which nothing is observable but its count and the calls
+abbrev pub unobserved : ℕ → List Call → Moment
+unobserved faults calls = record { file = λ _. None; room = 0; input = λ _. nothing; faults = faults; calls = calls }
+
+-- one call was made
+abbrev pub Adds : Call → Moment → Moment → Type 0
+Adds call old new = new.calls ≡ old.calls ++ call ∷ []
 
 -- nothing shown of a name has changed
 abbrev pub SameFiles : Moment → Moment → Type 0

@@ -3,6 +3,7 @@ use Rattle.std.specs.Prelude.{◌≡◌, ℕ, ◌-◌, ◌==◌, nat_lt, min, if
 use Rattle.std.specs.Option.{option_map}
 use Rattle.std.specs.Str.{bytes_eq}
 use Rattle.pm_base.specs.declared.mem_inputs.Reading.{Reading}
+use Rattle.pm_base.specs.Calls.{Call}
 use Rattle.pm_base.specs.Inputs.{File, Input, nothing, Moment}
 
 -- a file and its name
@@ -11,12 +12,13 @@ pub record NamedFile : Type 0 where
   pub file : File
 
 -- what inputs in memory hold: the reads that fail, each by the place of a file and that of a byte, the files, the
--- begun inputs in the order of their numbers, and how many calls have failed
+-- begun inputs in the order of their numbers, how many calls have failed, and the calls
 pub record StoredInputs : Type 0 where
   pub failing : List (ℕ × ℕ)
   pub files : List NamedFile
   pub begun : List Reading
   pub faults : ℕ
+  pub calls : List Call
 
 -- how many inputs can be begun
 abbrev pub most_begun : ℕ
@@ -71,4 +73,5 @@ moment_of stored = record {
   room = most_begun - length stored.begun;
   input = λ id. input_of stored.files (slice_get stored.begun id);
   faults = stored.faults;
+  calls = stored.calls;
 }

@@ -1,11 +1,13 @@
 -- One input in memory, which stands under every name.
 use Rattle.std.specs.Prelude.{ℕ, ◌==◌, if◌then◌else◌, List, Option, Some, None}
+use Rattle.pm_base.specs.Calls.{Call}
 use Rattle.pm_base.specs.Inputs.{File, Input, Moment, nothing}
 
--- its bytes, and the place of the next one that is read, where it was begun
+-- its bytes, the place of the next one that is read, where it was begun, and the calls
 pub record OneContent : Type 0 where
   pub bytes : List ℕ
   pub place : Option ℕ
+  pub calls : List Call
 
 -- how many inputs it tells that can still be begun
 abbrev pub always_room : ℕ
@@ -31,4 +33,5 @@ moment_of held = record {
   room = always_room;
   input = λ id. input_at held.bytes (place_under id held.place);
   faults = 0;
+  calls = held.calls;
 }

@@ -3,6 +3,7 @@
 #![tactic(auto)]
 
 pub mod bounded_list;
+pub mod calls;
 pub mod caps;
 pub mod errors;
 pub mod events;
@@ -23,6 +24,7 @@ pub mod words;
 pub mod writing;
 
 pub use bounded_list::BoundedList;
+pub use calls::{CallLog, Entry};
 pub use caps::Caps;
 pub use errors::{Exit, Failed, NoMemory};
 pub use events::{Event, Message};

@@ -1,10 +1,12 @@
 //! Inputs in memory.
 
-ghost use Rattle.std.specs.Prelude.{ℕ, ◌≡◌, ◌<◌, ◌≤◌, ◌↔◌, ◌⊎◌, ◌++◌, ◌∷◌, [], ⊤, min, length, take, None, Ok, IsErr, IfOk, OnOk, OnErr, IsTrue, IsSome, is_ok, if◌then◌else◌, IsNone, IfSome, MatchOption, MatchResult, position, slice_get, ◌+◌, ◌^◌};
+ghost use Rattle.std.specs.Prelude.{ℕ, ◌≡◌, ◌<◌, ◌≤◌, ◌↔◌, ◌⊎◌, ◌++◌, ◌∷◌, [], ⊤, min, length, take, None, Some, Ok, IsErr, IfOk, OnOk, OnErr, IsTrue, IsSome, is_ok, if◌then◌else◌, IsNone, IfSome, MatchOption, MatchResult, position, slice_get, ◌+◌, ◌^◌};
+ghost use Rattle.pm_base.specs.Calls.{Begin, Read};
 ghost use Rattle.pm_base.specs.Faults.{HasCause, raised};
-ghost use Rattle.pm_base.specs.Inputs.{rest, IsStuck, Advances, Took, Began, Stayed, CannotBegin};
+ghost use Rattle.pm_base.specs.Inputs.{rest, Adds, IsStuck, Advances, Took, Began, Stayed, CannotBegin};
 ghost use Rattle.pm_base.specs.MemInputs.{most_begun, is_named, FoundFile, file_of, least_with, least_failing, reach_of, input_in, input_of, moment_of};
 
+use crate::calls::{CallLog, Entry};
 use crate::errors::{Failed, NoMemory};
 use crate::inputs::Inputs;
 use crate::stored_file::StoredFile;
@@ -23,15 +25,16 @@ struct Reading {
 
 /// Inputs in memory, some of whose reads fail. Sixteen of them can be begun.
 ///
-/// Contracts see the reads that fail, the files, the begun inputs in the order of their numbers, and
-/// how many calls have failed.
-#[derive(Debug, Drop)]
+/// Contracts see the reads that fail, the files, the begun inputs in the order of their numbers, how
+/// many calls have failed, and the calls.
+#[derive(Drop)]
 pub struct MemInputs {
     alloc: Global,
     failing: Vec<(u32, u32)>,
     files: Vec<StoredFile>,
     begun: Vec<Reading>,
     faults: u64,
+    log: CallLog,
 }
 
 impl Model for MemInputs {
@@ -45,6 +48,7 @@ impl Model for MemInputs {
       files = inputs.files.items;
       begun = inputs.begun.items;
       faults = inputs.faults;
+      calls = inputs.log.calls;
     } };
 
     ghost invariant = { λ inputs. most_begun ≤ vec_capacity inputs.begun };
@@ -60,6 +64,7 @@ impl MemInputs {
           files = [];
           begun = [];
           faults = 0;
+          calls = [];
         }) }
         ensures unbegun { IfOk result (λ inputs. (id : ℕ) → rest ((moment_of inputs).input id) ≡ []) }
     {
@@ -71,6 +76,7 @@ impl MemInputs {
             files: Vec::new(alloc),
             begun,
             faults: 0,
+            log: CallLog::new(),
         })
     }
 
@@ -110,22 +116,28 @@ impl Inputs for MemInputs {
             (λ id. Began name.now id (moment_of self.old) (moment_of self.new))
             (λ _. Stayed (moment_of self.old) (moment_of self.new)) }
         ensures failed { IsErr result ↔ CannotBegin name.now (moment_of self.old) }
+        ensures logged { MatchResult result
+            (λ id. Adds (Begin name.now (Some id)) (moment_of self.old) (moment_of self.new))
+            (λ _. Adds (Begin name.now None) (moment_of self.old) (moment_of self.new)) }
 
         // The number, and the count: each failure raises it, and nothing else does.
         ensures number { IfOk result (λ id. id ≡ length self.old.begun) }
         ensures faults { self.new.faults ≡ (if is_ok result then self.old.faults else raised self.old.faults) }
         ensures room { length self.new.begun
             ≡ (if is_ok result then length self.old.begun + 1 else length self.old.begun) }
-        ensures kept { self.new ≡ record self.old { begun = self.new.begun; faults = self.new.faults } }
+        ensures kept { self.new
+            ≡ record self.old { begun = self.new.begun; faults = self.new.faults; calls = self.new.calls } }
     {
         match place_of(&self.files, name) {
             Some(file) if self.begun.len() < MOST_BEGUN => {
                 let id = self.begun.len();
                 self.begun.push(Reading { file, place: 0 }).unwrap();
+                self.log = self.log.then(&Entry::Begun(name, id as u32));
                 Ok(id as u32)
             }
             _ => {
                 self.faults = self.faults.saturating_add(1);
+                self.log = self.log.then(&Entry::Unbegun(name));
                 Err(Failed)
             }
         }
@@ -141,6 +153,9 @@ impl Inputs for MemInputs {
         ensures end { IfOk result (λ count.
             0 < length buf.new → count ≡ 0 ↔ (rest ((moment_of self.old).input id) ≡ [])) }
         ensures failed { IsErr result ↔ IsStuck ((moment_of self.old).input id) }
+        ensures logged { MatchResult result
+            (λ count. Adds (Read id (Some (take count buf.new))) (moment_of self.old) (moment_of self.new))
+            (λ _. Adds (Read id None) (moment_of self.old) (moment_of self.new)) }
 
         // Exactly how much it takes, and the count: each failure raises it, and nothing else does.
         ensures unbegun { length self.old.begun ≤ id → result ≡ Ok 0 }
@@ -148,9 +163,11 @@ impl Inputs for MemInputs {
             IfOk result (λ count. count ≡ min (length buf.new) (reach_of input.file input.place)) }
         ensures faults { self.new.faults ≡ (if is_ok result then self.old.faults else raised self.old.faults) }
         ensures room { length self.new.begun ≡ length self.old.begun }
-        ensures kept { self.new ≡ record self.old { begun = self.new.begun; faults = self.new.faults } }
+        ensures kept { self.new
+            ≡ record self.old { begun = self.new.begun; faults = self.new.faults; calls = self.new.calls } }
     {
         let Some(reading) = reading_of(&self.begun, id) else {
+            self.log = self.log.then(&Entry::Took(id, &[]));
             return Ok(0);
         };
         match read_in(&self.files, reading, buf) {
@@ -159,10 +176,12 @@ impl Inputs for MemInputs {
                     place: reading.place + count,
                     ..reading
                 };
+                self.log = self.log.then(&Entry::Took(id, &buf[..count]));
                 Ok(count)
             }
             None => {
                 self.faults = self.faults.saturating_add(1);
+                self.log = self.log.then(&Entry::Stuck(id));
                 Err(Failed)
             }
         }

@@ -1,7 +1,9 @@
 //! What is read of a named input, up to a limit.
 
 ghost use Rattle.std.specs.Prelude.{◌≡◌, ◌+◌, ◌<◌, ◌^◌, IfOk};
+ghost use Rattle.pm_base.specs.Calls.{named};
 ghost use Rattle.pm_base.specs.Prefix.{ReadsRest, ReadsPrefix, text_of};
+ghost use Rattle.pm_base.specs.Readings.{LeftRead, Meanwhile, NameRead};
 
 use crate::errors::{Failed, NoMemory};
 use crate::inputs::Inputs;
@@ -68,8 +70,12 @@ pub fn gather<I: Inputs>(
     name: &str,
     limit: u32,
 ) -> Result<Prefix, NoMemory>
-    ensures { IfOk result
+    ensures read { IfOk result
         (ReadsPrefix I.observable name.now limit (I.state inputs.old) (I.state inputs.new)) }
+    // The name is begun, and read to its end or to one byte past the limit, or up to a call that failed; where memory
+    // is wanted, up to somewhere. Nothing else is begun or read.
+    ensures calls { Meanwhile (I.state inputs.old) (I.state inputs.new)
+        (NameRead result (named name.now limit)) }
 {
     match inputs.begin(name) {
         Ok(id) => read_rest(alloc, inputs, id, limit),
@@ -87,8 +93,9 @@ fn read_rest<I: Inputs>(
     id: u32,
     limit: u32,
 ) -> Result<Prefix, NoMemory>
-    ensures { IfOk result
+    ensures read { IfOk result
         (ReadsRest I.observable id limit (I.state inputs.old) (I.state inputs.new)) }
+    ensures calls { Meanwhile (I.state inputs.old) (I.state inputs.new) (LeftRead result id (limit + 1)) }
 {
     let most = limit as usize + 1;
     let mut bytes = Vec::new(alloc);

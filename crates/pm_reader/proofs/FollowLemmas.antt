@@ -1,11 +1,10 @@
 -- Lines that are taken and followed, one more at a time.
-use Rattle.std.proofs.Common.{◌≡◌, ℕ, ◌+◌, ◌-◌, ◌<◌, ◌≤◌, ◌==◌, IsTrue, Bool, true, false, cond, List, [], ◌∷◌, ◌++◌, length, take, drop, position, Some, None, Option, Result, Ok, Err, suc, refl, sym, ◌∙◌, ap, subst, arith, inl, inr, get_or, nat_lt}
-use Rattle.std.specs.Prelude.{⊤, IfOk, ◌⊎◌}
+use Rattle.std.proofs.Common.{◌≡◌, ℕ, ◌+◌, ◌<◌, ◌≤◌, true, false, List, [], ◌∷◌, ◌++◌, length, take, drop, position, Some, None, Option, Result, Ok, Err, refl, sym, ◌∙◌, ap, subst, arith, inl, inr, get_or}
+use Rattle.std.specs.Prelude.{IfOk}
 use Rattle.std.proofs.lemmas.Bool.{cases_lt}
 use Rattle.std.proofs.lemmas.Bool.Decides.{nat_tests}
 use Rattle.std.proofs.lemmas.List.{append-nil, get_or-take, length-append, length-take-le, take-append-le}
 use Rattle.std.proofs.lemmas.List.Quantifiers.{position-Some}
-use Rattle.pm_base.specs.declared.errors.Failed.{Failed}
 use Rattle.pm_base.specs.declared.events.Event.{Event}
 use Rattle.pm_base.specs.declared.lines.Ending.{Ending}
 use Rattle.pm_base.specs.declared.lines.Ending.TheVariants.{Whole, Cut}
@@ -19,20 +18,20 @@ use Rattle.pm_base.proofs.LinesLemmas as parts
 use Rattle.pm_script.specs.declared.meaning.LineFault.{LineFault}
 use Rattle.pm_script.specs.declared.meaning.LineFault.TheVariants.{Long}
 use Rattle.pm_script.specs.Meaning.{meaning}
-use Rattle.pm_script.specs.Script.{Script, Stop, before, ending_of, over, script_from, script_limit, script_lines, stop_of}
+use Rattle.pm_script.specs.Script.{Script, Stop, before, ending_of, script_from, script_limit, script_lines, stop_of}
 use Rattle.pm_reader.specs.declared.follow.LineStop.{LineStop}
 use Rattle.pm_reader.specs.declared.follow.LineStop.TheVariants as stops
 use Rattle.pm_reader.specs.declared.follow.LinesEnd.{LinesEnd}
 use Rattle.pm_reader.specs.declared.reader.Taken.{Taken}
 use Rattle.pm_reader.specs.declared.reader.Taken.TheVariants as taken
-use Rattle.pm_reader.specs.Follow.{FailsWithin, Followed, FollowedInput, FollowedOne, Following, GoesThrough}
+use Rattle.pm_reader.specs.Follow.{Followed, FollowedInput, FollowedOne, Following}
 use Rattle.pm_reader.specs.Reader.{Grows, Held, IsOpen, KnowsEnd, Turn, is_feed, within, within_limit}
 use Rattle.pm_reader.specs.Reader as reader
 use Rattle.pm_reader.proofs.HeldLemmas.{no_feed_at, within_all}
 use Rattle.pm_reader.proofs.ScriptLemmas.{Gives, IsBad, IsOver}
 use Rattle.pm_reader.proofs.ScriptLemmas as scripts
 use Rattle.pm_reader.proofs.TookLemmas.{Took-refl, Took-trans}
-use Rattle.pm_reader.proofs.GoesOn.{GoesOn, MayGoOn, goes_on_line, goes_on_read}
+use Rattle.pm_reader.proofs.GoesOn.{GoesOn, goes_on_line, goes_on_read}
 use Rattle.pm_reader.proofs.Future.{Future, FutureAt, future, future_ended, future_fault, future_over}
 
 -- ---- lines by what is held

@@ -1,13 +1,13 @@
 -- What is read of an input to its end, or to where no more of it is read, begins with what was read so far.
-use Rattle.std.proofs.Common.{◌≡◌, ℕ, zero, suc, ◌+◌, ◌-◌, ◌<◌, ◌≤◌, ◌==◌, min, Bool, true, false, cond, nat_le, IsTrue, Some, None, Option, List, [], ◌∷◌, ◌++◌, length, take, drop, refl, sym, ◌∙◌, ap, subst, arith}
+use Rattle.std.proofs.Common.{◌≡◌, ℕ, zero, suc, ◌+◌, ◌-◌, ◌<◌, ◌≤◌, min, Bool, true, false, nat_le, IsTrue, Some, None, Option, List, [], ◌++◌, length, take, drop, refl, sym, ◌∙◌, ap, arith}
 use Rattle.std.specs.Prelude.{IfSome, if◌then◌else◌}
 use Rattle.std.specs.Str.{bytes_eq}
 use Rattle.std.proofs.lemmas.Slice.Eq.{bytes_eq-Decides}
 use Rattle.std.proofs.lemmas.Bool.Decides.{nat_tests}
 use Rattle.std.proofs.lemmas.List.{length-append, append-nil, length-take-le, take-append-drop, take-take}
 use Rattle.std.proofs.Math.Seq.{take-append_seam}
-use Rattle.pm_base.specs.Inputs.{Advances, File, Input, IsStuck, Moment, Took, rest}
-use Rattle.pm_base.specs.Prefix.{Prefix, prefix_before, prefix_within, text_of, text_within}
+use Rattle.pm_base.specs.Inputs.{File, Input, IsStuck, Moment, Took, rest}
+use Rattle.pm_base.specs.Prefix.{Prefix, prefix_before, prefix_within, text_of}
 use Rattle.pm_base.specs.declared.prefix.StopReason.{StopReason}
 use Rattle.pm_base.specs.declared.prefix.StopReason.TheVariants as reason
 use Rattle.pm_script.specs.Script.{ending_of, script_limit}

@@ -2,7 +2,7 @@
 use Rattle.std.proofs.Common.{◌≡◌, ℕ, zero, suc, ◌+◌, ◌-◌, ◌<◌, ◌≤◌, ◌==◌, Bool, true, false, cond, IsTrue, Some, None, List, [], ◌∷◌, ◌++◌, length, take, drop, position, refl, sym, ◌∙◌, ap, subst, arith, get_or, nat_lt}
 use Rattle.std.specs.List.{position_or_len}
 use Rattle.std.proofs.lemmas.Bool.Decides.{nat_tests}
-use Rattle.std.proofs.lemmas.List.{length-append, length-drop, get_or_append_left, drop-append-le, drop-take, take-append-le, take-append-drop, take_all, length-take-le}
+use Rattle.std.proofs.lemmas.List.{length-append, length-drop, get_or_append_left, drop-take, take-append-drop, take_all, length-take-le}
 use Rattle.std.proofs.lemmas.List.Quantifiers.{position-Some}
 use Rattle.std.proofs.lemmas.List.Sums.{position_or_len_is, fails_before_first}
 use Rattle.pm_reader.specs.Reader.{Held, GaveByFeed, GaveLast, IsOpen, is_feed, within, within_limit}

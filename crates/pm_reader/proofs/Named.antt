@@ -6,7 +6,7 @@ use Rattle.pm_base.specs.Inputs.{Began, CannotBegin, File, Moment}
 use Rattle.pm_base.specs.Prefix.{Prefix, prefix_before, prefix_of, unbegun}
 use Rattle.pm_script.specs.Named.{script_in}
 use Rattle.pm_script.specs.Script.{Script, script_from, script_limit, script_lines, script_of, stop_of}
-use Rattle.pm_script.proofs.NamedLemmas.{script_none, script_some}
+use Rattle.pm_script.proofs.NamedLemmas.{script_some}
 use Rattle.pm_reader.specs.Follow.{OfScript}
 use Rattle.pm_reader.proofs.Future.{is_begun}
 

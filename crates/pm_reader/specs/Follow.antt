@@ -1,15 +1,17 @@
 -- The lines of an input are followed one after another, up to the first one that has no meaning or at which the follower fails.
-use Rattle.std.specs.Prelude.{◌≡◌, ◌⊎◌, ℕ, ◌+◌, List, [], ◌∷◌, length, Result, Ok, Err, IfOk, ⊤}
+use Rattle.std.specs.Prelude.{◌≡◌, ◌⊎◌, ℕ, ◌+◌, List, [], ◌∷◌, length, false, Result, Ok, Err, IfOk, ⊤}
 use Rattle.pm_base.specs.declared.errors.Failed.{Failed}
 use Rattle.pm_base.specs.declared.events.Event.{Event}
 use Rattle.pm_base.specs.declared.prefix.StopReason.TheVariants.{Failure, Unbegun}
+use Rattle.pm_base.specs.Calls.{Call, GoesUpTo}
 use Rattle.pm_base.specs.Faults.{Rose}
 use Rattle.pm_base.specs.Inputs.{Moment}
 use Rattle.pm_base.specs.Prefix.{Prefix, prefix_before}
+use Rattle.pm_base.specs.Readings.{LeftReadBy}
 use Rattle.pm_reader.specs.declared.follow.LineStop.{LineStop}
 use Rattle.pm_reader.specs.declared.follow.LineStop.TheVariants as stops
 use Rattle.pm_reader.specs.declared.follow.LinesEnd.{LinesEnd}
-use Rattle.pm_script.specs.Script.{Script, Stop, script_from, script_limit, script_lines, stop_of}
+use Rattle.pm_script.specs.Script.{Script, script_from, script_limit, script_lines, stop_of}
 use Rattle.pm_script.specs.Script.Stop.{Bad}
 
 -- what a line of a number and an event does: it leads from a follower to a follower, and to an answer
@@ -23,6 +25,12 @@ pub record OfScript (shown : Type 0) (id : ℕ) (before : Moment) (Holds : Scrip
   pub begun : prefix.stop ≡ Unbegun → ⊥
   pub is : shown → (before.input id).place ≡ 0 → prefix ≡ prefix_before script_limit (before.input id).file.fails_at (before.input id).file.bytes
   pub holds : Holds (script_from (script_lines prefix) (stop_of prefix.stop))
+
+-- the calls of a reading of the lines of a begun input, by how they end: to its end or to one byte past the limit, up to
+-- a read that failed, or up to somewhere, if a line has no meaning or the follower fails
+abbrev pub ReadsLines : ℕ → Result LinesEnd LineStop → List Call → Type 0
+ReadsLines id (Ok end) calls = LeftReadBy end.stop id (script_limit + 1) calls
+ReadsLines id (Err why) calls = GoesUpTo id (script_limit + 1) false calls
 
 module _ {F : Type 0} (Follows : Following F) where
   -- the lines of these events, the first of which has this number, were all followed in this order, and nothing else was done

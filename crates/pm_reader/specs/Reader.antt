@@ -1,9 +1,7 @@
 -- A reader of lines: what it holds, what its answers mean, and the lines that it gives.
-use Rattle.std.specs.Prelude.{◌≡◌, ◌≢◌, ℕ, ◌+◌, ◌-◌, ◌<◌, ◌≤◌, ◌⊎◌, ◌==◌, Bool, true, false, IsTrue, List, [], ◌∷◌, ◌++◌, length, take, drop, position, Option, Some, None, if◌then◌else◌}
+use Rattle.std.specs.Prelude.{◌≡◌, ℕ, ◌+◌, ◌-◌, ◌<◌, ◌≤◌, ◌⊎◌, ◌==◌, Bool, false, IsTrue, List, [], ◌++◌, length, take, drop, position, Some, None, if◌then◌else◌}
+use Rattle.pm_base.specs.Calls.{Call, Comes, GoesToFault}
 use Rattle.pm_base.specs.Inputs.{IsStuck, Moment, Took, rest}
-use Rattle.pm_base.specs.Lines.{lines}
-use Rattle.pm_base.specs.declared.lines.Ending.{Ending}
-use Rattle.pm_base.specs.declared.lines.Ending.TheVariants.{Whole, Cut}
 use Rattle.pm_reader.specs.declared.reader.Taken.{Taken}
 use Rattle.pm_reader.specs.declared.reader.Taken.TheVariants.{Line, End, Long, Over, Fault}
 
@@ -87,3 +85,16 @@ pub record Turn (shown : Type 0) (id : ℕ) (before after : Moment) (old new : H
   pub took : Took shown id got before after
   pub grows : Grows old got held
   pub gives : Gives held answer line new
+
+-- the calls of a reader that so changed: the reading of its input came on, as the bytes that may still be read and the end
+-- that was seen show
+abbrev pub ComesOn : ℕ → Held → Held → List Call → Type 0
+ComesOn id old new calls = Comes id old.credit old.ended new.credit new.ended calls
+
+-- the same by what it gave: at Fault the last call is the read that failed
+abbrev pub HasRead : Taken → ℕ → Held → Held → List Call → Type 0
+HasRead Line id old new calls = ComesOn id old new calls
+HasRead End id old new calls = ComesOn id old new calls
+HasRead Long id old new calls = ComesOn id old new calls
+HasRead Over id old new calls = ComesOn id old new calls
+HasRead Fault id old new calls = GoesToFault id old.credit old.ended calls

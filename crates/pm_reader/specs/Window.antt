@@ -1,6 +1,7 @@
 -- A window of fixed size on an input.
-use Rattle.std.specs.Prelude.{◌≡◌, ◌↔◌, ◌<◌, ℕ, ◌≤◌, List, [], ◌++◌, length}
-use Rattle.pm_base.specs.Inputs.{Moment, Took, rest}
+use Rattle.std.specs.Prelude.{◌≡◌, ◌↔◌, ◌<◌, ℕ, ◌≤◌, List, [], ◌++◌, length, Some}
+use Rattle.pm_base.specs.Calls.{Read}
+use Rattle.pm_base.specs.Inputs.{Adds, Moment, Took, rest}
 
 pub record IsWindow (start end : ℕ) : Type 0 where
   pub order : start ≤ end
@@ -13,4 +14,5 @@ pub record Filled (shown : Type 0) (id most count : ℕ) (old new : List ℕ) (b
   pub size : length got ≡ count
   pub few : count ≤ most
   pub took : Took shown id got before after
+  pub logged : Adds (Read id (Some got)) before after
   pub end : shown → 0 < most → count ≡ 0 ↔ (rest (before.input id) ≡ [])

@@ -1,6 +1,7 @@
 //! The lines of a script are taken and followed one after another.
 
-ghost use Rattle.pm_reader.specs.Follow.{FollowedInput, FollowedOne};
+ghost use Rattle.pm_base.specs.Readings.{Meanwhile};
+ghost use Rattle.pm_reader.specs.Follow.{FollowedInput, FollowedOne, ReadsLines};
 
 use crate::reader::{LineBuf, LineReader, Taken};
 use pm_base::{Event, Failed, Inputs, StopReason};
@@ -51,8 +52,11 @@ pub fn each_line<I: Inputs, F: Follower>(
     id: u32,
     follower: &mut F,
 ) -> Result<LinesEnd, LineStop>
-    ensures { FollowedInput F.Follows I.observable id (I.state inputs.old) (I.state inputs.new)
+    ensures followed { FollowedInput F.Follows I.observable id (I.state inputs.old) (I.state inputs.new)
         follower.old follower.new result }
+    // The input is read and nothing else: to its end, to one byte past the limit, up to a read that failed, or, where
+    // not all lines are followed, up to somewhere.
+    ensures reads { Meanwhile (I.state inputs.old) (I.state inputs.new) (ReadsLines id result) }
 {
     let mut reader = LineReader::new(SCRIPT_LIMIT);
     let mut line = LineBuf::new();

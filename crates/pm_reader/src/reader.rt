@@ -2,9 +2,11 @@
 
 ghost use Rattle.std.specs.Prelude.{◌≡◌, ◌≢◌, ◌+◌, ◌<◌, ◌≤◌, ◌==◌, [], None, false, length, position, take, IfSome, MatchOption, MatchResult, IsErr, IsTrue, OnOk};
 ghost use Rattle.arrayvec.specs.ArrayVec.{array_vec_len};
+ghost use Rattle.pm_base.specs.Calls.{Read};
 ghost use Rattle.pm_base.specs.Faults.{HasCause, Rose};
-ghost use Rattle.pm_base.specs.Inputs.{IsStuck, Took};
-ghost use Rattle.pm_reader.specs.Reader.{Gives, Grew, IsOpen, KnowsEnd, NeedsMore, Turn, within};
+ghost use Rattle.pm_base.specs.Inputs.{Adds, IsStuck, Took};
+ghost use Rattle.pm_base.specs.Readings.{Meanwhile};
+ghost use Rattle.pm_reader.specs.Reader.{ComesOn, Gives, Grew, HasRead, IsOpen, KnowsEnd, NeedsMore, Turn, within};
 
 use crate::window::Window;
 use arrayvec::ArrayVec;
@@ -73,6 +75,8 @@ impl LineReader {
         ensures fault { result ≡ Taken.Fault → Rose (I.state inputs.old).faults (I.state inputs.new).faults }
         // Where the inputs are observable, Fault comes only where the input stands at its failing byte.
         ensures stuck { I.observable → result ≡ Taken.Fault → IsStuck ((I.state inputs.new).input id) }
+        // It read on in this input and did nothing else, and nothing after it saw the end or took the byte past the limit.
+        ensures reads { Meanwhile (I.state inputs.old) (I.state inputs.new) (HasRead result id self.old self.new) }
     {
         loop {
             if let Some(taken) = self.give(line) {
@@ -161,6 +165,9 @@ impl LineReader {
         ensures moves { OnOk result (self.new.ended ≡ (self.new.credit == self.old.credit)) }
         ensures knows { KnowsEnd I.observable id self.new (I.state inputs.new) }
         ensures failed { I.observable → IsErr result → IsStuck ((I.state inputs.new).input id) }
+        ensures reads { MatchResult result
+            (λ _. Meanwhile (I.state inputs.old) (I.state inputs.new) (ComesOn id self.old self.new))
+            (λ _. Adds (Read id None) (I.state inputs.old) (I.state inputs.new)) }
     {
         let count = self.window.fill(inputs, id, self.credit as usize)?;
         self.credit -= count as u64;

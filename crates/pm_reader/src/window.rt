@@ -1,8 +1,9 @@
 //! A window of fixed size on an input.
 
-ghost use Rattle.std.specs.Prelude.{◌≡◌, ◌↔◌, ◌+◌, ◌-◌, ◌<◌, ◌≤◌, ◌++◌, [], length, take, drop, IfOk, IsErr, MatchResult};
+ghost use Rattle.std.specs.Prelude.{◌≡◌, ◌↔◌, ◌+◌, ◌-◌, ◌<◌, ◌≤◌, ◌++◌, [], length, take, drop, Some, None, IfOk, OnErr, IsErr, MatchResult};
+ghost use Rattle.pm_base.specs.Calls.{Read};
 ghost use Rattle.pm_base.specs.Faults.{HasCause};
-ghost use Rattle.pm_base.specs.Inputs.{IsStuck, Took, rest};
+ghost use Rattle.pm_base.specs.Inputs.{Adds, IsStuck, Took, rest};
 ghost use Rattle.pm_reader.specs.Window.{Filled};
 
 use pm_base::{Failed, Inputs};
@@ -46,6 +47,9 @@ fn read_between<I: Inputs>(
     ensures end { I.observable → IfOk result
         (λ count. start < stop → count ≡ 0 ↔ (rest ((I.state inputs.old).input id) ≡ [])) }
     ensures failed { I.observable → IsErr result ↔ IsStuck ((I.state inputs.old).input id) }
+    ensures logged { MatchResult result
+        (λ count. Adds (Read id (Some (take count (drop start buf.new)))) (I.state inputs.old) (I.state inputs.new))
+        (λ _. Adds (Read id None) (I.state inputs.old) (I.state inputs.new)) }
 {
     inputs.read(id, &mut buf[start..stop])
 }
@@ -92,6 +96,7 @@ impl Window {
             (λ count. Filled I.observable id most count self.old self.new (I.state inputs.old) (I.state inputs.new))
             (λ _. (self.new ≡ self.old) × Took I.observable id [] (I.state inputs.old) (I.state inputs.new)) }
         ensures failed { I.observable → IsErr result ↔ IsStuck ((I.state inputs.old).input id) }
+        ensures logged { OnErr result (Adds (Read id None) (I.state inputs.old) (I.state inputs.new)) }
     {
         let held = self.end - self.start;
         self.buf.copy_within(self.start..self.end, 0);

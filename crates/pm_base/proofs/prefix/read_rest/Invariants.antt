@@ -1,11 +1,14 @@
-use Rattle.std.proofs.Common.{◌≡◌, ◌+◌, ◌-◌, ◌≤◌, length}
+use Rattle.std.proofs.Common.{◌≡◌, ◌+◌, ◌-◌, ◌≤◌, false, length}
+use Rattle.pm_base.specs.Calls.{Comes}
 use Rattle.pm_base.specs.Inputs.{Took}
+use Rattle.pm_base.specs.Readings.{Meanwhile}
 use Rattle.pm_base.proofs.prefix.read_rest.Given as goal
 
 abbrev pub invariant-loop-window : goal.invariant-loop-window
 invariant-loop-window g l = record {
   took : Took g.I.Inputs.observable l.id l.bytes.items (g.I.Inputs.state l.fn.inputs) (g.I.Inputs.state l.inputs);
   within : length l.bytes.items ≤ l.limit + 1;
+  calls : Meanwhile (g.I.Inputs.state l.fn.inputs) (g.I.Inputs.state l.inputs) (Comes l.id (l.limit + 1) false (l.limit + 1 - length l.bytes.items) false);
   most : l.most ≡ l.limit + 1;
 }
 

@@ -1,7 +1,7 @@
-use Rattle.std.proofs.Common.{◌≡◌, ℕ, ◌+◌, ◌<◌, ◌≤◌, List, Some, length, take, drop, sym, ◌∙◌, ap, arith, inl, inr}
+use Rattle.std.proofs.Common.{◌≡◌, ◌+◌, length, drop, sym, ◌∙◌, ap, arith, inl}
 use Rattle.std.proofs.lemmas.List.{length-take-le}
 use Rattle.pm_reader.specs.Reader.{Held}
-use Rattle.pm_reader.proofs.HeldLemmas.{FeedAt, feed_at, gave_by_feed}
+use Rattle.pm_reader.proofs.HeldLemmas.{feed_at, gave_by_feed}
 use Rattle.pm_reader.proofs.reader.LineReader.give.Goals as goal
 
 pub slice_bounds-put-end : goal.slice_bounds-put-end

@@ -1,4 +1,4 @@
-use Rattle.std.proofs.Common.{◌≡◌, ℕ, [], ◌<◌, List, length, sym, ◌∙◌, ap, arith, inr}
+use Rattle.std.proofs.Common.{◌≡◌, ℕ, [], ◌<◌, List, length, ◌∙◌, ap, arith, inr}
 use Rattle.std.proofs.lemmas.Grind.{common_steps}
 use Rattle.pm_reader.specs.Reader.{Held}
 use Rattle.pm_reader.proofs.HeldLemmas.{gave_last, last_fits}

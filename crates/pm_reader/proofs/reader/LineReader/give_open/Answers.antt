@@ -1,4 +1,4 @@
-use Rattle.std.proofs.Common.{◌≡◌, ℕ, ◌<◌, false, sym, ◌∙◌, ap, arith, refl}
+use Rattle.std.proofs.Common.{◌≡◌, sym, ◌∙◌, ap, arith, refl}
 use Rattle.pm_reader.specs.Reader.{Held}
 use Rattle.pm_reader.proofs.HeldLemmas.{open_is}
 use Rattle.pm_reader.proofs.reader.LineReader.give_open.Goals as goal

@@ -1,10 +1,12 @@
 use Rattle.std.proofs.Common.{◌+◌, cond}
-use Rattle.pm_reader.specs.Reader.{Grew, KnowsEnd}
+use Rattle.pm_base.specs.Readings.{Meanwhile}
+use Rattle.pm_reader.specs.Reader.{ComesOn, Grew, KnowsEnd}
 use Rattle.pm_reader.proofs.reader.LineReader.next.Given as goal
 
 abbrev pub invariant-loop-taken : goal.invariant-loop-taken
 invariant-loop-taken g l = record {
   grew : Grew g.I.Inputs.observable l.id l.fn.self l.self (g.I.Inputs.state l.fn.inputs) (g.I.Inputs.state l.inputs);
+  reads : Meanwhile (g.I.Inputs.state l.fn.inputs) (g.I.Inputs.state l.inputs) (ComesOn l.id l.fn.self l.self);
   knows : KnowsEnd g.I.Inputs.observable l.id l.fn.self (g.I.Inputs.state l.fn.inputs) → KnowsEnd g.I.Inputs.observable l.id l.self (g.I.Inputs.state l.inputs);
 }
 

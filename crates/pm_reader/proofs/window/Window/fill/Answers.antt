@@ -1,4 +1,4 @@
-use Rattle.std.proofs.Common.{◌≡◌, ℕ, zero, suc, ◌+◌, ◌-◌, ◌<◌, ◌≤◌, List, [], ◌∷◌, ◌++◌, length, take, drop, sym, refl, ◌∙◌, ap, arith}
+use Rattle.std.proofs.Common.{◌≡◌, ℕ, zero, suc, ◌+◌, ◌-◌, ◌≤◌, List, [], ◌∷◌, ◌++◌, length, take, drop, sym, refl, ◌∙◌, ap, arith}
 use Rattle.std.specs.List.{copy_within}
 use Rattle.std.proofs.Math.Seq.{take-add}
 use Rattle.std.proofs.lemmas.List.{length-drop}
@@ -45,5 +45,6 @@ returns-clause-read g c =
           omega (arith, left, whole, c.in_ok-count.ensures.bound, c.min.ensures, c.self.invariant.order, c.self.invariant.size));
       few = omega (arith, c.in_ok-count.ensures.bound, c.min.ensures);
       took = c.in_ok-count.ensures.taken;
+      logged = c.in_ok-count.ensures.logged;
       end = λ seen some. c.in_ok-count.ensures.end seen (omega (arith, some, c.min.ensures, c.requires, held));
     }
