@@ -14,7 +14,7 @@ use Rattle.pm_topology.specs.declared.topology.PowerDef.{PowerDef}
 use Rattle.pm_topology.specs.declared.places.Kind.TheVariants.{Power}
 use Rattle.pm_topology.specs.Places.{parent_of, kind_of}
 use Rattle.pm_topology.specs.WellFormed.{IsWellFormed}
-use Rattle.pm_device.specs.Act.{Act, Order, Rig, value_by, values_after}
+use Rattle.pm_device.specs.Act.{Act, Order, Rig, Fit, value_by, values_after}
 use Rattle.pm_topology.specs.UnitMap.{units_in}
 use Rattle.pm_topology.specs.Units.{needs_power, parent_of_unit, same_unit}
 use Rattle.pm_core.specs.declared.outbox.Done.{Done}
@@ -48,11 +48,14 @@ ordered-same t f g (Order c ok ∷ acts) same all = (
   ordered-same t (value_by (Order c ok) f) (value_by (Order c ok) g) acts (λ x. ap (cond (ok && same_unit c.unit x) c.value) (same x)) all.1,
 )
 ordered-same t f g (Rig node broken ∷ acts) same all = ordered-same t f g acts same all
+ordered-same t f g (Fit chip ∷ acts) same all =
+    ordered-same t (value_by (Fit chip) f) (value_by (Fit chip) g) acts (λ x. refl) all
 
 pub ordered-append : (t : Topology) (values : Unit → ℕ) (first second : List Act) → IsOrdered t values first → IsOrdered t (values_after first values) second → IsOrdered t values (first ++ second)
 ordered-append t values [] second one two = two
 ordered-append t values (Order c ok ∷ first) second one two = (one.0, ordered-append t (value_by (Order c ok) values) first second one.1 two)
 ordered-append t values (Rig node broken ∷ first) second one two = ordered-append t values first second one two
+ordered-append t values (Fit chip ∷ first) second one two = ordered-append t (value_by (Fit chip) values) first second one two
 
 -- commands each of which is in its place by the record before it, where the units stand as the record says
 along_ordered : ChipLaws → (t : Topology) (units : List Unit) (done : List Done) (kept : Kept) (values : Unit → ℕ)

@@ -39,7 +39,7 @@ pub record IsPowerAt (t : Topology) (unit : Unit) (w : ℕ) (p : PowerDef) : Typ
   pub here : slice_get t.powers w ≡ Some p
   pub is : unit ≡ Node p.node
 
-same_node : (a b : NodeId) → a.0 ≡ b.0 → a ≡ b
+pub same_node : (a b : NodeId) → a.0 ≡ b.0 → a ≡ b
 same_node a b e = let node : ℕ → NodeId = λ n. record { 0 = n } in ap node e
 
 module _ (laws : ChipLaws) (t : Topology) where

@@ -72,7 +72,7 @@ length-unit_turns t =
     omega (arith, all, later, length-raises t, length-settles t, length-lowers t)
 
 -- the turns of a well-formed chip are few
-pub few_turns : UnitLaws → (t : Topology) → IsWellFormed t → length (unit_turns t) ≤ 1000
+pub few_turns : UnitLaws → (t : Topology) → IsWellFormed t → length (unit_turns t) ≤ 2000
 few_turns units t well =
     let few : length (units_of t) ≤ entry_count t = units.few t in
     omega (arith, few, length-unit_turns t, well.few_powers, well.few_procs, well.few_slaves, well.few_lines)

@@ -8,7 +8,7 @@ use Rattle.pm_base.specs.declared.names.Unit.TheVariants.{Node, Line}
 use Rattle.pm_topology.specs.declared.topology.Topology.{Topology}
 use Rattle.pm_topology.specs.declared.topology.PowerDef.{PowerDef}
 use Rattle.pm_topology.specs.Places.{parent_of, IsBelow}
-use Rattle.pm_device.specs.Act.{Act, Order, Rig, value_by}
+use Rattle.pm_device.specs.Act.{Act, Order, Rig, Fit, value_by}
 use Rattle.pm_topology.specs.Units.{has_unit, needs_power}
 use Rattle.pm_core.specs.declared.outbox.Done.{Done}
 use Rattle.pm_apply.specs.Record.{Kept, kept_value}
@@ -36,6 +36,7 @@ abbrev pub IsOrdered : Topology → (Unit → ℕ) → List Act → Type 0
 IsOrdered t values [] = ⊤
 IsOrdered t values (Order command ok ∷ acts) = IsOrderly t values command × IsOrdered t (value_by (Order command ok) values) acts
 IsOrdered t values (Rig node broken ∷ acts) = IsOrdered t values acts
+IsOrdered t values (Fit chip ∷ acts) = IsOrdered t (value_by (Fit chip) values) acts
 
 -- one of these commands failed, on this unit
 pub record FailedOn (done : List Done) (unit : Unit) : Type 0 where

@@ -99,6 +99,13 @@ impl Kept {
         self.marked.next(from)
     }
 
+    /// Whether some unit may be marked: none is where this is false.
+    pub(crate) fn has_marks(&self) -> bool
+        ensures { result ≡ false → (k : ℕ) → k < length self.now → LagsNotAt k self.now }
+    {
+        self.next_marked(0) < self.values.len()
+    }
+
     /// Whether the unit at a place lags, and true past the last one.
     pub(crate) fn lags_at(&self, place: usize) -> bool
         ensures { result ≡ false → LagsNotAt place self.now }

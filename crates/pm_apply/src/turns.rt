@@ -1,7 +1,11 @@
 //! The turns of a step: each may issue one command.
 
 ghost use Rattle.std.specs.Prelude.{◌≡◌, ℕ, ◌<◌, ◌≤◌, ◌==◌, ◌&&◌, ◌||◌, false, not, length, option_to_list, slice_get, Some};
+ghost use Rattle.std.specs.List.{list_any};
 ghost use Rattle.pm_base.specs.declared.names.Unit.TheVariants.{Node};
+ghost use Rattle.pm_topology.specs.declared.topology.SlaveDef.{SlaveDef};
+ghost use Rattle.pm_topology.specs.declared.topology.ProcDef.{ProcDef};
+ghost use Rattle.pm_topology.specs.declared.topology.PowerDef.{PowerDef};
 ghost use Rattle.pm_topology.specs.WellFormed.{IsWellFormed};
 ghost use Rattle.pm_topology.specs.UnitMap.{units_in};
 ghost use Rattle.pm_topology.specs.Units.{needs_power, parent_of_unit, units_of};
@@ -12,7 +16,7 @@ ghost use Rattle.pm_apply.specs.Record.{kept_value};
 ghost use Rattle.pm_apply.specs.Visits.{IsIdleAt, power_lags};
 
 use crate::kept::{Kept, KeptValue};
-use pm_base::{Command, LineId, Unit};
+use pm_base::{Command, LineId, NodeId, Unit};
 use pm_core::Book;
 use pm_topology::{
     Kind, PowerDef, Topology, kinds_are_exact, needs_power, parent_of_unit, same_unit, unit_maps,
@@ -59,14 +63,20 @@ pub(crate) fn turn_at(k: usize, book: &Book) -> Turn
 }
 
 /// The first place from this one on whose turn is taken. The turns before it are those of units that don't lag, and have
-/// no command. It is past the last turn where none is left.
+/// no command. It is past the last turn where none is left, and where no unit is marked no turn is looked at.
 pub(crate) fn next_visited(from: usize, book: &Book, kept: &Kept) -> usize
     requires { units_in kept.now ≡ units_of book.now.fixed.topology }
     ensures from { from ≤ result }
     ensures idle { (k : ℕ) → from ≤ k → k < result → IsIdleAt book.now.fixed.topology kept.now k }
 {
+    units_stand_in_order();
+    kinds_are_exact();
+    unit_maps::<KeptValue>();
     let powers = book.topology().powers.len();
     let turns = turn_count(book);
+    if from < turns && !kept.has_marks() {
+        return turns;
+    }
     let up = next_power(from, powers, book, kept);
     let unit = next_unit(up, book, kept);
     next_power(unit, turns, book, kept)
@@ -278,20 +288,61 @@ fn goes_down(unit: Unit, place: usize, book: &Book, kept: &Kept) -> bool
 fn is_used(book: &Book, kept: &Kept, place: usize) -> bool
     ensures { result ≡ is_used book.now.fixed.topology kept.now place }
 {
-    for k in 0..book.units() {
-        if uses(book.unit(k), place, book.topology(), kept) {
-            return true;
-        }
-    }
-    false
+    units_stand_in_order();
+    kinds_are_exact();
+    unit_maps::<KeptValue>();
+    one_uses(book.topology(), kept, place)
 }
 
-/// Whether a unit stands directly below the power node at a place and needs power by the record.
-fn uses(unit: Unit, place: usize, t: &Topology, kept: &Kept) -> bool
-    ensures { result
-        ≡ (is_place place (parent_of_unit t.now unit) && needs_power t.now unit (kept_value kept.now unit)) }
+/// The same by the tables of the chip.
+fn one_uses(t: &Topology, kept: &Kept, place: usize) -> bool
+    ensures { result ≡ (list_any (λ (s : SlaveDef). is_place place (Some s.parent)
+        && needs_power t.now (Node s.node) (kept_value kept.now (Node s.node))) t.now.slaves
+        || (list_any (λ (p : ProcDef). is_place place (Some p.parent)
+        && needs_power t.now (Node p.node) (kept_value kept.now (Node p.node))) t.now.procs
+        || list_any (λ (p : PowerDef). is_place place p.parent
+        && needs_power t.now (Node p.node) (kept_value kept.now (Node p.node))) t.now.powers)) }
 {
-    is_place(place, parent_of_unit(t, unit)) && needs_power(t, unit, kept.value(unit))
+    slave_uses(t, kept, place) || proc_uses(t, kept, place) || power_uses(t, kept, place)
+}
+
+/// Whether a slave directly below the power node at a place needs power by the record.
+fn slave_uses(t: &Topology, kept: &Kept, place: usize) -> bool
+    ensures { result ≡ list_any (λ (s : SlaveDef). is_place place (Some s.parent)
+        && needs_power t.now (Node s.node) (kept_value kept.now (Node s.node))) t.now.slaves }
+{
+    let slaves = t.slaves.as_slice();
+    slaves.iter().any(|slave| uses(slave.node, Some(slave.parent), place, t, kept))
+}
+
+/// Whether a processor directly below it does.
+fn proc_uses(t: &Topology, kept: &Kept, place: usize) -> bool
+    ensures { result ≡ list_any (λ (p : ProcDef). is_place place (Some p.parent)
+        && needs_power t.now (Node p.node) (kept_value kept.now (Node p.node))) t.now.procs }
+{
+    let procs = t.procs.as_slice();
+    procs
+        .iter()
+        .any(|proc| uses(proc.node, Some(proc.parent), place, t, kept))
+}
+
+/// Whether a power node directly below it does.
+fn power_uses(t: &Topology, kept: &Kept, place: usize) -> bool
+    ensures { result ≡ list_any (λ (p : PowerDef). is_place place p.parent
+        && needs_power t.now (Node p.node) (kept_value kept.now (Node p.node))) t.now.powers }
+{
+    let powers = t.powers.as_slice();
+    powers
+        .iter()
+        .any(|power| uses(power.node, power.parent, place, t, kept))
+}
+
+/// Whether a node with this parent stands directly below the power node at a place and needs power by the record.
+fn uses(node: NodeId, parent: Option<usize>, place: usize, t: &Topology, kept: &Kept) -> bool
+    ensures { result ≡ (is_place place parent && needs_power t.now (Node node) (kept_value kept.now (Node node))) }
+{
+    let unit = Unit::Node(node);
+    is_place(place, parent) && needs_power(t, unit, kept.value(unit))
 }
 
 fn is_place(place: usize, parent: Option<usize>) -> bool

@@ -1,6 +1,7 @@
 pub mod AskedLaw
 pub mod AwakeLaw
 pub mod EndedLaw
+pub mod PassLaw
 pub mod Refused
 pub mod RestartLaw
 pub mod SoundSteps

@@ -2,7 +2,7 @@
 use Rattle.std.proofs.Common.{◌≡◌, ℕ, Bool, true, false, not, if◌then◌else◌, IsTrue, List, [], ◌∷◌, ◌++◌, ◌+◌, map, Option, Some, None, refl, ap, ◌∙◌, ◌||◌, ◌⊎◌, inl, inr}
 use Rattle.std.specs.Prelude.{option_and_then}
 use Rattle.pm_base.specs.declared.events.Event.{Event}
-use Rattle.pm_base.specs.declared.events.Event.TheVariants.{Ipi, Boot, Wfi, Irq, Gic}
+use Rattle.pm_base.specs.declared.events.Event.TheVariants.{Ipi, Boot, Wfi, Irq, Gic, Pass}
 use Rattle.pm_base.specs.declared.names.Mode.{Mode}
 use Rattle.pm_base.specs.declared.names.Mode.TheVariants.{Off, Active, Asleep, Suspending}
 use Rattle.pm_base.specs.declared.names.NodeId.{NodeId}
@@ -64,7 +64,7 @@ none_aborts : (m : ℕ) (request : Option Pending) (before : State) → ended_at
 none_aborts m None before = refl
 none_aborts m (Some request) before = refl
 
-none_end : (m : ℕ) (pending : List (Option Pending)) (before : State) → ended_from (turns_along before []) None None m pending ≡ []
+pub none_end : (m : ℕ) (pending : List (Option Pending)) (before : State) → ended_from (turns_along before []) None None m pending ≡ []
 none_end m [] before = refl
 none_end m (request ∷ pending) before =
     ap (λ ended. ended ++ ended_from (turns_along before []) None None (m + 1) pending) (none_aborts m request before)
@@ -76,7 +76,7 @@ none_forgets m [] before = refl
 none_forgets m (master ∷ masters) before = none_forgets (m + 1) masters before
 
 -- and where there is nothing to tell and no mode changes, no notes change
-abbrev no_news : News
+abbrev pub no_news : News
 no_news = record { asked = None; ended = []; notices = [] }
 
 none_to : (k : ℕ) (mode : Mode) (notes : MasterNotes) → note_changes_at no_news k mode mode notes ≡ []
@@ -158,6 +158,10 @@ refused_stays (Ipi master message) book fails =
     stays book (served (Ipi master message) book) (message_stages (call_in master call book)) (says_of (verdict (call_in master call book))) nothing.stages nothing.says
     (none_kept master call book (master_place master book) refl)
 refused_stays _ book fails = cc
+
+-- and neither does an event of which nothing comes
+pub pass_stays : (book : State) → effect Pass book ≡ book
+pass_stays book = stays book None [] None refl refl refl
 
 -- ---- an event that has no stage
 

@@ -119,4 +119,4 @@ pub kept_by : ((event : Event) (book : State) → IsSound book → IsSound (effe
     → (event : Event) (old new : State) → new ≡ effect event old → IsBook old → IsBook new
 kept_by keeps event old new is of =
     let P : State → Type 0 = λ b. IsBook b in
-    subst P (sym is) (record { formed = of.formed; masters = of.masters; sound = keeps event old of.sound })
+    subst P (sym is) (record { formed = of.formed; sound = keeps event old of.sound })

@@ -1,7 +1,6 @@
 //! The book of requirements: its load, its step and what is read of it.
 
 ghost use Rattle.std.specs.Prelude.{◌≡◌, ◌<◌, IsTrue, IfOk, IfErr, Some, is_some, length, slice_get};
-ghost use Rattle.pm_topology.specs.Masters.{ObeysMasterRules};
 ghost use Rattle.pm_topology.specs.WellFormed.{IsWellFormed};
 ghost use Rattle.pm_state.specs.Fed.{IsFed};
 ghost use Rattle.pm_state.specs.Load.{load_of};
@@ -56,10 +55,10 @@ impl Model for Book {
 
 impl Book {
     /// The book of an object at load: a row for each permitted pair, with what the object preallocates
-    /// for it, and the first processor of the first master is active. The topology passes its check and
-    /// obeys the rules on masters, and the outbox was loaded for it and for the number of masters of the
-    /// object. The outbox then holds the units that aren't 0 at load, and the start of that processor. It has the
-    /// room that it had, which is that of the book's chip and masters.
+    /// for it, and the first processor of the first master is active. The topology passes its check, and
+    /// the outbox was loaded for it and for the number of masters of the object. The outbox then holds
+    /// the units that aren't 0 at load, and the start of that processor. It has the room that it had,
+    /// which is that of the book's chip and masters.
     ///
     /// # Errors
     ///
@@ -72,7 +71,6 @@ impl Book {
         out: &mut Outbox,
     ) -> Result<Book, NoMemory>
         requires formed { IsWellFormed topology }
-        requires masters { ObeysMasterRules topology }
         requires room { HasRoom topology (length object.masters) out.old }
         ensures book { IfOk result (λ book. book ≡ load_of object topology) }
         ensures out { IfOk result (λ book. Holds (outputs_at_load book) out.new) }
@@ -133,6 +131,11 @@ impl Book {
         books_stay_sound();
         values_meet();
         out.clear();
+        // Nothing comes of such an event, so no mode is looked at.
+        if let Event::Pass = event {
+            self.stays_sound();
+            return;
+        }
         let count = time_of(&self.tables, event);
         let served = advance(&mut self.tables, &self.caches, event, &mut self.telling);
         self.caches.follow(
@@ -171,9 +174,8 @@ impl Book {
         self.tables.topology()
     }
 
-    /// What holds of every book: its chip has passed its check and obeys the rules on masters, the book is sound and
-    /// meets its requirements, and each node that needs power in its value stands directly below a power node that is
-    /// up.
+    /// What holds of every book: its chip has passed its check, the book is sound and meets its requirements, and each
+    /// node that needs power in its value stands directly below a power node that is up.
     ///
     /// That it is sound: exactly the permitted pairs have a row, a slave that can't be shared has one user at most, the
     /// rows know the modes of the masters, nothing is scheduled while a master is active, one that is off uses nothing,
@@ -186,7 +188,6 @@ impl Book {
     /// is held or something directly below needs power in its value.
     pub fn stays_sound(&self)
         ensures formed { IsWellFormed self.now.fixed.topology }
-        ensures masters { ObeysMasterRules self.now.fixed.topology }
         ensures sound { IsSound self.now }
         ensures met { MeetsRequirements self.now (λ u. value u self.now) }
         ensures fed { IsFed self.now.fixed.topology (λ u. value u self.now) }

@@ -1,7 +1,6 @@
 //! Which fields the book has.
 
 ghost use Rattle.std.specs.Prelude.{IfOk};
-ghost use Rattle.pm_topology.specs.Masters.{ObeysMasterRules};
 ghost use Rattle.pm_topology.specs.WellFormed.{IsWellFormed};
 
 use crate::book::Book;
@@ -25,7 +24,6 @@ fn take_apart(book: &Book) {
 
 fn chip(alloc: Global) -> Result<Topology, NoMemory>
     ensures formed { IfOk result IsWellFormed }
-    ensures masters { IfOk result ObeysMasterRules }
 {
     zynqmp(alloc)
 }

@@ -1,7 +1,6 @@
 //! A device follows a book: the commands of each step, and what is kept of them.
 
 ghost use Rattle.pm_topology.specs.WellFormed.{IsWellFormed};
-ghost use Rattle.pm_topology.specs.Masters.{ObeysMasterRules};
 ghost use Rattle.pm_state.specs.Values.{value};
 ghost use Rattle.pm_apply.specs.Carried.{AreMarked};
 ghost use Rattle.pm_apply.specs.Record.{IsRecordOf};
@@ -40,7 +39,6 @@ fn started<D: Device>(
     dev: &mut D,
 ) -> Result<Drive, NoMemory>
     requires formed { IsWellFormed chip }
-    requires masters { ObeysMasterRules chip }
 {
     let mut kept = Kept::load(alloc, &chip)?;
     let mut boxed = desk_with(alloc, object, chip)?;

@@ -4,7 +4,6 @@ use Rattle.std.proofs.lemmas.List.{length-map}
 use Rattle.pm_base.specs.declared.names.Unit.{Unit}
 use Rattle.pm_notify.specs.declared.notes.Waiting.{Waiting}
 use Rattle.pm_topology.specs.declared.topology.Topology.{Topology}
-use Rattle.pm_topology.specs.Masters.{ObeysMasterRules}
 use Rattle.pm_topology.specs.Units.{units_of, entry_count}
 use Rattle.pm_topology.specs.WellFormed.{IsWellFormed}
 use Rattle.pm_values.specs.Caches.{moved_by, value_by}
@@ -49,13 +48,11 @@ pub invariant_of-result : goal.invariant_of-result
 invariant_of-result c =
     let book = c.in_ok-tables.tables in
     let P : State → Type 0 = λ b. IsWellFormed b.fixed.topology in
-    let Q : State → Type 0 = λ b. ObeysMasterRules b.fixed.topology in
     let zeros : length c.in_ok-caches.caches.values ≡ length (units_of book.fixed.topology) =
     ap length c.in_ok-caches.ensures.zeros ∙ length-map (units_of book.fixed.topology) (λ u. (u, 0))
     in (
       record {
         formed = subst P (sym c.in_ok-tables.ensures.book) c.requires.formed;
-        masters = subst Q (sym c.in_ok-tables.ensures.book) c.requires.masters;
         sound = c.in_ok-tables.ensures.sound;
       },
       c.update.ensures.kept,

@@ -16,7 +16,7 @@ use Rattle.pm_values.specs.declared.starts.Start.{Start}
 use Rattle.pm_state.specs.Stages.{after_stages}
 use Rattle.pm_values.specs.Starts.{starts, was_down}
 use Rattle.pm_state.specs.State.{State, in_force}
-use Rattle.pm_core.specs.Step.{effect, ended, served, modes_in, news, opening, path, pulse, stages, answer_by, answer_to}
+use Rattle.pm_core.specs.Step.{effect, ended, served, modes_in, news, opening, outputs, path, pulse, stages, answer_by, answer_to}
 use Rattle.pm_tell.specs.Telling.{notes_after, tellings, HasPlaces, news_in, opening_in}
 use Rattle.pm_tell.specs.Ended.{ended_from}
 use Rattle.pm_values.specs.Notifications.{notifications}
@@ -26,7 +26,10 @@ use Rattle.pm_calls.specs.Verdict.{aborted_by}
 use Rattle.pm_values.proofs.CachesLaw.{kept_places, kept_talked}
 use Rattle.pm_core.proofs.EndedLaw.{IsTold, stages_talk, step_told}
 use Rattle.pm_values.proofs.NoticesLaw.{notices_are}
-use Rattle.pm_core.proofs.Refused.{refused_stays}
+use Rattle.pm_core.proofs.Refused.{pass_stays, refused_stays}
+use Rattle.pm_core.proofs.PassLaw.{pass_puts}
+use Rattle.pm_base.specs.declared.events.Event.{Event}
+use Rattle.pm_core.specs.Outbox.{Holds}
 use Rattle.pm_core.proofs.TouchedLaw.{step_touches}
 use Rattle.pm_values.specs.declared.touches.Touched.{Touched}
 use Rattle.pm_values.specs.Touches.{IsTouched}
@@ -147,6 +150,16 @@ invariant_of-self c =
       subst P (sym c.tell.ensures.book) (kept_talked changes mid c.follow.new.self c.follow.ensures.kept),
       subst Q (sym c.tell.ensures.book) c.tell.ensures.places,
     )
+
+pub returns-in-Pass-clause-book : goal.returns-in-Pass-clause-book
+returns-in-Pass-clause-book c = let b = c.args.self.now in sym (ap (λ e. effect e b) c.in-Pass.is ∙ pass_stays b)
+
+pub returns-in-Pass-clause-out : goal.returns-in-Pass-clause-out
+returns-in-Pass-clause-out c =
+    let b = c.args.self.now in
+    let out = c.clear.new.self in
+    let P : Event → Type 0 = λ e. Holds (outputs e b) out in
+    subst P (sym c.in-Pass.is) (pass_puts b out c.clear.ensures.empty)
 
 pub returns-clause-book : goal.returns-clause-book
 returns-clause-book c = (told c).book ∙ ap (effect c.args.event.now) c.self.view_is
