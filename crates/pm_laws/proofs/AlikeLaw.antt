@@ -32,7 +32,7 @@ module _ (c : Setup) (m : NodeId) where
 
   module _ {X : Type 0} (f : Core → List X)
       (same : (x y : Core) → x.event ≡ y.event → SameTold c.object c.topology border x y → f x ≡ f y)
-      (own : (x : Core) → IsOwn m x.event → TellsNothing c.object c.topology border x → f x ≡ [])
+      (own : (x : Core) → IsOwn c.object c.topology m x.event → TellsNothing c.object c.topology border x → f x ≡ [])
       (still : (y : Core) → y.event ≡ Pass → TellsNothing c.object c.topology border y → f y ≡ []) where
     flat : (a b : State) (xs ys : List Core) → AreBeside c m a b xs ys → flat_map f xs ≡ flat_map f ys
     flat _ _ _ _ (no_core a b) = refl
@@ -69,11 +69,11 @@ module _ (c : Setup) (m : NodeId) where
       (others_beyond (Ipi master message) parts.0) parts.1
   all_beyond event is = refl
 
-  own_others : (event : Event) → IsOwn m event → is_others c.object border m event ≡ false
+  own_others : (event : Event) → IsOwn c.object c.topology m event → is_others c.object border m event ≡ false
   own_others (Ipi master message) is = ap (λ t. not t && none_within border (place_of c.object master)) (equal master.0 m.0 is)
   own_others event is = refl
 
-  own_beyond : (event : Event) → IsOwn m event → is_beyond_all c.object c.topology border m event ≡ false
+  own_beyond : (event : Event) → IsOwn c.object c.topology m event → is_beyond_all c.object c.topology border m event ≡ false
   own_beyond (Ipi master message) is = ap (λ t. t && names_beyond c.topology border (call_of message)) (own_others (Ipi master message) is)
   own_beyond event is = refl
 
@@ -144,7 +144,7 @@ module _ (c : Setup) (m : NodeId) where
     lines_alike (event ∷ events) a b first second agree boxes =
         let x : Line = line_of c event a in
         let y : Line = line_of c (quiet_event m event) b in
-        let beside : IsLineBeside c m a.book b.book x y = line_beside laws c m object chip event a b first second agree boxes in
+        let beside : IsLineBeside c m a.book b.book x y = line_beside laws c m object chip event a b chip.masters first second agree boxes in
         let next : IsBookOf c x.after.book = laws.line c event a chip first in (
           line_alike books object chip a.book b.book x y next beside,
           lines_alike events x.after y.after next (laws.line c (quiet_event m event) b chip second) beside.agree beside.boxes,
@@ -155,7 +155,7 @@ module _ (c : Setup) (m : NodeId) where
         let at_load = books.load c chip in
         let agree = books.agrees c m object chip in
         let boxes : AreQuietBoxes c m (loaded c).boxes (loaded c).boxes = load_boxes c.object m (length c.object.masters) in
-        record { load = agree; boxes = boxes; lines = lines_beside laws c m object chip events (loaded c) (loaded c) at_load at_load agree boxes }
+        record { load = agree; boxes = boxes; lines = lines_beside laws c m object chip events (loaded c) (loaded c) chip.masters at_load at_load agree boxes }
 
     pub worlds_alike : (events : List Event) → AreWorldsAlike c m events
     worlds_alike events =

@@ -2,6 +2,7 @@
 -- is line by line of a run and of the run without the messages of the master.
 use Rattle.std.proofs.Common.{List, [], ◌∷◌, refl, subst, sym}
 use Rattle.pm_laws.proofs.Common.{Agree, Border, Event, Fixed, IsObject, IsSound, IsWellFormed, NodeId, Pass, State, border_of, effect}
+use Rattle.pm_topology.specs.WellFormed.{ObeysMasterRules}
 use Rattle.pm_split.specs.Boxes.{Boxes}
 use Rattle.pm_split.specs.Split.{split_of}
 use Rattle.pm_run.specs.Run.{IsBookOf, Setup, Stand, book_after, core_of, cores_of, line_of, lines_of, split}
@@ -21,7 +22,7 @@ pub record CoreLaws : Type 0 where
       → Agree (around a.fixed m) a b
       → Agree (around a.fixed m) (effect event a) (effect event b)
       × SameTold a.fixed.object a.fixed.topology (around a.fixed m) (core_of event a) (core_of event b)
-  pub left : (m : NodeId) (event : Event) (a b : State) → IsOwn m event → IsObject a.fixed.object → IsWellFormed a.fixed.topology
+  pub left : (m : NodeId) (event : Event) (a b : State) → IsOwn a.fixed.object a.fixed.topology m event → IsObject a.fixed.object → IsWellFormed a.fixed.topology
       → IsSound a → IsSound b → Agree (around a.fixed m) a b
       → Agree (around a.fixed m) (effect event a) b
       × TellsNothing a.fixed.object a.fixed.topology (around a.fixed m) (core_of event a)
@@ -33,11 +34,11 @@ pub record CoreLaws : Type 0 where
   pub line : (c : Setup) (event : Event) (stand : Stand) → IsWellFormed c.topology → IsBookOf c stand.book → IsBookOf c (line_of c event stand).after.book
 
 -- the core events of a line, and of the same line without a message of the master, by the boxes of the two worlds
-pub splits_beside : (c : Setup) (m : NodeId) (event : Event) (a b : Stand) → AreQuietBoxes c m a.boxes b.boxes
-    → IsSplitBeside c.object m (split c event a) (split c (quiet_event m event) b)
-splits_beside c m event a b quiet_boxes =
-    let P : Boxes → Type 0 = λ boxes. IsSplitBeside c.object m (split_of c.object event a.boxes) (split_of c.object (quiet_event m event) boxes) in
-    subst P (sym quiet_boxes) (split_beside c.object m a.boxes event)
+pub splits_beside : (c : Setup) (m : NodeId) (event : Event) (a b : Stand) → ObeysMasterRules c.topology → AreQuietBoxes c m a.boxes b.boxes
+    → IsSplitBeside c.object c.topology m (split c event a) (split c (quiet_event m event) b)
+splits_beside c m event a b rules quiet_boxes =
+    let P : Boxes → Type 0 = λ boxes. IsSplitBeside c.object c.topology m (split_of c.object c.topology event a.boxes) (split_of c.object c.topology (quiet_event m event) boxes) in
+    subst P (sym quiet_boxes) (split_beside c.object c.topology m a.boxes rules event)
 
 module _ (laws : CoreLaws) (c : Setup) (m : NodeId) (object : IsObject c.object) (chip : IsWellFormed c.topology) where
   abbrev border : Border
@@ -54,13 +55,13 @@ module _ (laws : CoreLaws) (c : Setup) (m : NodeId) (object : IsObject c.object)
       in
       subst P first.fixed (λ is formed same. laws.both m event a b is formed first.sound second.sound same) object chip agree
 
-  left_at : (event : Event) (a b : State) → IsOwn m event → IsBookOf c a → IsBookOf c b → Agree border a b
+  left_at : (event : Event) (a b : State) → IsOwn c.object c.topology m event → IsBookOf c a → IsBookOf c b → Agree border a b
       → Agree border (effect event a) b × TellsNothing c.object c.topology border (core_of event a)
   left_at event a b own first second agree =
-      let P : Fixed → Type 0 = λ fixed. IsObject fixed.object → IsWellFormed fixed.topology → Agree (around fixed m) a b
+      let P : Fixed → Type 0 = λ fixed. IsOwn fixed.object fixed.topology m event → IsObject fixed.object → IsWellFormed fixed.topology → Agree (around fixed m) a b
       → Agree (around fixed m) (effect event a) b × TellsNothing fixed.object fixed.topology (around fixed m) (core_of event a)
       in
-      subst P first.fixed (λ is formed same. laws.left m event a b own is formed first.sound second.sound same) object chip agree
+      subst P first.fixed (λ mine is formed same. laws.left m event a b mine is formed first.sound second.sound same) own object chip agree
 
   rest_at : (a b : State) → IsBookOf c a → IsBookOf c b → Agree border a b
       → Agree border a (effect Pass b) × TellsNothing c.object c.topology border (core_of Pass b)
@@ -75,7 +76,7 @@ module _ (laws : CoreLaws) (c : Setup) (m : NodeId) (object : IsObject c.object)
 
   -- ---- core steps
 
-  pub cores_beside : (es fs : List Event) (a b : State) → Beside m es fs → IsBookOf c a → IsBookOf c b → Agree border a b
+  pub cores_beside : (es fs : List Event) (a b : State) → Beside c.object c.topology m es fs → IsBookOf c a → IsBookOf c b → Agree border a b
       → AreBeside c m a b (cores_of es a) (cores_of fs b)
   cores_beside _ _ a b none first second agree = no_core a b
   cores_beside _ _ a b (both event es fs later) first second agree =
@@ -91,7 +92,7 @@ module _ (laws : CoreLaws) (c : Setup) (m : NodeId) (object : IsObject c.object)
       rest_core a b (core_of Pass b) (cores_of es a) (cores_of fs (effect Pass b)) refl refl now.0 now.1
       (cores_beside es fs a (effect Pass b) later first (keeps Pass b second) now.0)
 
-  pub agree_after : (es fs : List Event) (a b : State) → Beside m es fs → IsBookOf c a → IsBookOf c b → Agree border a b
+  pub agree_after : (es fs : List Event) (a b : State) → Beside c.object c.topology m es fs → IsBookOf c a → IsBookOf c b → Agree border a b
       → Agree border (book_after es a) (book_after fs b)
   agree_after _ _ a b none first second agree = agree
   agree_after _ _ a b (both event es fs later) first second agree =
@@ -103,13 +104,13 @@ module _ (laws : CoreLaws) (c : Setup) (m : NodeId) (object : IsObject c.object)
 
   -- ---- lines
 
-  pub line_beside : (event : Event) (a b : Stand) → IsBookOf c a.book → IsBookOf c b.book → Agree border a.book b.book
+  pub line_beside : (event : Event) (a b : Stand) → ObeysMasterRules c.topology → IsBookOf c a.book → IsBookOf c b.book → Agree border a.book b.book
       → AreQuietBoxes c m a.boxes b.boxes
       → IsLineBeside c m a.book b.book (line_of c event a) (line_of c (quiet_event m event) b)
-  line_beside event a b first second agree boxes =
+  line_beside event a b rules first second agree boxes =
       let es : List Event = (split c event a).events in
       let fs : List Event = (split c (quiet_event m event) b).events in
-      let beside : IsSplitBeside c.object m (split c event a) (split c (quiet_event m event) b) = splits_beside c m event a b boxes in
+      let beside : IsSplitBeside c.object c.topology m (split c event a) (split c (quiet_event m event) b) = splits_beside c m event a b rules boxes in
       record {
         cores = cores_beside es fs a.book b.book beside.events first second agree;
         agree = agree_after es fs a.book b.book beside.events first second agree;
@@ -117,13 +118,13 @@ module _ (laws : CoreLaws) (c : Setup) (m : NodeId) (object : IsObject c.object)
         busy = beside.busy;
       }
 
-  pub lines_beside : (events : List Event) (a b : Stand) → IsBookOf c a.book → IsBookOf c b.book → Agree border a.book b.book
+  pub lines_beside : (events : List Event) (a b : Stand) → ObeysMasterRules c.topology → IsBookOf c a.book → IsBookOf c b.book → Agree border a.book b.book
       → AreQuietBoxes c m a.boxes b.boxes
       → AreLinesBeside c m a.book b.book (lines_of c events a) (lines_of c (quiet m events) b)
-  lines_beside [] a b first second agree boxes = tt
-  lines_beside (event ∷ events) a b first second agree boxes =
-      let now : IsLineBeside c m a.book b.book (line_of c event a) (line_of c (quiet_event m event) b) = line_beside event a b first second agree boxes in (
+  lines_beside [] a b rules first second agree boxes = tt
+  lines_beside (event ∷ events) a b rules first second agree boxes =
+      let now : IsLineBeside c m a.book b.book (line_of c event a) (line_of c (quiet_event m event) b) = line_beside event a b rules first second agree boxes in (
         now,
-        lines_beside events (line_of c event a).after (line_of c (quiet_event m event) b).after
+        lines_beside events (line_of c event a).after (line_of c (quiet_event m event) b).after rules
             (laws.line c event a chip first) (laws.line c (quiet_event m event) b chip second) now.agree now.boxes,
       )

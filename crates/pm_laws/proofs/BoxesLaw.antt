@@ -7,7 +7,7 @@ use Rattle.std.specs.List.{range_with_len}
 use Rattle.std.proofs.Math.ListN.{length-set}
 use Rattle.std.proofs.lemmas.Bool.{eqb-true}
 use Rattle.pm_base.specs.declared.events.Event.{Event}
-use Rattle.pm_base.specs.declared.events.Event.TheVariants.{Ipi, Pass, Post, Serve}
+use Rattle.pm_base.specs.declared.events.Event.TheVariants.{Ipi, Pass, Post, Serve, Smc}
 use Rattle.pm_base.specs.declared.events.Message.{Message}
 use Rattle.pm_base.specs.declared.names.NodeId.{NodeId}
 use Rattle.pm_base.proofs.Booleans.{differs, equal}
@@ -15,35 +15,39 @@ use Rattle.pm_base.proofs.Searches.{IsFirst, position-first}
 use Rattle.pm_ipi.specs.Mail.{all_empty, box_at, emptied, is_empty, posted}
 use Rattle.pm_object.specs.declared.object.MasterRec.{MasterRec}
 use Rattle.pm_object.specs.declared.object.Object.{Object}
+use Rattle.pm_topology.specs.declared.topology.Topology.{Topology}
+use Rattle.pm_topology.specs.WellFormed.{ObeysMasterRules}
+use Rattle.pm_psci.specs.Lowering.{lowered, or_pass}
 use Rattle.pm_split.specs.Boxes.{Boxes, box_of, sent_by, sent_from, with_bit}
-use Rattle.pm_split.specs.Split.{Split, or_pass, post, split_of}
+use Rattle.pm_split.specs.Split.{Split, call, post, split_of}
 use Rattle.pm_split.specs.Split.Note.{Busy}
 use Rattle.pm_split.proofs.Lists.{all_stay, box_emptied, box_other, set_again, set_either}
 use Rattle.pm_laws.specs.Beside.{Beside, none, both, left, rest}
 use Rattle.pm_laws.specs.Quiet.{quiet_event}
 use Rattle.pm_laws.specs.Worlds.{busy_others, without_box}
+use Rattle.pm_laws.proofs.CallsLeft.{calls_left}
 
 -- ---- lists of core events
 
-module _ (m : NodeId) where
-  pub beside_itself : (es : List Event) → Beside m es es
+module _ (object : Object) (t : Topology) (m : NodeId) where
+  pub beside_itself : (es : List Event) → Beside object t m es es
   beside_itself [] = none
   beside_itself (event ∷ es) = both event es es (beside_itself es)
 
-  beside_append : (es fs later others : List Event) → Beside m es fs → Beside m later others → Beside m (es ++ later) (fs ++ others)
+  beside_append : (es fs later others : List Event) → Beside object t m es fs → Beside object t m later others → Beside object t m (es ++ later) (fs ++ others)
   beside_append _ _ later others none beside = beside
   beside_append _ _ later others (both event es fs first) beside = both event (es ++ later) (fs ++ others) (beside_append es fs later others first beside)
   beside_append _ _ later others (left event es fs own first) beside = left event (es ++ later) (fs ++ others) own (beside_append es fs later others first beside)
   beside_append _ _ later others (rest es fs first) beside = rest (es ++ later) (fs ++ others) (beside_append es fs later others first beside)
 
   -- a Pass is the only event of the quiet line where all others are the master's
-  rest_alone : (es fs : List Event) → fs ≡ [] → Beside m es fs → Beside m es (Pass ∷ [])
+  rest_alone : (es fs : List Event) → fs ≡ [] → Beside object t m es fs → Beside object t m es (Pass ∷ [])
   rest_alone _ _ is none = rest [] [] none
   rest_alone _ _ is (both event es fs later) = cc
   rest_alone _ _ is (left event es fs own later) = left event es (Pass ∷ []) own (rest_alone es fs is later)
   rest_alone _ _ is (rest es fs later) = cc
 
-  or_pass_beside : (es fs : List Event) → Beside m es fs → Beside m (or_pass es) (or_pass fs)
+  or_pass_beside : (es fs : List Event) → Beside object t m es fs → Beside object t m (or_pass es) (or_pass fs)
   or_pass_beside _ _ none = both Pass [] [] none
   or_pass_beside _ _ (both event es fs later) = both event es fs later
   or_pass_beside _ _ (left event es [] own later) = left event es (Pass ∷ []) own (rest_alone es [] refl later)
@@ -52,14 +56,14 @@ module _ (m : NodeId) where
   or_pass_beside _ _ (rest (e ∷ es) fs later) = rest (e ∷ es) fs later
 
 -- what is split of a line in the two worlds
-pub record IsSplitBeside (object : Object) (m : NodeId) (x y : Split) : Type 0 where
-  pub events : Beside m x.events y.events
+pub record IsSplitBeside (object : Object) (t : Topology) (m : NodeId) (x y : Split) : Type 0 where
+  pub events : Beside object t m x.events y.events
   pub boxes : y.boxes ≡ without_box (box_of object m) x.boxes
   pub busy : busy_others m x.notes ≡ busy_others m y.notes
 
 -- ---- boxes
 
-module _ (object : Object) (m : NodeId) where
+module _ (object : Object) (t : Topology) (m : NodeId) where
   -- the master at the place of a node has its number
   at_place : (node : NodeId) (k : ℕ) → box_of object node ≡ Some k → (r : MasterRec) × (slice_get object.masters k ≡ Some r) × (r.node ≡ node.0)
   at_place node k is =
@@ -78,33 +82,33 @@ module _ (object : Object) (m : NodeId) where
     -- ---- the messages that are served
 
     -- the message of the master is in the loud world alone
-    own_sent : (r : MasterRec) (held : Option Message) → r.node ≡ m.0 → Beside m (sent_by (Some r) held) (sent_by (Some r) None)
+    own_sent : (r : MasterRec) (held : Option Message) → r.node ≡ m.0 → Beside object t m (sent_by (Some r) held) (sent_by (Some r) None)
     own_sent r None is = none
     own_sent r (Some message) is = left (Ipi (record { 0 = r.node }) message) [] [] is none
 
     sent_at : (k j : ℕ) (same : Bool) → (k == j) ≡ same → box_of object m ≡ Some k
-        → Beside m (sent_from object loud (Some j)) (sent_from object (emptied k loud) (Some j))
+        → Beside object t m (sent_from object loud (Some j)) (sent_from object (emptied k loud) (Some j))
     sent_at k j true same is =
         let place : k ≡ j = eqb-true k j same in
         let there = at_place m k is in
-        let P : Option MasterRec → Type 0 = λ found. Beside m (sent_by found (box_at k loud)) (sent_by found None) in
-        let Q : Option Message → Type 0 = λ held. Beside m (sent_by (slice_get object.masters k) (box_at k loud)) (sent_by (slice_get object.masters k) held) in
-        let R : ℕ → Type 0 = λ place. Beside m (sent_from object loud (Some place)) (sent_from object (emptied k loud) (Some place)) in
+        let P : Option MasterRec → Type 0 = λ found. Beside object t m (sent_by found (box_at k loud)) (sent_by found None) in
+        let Q : Option Message → Type 0 = λ held. Beside object t m (sent_by (slice_get object.masters k) (box_at k loud)) (sent_by (slice_get object.masters k) held) in
+        let R : ℕ → Type 0 = λ place. Beside object t m (sent_from object loud (Some place)) (sent_from object (emptied k loud) (Some place)) in
         subst R place (subst Q (sym (box_emptied k loud)) (subst P (sym there.1) (own_sent there.0 (box_at k loud) there.2)))
     sent_at k j false other is =
-        let P : Option Message → Type 0 = λ held. Beside m (sent_from object loud (Some j)) (sent_by (slice_get object.masters j) held) in
-        subst P (sym (box_other k j loud (differs k j other))) (beside_itself m (sent_from object loud (Some j)))
+        let P : Option Message → Type 0 = λ held. Beside object t m (sent_from object loud (Some j)) (sent_by (slice_get object.masters j) held) in
+        subst P (sym (box_other k j loud (differs k j other))) (beside_itself object t m (sent_from object loud (Some j)))
 
-    sent_beside : (mine place : Option ℕ) → box_of object m ≡ mine → Beside m (sent_from object loud place) (sent_from object (without_box mine loud) place)
-    sent_beside None place is = beside_itself m (sent_from object loud place)
+    sent_beside : (mine place : Option ℕ) → box_of object m ≡ mine → Beside object t m (sent_from object loud place) (sent_from object (without_box mine loud) place)
+    sent_beside None place is = beside_itself object t m (sent_from object loud place)
     sent_beside (Some k) None is = none
     sent_beside (Some k) (Some j) is = sent_at k j (k == j) refl is
 
     all_sent : (mine : Option ℕ) (bits : List ℕ) → box_of object m ≡ mine
-        → Beside m (flat_map (λ k. sent_from object loud (with_bit object k)) bits) (flat_map (λ k. sent_from object (without_box mine loud) (with_bit object k)) bits)
+        → Beside object t m (flat_map (λ k. sent_from object loud (with_bit object k)) bits) (flat_map (λ k. sent_from object (without_box mine loud) (with_bit object k)) bits)
     all_sent mine [] is = none
     all_sent mine (bit ∷ bits) is =
-        beside_append m _ _ _ _ (sent_beside mine (with_bit object bit) is) (all_sent mine bits is)
+        beside_append object t m _ _ _ _ (sent_beside mine (with_bit object bit) is) (all_sent mine bits is)
 
     -- ---- the boxes
 
@@ -143,11 +147,11 @@ module _ (object : Object) (m : NodeId) where
       post_notes (Some j) (Some k) first second other =
           ap (λ (empty : Bool). if empty then [] else Busy node ∷ []) (still_empty k j (other_places node j k first second other))
 
-      post_beside : (place mine : Option ℕ) → Beside m (post place node message loud).events (post place node message (without_box mine loud)).events
+      post_beside : (place mine : Option ℕ) → Beside object t m (post place node message loud).events (post place node message (without_box mine loud)).events
       post_beside None mine = both (Ipi node message) [] [] none
       post_beside (Some j) mine = both Pass [] [] none
 
-    own_beside : (place : Option ℕ) (message : Message) → Beside m (post place m message loud).events (Pass ∷ [])
+    own_beside : (place : Option ℕ) (message : Message) → Beside object t m (post place m message loud).events (Pass ∷ [])
     own_beside None message = left (Ipi m message) [] (Pass ∷ []) refl (rest [] [] none)
     own_beside (Some k) message = both Pass [] [] none
 
@@ -157,7 +161,7 @@ module _ (object : Object) (m : NodeId) where
 
     own_busy : (empty : Bool) → busy_others m (if empty then [] else Busy m ∷ []) ≡ []
     own_busy true = refl
-    own_busy false = ap (λ (t : Bool). (if t then [] else m ∷ []) ++ []) (equal m.0 m.0 refl)
+    own_busy false = ap (λ (own : Bool). (if own then [] else m ∷ []) ++ []) (equal m.0 m.0 refl)
 
     own_notes : (place : Option ℕ) (message : Message) → busy_others m (post place m message loud).notes ≡ []
     own_notes None message = refl
@@ -173,9 +177,9 @@ module _ (object : Object) (m : NodeId) where
     quiet_boxes = without_box (box_of object m) loud
 
     post_split : (node : NodeId) (message : Message) (mine : Bool) → (node.0 == m.0) ≡ mine
-        → IsSplitBeside object m (split_of object (Post node message) loud) (split_of object (if mine then Pass else Post node message) quiet_boxes)
+        → IsSplitBeside object t m (split_of object t (Post node message) loud) (split_of object t (if mine then Pass else Post node message) quiet_boxes)
     post_split node message true is =
-        let P : ℕ → Type 0 = λ number. IsSplitBeside object m (split_of object (Post (record { 0 = number }) message) loud) (split_of object Pass quiet_boxes) in
+        let P : ℕ → Type 0 = λ number. IsSplitBeside object t m (split_of object t (Post (record { 0 = number }) message) loud) (split_of object t Pass quiet_boxes) in
         subst P (sym (eqb-true node.0 m.0 is)) (record {
           events = own_beside (box_of object m) message;
           boxes = own_boxes (box_of object m) message;
@@ -190,20 +194,27 @@ module _ (object : Object) (m : NodeId) where
         }
 
     sent_split : (node : NodeId) (message : Message) (mine : Bool) → (node.0 == m.0) ≡ mine
-        → IsSplitBeside object m (split_of object (Ipi node message) loud) (split_of object (if mine then Pass else Ipi node message) quiet_boxes)
+        → IsSplitBeside object t m (split_of object t (Ipi node message) loud) (split_of object t (if mine then Pass else Ipi node message) quiet_boxes)
     sent_split node message true is =
         record { events = left (Ipi node message) [] (Pass ∷ []) (eqb-true node.0 m.0 is) (rest [] [] none); boxes = refl; busy = refl }
     sent_split node message false is = record { events = both (Ipi node message) [] [] none; boxes = refl; busy = refl }
 
-    pub split_beside : (event : Event) → IsSplitBeside object m (split_of object event loud) (split_of object (quiet_event m event) quiet_boxes)
-    split_beside (Post node message) = post_split node message (node.0 == m.0) refl
-    split_beside (Ipi node message) = sent_split node message (node.0 == m.0) refl
-    split_beside Serve = record {
-      events = or_pass_beside m _ _ (all_sent (box_of object m) (range_with_len 0 (32 - 0)) refl);
+    -- a power call: where the master is 1 all that it comes to is the master's, and else the same in both worlds
+    call_split : (rules : ObeysMasterRules t) (proc : NodeId) (function : ℕ) (args : List ℕ) (mine : Bool) → (m.0 == 1) ≡ mine
+        → IsSplitBeside object t m (split_of object t (Smc proc function args) loud) (split_of object t (if mine then Pass else Smc proc function args) quiet_boxes)
+    call_split rules proc function args true is = record { events = calls_left object t m rules (eqb-true m.0 1 is) (call proc function args); boxes = refl; busy = refl }
+    call_split rules proc function args false is = record { events = beside_itself object t m (lowered t (call proc function args)); boxes = refl; busy = refl }
+
+    pub split_beside : ObeysMasterRules t → (event : Event) → IsSplitBeside object t m (split_of object t event loud) (split_of object t (quiet_event m event) quiet_boxes)
+    split_beside rules (Smc proc function args) = call_split rules proc function args (m.0 == 1) refl
+    split_beside rules (Post node message) = post_split node message (node.0 == m.0) refl
+    split_beside rules (Ipi node message) = sent_split node message (node.0 == m.0) refl
+    split_beside rules Serve = record {
+      events = or_pass_beside object t m _ _ (all_sent (box_of object m) (range_with_len 0 (32 - 0)) refl);
       boxes = serve_boxes (box_of object m);
       busy = refl;
     }
-    split_beside event = record { events = both event [] [] none; boxes = refl; busy = refl }
+    split_beside rules event = record { events = both event [] [] none; boxes = refl; busy = refl }
 
 -- at load all boxes are empty in both worlds
 pub load_boxes : (object : Object) (m : NodeId) (n : ℕ) → all_empty n ≡ without_box (box_of object m) (all_empty n)

@@ -7,6 +7,7 @@ pub mod BoxesLaw
 pub mod CallbacksLaw
 pub mod CallsAlike
 pub mod CallsHidden
+pub mod CallsLeft
 pub mod ChangesLaw
 pub mod DownHidden
 pub mod EndsLaw

@@ -1,6 +1,6 @@
 -- Two core steps tell the same where their outboxes hold what two core steps that tell the same put out.
 use Rattle.std.proofs.Common.{◌≡◌, ◌∙◌, ap, sym}
-use Rattle.pm_laws.proofs.Common.{Border, Event, NodeId, State, effect, ended, ends_beyond, outputs}
+use Rattle.pm_laws.proofs.Common.{Border, Event, NodeId, Object, State, Topology, effect, ended, ends_beyond, outputs}
 use Rattle.pm_core.specs.declared.outbox.Outbox.{Outbox}
 use Rattle.pm_tell.specs.Callbacks.{late_replies}
 use Rattle.pm_core.specs.Outbox.{Holds}
@@ -9,7 +9,7 @@ use Rattle.pm_laws.specs.Answers.{is_dropped}
 use Rattle.pm_laws.specs.Callbacks.{callbacks_beyond}
 use Rattle.pm_laws.specs.Left.{border_in, stepped}
 use Rattle.pm_laws.specs.Pulse.{pulse_beyond}
-use Rattle.pm_laws.specs.Told.{SameTold}
+use Rattle.pm_laws.specs.Told.{SameTold, TellsNothing}
 use Rattle.pm_laws.specs.Values.{moves_beyond, starts_beyond}
 
 pub both_stepped : (a b : State) (event other : Event) (m : NodeId) (x y : State) (oa ob : Outbox)
@@ -34,3 +34,15 @@ both_stepped a b event other m x y oa ob first second held_a held_b same =
       drop = λ beyond. ap is_dropped held_a.answer ∙ same.drop beyond ∙ sym (ap is_dropped held_b.answer);
       answer = λ beyond. held_a.answer ∙ same.answer beyond ∙ sym held_b.answer;
     }
+
+pub nothing_stepped : (object : Object) (t : Topology) (border : Border) (a : State) (event : Event) (x : State) (out : Outbox)
+    → x ≡ effect event a → Holds (outputs event a) out → TellsNothing object t border (core_of event a) → TellsNothing object t border (stepped event a x out)
+nothing_stepped object t border a event x out is held none = record {
+  moves = ap (moves_beyond object t border) held.moved ∙ none.moves;
+  starts = ap (starts_beyond object t border) held.starts ∙ none.starts;
+  pulse = ap (pulse_beyond t border) held.pulse ∙ none.pulse;
+  asked = none.asked;
+  ends = none.ends;
+  late = ap (λ (s : State). late_replies (ends_beyond border (ended event a)) s) is ∙ none.late;
+  callbacks = ap (callbacks_beyond object border) held.callbacks ∙ none.callbacks;
+}

@@ -1,12 +1,15 @@
 -- One core step in two books that agree beyond the reach of a master, without its message in one of them.
-use Rattle.std.proofs.Common.{◌≡◌, ℕ, ◌==◌, Bool, true, false, not, if◌then◌else◌, position, Option, None, Some, refl, ap, sym, ◌∙◌, subst}
+use Rattle.std.proofs.Common.{◌≡◌, ℕ, ◌==◌, Bool, true, false, not, if◌then◌else◌, option_and_then, position, List, Option, None, Some, refl, ap, sym, ◌∙◌, subst}
 use Rattle.std.specs.List.{list_any}
 use Rattle.std.proofs.lemmas.Bool.{eqb-true}
-use Rattle.pm_laws.proofs.Common.{Agree, BelowLaws, Border, Event, Fixed, Ipi, IsClosed, IsObject, IsSound, IsWellFormed, MasterRec, NodeId, Object, Pass, State, Topology, border_of, effect, is_hidden, is_within, master_place, none_within, place_of}
-use Rattle.pm_base.specs.declared.events.Event.TheVariants.{Post}
+use Rattle.pm_laws.proofs.Common.{Agree, BelowLaws, Border, Event, Fixed, Ipi, IsClosed, IsKind, IsObject, IsSound, IsWellFormed, Kind, MasterRec, NodeId, Object, Pass, Power, Slave, State, Topology, Unknown, Wfi, border_of, effect, is_hidden, is_within, kind_of, master_place, none_within, owner_by, place_of}
+use Rattle.pm_base.specs.declared.events.Event.TheVariants.{Post, Smc}
 use Rattle.pm_base.specs.declared.events.Message.{Message}
 use Rattle.pm_base.proofs.Booleans.{both}
+use Rattle.pm_perms.specs.Owner.{owner}
 use Rattle.pm_reach.proofs.MembershipLaw.{is_there}
+use Rattle.pm_topology.specs.declared.places.Kind.TheVariants.{Proc}
+use Rattle.pm_topology.specs.declared.topology.ProcDef.{ProcDef}
 use Rattle.pm_run.specs.Run.{core_of}
 use Rattle.pm_laws.specs.Beside.{IsOwn}
 use Rattle.pm_laws.specs.Left.{border_in}
@@ -25,7 +28,7 @@ pub record ReachLaws : Type 0 where
 
 -- what holds of each event in both, and of a message of the master, sent or put into its box, in the one and nothing in the other
 module _ (m : NodeId) (R : Event → Event → Type 0) (same : (event : Event) → R event event) (own : (message : Message) → R (Ipi m message) Pass)
-    (put : (message : Message) → R (Post m message) Pass) where
+    (put : (message : Message) → R (Post m message) Pass) (called : (proc : NodeId) (function : ℕ) (args : List ℕ) → R (Smc proc function args) Pass) where
   message_by : (master : NodeId) (message : Message) (mine : Bool) → (master.0 == m.0) ≡ mine
       → R (Ipi master message) (if mine then Pass else Ipi master message)
   message_by master message true is =
@@ -40,9 +43,14 @@ module _ (m : NodeId) (R : Event → Event → Type 0) (same : (event : Event) �
       subst P (sym (eqb-true master.0 m.0 is)) (put message)
   post_by master message false is = same (Post master message)
 
+  call_by : (proc : NodeId) (function : ℕ) (args : List ℕ) (mine : Bool) → R (Smc proc function args) (if mine then Pass else Smc proc function args)
+  call_by proc function args true = called proc function args
+  call_by proc function args false = same (Smc proc function args)
+
   pub by_quiet : (event : Event) → R event (quiet_event m event)
   by_quiet (Ipi master message) = message_by master message (master.0 == m.0) refl
   by_quiet (Post master message) = post_by master message (master.0 == m.0) refl
+  by_quiet (Smc proc function args) = call_by proc function args (m.0 == 1)
   by_quiet event = same event
 
 -- a master of the object is within its own reach, so that none of its messages is of a master beyond
@@ -55,11 +63,24 @@ within_itself border None there within beyond = there refl
 within_itself border (Some k) there within beyond = not_beyond (border.master k) within beyond
 
 module _ (reach : ReachLaws) (laws : BelowLaws) (m : NodeId) where
-  -- the messages of a master are hidden from beyond its reach
-  own_hidden : (event : Event) (a : State) → IsOwn m event → is_hidden (border_in a m) event a ≡ true
+  -- the owner of a processor is that of its number, and what is no processor is nobody's
+  owned_hidden : (a : State) (proc : NodeId) (kind : Kind) → IsKind a.fixed.topology proc kind
+      → owner a.fixed.object a.fixed.topology proc ≡ place_of a.fixed.object m → is_within (border_in a m) (owner_by kind a) ≡ true
+  owned_hidden a proc (Proc p) there is =
+      ap (is_within (border_in a m))
+      (ap (λ (found : Option ProcDef). option_and_then (λ (def : ProcDef). owner a.fixed.object a.fixed.topology def.node) found) there.1
+      ∙ (ap (λ (n : ℕ). owner a.fixed.object a.fixed.topology (record { 0 = n })) there.2 ∙ is))
+      ∙ reach.own m a
+  owned_hidden a proc (Slave s) there is = refl
+  owned_hidden a proc (Power w) there is = refl
+  owned_hidden a proc Unknown there is = refl
+
+  -- the messages of a master, and the waits of its processors, are hidden from beyond its reach
+  own_hidden : (event : Event) (a : State) → IsOwn a.fixed.object a.fixed.topology m event → is_hidden (border_in a m) event a ≡ true
   own_hidden (Ipi master message) a is =
       message_within (border_in a m) master message a
       (ap (λ (n : ℕ). is_within (border_in a m) (position (λ (r : MasterRec). r.node == n) a.fixed.object.masters)) is ∙ reach.own m a)
+  own_hidden (Wfi proc) a is = owned_hidden a proc (kind_of a.fixed.topology proc) (laws.kinds.is a.fixed.topology proc) is
   own_hidden event a is = absurd is
 
   module _ (a b : State) (object : IsObject a.fixed.object) (chip : IsWellFormed a.fixed.topology) (sound_a : IsSound a) (sound_b : IsSound b) (agree : Agree (border_in a m) a b) where
@@ -79,7 +100,7 @@ module _ (reach : ReachLaws) (laws : BelowLaws) (m : NodeId) where
       same_told laws edge event a b closed_a sound_a sound_b agree object chip,
     )
 
-    pub left_apart : (event : Event) → IsOwn m event → Agree edge (effect event a) b
+    pub left_apart : (event : Event) → IsOwn a.fixed.object a.fixed.topology m event → Agree edge (effect event a) b
         × TellsNothing a.fixed.object a.fixed.topology edge (core_of event a)
     left_apart event own =
         let is = own_hidden event a own in (
@@ -112,6 +133,7 @@ agree_quiet reach laws m event a b object chip sound_a sound_b agree =
     agree_trans (border_in a m) (effect (Ipi m message) a) a (effect Pass b)
     (left_apart reach laws m a a object chip sound_a sound_a itself (Ipi m message) refl).0 still)
     (λ message. (both_apart reach laws m a b object chip sound_a sound_b agree Pass).0)
+    (λ proc function args. (both_apart reach laws m a b object chip sound_a sound_b agree Pass).0)
     event
 
 pub told_quiet : ReachLaws → BelowLaws → (m : NodeId) (event : Event) (a b : State) → IsObject a.fixed.object → IsWellFormed a.fixed.topology
@@ -139,6 +161,19 @@ told_quiet reach laws m event a b object chip named sound_a sound_b agree =
       answer = λ beyond. absurd (own_beyond (both _ _ beyond).0);
     })
     (λ message.
+    let first = (both_apart reach laws m a b object chip sound_a sound_b agree Pass).1 in
+    record {
+      moves = first.moves;
+      starts = first.starts;
+      pulse = first.pulse;
+      asked = first.asked;
+      ends = first.ends;
+      late = first.late;
+      callbacks = first.callbacks;
+      drop = first.drop;
+      answer = first.answer;
+    })
+    (λ proc function args.
     let first = (both_apart reach laws m a b object chip sound_a sound_b agree Pass).1 in
     record {
       moves = first.moves;

@@ -2,26 +2,31 @@
 -- of a master, and what in the quiet one, which doesn't. They need not be equally long.
 use Rattle.std.specs.Prelude.{◌≡◌, List, [], ◌∷◌}
 use Rattle.pm_base.specs.declared.events.Event.{Event}
-use Rattle.pm_base.specs.declared.events.Event.TheVariants.{Ipi, Pass}
+use Rattle.pm_base.specs.declared.events.Event.TheVariants.{Ipi, Pass, Wfi}
 use Rattle.pm_base.specs.declared.names.NodeId.{NodeId}
+use Rattle.pm_object.specs.declared.object.Object.{Object}
+use Rattle.pm_topology.specs.declared.topology.Topology.{Topology}
+use Rattle.pm_perms.specs.Owner.{owner}
 use Rattle.pm_state.specs.State.{State}
 use Rattle.pm_run.specs.Run.{Core, Setup}
 use Rattle.pm_laws.specs.Agree.{Agree}
-use Rattle.pm_laws.specs.ReachBorder.{border_of}
+use Rattle.pm_laws.specs.ReachBorder.{border_of, place_of}
 use Rattle.pm_laws.specs.Told.{SameTold, TellsNothing}
 
--- the event is a message of this master
-abbrev pub IsOwn : NodeId → Event → Type 0
-IsOwn m (Ipi master message) = master.0 ≡ m.0
-IsOwn m _ = ⊥
+-- the event is a message of this master, or a processor of it waits for an interrupt
+abbrev pub IsOwn : Object → Topology → NodeId → Event → Type 0
+IsOwn object t m (Ipi master message) = master.0 ≡ m.0
+IsOwn object t m (Wfi proc) = owner object t proc ≡ place_of object m
+IsOwn object t m _ = ⊥
 
 -- of two lists of core events each event is in both, or it is the master's and in the first alone, or it is a Pass and in the
 -- second alone
-pub data Beside (m : NodeId) : List Event → List Event → Type 0 where
-  none : Beside m [] []
-  both : (event : Event) (es fs : List Event) → Beside m es fs → Beside m (event ∷ es) (event ∷ fs)
-  left : (event : Event) (es fs : List Event) → IsOwn m event → Beside m es fs → Beside m (event ∷ es) fs
-  rest : (es fs : List Event) → Beside m es fs → Beside m es (Pass ∷ fs)
+pub data Beside (object : Object) (t : Topology) (m : NodeId) : List Event → List Event → Type 0 where
+  none : Beside object t m [] []
+  both : (event : Event) (es fs : List Event) → Beside object t m es fs → Beside object t m (event ∷ es) (event ∷ fs)
+  left : (event : Event) (es fs : List Event) → IsOwn object t m event → Beside object t m es fs
+      → Beside object t m (event ∷ es) fs
+  rest : (es fs : List Event) → Beside object t m es fs → Beside object t m es (Pass ∷ fs)
 
 -- the same of core steps, from these two books on. After each of them the books of the two worlds agree beyond the reach of the
 -- master. What is in both tells the same there, and what is in one alone tells nothing
@@ -33,7 +38,7 @@ pub data AreBeside (c : Setup) (m : NodeId) : State → State → List Core → 
       → SameTold c.object c.topology (border_of c.object c.topology m) x y
       → AreBeside c m x.after y.after xs ys → AreBeside c m a b (x ∷ xs) (y ∷ ys)
   left_core : (a b : State) (x : Core) (xs ys : List Core)
-      → IsOwn m x.event → x.before ≡ a
+      → IsOwn c.object c.topology m x.event → x.before ≡ a
       → Agree (border_of c.object c.topology m) x.after b
       → TellsNothing c.object c.topology (border_of c.object c.topology m) x
       → AreBeside c m x.after b xs ys → AreBeside c m a b (x ∷ xs) ys

@@ -6,7 +6,7 @@ ghost use Rattle.pm_base.specs.declared.events.Event.{Event};
 ghost use Rattle.pm_base.specs.declared.events.Event.TheVariants.{Pass};
 ghost use Rattle.pm_base.specs.declared.names.NodeId.{NodeId};
 ghost use Rattle.pm_object.specs.Grammar.{IsObject};
-ghost use Rattle.pm_topology.specs.WellFormed.{IsWellFormed};
+ghost use Rattle.pm_topology.specs.WellFormed.{IsWellFormed, ObeysMasterRules};
 ghost use Rattle.pm_state.specs.Sound.{IsSound};
 ghost use Rattle.pm_state.specs.State.{State};
 ghost use Rattle.pm_core.specs.Step.{effect};
@@ -24,9 +24,10 @@ use crate::laws::{books_agree, laws_below, reach_is_closed};
 use pm_run::books_of_a_run;
 
 /// Two books that agree beyond the reach of a master have the same values and modes there. They agree after an event in
-/// both, and then the same is told there. A message of the master in one alone leaves them in agreement, and tells nothing
-/// there; and so does a Pass. So they agree after an event in the one, and in the other the same event, or nothing where it
-/// is a message of that master; and where the object has the master, the same is told there by both.
+/// both, and then the same is told there. A message of the master in one alone leaves them in agreement, and tells
+/// nothing there; and so does the wait of a processor of it, or a Pass. So they agree after an event in the one, and in
+/// the other the same event, or nothing where it is a message of that master; and where the object has the master, the
+/// same is told there by both.
 pub fn steps_keep_apart()
     ensures values { (m : NodeId) (a b : State) → IsObject a.fixed.object → IsWellFormed a.fixed.topology
         → Agree (border_in a m) a b → IsValueAlike a.fixed.object a.fixed.topology (border_in a m) a b }
@@ -36,8 +37,8 @@ pub fn steps_keep_apart()
         → IsSound a → IsSound b → Agree (border_in a m) a b
         → Agree (border_in a m) (effect event a) (effect event b)
         × SameTold a.fixed.object a.fixed.topology (border_in a m) (core_of event a) (core_of event b) }
-    ensures left { (m : NodeId) (event : Event) (a b : State) → IsOwn m event → IsObject a.fixed.object
-        → IsWellFormed a.fixed.topology → IsSound a → IsSound b → Agree (border_in a m) a b
+    ensures left { (m : NodeId) (event : Event) (a b : State) → IsOwn a.fixed.object a.fixed.topology m event
+        → IsObject a.fixed.object → IsWellFormed a.fixed.topology → IsSound a → IsSound b → Agree (border_in a m) a b
         → Agree (border_in a m) (effect event a) b
         × TellsNothing a.fixed.object a.fixed.topology (border_in a m) (core_of event a) }
     ensures rest { (m : NodeId) (a b : State) → IsObject a.fixed.object → IsWellFormed a.fixed.topology
@@ -56,25 +57,28 @@ pub fn steps_keep_apart()
     reach_is_closed();
 }
 
-/// Nothing that a master sends or puts into its box changes what is beyond its reach. The boxes of the two worlds are the
-/// same but for its own, which stays empty in the quiet one. So the core events of a script line, and of the same line
-/// without a message of the master, are beside one another, and then so are their core steps, from books that agree beyond
-/// the reach: what is in both tells the same there, and what is in one alone tells nothing. So a run, and the run without the
-/// messages of the master, are beside one another line by line; and line by line the same moves, starts, is pulsed, is asked
-/// of masters beyond, ends, is replied late and is called back, the same messages of others are dropped, and those that name
-/// nothing within are answered the same.
+/// Nothing that a master sends or puts into its box changes what is beyond its reach, and no power call does that is
+/// lowered to messages of it: no processor of it is another master's by the rules on masters. The boxes of the two
+/// worlds are the same but for its own, which stays empty in the quiet one. So the core events of a script line, and of
+/// the same line without a message of the master, are beside one another, and then so are their core steps, from books
+/// that agree beyond the reach: what is in both tells the same there, and what is in one alone tells nothing. So a run,
+/// and the run without the messages of the master, are beside one another line by line; and line by line the same
+/// moves, starts, is pulsed, is asked of masters beyond, ends, is replied late and is called back, the same messages of
+/// others are dropped, and those that name nothing within are answered the same.
 pub fn reach_keeps_apart()
-    ensures events { (c : Setup) (m : NodeId) (event : Event) (a b : Stand) → AreQuietBoxes c m a.boxes b.boxes
-        → Beside m (split c event a).events (split c (quiet_event m event) b).events }
-    ensures boxes { (c : Setup) (m : NodeId) (event : Event) (a b : Stand) → AreQuietBoxes c m a.boxes b.boxes
+    ensures events { (c : Setup) (m : NodeId) (event : Event) (a b : Stand) → ObeysMasterRules c.topology
+        → AreQuietBoxes c m a.boxes b.boxes
+        → Beside c.object c.topology m (split c event a).events (split c (quiet_event m event) b).events }
+    ensures boxes { (c : Setup) (m : NodeId) (event : Event) (a b : Stand) → ObeysMasterRules c.topology
+        → AreQuietBoxes c m a.boxes b.boxes
         → AreQuietBoxes c m (split c event a).boxes (split c (quiet_event m event) b).boxes }
     ensures cores { (c : Setup) (m : NodeId) (es fs : List Event) (a b : State) → IsObject c.object
         → IsWellFormed c.topology
-        → Beside m es fs → IsBookOf c a → IsBookOf c b → Agree (border_of c.object c.topology m) a b
+        → Beside c.object c.topology m es fs → IsBookOf c a → IsBookOf c b → Agree (border_of c.object c.topology m) a b
         → AreBeside c m a b (cores_of es a) (cores_of fs b) }
     ensures after { (c : Setup) (m : NodeId) (es fs : List Event) (a b : State) → IsObject c.object
         → IsWellFormed c.topology
-        → Beside m es fs → IsBookOf c a → IsBookOf c b → Agree (border_of c.object c.topology m) a b
+        → Beside c.object c.topology m es fs → IsBookOf c a → IsBookOf c b → Agree (border_of c.object c.topology m) a b
         → Agree (border_of c.object c.topology m) (book_after es a) (book_after fs b) }
     ensures line { (c : Setup) (m : NodeId) (event : Event) (a b : Stand) → IsObject c.object → IsWellFormed c.topology
         → IsBookOf c a.book → IsBookOf c b.book → Agree (border_of c.object c.topology m) a.book b.book

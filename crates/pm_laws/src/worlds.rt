@@ -2,20 +2,23 @@
 
 ghost use Rattle.std.specs.List.{list_any};
 ghost use Rattle.std.specs.Prelude.{◌≡◌, ◌==◌, IsTrue};
+ghost use Rattle.pm_base.specs.declared.events.Event.TheVariants.{Pass};
 ghost use Rattle.pm_object.specs.Grammar.{IsObject};
 ghost use Rattle.pm_core.specs.Outbox.{HasRoomFor, Holds, KeepsRoom};
 ghost use Rattle.pm_core.specs.Step.{effect, outputs};
 ghost use Rattle.pm_laws.specs.Agree.{Agree};
+ghost use Rattle.pm_laws.specs.Beside.{IsOwn};
 ghost use Rattle.pm_laws.specs.Left.{border_in, stepped};
 ghost use Rattle.pm_laws.specs.Quiet.{quiet_event};
-ghost use Rattle.pm_laws.specs.Told.{SameTold};
+ghost use Rattle.pm_laws.specs.Told.{SameTold, TellsNothing};
 ghost use Rattle.pm_laws.specs.Values.{IsModeAlike, IsValueAlike};
 
 use crate::apart::steps_keep_apart;
 use pm_base::{Event, NodeId};
 use pm_core::{Book, Outbox};
 
-/// The event, or nothing where it is a message of the master.
+/// The event, or nothing where it is a message of the master, sent or put into its box, or a power call, which comes to
+/// messages of master 1.
 pub fn quiet_event(m: NodeId, event: &Event) -> Event
     ensures { result ≡ quiet_event m event.now }
 {
@@ -23,6 +26,7 @@ pub fn quiet_event(m: NodeId, event: &Event) -> Event
         Event::Ipi { master, .. } | Event::Post { master, .. } => {
             if master.0 == m.0 { Event::Pass } else { *event }
         }
+        Event::Smc { .. } => { if m.0 == 1 { Event::Pass } else { *event } }
         _ => *event,
     }
 }
@@ -76,4 +80,53 @@ pub fn step_both(
     let other = quiet_event(m, event);
     a.step(event, oa);
     b.step(&other, ob);
+}
+
+/// One core event of a master's own in the one of two books, a message of it or the wait of a processor of it, and
+/// nothing in the other. The books have one object, which is well formed, and one chip, and agree beyond the reach of
+/// the master; both outboxes were loaded for them. What is beyond that reach can't tell the two apart: the books have
+/// the same values and modes there, and neither step tells anything there. No memory is taken.
+///
+/// Each outbox has the room that it had, which is that of the books' chip and masters.
+pub fn step_left(
+    a: &mut Book,
+    b: &mut Book,
+    m: NodeId,
+    own_event: &Event,
+    oa: &mut Outbox,
+    ob: &mut Outbox,
+)
+    requires object { IsObject a.old.fixed.object }
+    requires own { IsOwn a.old.fixed.object a.old.fixed.topology m own_event.now }
+    requires agree { Agree (border_in a.old m) a.old b.old }
+    requires room_a { HasRoomFor a.old oa.old }
+    requires room_b { HasRoomFor b.old ob.old }
+
+    // Each book is stepped, and its outbox holds what the step puts out.
+    ensures book_a { a.new ≡ effect own_event.now a.old }
+    ensures book_b { b.new ≡ effect Pass b.old }
+    ensures out_a { Holds (outputs own_event.now a.old) oa.new }
+    ensures out_b { Holds (outputs Pass b.old) ob.new }
+
+    // They have one object and one chip as before, and agree beyond the reach.
+    ensures fixed { a.new.fixed ≡ a.old.fixed }
+    ensures agree { Agree (border_in a.old m) a.new b.new }
+    // The same beyond the reach, and nothing is told there.
+    ensures values { IsValueAlike a.old.fixed.object a.old.fixed.topology (border_in a.old m) a.new b.new }
+    ensures modes { IsModeAlike a.old.fixed.object a.old.fixed.topology (border_in a.old m) a.new b.new }
+    ensures told_a { TellsNothing a.old.fixed.object a.old.fixed.topology (border_in a.old m)
+        (stepped own_event.now a.old a.new oa.new) }
+    ensures told_b { TellsNothing a.old.fixed.object a.old.fixed.topology (border_in a.old m)
+        (stepped Pass b.old b.new ob.new) }
+    ensures kept_a { KeepsRoom oa.old oa.new }
+    ensures kept_b { KeepsRoom ob.old ob.new }
+    ensures ready_a { HasRoomFor a.new oa.new }
+    ensures ready_b { HasRoomFor b.new ob.new }
+{
+    steps_keep_apart();
+    a.stays_sound();
+    b.stays_sound();
+    b.step(&Event::Pass, ob);
+    b.stays_sound();
+    a.step(own_event, oa);
 }

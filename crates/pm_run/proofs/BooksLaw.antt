@@ -76,4 +76,4 @@ run_cores_keep laws c events well =
 
 -- each event has a core event
 pub a_core : (c : Setup) (event : Event) (stand : Stand) → 0 < length (split c event stand).events
-a_core c event stand = some_event c.object event stand.boxes
+a_core c event stand = some_event c.object c.topology event stand.boxes

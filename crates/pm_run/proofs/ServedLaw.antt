@@ -12,9 +12,11 @@ use Rattle.pm_object.specs.declared.object.Object.{Object}
 use Rattle.pm_object.specs.Grammar.{IsObject}
 use Rattle.pm_state.specs.State.{State}
 use Rattle.pm_core.specs.Step.{effect}
+use Rattle.pm_topology.specs.declared.topology.Topology.{Topology}
+use Rattle.pm_psci.specs.Lowering.{or_pass}
 use Rattle.pm_split.specs.Boxes.{Boxes, box_of, waiting_in}
 use Rattle.pm_split.specs.Served.{ServesAll}
-use Rattle.pm_split.specs.Split.{or_pass, post, split_of}
+use Rattle.pm_split.specs.Split.{post, split_of}
 use Rattle.pm_run.specs.Run.{Setup, Stand, Core, cores_of, line_of, lines_of, loaded, run}
 use Rattle.pm_run.specs.Served.{EmptiesBoxes, EachServes}
 
@@ -37,10 +39,10 @@ as_many_posted : (place : Option ℕ) (master : NodeId) (message : Message) (box
 as_many_posted None master message boxes = refl
 as_many_posted (Some m) master message boxes = as_many_put m message boxes (is_empty m boxes)
 
-as_many : (object : Object) (event : Event) (boxes : Boxes) → length (split_of object event boxes).boxes ≡ length boxes
-as_many object (Post master message) boxes = as_many_posted (box_of object master) master message boxes
-as_many object Serve boxes = length-replicate (length boxes) None
-as_many object event boxes = refl
+as_many : (object : Object) (t : Topology) (event : Event) (boxes : Boxes) → length (split_of object t event boxes).boxes ≡ length boxes
+as_many object t (Post master message) boxes = as_many_posted (box_of object master) master message boxes
+as_many object t Serve boxes = length-replicate (length boxes) None
+as_many object t event boxes = refl
 
 -- ---- the lines
 
@@ -60,7 +62,7 @@ each_serves law c [] stand is many = tt
 each_serves law c (event ∷ events) stand is many =
     let P : Event → Type 0 = λ e. EmptiesBoxes c stand.boxes (line_of c e stand) in (
       λ (same : event ≡ Serve). subst P (sym same) (serves law c stand is many),
-      each_serves law c events (line_of c event stand).after is (as_many c.object event stand.boxes ∙ many),
+      each_serves law c events (line_of c event stand).after is (as_many c.object c.topology event stand.boxes ∙ many),
     )
 
 pub run_serves : ServedLaw → (c : Setup) (events : List Event) → IsObject c.object → EachServes c (loaded c).boxes (run c events)

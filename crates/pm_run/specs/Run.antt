@@ -49,10 +49,10 @@ pub record Line : Type 0 where
   pub notes : List Note
   pub after : Stand
 
--- what the event of a script line is split into, by the boxes before it: core events, of which there is always one, the boxes
--- after it, and notes
+-- what the event of a script line is split into, by the boxes before it and the chip: core events, of which there is
+-- always one, the boxes after it, and notes
 abbrev pub split : Setup → Event → Stand → Split
-split c event stand = split_of c.object event stand.boxes
+split c event stand = split_of c.object c.topology event stand.boxes
 
 abbrev pub core_of : Event → State → Core
 core_of event book = record { event = event; before = book; after = effect event book; outputs = outputs event book }

@@ -3,9 +3,9 @@ use Rattle.std.specs.Prelude.{◌≡◌, ⊤, List, [], ◌∷◌, length, map}
 use Rattle.pm_base.specs.declared.events.Event.{Event}
 use Rattle.pm_base.specs.declared.events.Event.TheVariants.{Serve}
 use Rattle.pm_ipi.specs.Mail.{all_empty}
+use Rattle.pm_psci.specs.Lowering.{or_pass}
 use Rattle.pm_split.specs.Boxes.{Boxes}
 use Rattle.pm_split.specs.Served.{ServesAll}
-use Rattle.pm_split.specs.Split.{or_pass}
 use Rattle.pm_run.specs.Run.{Setup, Core, Line}
 
 -- the core events of a line

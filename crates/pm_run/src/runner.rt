@@ -2,7 +2,6 @@
 
 ghost use Rattle.std.specs.Prelude.{◌≡◌, ◌∷◌, [], None, IfOk, MatchOption, length};
 ghost use Rattle.pm_ipi.specs.Mail.{all_empty};
-ghost use Rattle.pm_topology.specs.Masters.{ObeysMasterRules};
 ghost use Rattle.pm_topology.specs.WellFormed.{IsWellFormed};
 ghost use Rattle.pm_state.specs.Load.{load_of};
 ghost use Rattle.pm_core.specs.Outbox.{HasRoomFor, Holds};
@@ -38,7 +37,6 @@ impl Runner {
     /// `NoMemory` where there is not enough memory.
     pub fn load(alloc: Global, object: Object, topology: Topology) -> Result<Runner, NoMemory>
         requires formed { IsWellFormed topology }
-        requires masters { ObeysMasterRules topology }
         ensures book { IfOk result (λ runner. runner.book ≡ load_of object topology) }
         ensures boxes { IfOk result (λ runner. runner.boxes ≡ all_empty (length object.masters)) }
         ensures stand { IfOk result (λ runner. stand_at runner.book runner.boxes ≡ loaded (setup object topology)) }
@@ -55,18 +53,23 @@ impl Runner {
         })
     }
 
-    /// Splits the event of a script line, by the boxes. Its core events are taken by `next`.
+    /// Splits the event of a script line, by the boxes and the chip. Its core events are taken by `next`.
     pub fn split(&mut self, event: &Event) -> Split
         ensures book { self.new.book ≡ self.old.book }
         ensures outbox { self.new.outbox ≡ self.old.outbox }
-        ensures events { events_left self.old.book.fixed.object self.new.boxes result.cores
+        ensures events { events_left self.old.book.fixed.object self.old.book.fixed.topology self.new.boxes result.cores
             ≡ (split (setup_of self.old.book) event.now (stand_at self.old.book self.old.boxes)).events }
         ensures boxes { boxes_left self.new.boxes result.cores
             ≡ (split (setup_of self.old.book) event.now (stand_at self.old.book self.old.boxes)).boxes }
         ensures notes { noted_busy result.busy
             ≡ (split (setup_of self.old.book) event.now (stand_at self.old.book self.old.boxes)).notes }
     {
-        split_event(self.book.object(), &mut self.boxes, event)
+        split_event(
+            self.book.object(),
+            self.book.topology(),
+            &mut self.boxes,
+            event,
+        )
     }
 
     /// Takes the next core event of a line off, if there is one. At the end of a line that serves all boxes are empty.
@@ -74,14 +77,14 @@ impl Runner {
         ensures book { self.new.book ≡ self.old.book }
         ensures outbox { self.new.outbox ≡ self.old.outbox }
         ensures events { MatchOption result
-            ((events_left self.old.book.fixed.object self.old.boxes cores.old ≡ [])
-            × (events_left self.old.book.fixed.object self.new.boxes cores.new ≡ []))
-            (λ event. events_left self.old.book.fixed.object self.old.boxes cores.old
-            ≡ event ∷ events_left self.old.book.fixed.object self.new.boxes cores.new) }
+            ((events_left self.old.book.fixed.object self.old.book.fixed.topology self.old.boxes cores.old ≡ [])
+            × (events_left self.old.book.fixed.object self.old.book.fixed.topology self.new.boxes cores.new ≡ []))
+            (λ event. events_left self.old.book.fixed.object self.old.book.fixed.topology self.old.boxes cores.old
+            ≡ event ∷ events_left self.old.book.fixed.object self.old.book.fixed.topology self.new.boxes cores.new) }
         ensures boxes { boxes_left self.new.boxes cores.new ≡ boxes_left self.old.boxes cores.old }
         ensures end { result ≡ None → self.new.boxes ≡ boxes_left self.old.boxes cores.old }
     {
-        cores.next(self.book.object(), &mut self.boxes)
+        cores.next(self.book.object(), self.book.topology(), &mut self.boxes)
     }
 
     /// One core event.

@@ -1,5 +1,5 @@
 -- The sentence of each kind of line follows from its row of the table.
-use Rattle.std.proofs.Common.{◌≡◌, ℕ, zero, suc, ◌≤◌, Bool, true, false, ◌&&◌, Option, Some, None, List, [], ◌∷◌, length, find, map, option_map, unwrap_or, is_some, ok_or, refl, arith, ◌∙◌, ap, sym, Err, Ok, nat_le, if◌then◌else◌, codes}
+use Rattle.std.proofs.Common.{◌≡◌, ℕ, zero, suc, ◌≤◌, Bool, true, false, ◌&&◌, Option, Some, None, slice_get, List, [], ◌∷◌, length, find, map, option_map, unwrap_or, is_some, ok_or, refl, arith, ◌∙◌, ap, sym, Err, Ok, nat_le, if◌then◌else◌, codes}
 use Rattle.std.specs.List.{AllByRecursion, list_all, list_any}
 use Rattle.std.specs.Str.{bytes_eq}
 use Rattle.std.proofs.lemmas.Bool.Decides.{nat_tests}
@@ -14,34 +14,51 @@ use Rattle.pm_script.specs.declared.forms.Kind.TheVariants as kinds
 use Rattle.pm_script.specs.declared.forms.Width.{Width}
 use Rattle.pm_script.specs.declared.forms.Width.TheVariants as widths
 use Rattle.pm_script.specs.declared.meaning.LineFault.TheVariants.{Number, Unknown}
-use Rattle.pm_script.specs.Forms.{Row, arguments_of, event_of, line_forms, message_of, number_at, row, with_first}
+use Rattle.pm_script.specs.Forms.{Row, address_at, argument_of, arguments_of, call_arguments, event_of, line_forms, address_in, message_of, number_at, row, with_first}
 use Rattle.pm_script.specs.Meaning.{form_meaning, found_meaning, words_meaning}
-use Rattle.pm_script.specs.Sentences.{IsNoKeyword, address_of_word, boot_meaning, boot_event, break_meaning, gic_meaning, mend_meaning, ipi_meaning, irq_meaning, is_number, message_of_words, number_of_place, number_of_word, numbers_meaning, post_meaning, serve_meaning, tick_meaning, wfi_meaning}
+use Rattle.pm_script.specs.Sentences.{IsNoKeyword, address_of_place, address_of_word, arguments_of_words, boot_meaning, boot_event, break_meaning, gic_meaning, mend_meaning, ipi_meaning, irq_meaning, is_address, is_number, message_of_words, number_of_place, number_of_word, numbers_meaning, post_meaning, serve_meaning, smc_meaning, tick_meaning, wfi_meaning}
 
 -- the argument of 32 bits that a word is
 abbrev as_number : List ℕ → Argument
 as_number word = arguments.Number (unwrap_or (number_of_word word) 0)
 
--- a first argument before the others
-first_and : (value : Option ℕ) (all : Bool) (rest : List Argument) → with_first (option_map (λ number. arguments.Number number) value) (if all then Some rest else None) ≡ (if is_some value && all then Some (arguments.Number (unwrap_or value 0) ∷ rest) else None)
-first_and None true rest = refl
-first_and None false rest = refl
-first_and (Some n) true rest = refl
-first_and (Some n) false rest = refl
+-- the argument of 64 bits that a word is
+abbrev as_address : List ℕ → Argument
+as_address word = arguments.Address (unwrap_or (address_of_word word) 0)
 
--- words that are all to be numbers of 32 bits
+-- a first argument before the others
+first_and : (made : ℕ → Argument) (value : Option ℕ) (all : Bool) (rest : List Argument) → with_first (option_map made value) (if all then Some rest else None) ≡ (if is_some value && all then Some (made (unwrap_or value 0) ∷ rest) else None)
+first_and made None true rest = refl
+first_and made None false rest = refl
+first_and made (Some n) true rest = refl
+first_and made (Some n) false rest = refl
+
+-- words that are all to be numbers of one width
+all_alike : (one : Width) (made : ℕ → Argument) (read : List ℕ → Option ℕ) → ((word : List ℕ) → argument_of one word ≡ option_map made (read word)) → (given : List Width) (words : List (List ℕ))
+    → AllByRecursion (λ width. width ≡ one) given → length words ≤ length given
+    → arguments_of given words ≡ (if list_all (λ word. is_some (read word)) words then Some (map (λ word. made (unwrap_or (read word) 0)) words) else None)
+all_alike one made read same [] [] all few = refl
+all_alike one made read same [] (word ∷ words) all few = absurd (omega arith)
+all_alike one made read same (width ∷ given) [] all few = refl
+all_alike one made read same (width ∷ given) (word ∷ words) all few =
+    rw (all.0, same word, all_alike one made read same given words all.1 (omega arith)) (first_and made (read word) (list_all (λ word. is_some (read word)) words) (map (λ word. made (unwrap_or (read word) 0)) words))
+
 all_numbers : (given : List Width) (words : List (List ℕ)) → AllByRecursion (λ width. width ≡ widths.Number) given → length words ≤ length given → arguments_of given words ≡ (if list_all is_number words then Some (map as_number words) else None)
-all_numbers [] [] all few = refl
-all_numbers [] (word ∷ words) all few = absurd (omega arith)
-all_numbers (width ∷ given) [] all few = refl
-all_numbers (width ∷ given) (word ∷ words) all few =
-    rw (all.0, all_numbers given words all.1 (omega arith)) (first_and (number_of_word word) (list_all is_number words) (map as_number words))
+all_numbers given words all few = all_alike widths.Number (λ number. arguments.Number number) number_of_word (λ word. refl) given words all few
+
+all_addresses : (given : List Width) (words : List (List ℕ)) → AllByRecursion (λ width. width ≡ widths.Address) given → length words ≤ length given → arguments_of given words ≡ (if list_all is_address words then Some (map as_address words) else None)
+all_addresses given words all few = all_alike widths.Address (λ address. arguments.Address address) address_of_word (λ word. refl) given words all few
 
 -- the number at a place
 place_of : (words : List (List ℕ)) (k : ℕ) → number_at (map as_number words) k ≡ number_of_place words k
 place_of [] k = refl
 place_of (word ∷ words) zero = refl
 place_of (word ∷ words) (suc k) = place_of words k
+
+address_place : (words : List (List ℕ)) (k : ℕ) → address_at (map as_address words) k ≡ address_of_place words k
+address_place [] k = refl
+address_place (word ∷ words) zero = refl
+address_place (word ∷ words) (suc k) = address_place words k
 
 event_or : (event : List Argument → Event) (spoken : Event) (all : Bool) (given : List Argument) → event given ≡ spoken → ok_or (option_map event (if all then Some given else None)) Number ≡ (if all then Ok spoken else Err Number)
 event_or event spoken true given is = ap Ok is
@@ -109,6 +126,33 @@ boots [] = refl
 boots (proc ∷ []) = refl
 boots (proc ∷ address ∷ []) = boots_by (number_of_word proc) (address_of_word address)
 boots (proc ∷ address ∷ word ∷ words) = let many : nat_le (length (proc ∷ address ∷ word ∷ words)) 2 ≡ false = grind (arith, nat_tests) in rw (many, and_false (nat_le 2 (length (proc ∷ address ∷ word ∷ words)))) refl
+
+-- the processor and the function of a call, before its arguments
+call_by : (proc function : Option ℕ) (all : Bool) (rest : List Argument) (args : List ℕ)
+    → (address_in (slice_get rest 0) ∷ address_in (slice_get rest 1) ∷ address_in (slice_get rest 2) ∷ []) ≡ args
+    → ok_or (option_map (event_of kinds.Smc) (with_first (option_map (λ number. arguments.Number number) proc) (with_first (option_map (λ number. arguments.Number number) function) (if all then Some rest else None)))) Number
+    ≡ (if (is_some proc && (is_some function && true)) && all then Ok (events.Smc (record { 0 = unwrap_or proc 0 }) (unwrap_or function 0) args) else Err Number)
+call_by None function all rest args is = refl
+call_by (Some proc) None true rest args is = refl
+call_by (Some proc) None false rest args is = refl
+call_by (Some proc) (Some function) false rest args is = refl
+call_by (Some proc) (Some function) true rest args is = ap (λ (held : List ℕ). Ok (events.Smc (record { 0 = proc }) function held)) is
+
+pub calls : (words : List (List ℕ)) → words_meaning (codes "smc" ∷ words) ≡ smc_meaning words
+calls [] = refl
+calls (proc ∷ []) = refl
+calls (proc ∷ function ∷ words) = by (nat_le (length (proc ∷ function ∷ words)) 5) refl
+  where
+    by : (few : Bool) → nat_le (length (proc ∷ function ∷ words)) 5 ≡ few → words_meaning (codes "smc" ∷ proc ∷ function ∷ words) ≡ smc_meaning (proc ∷ function ∷ words)
+    by false few = rw (few, and_false (nat_le 2 (length (proc ∷ function ∷ words)))) refl
+    by true few =
+        let within : length words ≤ 3 = grind (arith, nat_tests) in
+        let enough : nat_le 2 (length (proc ∷ function ∷ words)) ≡ true = grind (arith, nat_tests) in
+        let args : call_arguments (as_number proc ∷ as_number function ∷ map as_address words) ≡ arguments_of_words (proc ∷ function ∷ words)
+        = rw (address_place words 0, address_place words 1, address_place words 2) refl
+        in
+        rw (enough, few, all_addresses (widths.Address ∷ widths.Address ∷ widths.Address ∷ []) words (refl, (refl, (refl, tt))) within)
+        (call_by (number_of_word proc) (number_of_word function) (list_all is_address words) (map as_address words) (arguments_of_words (proc ∷ function ∷ words)) args)
 
 not_found : {X : Type 0} (test : X → Bool) (xs : List X) → list_any test xs ≡ false → find test xs ≡ None
 not_found test [] none = refl

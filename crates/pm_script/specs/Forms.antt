@@ -8,7 +8,7 @@ use Rattle.pm_base.specs.Numbers.{number_of, at_most}
 use Rattle.pm_script.specs.declared.forms.Argument.{Argument}
 use Rattle.pm_script.specs.declared.forms.Argument.TheVariants as arguments
 use Rattle.pm_script.specs.declared.forms.Kind.{Kind}
-use Rattle.pm_script.specs.declared.forms.Kind.TheVariants.{Ipi, Boot, Wfi, Irq, Gic, Tick, Post, Serve, Break, Mend}
+use Rattle.pm_script.specs.declared.forms.Kind.TheVariants.{Ipi, Boot, Wfi, Irq, Gic, Tick, Post, Serve, Smc, Break, Mend}
 use Rattle.pm_script.specs.declared.forms.LineForm.{LineForm}
 use Rattle.pm_script.specs.declared.forms.Width.{Width}
 use Rattle.pm_script.specs.declared.forms.Width.TheVariants.{Number, Address}
@@ -35,6 +35,7 @@ line_forms =
     ∷ row (codes "tick") Tick 1 (Number ∷ [])
     ∷ row (codes "post") Post 2 (Number ∷ Number ∷ Number ∷ Number ∷ Number ∷ Number ∷ Number ∷ [])
     ∷ row (codes "serve") Serve 0 []
+    ∷ row (codes "smc") Smc 2 (Number ∷ Number ∷ Address ∷ Address ∷ Address ∷ [])
     ∷ row (codes "break") Break 1 (Number ∷ [])
     ∷ row (codes "mend") Mend 1 (Number ∷ [])
     ∷ []
@@ -43,7 +44,8 @@ line_forms =
 abbrev pub row_with : List ℕ → Option Row
 row_with keyword = find (λ row. bytes_eq row.keyword keyword) line_forms
 
--- the argument that a word is: a number that fits 32 bits, or one that fits 64 where it is an address
+-- the argument that a word is: a number that fits 32 bits, or one that fits 64 where it is an address or an argument of
+-- a power call
 abbrev pub argument_of : Width → List ℕ → Option Argument
 argument_of Number word = option_map (λ number. arguments.Number number) (at_most (2 ^ 32 - 1) (number_of word))
 argument_of Address word = option_map (λ address. arguments.Address address) (at_most (2 ^ 64 - 1) (number_of word))
@@ -80,6 +82,10 @@ abbrev pub message_of : List Argument → Message
 message_of given =
     record { api = number_at given 1; args = number_at given 2 ∷ number_at given 3 ∷ number_at given 4 ∷ number_at given 5 ∷ number_at given 6 ∷ [] }
 
+-- the arguments of a call, which follow its processor and its function
+abbrev pub call_arguments : List Argument → List ℕ
+call_arguments given = address_at given 2 ∷ address_at given 3 ∷ address_at given 4 ∷ []
+
 -- the event that a line's arguments make
 abbrev pub event_of : Kind → List Argument → Event
 event_of Ipi given = events.Ipi (record { 0 = number_at given 0 }) (message_of given)
@@ -90,6 +96,7 @@ event_of Gic given = events.Gic (record { 0 = number_at given 0 })
 event_of Tick given = events.Tick (number_at given 0)
 event_of Post given = events.Post (record { 0 = number_at given 0 }) (message_of given)
 event_of Serve given = events.Serve
+event_of Smc given = events.Smc (record { 0 = number_at given 0 }) (number_at given 1) (call_arguments given)
 event_of Break given = events.Break (record { 0 = number_at given 0 })
 event_of Mend given = events.Mend (record { 0 = number_at given 0 })
 

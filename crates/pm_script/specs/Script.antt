@@ -12,7 +12,7 @@ use Rattle.pm_script.specs.Meaning.{meaning}
 
 -- how many bytes a script may have
 abbrev pub script_limit : ℕ
-script_limit = 16777216
+script_limit = 67108864
 
 -- why no more events follow: its text has no more lines, a line has no meaning, the text is too long, or a read failed
 pub data Stop : Type 0 where

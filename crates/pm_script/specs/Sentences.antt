@@ -1,8 +1,8 @@
 -- What each kind of line means in a sentence of its own: the table of line forms says the same of all of them at once.
-use Rattle.std.specs.Prelude.{◌≡◌, codes, ℕ, ◌-◌, ◌^◌, ◌&&◌, Bool, nat_le, if◌then◌else◌, List, [], ◌∷◌, length, slice_get, Option, Some, None, is_some, unwrap_or, option_and_then, Result, Ok, Err}
+use Rattle.std.specs.Prelude.{◌≡◌, codes, ℕ, ◌-◌, ◌^◌, ◌&&◌, Bool, nat_le, if◌then◌else◌, List, [], ◌∷◌, drop, length, slice_get, take, Option, Some, None, is_some, unwrap_or, option_and_then, Result, Ok, Err}
 use Rattle.std.specs.List.{AllByRecursion, list_all}
 use Rattle.pm_base.specs.declared.events.Event.{Event}
-use Rattle.pm_base.specs.declared.events.Event.TheVariants.{Ipi, Boot, Wfi, Irq, Gic, Tick, Post, Serve, Break, Mend}
+use Rattle.pm_base.specs.declared.events.Event.TheVariants.{Ipi, Boot, Wfi, Irq, Gic, Tick, Post, Serve, Smc, Break, Mend}
 use Rattle.pm_base.specs.declared.events.Message.{Message}
 use Rattle.pm_base.specs.Numbers.{number_of, at_most}
 use Rattle.pm_script.specs.declared.meaning.LineFault.{LineFault}
@@ -19,9 +19,16 @@ address_of_word word = at_most (2 ^ 64 - 1) (number_of word)
 abbrev pub is_number : List ℕ → Bool
 is_number word = is_some (number_of_word word)
 
+abbrev pub is_address : List ℕ → Bool
+is_address word = is_some (address_of_word word)
+
 -- the number at a place of a list of words: 0 if no word is there
 abbrev pub number_of_place : List (List ℕ) → ℕ → ℕ
 number_of_place words k = unwrap_or (option_and_then number_of_word (slice_get words k)) 0
+
+-- the same of a number of 64 bits
+abbrev pub address_of_place : List (List ℕ) → ℕ → ℕ
+address_of_place words k = unwrap_or (option_and_then address_of_word (slice_get words k)) 0
 
 -- what a line means whose first word is followed by `least` to `most` words, each of them a number
 abbrev pub numbers_meaning : ℕ → ℕ → (List (List ℕ) → Event) → List (List ℕ) → Result Event LineFault
@@ -45,6 +52,19 @@ post_meaning words = numbers_meaning 2 7 (λ words. Post (record { 0 = number_of
 -- `serve`: the messages in all boxes are served
 abbrev pub serve_meaning : List (List ℕ) → Result Event LineFault
 serve_meaning words = numbers_meaning 0 0 (λ words. Serve) words
+
+-- the arguments of a power call, which follow its processor and its function. Missing arguments are 0
+abbrev pub arguments_of_words : List (List ℕ) → List ℕ
+arguments_of_words words = address_of_place words 2 ∷ address_of_place words 3 ∷ address_of_place words 4 ∷ []
+
+-- `smc P FUNCTION` and 0 to 3 arguments of 64 bits: processor P makes a power call
+abbrev pub smc_meaning : List (List ℕ) → Result Event LineFault
+smc_meaning words =
+    if nat_le 2 (length words) && nat_le (length words) 5
+    then (if list_all is_number (take 2 words) && list_all is_address (drop 2 words)
+    then Ok (Smc (record { 0 = number_of_place words 0 }) (number_of_place words 1) (arguments_of_words words))
+    else Err Number)
+    else Err Count
 
 -- the event of a processor and an address, if both are numbers
 abbrev pub boot_event : Option ℕ → Option ℕ → Result Event LineFault
@@ -85,7 +105,7 @@ mend_meaning words = numbers_meaning 1 1 (λ words. Mend (record { 0 = number_of
 abbrev pub keywords : List (List ℕ)
 keywords =
     codes "ipi" ∷ codes "boot" ∷ codes "wfi" ∷ codes "irq" ∷ codes "gic" ∷ codes "tick" ∷ codes "post" ∷ codes "serve"
-    ∷ codes "break" ∷ codes "mend" ∷ []
+    ∷ codes "smc" ∷ codes "break" ∷ codes "mend" ∷ []
 
 -- a word is none of them
 abbrev pub IsNoKeyword : List ℕ → Type 0

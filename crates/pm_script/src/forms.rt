@@ -5,11 +5,11 @@
 //! argument of another width is one more `Width` and `Argument`.
 
 ghost use Rattle.std.specs.Prelude.{◌≡◌, ◌≤◌, length, option_map, IfSome};
-ghost use Rattle.pm_script.specs.Forms.{address_at, argument_of, event_of, first_with, message_of, number_at, row_of, row_with};
+ghost use Rattle.pm_script.specs.Forms.{address_at, argument_of, call_arguments, event_of, first_with, message_of, number_at, row_of, row_with};
 
 use pm_base::{Event, Message, NodeId, number};
 
-/// What an argument of a line is: a number of 32 bits, or an address of 64 bits.
+/// What an argument of a line is: a number of 32 bits, or an address or another argument of 64 bits.
 #[derive(Clone, Copy)]
 pub(crate) enum Width {
     Number,
@@ -40,6 +40,7 @@ pub(crate) enum Kind {
     Tick,
     Post,
     Serve,
+    Smc,
     Break,
     Mend,
 }
@@ -50,7 +51,7 @@ pub(crate) enum Kind {
 pub(crate) struct LineForm(pub &'static [u8], pub Kind, pub usize, pub &'static [Width]);
 
 /// The table of the forms of a script's lines.
-static FORMS: [LineForm; 10] = [
+static FORMS: [LineForm; 11] = [
     LineForm(b"ipi", Kind::Ipi, 2, &[Width::Number; 7]),
     LineForm(b"boot", Kind::Boot, 2, &[Width::Number, Width::Address]),
     LineForm(b"wfi", Kind::Wfi, 1, &[Width::Number]),
@@ -59,6 +60,18 @@ static FORMS: [LineForm; 10] = [
     LineForm(b"tick", Kind::Tick, 1, &[Width::Number]),
     LineForm(b"post", Kind::Post, 2, &[Width::Number; 7]),
     LineForm(b"serve", Kind::Serve, 0, &[]),
+    LineForm(
+        b"smc",
+        Kind::Smc,
+        2,
+        &[
+            Width::Number,
+            Width::Number,
+            Width::Address,
+            Width::Address,
+            Width::Address,
+        ],
+    ),
     LineForm(b"break", Kind::Break, 1, &[Width::Number]),
     LineForm(b"mend", Kind::Mend, 1, &[Width::Number]),
 ];
@@ -123,6 +136,14 @@ fn message_of(arguments: &[Argument]) -> Message
     }
 }
 
+/// The arguments of a call, which follow its processor and its function.
+fn call_arguments(arguments: &[Argument]) -> [u64; 3]
+    ensures { result ≡ call_arguments arguments.now }
+{
+    let argument = |k| address_at(arguments, k);
+    [argument(2), argument(3), argument(4)]
+}
+
 /// The event that a line's arguments make.
 pub(crate) fn event_of(kind: Kind, arguments: &[Argument]) -> Event
     ensures { result ≡ event_of kind arguments.now }
@@ -152,6 +173,11 @@ pub(crate) fn event_of(kind: Kind, arguments: &[Argument]) -> Event
             message: message_of(arguments),
         },
         Kind::Serve => Event::Serve,
+        Kind::Smc => Event::Smc {
+            proc: NodeId(number(0)),
+            function: number(1),
+            args: call_arguments(arguments),
+        },
         Kind::Break => Event::Break {
             node: NodeId(number(0)),
         },

@@ -15,7 +15,7 @@ use pm_base::{Event, TOO_LONG, is_plain, without_return};
 pub enum LineFault {
     /// The first word names no kind of line.
     Unknown = 1,
-    /// A word is no number, or doesn't fit 32 bits, or 64 bits where it is an address.
+    /// A word is no number, or doesn't fit 32 bits, or 64 bits where it is an address or an argument of a power call.
     Number = 2,
     /// There are too few or too many words.
     Count = 3,
@@ -30,7 +30,8 @@ pub enum LineFault {
 /// processor P at an address of 64 bits; in `wfi P` processor P waits for an interrupt; in `irq S` slave S
 /// raises its interrupt; in `gic P` there is an interrupt at processor P itself; in `tick N` N units of
 /// time pass; in `post M API` with 0 to 5 arguments master M puts a message into its box; in `serve` the messages in all
-/// boxes are served; from `break N` on node N of the device fails; and from `mend N` on it works again.
+/// boxes are served; in `smc P FUNCTION` with 0 to 3 arguments of 64 bits processor P makes a power call; from
+/// `break N` on node N of the device fails; and from `mend N` on it works again.
 pub fn parse_line(line: &[u8]) -> Result<Event, LineFault>
     ensures { result ≡ meaning line.now }
 {

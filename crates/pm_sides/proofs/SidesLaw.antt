@@ -1,6 +1,8 @@
 -- Two books of one object agree beyond the reach of a master at load.
-use Rattle.std.proofs.Common.{◌≡◌, ◌==◌, IsTrue, subst, sym}
+use Rattle.std.proofs.Common.{◌≡◌, ◌==◌, ℕ, IsTrue, Option, Some, None, nat_eq, true, refl, ap, subst, sym}
 use Rattle.std.specs.List.{list_any}
+use Rattle.std.specs.Option.{option_eq}
+use Rattle.std.proofs.lemmas.Bool.{eqb-true}
 use Rattle.pm_base.specs.declared.names.NodeId.{NodeId}
 use Rattle.pm_object.specs.declared.object.MasterRec.{MasterRec}
 use Rattle.pm_object.specs.declared.object.Object.{Object}
@@ -25,3 +27,10 @@ sides_at_load m object other chip loud quiet is named same agree first second =
     let Q : State → Type 0 = λ b. AreSides m b quiet in
     let R : State → Type 0 = λ b. AreSides m (load_of object chip) b in
     subst Q (sym first) (subst R (sym second) (subst P (sym same) (record { object = is; named = named; agree = agree })))
+
+-- places that are told to be equal are
+pub same_place : (one other : Option ℕ) → option_eq nat_eq one other ≡ true → one ≡ other
+same_place None None is = refl
+same_place None (Some k) is = cc
+same_place (Some j) None is = cc
+same_place (Some j) (Some k) is = ap Some (eqb-true j k is)

@@ -2,9 +2,12 @@
 
 ghost use Rattle.std.specs.List.{list_any};
 ghost use Rattle.std.specs.Prelude.{◌≡◌, ◌==◌, IfOk, IsTrue};
+ghost use Rattle.pm_base.specs.declared.events.Event.TheVariants.{Wfi};
 ghost use Rattle.pm_object.specs.Grammar.{IsObject};
 ghost use Rattle.pm_state.specs.Load.{load_of};
 ghost use Rattle.pm_core.specs.Outbox.{HasRoomFor};
+ghost use Rattle.pm_laws.specs.Beside.{IsOwn};
+ghost use Rattle.pm_laws.specs.ReachBorder.{place_of};
 ghost use Rattle.pm_sides.specs.Sides.{AreSides};
 ghost use Rattle.pm_sides.specs.Table.{small};
 
@@ -12,9 +15,11 @@ use crate::comparing::object;
 use crate::table::small_chip;
 use pm_base::{Event, NoMemory, NodeId, Unit};
 use pm_core::{Book, Outbox};
-use pm_laws::{books_agree, reach_is_closed, step_both};
+use pm_laws::{books_agree, reach_is_closed, step_both, step_left};
 use pm_object::{Object, has_key};
+use pm_perms::owner_of;
 use pm_script::parse_line;
+use pm_topology::Topology;
 use pm_trace::{TextLine, entries, entry};
 use std::alloc::Global;
 use std::test::Fail;
@@ -84,6 +89,40 @@ fn step(loud: &mut Desk, quiet: &mut Desk, m: NodeId, event: &Event)
         &mut loud.out,
         &mut quiet.out,
     );
+}
+
+/// Whether the processor is the master's.
+fn owns(object: &Object, t: &Topology, m: NodeId, proc: NodeId) -> bool
+    ensures { IsTrue result → IsOwn object.now t.now m (Wfi proc) }
+{
+    owner_of(object, t, proc) == place_of(object, m)
+}
+
+/// The place of the master in the object.
+fn place_of(object: &Object, m: NodeId) -> Option<usize>
+    ensures { result ≡ place_of object.now m }
+{
+    let masters = object.masters.as_slice();
+    masters.iter().position(|record| record.node == m.0)
+}
+
+/// The wait of a processor in the one book, and nothing in the other, if the processor is the master's.
+fn wait_alone(loud: &mut Desk, quiet: &mut Desk, m: NodeId, proc: NodeId) -> bool
+    requires { AreSides m loud.old.book quiet.old.book }
+    ensures { AreSides m loud.new.book quiet.new.book }
+{
+    let is_own = owns(loud.book.object(), loud.book.topology(), m, proc);
+    if is_own {
+        step_left(
+            &mut loud.book,
+            &mut quiet.book,
+            m,
+            &Event::Wfi { proc },
+            &mut loud.out,
+            &mut quiet.out,
+        );
+    }
+    is_own
 }
 
 /// The lines of a step with this number.
@@ -217,6 +256,7 @@ fn wrong_turn(
     turns: &[Turn],
 ) -> Result<Option<u32>, Fail>
     requires { AreSides m loud.old.book quiet.old.book }
+    ensures { AreSides m loud.new.book quiet.new.book }
 {
     for (number, line, of_loud, of_quiet) in turns {
         let event = parse_line(line.as_bytes())?;
@@ -246,5 +286,33 @@ fn compared(alloc: Global, turns: &[Turn]) -> Result<(Option<u32>, bool), Fail> 
 fn what_is_beyond_is_told_the_same(rt: HostRuntime) -> Result<(), Fail> {
     assert_eq!(rt; compared(rt.alloc(), &ASKED)?, (None, true));
     assert_eq!(rt; compared(rt.alloc(), &WATCHED)?, (None, false));
+    Ok(())
+}
+
+/// Master 8 begins to sleep in the one book.
+static SUSPENDED: [Turn; 3] = [
+    (1, "ipi 1 21", "1 reply 1 0 0 0 0\n", "1 reply 1 0 0 0 0\n"),
+    (2, "boot 108 0", "2 run 108 0\n", "2 run 108 0\n"),
+    (3, "ipi 8 7 108 0 0 0 0", "3 reply 8 0 0 0 0\n", ""),
+];
+
+/// The first line of these of which not that is put out; whether a processor then waits in the one book alone, since it
+/// is that of master 8; and whether what is beyond the reach of 8, and that processor, are alike in both books.
+fn waited(alloc: Global, proc: u32) -> Result<(Option<u32>, bool, bool, bool), Fail> {
+    let m = NodeId(8);
+    let mut sides = sides_of(alloc, m)?;
+    let wrong = wrong_turn(alloc, &mut sides.loud, &mut sides.quiet, m, &SUSPENDED)?;
+    let waits = wait_alone(&mut sides.loud, &mut sides.quiet, m, NodeId(proc));
+    let beyond = are_alike(&sides.loud.book, &sides.quiet.book);
+    let alike = is_alike(&sides.loud.book, &sides.quiet.book, proc);
+    Ok((wrong, waits, beyond, alike))
+}
+
+#[test]
+fn the_wait_of_a_processor_stays_within(rt: HostRuntime) -> Result<(), Fail> {
+    let own = waited(rt.alloc(), 108)?;
+    assert_eq!(rt; own, (None, true, true, false));
+    let other = waited(rt.alloc(), 2)?;
+    assert_eq!(rt; other, (None, false, true, true));
     Ok(())
 }

@@ -2,7 +2,6 @@
 
 ghost use Rattle.std.specs.Prelude.{◌≡◌, ◌∷◌, [], None, IfOk};
 ghost use Rattle.pm_topology.specs.Chip.{master, power, proc};
-ghost use Rattle.pm_topology.specs.Masters.{ObeysMasterRules};
 ghost use Rattle.pm_topology.specs.WellFormed.{IsWellFormed};
 ghost use Rattle.pm_sides.specs.Table.{masters, powers, procs, slaves, small};
 
@@ -18,11 +17,10 @@ const HELD: usize = 0;
 /// # Errors
 ///
 /// `NoMemory` where there is not enough memory.
-#[tactic(auto, using(crate::proofs::TableLaw::small_sound, crate::proofs::TableLaw::small_masters), unfolding(crate::specs::Table::small))]
+#[tactic(auto, using(crate::proofs::TableLaw::small_sound), unfolding(crate::specs::Table::small))]
 pub(crate) fn small_chip(alloc: Global) -> Result<Topology, NoMemory>
     ensures table { IfOk result (λ topology. topology ≡ small) }
     ensures sound { IfOk result IsWellFormed }
-    ensures masters { IfOk result ObeysMasterRules }
 {
     Ok(Topology {
         slaves: slaves(alloc)?,

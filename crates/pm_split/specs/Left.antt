@@ -1,12 +1,13 @@
 -- The core events of a script line that are still to come.
-use Rattle.std.specs.Prelude.{Bool, true, false, List, [], ◌∷◌, length, Option, Some, None}
+use Rattle.std.specs.Prelude.{Bool, true, false, drop, List, [], ◌∷◌, length, Option, Some, None}
 use Rattle.pm_base.specs.declared.events.Event.{Event}
 use Rattle.pm_ipi.specs.Mail.{all_empty}
 use Rattle.pm_object.specs.declared.object.Object.{Object}
+use Rattle.pm_topology.specs.declared.topology.Topology.{Topology}
+use Rattle.pm_psci.specs.Lowering.{lowered, or_pass}
 use Rattle.pm_split.specs.declared.cores.CoreEvents.{CoreEvents}
-use Rattle.pm_split.specs.declared.cores.CoreEvents.TheVariants.{One, Served}
+use Rattle.pm_split.specs.declared.cores.CoreEvents.TheVariants.{One, Lowered, Served}
 use Rattle.pm_split.specs.Boxes.{Boxes, waiting_from}
-use Rattle.pm_split.specs.Split.{or_pass}
 
 abbrev pub listed : Option Event → List Event
 listed None = []
@@ -18,11 +19,13 @@ to_serve true events = events
 to_serve false events = or_pass events
 
 -- those of a line, by what the boxes hold now
-abbrev pub events_left : Object → Boxes → CoreEvents → List Event
-events_left object boxes (One event) = listed event
-events_left object boxes (Served bit some) = to_serve some (waiting_from object boxes bit)
+abbrev pub events_left : Object → Topology → Boxes → CoreEvents → List Event
+events_left object t boxes (One event) = listed event
+events_left object t boxes (Served bit some) = to_serve some (waiting_from object boxes bit)
+events_left object t boxes (Lowered smc k) = drop k (lowered t smc)
 
 -- the boxes once all of them were taken
 abbrev pub boxes_left : Boxes → CoreEvents → Boxes
 boxes_left boxes (One event) = boxes
 boxes_left boxes (Served bit some) = all_empty (length boxes)
+boxes_left boxes (Lowered smc k) = boxes

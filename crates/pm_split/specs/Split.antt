@@ -1,17 +1,24 @@
 -- What the event of a script line is split into: the core events that the book takes one after another, and what
 -- becomes of the boxes.
-use Rattle.std.specs.Prelude.{ℕ, if◌then◌else◌, List, [], ◌∷◌, length, Option, Some, None}
+use Rattle.std.specs.Prelude.{ℕ, ℤ, if◌then◌else◌, List, [], ◌∷◌, length, Option, Some, None}
 use Rattle.pm_base.specs.declared.events.Event.{Event}
-use Rattle.pm_base.specs.declared.events.Event.TheVariants.{Ipi, Pass, Post, Serve}
+use Rattle.pm_base.specs.declared.events.Event.TheVariants.{Ipi, Pass, Post, Serve, Smc}
 use Rattle.pm_base.specs.declared.events.Message.{Message}
 use Rattle.pm_base.specs.declared.names.NodeId.{NodeId}
 use Rattle.pm_ipi.specs.Mail.{all_empty, is_empty, posted}
 use Rattle.pm_object.specs.declared.object.Object.{Object}
+use Rattle.pm_topology.specs.declared.topology.Topology.{Topology}
+use Rattle.pm_ipi.specs.declared.responses.Response.{Response}
+use Rattle.pm_psci.specs.declared.calls.Smc as psci
+use Rattle.pm_psci.specs.Answers.{answered}
+use Rattle.pm_psci.specs.Lowering.{lowered, or_pass}
 use Rattle.pm_split.specs.Boxes.{Boxes, box_of, waiting_in}
 
--- what a script line itself writes, beside what its core steps put out: the box of this master had a message already
+-- what a script line itself writes, beside what its core steps put out: the box of this master had a message already;
+-- or what the power call of this processor is answered, which no split says, since it is read from the reply
 pub data Note : Type 0 where
   Busy : NodeId → Note
+  Called : NodeId → ℤ → Note
 
 -- the note of a line whose post found a full box
 abbrev pub noted_busy : Option NodeId → List Note
@@ -24,11 +31,6 @@ pub record Split : Type 0 where
   pub boxes : Boxes
   pub notes : List Note
 
--- these events, and a Pass where there is none
-abbrev pub or_pass : List Event → List Event
-or_pass [] = Pass ∷ []
-or_pass (event ∷ events) = event ∷ events
-
 -- a message is put into the box of the master at a place: if that is full nothing changes, and the line says so. The
 -- message of a node that is no configured master is sent at once
 abbrev pub post : Option ℕ → NodeId → Message → Boxes → Split
@@ -40,10 +42,31 @@ post (Some m) master message boxes =
     }
 post None master message boxes = record { events = Ipi master message ∷ []; boxes = boxes; notes = [] }
 
+-- a power call by its words
+abbrev pub call : NodeId → ℕ → List ℕ → psci.Smc
+call proc function args = record { proc = proc; function = function; args = args }
+
 -- a message is put into a box; the messages in all boxes are served, each on the book that the one before left, and all
--- boxes are empty then; each other event is its own core event
-abbrev pub split_of : Object → Event → Boxes → Split
-split_of object (Post master message) boxes = post (box_of object master) master message boxes
-split_of object Serve boxes =
+-- boxes are empty then; a power call is lowered by the chip, whatever the book is; each other event is its own core
+-- event
+abbrev pub split_of : Object → Topology → Event → Boxes → Split
+split_of object t (Post master message) boxes = post (box_of object master) master message boxes
+split_of object t Serve boxes =
     record { events = or_pass (waiting_in object boxes); boxes = all_empty (length boxes); notes = [] }
-split_of object event boxes = record { events = event ∷ []; boxes = boxes; notes = [] }
+split_of object t (Smc proc function args) boxes =
+    record { events = lowered t (call proc function args); boxes = boxes; notes = [] }
+split_of object t event boxes = record { events = event ∷ []; boxes = boxes; notes = [] }
+
+-- the note of the answer to a power call
+abbrev pub noted_call : Option (NodeId × ℤ) → List Note
+noted_call None = []
+noted_call (Some told) = Called told.0 told.1 ∷ []
+
+abbrev pub noted_answer : NodeId → Option ℤ → List Note
+noted_answer proc None = []
+noted_answer proc (Some code) = Called proc code ∷ []
+
+-- what a line writes of the answer to its power call, by the reply to the message that the call came to
+abbrev pub called_note : Topology → Event → Option Response → List Note
+called_note t (Smc proc function args) reply = noted_answer proc (answered t (call proc function args) reply)
+called_note t event reply = []

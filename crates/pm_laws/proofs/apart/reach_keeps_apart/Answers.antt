@@ -21,11 +21,11 @@ returns c =
           (c.reach_is_closed.ensures.closed setup.object setup.topology m object chip);
     } in
     record {
-      events = λ setup m event a b quiet_boxes. (splits_beside setup m event a b quiet_boxes).events;
-      boxes = λ setup m event a b quiet_boxes. (splits_beside setup m event a b quiet_boxes).boxes;
+      events = λ setup m event a b rules quiet_boxes. (splits_beside setup m event a b rules quiet_boxes).events;
+      boxes = λ setup m event a b rules quiet_boxes. (splits_beside setup m event a b rules quiet_boxes).boxes;
       cores = λ setup m es fs a b object chip beside first second agree. cores_beside laws setup m object chip es fs a b beside first second agree;
       after = λ setup m es fs a b object chip beside first second agree. agree_after laws setup m object chip es fs a b beside first second agree;
-      line = λ setup m event a b object chip first second agree boxes. line_beside laws setup m object chip event a b first second agree boxes;
+      line = λ setup m event a b object chip first second agree boxes. line_beside laws setup m object chip event a b chip.masters first second agree boxes;
       beside = λ setup m events object chip. worlds_beside setup m laws books object chip events;
       alike = λ setup m events object chip. worlds_alike setup m laws books object chip events;
     }
