@@ -1,23 +1,29 @@
 -- The lines that tell other masters that their boxes are full are those of the run without the messages of a master.
-use Rattle.std.proofs.Common.{◌≡◌, ℕ, ◌==◌, Bool, true, false, not, cond, if◌then◌else◌, List, [], ◌∷◌, ◌++◌, Option, refl, ap, ◌∙◌}
+use Rattle.std.proofs.Common.{◌≡◌, ℕ, ℤ, ◌==◌, Bool, true, false, not, cond, if◌then◌else◌, List, [], ◌∷◌, ◌++◌, Option, None, Some, refl, ap, ◌∙◌, append-nil}
 use Rattle.std.specs.Prelude.{filter, flat_map, map}
+use Rattle.std.proofs.lemmas.Grind.{flat_map-append}
 use Rattle.std.proofs.lemmas.List.Elements.{filter-append}
 use Rattle.pm_base.specs.declared.events.Event.{Event}
+use Rattle.pm_base.specs.declared.events.Event.TheVariants.{Smc}
 use Rattle.pm_base.specs.declared.names.NodeId.{NodeId}
 use Rattle.pm_base.specs.declared.names.Unit.{Unit}
 use Rattle.pm_base.specs.declared.names.Unit.TheVariants.{Node, Line}
-use Rattle.pm_split.specs.Split.{Note}
-use Rattle.pm_split.specs.Split.Note.{Busy}
+use Rattle.pm_ipi.specs.declared.responses.Response.{Response}
+use Rattle.pm_topology.specs.declared.topology.Topology.{Topology}
+use Rattle.pm_psci.specs.Answers.{answered}
+use Rattle.pm_split.specs.Split.{Note, call, called_note, noted_answer}
+use Rattle.pm_split.specs.Split.Note.{Busy, Called}
 use Rattle.pm_run.specs.Run.{Line as ScriptLine, Setup, run}
 use Rattle.pm_laws.specs.Quiet.{quiet}
-use Rattle.pm_laws.specs.Worlds.{AreWorldsAlike, IsLineAlike, busy_others}
+use Rattle.pm_laws.specs.Worlds.{AreWorldsAlike, IsLineAlike, busy_of, busy_others}
 use Rattle.pm_trace.specs.declared.line.Word.{Word}
 use Rattle.pm_trace.specs.declared.step.StepLine.{StepLine}
 use Rattle.pm_trace.specs.declared.step.StepLine.TheVariants as told
 use Rattle.pm_trace.specs.Line.{numbers}
 use Rattle.pm_trace.specs.Notes.{note_words}
 use Rattle.pm_trace.specs.Step.{command_name, notices_of, step_words, told_lines}
-use Rattle.pm_drive.specs.Drive.{Given, driven, give, until}
+use Rattle.pm_drive.specs.Drive.{Driven, Given, drive_line, driven, give, until}
+use Rattle.pm_drive.specs.Text.{notes_of, reply_after}
 use Rattle.pm_apart.specs.Lines.{given_lines, note_lines, numbered, step_lines}
 use Rattle.pm_apart.specs.Telling.{tells_busy}
 use Rattle.pm_apart.proofs.Cuts.{both_map}
@@ -58,6 +64,7 @@ module _ (m : NodeId) where
 
   notes_found : (n : ℕ) (notes : List Note) → filter (tells_busy m) (note_lines n notes) ≡ map (busy_line n) (busy_others m notes)
   notes_found n [] = refl
+  notes_found n (Called proc code ∷ notes) = notes_found n notes
   notes_found n (Busy master ∷ notes) = at (master.0 == m.0) (notes_found n notes)
     where
       later : List (List Word)
@@ -68,11 +75,29 @@ module _ (m : NodeId) where
       at true same = same
       at false same = ap (λ lines. busy_line n master ∷ lines) same
 
+  -- the answer to a power call tells of no full box
+  none_answered : (proc : NodeId) (code : Option ℤ) → busy_others m (noted_answer proc code) ≡ []
+  none_answered proc None = refl
+  none_answered proc (Some code) = refl
+
+  none_of : (t : Topology) (event : Event) (reply : Option Response) → busy_others m (called_note t event reply) ≡ []
+  none_of t (Smc proc function args) reply = none_answered proc (answered t (call proc function args) reply)
+  none_of t event reply = refl
+
+  none_called : (notes : List Note) (t : Topology) (event : Event) (reply : Option Response)
+      → busy_others m (notes ++ called_note t event reply) ≡ busy_others m notes
+  none_called notes t event reply =
+      flat_map-append (busy_of m) notes (called_note t event reply)
+      ∙ (ap (λ (others : List NodeId). busy_others m notes ++ others) (none_of t event reply) ∙ append-nil (busy_others m notes))
+
   line_busy : LineFinds (tells_busy m) busy_lines
   line_busy n kept answers line drops =
       let given : List Given = give kept answers line.cores in
-      filter-append (tells_busy m) (flat_map (given_lines n) given) (note_lines n line.notes)
-      ∙ (ap (λ found. found ++ filter (tells_busy m) (note_lines n line.notes)) (none_given n given) ∙ notes_found n line.notes)
+      let x : Driven = drive_line kept answers line in
+      filter-append (tells_busy m) (flat_map (given_lines n) given) (note_lines n (notes_of x))
+      ∙ (ap (λ found. found ++ filter (tells_busy m) (note_lines n (notes_of x))) (none_given n given)
+      ∙ (notes_found n (notes_of x)
+      ∙ ap (map (busy_line n)) (none_called line.notes line.after.book.fixed.topology line.event (reply_after None x.cores))))
 
 pub busy_apart : (c : Setup) (m : NodeId) (events : List Event) → AreWorldsAlike c m events → (answers others : List (List Bool)) (cut : Option ℕ)
     → filter (tells_busy m) (step_lines 0 (until cut (driven c answers events))) ≡ filter (tells_busy m) (step_lines 0 (until cut (driven c others (quiet m events))))

@@ -20,7 +20,7 @@ use Rattle.pm_core.specs.declared.replies.Answer.{Answer}
 use Rattle.pm_core.specs.declared.replies.Answer.TheVariants.{Silent, Drop, Reply, Ack}
 use Rattle.pm_state.specs.Values.{value}
 use Rattle.pm_split.specs.Split.{Note}
-use Rattle.pm_split.specs.Split.Note.{Busy}
+use Rattle.pm_split.specs.Split.Note.{Busy, Called}
 use Rattle.pm_run.specs.Run.{Core, Line as ScriptLine, Setup, run}
 use Rattle.pm_laws.specs.Answers.{is_dropped}
 use Rattle.pm_laws.specs.Border.{Border, none_within}
@@ -39,7 +39,8 @@ use Rattle.pm_trace.specs.declared.step.StepLine.TheVariants as told
 use Rattle.pm_trace.specs.Line.{numbers}
 use Rattle.pm_trace.specs.Notes.{note_words}
 use Rattle.pm_trace.specs.Step.{acknowledgement, answer_line, command_name, late_line, notices_of, told_lines, step_words}
-use Rattle.pm_drive.specs.Drive.{Given, driven, first_answers, give, later_answers, until}
+use Rattle.pm_drive.specs.Drive.{Given, drive_line, driven, first_answers, give, later_answers, until}
+use Rattle.pm_drive.specs.Text.{notes_of}
 use Rattle.pm_drive.specs.Drove.{IsTold}
 use Rattle.pm_apart.specs.Lines.{given_lines, note_lines, numbered, step_lines}
 use Rattle.pm_apart.specs.Telling.{TellsApart, is_call, tells_call, tells_drop, tells_start}
@@ -92,9 +93,10 @@ module _ (T : List Word → Bool) (F : Core → List StepLine) (none : (n : ℕ)
     line_found : LineFinds T lines_found
     line_found n kept answers line drops =
         let given : List Given = give kept answers line.cores in
-        filter-append T (flat_map (given_lines n) given) (note_lines n line.notes)
-        ∙ (ap (λ found. found ++ filter T (note_lines n line.notes)) (given_found n line.cores kept answers drops)
-        ∙ (ap (λ found. lines_found n line ++ found) (no_notes n line.notes)
+        let notes : List Note = notes_of (drive_line kept answers line) in
+        filter-append T (flat_map (given_lines n) given) (note_lines n notes)
+        ∙ (ap (λ found. found ++ filter T (note_lines n notes)) (given_found n line.cores kept answers drops)
+        ∙ (ap (λ found. lines_found n line ++ found) (no_notes n notes)
         ∙ append-nil (lines_found n line)))
 
 -- a test on what a line tells, of which the lines pass that it is made of
@@ -189,7 +191,9 @@ module _ (c : Setup) (m : NodeId) (events : List Event) (alike : AreWorldsAlike 
 
   no_note : (what : Tells) (n : ℕ) (note : Note) → tells what (numbered n (note_words note)) ≡ false
   no_note Starts n (Busy master) = refl
+  no_note Starts n (Called proc code) = refl
   no_note _ n (Busy master) = refl
+  no_note _ n (Called proc code) = refl
 
   -- of the lines of a core step the test finds those that tell of it
   found_of : (what : Tells) (F : Core → List StepLine) → ((g : Given) → IsTold g → Drops g.core → told_of what g ≡ F g.core)

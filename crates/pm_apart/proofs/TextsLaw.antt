@@ -16,7 +16,7 @@ use Rattle.pm_state.specs.Load.{load_of}
 use Rattle.pm_state.specs.State.{State}
 use Rattle.pm_state.specs.Units.{units}
 use Rattle.pm_split.specs.Split.{Note}
-use Rattle.pm_split.specs.Split.Note.{Busy}
+use Rattle.pm_split.specs.Split.Note.{Busy, Called}
 use Rattle.pm_run.specs.Run.{Setup}
 use Rattle.pm_apply.specs.Part.{Kept}
 use Rattle.pm_apply.specs.Record.{at_zero, kept_value}
@@ -30,7 +30,7 @@ use Rattle.pm_trace.specs.Line.{line_text, numbers}
 use Rattle.pm_trace.specs.Notes.{note_line, note_words, notes_text}
 use Rattle.pm_trace.specs.Step.{Notices, answer_line, command_name, core_text, late_line, notices_of, numbered_line, output_words, told_lines, step_words}
 use Rattle.pm_drive.specs.Drive.{Driven, Given, driven, last_book, last_kept}
-use Rattle.pm_drive.specs.Text.{driven_text, given_text, run_text, texts}
+use Rattle.pm_drive.specs.Text.{driven_text, given_text, notes_of, run_text, texts}
 use Rattle.pm_apart.specs.Lines.{closing_line, commands_of, commands_on, driven_lines, given_lines, is_about, is_on, note_lines, numbered, run_lines, set_lines, step_lines, table_lines}
 use Rattle.pm_apart.proofs.FilterLemmas.{filter_made, left_out, none_of_both}
 
@@ -63,9 +63,9 @@ notes_are n (note ∷ notes) = ap (λ text. note_line n note ++ text) (notes_are
 
 line_is : (n : ℕ) (x : Driven) → driven_text n x ≡ text_of (driven_lines n x)
 line_is n x =
-    joined (given_text n x.cores) (notes_text n x.line.notes) (text_of (flat_map (given_lines n) x.cores)) (text_of (note_lines n x.line.notes))
-    (given_are n x.cores) (notes_are n x.line.notes)
-    ∙ sym (text_append (flat_map (given_lines n) x.cores) (note_lines n x.line.notes))
+    joined (given_text n x.cores) (notes_text n (notes_of x)) (text_of (flat_map (given_lines n) x.cores)) (text_of (note_lines n (notes_of x)))
+    (given_are n x.cores) (notes_are n (notes_of x))
+    ∙ sym (text_append (flat_map (given_lines n) x.cores) (note_lines n (notes_of x)))
 
 pub steps_are : (n : ℕ) (xs : List Driven) → concat (texts n xs) ≡ text_of (step_lines n xs)
 steps_are n [] = refl
@@ -187,6 +187,8 @@ module _ (u : Unit) (n : ℕ) where
   note_apart : (x : Unit) (note : Note) → is_about x (numbered n (note_words note)) ≡ false
   note_apart (Node node) (Busy master) = refl
   note_apart (Line line) (Busy master) = refl
+  note_apart (Node node) (Called proc code) = refl
+  note_apart (Line line) (Called proc code) = refl
 
   notes_apart : (notes : List Note) → filter (is_about u) (note_lines n notes) ≡ []
   notes_apart [] = refl
@@ -194,9 +196,9 @@ module _ (u : Unit) (n : ℕ) where
 
   driven_about : (x : Driven) → filter (is_about u) (driven_lines n x) ≡ map set_line (commands_on u x)
   driven_about x =
-      filter-append (is_about u) (flat_map (given_lines n) x.cores) (note_lines n x.line.notes)
-      ∙ (ap (λ lines. lines ++ filter (is_about u) (note_lines n x.line.notes)) (given_about x.cores)
-      ∙ (ap (λ lines. map set_line (commands_on u x) ++ lines) (notes_apart x.line.notes)
+      filter-append (is_about u) (flat_map (given_lines n) x.cores) (note_lines n (notes_of x))
+      ∙ (ap (λ lines. lines ++ filter (is_about u) (note_lines n (notes_of x))) (given_about x.cores)
+      ∙ (ap (λ lines. map set_line (commands_on u x) ++ lines) (notes_apart (notes_of x))
       ∙ append-nil (map set_line (commands_on u x))))
 
 pub lines_about : (u : Unit) (n : ℕ) (xs : List Driven) → filter (is_about u) (step_lines n xs) ≡ set_lines u n xs

@@ -49,12 +49,12 @@ StepsStayApart c answers events cut =
 
 -- beyond the reach of a master the run of these events is as the run without its messages. No device occurs in it. The core steps
 -- of the two are beside one another, line by line: what is in both tells the same there, and what is in one alone, which is a
--- message of the master or nothing, tells nothing there. So line by line the books agree there, each unit has the same value and
--- each processor the same mode; the same units move, the same processors start, and the same reset lines are pulsed; the same is
--- asked of masters there, the same requests to them end, with the same late replies, and the same callbacks are made to them, but
--- for those about nodes within the reach; the same messages of other masters are dropped, and those that name nothing within the
--- reach are answered the same, before an internal error takes the place of success. The boxes of all other masters hold the same,
--- and the same of these masters are told that theirs are full
+-- message of the master, the wait of a processor of it, or nothing, tells nothing there. So line by line the books agree there,
+-- each unit has the same value and each processor the same mode; the same units move, the same processors start, and the same
+-- reset lines are pulsed; the same is asked of masters there, the same requests to them end, with the same late replies, and the
+-- same callbacks are made to them, but for those about nodes within the reach; the same messages of other masters are dropped, and
+-- those that name nothing within the reach are answered the same, before an internal error takes the place of success. The boxes of
+-- all other masters hold the same, and the same of these masters are told that theirs are full
 pub record BooksStayApart (c : Setup) (events : List Event) (m : NodeId) : Type 0 where
   pub beside : AreWorldsBeside c m events
   pub alike : AreWorldsAlike c m events

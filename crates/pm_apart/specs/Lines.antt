@@ -24,6 +24,7 @@ use Rattle.pm_trace.specs.Line.{numbers}
 use Rattle.pm_trace.specs.Notes.{note_words}
 use Rattle.pm_trace.specs.Step.{notices_of, output_words, step_words}
 use Rattle.pm_drive.specs.Drive.{Driven, Given, driven, last_book, last_kept}
+use Rattle.pm_drive.specs.Text.{notes_of}
 
 -- ---- the lines of a run
 
@@ -39,9 +40,9 @@ given_lines n g = map (numbered n) (output_words g.part.commands (notices_of g.c
 abbrev pub note_lines : ℕ → List Note → List (List Word)
 note_lines n notes = map (λ note. numbered n (note_words note)) notes
 
--- those of a driven line: of its core steps in order, and then its own
+-- those of a driven line: of its core steps in order, and then its notes
 abbrev pub driven_lines : ℕ → Driven → List (List Word)
-driven_lines n x = flat_map (given_lines n) x.cores ++ note_lines n x.line.notes
+driven_lines n x = flat_map (given_lines n) x.cores ++ note_lines n (notes_of x)
 
 -- those of driven lines, the first of which has this number
 abbrev pub step_lines : ℕ → List Driven → List (List Word)

@@ -1,4 +1,5 @@
 pub mod DroveLaw
 pub mod DroveLemmas
+pub mod LoweredLaw
 pub mod MetLemmas
 pub mod ToldLemmas

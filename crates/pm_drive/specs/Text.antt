@@ -1,8 +1,12 @@
 -- The text of a run: what is written of its lines, and the closing table.
-use Rattle.std.specs.Prelude.{ℕ, ◌+◌, Bool, List, [], ◌∷◌, ◌++◌, flat_map}
+use Rattle.std.specs.Prelude.{ℕ, ◌+◌, Bool, List, [], ◌∷◌, ◌++◌, flat_map, Option, Some, None}
 use Rattle.std.specs.List.{concat}
 use Rattle.pm_base.specs.declared.events.Event.{Event}
+use Rattle.pm_ipi.specs.declared.responses.Response.{Response}
 use Rattle.pm_state.specs.Load.{load_of}
+use Rattle.pm_core.specs.declared.replies.Answer.{Answer}
+use Rattle.pm_core.specs.declared.replies.Answer.TheVariants.{Reply}
+use Rattle.pm_split.specs.Split.{Note, called_note}
 use Rattle.pm_run.specs.Run.{Setup}
 use Rattle.pm_apply.specs.Record.{at_zero}
 use Rattle.pm_trace.specs.Closing.{closing_text}
@@ -14,9 +18,22 @@ use Rattle.pm_drive.specs.Drive.{Driven, Given, driven, last_book, last_kept}
 abbrev pub given_text : ℕ → List Given → List ℕ
 given_text n given = flat_map (λ (g : Given). core_text n g.core.outputs g.part) given
 
--- what is written of a script line: of each of its core steps, and then its own notes
+-- the last reply of a line, as it is told, where there was this one before or none
+abbrev pub later_reply : Option Response → Answer → Option Response
+later_reply reply (Reply master response) = Some response
+later_reply reply answer = reply
+
+abbrev pub reply_after : Option Response → List Given → Option Response
+reply_after reply [] = reply
+reply_after reply (g ∷ given) = reply_after (later_reply reply g.part.answer) given
+
+-- the notes of a driven line: its own, and then the answer to its power call, by the reply that was told
+abbrev pub notes_of : Driven → List Note
+notes_of x = x.line.notes ++ called_note x.line.after.book.fixed.topology x.line.event (reply_after None x.cores)
+
+-- what is written of a script line: of each of its core steps, and then its notes
 abbrev pub driven_text : ℕ → Driven → List ℕ
-driven_text n x = given_text n x.cores ++ notes_text n x.line.notes
+driven_text n x = given_text n x.cores ++ notes_text n (notes_of x)
 
 -- the texts of lines, the first of which has this number
 abbrev pub texts : ℕ → List Driven → List (List ℕ)

@@ -8,6 +8,8 @@ ghost use Rattle.pm_device.specs.Act.{Chain};
 ghost use Rattle.pm_run.specs.Run.{Setup};
 ghost use Rattle.pm_drive.specs.Drive.{acts, driven, until};
 ghost use Rattle.pm_drive.specs.Drove.{Drove};
+ghost use Rattle.pm_drive.specs.Lowered.{HaveSameSteps, lowered_script};
+ghost use Rattle.pm_drive.specs.PowerCalls.{EachCallIsItsEvents};
 
 use pm_apply::{a_part_without_refusal, at_zero_is_a_record, each_part_is_safe, orders_join};
 use pm_device::{Device, acts_append, chain_shows, none_is_refused};
@@ -35,3 +37,18 @@ pub fn driven_follows<D: Device>()
     books_of_a_run();
     kinds_are_exact();
 }
+
+/// The line of a power call is the run of the events that it is lowered to, by the chip and the call alone: its core
+/// steps, the book after it, the commands and their lines are those of these events one after another. Then comes the
+/// answer to the call, if it has one, by the last reply that was told.
+pub fn power_calls_are_their_events()
+    ensures { (c : Setup) → EachCallIsItsEvents c }
+{}
+
+/// The run of a script is that of the script in which its power calls are lowered, over a device that answers the same:
+/// a line for each of the events of a call stands in place of it. Both have the same core steps, write the same lines but
+/// for their numbers and the answers to power calls, do the same to the device, and have the same closing table.
+pub fn scripts_are_lowered()
+    ensures { (c : Setup) (events : List Event) (answers : List (List Bool))
+        → HaveSameSteps c (driven c answers events) (driven c answers (lowered_script c.topology events)) }
+{}

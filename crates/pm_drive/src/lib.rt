@@ -4,5 +4,5 @@
 mod laws;
 mod rigs;
 
-pub use laws::driven_follows;
+pub use laws::{driven_follows, power_calls_are_their_events, scripts_are_lowered};
 pub use rigs::rig;

@@ -2,6 +2,7 @@
 use Rattle.std.proofs.Common.{◌≡◌, List, [], ◌∷◌, refl, sym, ◌∙◌, ap, subst}
 use Rattle.pm_base.specs.declared.events.Event.{Event}
 use Rattle.pm_object.specs.declared.object.Object.{Object}
+use Rattle.pm_topology.specs.declared.topology.Topology.{Topology}
 use Rattle.pm_state.specs.State.{Fixed, State}
 use Rattle.pm_core.specs.Step.{effect}
 use Rattle.pm_split.specs.declared.cores.CoreEvents.{CoreEvents}
@@ -18,44 +19,45 @@ stand_is a b book boxes =
 -- part of the way: the events that are left lead to the end of the line
 pub record IsUnderWay (event : Event) (left : CoreEvents) (start now : Stand) : Type 0 where
   pub fixed : now.book.fixed ≡ start.book.fixed
-  pub book : book_after (events_left start.book.fixed.object now.boxes left) now.book ≡ (line_after event start).book
+  pub book : book_after (events_left start.book.fixed.object start.book.fixed.topology now.boxes left) now.book ≡ (line_after event start).book
   pub boxes : boxes_left now.boxes left ≡ (line_after event start).boxes
 
 -- those that are left after one was taken off, where the run stands after it
 pub next_left : (core : Event) (left rest : CoreEvents) (start now taken then : Stand) → now.book.fixed ≡ start.book.fixed
-    → events_left now.book.fixed.object now.boxes left ≡ core ∷ events_left now.book.fixed.object taken.boxes rest
+    → events_left now.book.fixed.object now.book.fixed.topology now.boxes left ≡ core ∷ events_left now.book.fixed.object now.book.fixed.topology taken.boxes rest
     → then.boxes ≡ taken.boxes
-    → events_left start.book.fixed.object now.boxes left ≡ core ∷ events_left start.book.fixed.object then.boxes rest
+    → events_left start.book.fixed.object start.book.fixed.topology now.boxes left ≡ core ∷ events_left start.book.fixed.object start.book.fixed.topology then.boxes rest
 next_left core left rest start now taken then fixed events same =
-    let P : Fixed → Type 0 = λ fixed. events_left fixed.object now.boxes left ≡ core ∷ events_left fixed.object taken.boxes rest in
-    subst P fixed events ∙ ap (λ (b : Boxes). core ∷ events_left start.book.fixed.object b rest) (sym same)
+    let P : Fixed → Type 0 = λ fixed. events_left fixed.object fixed.topology now.boxes left ≡ core ∷ events_left fixed.object fixed.topology taken.boxes rest in
+    subst P fixed events ∙ ap (λ (b : Boxes). core ∷ events_left start.book.fixed.object start.book.fixed.topology b rest) (sym same)
 
 pub one_more : (event core : Event) (left rest : CoreEvents) (start now taken then : Stand) → IsUnderWay event left start now
     → taken.book ≡ now.book
-    → events_left now.book.fixed.object now.boxes left ≡ core ∷ events_left now.book.fixed.object taken.boxes rest
+    → events_left now.book.fixed.object now.book.fixed.topology now.boxes left ≡ core ∷ events_left now.book.fixed.object now.book.fixed.topology taken.boxes rest
     → boxes_left taken.boxes rest ≡ boxes_left now.boxes left
     → then.book ≡ effect core taken.book → then.boxes ≡ taken.boxes
     → IsUnderWay event rest start then
 one_more event core left rest start now taken then way book events boxes after same =
     let O : Object = start.book.fixed.object in
-    let next : events_left O now.boxes left ≡ core ∷ events_left O then.boxes rest = next_left core left rest start now taken then way.fixed events same in
+    let T : Topology = start.book.fixed.topology in
+    let next : events_left O T now.boxes left ≡ core ∷ events_left O T then.boxes rest = next_left core left rest start now taken then way.fixed events same in
     let is : then.book ≡ effect core now.book = after ∙ ap (effect core) book in
     record {
       fixed = ap (λ (b : State). b.fixed) is ∙ way.fixed;
-      book = ap (book_after (events_left O then.boxes rest)) is ∙ (sym (ap (λ (events : List Event). book_after events now.book) next) ∙ way.book);
+      book = ap (book_after (events_left O T then.boxes rest)) is ∙ (sym (ap (λ (events : List Event). book_after events now.book) next) ∙ way.book);
       boxes = ap (λ (b : Boxes). boxes_left b rest) same ∙ (boxes ∙ way.boxes);
     }
 
 -- none is left
 pub none_ends : (left : CoreEvents) (start now : Stand) → now.book.fixed ≡ start.book.fixed
-    → events_left now.book.fixed.object now.boxes left ≡ [] → events_left start.book.fixed.object now.boxes left ≡ []
-none_ends left start now fixed none = let P : Fixed → Type 0 = λ fixed. events_left fixed.object now.boxes left ≡ [] in subst P fixed none
+    → events_left now.book.fixed.object now.book.fixed.topology now.boxes left ≡ [] → events_left start.book.fixed.object start.book.fixed.topology now.boxes left ≡ []
+none_ends left start now fixed none = let P : Fixed → Type 0 = λ fixed. events_left fixed.object fixed.topology now.boxes left ≡ [] in subst P fixed none
 
 pub line_ends : (event : Event) (left : CoreEvents) (start now then : Stand) → IsUnderWay event left start now
-    → then.book ≡ now.book → events_left now.book.fixed.object now.boxes left ≡ [] → then.boxes ≡ boxes_left now.boxes left
+    → then.book ≡ now.book → events_left now.book.fixed.object now.book.fixed.topology now.boxes left ≡ [] → then.boxes ≡ boxes_left now.boxes left
     → then ≡ line_after event start
 line_ends event left start now then way book none boxes =
-    let all : events_left start.book.fixed.object now.boxes left ≡ [] = none_ends left start now way.fixed none in
+    let all : events_left start.book.fixed.object start.book.fixed.topology now.boxes left ≡ [] = none_ends left start now way.fixed none in
     stand_is then (line_after event start) (book ∙ (sym (ap (λ (events : List Event). book_after events now.book) all) ∙ way.book)) (boxes ∙ way.boxes)
 
 -- the object and the chip of a run stay

@@ -95,8 +95,7 @@ history_alike laws c m unit closed beyond (x ∷ xs) (y ∷ ys) books alike =
     ∙ ap (λ (later : List ℕ). shown unit y.after.book ∷ later) (history_alike laws c m unit closed beyond xs ys (λ k d within. books (suc k) d (omega (arith, within))) alike.1)
 
 -- a unit beyond the reach of a master doesn't differ
-within : (laws : ReachLaws) (c : Setup) (m : NodeId) (events : List Event) (unit : Unit) → IsObject c.object → IsWellFormed c.topology
-    → is_beyond c.object c.topology (border_of c.object c.topology m) unit ≡ true → transitions unit (run c events) ≡ transitions unit (run c (quiet m events))
+within : (laws : ReachLaws) (c : Setup) (m : NodeId) (events : List Event) (unit : Unit) → IsObject c.object → IsWellFormed c.topology → is_beyond c.object c.topology (border_of c.object c.topology m) unit ≡ true → transitions unit (run c events) ≡ transitions unit (run c (quiet m events))
 within laws c m events unit object chip beyond =
     ap (λ (values : List ℕ). changes 0 0 values) (history_alike laws c m unit (laws.closed c.object c.topology m object chip) beyond (run c events) (run c (quiet m events)) (laws.books c events chip) (laws.alike c m events object chip))
 

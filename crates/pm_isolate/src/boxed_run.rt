@@ -1,7 +1,6 @@
 //! A runner on the heap.
 
 ghost use Rattle.std.specs.Prelude.{◌≡◌, ◌∷◌, [], None, IfOk, MatchOption};
-ghost use Rattle.pm_topology.specs.Masters.{ObeysMasterRules};
 ghost use Rattle.pm_topology.specs.WellFormed.{IsWellFormed};
 ghost use Rattle.pm_state.specs.Units.{moved};
 ghost use Rattle.pm_state.specs.Values.{value};
@@ -42,7 +41,6 @@ impl BoxedRun {
     /// `NoMemory` where there is not enough memory.
     pub fn load(alloc: Global, object: Object, topology: Topology) -> Result<BoxedRun, NoMemory>
         requires formed { IsWellFormed topology }
-        requires masters { ObeysMasterRules topology }
         ensures { IfOk result (λ run. run ≡ loaded (setup object topology)) }
     {
         let runner = runner_of(alloc, object, topology)?;
@@ -58,7 +56,7 @@ impl BoxedRun {
     /// Splits the event of a script line. Its core events are taken by `next`.
     pub fn split(&mut self, event: &Event) -> Split
         ensures book { self.new.book ≡ self.old.book }
-        ensures events { events_left self.old.book.fixed.object self.new.boxes result.cores
+        ensures events { events_left self.old.book.fixed.object self.old.book.fixed.topology self.new.boxes result.cores
             ≡ (split (setup_of self.old.book) event.now self.old).events }
         ensures boxes { boxes_left self.new.boxes result.cores
             ≡ (split (setup_of self.old.book) event.now self.old).boxes }
@@ -70,10 +68,10 @@ impl BoxedRun {
     pub fn next(&mut self, cores: &mut CoreEvents) -> Option<Event>
         ensures book { self.new.book ≡ self.old.book }
         ensures events { MatchOption result
-            ((events_left self.old.book.fixed.object self.old.boxes cores.old ≡ [])
-            × (events_left self.old.book.fixed.object self.new.boxes cores.new ≡ []))
-            (λ event. events_left self.old.book.fixed.object self.old.boxes cores.old
-            ≡ event ∷ events_left self.old.book.fixed.object self.new.boxes cores.new) }
+            ((events_left self.old.book.fixed.object self.old.book.fixed.topology self.old.boxes cores.old ≡ [])
+            × (events_left self.old.book.fixed.object self.old.book.fixed.topology self.new.boxes cores.new ≡ []))
+            (λ event. events_left self.old.book.fixed.object self.old.book.fixed.topology self.old.boxes cores.old
+            ≡ event ∷ events_left self.old.book.fixed.object self.old.book.fixed.topology self.new.boxes cores.new) }
         ensures boxes { boxes_left self.new.boxes cores.new ≡ boxes_left self.old.boxes cores.old }
         ensures end { result ≡ None → self.new.boxes ≡ boxes_left self.old.boxes cores.old }
     {
@@ -95,7 +93,6 @@ impl BoxedRun {
 /// The book of an object at load, its outbox and its boxes, on the heap.
 fn runner_of(alloc: Global, object: Object, topology: Topology) -> Result<Box<Runner>, NoMemory>
     requires formed { IsWellFormed topology }
-    requires masters { ObeysMasterRules topology }
     ensures { IfOk result (λ runner. stand_at runner.value.book runner.value.boxes ≡ loaded (setup object topology)) }
 {
     let runner = Runner::load(alloc, object, topology)?;

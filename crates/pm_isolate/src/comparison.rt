@@ -7,14 +7,14 @@ ghost use Rattle.pm_base.specs.Inputs.{MayFail};
 ghost use Rattle.pm_base.specs.Sink.{HasFailed, IsUnfailed};
 ghost use Rattle.pm_base.specs.declared.prefix.StopReason.TheVariants.{Unbegun};
 ghost use Rattle.pm_object.specs.Grammar.{IsObject};
-ghost use Rattle.pm_topology.specs.Masters.{ObeysMasterRules};
 ghost use Rattle.pm_topology.specs.WellFormed.{IsWellFormed};
 ghost use Rattle.pm_script.specs.Named.{script_in};
 ghost use Rattle.pm_script.specs.Script.{script_limit, stop_of};
+ghost use Rattle.pm_base.specs.Readings.{Meanwhile};
 ghost use Rattle.pm_reader.specs.Follow.{OfScript};
 ghost use Rattle.pm_trace.specs.Exits.{EndsWith, IsStarved};
 ghost use Rattle.pm_trace.specs.Report.{Reports};
-ghost use Rattle.pm_trace.specs.Scripts.{script_exit, script_or_fault};
+ghost use Rattle.pm_trace.specs.Scripts.{ReadsBegun, ReadsScript, script_exit, script_named, script_or_fault};
 ghost use Rattle.pm_run.specs.Run.{setup};
 ghost use Rattle.pm_isolate.specs.Compared.{Compared, IsCompared};
 ghost use Rattle.pm_isolate.specs.Within.{IsPrepared, end_report, report_behind, rest_report, setup_in};
@@ -50,7 +50,6 @@ pub fn compare<I: Inputs, O: Sink>(
 ) -> Exit
     requires object { IsObject object }
     requires formed { IsWellFormed topology }
-    requires masters { ObeysMasterRules topology }
     requires named { IsTrue (list_any (λ r. r.node == m.0) object.masters) }
     // On Done the input held a script under the name, and the whole text was written: the reach of the
     // master, the units whose transitions differ in the two runs, and the number of script lines. Each of these
@@ -64,6 +63,9 @@ pub fn compare<I: Inputs, O: Sink>(
     // On every exit: what was asked for, and what was written of it.
     ensures ran { Compared I.Inputs O.Sink (setup object topology) m script.now
         inputs.old inputs.new out.old out.new result }
+    // On every exit, of any inputs: the script is begun once, and read to its end or to one byte past the limit, or up
+    // to a call that failed, or, where the run ends before, up to somewhere. Nothing else is begun or read.
+    ensures begun { Meanwhile (I.state inputs.old) (I.state inputs.new) (ReadsScript result (script_named script.now)) }
     // On Memory nothing was written but the fault line, as far as the sink took it.
     ensures memory { result ≡ Exit.Memory → IsStarved O.Sink out.old out.new }
     // ReadFault comes only where the inputs' count of faults rose.
@@ -92,10 +94,10 @@ fn compare_named<I: Inputs, O: Sink>(
     out: &mut O,
 ) -> Exit
     requires formed { IsWellFormed topology }
-    requires masters { ObeysMasterRules topology }
     requires named { IsTrue (list_any (λ r. r.node == m.0) object.masters) }
-    ensures { Compared I.Inputs O.Sink (setup object topology) m script.now
+    ensures ran { Compared I.Inputs O.Sink (setup object topology) m script.now
         inputs.old inputs.new out.old out.new result }
+    ensures begun { Meanwhile (I.state inputs.old) (I.state inputs.new) (ReadsScript result (script_named script.now)) }
 {
     let Ok(mut prepared) = prepare(alloc, object, topology, m) else {
         return refuse(Fault::Memory, out);
@@ -118,7 +120,6 @@ fn prepare(
     m: NodeId,
 ) -> Result<Prepared, NoMemory>
     requires formed { IsWellFormed topology }
-    requires masters { ObeysMasterRules topology }
     requires named { IsTrue (list_any (λ r. r.node == m.0) object.masters) }
     ensures { IfOk result (IsPrepared (setup object topology) m) }
 {
@@ -137,8 +138,9 @@ fn compare_prepared<I: Inputs, O: Sink>(
     out: &mut O,
 ) -> Exit
     requires { IsPrepared (setup_in prepared.old.worlds) m prepared.old }
-    ensures { Compared I.Inputs O.Sink (setup_in prepared.old.worlds) m script.now
+    ensures ran { Compared I.Inputs O.Sink (setup_in prepared.old.worlds) m script.now
         inputs.old inputs.new out.old out.new result }
+    ensures begun { Meanwhile (I.state inputs.old) (I.state inputs.new) (ReadsScript result (script_named script.now)) }
 {
     match inputs.begin(script) {
         Ok(id) => run(prepared, m, inputs, id, out),
@@ -158,6 +160,7 @@ fn run<I: Inputs, O: Sink>(
         (λ s. Reports O.Sink (report_behind prepared.old.reach.items
         (rest_report m s prepared.old.worlds)) out.old out.new result) }
     ensures fault { result ≡ Exit.ReadFault → Rose (I.state inputs.old).faults (I.state inputs.new).faults }
+    ensures reads { Meanwhile (I.state inputs.old) (I.state inputs.new) (ReadsBegun result id) }
 {
     match write_all(out, prepared.reach.as_slice()) {
         Ok(()) => run_rest(&mut prepared.worlds, m, inputs, id, out),
@@ -176,6 +179,7 @@ fn run_rest<I: Inputs, O: Sink>(
     ensures ran { OfScript I.observable id (I.state inputs.old)
         (λ s. Reports O.Sink (rest_report m s worlds.old) out.old out.new result) }
     ensures fault { result ≡ Exit.ReadFault → Rose (I.state inputs.old).faults (I.state inputs.new).faults }
+    ensures reads { Meanwhile (I.state inputs.old) (I.state inputs.new) (ReadsBegun result id) }
 {
     match run_lines(worlds, m, inputs, id) {
         Ok(end) => finish(worlds, end.stop, end.count, out),

@@ -30,12 +30,14 @@ pub fn transitions_are_exact()
 /// the reach of that master, or a processor of a master that is one; and so is each of all that differ.
 pub fn what_differs_is_reached()
     ensures one { (c : Setup) (m : NodeId) (events : List Event) (members : List Member) (unit : Unit)
-        → IsObject c.object → IsWellFormed c.topology → IsReach c.object c.topology m members
+        → IsObject c.object → IsWellFormed c.topology
+        → IsReach c.object c.topology m members
         → has_unit c.topology unit ≡ true
         → differs (run c events) (run c (quiet m events)) unit ≡ true
         → IsListed c.object c.topology members unit }
     ensures all { (c : Setup) (m : NodeId) (events : List Event) (members : List Member)
-        → IsObject c.object → IsWellFormed c.topology → IsReach c.object c.topology m members
+        → IsObject c.object → IsWellFormed c.topology
+        → IsReach c.object c.topology m members
         → AreListed c m members events }
 {
     reach_keeps_apart();

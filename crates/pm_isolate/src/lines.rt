@@ -3,7 +3,8 @@
 ghost use Rattle.std.specs.Prelude.{◌≡◌, ◌≢◌, IfOk};
 ghost use Rattle.pm_base.specs.Faults.{Rose};
 ghost use Rattle.pm_base.specs.declared.prefix.StopReason.TheVariants.{Failure, Unbegun};
-ghost use Rattle.pm_reader.specs.Follow.{OfScript};
+ghost use Rattle.pm_base.specs.Readings.{Meanwhile};
+ghost use Rattle.pm_reader.specs.Follow.{OfScript, ReadsLines};
 ghost use Rattle.pm_isolate.specs.Within.{RanLines};
 
 use crate::worlds::Worlds;
@@ -40,6 +41,7 @@ pub fn run_lines<I: Inputs>(
     ensures ends { IfOk result (λ end. end.stop ≢ Unbegun) }
     ensures fault { IfOk result (λ end. end.stop ≡ Failure
         → Rose (I.state inputs.old).faults (I.state inputs.new).faults) }
+    ensures reads { Meanwhile (I.state inputs.old) (I.state inputs.new) (ReadsLines id result) }
 {
     let mut watcher = Watcher { worlds, m };
     each_line(inputs, id, &mut watcher)

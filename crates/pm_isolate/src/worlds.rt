@@ -1,7 +1,6 @@
 //! Two runs side by side, one of them without the messages of a master.
 
 ghost use Rattle.std.specs.Prelude.{◌≡◌, ◌<◌, IfOk, Some, length, slice_get};
-ghost use Rattle.pm_topology.specs.Masters.{ObeysMasterRules};
 ghost use Rattle.pm_topology.specs.WellFormed.{IsWellFormed};
 ghost use Rattle.pm_run.specs.Run.{setup};
 ghost use Rattle.pm_isolate.specs.Moves.{line_moves};
@@ -52,7 +51,6 @@ impl Worlds {
     /// `NoMemory` where there is not enough memory.
     pub fn load(alloc: Global, object: Object, topology: Topology) -> Result<Worlds, NoMemory>
         requires formed { IsWellFormed topology }
-        requires masters { ObeysMasterRules topology }
         ensures { IfOk result (λ worlds. worlds ≡ begun (setup object topology)) }
     {
         let units = units_of(alloc, &topology)?;

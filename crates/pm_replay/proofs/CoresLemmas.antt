@@ -1,6 +1,7 @@
 -- The core events of a line are carried out one after another.
-use Rattle.std.proofs.Common.{◌≡◌, ℕ, Bool, List, [], ◌∷◌, ◌++◌, Option, Some, Result, Ok, Err, suc, refl, sym, ◌∙◌, ap, subst}
+use Rattle.std.proofs.Common.{◌≡◌, ℕ, List, [], ◌∷◌, ◌++◌, Option, None, Some, Result, Ok, Err, suc, refl, sym, ◌∙◌, ap, subst}
 use Rattle.std.specs.Prelude.{⊤, OnErr, OnOk}
+use Rattle.std.proofs.lemmas.Grind.{flat_map-append}
 use Rattle.std.proofs.lemmas.List.{append_assoc}
 use Rattle.pm_base.specs.declared.errors.Failed.{Failed}
 use Rattle.pm_base.specs.declared.events.Event.{Event}
@@ -11,19 +12,21 @@ use Rattle.pm_base.proofs.SinkLemmas.{Wrote-refl, Wrote-trans}
 use Rattle.pm_device.specs.declared.device.Device as Device
 use Rattle.pm_device.specs.Act.{Chain}
 use Rattle.pm_device.specs.Chains.{Chain-append}
+use Rattle.pm_ipi.specs.declared.responses.Response.{Response}
 use Rattle.pm_object.specs.declared.object.Object.{Object}
+use Rattle.pm_topology.specs.declared.topology.Topology.{Topology}
 use Rattle.pm_state.specs.State.{Fixed, State}
 use Rattle.pm_core.specs.Step.{effect, outputs}
 use Rattle.pm_split.specs.declared.cores.CoreEvents.{CoreEvents}
 use Rattle.pm_split.specs.Boxes.{Boxes}
 use Rattle.pm_split.specs.Left.{boxes_left, events_left}
-use Rattle.pm_split.specs.Split.{Note}
+use Rattle.pm_split.specs.Split.{Note, called_note}
 use Rattle.pm_run.specs.Run.{Core, Setup, core_of, cores_of, setup_of, split}
 use Rattle.pm_apply.specs.Part.{Kept, Part, answers_in, orders_in, part_in, part_of}
-use Rattle.pm_trace.specs.Notes.{notes_text}
+use Rattle.pm_trace.specs.Notes.{note_line, notes_text}
 use Rattle.pm_trace.specs.Step.{Notices, core_text, step_text}
 use Rattle.pm_drive.specs.Drive.{Given, give, kept_after, orders_in_cores, rigs}
-use Rattle.pm_drive.specs.Text.{given_text}
+use Rattle.pm_drive.specs.Text.{given_text, later_reply, reply_after}
 use Rattle.pm_replay.specs.Controls.{Controls, stand_in}
 use Rattle.pm_replay.specs.Within.{RanCore, RanCores, RanLine, Writes, WritesOn}
 
@@ -93,15 +96,20 @@ module _ {O : Type 0} (o : Sink.Ghosts O) where
       after (Ok m) is second = cc
       after (Err other) is second = (second.0 ∙ is, first.1 ∙ second.1)
 
+-- the notes of two lists, one after another
+pub notes_after : (n : ℕ) (a b : List Note) → notes_text n (a ++ b) ≡ notes_text n a ++ notes_text n b
+notes_after n a b = flat_map-append (note_line n) a b
+
 module _ {O D : Type 0} (o : Sink.Ghosts O) (d : Device.Ghosts D) where
   -- none is left
-  pub RanCores-none : (n : ℕ) (now then : Controls) (so_far : Result ⊤ Failed) (old : O) (from : D) → then.book ≡ now.book → then.kept ≡ now.kept → RanCores o d n [] now.book now.kept then so_far so_far old old from from
-  RanCores-none n now then so_far old from book kept = record { answers = []; fits = refl; after = book; keeps = kept; given = refl; writes = on-none o so_far old }
+  pub RanCores-none : (n : ℕ) (now then : Controls) (reply : Option Response) (so_far : Result ⊤ Failed) (old : O) (from : D) → then.book ≡ now.book → then.kept ≡ now.kept → RanCores o d n [] now.book now.kept then reply reply so_far so_far old old from from
+  RanCores-none n now then reply so_far old from book kept = record { answers = []; fits = refl; after = book; keeps = kept; given = refl; replied = refl; writes = on-none o so_far old }
 
   -- one was carried out, and then the others
-  pub RanCores-next : (n : ℕ) (event : Event) (events : List Event) (book : State) (kept : Kept) (mid then : Controls) (so_far far result : Result ⊤ Failed) (old via new : O) (from between to : D) → RanCore o d n event book kept mid so_far far old via from between → RanCores o d n events mid.book mid.kept then far result via new between to → RanCores o d n (event ∷ events) book kept then so_far result old new from to
-  RanCores-next n event events book kept mid then so_far far result old via new from between to one later =
-      let rest : RanCores o d n events (effect event book) mid.kept then far result via new between to = subst (λ (b : State). RanCores o d n events b mid.kept then far result via new between to) one.after later in
+  pub RanCores-next : (n : ℕ) (event : Event) (events : List Event) (book : State) (kept : Kept) (mid then : Controls) (reply told : Option Response) (so_far far result : Result ⊤ Failed) (old via new : O) (from between to : D) → RanCore o d n event book kept mid so_far far old via from between → RanCores o d n events mid.book mid.kept then (later_reply reply mid.outbox.answer) told far result via new between to → RanCores o d n (event ∷ events) book kept then reply told so_far result old new from to
+  RanCores-next n event events book kept mid then reply told so_far far result old via new from between to one later =
+      let next : Option Response = later_reply reply mid.outbox.answer in
+      let rest : RanCores o d n events (effect event book) mid.kept then next told far result via new between to = subst (λ (b : State). RanCores o d n events b mid.kept then next told far result via new between to) one.after later in
       let cores : List Core = cores_of events (effect event book) in
       let P : Part = part_in mid.kept mid.outbox in
       let with : Part → List Given = λ p. record { core = core_of event book; part = p } ∷ give p.kept rest.answers cores in
@@ -114,75 +122,77 @@ module _ {O D : Type 0} (o : Sink.Ghosts O) (d : Device.Ghosts D) where
         keeps = subst (λ (p : Part). then.kept ≡ kept_after kept (with p)) is rest.keeps;
         given = subst (λ (p : Part). Chain d.Does (orders_in_cores (with p)) from to) is
             (Chain-append d.Does (orders_in mid.outbox) (orders_in_cores (give mid.kept rest.answers cores)) from between to one.given rest.given);
+        replied = subst (λ (p : Part). told ≡ reply_after reply (with p)) is rest.replied;
         writes = subst (λ (p : Part). WritesOn o (given_text n (with p)) so_far result old new) is
             (on-both o (core_text n (outputs event book) P) (given_text n (give mid.kept rest.answers cores)) so_far far result old via new text rest.writes);
       }
 
   -- part of the way: however the core events that are left are carried out, those of the whole line are carried out so, from where
   -- the device was when they began; and the boxes that are left are those after the line
-  pub record IsUnderWay (n : ℕ) (event : Event) (left : CoreEvents) (start now : Controls) (so_far : Result ⊤ Failed) (first old : O) (begin dev : D) : Type 0 where
+  pub record IsUnderWay (n : ℕ) (event : Event) (left : CoreEvents) (start now : Controls) (reply : Option Response) (so_far : Result ⊤ Failed) (first old : O) (begin dev : D) : Type 0 where
     pub fixed : now.book.fixed ≡ start.book.fixed
-    pub goes : (then : Controls) (result : Result ⊤ Failed) (new : O) (to : D)
-        → RanCores o d n (events_left start.book.fixed.object now.boxes left) now.book now.kept then so_far result old new dev to
-        → RanCores o d n (split (setup_of start.book) event (stand_in start)).events start.book start.kept then (Ok tt) result first new begin to
+    pub goes : (then : Controls) (told : Option Response) (result : Result ⊤ Failed) (new : O) (to : D)
+        → RanCores o d n (events_left start.book.fixed.object start.book.fixed.topology now.boxes left) now.book now.kept then reply told so_far result old new dev to
+        → RanCores o d n (split (setup_of start.book) event (stand_in start)).events start.book start.kept then None told (Ok tt) result first new begin to
     pub boxes : boxes_left now.boxes left ≡ (split (setup_of start.book) event (stand_in start)).boxes
 
   -- nothing was carried out yet
   pub none_yet : (n : ℕ) (event : Event) (left : CoreEvents) (start now : Controls) (first : O) (begin : D)
       → now.book ≡ start.book → now.kept ≡ start.kept
-      → events_left start.book.fixed.object now.boxes left ≡ (split (setup_of start.book) event (stand_in start)).events
+      → events_left start.book.fixed.object start.book.fixed.topology now.boxes left ≡ (split (setup_of start.book) event (stand_in start)).events
       → boxes_left now.boxes left ≡ (split (setup_of start.book) event (stand_in start)).boxes
-      → IsUnderWay n event left start now (Ok tt) first first begin begin
+      → IsUnderWay n event left start now None (Ok tt) first first begin begin
   none_yet n event left start now first begin book kept events boxes = record {
     fixed = ap (λ (b : State). b.fixed) book;
-    goes = λ then result new to ran.
-        let rest : List Event = events_left start.book.fixed.object now.boxes left in
-        let P : State → Type 0 = λ b. RanCores o d n rest b now.kept then (Ok tt) result first new begin to in
-        let Q : Kept → Type 0 = λ k. RanCores o d n rest start.book k then (Ok tt) result first new begin to in
-        let R : List Event → Type 0 = λ events. RanCores o d n events start.book start.kept then (Ok tt) result first new begin to in
+    goes = λ then told result new to ran.
+        let rest : List Event = events_left start.book.fixed.object start.book.fixed.topology now.boxes left in
+        let P : State → Type 0 = λ b. RanCores o d n rest b now.kept then None told (Ok tt) result first new begin to in
+        let Q : Kept → Type 0 = λ k. RanCores o d n rest start.book k then None told (Ok tt) result first new begin to in
+        let R : List Event → Type 0 = λ events. RanCores o d n events start.book start.kept then None told (Ok tt) result first new begin to in
         subst R events (subst Q kept (subst P book ran));
     boxes = boxes;
   }
 
   -- one more is taken off and carried out
-  pub one_more : (n : ℕ) (event core : Event) (left rest : CoreEvents) (start now taken mid : Controls) (so_far far : Result ⊤ Failed) (first old via : O) (begin dev between : D)
-      → IsUnderWay n event left start now so_far first old begin dev
+  pub one_more : (n : ℕ) (event core : Event) (left rest : CoreEvents) (start now taken mid : Controls) (reply : Option Response) (so_far far : Result ⊤ Failed) (first old via : O) (begin dev between : D)
+      → IsUnderWay n event left start now reply so_far first old begin dev
       → taken.book ≡ now.book → taken.kept ≡ now.kept
-      → events_left now.book.fixed.object now.boxes left ≡ core ∷ events_left now.book.fixed.object taken.boxes rest
+      → events_left now.book.fixed.object now.book.fixed.topology now.boxes left ≡ core ∷ events_left now.book.fixed.object now.book.fixed.topology taken.boxes rest
       → boxes_left taken.boxes rest ≡ boxes_left now.boxes left
       → mid.boxes ≡ taken.boxes
       → RanCore o d n core taken.book taken.kept mid so_far far old via dev between
-      → IsUnderWay n event rest start mid far first via begin between
-  one_more n event core left rest start now taken mid so_far far first old via begin dev between way book kept events boxes same one =
+      → IsUnderWay n event rest start mid (later_reply reply mid.outbox.answer) far first via begin between
+  one_more n event core left rest start now taken mid reply so_far far first old via begin dev between way book kept events boxes same one =
       let object : Object = start.book.fixed.object in
-      let P : Fixed → Type 0 = λ fixed. events_left fixed.object now.boxes left ≡ core ∷ events_left fixed.object taken.boxes rest in
-      let next : events_left object now.boxes left ≡ core ∷ events_left object mid.boxes rest =
-      subst P way.fixed events ∙ ap (λ (b : Boxes). core ∷ events_left object b rest) (sym same)
+      let t : Topology = start.book.fixed.topology in
+      let P : Fixed → Type 0 = λ fixed. events_left fixed.object fixed.topology now.boxes left ≡ core ∷ events_left fixed.object fixed.topology taken.boxes rest in
+      let next : events_left object t now.boxes left ≡ core ∷ events_left object t mid.boxes rest =
+      subst P way.fixed events ∙ ap (λ (b : Boxes). core ∷ events_left object t b rest) (sym same)
       in
       record {
         fixed = ap (λ (b : State). b.fixed) one.after ∙ (ap (λ (b : State). b.fixed) book ∙ way.fixed);
-        goes = λ then result new to ran.
-            let all = RanCores-next n core (events_left object mid.boxes rest) taken.book taken.kept mid then so_far far result old via new dev between to one ran in
-            let Q : State → Type 0 = λ b. RanCores o d n (core ∷ events_left object mid.boxes rest) b taken.kept then so_far result old new dev to in
-            let R : Kept → Type 0 = λ k. RanCores o d n (core ∷ events_left object mid.boxes rest) now.book k then so_far result old new dev to in
-            let S : List Event → Type 0 = λ events. RanCores o d n events now.book now.kept then so_far result old new dev to in
-            way.goes then result new to (subst S (sym next) (subst R kept (subst Q book all)));
+        goes = λ then told result new to ran.
+            let all = RanCores-next n core (events_left object t mid.boxes rest) taken.book taken.kept mid then reply told so_far far result old via new dev between to one ran in
+            let Q : State → Type 0 = λ b. RanCores o d n (core ∷ events_left object t mid.boxes rest) b taken.kept then reply told so_far result old new dev to in
+            let R : Kept → Type 0 = λ k. RanCores o d n (core ∷ events_left object t mid.boxes rest) now.book k then reply told so_far result old new dev to in
+            let S : List Event → Type 0 = λ events. RanCores o d n events now.book now.kept then reply told so_far result old new dev to in
+            way.goes then told result new to (subst S (sym next) (subst R kept (subst Q book all)));
         boxes = ap (λ (b : Boxes). boxes_left b rest) same ∙ (boxes ∙ way.boxes);
       }
 
   -- none is left: the line was carried out, and what it writes itself was written
-  pub line_ran : (n : ℕ) (event : Event) (left : CoreEvents) (noted : List Note) (start now then : Controls) (so_far result : Result ⊤ Failed) (first old new : O) (from begin dev : D)
+  pub line_ran : (n : ℕ) (event : Event) (left : CoreEvents) (noted : List Note) (start now then : Controls) (reply : Option Response) (so_far result : Result ⊤ Failed) (first old new : O) (from begin dev : D)
       → Chain d.Does (rigs event) from begin
-      → IsUnderWay n event left start now so_far first old begin dev
+      → IsUnderWay n event left start now reply so_far first old begin dev
       → then.book ≡ now.book → then.kept ≡ now.kept
-      → events_left now.book.fixed.object now.boxes left ≡ []
+      → events_left now.book.fixed.object now.book.fixed.topology now.boxes left ≡ []
       → then.boxes ≡ boxes_left now.boxes left
-      → noted ≡ (split (setup_of start.book) event (stand_in start)).notes
+      → noted ≡ (split (setup_of start.book) event (stand_in start)).notes ++ called_note then.book.fixed.topology event reply
       → WritesOn o (notes_text n noted) so_far result old new
       → (c : Setup) → setup_of start.book ≡ c → RanLine o d c n event start then first new from dev result
-  line_ran n event left noted start now then so_far result first old new from begin dev rigged way book kept none boxes notes writes c is =
-      let P : Fixed → Type 0 = λ fixed. events_left fixed.object now.boxes left ≡ [] in
-      let Q : List Event → Type 0 = λ events. RanCores o d n events now.book now.kept then so_far so_far old old dev dev in
+  line_ran n event left noted start now then reply so_far result first old new from begin dev rigged way book kept none boxes notes writes c is =
+      let P : Fixed → Type 0 = λ fixed. events_left fixed.object fixed.topology now.boxes left ≡ [] in
+      let Q : List Event → Type 0 = λ events. RanCores o d n events now.book now.kept then reply reply so_far so_far old old dev dev in
       let R : Setup → Type 0 = λ c. RanLine o d c n event start then first new from dev result in
       let W : List Note → Type 0 = λ notes. WritesOn o (notes_text n notes) so_far result old new in
       subst R is (record {
@@ -190,7 +200,8 @@ module _ {O D : Type 0} (o : Sink.Ghosts O) (d : Device.Ghosts D) where
         rigged = rigged;
         far = so_far;
         via = old;
-        cores = way.goes then so_far old dev (subst Q (sym (subst P way.fixed none)) (RanCores-none n now then so_far old dev book kept));
+        told = reply;
+        cores = way.goes then reply so_far old dev (subst Q (sym (subst P way.fixed none)) (RanCores-none n now then reply so_far old dev book kept));
         boxes = boxes ∙ way.boxes;
         notes = subst W notes writes;
       })

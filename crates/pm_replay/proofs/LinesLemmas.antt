@@ -11,7 +11,10 @@ use Rattle.pm_base.proofs.SinkLemmas.{Wrote-refl}
 use Rattle.pm_device.specs.declared.device.Device as Device
 use Rattle.pm_device.specs.Act.{Chain}
 use Rattle.pm_device.specs.Chains.{Chain-append}
+use Rattle.pm_ipi.specs.declared.responses.Response.{Response}
+use Rattle.pm_topology.specs.declared.topology.Topology.{Topology}
 use Rattle.pm_state.specs.State.{State}
+use Rattle.pm_split.specs.Split.{called_note}
 use Rattle.pm_core.specs.Step.{effect}
 use Rattle.pm_run.specs.Run.{Setup, book_after, setup_of, split}
 use Rattle.pm_reader.specs.declared.follow.LineStop.{LineStop}
@@ -21,11 +24,11 @@ use Rattle.pm_reader.specs.declared.follow.LinesEnd as reader
 use Rattle.pm_script.specs.Script.{Script}
 use Rattle.pm_replay.specs.declared.lines.Player.{Player}
 use Rattle.pm_drive.specs.Drive.{Driven, acts, acts_of, last_book, last_kept, orders_in_cores, rigs, until}
-use Rattle.pm_drive.specs.Text.{driven_text, given_text, texts}
+use Rattle.pm_drive.specs.Text.{driven_text, given_text, notes_of, texts}
 use Rattle.pm_trace.specs.Notes.{notes_text}
 use Rattle.pm_replay.specs.Controls.{Controls, stand_in}
 use Rattle.pm_replay.specs.Plays.{Plays}
-use Rattle.pm_replay.specs.Within.{LinesEnd, RanLine, RanLines, Went, WritesOn, driven_from}
+use Rattle.pm_replay.specs.Within.{RanLine, RanLines, Went, WritesOn, driven_from}
 use Rattle.pm_replay.proofs.CoresLemmas.{on-both}
 use Rattle.pm_replay.proofs.DriveLemmas.{driven_line, driven_next, until-cons}
 use Rattle.pm_replay.proofs.LeavesLemmas.{Leaves-before, Leaves-cons, behind}
@@ -77,7 +80,11 @@ module _ {O D : Type 0} (o : Sink.Ghosts O) (d : Device.Ghosts D) where
   line_written : (c : Setup) (n : ℕ) (event : Event) (now then : Controls) (old new : O) (from to : D) (result : Result ⊤ Failed) (ran : RanLine o d c n event now then old new from to result) → WritesOn o (driven_text n (driven_line c event now ran.cores.answers)) (Ok tt) result old new
   line_written c n event now then old new from to result ran =
       let x : Driven = driven_line c event now ran.cores.answers in
-      on-both o (given_text n x.cores) (notes_text n x.line.notes) (Ok tt) ran.far result old ran.via new ran.cores.writes ran.notes
+      let chip : then.book.fixed.topology ≡ x.line.after.book.fixed.topology = ap (λ (b : State). b.fixed.topology) ran.cores.after in
+      let P : Topology → Type 0 = λ t. WritesOn o (notes_text n (x.line.notes ++ called_note t event ran.told)) ran.far result ran.via new in
+      let Q : Option Response → Type 0 = λ told. WritesOn o (notes_text n (x.line.notes ++ called_note x.line.after.book.fixed.topology event told)) ran.far result ran.via new in
+      on-both o (given_text n x.cores) (notes_text n (notes_of x)) (Ok tt) ran.far result old ran.via new ran.cores.writes
+      (subst Q ran.cores.replied (subst P chip ran.notes))
 
   -- the object and the chip of a run stay
   same_setup : (events : List Event) (book : State) → setup_of (book_after events book) ≡ setup_of book

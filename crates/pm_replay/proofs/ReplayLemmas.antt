@@ -1,9 +1,8 @@
 -- What a replay means, and how it came about.
-use Rattle.std.proofs.Common.{◌≡◌, ℕ, ◌+◌, Bool, List, [], ◌∷◌, ◌++◌, length, Option, Some, None, Result, Ok, Err, refl, sym, ◌∙◌, ap, subst}
+use Rattle.std.proofs.Common.{◌≡◌, ℕ, ◌+◌, Bool, List, [], ◌∷◌, ◌++◌, length, Option, Some, None, Result, Ok, Err, refl, ◌∙◌, ap, subst}
 use Rattle.std.specs.List.{concat}
 use Rattle.pm_base.specs.declared.errors.Exit.{Exit}
 use Rattle.pm_base.specs.declared.errors.Exit.TheVariants as exit
-use Rattle.pm_base.specs.declared.events.Event.{Event}
 use Rattle.pm_base.specs.declared.inputs.Inputs as Inputs
 use Rattle.pm_base.specs.declared.sink.Sink as Sink
 use Rattle.pm_base.specs.Faults.{Rose}
@@ -12,7 +11,6 @@ use Rattle.pm_device.specs.declared.device.Device as Device
 use Rattle.pm_run.specs.Run.{Setup}
 use Rattle.pm_script.specs.Named.{IsHeldWhole, script_in}
 use Rattle.pm_script.specs.Script.{Script, Stop}
-use Rattle.pm_script.specs.Script.Stop.{End}
 use Rattle.pm_trace.specs.declared.faults.Fault.{Fault}
 use Rattle.pm_trace.specs.declared.faults.Fault.TheVariants.{Memory, Read}
 use Rattle.pm_trace.specs.Exits.{IsWhole}

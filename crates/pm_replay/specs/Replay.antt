@@ -1,5 +1,5 @@
 -- The run of a script over a book and a device: what is written, where it breaks off, and what the device was given.
-use Rattle.std.specs.Prelude.{◌≡◌, ◌+◌, ℕ, Bool, List, [], ◌∷◌, ◌++◌, length, Option, Result, Ok, Err}
+use Rattle.std.specs.Prelude.{◌≡◌, ◌+◌, ℕ, Bool, List, ◌++◌, length, Option, Result, Ok, Err}
 use Rattle.pm_device.specs.declared.device.Device as Device
 use Rattle.pm_run.specs.Run.{Setup}
 use Rattle.pm_script.specs.Script.{Script}

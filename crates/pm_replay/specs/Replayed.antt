@@ -15,6 +15,8 @@ use Rattle.pm_trace.specs.Report.{Did}
 use Rattle.pm_trace.specs.Scripts.{IsScriptOf}
 use Rattle.pm_drive.specs.Drive.{driven, until}
 use Rattle.pm_drive.specs.Drove.{Drove}
+use Rattle.pm_drive.specs.Lowered.{HaveSameSteps, lowered_script}
+use Rattle.pm_drive.specs.PowerCalls.{EachCallIsItsEvents}
 use Rattle.pm_drive.specs.Text.{run_text}
 use Rattle.pm_apart.specs.Apart.{KeepsApart, StepsKeepApart}
 use Rattle.pm_replay.specs.Replay.{Touched, replay_report}
@@ -52,3 +54,10 @@ AnswersHaveCauses c = (events : List Event) → HaveCauses (cores_in (run c even
 -- boxes empty
 abbrev pub LinesServe : Setup → Type 0
 LinesServe c = (events : List Event) → EachServes c (loaded c).boxes (run c events)
+
+-- the line of a power call is the run of the events that it is lowered to, and a run of a script with power calls is the run
+-- of the script with a line for each of these events in place of the call: the same core steps, commands and lines, but for
+-- the numbers of the lines and the answers to power calls
+pub record LowersCalls (c : Setup) : Type 0 where
+  pub line : EachCallIsItsEvents c
+  pub script : (events : List Event) (answers : List (List Bool)) → HaveSameSteps c (driven c answers events) (driven c answers (lowered_script c.topology events))

@@ -11,6 +11,8 @@ use Rattle.pm_device.specs.declared.device.Device as Device
 use Rattle.pm_device.specs.Act.{Chain}
 use Rattle.pm_state.specs.Load.{load_of}
 use Rattle.pm_core.specs.Outbox.{Holds}
+use Rattle.pm_ipi.specs.declared.responses.Response.{Response}
+use Rattle.pm_split.specs.Split.{called_note}
 use Rattle.pm_run.specs.Run.{Setup, book_after, cores_of, lines_of, loaded, setup_of, split}
 use Rattle.pm_state.specs.State.{State}
 use Rattle.pm_core.specs.Step.{effect, outputs, outputs_at_load}
@@ -26,8 +28,8 @@ use Rattle.pm_trace.specs.Report.{Report, exit_of, pieces}
 use Rattle.pm_trace.specs.Notes.{notes_text}
 use Rattle.pm_trace.specs.Step.{notices_in, notices_of, step_text}
 use Rattle.pm_trace.specs.Scripts.{at_end, fault_at}
-use Rattle.pm_drive.specs.Drive.{Driven, Given, acts, drive, driven, give, kept_after, last_book, last_kept, orders_in_cores, rigs, until}
-use Rattle.pm_drive.specs.Text.{given_text, texts}
+use Rattle.pm_drive.specs.Drive.{Driven, acts, drive, driven, give, kept_after, last_book, last_kept, orders_in_cores, rigs, until}
+use Rattle.pm_drive.specs.Text.{given_text, reply_after, texts}
 use Rattle.pm_replay.specs.Controls.{Controls, stand_in}
 use Rattle.pm_replay.specs.Replay.{replay_report}
 
@@ -87,25 +89,33 @@ module _ {O D : Type 0} (o : Sink.Ghosts O) (d : Device.Ghosts D) where
     pub given : Chain d.Does (orders_in then.outbox) from to
     pub writes : WritesOn o (step_text n then.outbox.done.items (notices_in then.outbox) then.outbox.answer) so_far result old new
 
-  -- the same of core events one after another, whatever becomes of their text
-  pub record RanCores (n : ℕ) (events : List Event) (book : State) (kept : Kept) (then : Controls) (so_far result : Result ⊤ Failed) (old new : O) (from to : D) : Type 0 where
+  -- the same of core events one after another, whatever becomes of their text, from the last reply that was told before
+  -- them to the last one that is told
+  pub record RanCores (n : ℕ) (events : List Event) (book : State) (kept : Kept) (then : Controls)
+      (reply told : Option Response) (so_far result : Result ⊤ Failed) (old new : O) (from to : D) : Type 0 where
     pub answers : List (List Bool)
     pub fits : length answers ≡ length events
     pub after : then.book ≡ book_after events book
     pub keeps : then.kept ≡ kept_after kept (give kept answers (cores_of events book))
     pub given : Chain d.Does (orders_in_cores (give kept answers (cores_of events book))) from to
+    pub replied : told ≡ reply_after reply (give kept answers (cores_of events book))
     pub writes : WritesOn o (given_text n (give kept answers (cores_of events book))) so_far result old new
 
   -- a line was carried out to its end: first a node was broken or mended, if it asks for that, and then its core events
-  -- followed. Its text was written as far as the sink took it
+  -- followed. Its text was written as far as the sink took it, with the answer to its power call, by the last reply
+  -- that was told
   pub record RanLine (c : Setup) (n : ℕ) (event : Event) (now then : Controls) (old new : O) (from to : D) (result : Result ⊤ Failed) : Type 0 where
     pub between : D
     pub rigged : Chain d.Does (rigs event) from between
     pub far : Result ⊤ Failed
     pub via : O
-    pub cores : RanCores n (split c event (stand_in now)).events now.book now.kept then (Ok tt) far old via between to
+    pub told : Option Response
+    pub cores : RanCores n (split c event (stand_in now)).events now.book now.kept then None told (Ok tt) far old via
+        between to
     pub boxes : then.boxes ≡ (split c event (stand_in now)).boxes
-    pub notes : WritesOn o (notes_text n (split c event (stand_in now)).notes) far result via new
+    pub notes : WritesOn o
+        (notes_text n ((split c event (stand_in now)).notes ++ called_note then.book.fixed.topology event told))
+        far result via new
 
   -- the device was made to follow the book at load
   pub record Started (now then : Controls) (from to : D) : Type 0 where

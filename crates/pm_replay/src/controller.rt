@@ -2,7 +2,6 @@
 
 ghost use Rattle.std.specs.Prelude.{◌≡◌, ◌∷◌, [], None, true, IfOk, MatchOption};
 ghost use Rattle.pm_device.specs.Act.{Chain};
-ghost use Rattle.pm_topology.specs.Masters.{ObeysMasterRules};
 ghost use Rattle.pm_topology.specs.WellFormed.{IsWellFormed};
 ghost use Rattle.pm_state.specs.Load.{load_of};
 ghost use Rattle.pm_state.specs.Values.{value};
@@ -60,7 +59,6 @@ impl Controller {
     /// `NoMemory` where there is not enough memory.
     pub fn load(alloc: Global, object: Object, topology: Topology) -> Result<Controller, NoMemory>
         requires formed { IsWellFormed topology }
-        requires masters { ObeysMasterRules topology }
         ensures book { IfOk result (λ c. c.book ≡ load_of object topology) }
         ensures kept { IfOk result (λ c. c.kept ≡ at_zero topology) }
         ensures boxes { IfOk result (λ c. c.boxes ≡ (loaded (setup object topology)).boxes) }
@@ -113,7 +111,7 @@ impl Controller {
     pub fn split(&mut self, event: &Event) -> Split
         ensures book { self.new.book ≡ self.old.book }
         ensures kept { self.new.kept ≡ self.old.kept }
-        ensures events { events_left self.old.book.fixed.object self.new.boxes result.cores
+        ensures events { events_left self.old.book.fixed.object self.old.book.fixed.topology self.new.boxes result.cores
             ≡ (split (setup_of self.old.book) event.now (stand_in self.old)).events }
         ensures boxes { boxes_left self.new.boxes result.cores
             ≡ (split (setup_of self.old.book) event.now (stand_in self.old)).boxes }
@@ -127,10 +125,10 @@ impl Controller {
         ensures book { self.new.book ≡ self.old.book }
         ensures kept { self.new.kept ≡ self.old.kept }
         ensures events { MatchOption result
-            ((events_left self.old.book.fixed.object self.old.boxes cores.old ≡ [])
-            × (events_left self.old.book.fixed.object self.new.boxes cores.new ≡ []))
-            (λ event. events_left self.old.book.fixed.object self.old.boxes cores.old
-            ≡ event ∷ events_left self.old.book.fixed.object self.new.boxes cores.new) }
+            ((events_left self.old.book.fixed.object self.old.book.fixed.topology self.old.boxes cores.old ≡ [])
+            × (events_left self.old.book.fixed.object self.old.book.fixed.topology self.new.boxes cores.new ≡ []))
+            (λ event. events_left self.old.book.fixed.object self.old.book.fixed.topology self.old.boxes cores.old
+            ≡ event ∷ events_left self.old.book.fixed.object self.old.book.fixed.topology self.new.boxes cores.new) }
         ensures boxes { boxes_left self.new.boxes cores.new ≡ boxes_left self.old.boxes cores.old }
         ensures end { result ≡ None → self.new.boxes ≡ boxes_left self.old.boxes cores.old }
     {

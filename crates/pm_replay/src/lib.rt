@@ -4,6 +4,8 @@
 mod controller;
 mod lines;
 mod run;
+mod safe;
 mod writing;
 
 pub use run::replay;
+pub use safe::logged_acts_are_safe;

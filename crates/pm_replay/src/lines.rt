@@ -3,20 +3,24 @@
 ghost use Rattle.std.specs.Prelude.{◌≡◌, ◌≢◌, IfOk};
 ghost use Rattle.pm_base.specs.Faults.{Rose};
 ghost use Rattle.pm_base.specs.declared.prefix.StopReason.TheVariants.{Failure, Unbegun};
-ghost use Rattle.pm_reader.specs.Follow.{OfScript};
-ghost use Rattle.pm_split.specs.Split.{noted_busy};
+ghost use Rattle.pm_base.specs.Readings.{Meanwhile};
+ghost use Rattle.pm_reader.specs.Follow.{OfScript, ReadsLines};
+ghost use Rattle.pm_split.specs.Split.{noted_busy, noted_call};
 ghost use Rattle.pm_run.specs.Run.{Setup, setup_of};
+ghost use Rattle.pm_drive.specs.Text.{later_reply};
 ghost use Rattle.pm_trace.specs.Notes.{notes_text};
 ghost use Rattle.pm_trace.specs.Step.{notices_in, step_text};
 ghost use Rattle.pm_replay.specs.Within.{RanLine, RanLines, WritesOn};
 
 use crate::controller::Controller;
-use crate::writing::{write_busy, write_step};
+use crate::writing::{write_busy, write_call, write_step};
 use pm_base::{Event, Failed, Inputs, NodeId, Sink};
-use pm_core::Outbox;
+use pm_core::{Answer, Outbox};
 use pm_device::Device;
 use pm_drive::rig;
+use pm_ipi::Response;
 use pm_reader::{Follower, LineStop, LinesEnd, each_line};
+use pm_run::call_answer;
 
 /// What carries out each line of a script, makes the device follow it, and writes its text.
 #[derive(Drop)]
@@ -49,6 +53,7 @@ pub(crate) fn run_lines<I: Inputs, O: Sink, D: Device>(
         (λ s. RanLines O.Sink D.Device c 1 s controller.old controller.new out.old out.new dev.old dev.new result) }
     ensures ends { IfOk result (λ end. end.stop ≢ Unbegun) }
     ensures fault { IfOk result (λ end. end.stop ≡ Failure → Rose (I.state inputs.old).faults (I.state inputs.new).faults) }
+    ensures reads { Meanwhile (I.state inputs.old) (I.state inputs.new) (ReadsLines id result) }
 {
     let mut player = Player {
         controller,
@@ -59,7 +64,7 @@ pub(crate) fn run_lines<I: Inputs, O: Sink, D: Device>(
 }
 
 /// Breaks or mends a node of the device where the line asks for that, carries out the core events of the line to the last
-/// one, and writes the text of each, and then the line's own, while the sink takes it.
+/// one, and writes the text of each, and then the line's own and the answer to its power call, while the sink takes it.
 fn run_line<O: Sink, D: Device>(
     number: u32,
     event: &Event,
@@ -74,11 +79,26 @@ fn run_line<O: Sink, D: Device>(
     let parts = controller.split(event);
     let mut left = parts.cores;
     let mut written = Ok(());
+    let mut reply = None;
     while let Some(core) = controller.next(&mut left) {
         controller.step(&core, dev);
-        written = write_on(written, number, controller.outbox(), out);
+        let outbox = controller.outbox();
+        written = write_on(written, number, outbox, out);
+        reply = later_reply(reply, outbox);
     }
-    note_on(written, number, parts.busy, out)
+    let noted = note_on(written, number, parts.busy, out);
+    let called = call_answer(controller.book().topology(), event, reply);
+    call_on(noted, number, called, out)
+}
+
+/// The last reply of a line, as it is told: that of the last core step, if it has one.
+fn later_reply(reply: Option<Response>, outbox: &Outbox) -> Option<Response>
+    ensures { result ≡ later_reply reply outbox.now.answer }
+{
+    match outbox.answer {
+        Answer::Reply { response, .. } => Some(response),
+        _ => reply,
+    }
 }
 
 /// Writes the lines of a core step. A sink that has failed before within the line is given nothing more.
@@ -111,6 +131,25 @@ fn note_on<O: Sink>(
         None => written,
         Some(master) => match written {
             Ok(()) => write_busy(number, master, out),
+            Err(failed) => Err(failed),
+        },
+    }
+}
+
+/// Writes the line of the answer to a power call, if there is one. A sink that has failed before within the line is
+/// given nothing more.
+fn call_on<O: Sink>(
+    written: Result<(), Failed>,
+    number: u32,
+    called: Option<(NodeId, i32)>,
+    out: &mut O,
+) -> Result<(), Failed>
+    ensures { WritesOn O.Sink (notes_text number (noted_call called)) written result out.old out.new }
+{
+    match called {
+        None => written,
+        Some((proc, code)) => match written {
+            Ok(()) => write_call(number, proc, code, out),
             Err(failed) => Err(failed),
         },
     }

@@ -8,15 +8,15 @@ ghost use Rattle.pm_base.specs.Sink.{HasFailed, IsUnfailed};
 ghost use Rattle.pm_base.specs.declared.prefix.StopReason.TheVariants.{Unbegun};
 ghost use Rattle.pm_script.specs.Named.{script_in};
 ghost use Rattle.pm_script.specs.Script.{script_limit, stop_of};
+ghost use Rattle.pm_base.specs.Readings.{Meanwhile};
 ghost use Rattle.pm_reader.specs.Follow.{OfScript};
-ghost use Rattle.pm_topology.specs.Masters.{ObeysMasterRules};
 ghost use Rattle.pm_topology.specs.WellFormed.{IsWellFormed};
 ghost use Rattle.pm_object.specs.Grammar.{IsObject};
 ghost use Rattle.pm_replay.specs.Within.{IsLoaded, RanRest, RanScript, closing_report};
 ghost use Rattle.pm_trace.specs.Exits.{EndsWith, IsStarved};
 ghost use Rattle.pm_trace.specs.Report.{Reports};
-ghost use Rattle.pm_trace.specs.Scripts.{script_exit, script_or_fault};
-ghost use Rattle.pm_replay.specs.Replayed.{AnswersHaveCauses, IsRun, LinesServe, Replayed, RunsKeepApart};
+ghost use Rattle.pm_trace.specs.Scripts.{ReadsBegun, ReadsScript, script_exit, script_named, script_or_fault};
+ghost use Rattle.pm_replay.specs.Replayed.{AnswersHaveCauses, IsRun, LinesServe, LowersCalls, Replayed, RunsKeepApart};
 ghost use Rattle.pm_run.specs.Run.{Setup, setup, setup_of};
 ghost use Rattle.pm_replay.specs.Safe.{IsSafe};
 ghost use Rattle.pm_base.specs.World.{world};
@@ -28,7 +28,7 @@ use pm_apart::driven_runs_keep_apart;
 use pm_base::{Exit, Failed, Inputs, NoMemory, Sink, StopReason};
 use pm_causes::runs_have_causes;
 use pm_device::Device;
-use pm_drive::driven_follows;
+use pm_drive::{driven_follows, power_calls_are_their_events, scripts_are_lowered};
 use pm_object::Object;
 use pm_reader::LineStop;
 use pm_run::boxes_of_a_run;
@@ -55,7 +55,6 @@ pub fn replay<I: Inputs, O: Sink, D: Device>(
 ) -> Exit
     requires object { IsObject object }
     requires formed { IsWellFormed topology }
-    requires masters { ObeysMasterRules topology }
     requires idle { D.values_observable → (unit : Unit) → (D.state dev.old).value unit ≡ 0 }
     // On Done the input held a script under the name, the whole text of its run was written, and the
     // device was driven through that run.
@@ -78,6 +77,12 @@ pub fn replay<I: Inputs, O: Sink, D: Device>(
     // Each line of a run that serves sends the messages in all boxes, each once and by rising mask of their masters, and
     // leaves all boxes empty.
     ensures boxes { LinesServe (setup object topology) }
+    // The line of a power call is the run of the events that it is lowered to by the chip and the call alone, and then its
+    // answer; and so is a script with power calls the script with a line for each of these events.
+    ensures calls { LowersCalls (setup object topology) }
+    // On every exit, of any inputs: the script is begun once, and read to its end or to one byte past the limit, or up
+    // to a call that failed, or, where the run ends before, up to somewhere. Nothing else is begun or read.
+    ensures begun { Meanwhile (I.state inputs.old) (I.state inputs.new) (ReadsScript result (script_named script.now)) }
     // On Memory nothing was written but the fault line, as far as the sink took it.
     ensures memory { result ≡ Exit.Memory → IsStarved O.Sink out.old out.new }
     // On Memory the device is as before.
@@ -96,6 +101,8 @@ pub fn replay<I: Inputs, O: Sink, D: Device>(
     driven_runs_keep_apart::<D>();
     runs_have_causes();
     boxes_of_a_run();
+    power_calls_are_their_events();
+    scripts_are_lowered();
     run_named(alloc, object, topology, inputs, script, out, dev)
 }
 
@@ -110,10 +117,10 @@ fn run_named<I: Inputs, O: Sink, D: Device>(
     dev: &mut D,
 ) -> Exit
     requires formed { IsWellFormed topology }
-    requires masters { ObeysMasterRules topology }
     requires idle { D.values_observable → (unit : Unit) → (D.state dev.old).value unit ≡ 0 }
-    ensures { Replayed I.Inputs O.Sink D.Device (setup object topology) script.now
+    ensures ran { Replayed I.Inputs O.Sink D.Device (setup object topology) script.now
         (world inputs.old out.old dev.old) (world inputs.new out.new dev.new) result }
+    ensures begun { Meanwhile (I.state inputs.old) (I.state inputs.new) (ReadsScript result (script_named script.now)) }
 {
     let Ok(mut controller) = load(alloc, object, topology) else {
         return refuse(Fault::Memory, out);
@@ -124,7 +131,6 @@ fn run_named<I: Inputs, O: Sink, D: Device>(
 /// All as it stands at load, before the device is given anything.
 fn load(alloc: Global, object: Object, topology: Topology) -> Result<Controller, NoMemory>
     requires formed { IsWellFormed topology }
-    requires masters { ObeysMasterRules topology }
     ensures loaded { IfOk result IsLoaded }
     ensures setup { IfOk result (λ c. setup_of c.book ≡ setup object topology) }
 {
@@ -142,8 +148,9 @@ fn run_loaded<I: Inputs, O: Sink, D: Device>(
     requires formed { IsWellFormed (setup_of controller.old.book).topology }
     requires loaded { IsLoaded controller.old }
     requires idle { D.values_observable → (unit : Unit) → (D.state dev.old).value unit ≡ 0 }
-    ensures { Replayed I.Inputs O.Sink D.Device (setup_of controller.old.book) script.now
+    ensures ran { Replayed I.Inputs O.Sink D.Device (setup_of controller.old.book) script.now
         (world inputs.old out.old dev.old) (world inputs.new out.new dev.new) result }
+    ensures begun { Meanwhile (I.state inputs.old) (I.state inputs.new) (ReadsScript result (script_named script.now)) }
 {
     driven_follows::<D>();
     match inputs.begin(script) {
@@ -164,6 +171,7 @@ fn run<I: Inputs, O: Sink, D: Device>(
     ensures ran { OfScript I.observable id (I.state inputs.old)
         (λ s. RanScript O.Sink D.Device (setup_of controller.old.book) s out.old out.new dev.old dev.new result) }
     ensures fault { result ≡ Exit.ReadFault → Rose (I.state inputs.old).faults (I.state inputs.new).faults }
+    ensures reads { Meanwhile (I.state inputs.old) (I.state inputs.new) (ReadsBegun result id) }
 {
     controller.start(dev);
     match write_step(0, controller.outbox(), out) {
@@ -183,6 +191,7 @@ fn run_rest<I: Inputs, O: Sink, D: Device>(
     ensures ran { (c : Setup) → setup_of controller.old.book ≡ c → OfScript I.observable id (I.state inputs.old)
         (λ s. RanRest O.Sink D.Device c 1 s controller.old out.old out.new dev.old dev.new result) }
     ensures fault { result ≡ Exit.ReadFault → Rose (I.state inputs.old).faults (I.state inputs.new).faults }
+    ensures reads { Meanwhile (I.state inputs.old) (I.state inputs.new) (ReadsBegun result id) }
 {
     match run_lines(controller, inputs, id, out, dev) {
         Ok(end) => finish(controller, end.stop, out),

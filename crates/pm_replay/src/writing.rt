@@ -3,7 +3,7 @@
 ghost use Rattle.std.specs.Prelude.{◌≡◌, ◌<◌, Some, length, map, slice_get};
 ghost use Rattle.pm_apply.specs.Part.{part_in};
 ghost use Rattle.pm_state.specs.Units.{units};
-ghost use Rattle.pm_split.specs.Split.{noted_busy};
+ghost use Rattle.pm_split.specs.Split.{noted_busy, noted_call};
 ghost use Rattle.pm_trace.specs.Notes.{notes_text};
 ghost use Rattle.pm_trace.specs.Closing.{closing_lines, closing_text};
 ghost use Rattle.pm_trace.specs.Step.{notices_in, step_text};
@@ -12,7 +12,7 @@ ghost use Rattle.pm_replay.specs.Within.{Writes};
 use crate::controller::Controller;
 use pm_base::{Failed, NodeId, Sink, write_all};
 use pm_core::Outbox;
-use pm_trace::{TextLine, busy_line, closing, entries, entry};
+use pm_trace::{TextLine, busy_line, call_line, closing, entries, entry};
 
 /// Writes the lines of a step.
 pub(crate) fn write_step<O: Sink>(number: u32, outbox: &Outbox, out: &mut O) -> Result<(), Failed>
@@ -32,6 +32,20 @@ pub(crate) fn write_busy<O: Sink>(number: u32, master: NodeId, out: &mut O) -> R
 {
     let mut line = TextLine::new();
     busy_line(number, master, &mut line);
+    write_all(out, line.as_slice())
+}
+
+/// Writes the line of the answer to a power call.
+pub(crate) fn write_call<O: Sink>(
+    number: u32,
+    proc: NodeId,
+    code: i32,
+    out: &mut O,
+) -> Result<(), Failed>
+    ensures { Writes O.Sink (notes_text number (noted_call (Some (proc, code)))) out.old out.new result }
+{
+    let mut line = TextLine::new();
+    call_line(number, proc, code, &mut line);
     write_all(out, line.as_slice())
 }
 

@@ -7,6 +7,8 @@ use pm_ipi::Response;
 use pm_object::{ObjectCause, ObjectFault};
 use pm_objtext::{TextCause, TextFault};
 use pm_script::LineFault;
+use pm_topofile::{TopoTextCause, TopoTextFault};
+use pm_topology::{TopoCause, TopoFault};
 use pm_trace::{Fault, TextLine, entries, entry, exit, write_fault};
 use std::alloc::Global;
 use std::test::Fail;
@@ -421,7 +423,7 @@ fn late_replies_and_callbacks_stand_between_the_starts_and_the_answer(
 }
 
 /// A fault, its line and the exit.
-static FAULTS: [(Fault, &str, Exit); 12] = [
+static FAULTS: [(Fault, &str, Exit); 14] = [
     (Fault::Usage, "fault usage\n", Exit::Usage),
     (
         Fault::Object(ObjectFault {
@@ -437,6 +439,22 @@ static FAULTS: [(Fault, &str, Exit); 12] = [
             cause: TextCause::Place,
         }),
         "fault text 1 2\n",
+        Exit::BadText,
+    ),
+    (
+        Fault::TopologyText(TopoTextFault {
+            line: 4,
+            cause: TopoTextCause::Parent,
+        }),
+        "fault text 4 3\n",
+        Exit::BadText,
+    ),
+    (
+        Fault::Topology(TopoFault {
+            cause: TopoCause::NoMaster,
+            place: 3,
+        }),
+        "fault topology 8 3\n",
         Exit::BadText,
     ),
     (

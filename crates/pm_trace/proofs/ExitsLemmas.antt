@@ -12,7 +12,7 @@ use Rattle.pm_base.specs.Sink.{HasFailed, Wrote}
 use Rattle.pm_base.specs.Writing.{Leaves}
 use Rattle.pm_base.proofs.SinkLemmas.{BreaksIn-failed}
 use Rattle.pm_trace.specs.declared.faults.Fault.{Fault}
-use Rattle.pm_trace.specs.declared.faults.Fault.TheVariants.{Line, Memory, Node, Number, Object, Read, Size, Text, Usage}
+use Rattle.pm_trace.specs.declared.faults.Fault.TheVariants.{Line, Memory, Node, Number, Object, Read, Size, Text, Topology, TopologyText, Usage}
 use Rattle.pm_trace.specs.Exits.{EndsBy, ExitSays, IsWhole}
 use Rattle.pm_trace.specs.Faults.{exit_after}
 use Rattle.pm_trace.specs.Report.{Report, exit_of, fault_lines, pieces}
@@ -36,6 +36,8 @@ only None = refl
 only (Some Usage) = refl
 only (Some (Object fault)) = tt
 only (Some (Text fault)) = tt
+only (Some (TopologyText fault)) = tt
+only (Some (Topology fault)) = tt
 only (Some (Line n cause)) = tt
 only (Some Read) = refl
 only (Some Memory) = refl

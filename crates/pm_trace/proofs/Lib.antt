@@ -1,6 +1,7 @@
 pub mod ExitsLemmas
 pub mod LineLemmas
 pub mod ReachLemmas
+pub mod ReadsLemmas
 pub mod StepLemmas
 pub mod ReportLemmas
 pub mod ScriptsLemmas

@@ -3,11 +3,15 @@ use Rattle.std.specs.Prelude.{ℕ, List, [], ◌∷◌, Option, Some, None, code
 use Rattle.pm_base.specs.declared.errors.Exit.{Exit}
 use Rattle.pm_base.specs.declared.errors.Exit.TheVariants as exit
 use Rattle.pm_trace.specs.declared.faults.Fault.{Fault}
-use Rattle.pm_trace.specs.declared.faults.Fault.TheVariants.{Usage, Object, Text, Line, Read, Memory, Size, Node, Number}
+use Rattle.pm_trace.specs.declared.faults.Fault.TheVariants.{Usage, Object, Text, TopologyText, Topology, Line, Read, Memory, Size, Node, Number}
 use Rattle.pm_object.specs.declared.object.ObjectCause.{ObjectCause}
 use Rattle.pm_object.specs.declared.object.ObjectCause.TheVariants as objects
 use Rattle.pm_objtext.specs.declared.fault.TextCause.{TextCause}
 use Rattle.pm_objtext.specs.declared.fault.TextCause.TheVariants as texts
+use Rattle.pm_topofile.specs.declared.fault.TopoTextCause.{TopoTextCause}
+use Rattle.pm_topofile.specs.declared.fault.TopoTextCause.TheVariants as topology_texts
+use Rattle.pm_topology.specs.declared.faults.TopoCause.{TopoCause}
+use Rattle.pm_topology.specs.declared.faults.TopoCause.TheVariants as topologies
 use Rattle.pm_script.specs.declared.meaning.LineFault.{LineFault}
 use Rattle.pm_script.specs.declared.meaning.LineFault.TheVariants as lines
 use Rattle.pm_trace.specs.declared.line.Word.{Word}
@@ -37,6 +41,25 @@ text_cause texts.Repeated = 3
 text_cause texts.Master = 4
 text_cause texts.Size = 5
 
+-- the number of a cause for which the text of a topology has no meaning
+abbrev pub topology_text_cause : TopoTextCause → ℕ
+topology_text_cause topology_texts.Form = 1
+topology_text_cause topology_texts.Place = 2
+topology_text_cause topology_texts.Parent = 3
+topology_text_cause topology_texts.Size = 4
+
+-- the number of a rule that a topology breaks
+abbrev pub topology_cause : TopoCause → ℕ
+topology_cause topologies.Repeated = 1
+topology_cause topologies.ParentLate = 2
+topology_cause topologies.NoStates = 3
+topology_cause topologies.LastNotFull = 4
+topology_cause topologies.TooMany = 5
+topology_cause topologies.BadTarget = 6
+topology_cause topologies.BadMember = 7
+topology_cause topologies.NoMaster = 8
+topology_cause topologies.Overlap = 9
+
 -- the number of a cause for which a line has no meaning
 abbrev pub line_cause : LineFault → ℕ
 line_cause lines.Unknown = 1
@@ -50,6 +73,10 @@ abbrev pub fault_words : Fault → List Word
 fault_words Usage = word.Name (codes "usage") ∷ []
 fault_words (Object fault) = word.Name (codes "object") ∷ word.Number (object_cause fault.cause) ∷ word.Number fault.offset ∷ []
 fault_words (Text fault) = word.Name (codes "text") ∷ word.Number fault.line ∷ word.Number (text_cause fault.cause) ∷ []
+fault_words (TopologyText fault) =
+    word.Name (codes "text") ∷ word.Number fault.line ∷ word.Number (topology_text_cause fault.cause) ∷ []
+fault_words (Topology fault) =
+    word.Name (codes "topology") ∷ word.Number (topology_cause fault.cause) ∷ word.Address fault.place ∷ []
 fault_words (Line n cause) = word.Name (codes "line") ∷ word.Number n ∷ word.Number (line_cause cause) ∷ []
 fault_words Read = word.Name (codes "read") ∷ []
 fault_words Memory = word.Name (codes "memory") ∷ []
@@ -66,6 +93,8 @@ abbrev pub exit_by : Fault → Exit
 exit_by Usage = exit.Usage
 exit_by (Object fault) = exit.BadObject
 exit_by (Text fault) = exit.BadText
+exit_by (TopologyText fault) = exit.BadText
+exit_by (Topology fault) = exit.BadText
 exit_by (Line n cause) = exit.BadLine
 exit_by Read = exit.ReadFault
 exit_by Memory = exit.Memory

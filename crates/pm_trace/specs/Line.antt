@@ -1,19 +1,22 @@
 -- The lines of output: their words and bytes.
 use Rattle.std.specs.Prelude.{ℕ, ◌+◌, List, [], ◌∷◌, ◌++◌, map, length, decimal}
+use Rattle.std.specs.Fmt.{signed_decimal}
 use Rattle.std.specs.List.{join_with_byte}
 use Rattle.pm_trace.specs.declared.line.Word.{Word}
-use Rattle.pm_trace.specs.declared.line.Word.TheVariants.{Number, Address, Name}
+use Rattle.pm_trace.specs.declared.line.Word.TheVariants.{Number, Address, Signed, Name}
 
 -- the bytes of a word
 abbrev pub word_text : Word → List ℕ
 word_text (Number n) = decimal n
 word_text (Address address) = decimal address
+word_text (Signed code) = signed_decimal code
 word_text (Name name) = name
 
--- how many bytes a word has at most: an address has 64 bits, and a number 32
+-- how many bytes a word has at most: an address has 64 bits, and a number 32, with its sign where it may be negative
 abbrev pub width : Word → ℕ
 width (Address address) = 20
 width (Number n) = 10
+width (Signed code) = 11
 width (Name name) = length name
 
 -- how many bytes these words have at most, each with a space before it

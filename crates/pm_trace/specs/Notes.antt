@@ -1,14 +1,16 @@
 -- The lines that a script line writes itself, after those of its core steps.
 use Rattle.std.specs.Prelude.{ℕ, List, [], ◌∷◌, codes, flat_map}
 use Rattle.pm_split.specs.Split.{Note}
-use Rattle.pm_split.specs.Split.Note.{Busy}
+use Rattle.pm_split.specs.Split.Note.{Busy, Called}
 use Rattle.pm_trace.specs.declared.line.Word.{Word}
 use Rattle.pm_trace.specs.declared.line.Word.TheVariants as word
 use Rattle.pm_trace.specs.Step.{numbered_line}
 
--- the words of a note after the number of its line: of a post into a full box, the master
+-- the words of a note after the number of its line: of a post into a full box, the master; of a power call, the
+-- processor and the answer
 abbrev pub note_words : Note → List Word
 note_words (Busy master) = word.Name (codes "busy") ∷ word.Number master.0 ∷ []
+note_words (Called proc code) = word.Name (codes "smc") ∷ word.Number proc.0 ∷ word.Signed code ∷ []
 
 -- the notes of line n
 abbrev pub note_line : ℕ → Note → List ℕ

@@ -1,11 +1,13 @@
 -- A command that takes a named script: what it was asked for, where the script stops, and the exit.
-use Rattle.std.specs.Prelude.{◌≡◌, ℕ, ◌+◌, ◌⊎◌, List, [], ◌∷◌, length, Option, Some, None, Result, Ok, Err, OnErr}
+use Rattle.std.specs.Prelude.{◌≡◌, ℕ, ◌+◌, ◌⊎◌, List, [], ◌∷◌, length, false, Option, Some, None, Result, Ok, Err, OnErr}
 use Rattle.pm_base.specs.declared.errors.Exit.{Exit}
 use Rattle.pm_base.specs.declared.errors.Exit.TheVariants.{ReadFault}
+use Rattle.pm_base.specs.declared.errors.Exit.TheVariants as exit
+use Rattle.pm_base.specs.Calls.{Call, GoesOn, GoesToFault, GoesUpTo, Named, ReadsEach, ReadsOn, ReadsToFault, begun, named}
 use Rattle.pm_base.specs.declared.inputs.Inputs as Inputs
 use Rattle.pm_base.specs.Faults.{Rose}
 use Rattle.pm_script.specs.Named.{script_in}
-use Rattle.pm_script.specs.Script.{Script, Stop}
+use Rattle.pm_script.specs.Script.{Script, Stop, script_limit}
 use Rattle.pm_script.specs.Script.Stop.{End, Bad, Past, Failed}
 use Rattle.pm_trace.specs.declared.faults.Fault.{Fault}
 use Rattle.pm_trace.specs.declared.faults.Fault.TheVariants.{Line, Memory, Read, Size}
@@ -39,6 +41,42 @@ at_end End piece = piece ∷ []
 at_end (Bad cause) piece = []
 at_end Past piece = []
 at_end Failed piece = []
+
+-- ---- which calls are made
+
+-- a name that a script is read under
+abbrev pub script_named : List ℕ → Named
+script_named name = named name script_limit
+
+-- the calls after a script was begun under a number, by the exit: all of it is read; or up to a read that failed; or up
+-- to somewhere, if a line has no meaning or the sink breaks off
+abbrev pub ReadsBegun : Exit → ℕ → List Call → Type 0
+ReadsBegun exit.Done id calls = GoesOn id (script_limit + 1) false calls
+ReadsBegun exit.TooLarge id calls = GoesOn id (script_limit + 1) false calls
+ReadsBegun exit.ReadFault id calls = GoesToFault id (script_limit + 1) false calls
+ReadsBegun exit.BadLine id calls = GoesUpTo id (script_limit + 1) false calls
+ReadsBegun exit.WriteFault id calls = GoesUpTo id (script_limit + 1) false calls
+ReadsBegun exit.Memory id calls = ⊥
+ReadsBegun exit.Usage id calls = ⊥
+ReadsBegun exit.BadObject id calls = ⊥
+ReadsBegun exit.BadText id calls = ⊥
+
+-- a name was begun, and read up to somewhere
+abbrev pub IsBegun : Named → List Call → Type 0
+IsBegun n calls = ReadsOn (n ∷ []) calls × (begun calls ≡ n.name ∷ [])
+
+-- the calls of a reading of a named script, by the exit: it is read whole; or up to a call that failed; or begun, and read
+-- up to somewhere; or memory was wanted before
+abbrev pub ReadsScript : Exit → Named → List Call → Type 0
+ReadsScript exit.Done n calls = ReadsEach (n ∷ []) calls
+ReadsScript exit.TooLarge n calls = ReadsEach (n ∷ []) calls
+ReadsScript exit.ReadFault n calls = ReadsToFault (n ∷ []) calls
+ReadsScript exit.BadLine n calls = IsBegun n calls
+ReadsScript exit.WriteFault n calls = IsBegun n calls
+ReadsScript exit.Memory n calls = calls ≡ []
+ReadsScript exit.Usage n calls = ⊥
+ReadsScript exit.BadObject n calls = ⊥
+ReadsScript exit.BadText n calls = ⊥
 
 module _ {I : Type 0} (i : Inputs.Ghosts I) where
   -- the script is the one that is read under the name, unless memory is wanted. On ReadFault the count of faults rose

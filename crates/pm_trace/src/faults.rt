@@ -1,13 +1,15 @@
 //! The line that a command ends with where it fails, and the exit.
 
 ghost use Rattle.std.specs.Prelude.{◌≡◌};
-ghost use Rattle.pm_trace.specs.Faults.{fault_text, object_cause, text_cause, line_cause, exit_by};
+ghost use Rattle.pm_trace.specs.Faults.{fault_text, object_cause, text_cause, topology_text_cause, topology_cause, line_cause, exit_by};
 
 use crate::line::{TextLine, Word, name, write_line};
 use pm_base::Exit;
 use pm_object::{ObjectCause, ObjectFault};
 use pm_objtext::{TextCause, TextFault};
 use pm_script::LineFault;
+use pm_topofile::{TopoTextCause, TopoTextFault};
+use pm_topology::{TopoCause, TopoFault};
 
 /// Why a command failed, as its last line says it.
 #[derive(Clone, Copy, Debug, PartialEq, Eq)]
@@ -18,6 +20,10 @@ pub enum Fault {
     Object(ObjectFault),
     /// The text of an object has no reading: its first bad line.
     Text(TextFault),
+    /// The text of a topology has no meaning: its first bad line.
+    TopologyText(TopoTextFault),
+    /// A topology breaks a rule: its first fault.
+    Topology(TopoFault),
     /// The script line of this number, counted from 1, has no meaning: its first fault.
     Line(u32, LineFault),
     /// An input could not be begun or read.
@@ -56,6 +62,24 @@ pub fn write_fault(fault: Fault, line: &mut TextLine)
                 Word::Number(text_cause(fault.cause)),
             ],
         ),
+        Fault::TopologyText(fault) => write_line(
+            line,
+            name(b"fault"),
+            &[
+                name(b"text"),
+                Word::Number(fault.line),
+                Word::Number(topology_text_cause(fault.cause)),
+            ],
+        ),
+        Fault::Topology(fault) => write_line(
+            line,
+            name(b"fault"),
+            &[
+                name(b"topology"),
+                Word::Number(topology_cause(fault.cause)),
+                Word::Address(fault.place as u64),
+            ],
+        ),
         Fault::Line(n, cause) => write_line(
             line,
             name(b"fault"),
@@ -87,6 +111,20 @@ fn text_cause(cause: TextCause) -> u32
     cause as u32
 }
 
+/// The number of a cause for which the text of a topology has no meaning.
+fn topology_text_cause(cause: TopoTextCause) -> u32
+    ensures { result ≡ topology_text_cause cause }
+{
+    cause as u32
+}
+
+/// The number of a rule that a topology breaks.
+fn topology_cause(cause: TopoCause) -> u32
+    ensures { result ≡ topology_cause cause }
+{
+    cause as u32
+}
+
 /// The number of a cause for which a line has no meaning.
 fn line_cause(cause: LineFault) -> u32
     ensures { result ≡ line_cause cause }
@@ -101,7 +139,11 @@ pub fn exit(fault: Fault) -> Exit
     match fault {
         Fault::Usage => Exit::Usage,
         Fault::Object(_) => Exit::BadObject,
-        Fault::Text(_) | Fault::Node | Fault::Number => Exit::BadText,
+        Fault::Text(_)
+        | Fault::TopologyText(_)
+        | Fault::Topology(_)
+        | Fault::Node
+        | Fault::Number => Exit::BadText,
         Fault::Line(_, _) => Exit::BadLine,
         Fault::Read => Exit::ReadFault,
         Fault::Memory => Exit::Memory,

@@ -33,11 +33,12 @@ impl StaticText {
     }
 }
 
-/// A word of a line of output: a number or an address in decimal, or a name.
+/// A word of a line of output: a number or an address in decimal, a number that may be negative, or a name.
 #[derive(Drop)]
 pub enum Word {
     Number(u32),
     Address(u64),
+    Signed(i32),
     Name(StaticText),
 }
 
@@ -89,6 +90,7 @@ pub(crate) fn text_of<'a>(word: &Word, buffer: &'a mut Buffer) -> &'a [u8]
     match word {
         Word::Number(n) => buffer.format(*n).as_bytes(),
         Word::Address(address) => buffer.format(*address).as_bytes(),
+        Word::Signed(code) => buffer.format(*code).as_bytes(),
         Word::Name(text) => text.bytes(),
     }
 }

@@ -1,7 +1,7 @@
 //! The lines that a script line writes itself.
 
 ghost use Rattle.std.specs.Prelude.{◌≡◌};
-ghost use Rattle.pm_split.specs.Split.Note.{Busy};
+ghost use Rattle.pm_split.specs.Split.Note.{Busy, Called};
 ghost use Rattle.pm_trace.specs.Notes.{note_line};
 
 use crate::line::{TextLine, Word, name, write_line};
@@ -15,5 +15,16 @@ pub fn busy_line(n: u32, master: NodeId, line: &mut TextLine)
         line,
         Word::Number(n),
         &[name(b"busy"), Word::Number(master.0)],
+    );
+}
+
+/// Leaves in `line` the line of the answer to the power call of a processor in script line `n`.
+pub fn call_line(n: u32, proc: NodeId, code: i32, line: &mut TextLine)
+    ensures { line.new.items ≡ note_line n (Called proc code) }
+{
+    write_line(
+        line,
+        Word::Number(n),
+        &[name(b"smc"), Word::Number(proc.0), Word::Signed(code)],
     );
 }

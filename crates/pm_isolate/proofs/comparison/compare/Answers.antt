@@ -14,13 +14,14 @@ returns g c =
     let sink = c.args.out.now in
     let sink' = c.compare_named.new.out in
     let result = c.compare_named.result in
-    let ran = c.compare_named.ensures in
+    let ran = c.compare_named.ensures.ran in
     let Asks = IsComparisonOf g.I.Inputs cs m name old new result in
     let asks = script_asked g.I.Inputs g.O.Sink cs m name old new sink sink' result in
     record {
       done = compare_done g.I.Inputs g.O.Sink cs m name old new sink sink' result ran (λ members events reach. c.what_differs_is_reached.ensures.all cs m events members c.requires.object c.requires.formed reach);
       decided = scripts.did_decided g.I.Inputs g.O.Sink script_of_job (comparison_report cs m) (of_script cs m) name old new sink sink' result Asks asks TouchesNothing ran;
       ran = ran;
+      begun = c.compare_named.ensures.begun;
       memory = scripts.did_memory g.I.Inputs g.O.Sink script_of_job (comparison_report cs m) (of_script cs m) name old new sink sink' result Asks asks TouchesNothing ran;
       read_fault = scripts.did_read_fault g.I.Inputs g.O.Sink script_of_job (comparison_report cs m) (of_script cs m) name old new sink sink' result Asks asks TouchesNothing ran;
       read_cause = scripts.did_read_cause g.I.Inputs g.O.Sink script_of_job (comparison_report cs m) (of_script cs m) name old new sink sink' result Asks asks TouchesNothing ran;

@@ -4,6 +4,7 @@ use Rattle.pm_base.specs.Writing.{BreaksIn}
 use Rattle.pm_reader.proofs.Named.{of_any, of_more}
 use Rattle.pm_isolate.specs.Within.{rest_report}
 use Rattle.pm_isolate.proofs.ReportLemmas.{Reports-broken, Reports-first}
+use Rattle.pm_trace.proofs.ReadsLemmas.{reads_cut}
 use Rattle.pm_isolate.proofs.comparison.run.Goals as goal
 
 pub returns-in-Ok-clause-ran : goal.returns-in-Ok-clause-ran
@@ -18,3 +19,6 @@ returns-in-Err-clause-ran g c =
     let P : List ℕ → Type 0 = λ piece. BreaksIn g.O.Sink 0 (piece ∷ []) c.args.out.now c.write_all.new.sink in
     of_any g.I.Inputs.observable c.args.id (g.I.Inputs.state c.args.inputs.now) _
     (λ s. Reports-broken g.O.Sink c.args.prepared.now.reach.items (rest_report c.args.m s c.args.prepared.now.worlds) c.args.out.now c.write_all.new.sink (subst P c.as_slice.ensures.value c.in-Err.ensures.short))
+
+pub returns-in-Err-clause-reads : goal.returns-in-Err-clause-reads
+returns-in-Err-clause-reads g c = reads_cut c.args.id (g.I.Inputs.state c.args.inputs.now)

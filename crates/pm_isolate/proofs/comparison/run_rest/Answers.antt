@@ -1,11 +1,12 @@
-use Rattle.std.proofs.Common.{subst}
+use Rattle.std.proofs.Common.{refl, subst}
 use Rattle.pm_reader.proofs.Named.{of_more}
 use Rattle.pm_script.specs.Script.{stop_of}
 use Rattle.pm_trace.proofs.ScriptsLemmas.{failure_by, line_is_read, read_by}
 use Rattle.pm_trace.specs.Report.{Report, Reports, refusal}
 use Rattle.pm_trace.specs.declared.faults.Fault.TheVariants.{Line}
-use Rattle.pm_isolate.specs.Within.{end_report}
+use Rattle.pm_isolate.specs.Within.{end_report, end_text}
 use Rattle.pm_isolate.proofs.ComparedLemmas.{rest_bad, rest_closed}
+use Rattle.pm_trace.proofs.ReadsLemmas.{reads_bad, reads_closed}
 use Rattle.pm_isolate.proofs.comparison.run_rest.Goals as goal
 
 pub returns-in-Ok-clause-ran : goal.returns-in-Ok-clause-ran
@@ -34,3 +35,9 @@ pub returns-in-Err-Bad-clause-fault : goal.returns-in-Err-Bad-clause-fault
 returns-in-Err-Bad-clause-fault g c = λ is.
     let reports = c.refuse.ensures in
     absurd (line_is_read c.in-Err-Bad.number c.in-Err-Bad.cause (read_by g.O.Sink (refusal (Line c.in-Err-Bad.number c.in-Err-Bad.cause)) reports.cut c.args.out.now c.refuse.new.out c.refuse.result reports.left reports.ends is))
+
+pub returns-in-Ok-clause-reads : goal.returns-in-Ok-clause-reads
+returns-in-Ok-clause-reads g c = reads_closed g.O.Sink c.in-Ok.end.stop (end_text c.run_lines.new.worlds c.in-Ok.end.count) c.args.out.now c.finish.new.out c.finish.result c.args.id (g.I.Inputs.state c.args.inputs.now) (g.I.Inputs.state c.run_lines.new.inputs) c.finish.ensures c.in-Ok.ensures.reads
+
+pub returns-in-Err-Bad-clause-reads : goal.returns-in-Err-Bad-clause-reads
+returns-in-Err-Bad-clause-reads g c = reads_bad g.O.Sink (Line c.in-Err-Bad.number c.in-Err-Bad.cause) c.args.out.now c.refuse.new.out c.refuse.result c.args.id (g.I.Inputs.state c.args.inputs.now) (g.I.Inputs.state c.run_lines.new.inputs) refl c.refuse.ensures c.in-Err-Bad.ensures.reads

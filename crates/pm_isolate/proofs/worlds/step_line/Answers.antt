@@ -37,7 +37,7 @@ loop-core-preserved c =
     let marks = c.args.marks.now in
     let way = c.loop-core.invariant.way in
     let next = next_left core c.loop-core.left c.next.new.cores c.args.runner.now now taken then way.fixed c.in-Some.ensures.events c.step.ensures.boxes in
-    let later : List Event = events_left c.args.runner.now.book.fixed.object then.boxes c.next.new.cores in
+    let later : List Event = events_left c.args.runner.now.book.fixed.object c.args.runner.now.book.fixed.topology then.boxes c.next.new.cores in
     let stays : taken.book ≡ now.book = c.in-Some.ensures.book in
     record {
       way = one_more c.args.event.now core c.loop-core.left c.next.new.cores c.args.runner.now now taken then way stays

@@ -1,12 +1,18 @@
-use Rattle.std.proofs.Common.{◌≡◌, ◌∷◌, length, ap, arith, refl, subst, sym, ◌∙◌}
+use Rattle.std.proofs.Common.{◌≡◌, ℕ, ◌∷◌, ◌++◌, List, Option, length, ap, arith, refl, subst, sym, ◌∙◌}
+use Rattle.pm_ipi.specs.declared.responses.Response.{Response}
+use Rattle.pm_topology.specs.declared.topology.Topology.{Topology}
 use Rattle.pm_core.specs.declared.outbox.Outbox.{Outbox}
-use Rattle.pm_state.specs.State.{Fixed}
+use Rattle.pm_state.specs.State.{Fixed, State}
 use Rattle.pm_split.specs.Boxes.{Boxes}
 use Rattle.pm_split.specs.Left.{events_left}
-use Rattle.pm_split.specs.Split.{noted_busy}
+use Rattle.pm_split.specs.Split.{Note, called_note, noted_busy, noted_call}
+use Rattle.pm_run.specs.Run.{setup_of, split}
+use Rattle.pm_trace.specs.Notes.{notes_text}
 use Rattle.pm_trace.specs.Step.{notices_in, step_text}
+use Rattle.pm_drive.specs.Text.{later_reply}
+use Rattle.pm_replay.specs.Controls.{stand_in}
 use Rattle.pm_replay.specs.Within.{RanCore, WritesOn}
-use Rattle.pm_replay.proofs.CoresLemmas.{line_ran, none_yet, one_more}
+use Rattle.pm_replay.proofs.CoresLemmas.{IsUnderWay, line_ran, none_yet, notes_after, on-both, one_more}
 use Rattle.pm_replay.proofs.lines.run_line.Goals as goal
 
 pub loop-core-init : goal.loop-core-init
@@ -23,23 +29,46 @@ loop-core-preserved g c =
       part = c.step.ensures.part;
       notices = c.step.ensures.notices;
       given = c.step.ensures.given;
-      writes = subst W c.outbox.ensures c.write_on-written.ensures;
+      writes = subst W c.outbox-outbox.ensures c.write_on-written.ensures;
     }
     in
-    one_more g.O.Sink g.D.Device c.args.number c.args.event.now c.in-Some.core c.loop-core.left c.next.new.cores c.args.controller.now c.loop-core.controller taken c.step.new.self
-    c.loop-core.written c.write_on-written.result c.args.out.now c.loop-core.out c.write_on-written.new.out c.rig.new.dev c.loop-core.dev c.step.new.dev
-    c.loop-core.invariant c.in-Some.ensures.book c.in-Some.ensures.kept c.in-Some.ensures.events c.in-Some.ensures.boxes c.step.ensures.boxes one
+    let told : later_reply c.loop-core.reply c.step.new.self.outbox.answer ≡ c.later_reply-reply.result =
+    ap (λ (outbox : Outbox). later_reply c.loop-core.reply outbox.answer) (sym c.outbox-outbox.ensures) ∙ sym c.later_reply-reply.ensures
+    in
+    let P : Option Response → Type 0 = λ reply. IsUnderWay g.O.Sink g.D.Device c.args.number c.args.event.now c.next.new.cores c.args.controller.now c.step.new.self reply
+    c.write_on-written.result c.args.out.now c.write_on-written.new.out c.rig.new.dev c.step.new.dev
+    in
+    subst P told
+    (one_more g.O.Sink g.D.Device c.args.number c.args.event.now c.in-Some.core c.loop-core.left c.next.new.cores c.args.controller.now c.loop-core.controller taken c.step.new.self
+    c.loop-core.reply c.loop-core.written c.write_on-written.result c.args.out.now c.loop-core.out c.write_on-written.new.out c.rig.new.dev c.loop-core.dev c.step.new.dev
+    c.loop-core.invariant c.in-Some.ensures.book c.in-Some.ensures.kept c.in-Some.ensures.events c.in-Some.ensures.boxes c.step.ensures.boxes one)
 
 pub loop-core-smaller : goal.loop-core-smaller
 loop-core-smaller g c =
     let O = c.args.controller.now.book.fixed.object in
-    let P : Fixed → Type 0 = λ fixed. events_left fixed.object c.loop-core.controller.boxes c.loop-core.left ≡ c.in-Some.core ∷ events_left fixed.object c.next.new.self.boxes c.next.new.cores in
-    let next = subst P c.loop-core.invariant.fixed c.in-Some.ensures.events ∙ ap (λ (b : Boxes). c.in-Some.core ∷ events_left O b c.next.new.cores) (sym c.step.ensures.boxes) in
+    let T = c.args.controller.now.book.fixed.topology in
+    let P : Fixed → Type 0 = λ fixed. events_left fixed.object fixed.topology c.loop-core.controller.boxes c.loop-core.left ≡ c.in-Some.core ∷ events_left fixed.object fixed.topology c.next.new.self.boxes c.next.new.cores in
+    let next = subst P c.loop-core.invariant.fixed c.in-Some.ensures.events ∙ ap (λ (b : Boxes). c.in-Some.core ∷ events_left O T b c.next.new.cores) (sym c.step.ensures.boxes) in
     omega (arith, ap length next)
 
 pub returns : goal.returns
 returns g c = λ cs is.
-    line_ran g.O.Sink g.D.Device c.args.number c.args.event.now c.loop-core.left (noted_busy c.split-parts.result.busy) c.args.controller.now c.loop-core.controller c.next.new.self
-    c.loop-core.written c.note_on.result c.args.out.now c.loop-core.out c.note_on.new.out c.args.dev.now c.rig.new.dev c.loop-core.dev
+    let n = c.args.number in
+    let start = c.args.controller.now in
+    let then = c.next.new.self in
+    let chip : c.topology.result.now ≡ then.book.fixed.topology = c.topology.ensures.topology ∙ ap (λ (b : State). b.fixed.topology) c.book.ensures in
+    let called : noted_call c.call_answer-called.result ≡ called_note then.book.fixed.topology c.args.event.now c.loop-core.reply =
+    c.call_answer-called.ensures ∙ ap (λ (t : Topology). called_note t c.args.event.now c.loop-core.reply) chip
+    in
+    let busy : List Note = noted_busy c.split-parts.result.busy in
+    let told : List Note = noted_call c.call_answer-called.result in
+    let P : List ℕ → Type 0 = λ text. WritesOn g.O.Sink text c.loop-core.written c.call_on.result c.loop-core.out c.call_on.new.out in
+    let both = on-both g.O.Sink (notes_text n busy) (notes_text n told) c.loop-core.written c.note_on-noted.result c.call_on.result
+    c.loop-core.out c.note_on-noted.new.out c.call_on.new.out c.note_on-noted.ensures c.call_on.ensures
+    in
+    line_ran g.O.Sink g.D.Device n c.args.event.now c.loop-core.left (busy ++ told) start c.loop-core.controller then c.loop-core.reply
+    c.loop-core.written c.call_on.result c.args.out.now c.loop-core.out c.call_on.new.out c.args.dev.now c.rig.new.dev c.loop-core.dev
     c.rig.ensures c.loop-core.invariant c.in_default.ensures.book c.in_default.ensures.kept c.in_default.ensures.events.0 (c.in_default.ensures.end refl)
-    c.split-parts.ensures.notes c.note_on.ensures cs is
+    (ap (λ (notes : List Note). notes ++ told) c.split-parts.ensures.notes
+    ∙ ap (λ (notes : List Note). (split (setup_of start.book) c.args.event.now (stand_in start)).notes ++ notes) called)
+    (subst P (sym (notes_after n busy told)) both) cs is

@@ -1,16 +1,12 @@
 use Rattle.std.proofs.Common.{rules, ◌≡◌, sym}
-use Rattle.pm_reader.specs.Follow.{Followed}
 use Rattle.pm_reader.proofs.Named.{of_more}
-use Rattle.pm_script.specs.Script.{Script}
-use Rattle.pm_replay.specs.Plays.{Plays}
-use Rattle.pm_replay.specs.Within.{RanLines}
 use Rattle.pm_replay.proofs.LinesLemmas.{holds_same, ran_lines}
 use Rattle.pm_replay.proofs.lines.run_lines.Goals as goal
 
 pub returns-clause-ran : goal.returns-clause-ran
 returns-clause-ran g c = λ cs is.
     let new = c.each_line.new.follower in
-    let followed = c.each_line.ensures.followed in
+    let followed = c.each_line.ensures.followed.followed in
     let same = holds_same g.O.Sink g.D.Device 1 _ _ new c.each_line.result followed.holds in
     let controller : c.controller-1.given.0 ≡ new.controller.now = search (rules, sym, c.controller-1.given.1, same.controller) in
     let out : c.out-1.given.0 ≡ new.out.now = search (rules, sym, c.out-1.given.1, same.out) in

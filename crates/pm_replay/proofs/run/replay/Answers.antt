@@ -13,7 +13,7 @@ returns g c =
     let w' = world c.run_named.new.inputs c.run_named.new.out c.run_named.new.dev in
     let name = c.args.script.now in
     let result = c.run_named.result in
-    let ran = c.run_named.ensures in
+    let ran = c.run_named.ensures.ran in
     let Asks = IsScriptOf g.I.Inputs name w.inputs w'.inputs result in
     let Touching = Touched g.D.Device cs w.device w'.device in
     record {
@@ -24,6 +24,8 @@ returns g c =
       keeps = record { run = λ answers events drove. c.driven_runs_keep_apart.ensures.run cs events answers w.device w'.device c.requires.object c.requires.formed drove; steps = λ answers events cut drove. c.driven_runs_keep_apart.ensures.steps cs events answers cut w.device w'.device c.requires.object c.requires.formed drove };
       causes = λ events. c.runs_have_causes.ensures.run cs events;
       boxes = λ events. c.boxes_of_a_run.ensures cs events c.requires.object;
+      calls = record { line = c.power_calls_are_their_events.ensures cs; script = c.scripts_are_lowered.ensures cs };
+      begun = c.run_named.ensures.begun;
       memory = scripts.did_memory g.I.Inputs g.O.Sink script_itself (replay_report cs) (of_script cs) name w.inputs w'.inputs w.sink w'.sink result Asks (λ job asked. asked) Touching ran;
       untouched = replay_untouched g.I.Inputs g.O.Sink g.D.Device cs name w w' result ran;
       read_fault = scripts.did_read_fault g.I.Inputs g.O.Sink script_itself (replay_report cs) (of_script cs) name w.inputs w'.inputs w.sink w'.sink result Asks (λ job asked. asked) Touching ran;

@@ -7,6 +7,7 @@ use Rattle.pm_run.specs.Run.{setup_of}
 use Rattle.pm_trace.specs.Step.{notices_in, step_text}
 use Rattle.pm_replay.specs.Within.{Started}
 use Rattle.pm_replay.proofs.RestLemmas.{RanScript-cut, RanScript-first}
+use Rattle.pm_trace.proofs.ReadsLemmas.{reads_cut}
 use Rattle.pm_replay.proofs.run.run.Goals as goal
 
 pub returns-in-Ok-clause-ran : goal.returns-in-Ok-clause-ran
@@ -25,3 +26,6 @@ returns-in-Err-clause-ran g c =
     let P : Outbox → Type 0 = λ outbox. BreaksIn g.O.Sink 0 (step_text 0 outbox.done.items (notices_in outbox) outbox.answer ∷ []) c.args.out.now c.write_step.new.out in
     of_any g.I.Inputs.observable c.args.id (g.I.Inputs.state c.args.inputs.now) _
     (λ s. RanScript-cut g.O.Sink g.D.Device s c.args.controller.now then c.args.out.now c.write_step.new.out c.args.dev.now c.start.new.dev c.requires.loaded started (subst P c.outbox.ensures c.in-Err.ensures))
+
+pub returns-in-Err-clause-reads : goal.returns-in-Err-clause-reads
+returns-in-Err-clause-reads g c = reads_cut c.args.id (g.I.Inputs.state c.args.inputs.now)

@@ -1,4 +1,4 @@
-use Rattle.std.proofs.Common.{◌≡◌, arith, refl, false}
+use Rattle.std.proofs.Common.{arith, refl}
 use Rattle.std.proofs.lemmas.Bool.{false≢true}
 use Rattle.pm_base.specs.Faults.{Rose}
 use Rattle.pm_base.specs.World.{world}
@@ -6,10 +6,11 @@ use Rattle.pm_reader.proofs.Named.{script_begun, script_unbegun}
 use Rattle.pm_run.specs.Run.{setup_of}
 use Rattle.pm_script.specs.Script.{Script, script_from, script_lines, stop_of}
 use Rattle.pm_replay.proofs.ReplayLemmas.{replay_ran, replay_unbegun}
+use Rattle.pm_trace.proofs.ReadsLemmas.{script_not_begun, script_reads}
 use Rattle.pm_replay.proofs.run.run_loaded.Goals as goal
 
-pub returns-in-Ok : goal.returns-in-Ok
-returns-in-Ok g c =
+pub returns-in-Ok-clause-ran : goal.returns-in-Ok-clause-ran
+returns-in-Ok-clause-ran g c =
     let cs = setup_of c.args.controller.now.book in
     let name = c.args.script.now in
     let w = world c.args.inputs.now c.args.out.now c.args.dev.now in
@@ -23,10 +24,16 @@ returns-in-Ok g c =
     (λ is. let rose : Rose (g.I.Inputs.state c.begin.new.self).faults (g.I.Inputs.state c.run.new.inputs).faults = c.run.ensures.fault is in omega (arith, c.in-Ok.ensures.cause.later, rose))
     ran drove
 
-pub returns-in-Err : goal.returns-in-Err
-returns-in-Err g c =
+pub returns-in-Err-clause-ran : goal.returns-in-Err-clause-ran
+returns-in-Err-clause-ran g c =
     let w = world c.args.inputs.now c.args.out.now c.args.dev.now in
     let w' = world c.begin.new.self c.refuse.new.out c.args.dev.now in
     replay_unbegun g.I.Inputs g.O.Sink g.D.Device (setup_of c.args.controller.now.book) c.args.script.now w w' c.refuse.result
     (λ seen. script_unbegun c.args.script.now (g.I.Inputs.state c.args.inputs.now) ((c.in-Err.ensures.failed seen).0 refl))
     c.in-Err.ensures.cause.failed c.refuse.ensures refl
+
+pub returns-in-Ok-clause-begun : goal.returns-in-Ok-clause-begun
+returns-in-Ok-clause-begun g c = script_reads c.args.script.now c.in-Ok.id c.run.result (g.I.Inputs.state c.args.inputs.now) (g.I.Inputs.state c.begin.new.self) (g.I.Inputs.state c.run.new.inputs) c.in-Ok.ensures.logged c.run.ensures.reads
+
+pub returns-in-Err-clause-begun : goal.returns-in-Err-clause-begun
+returns-in-Err-clause-begun g c = script_not_begun g.O.Sink c.args.script.now c.args.out.now c.refuse.new.out c.refuse.result (g.I.Inputs.state c.args.inputs.now) (g.I.Inputs.state c.begin.new.self) c.refuse.ensures c.in-Err.ensures.logged

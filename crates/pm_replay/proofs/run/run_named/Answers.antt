@@ -6,10 +6,12 @@ use Rattle.pm_trace.proofs.ScriptsLemmas.{asked_starved, memory_exit}
 use Rattle.pm_replay.specs.Replayed.{Replayed}
 use Rattle.pm_run.specs.Run.{setup}
 use Rattle.pm_replay.proofs.ReplayLemmas.{replay_refused}
+use Rattle.pm_trace.specs.Scripts.{script_named}
+use Rattle.pm_trace.proofs.ReadsLemmas.{script_starved}
 use Rattle.pm_replay.proofs.run.run_named.Goals as goal
 
-pub returns-in_default : goal.returns-in_default
-returns-in_default g c =
+pub returns-in_default-clause-ran : goal.returns-in_default-clause-ran
+returns-in_default-clause-ran g c =
     let w = world c.args.inputs.now c.args.out.now c.args.dev.now in
     let w' = world c.args.inputs.now c.refuse.new.out c.args.dev.now in
     replay_refused g.I.Inputs g.O.Sink g.D.Device (setup c.args.object c.args.topology) c.args.script.now w w' c.refuse.result _ (asked_starved g.I.Inputs c.args.script.now w.inputs w'.inputs c.refuse.result (memory_exit g.O.Sink w.sink w'.sink c.refuse.result c.refuse.ensures)) c.refuse.ensures refl
@@ -21,8 +23,11 @@ run_loaded-requires g c = record {
   idle = c.requires.idle;
 }
 
-pub returns : goal.returns
-returns g c =
+pub returns-clause-ran : goal.returns-clause-ran
+returns-clause-ran g c =
     let w = world c.args.inputs.now c.args.out.now c.args.dev.now in
     let w' = world c.run_loaded.new.inputs c.run_loaded.new.out c.run_loaded.new.dev in
-    subst (λ (s : Setup). Replayed g.I.Inputs g.O.Sink g.D.Device s c.args.script.now w w' c.run_loaded.result) c.in-Ok.ensures.setup c.run_loaded.ensures
+    subst (λ (s : Setup). Replayed g.I.Inputs g.O.Sink g.D.Device s c.args.script.now w w' c.run_loaded.result) c.in-Ok.ensures.setup c.run_loaded.ensures.ran
+
+pub returns-in_default-clause-begun : goal.returns-in_default-clause-begun
+returns-in_default-clause-begun g c = script_starved g.O.Sink (script_named c.args.script.now) c.args.out.now c.refuse.new.out c.refuse.result (g.I.Inputs.state c.args.inputs.now) c.refuse.ensures

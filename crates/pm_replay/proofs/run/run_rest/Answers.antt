@@ -6,6 +6,8 @@ use Rattle.pm_trace.specs.Report.{refusal}
 use Rattle.pm_trace.specs.declared.faults.Fault.TheVariants.{Line}
 use Rattle.pm_replay.specs.Within.{closing_report}
 use Rattle.pm_replay.proofs.RestLemmas.{RanRest-bad, RanRest-broken, RanRest-closed}
+use Rattle.pm_trace.proofs.ReadsLemmas.{reads_bad, reads_closed}
+use Rattle.pm_trace.specs.Closing.{closing_text}
 use Rattle.pm_replay.proofs.run.run_rest.Goals as goal
 
 pub returns-in-Ok-clause-ran : goal.returns-in-Ok-clause-ran
@@ -37,3 +39,9 @@ returns-in-Err-Broken-clause-ran g c = λ cs is.
     of_more g.I.Inputs.observable c.args.id (g.I.Inputs.state c.args.inputs.now) _ _
     (λ s ran. RanRest-broken g.O.Sink g.D.Device cs 1 s c.args.controller.now c.run_lines.new.controller c.args.out.now c.run_lines.new.out c.args.dev.now c.run_lines.new.dev ran)
     ((rw c.in-Err-Broken.field-0-is at c.in-Err-Broken.ensures.ran) cs is)
+
+pub returns-in-Ok-clause-reads : goal.returns-in-Ok-clause-reads
+returns-in-Ok-clause-reads g c = reads_closed g.O.Sink c.in-Ok.end.stop (closing_text c.run_lines.new.controller.book c.run_lines.new.controller.kept) c.run_lines.new.out c.finish.new.out c.finish.result c.args.id (g.I.Inputs.state c.args.inputs.now) (g.I.Inputs.state c.run_lines.new.inputs) c.finish.ensures c.in-Ok.ensures.reads
+
+pub returns-in-Err-Bad-clause-reads : goal.returns-in-Err-Bad-clause-reads
+returns-in-Err-Bad-clause-reads g c = reads_bad g.O.Sink (Line c.in-Err-Bad.number c.in-Err-Bad.cause) c.run_lines.new.out c.refuse.new.out c.refuse.result c.args.id (g.I.Inputs.state c.args.inputs.now) (g.I.Inputs.state c.run_lines.new.inputs) refl c.refuse.ensures c.in-Err-Bad.ensures.reads

@@ -1,0 +1,152 @@
+-- The run of a script is that of the script in which its power calls are lowered.
+use Rattle.std.proofs.Common.{◌≡◌, Bool, true, false, List, [], ◌∷◌, ◌++◌, refl, sym, ap, subst, ◌∙◌}
+use Rattle.std.specs.Prelude.{if◌then◌else◌, is_some, flat_map, map}
+use Rattle.std.specs.List.{AllByRecursion as Each}
+use Rattle.std.proofs.lemmas.List.{append-nil, append_assoc}
+use Rattle.pm_base.specs.declared.events.Event.{Event}
+use Rattle.pm_base.specs.declared.events.Event.TheVariants.{Pass, Smc}
+use Rattle.pm_psci.specs.declared.calls.Function.{Function}
+use Rattle.pm_psci.specs.declared.calls.Function.TheVariants.{AffinityInfo, CpuOff, CpuOn, SystemOff, SystemReset, Unknown}
+use Rattle.pm_psci.specs.declared.calls.Smc as psci
+use Rattle.pm_psci.specs.Calls.{function_of}
+use Rattle.pm_psci.specs.Lowering.{lowered, or_pass, sent}
+use Rattle.pm_psci.specs.Refusal.{refusal}
+use Rattle.pm_device.specs.Act.{Act}
+use Rattle.pm_state.specs.Load.{load_of}
+use Rattle.pm_state.specs.State.{State}
+use Rattle.pm_core.specs.Step.{effect, outputs}
+use Rattle.pm_split.specs.Split.{Split, call}
+use Rattle.pm_run.specs.Run.{Core, Line, Setup, Stand, book_after, core_of, cores_of, line_0, line_of, lines_of, loaded, split}
+use Rattle.pm_apply.specs.Part.{Kept, orders_of, part_of}
+use Rattle.pm_apply.specs.Record.{at_zero}
+use Rattle.pm_trace.specs.Closing.{closing_text}
+use Rattle.pm_trace.specs.Notes.{note_words}
+use Rattle.pm_drive.specs.Drive.{Driven, Given, acts, acts_of, answers_after, drive, drive_line, driven, first_answers, give, kept_after, last_book, last_kept, later_answers, orders_in_cores, rigs}
+use Rattle.pm_drive.specs.Lowered.{HaveSameSteps, given_in, lowered_script, told_by, told_in}
+
+-- where a run stands after these core events, which leave the boxes
+abbrev stand_after : List Event → Stand → Stand
+stand_after events stand = record { book = book_after events stand.book; boxes = stand.boxes }
+
+-- a line with these core events
+abbrev line_by : Event → Stand → Split → Line
+line_by event stand s = record {
+  event = event;
+  cores = cores_of s.events stand.book;
+  notes = s.notes;
+  after = record { book = book_after s.events stand.book; boxes = s.boxes };
+}
+
+-- what the device is given in a core step
+abbrev orders : Given → List Act
+orders g = orders_of g.part.commands
+
+-- from this book and these kept values driven lines have these core steps, and then go on as others from others
+record GoOn (book : State) (kept : Kept) (xs : List Driven) (given : List Given) (next : State) (more : Kept) (ys : List Driven) : Type 0 where
+  steps : given_in xs ≡ given ++ given_in ys
+  told : told_in xs ≡ flat_map told_by given ++ told_in ys
+  done : acts xs ≡ orders_in_cores given ++ acts ys
+  last : last_book book xs ≡ last_book next ys
+  holds : last_kept kept xs ≡ last_kept more ys
+
+module _ (c : Setup) where
+  -- an event that is its own core event, and does nothing to the device itself
+  record IsPlain (event : Event) : Type 0 where
+    alone : (stand : Stand) → split c event stand ≡ record { events = event ∷ []; boxes = stand.boxes; notes = [] }
+    no_act : rigs event ≡ []
+
+  -- those that a power call is lowered to are plain
+  lowered_plain : (smc : psci.Smc) → Each IsPlain (lowered c.topology smc)
+  lowered_plain smc = by (is_some (refusal c.topology smc)) (function_of smc)
+    where
+      of_pass : IsPlain Pass
+      of_pass = record { alone = λ stand. refl; no_act = refl }
+
+      by : (refused : Bool) (function : Function) → Each IsPlain (or_pass (if refused then [] else sent c.topology smc function))
+      by true function = (of_pass, tt)
+      by false (CpuOn target entry) = (record { alone = λ stand. refl; no_act = refl }, tt)
+      by false CpuOff = (record { alone = λ stand. refl; no_act = refl }, (record { alone = λ stand. refl; no_act = refl }, tt))
+      by false (AffinityInfo target level) = (record { alone = λ stand. refl; no_act = refl }, tt)
+      by false SystemOff = (record { alone = λ stand. refl; no_act = refl }, tt)
+      by false SystemReset = (record { alone = λ stand. refl; no_act = refl }, tt)
+      by false Unknown = (of_pass, tt)
+
+  -- lines of plain events
+  plain_lines : (es : List Event) → Each IsPlain es → (rest : List Event) (stand : Stand) (kept : Kept) (answers : List (List Bool))
+      → GoOn stand.book kept (drive kept answers (lines_of c (es ++ rest) stand))
+      (give kept answers (cores_of es stand.book)) (book_after es stand.book) (kept_after kept (give kept answers (cores_of es stand.book)))
+      (drive (kept_after kept (give kept answers (cores_of es stand.book))) (answers_after (cores_of es stand.book) answers) (lines_of c rest (stand_after es stand)))
+  plain_lines [] plain rest stand kept answers = record { steps = refl; told = refl; done = refl; last = refl; holds = refl }
+  plain_lines (e ∷ es) plain rest stand kept answers =
+      let g : Given = record { core = core_of e stand.book; part = part_of kept (first_answers answers) (effect e stand.book) (outputs e stand.book) } in
+      let given : List Given = give kept answers (cores_of (e ∷ es) stand.book) in
+      let after : Kept = kept_after kept given in
+      let tail : List Driven = drive after (answers_after (cores_of (e ∷ es) stand.book) answers) (lines_of c rest (stand_after (e ∷ es) stand)) in
+      let next : Stand = stand_after (e ∷ []) stand in
+      let later = plain_lines es plain.1 rest next g.part.kept (later_answers answers) in
+      let xs : List Driven = drive g.part.kept (later_answers answers) (lines_of c (es ++ rest) next) in
+      let gs : List Given = give g.part.kept (later_answers answers) (cores_of es next.book) in
+      let P : Split → Type 0 = λ s. GoOn stand.book kept (drive kept answers (line_by e stand s ∷ lines_of c (es ++ rest) (line_by e stand s).after)) given (book_after (e ∷ es) stand.book) after tail in
+      subst P (sym (plain.0.alone stand)) (record {
+        steps = ap (λ more. g ∷ more) later.steps;
+        told =
+            ap (λ first. first ++ told_in xs) (append-nil (told_by g ++ []) ∙ append-nil (told_by g))
+            ∙ (ap (λ more. told_by g ++ more) later.told ∙ sym (append_assoc (told_by g) (flat_map told_by gs) (told_in tail)));
+        done =
+            ap (λ first. (first ++ orders_in_cores (g ∷ [])) ++ acts xs) plain.0.no_act
+            ∙ (ap (λ first. first ++ acts xs) (append-nil (orders g))
+            ∙ (ap (λ more. orders g ++ more) later.done ∙ sym (append_assoc (orders g) (orders_in_cores gs) (acts tail))));
+        last = later.last;
+        holds = later.holds;
+      })
+
+  -- all lines, and those in which the power calls are lowered
+  all_lines : (events : List Event) (stand : Stand) (kept : Kept) (answers : List (List Bool))
+      → GoOn stand.book kept (drive kept answers (lines_of c events stand)) [] stand.book kept (drive kept answers (lines_of c (lowered_script c.topology events) stand))
+  all_lines [] stand kept answers = record { steps = refl; told = refl; done = refl; last = refl; holds = refl }
+  all_lines (Smc proc function args ∷ events) stand kept answers =
+      let smc : psci.Smc = call proc function args in
+      let es : List Event = lowered c.topology smc in
+      let cores : List Core = cores_of es stand.book in
+      let given : List Given = give kept answers cores in
+      let after : Kept = kept_after kept given in
+      let xs : List Driven = drive after (answers_after cores answers) (lines_of c events (stand_after es stand)) in
+      let later = all_lines events (stand_after es stand) after (answers_after cores answers) in
+      let lower = plain_lines es (lowered_plain smc) (lowered_script c.topology events) stand kept answers in
+      record {
+        steps = ap (λ more. given ++ more) later.steps ∙ sym lower.steps;
+        told =
+            ap (λ first. first ++ told_in xs) (append-nil (flat_map told_by given))
+            ∙ (ap (λ more. flat_map told_by given ++ more) later.told ∙ sym lower.told);
+        done = ap (λ more. orders_in_cores given ++ more) later.done ∙ sym lower.done;
+        last = later.last ∙ sym lower.last;
+        holds = later.holds ∙ sym lower.holds;
+      }
+  all_lines (event ∷ events) stand kept answers =
+      let line : Line = line_of c event stand in
+      let x : Driven = drive_line kept answers line in
+      let later = all_lines events line.after x.kept (answers_after line.cores answers) in
+      record {
+        steps = ap (λ more. x.cores ++ more) later.steps;
+        told = ap (λ more. (flat_map told_by x.cores ++ map note_words x.line.notes) ++ more) later.told;
+        done = ap (λ more. acts_of x ++ more) later.done;
+        last = later.last;
+        holds = later.holds;
+      }
+
+  pub run_lowered : (events : List Event) (answers : List (List Bool)) → HaveSameSteps c (driven c answers events) (driven c answers (lowered_script c.topology events))
+  run_lowered events answers =
+      let start : Kept = at_zero c.topology in
+      let x : Driven = drive_line start answers (line_0 c) in
+      let xs : List Driven = driven c answers events in
+      let ys : List Driven = driven c answers (lowered_script c.topology events) in
+      let load : State = load_of c.object c.topology in
+      let later = all_lines events (loaded c) x.kept (answers_after (line_0 c).cores answers) in
+      record {
+        steps = ap (λ more. x.cores ++ more) later.steps;
+        told = ap (λ more. (flat_map told_by x.cores ++ map note_words x.line.notes) ++ more) later.told;
+        done = ap (λ more. acts_of x ++ more) later.done;
+        closing =
+            ap (λ book. closing_text book (last_kept start xs)) later.last
+            ∙ ap (closing_text (last_book load ys)) later.holds;
+      }
