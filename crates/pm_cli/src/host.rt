@@ -4,7 +4,7 @@
 ghost use Rattle.std.specs.Prelude.{◌≡◌, ◌⊎◌, [], take, length, ◌≤◌, IfSome};
 ghost use Rattle.pm_base.specs.Inputs.{unobserved};
 
-use pm_base::{Exit, Failed, Inputs, NoMemory, Sink};
+use pm_base::{CallLog, Entry, Exit, Failed, Inputs, NoMemory, Sink};
 use std::alloc::Global;
 use std::fs;
 use std::io::{Read, Write};
@@ -19,6 +19,7 @@ pub struct HostInputs<'a, R: Files> {
     files: &'a R,
     begun: Vec<R::File>,
     faults: u64,
+    log: CallLog,
 }
 
 impl<'a, R: Files> HostInputs<'a, R> {
@@ -29,12 +30,14 @@ impl<'a, R: Files> HostInputs<'a, R> {
             files,
             begun,
             faults: 0,
+            log: CallLog::new(),
         })
     }
 
     /// Opens a file and keeps it under the next number.
     fn open(&mut self, path: &str) -> Option<u32>
-        ensures { self.new.faults ≡ self.old.faults }
+        ensures faults { self.new.faults ≡ self.old.faults }
+        ensures log { self.new.log ≡ self.old.log }
     {
         let id = u32::try_from(self.begun.len()).ok()?;
         let file = fs::open(self.files, path).ok()?;
@@ -45,6 +48,7 @@ impl<'a, R: Files> HostInputs<'a, R> {
     /// Reads from the file of a number.
     fn read_some(&mut self, id: u32, buf: &mut [u8]) -> Option<usize>
         ensures faults { self.new.faults ≡ self.old.faults }
+        ensures log { self.new.log ≡ self.old.log }
         ensures bound { IfSome result (λ count. count ≤ length buf.new) }
     {
         self.begun.get_mut(id as usize)?.read(buf).ok()
@@ -52,13 +56,17 @@ impl<'a, R: Files> HostInputs<'a, R> {
 }
 
 impl<R: Files> Inputs for HostInputs<'_, R> {
-    ghost state = { λ inputs. unobserved inputs.faults };
+    ghost state = { λ inputs. unobserved inputs.faults inputs.log.calls };
 
     fn begin(&mut self, name: &str) -> Result<u32, Failed> {
         match self.open(name) {
-            Some(id) => Ok(id),
+            Some(id) => {
+                self.log = self.log.then(&Entry::Begun(name, id));
+                Ok(id)
+            }
             None => {
                 self.faults = self.faults.saturating_add(1);
+                self.log = self.log.then(&Entry::Unbegun(name));
                 Err(Failed)
             }
         }
@@ -66,9 +74,13 @@ impl<R: Files> Inputs for HostInputs<'_, R> {
 
     fn read(&mut self, id: u32, buf: &mut [u8]) -> Result<usize, Failed> {
         match self.read_some(id, buf) {
-            Some(count) => Ok(count),
+            Some(count) => {
+                self.log = self.log.then(&Entry::Took(id, &buf[..count]));
+                Ok(count)
+            }
             None => {
                 self.faults = self.faults.saturating_add(1);
+                self.log = self.log.then(&Entry::Stuck(id));
                 Err(Failed)
             }
         }

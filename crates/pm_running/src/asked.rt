@@ -3,13 +3,15 @@
 use std::alloc::{AllocError, Global};
 
 /// What is asked for: the words with one space between them, the words of the input `obj`, the bytes of
-/// the input `script`, and the bytes at which reads fail, of `obj` at place 0 and of `script` at place 1.
+/// the input `script`, the bytes at which reads fail, of `obj` at place 0, of `script` at place 1 and of `topo` at
+/// place 2, and the bytes of the input `topo`.
 #[derive(Clone, Copy)]
 pub struct Asked<'a> {
     pub words: &'a str,
     pub object: &'a [u32],
     pub script: &'a [u8],
     pub failing: &'a [(u32, u32)],
+    pub topology: &'a [u8],
 }
 
 /// A replay of a script over an object, over inputs that don't fail.
@@ -19,6 +21,7 @@ pub fn replay_of<'a>(object: &'a [u32], script: &'a [u8]) -> Asked<'a> {
         object,
         script,
         failing: &[],
+        topology: &[],
     }
 }
 

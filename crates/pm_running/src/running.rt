@@ -32,6 +32,7 @@ fn inputs_of(alloc: Global, asked: &Asked) -> Result<Box<MemInputs>, Fail> {
     let mut inputs = Box::new(alloc, MemInputs::new(alloc, asked.failing)?)?;
     put(&mut inputs, "obj", &bytes_of(alloc, asked.object)?)?;
     put(&mut inputs, "script", asked.script)?;
+    put(&mut inputs, "topo", asked.topology)?;
     Ok(inputs)
 }
 

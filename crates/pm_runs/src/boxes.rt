@@ -348,6 +348,7 @@ fn what_a_message_in_a_box_changes_is_found(rt: HostRuntime) -> Result<(), Fail>
             object: OBJECT,
             script: script.as_bytes(),
             failing: &[],
+            topology: &[],
         };
         let text = joined(rt.alloc(), &[REACH, found])?;
         check(&rt, &asked, None, &text, Exit::Done)?;

@@ -1,4 +1,4 @@
-//! Runs with messages in boxes that are compared with the run without those of a master.
+//! Runs with messages in boxes and with power calls that are compared with the run without those of a master.
 
 use super::checks::check;
 use pm_base::Exit;
@@ -22,7 +22,7 @@ power 62 above 1
 ";
 
 /// A script, and what differs without the messages of master 1.
-static RUNS: [(&str, &str); 8] = [
+static RUNS: [(&str, &str); 11] = [
     // one message uses a slave and the next one of the same line forces it down: after the line nothing differs
     (
         "boot 2 0\npost 1 13 28 1 0 2\npost 7 8 10 2\nserve\n",
@@ -60,6 +60,18 @@ static RUNS: [(&str, &str); 8] = [
     ),
     // a message that waits when the script ends changes nothing
     ("boot 2 0\npost 1 13 28 1 0 2\n", "steps 2\n"),
+    // a power call comes to a message of master 1, which starts a processor
+    (
+        "boot 2 0\nsmc 2 0xC4000003 1 4096 0\n",
+        "differ proc 3\nsteps 2\n",
+    ),
+    // the wait of a processor that stops itself is left out with its message
+    (
+        "boot 2 0\nsmc 2 0x84000002\n",
+        "differ power 1\ndiffer proc 2\ndiffer power 10\nsteps 2\n",
+    ),
+    // calls that are refused come to nothing
+    ("boot 2 0\nsmc 7 0x84000002\nsmc 2 1\n", "steps 3\n"),
 ];
 
 #[test]
@@ -70,6 +82,7 @@ fn what_differs_is_found_after_each_line(rt: HostRuntime) -> Result<(), Fail> {
             object: APART,
             script: script.as_bytes(),
             failing: &[],
+            topology: &[],
         };
         let text = joined(rt.alloc(), &[REACH, found])?;
         check(&rt, &asked, None, &text, Exit::Done)?;

@@ -62,6 +62,7 @@ fn an_input_that_fails_at_each_byte(rt: HostRuntime) -> Result<(), Fail> {
         for at in *first..*end {
             let asked = Asked {
                 failing: &[(*input, at)],
+                topology: &[],
                 ..replay_of(LABORATORY, script)
             };
             check(&rt, &asked, None, &text, Exit::ReadFault)?;

@@ -38,6 +38,7 @@ fn an_input_that_fails(rt: HostRuntime) -> Result<(), Fail> {
             object: ALONE,
             script: SCRIPT,
             failing,
+            topology: &[],
         };
         check(&rt, &asked, None, text.as_bytes(), *exit)?;
     }
@@ -67,6 +68,7 @@ fn an_input_that_fails_at_each_byte(rt: HostRuntime) -> Result<(), Fail> {
         for at in *first..*end {
             let asked = Asked {
                 failing: &[(*input, at)],
+                topology: &[],
                 ..replay_of(ALONE, SCRIPT)
             };
             check(&rt, &asked, None, text.as_bytes(), Exit::ReadFault)?;
@@ -95,6 +97,7 @@ fn a_device_is_commanded_only_once_a_script_is_begun(rt: HostRuntime) -> Result<
             object: ALONE,
             script: b"header\n",
             failing: &[*failing],
+            topology: &[],
         };
         let mut out = MemSink::new(rt.alloc(), None)?;
         let mut device = model(rt.alloc())?;

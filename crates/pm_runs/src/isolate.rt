@@ -51,7 +51,7 @@ static EXITS: [Case; 22] = [
         Exit::Usage,
     ),
     (
-        "isolate obj script 7 7",
+        "isolate obj script 7 7 7",
         OBJECT,
         "",
         &[],
@@ -60,7 +60,7 @@ static EXITS: [Case; 22] = [
         Exit::Usage,
     ),
     (
-        "replay obj script 7",
+        "replay obj script 7 7",
         OBJECT,
         "",
         &[],
@@ -238,6 +238,7 @@ fn asked_of(case: &Case) -> Asked<'static> {
         object,
         script: script.as_bytes(),
         failing,
+        topology: &[],
     }
 }
 
@@ -258,6 +259,7 @@ fn a_script_that_fails_at_each_byte(rt: HostRuntime) -> Result<(), Fail> {
         let failing = [(1, at)];
         let asked = Asked {
             failing: &failing,
+            topology: &[],
             ..asked_of(&EXITS[0])
         };
         check(&rt, &asked, None, &text, Exit::ReadFault)?;

@@ -22,10 +22,14 @@ mod making;
 #[cfg(test)]
 mod objects;
 #[cfg(test)]
+mod power_calls;
+#[cfg(test)]
 mod reach;
 #[cfg(test)]
 mod sinks;
 #[cfg(test)]
 mod steps;
+#[cfg(test)]
+mod topologies;
 #[cfg(test)]
 mod waking;

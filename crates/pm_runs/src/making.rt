@@ -34,6 +34,7 @@ fn asked_of(words: &'static str) -> Asked<'static> {
         object: OBJECT,
         script: b"",
         failing: &[],
+        topology: &[],
     }
 }
 

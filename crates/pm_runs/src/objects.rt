@@ -19,6 +19,7 @@ fn check_fault(
         object: &[],
         script: bytes,
         failing: &[],
+        topology: &[],
     };
     let text = format!(in rt.alloc(); "fault object {cause} {words}\n")?;
     check(rt, &asked, None, text.as_bytes(), Exit::BadObject)

@@ -30,7 +30,7 @@ static EXITS: [Case; 12] = [
     // words without a form
     ("reach obj", OBJECT, &[], "", "fault usage\n", Exit::Usage),
     (
-        "reach obj 7 script",
+        "reach obj 7 script 7",
         OBJECT,
         &[],
         "",
@@ -121,6 +121,7 @@ fn asked_of(case: &Case) -> Asked<'static> {
         object,
         script: b"",
         failing,
+        topology: &[],
     }
 }
 
@@ -139,12 +140,14 @@ fn an_object_that_fails_at_each_byte(rt: HostRuntime) -> Result<(), Fail> {
         let failing = [(0, at)];
         let asked = Asked {
             failing: &failing,
+            topology: &[],
             ..asked_of(&EXITS[0])
         };
         check(&rt, &asked, None, b"fault read\n", Exit::ReadFault)?;
     }
     let asked = Asked {
         failing: &[(0, 93)],
+        topology: &[],
         ..asked_of(&EXITS[0])
     };
     check(&rt, &asked, None, SHARED.as_bytes(), Exit::Done)

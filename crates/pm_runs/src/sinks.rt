@@ -234,6 +234,7 @@ fn a_sink_of_each_length_under_each_exit(rt: HostRuntime) -> Result<(), Fail> {
             object,
             script: script.as_bytes(),
             failing,
+            topology: &[],
         };
         check_each_length(&rt, &asked, body.as_bytes(), fault, *exit)?;
     }
@@ -248,6 +249,7 @@ fn a_sink_of_each_length_under_an_object(rt: HostRuntime) -> Result<(), Fail> {
         object: &[],
         script: SMALL_TEXT.as_bytes(),
         failing: &[],
+        topology: &[],
     };
     check_each_length(&rt, &asked, &body, "", Exit::Done)
 }

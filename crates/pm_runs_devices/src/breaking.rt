@@ -31,7 +31,7 @@ const OPENED: &str = "0 set 10 0 1
 ";
 
 /// A script after its first line that breaks nodes and mends them, and its text after that line's.
-static BROKEN: [(&str, &str); 2] = [
+static BROKEN: [(&str, &str); 4] = [
     (
         "break 28
 ipi 1 13 28 1 0 2
@@ -64,6 +64,53 @@ end proc 2 1 1
 end power 10 1 1
 end power 62 1 1
 end line 33 1 1
+",
+    ),
+    // A power call is answered by the reply that was told: its processor didn't start on the device.
+    (
+        "break 3
+smc 2 0xC4000003 1 4096 0
+smc 2 0xC4000004 1 0
+mend 3
+",
+        "3 fail 3 0 1
+3 run 3 4096
+3 reply 1 2000 0 0 0
+3 smc 2 -6
+4 fail 3 0 1
+4 reply 1 0 1 0 0
+4 smc 2 0
+5 set 3 0 1
+end power 1 1 1
+end proc 2 1 1
+end proc 3 1 1
+end power 10 1 1
+end power 62 1 1
+",
+    ),
+    // A processor that stops itself is told so before it waits, and the device keeps it on until it is mended.
+    (
+        "smc 2 0xC4000003 1 4096
+break 3
+smc 3 0x84000002
+smc 2 0xC4000004 1
+mend 3
+",
+        "2 set 3 0 1
+2 run 3 4096
+2 reply 1 0 0 0 0
+2 smc 2 0
+4 reply 1 0 0 0 0
+4 fail 3 1 0
+5 fail 3 1 0
+5 reply 1 0 2 0 0
+5 smc 2 1
+6 set 3 1 0
+end power 1 1 1
+end proc 2 1 1
+end proc 3 2 0
+end power 10 1 1
+end power 62 1 1
 ",
     ),
 ];

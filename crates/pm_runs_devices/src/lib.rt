@@ -14,4 +14,6 @@ mod devices;
 #[cfg(test)]
 mod failing;
 #[cfg(test)]
+mod fitting;
+#[cfg(test)]
 mod serving;

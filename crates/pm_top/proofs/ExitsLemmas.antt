@@ -1,25 +1,25 @@
 -- The exits of the program, and what each of them means.
-use Rattle.std.proofs.Common.{◌≡◌, ℕ, ◌+◌, Bool, true, false, List, [], ◌∷◌, length, Option, Some, None, Result, Ok, Err, if◌then◌else◌, refl, sym, ◌∙◌, ap, subst, arith, inl, inr}
-use Rattle.std.specs.Prelude.{nat_lt}
-use Rattle.std.proofs.lemmas.Bool.Decides.{nat_tests}
+use Rattle.std.proofs.Common.{◌≡◌, ℕ, ◌+◌, Bool, true, false, List, [], ◌∷◌, length, Option, Some, Result, Ok, Err, refl, sym, ◌∙◌, ap, subst, inl, inr}
 use Rattle.pm_base.specs.Faults.{Rose}
 use Rattle.pm_base.specs.declared.errors.Exit.{Exit}
 use Rattle.pm_base.specs.declared.errors.Exit.TheVariants as exit
 use Rattle.pm_base.specs.declared.inputs.Inputs as Inputs
 use Rattle.pm_base.specs.declared.sink.Sink as Sink
+use Rattle.pm_base.specs.Inputs.{Moment}
 use Rattle.pm_base.specs.Sink.{HasFailed, IsUnfailed}
 use Rattle.pm_base.specs.Writing.{Leaves}
-use Rattle.pm_script.specs.Script.{Script, Stop}
+use Rattle.pm_script.specs.Script.{Stop}
 use Rattle.pm_script.specs.Script.Stop.{End, Bad, Past, Failed}
 use Rattle.pm_trace.specs.declared.faults.Fault.{Fault}
 use Rattle.pm_trace.specs.declared.faults.Fault.TheVariants.{Memory, Read, Usage}
 use Rattle.pm_trace.specs.Exits.{EndsBy, EndsWith, ExitSays, ExitsSay, IsStarved}
 use Rattle.pm_trace.specs.Faults.{exit_after, exit_by, fault_text}
-use Rattle.pm_trace.specs.Report.{Did, exit_of, pieces, refusal, report_of}
+use Rattle.pm_trace.specs.Report.{Did, exit_of, pieces, report_of}
 use Rattle.pm_trace.specs.Scripts.{fault_at}
+use Rattle.pm_trace.proofs.ReadsLemmas.{refused_exit}
 use Rattle.pm_top.specs.declared.works.Form.{Form}
 use Rattle.pm_top.specs.declared.works.Work.{Work}
-use Rattle.pm_top.specs.Asked.{Asked, asked_of}
+use Rattle.pm_top.specs.Asked.{Asked, Begins, asked_of}
 use Rattle.pm_top.specs.Job.{IsAsked, IsFaultOf, IsKnown, Job, Meets}
 use Rattle.pm_top.specs.Done.{report}
 use Rattle.pm_top.specs.Ran.{FormDecides, IsBeforeRun, StarvesFirst, job_exit}
@@ -61,19 +61,16 @@ no_fault : (work : Work) (job : Job) (answers : List (List Bool)) (fault : Fault
 no_fault work job answers fault before is =
     let clash : true ≡ false = sym before ∙ ap (λ (x : Option Fault). comes_before (exit_after x)) (sym is) ∙ late work job answers in cc
 
-pub refused_exit : (fault : Fault) (cut : Option ℕ) → exit_of (refusal fault) cut ≡ exit_by fault
-refused_exit fault None = refl
-refused_exit fault (Some k) = ap (λ (b : Bool). if b then exit.WriteFault else exit_by fault) (none k)
-  where
-    none : (k : ℕ) → nat_lt k 0 ≡ false
-    none k = grind (arith, nat_tests)
-
 -- the exit of a job is that of what is asked for, whatever the device answers
 due : (work : Work) (job : Result Job Fault) (asked : Result Asked Fault) (answers : List (List Bool)) → Meets job asked → exit_after (report_of (report work) job answers).fault ≡ job_exit asked
 due work (Ok job) (Ok asked) answers is = ap (λ (asked : Asked). exit_after (fault_at (1 + length asked.script.events) asked.script.stop)) is.0
 due work (Err fault) (Err cause) answers is = ap (λ (fault : Fault). exit_by fault) is
 due work (Ok job) (Err cause) answers is = absurd is
 due work (Err fault) (Ok asked) answers is = absurd is
+
+-- all inputs can be begun
+all_begin : (m : Moment) → Begins m
+all_begin m = record { second = true; third = true; two = λ room. refl; three = λ room. refl }
 
 -- ---- what a call that did its job means
 
@@ -113,6 +110,12 @@ module _ {I O : Type 0} (i : Inputs.Ghosts I) (o : Sink.Ghosts O) (say : ExitsSa
         by (inr (inr (inl other))) = let clash : exit.Memory ≡ exit.BadText = sym ended ∙ other in cc
         by (inr (inr (inr at))) = at.1
 
+    -- where the script couldn't be begun the exit doesn't come before a run
+    pub unread_late : did.job ≡ Err Read → IsBeforeRun (Some f) result → ⊥
+    unread_late is before =
+        let ended : result ≡ exit.ReadFault = did.ends ∙ ap (λ (j : Result Job Fault). exit_of (report_of (report f.work) j did.answers) did.cut) is ∙ refused_exit Read did.cut in
+        let clash : true ≡ false = sym (early (Some f) result before) ∙ ap comes_before ended in cc
+
     pub unread : result ≡ exit.ReadFault → FailsToRead did.job
     unread is = fails f.work did.job did.answers (said.read is)
 
@@ -134,8 +137,8 @@ module _ {I O : Type 0} (i : Inputs.Ghosts I) (o : Sink.Ghosts O) (say : ExitsSa
 
     pub decided : i.observable → FormDecides o (Some f) ws (i.state old) sink sink' result
     decided seen = elim (did.asked.shown seen) [
-      | inl memory ↦ (true, λ room. refl, by_memory (job_exit (asked_of f ws (i.state old) true)) did.job memory said.ends)
-      | inr job ↦ (job.0, job.1, by did.job (asked_of f ws (i.state old) job.0) job.2 said.ends)
+      | inl memory ↦ (all_begin (i.state old), by_memory (job_exit (asked_of f ws (i.state old) (all_begin (i.state old)))) did.job memory said.ends)
+      | inr job ↦ (job.0, by did.job (asked_of f ws (i.state old) job.0) job.1 said.ends)
     ]
       where
         by_memory : (other : Exit) (job : Result Job Fault) → job ≡ Err Memory → EndsBy o (exit_after (report_of (report f.work) job did.answers).fault) sink sink' result → EndsWith o other sink sink' result

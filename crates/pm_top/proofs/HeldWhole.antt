@@ -1,5 +1,5 @@
 -- A name that holds bytes within a limit, and can't fail, is read whole, and so is a script each of whose lines has a meaning.
-use Rattle.std.proofs.Common.{◌≡◌, ℕ, ◌≤◌, ◌<◌, ◌⊎◌, ◌==◌, min, Bool, true, false, nat_le, nat_lt, if◌then◌else◌, List, [], ◌∷◌, length, refl, sym, ◌∙◌, ap, subst, arith, Option, Some, None, Result, Ok, Err, inl, inr}
+use Rattle.std.proofs.Common.{◌≡◌, ℕ, ◌≤◌, ◌<◌, ◌==◌, min, Bool, true, false, if◌then◌else◌, List, [], ◌∷◌, length, refl, sym, ◌∙◌, ap, subst, arith, Option, Some, None, Result, Ok, Err, inl, inr}
 use Rattle.std.specs.Prelude.{IsSomeAnd, map}
 use Rattle.std.proofs.lemmas.Bool.{cases_lt}
 use Rattle.std.proofs.lemmas.Bool.Decides.{Decides-eqb, nat_tests}
@@ -9,11 +9,11 @@ use Rattle.pm_base.specs.Inputs.{FailsWithin, File, Holds, MayFail, Moment}
 use Rattle.pm_base.specs.Lines.{lines_of}
 use Rattle.pm_base.specs.Prefix.{Prefix, prefix_before, prefix_of, unbegun}
 use Rattle.pm_object.specs.declared.object.Object.{Object}
-use Rattle.pm_object.specs.Reading.{object, reading, words}
+use Rattle.pm_object.specs.Reading.{reading}
 use Rattle.pm_script.specs.declared.meaning.LineFault.{LineFault}
 use Rattle.pm_script.specs.Meaning.{meaning}
 use Rattle.pm_script.specs.Named.{IsScript}
-use Rattle.pm_script.specs.Script.{Script, before, script_from, script_of}
+use Rattle.pm_script.specs.Script.{before, script_from, script_of}
 use Rattle.pm_script.specs.Script.Stop.{End as AtEnd}
 use Rattle.pm_top.specs.Asked.{object_limit}
 

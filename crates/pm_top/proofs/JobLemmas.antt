@@ -1,13 +1,12 @@
 -- What the words ask for, by what was read.
-use Rattle.std.proofs.Common.{◌≡◌, ℕ, ◌+◌, ◌≤◌, ◌⊎◌, ◌==◌, Bool, true, false, not, List, [], Option, Some, None, Result, Ok, Err, if◌then◌else◌, refl, sym, ◌∙◌, ap, subst, arith, inl, inr}
+use Rattle.std.proofs.Common.{◌≡◌, ℕ, ◌≤◌, ◌⊎◌, ◌==◌, Bool, true, not, List, [], Option, Some, None, Result, Ok, Err, refl, sym, ◌∙◌, ap, subst, arith, inl, inr}
 use Rattle.std.specs.Prelude.{IfNone, IfOk, OnErr}
-use Rattle.std.proofs.lemmas.Bool.Decides.{Decides-eqb, nat_tests}
 use Rattle.pm_base.specs.Faults.{Rose}
 use Rattle.pm_base.specs.declared.errors.Exit.{Exit}
 use Rattle.pm_base.specs.declared.errors.Exit.TheVariants.{ReadFault}
 use Rattle.pm_base.specs.declared.inputs.Inputs as Inputs
-use Rattle.pm_base.specs.Inputs.{File, Moment}
-use Rattle.pm_base.specs.Prefix.{Prefix, prefix_of}
+use Rattle.pm_base.specs.Inputs.{Moment}
+use Rattle.pm_base.specs.Prefix.{Prefix}
 use Rattle.pm_base.specs.declared.events.Event.{Event}
 use Rattle.pm_gen.specs.Script.{made}
 use Rattle.pm_reach.specs.declared.members.Member.{Member}
@@ -22,11 +21,13 @@ use Rattle.pm_top.specs.declared.works.Form.{Form}
 use Rattle.pm_top.specs.declared.works.Source.TheVariants as source
 use Rattle.pm_top.specs.declared.reading.Subject.{Subject}
 use Rattle.pm_top.specs.Form.{word}
-use Rattle.pm_top.specs.Asked.{no_script, script_by, second_prefix, source_prefix, subject_of, then_script, with_script}
+use Rattle.pm_object.specs.declared.object.Object.{Object}
+use Rattle.pm_topology.specs.declared.topology.Topology.{Topology}
+use Rattle.pm_top.specs.Asked.{Begins, lines_by, no_script, object_by, script_begins, script_by, source_prefix, subject_by, subject_of, then_script, topology_by, with_script, with_topology}
 use Rattle.pm_top.specs.Job.{IsAsked, IsFaultOf, IsFound, IsJobOf, IsKnown, Job, Meets}
-use Rattle.pm_top.specs.Within.{ReadsSubject}
-use Rattle.pm_top.proofs.SubjectLemmas.{err_is, memory_is_read, ok_is, ok_is_err, subject_kind, was_read}
-use Rattle.pm_top.proofs.TakingLemmas.{taken_fault, taken_files, taken_is, taken_later, taken_room}
+use Rattle.pm_top.specs.Within.{ReadsSubject, ReadsThen, ReadsTopology}
+use Rattle.pm_top.proofs.SubjectLemmas.{err_is, is_chip, memory_is_read, ok_is, ok_is_err, refusal, subject_files, subject_later, subject_room, topology_read, was_read}
+use Rattle.pm_top.proofs.TakingLemmas.{later_is, more, taken_files, taken_is, taken_room, then_is}
 use Rattle.pm_top.proofs.Unread.{IsAskedFor}
 
 end_is_failed : End ≡ Failed → ⊥
@@ -39,30 +40,6 @@ if_none (Some x) p = tt
 not_none : {X : Type 0} (P : Type 0) (o : Option X) (x : X) → o ≡ Some x → IfNone o P
 not_none P None x is = cc
 not_none P (Some y) x is = tt
-
--- ---- a script that is read after an object
-
--- by what the inputs showed before both
-pub record SecondRead (m mid : Moment) (name : List ℕ) : Type 0 where
-  pub again : Bool
-  pub more : 2 ≤ m.room → again ≡ true
-  pub script : script_or_fault (script_in mid name) ≡ script_or_fault (script_of (second_prefix script_limit m again name))
-
-pub second_read : (m mid : Moment) (name : List ℕ) → m.room ≤ mid.room + 1 → mid.file name ≡ m.file name → SecondRead m mid name
-second_read m mid name room file = record {
-  again = not (mid.room == 0);
-  more = more m.room mid.room (mid.room == 0) refl room;
-  script = ap (λ (p : Prefix). script_or_fault (script_of p)) (
-      ap (λ (f : Option File). prefix_of script_limit f mid.room) file ∙ rooms (m.file name) mid.room (mid.room == 0) refl);
-}
-  where
-    rooms : (shown : Option File) (room : ℕ) (full : Bool) → (room == 0) ≡ full → prefix_of script_limit shown room ≡ prefix_of script_limit shown (if not full then 1 else 0)
-    rooms None room full is = refl
-    rooms (Some file) room full is = grind (arith, nat_tests)
-
-    more : (before after : ℕ) (full : Bool) → (after == 0) ≡ full → before ≤ after + 1 → 2 ≤ before → not full ≡ true
-    more before after true is room some = let none : after ≡ 0 = (Decides-eqb after 0).0 is in absurd (omega arith)
-    more before after false is room some = refl
 
 -- ---- the job
 
@@ -89,29 +66,59 @@ module _ {I : Type 0} (i : Inputs.Ghosts I) (f : Form) (ws : List (List ℕ)) wh
   pub starved : (old new : I) → IsAskedFor i f ws old new (Err Memory)
   starved old new = record { shown = λ seen. inl refl; failed = λ e. absurd (memory_is_read e); known = tt }
 
-  -- what was read, by what the inputs showed
-  first : (old new : I) (verdict : Result Subject Fault) → ReadsSubject i.observable f ws (i.state old) (i.state new) verdict → i.observable → verdict ≡ subject_of f ws (source_prefix f.source (i.state old) (word 1 ws))
-  first old new verdict reads seen = sym reads.is ∙ ap (subject_of f ws) (taken_is i.observable (word 1 ws) (i.state old) (i.state new) reads.prefix f.source reads.read seen)
+  module _ (old new : I) (verdict : Result Subject Fault) (reads : ReadsSubject i.observable f ws (i.state old) (i.state new) verdict) (seen : i.observable) where
+    -- which later inputs can be begun
+    abbrev begins : (third : Bool) → (3 ≤ (i.state old).room → third ≡ true) → Begins (i.state old)
+    begins third three = record {
+      second = not (reads.between.room == 0);
+      third = third;
+      two = λ many. more (i.state old).room reads.between.room 1 (reads.between.room == 0) refl (taken_room i.observable (word 1 ws) (i.state old) reads.between reads.prefix f.source reads.read seen) many;
+      three = three;
+    }
+
+    -- what was read, by what the inputs showed
+    first : verdict ≡ subject_of f ws (source_prefix f.source (i.state old) (word 1 ws)) (topology_by f.topology ws (i.state old) (not (reads.between.room == 0)))
+    first =
+        sym reads.is
+        ∙ by (object_by f.source reads.prefix) reads.rest
+        ∙ ap (λ (p : Prefix). subject_of f ws p (topology_by f.topology ws (i.state old) (not (reads.between.room == 0)))) (taken_is i.observable (word 1 ws) (i.state old) reads.between reads.prefix f.source reads.read seen)
+      where
+        by : (v : Result Object Fault) → ReadsThen i.observable f ws reads.between (i.state new) v reads.topology → subject_by v reads.topology (lines_by f.source (word 1 ws)) f.node ws ≡ subject_by v (topology_by f.topology ws (i.state old) (not (reads.between.room == 0))) (lines_by f.source (word 1 ws)) f.node ws
+        by (Err fault) same = refl
+        by (Ok object) read =
+            ap (λ (t : Result Topology Fault). with_topology object t (lines_by f.source (word 1 ws)) f.node ws)
+            (then_is i.observable ws reads.between (i.state new) f.topology (i.state old) reads.topology (taken_files i.observable (word 1 ws) (i.state old) reads.between reads.prefix f.source reads.read seen) read seen)
 
   -- a refusal
   pub asked_refused : (old new : I) (fault : Fault) → ((◌≡◌ {A = Result Subject Fault} (Err fault) (Err Memory)) ⊎ ReadsSubject i.observable f ws (i.state old) (i.state new) (Err fault)) → IsAskedFor i f ws old new (Err fault)
   asked_refused old new fault (inl memory) = subst (λ (fault : Fault). IsAskedFor i f ws old new (Err fault)) (sym (err_is memory)) (starved old new)
   asked_refused old new fault (inr reads) = record {
-    shown = λ seen. inr (true, λ room. refl, subst (λ (v : Result Subject Fault). Meets (Err fault) (then_script v (script_by f.script ws (i.state old) true))) (first old new (Err fault) reads seen) refl);
-    failed = λ read. taken_fault i.observable (word 1 ws) (i.state old) (i.state new) reads.prefix f.source reads.read ((subject_kind f ws reads.prefix fault reads.is).unread read);
-    known = (subject_kind f ws reads.prefix fault reads.is).known;
+    shown = λ seen.
+        let again : Begins (i.state old) = begins old new (Err fault) reads seen true (λ many. refl) in
+        inr (again, subst (λ (v : Result Subject Fault). Meets (Err fault) (then_script v (script_by f.script ws (i.state old) (script_begins f.topology again)))) (first old new (Err fault) reads seen) refl);
+    failed = (refusal f i.observable ws (i.state old) (i.state new) fault reads).rose;
+    known = (refusal f i.observable ws (i.state old) (i.state new) fault reads).known;
   }
 
   -- a subject of a form without a script
   pub asked_whole : (old new : I) (subject : Subject) (members : List Member) (events : List Event) → f.script ≡ None → ReadsSubject i.observable f ws (i.state old) (i.state new) (Ok subject) → IsFound subject members → (f.source ≡ source.Number → IsScript (made subject.lines) events) → IsAskedFor i f ws old new (Ok (whole_job subject members events))
   asked_whole old new subject members events none reads found making = record {
-    shown = λ seen. inr (true, λ room. refl, subst (λ (v : Result Subject Fault). Meets (Ok (whole_job subject members events)) (then_script v (script_by f.script ws (i.state old) true))) (first old new (Ok subject) reads seen) (meets (i.state old)));
+    shown = λ seen.
+        let again : Begins (i.state old) = begins old new (Ok subject) reads seen true (λ many. refl) in
+        inr (again, subst (λ (v : Result Subject Fault). Meets (Ok (whole_job subject members events)) (then_script v (script_by f.script ws (i.state old) (script_begins f.topology again)))) (first old new (Ok subject) reads seen) (meets (i.state old) (script_begins f.topology again)));
     failed = λ e. absurd (end_is_failed e);
-    known = record { named = (was_read f ws reads.prefix subject reads.is).named; reach = found; unread = if_none f.script refl; made = making };
+    known = record {
+      supported = reads.supported;
+      built_in = is_chip f i.observable ws (i.state old) (i.state new) subject reads;
+      named = (was_read f ws reads.prefix reads.topology subject reads.is).named;
+      reach = found;
+      unread = if_none f.script refl;
+      made = making;
+    };
   }
     where
-      meets : (m : Moment) → Meets (Ok (whole_job subject members events)) (with_script subject (script_by f.script ws m true))
-      meets m = subst (λ (o : Option ℕ). Meets (Ok (whole_job subject members events)) (with_script subject (script_by o ws m true))) (sym none) (refl, found)
+      meets : (m : Moment) (turn : Bool) → Meets (Ok (whole_job subject members events)) (with_script subject (script_by f.script ws m turn))
+      meets m turn = subst (λ (o : Option ℕ). Meets (Ok (whole_job subject members events)) (with_script subject (script_by o ws m turn))) (sym none) (refl, found)
 
   -- a subject, and the script that was read after it
   pub asked_script : (k : ℕ) → f.script ≡ Some k → (f.source ≡ source.Number → ⊥) → (old mid new : I) (result : Exit) (subject : Subject) (job : Result Comparison Fault) → ReadsSubject i.observable f ws (i.state old) (i.state mid) (Ok subject) → IsScriptOf i (word k ws) mid new result (script_of_job job) → IfOk job (λ found. IsFound subject found.members) → IsAsked i f ws old new result (job_by subject job)
@@ -121,20 +128,40 @@ module _ {I : Type 0} (i : Inputs.Ghosts I) (f : Form) (ws : List (List ℕ)) wh
     known = known job script.known reach;
   }
     where
+      -- the script is the input after the topology, or after the object
+      turn : (named : Option ℕ) (again : Begins (i.state old)) → again.second ≡ not (reads.between.room == 0) → again.third ≡ not ((i.state mid).room == 0) → ReadsTopology i.observable named ws reads.between (i.state mid) (Ok subject.topology) → script_begins named again ≡ not ((i.state mid).room == 0)
+      turn None again second third read = second ∙ ap (λ (m : Moment). not (m.room == 0)) read.1
+      turn (Some k) again second third read = third
+
       shown : i.observable → (script_of_job job ≡ Err Memory) ⊎ (script_of_job job ≡ script_or_fault (script_in (i.state mid) (word k ws))) → (job_by subject job ≡ Err Memory) ⊎ IsJobOf f ws (i.state old) (job_by subject job)
       shown seen (inl memory) = inl (wanting subject job memory)
       shown seen (inr is) =
-          let s = second_read (i.state old) (i.state mid) (word k ws) (taken_room i.observable (word 1 ws) (i.state old) (i.state mid) reads.prefix f.source reads.read seen) (taken_files i.observable (word 1 ws) (i.state old) (i.state mid) reads.prefix f.source reads.read seen (word k ws)) in
-          let here : Meets (job_by subject job) (with_script subject (script_by (Some k) ws (i.state old) s.again)) = met subject job (script_by (Some k) ws (i.state old) s.again) (is ∙ s.script) reach in
-          let there : Meets (job_by subject job) (with_script subject (script_by f.script ws (i.state old) s.again)) =
-          subst (λ (o : Option ℕ). Meets (job_by subject job) (with_script subject (script_by o ws (i.state old) s.again))) (sym has) here
+          let third : Bool = not ((i.state mid).room == 0) in
+          let again : Begins (i.state old) = begins old mid (Ok subject) reads seen third (λ many. more (i.state old).room (i.state mid).room 2 ((i.state mid).room == 0) refl (subject_room f i.observable ws (i.state old) (i.state mid) subject reads seen) many) in
+          let begun : script_begins f.topology again ≡ third = turn f.topology again refl refl (topology_read f i.observable ws (i.state old) (i.state mid) subject reads) in
+          let read : script_or_fault (script_in (i.state mid) (word k ws)) ≡ script_by (Some k) ws (i.state old) third =
+          ap (λ (p : Prefix). script_or_fault (script_of p)) (later_is script_limit (i.state old) (i.state mid) (word k ws) (subject_files f i.observable ws (i.state old) (i.state mid) subject reads seen (word k ws)))
           in
-          inr (s.again, s.more, subst (λ (v : Result Subject Fault). Meets (job_by subject job) (then_script v (script_by f.script ws (i.state old) s.again))) (first old mid (Ok subject) reads seen) there)
+          let here : Meets (job_by subject job) (with_script subject (script_by (Some k) ws (i.state old) third)) = met subject job (script_by (Some k) ws (i.state old) third) (is ∙ read) reach in
+          let there : Meets (job_by subject job) (with_script subject (script_by (Some k) ws (i.state old) (script_begins f.topology again))) =
+          subst (λ (b : Bool). Meets (job_by subject job) (with_script subject (script_by (Some k) ws (i.state old) b))) (sym begun) here
+          in
+          let of_form : Meets (job_by subject job) (with_script subject (script_by f.script ws (i.state old) (script_begins f.topology again))) =
+          subst (λ (o : Option ℕ). Meets (job_by subject job) (with_script subject (script_by o ws (i.state old) (script_begins f.topology again)))) (sym has) there
+          in
+          inr (again, subst (λ (v : Result Subject Fault). Meets (job_by subject job) (then_script v (script_by f.script ws (i.state old) (script_begins f.topology again)))) (first old mid (Ok subject) reads seen) of_form)
 
       failed : result ≡ ReadFault → Rose (i.state old).faults (i.state new).faults
-      failed is = let later : (i.state old).faults ≤ (i.state mid).faults = taken_later i.observable (word 1 ws) (i.state old) (i.state mid) reads.prefix f.source reads.read in let up = script.failed is in omega (arith, up)
+      failed is = let later : (i.state old).faults ≤ (i.state mid).faults = subject_later f i.observable ws (i.state old) (i.state mid) subject reads in let up = script.failed is in omega (arith, up)
 
       known : (job : Result Comparison Fault) → OnErr (script_of_job job) ((script_of_job job ≡ Err Read) ⊎ (script_of_job job ≡ Err Memory)) → IfOk job (λ found. IsFound subject found.members) → IsKnown f (job_by subject job)
-      known (Ok found) none reach = record { named = (was_read f ws reads.prefix subject reads.is).named; reach = reach; unread = not_none (found.script ≡ no_script) f.script k has; made = λ number. absurd (named number) }
+      known (Ok found) none reach = record {
+        supported = reads.supported;
+        built_in = is_chip f i.observable ws (i.state old) (i.state mid) subject reads;
+        named = (was_read f ws reads.prefix reads.topology subject reads.is).named;
+        reach = reach;
+        unread = not_none (found.script ≡ no_script) f.script k has;
+        made = λ number. absurd (named number);
+      }
       known (Err fault) (inl read) none = subst (IsFaultOf f) (sym (err_is read)) tt
       known (Err fault) (inr memory) none = subst (IsFaultOf f) (sym (err_is memory)) tt

@@ -1,12 +1,16 @@
 pub mod CauseLemmas
 pub mod CompleteLemmas
+pub mod DroveLemmas
 pub mod ExitsLemmas
+pub mod FitLemmas
 pub mod HeldWhole
 pub mod JobLemmas
 pub mod MainLemmas
 pub mod MakingLemmas
+pub mod RequestLemmas
 pub mod SubjectLemmas
 pub mod TakingLemmas
 pub mod Unread
 pub mod WorkLemmas
 pub mod WritingLemmas
+pub mod ReadsLemmas

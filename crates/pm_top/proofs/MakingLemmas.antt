@@ -1,5 +1,5 @@
 -- The run of a script that is made, over an input and a sink in memory.
-use Rattle.std.proofs.Common.{◌≡◌, ℕ, ◌+◌, ◌*◌, ◌≤◌, ◌⊎◌, Bool, true, nat_le, if◌then◌else◌, List, [], ◌∷◌, ◌++◌, length, map, Option, Some, None, Result, Ok, Err, refl, sym, ◌∙◌, ap, subst, arith, inl, inr}
+use Rattle.std.proofs.Common.{◌≡◌, ℕ, ◌+◌, ◌*◌, ◌≤◌, ◌⊎◌, true, nat_le, List, [], ◌∷◌, ◌++◌, length, map, Option, Some, Result, Ok, Err, refl, sym, ◌∙◌, ap, subst, arith, inl, inr}
 use Rattle.std.specs.Prelude.{IfOk, IsSomeAnd, MatchResult}
 use Rattle.std.proofs.lemmas.Bool.Decides.{nat_tests}
 use Rattle.pm_base.specs.declared.errors.Exit.{Exit}
@@ -28,7 +28,7 @@ use Rattle.pm_drive.specs.Text.{run_text}
 use Rattle.pm_replay.specs.Replay.{Touched}
 use Rattle.pm_replay.specs.Replayed.{IsRun, Replayed}
 use Rattle.pm_top.specs.Asked.{line_limit}
-use Rattle.pm_top.specs.Making.{IsSummary, MayBeDriven, WasDriven}
+use Rattle.pm_top.specs.Making.{IsSummary, MayBeDriven}
 use Rattle.pm_top.proofs.SubjectLemmas.{ok_is, ok_is_err}
 
 -- the script of lines of which each has a meaning

@@ -1,13 +1,13 @@
 -- Each work did its job on the subject that was read.
 use Rattle.std.proofs.Common.{◌≡◌, ℕ, ◌⊎◌, Bool, false, List, [], ◌++◌, Option, Some, None, Result, Ok, Err, refl, sym, ◌∙◌, ap, subst, inl, inr}
-use Rattle.std.specs.Prelude.{IfSome, IsSomeAnd, unwrap_or}
+use Rattle.std.specs.Prelude.{IfSome, IsSomeAnd, is_some, unwrap_or}
 use Rattle.pm_base.specs.declared.errors.Exit.{Exit}
 use Rattle.pm_base.specs.declared.errors.Exit.TheVariants as exit
 use Rattle.pm_base.specs.declared.inputs.Inputs as Inputs
 use Rattle.pm_base.specs.declared.names.NodeId.{NodeId}
 use Rattle.pm_base.specs.declared.sink.Sink as Sink
 use Rattle.pm_base.specs.declared.events.Event.{Event}
-use Rattle.pm_base.specs.Inputs.{File, Holds, SameFiles}
+use Rattle.pm_base.specs.Inputs.{File, Holds, Moment, SameFiles}
 use Rattle.pm_base.specs.Prefix.{Prefix}
 use Rattle.pm_base.specs.Writing.{Leaves}
 use Rattle.pm_base.specs.World.{world}
@@ -17,41 +17,47 @@ use Rattle.pm_object.specs.declared.object.Object.{Object}
 use Rattle.pm_gen.specs.Laboratory.{laboratory}
 use Rattle.pm_gen.specs.Script.{made}
 use Rattle.pm_gen.specs.Summary.{summary}
+use Rattle.pm_objtext.specs.Meaning.{Means}
 use Rattle.pm_objtext.specs.Printing.{text_of}
 use Rattle.pm_topology.specs.Chip.{chip}
+use Rattle.pm_topology.specs.declared.topology.Topology.{Topology}
+use Rattle.pm_topofile.specs.Meaning.{meaning}
+use Rattle.pm_topofile.specs.Printing.{text_of as table_of}
 use Rattle.pm_reach.specs.declared.members.Member.{Member}
 use Rattle.pm_reach.specs.Membership.{IsReach}
 use Rattle.pm_trace.specs.Reach.{reach_text}
+use Rattle.pm_device.specs.Act.{Fit}
 use Rattle.pm_device.specs.declared.device.Device as Device
 use Rattle.pm_run.specs.Run.{setup}
 use Rattle.pm_drive.specs.Drive.{driven}
-use Rattle.pm_drive.specs.Drove.{Drove}
 use Rattle.pm_drive.specs.Text.{run_text}
 use Rattle.pm_script.specs.Named.{IsScript}
 use Rattle.pm_script.specs.Script.{Script}
 use Rattle.pm_trace.specs.declared.faults.Fault.{Fault}
-use Rattle.pm_trace.specs.declared.faults.Fault.TheVariants.{Memory}
+use Rattle.pm_trace.specs.declared.faults.Fault.TheVariants.{Memory, Read}
+use Rattle.pm_trace.specs.declared.faults.Fault.TheVariants as faults
 use Rattle.pm_trace.specs.Report.{Report, Reports, exit_of, pieces, refusal, report_of}
 use Rattle.pm_trace.specs.Scripts.{IsScriptOf}
 use Rattle.pm_replay.specs.Replay.{Touched, replay_report}
 use Rattle.pm_isolate.specs.Compared.{Comparison, IsComparisonOf, comparison_report}
 use Rattle.pm_top.specs.declared.works.Form.{Form}
 use Rattle.pm_top.specs.declared.works.Work.{Work}
-use Rattle.pm_top.specs.declared.works.Work.TheVariants.{Replay, Reach, Isolate, Print, Build, Make}
-use Rattle.pm_top.specs.declared.works.Source.{Source}
+use Rattle.pm_top.specs.declared.works.Work.TheVariants.{Replay, Reach, Isolate, Print, Build, Make, Table}
 use Rattle.pm_top.specs.declared.works.Source.TheVariants as source
 use Rattle.pm_top.specs.declared.reading.Subject.{Subject}
-use Rattle.pm_top.specs.Asked.{Says, laboratory_if, lines_asked, lines_by, object_by, object_limit, script_word, text_limit}
+use Rattle.pm_top.specs.Asked.{laboratory_if, lines_asked, lines_by, object_by, object_limit, script_word, text_limit}
+use Rattle.pm_top.specs.Fit.{IsFitted, LeftBy, MayBeFitted}
 use Rattle.pm_top.specs.Form.{form_of, word}
 use Rattle.pm_top.specs.Job.{IsFound}
-use Rattle.pm_top.specs.Done.{Compares, OnlyWrites, Replays, WorkDone, Worked, report}
+use Rattle.pm_top.specs.Done.{Compares, OnlyWrites, Replays, ReplaysFitted, WorkDone, Worked, report, setup_of}
+use Rattle.pm_top.specs.Theorem.{IsReplayed}
 use Rattle.pm_top.specs.Making.{IsSummary, Makes, Starves, Summarizes, WasDriven}
-use Rattle.pm_top.specs.Ran.{Drives, RanForm, Touches, TouchesBy, drives}
+use Rattle.pm_top.specs.Ran.{Drives, IsShown, RanForm, Touches, TouchesBy, drives}
 use Rattle.pm_top.specs.Ran.Drives.{AsItWrites, BeforeItWrites, Never}
-use Rattle.pm_top.specs.Within.{IsReachText, ReadsSubject, Takes, one_piece}
-use Rattle.pm_top.proofs.ExitsLemmas.{refused_exit}
+use Rattle.pm_top.specs.Within.{IsReachText, IsTopologyText, ReadsSubject, Takes, one_piece}
+use Rattle.pm_trace.proofs.ReadsLemmas.{refused_exit}
 use Rattle.pm_top.proofs.JobLemmas.{asked_refused, asked_script, asked_whole, job_by, starved, whole_job}
-use Rattle.pm_top.proofs.SubjectLemmas.{err_is_ok, unnamed, was_read}
+use Rattle.pm_top.proofs.SubjectLemmas.{err_is, err_is_ok, is_chip, subject_files, topology_held, unnamed, was_read}
 use Rattle.pm_top.proofs.Unread.{IsAskedFor, by_exit}
 use Rattle.pm_top.proofs.WritingLemmas.{object_end, text_end, wrote_one}
 
@@ -60,17 +66,43 @@ abbrev alone : Result Script Fault → Result Comparison Fault
 alone (Ok s) = Ok (record { members = []; script = s })
 alone (Err fault) = Err fault
 
-module _ {D : Type 0} (d : Device.Ghosts D) where
-  still : (drive : Drives) (n : ℕ) (dev dev' : D) (fault : Fault) (answers : List (List Bool)) (cut : Option ℕ) → dev ≡ dev' → TouchesBy d drive n dev dev' (Err fault) answers cut
-  still AsItWrites n dev dev' fault answers cut same = same
-  still BeforeItWrites n dev dev' fault answers cut same = inl same
-  still Never n dev dev' fault answers cut same = same
+module _ {D : Type 0} (d : Device.Ghosts D) (Named : Topology → Type 0) (dev dev' : D) where
+  -- nothing was done to a device
+  unfitted : (named : Option ℕ) → dev ≡ dev' → MayBeFitted d named Named dev dev'
+  unfitted None same = same
+  unfitted (Some k) same = inl same
+
+  left_alone : (fault : Fault) (named : Option ℕ) → dev ≡ dev' → LeftBy d fault named Named dev dev'
+  left_alone faults.Usage named same = same
+  left_alone (faults.Object fault) named same = same
+  left_alone (faults.Text fault) named same = same
+  left_alone (faults.TopologyText fault) named same = same
+  left_alone (faults.Topology fault) named same = same
+  left_alone (faults.Line n cause) named same = same
+  left_alone faults.Read named same = unfitted named same
+  left_alone faults.Memory named same = unfitted named same
+  left_alone faults.Size named same = same
+  left_alone faults.Node named same = same
+  left_alone faults.Number named same = same
+
+  still : (drive : Drives) (named : Option ℕ) (n : ℕ) (fault : Fault) (answers : List (List Bool)) (cut : Option ℕ) → dev ≡ dev' → TouchesBy d drive named Named n dev dev' (Err fault) answers cut
+  still AsItWrites named n fault answers cut same = left_alone fault named same
+  still BeforeItWrites named n fault answers cut same = inl same
+  still Never named n fault answers cut same = same
+
+  -- it was fitted, and nothing else was done to it
+  fitted_alone : (named : Option ℕ) (topology : Topology) (start : D) → IsFitted d named topology dev start → Named topology → start ≡ dev' → MayBeFitted d named Named dev dev'
+  fitted_alone None topology start fitted is same = fitted.1 ∙ same
+  fitted_alone (Some k) topology start fitted is same = inr (topology, is, subst (λ (end : D). d.Does (Fit topology) dev end) same fitted)
 
 object_is_number : source.Object ≡ source.Number → ⊥
 object_is_number e = cc
 
 text_is_number : source.Text ≡ source.Number → ⊥
 text_is_number e = cc
+
+nothing_is_number : source.Nothing ≡ source.Number → ⊥
+nothing_is_number e = cc
 
 module _ {I O D : Type 0} (i : Inputs.Ghosts I) (o : Sink.Ghosts O) (d : Device.Ghosts D) (ws : List (List ℕ)) (old new : I) (sink sink' : O) (dev dev' : D) (result : Exit) where
   -- a form was refused
@@ -82,14 +114,14 @@ module _ {I O D : Type 0} (i : Inputs.Ghosts I) (o : Sink.Ghosts O) (d : Device.
     asked = by_exit i o f ws old new sink sink' result (Err fault) [] reports.cut asked reports.left reports.ends;
     left = reports.left;
     ends = reports.ends;
-    touched = still d (drives f.work) (lines_by f.source (word 1 ws)) dev dev' fault [] reports.cut same;
+    touched = still d (IsShown i o d f ws (world old sink dev)) dev dev' (drives f.work) f.topology (lines_by f.source (word 1 ws)) fault [] reports.cut same;
   }
 
   pub subject_refused : (f : Form) (fault : Fault) → ((◌≡◌ {A = Result Subject Fault} (Err fault) (Err Memory)) ⊎ ReadsSubject i.observable f ws (i.state old) (i.state new) (Err fault)) → dev ≡ dev' → Reports o (refusal fault) sink sink' result → RanForm i o d (Some f) ws (world old sink dev) (world new sink' dev') result
   subject_refused f fault reads same reports = refused f fault (asked_refused i f ws old new fault reads) same reports
 
   -- a form without a script was carried out: its text is one piece
-  one_ran : (f : Form) (subject : Subject) (members : List Member) (events : List Event) (answers : List (List Bool)) (text : List ℕ) → f.script ≡ None → ReadsSubject i.observable f ws (i.state old) (i.state new) (Ok subject) → IsFound subject members → (f.source ≡ source.Number → IsScript (made subject.lines) events) → report f.work (whole_job subject members events) answers ≡ one_piece text → ((cut : Option ℕ) → Touches d f ws dev dev' (Ok (whole_job subject members events)) answers cut) → Reports o (one_piece text) sink sink' result → RanForm i o d (Some f) ws (world old sink dev) (world new sink' dev') result
+  one_ran : (f : Form) (subject : Subject) (members : List Member) (events : List Event) (answers : List (List Bool)) (text : List ℕ) → f.script ≡ None → ReadsSubject i.observable f ws (i.state old) (i.state new) (Ok subject) → IsFound subject members → (f.source ≡ source.Number → IsScript (made subject.lines) events) → report f.work (whole_job subject members events) answers ≡ one_piece text → ((cut : Option ℕ) → Touches d f ws (IsShown i o d f ws (world old sink dev)) dev dev' (Ok (whole_job subject members events)) answers cut) → Reports o (one_piece text) sink sink' result → RanForm i o d (Some f) ws (world old sink dev) (world new sink' dev') result
   one_ran f subject members events answers text none reads found making is touched reports =
       let wrote : Reports o (report f.work (whole_job subject members events) answers) sink sink' result = subst (λ (r : Report). Reports o r sink sink' result) (sym is) reports in
       record {
@@ -113,52 +145,68 @@ module _ {I O D : Type 0} (i : Inputs.Ghosts I) (o : Sink.Ghosts O) (d : Device.
   only_ran : (f : Form) (subject : Subject) (Holds : List ℕ → Type 0) → ((text : List ℕ) → Holds text → IsTextOf f.work subject text) → f.script ≡ None → drives f.work ≡ Never → (f.source ≡ source.Number → ⊥) → ReadsSubject i.observable f ws (i.state old) (i.state mid) (Ok subject) → OnlyWrites i o d Holds (world mid sink dev) (world new sink' dev') result → RanForm i o d (Some f) ws (world old sink dev) (world new sink' dev') result
   only_ran f subject Holds made none idle named reads did = elim did.writes [
     | inl memory ↦ refused i o d ws old new sink sink' dev dev' result f Memory (starved i f ws old new) did.device memory
-    | inr one ↦ let text = made one.text one.holds in one_ran i o d ws old new sink sink' dev dev' result f subject text.members [] [] one.text none (subst (λ (end : I). ReadsSubject i.observable f ws (i.state old) (i.state end) (Ok subject)) did.inputs reads) text.found (λ number. absurd (named number)) text.is (λ cut. subst (λ (drive : Drives). TouchesBy d drive (lines_by f.source (word 1 ws)) dev dev' (Ok (whole_job subject text.members [])) [] cut) (sym idle) did.device) one.reports
+    | inr one ↦ let text = made one.text one.holds in one_ran i o d ws old new sink sink' dev dev' result f subject text.members [] [] one.text none (subst (λ (end : I). ReadsSubject i.observable f ws (i.state old) (i.state end) (Ok subject)) did.inputs reads) text.found (λ number. absurd (named number)) text.is (λ cut. subst (λ (drive : Drives). TouchesBy d drive f.topology (IsShown i o d f ws (world old sink dev)) (lines_by f.source (word 1 ws)) dev dev' (Ok (whole_job subject text.members [])) [] cut) (sym idle) did.device) one.reports
   ]
 
-  script_ran : (subject : Subject) → ReadsSubject i.observable (form_of Replay) ws (i.state old) (i.state mid) (Ok subject) → IsFound subject [] → Replays i o d subject.object (word 2 ws) (world mid sink dev) (world new sink' dev') result → RanForm i o d (Some (form_of Replay)) ws (world old sink dev) (world new sink' dev') result
-  script_ran subject reads found did = by did.ran.job did.ran.asked did.ran.left did.ran.ends did.ran.touched
+  -- a script that can't be begun, and want of memory, come after the device was fitted
+  left_fitted : (named : Option ℕ) (subject : Subject) (start : D) (fault : Fault) → ReadsSubject i.observable (form_of Replay named) ws (i.state old) (i.state mid) (Ok subject) → IsFitted d named subject.topology dev start → start ≡ dev' → (◌≡◌ {A = Result Script Fault} (Err fault) (Err Read)) ⊎ (◌≡◌ {A = Result Script Fault} (Err fault) (Err Memory)) → LeftBy d fault named (IsShown i o d (form_of Replay named) ws (world old sink dev)) dev dev'
+  left_fitted named subject start fault reads fitted same known = elim known [
+    | inl read ↦ subst left (sym (err_is read)) may
+    | inr memory ↦ subst left (sym (err_is memory)) may
+  ]
     where
-      by : (job : Result Script Fault) → IsScriptOf i (word 2 ws) mid new result job → Leaves o (pieces (report_of (replay_report (setup subject.object chip)) job did.ran.answers)) did.ran.cut sink sink' → result ≡ exit_of (report_of (replay_report (setup subject.object chip)) job did.ran.answers) did.ran.cut → Touched d (setup subject.object chip) dev dev' job did.ran.answers did.ran.cut → RanForm i o d (Some (form_of Replay)) ws (world old sink dev) (world new sink' dev') result
-      by (Ok s) asked left ends touched = record { job = job_by subject (alone (Ok s)); answers = did.ran.answers; cut = did.ran.cut; asked = asked_script i (form_of Replay) ws 2 refl object_is_number old mid new result subject (alone (Ok s)) reads asked found; left = left; ends = ends; touched = touched }
-      by (Err fault) asked left ends touched = record { job = Err fault; answers = did.ran.answers; cut = did.ran.cut; asked = asked_script i (form_of Replay) ws 2 refl object_is_number old mid new result subject (alone (Err fault)) reads asked tt; left = left; ends = ends; touched = touched }
+      left : Fault → Type 0
+      left fault = LeftBy d fault named (IsShown i o d (form_of Replay named) ws (world old sink dev)) dev dev'
 
-  compared_ran : (subject : Subject) (master : NodeId) → subject.master ≡ Some master → ReadsSubject i.observable (form_of Isolate) ws (i.state old) (i.state mid) (Ok subject) → Compares i o d subject.object master (word 2 ws) (world mid sink dev) (world new sink' dev') result → RanForm i o d (Some (form_of Isolate)) ws (world old sink dev) (world new sink' dev') result
-  compared_ran subject master named reads did = by did.ran.job did.ran.asked did.ran.left did.ran.ends
+      may : MayBeFitted d named (IsShown i o d (form_of Replay named) ws (world old sink dev)) dev dev'
+      may = fitted_alone d (IsShown i o d (form_of Replay named) ws (world old sink dev)) dev dev' named subject.topology start fitted
+          (topology_held (form_of Replay named) i.observable ws (i.state old) (i.state mid) subject reads) same
+
+  script_ran : (named : Option ℕ) (subject : Subject) → ReadsSubject i.observable (form_of Replay named) ws (i.state old) (i.state mid) (Ok subject) → IsFound subject [] → Replays i o d named (setup_of subject) (word 2 ws) (world mid sink dev) (world new sink' dev') result → RanForm i o d (Some (form_of Replay named)) ws (world old sink dev) (world new sink' dev') result
+  script_ran named subject reads found (inl starves) = refused i o d ws old new sink sink' dev dev' result (form_of Replay named) Memory (starved i (form_of Replay named) ws old new) starves.device starves.reports
+  script_ran named subject reads found (inr did) = by did.ran.job did.ran.asked did.ran.left did.ran.ends did.ran.touched
     where
-      by : (job : Result Comparison Fault) → IsComparisonOf i (setup subject.object chip) master (word 2 ws) mid new result job → Leaves o (pieces (report_of (comparison_report (setup subject.object chip) master) job did.ran.answers)) did.ran.cut sink sink' → result ≡ exit_of (report_of (comparison_report (setup subject.object chip) master) job did.ran.answers) did.ran.cut → RanForm i o d (Some (form_of Isolate)) ws (world old sink dev) (world new sink' dev') result
+      by : (job : Result Script Fault) → IsScriptOf i (word 2 ws) mid new result job → Leaves o (pieces (report_of (replay_report (setup_of subject)) job did.ran.answers)) did.ran.cut sink sink' → result ≡ exit_of (report_of (replay_report (setup_of subject)) job did.ran.answers) did.ran.cut → Touched d (setup_of subject) did.start dev' job did.ran.answers did.ran.cut → RanForm i o d (Some (form_of Replay named)) ws (world old sink dev) (world new sink' dev') result
+      by (Ok s) asked left ends touched = record { job = job_by subject (alone (Ok s)); answers = did.ran.answers; cut = did.ran.cut; asked = asked_script i (form_of Replay named) ws 2 refl object_is_number old mid new result subject (alone (Ok s)) reads asked found; left = left; ends = ends; touched = record { start = did.start; fitted = did.fitted; touched = touched } }
+      by (Err fault) asked left ends touched = record { job = Err fault; answers = did.ran.answers; cut = did.ran.cut; asked = asked_script i (form_of Replay named) ws 2 refl object_is_number old mid new result subject (alone (Err fault)) reads asked tt; left = left; ends = ends; touched = left_fitted named subject did.start fault reads did.fitted touched asked.known }
+
+  compared_ran : (place : Option ℕ) (subject : Subject) (master : NodeId) → subject.master ≡ Some master → ReadsSubject i.observable (form_of Isolate place) ws (i.state old) (i.state mid) (Ok subject) → Compares i o d (setup_of subject) master (word 2 ws) (world mid sink dev) (world new sink' dev') result → RanForm i o d (Some (form_of Isolate place)) ws (world old sink dev) (world new sink' dev') result
+  compared_ran place subject master named reads did = by did.ran.job did.ran.asked did.ran.left did.ran.ends
+    where
+      by : (job : Result Comparison Fault) → IsComparisonOf i (setup_of subject) master (word 2 ws) mid new result job → Leaves o (pieces (report_of (comparison_report (setup_of subject) master) job did.ran.answers)) did.ran.cut sink sink' → result ≡ exit_of (report_of (comparison_report (setup_of subject) master) job did.ran.answers) did.ran.cut → RanForm i o d (Some (form_of Isolate place)) ws (world old sink dev) (world new sink' dev') result
       by (Ok found) asked left ends =
-          let P : Option NodeId → Type 0 = λ named. Leaves o (pieces (comparison_report (setup subject.object chip) (unwrap_or named (record { 0 = 0 })) found did.ran.answers)) did.ran.cut sink sink' in
-          let Q : Option NodeId → Type 0 = λ named. result ≡ exit_of (comparison_report (setup subject.object chip) (unwrap_or named (record { 0 = 0 })) found did.ran.answers) did.ran.cut in
-          let reach : IsFound subject found.members = subst (λ (named : Option NodeId). IfSome named (λ master. IsReach subject.object chip master found.members)) (sym named) asked.reach in
-          record { job = job_by subject (Ok found); answers = did.ran.answers; cut = did.ran.cut; asked = asked_script i (form_of Isolate) ws 2 refl object_is_number old mid new result subject (Ok found) reads asked.script reach; left = subst P (sym named) left; ends = subst Q (sym named) ends; touched = did.device }
-      by (Err fault) asked left ends = record { job = Err fault; answers = did.ran.answers; cut = did.ran.cut; asked = asked_script i (form_of Isolate) ws 2 refl object_is_number old mid new result subject (Err fault) reads asked.script tt; left = left; ends = ends; touched = did.device }
+          let P : Option NodeId → Type 0 = λ named. Leaves o (pieces (comparison_report (setup_of subject) (unwrap_or named (record { 0 = 0 })) found did.ran.answers)) did.ran.cut sink sink' in
+          let Q : Option NodeId → Type 0 = λ named. result ≡ exit_of (comparison_report (setup_of subject) (unwrap_or named (record { 0 = 0 })) found did.ran.answers) did.ran.cut in
+          let reach : IsFound subject found.members = subst (λ (named : Option NodeId). IfSome named (λ master. IsReach subject.object subject.topology master found.members)) (sym named) asked.reach in
+          record { job = job_by subject (Ok found); answers = did.ran.answers; cut = did.ran.cut; asked = asked_script i (form_of Isolate place) ws 2 refl object_is_number old mid new result subject (Ok found) reads asked.script reach; left = subst P (sym named) left; ends = subst Q (sym named) ends; touched = did.device }
+      by (Err fault) asked left ends = record { job = Err fault; answers = did.ran.answers; cut = did.ran.cut; asked = asked_script i (form_of Isolate place) ws 2 refl object_is_number old mid new result subject (Err fault) reads asked.script tt; left = left; ends = ends; touched = did.device }
 
   -- what was made of a number of lines
   record IsOfLines (subject : Subject) : Type 0 where
     pub object : subject.object ≡ laboratory
+    pub topology : subject.topology ≡ chip
     pub lines : subject.lines ≡ lines_by source.Number (word 1 ws)
 
-  of_lines : (subject : Subject) → ReadsSubject i.observable (form_of Make) ws (i.state old) (i.state mid) (Ok subject) → IsOfLines subject
-  of_lines subject reads = record { object = reads.says; lines = (was_read (form_of Make) ws reads.prefix subject reads.is).lines }
+  of_lines : (subject : Subject) → ReadsSubject i.observable (form_of Make None) ws (i.state old) (i.state mid) (Ok subject) → IsOfLines subject
+  of_lines subject reads = record { object = reads.says; topology = is_chip (form_of Make None) i.observable ws (i.state old) (i.state mid) subject reads; lines = (was_read (form_of Make None) ws reads.prefix reads.topology subject reads.is).lines }
 
   -- a script that is made was run before its summary was written, or memory is wanted
-  made_ran : (subject : Subject) → ReadsSubject i.observable (form_of Make) ws (i.state old) (i.state mid) (Ok subject) → Makes o d (setup subject.object chip) subject.lines sink sink' dev dev' result → mid ≡ new → RanForm i o d (Some (form_of Make)) ws (world old sink dev) (world new sink' dev') result
+  made_ran : (subject : Subject) → ReadsSubject i.observable (form_of Make None) ws (i.state old) (i.state mid) (Ok subject) → Makes o d (setup_of subject) subject.lines sink sink' dev dev' result → mid ≡ new → RanForm i o d (Some (form_of Make None)) ws (world old sink dev) (world new sink' dev') result
   made_ran subject reads did same = elim did [
     | inl starves ↦ late starves
     | inr wrote ↦
-        one_ran i o d ws old new sink sink' dev dev' result (form_of Make) subject [] wrote.made.events wrote.made.answers wrote.text refl
-        (subst (λ (end : I). ReadsSubject i.observable (form_of Make) ws (i.state old) (i.state end) (Ok subject)) same reads)
-        (unnamed (λ master. IsReach subject.object chip master []) subject.master (was_read (form_of Make) ws reads.prefix subject reads.is).named)
+        one_ran i o d ws old new sink sink' dev dev' result (form_of Make None) subject [] wrote.made.events wrote.made.answers wrote.text refl
+        (subst (λ (end : I). ReadsSubject i.observable (form_of Make None) ws (i.state old) (i.state end) (Ok subject)) same reads)
+        (unnamed (λ master. IsReach subject.object subject.topology master []) subject.master (was_read (form_of Make None) ws reads.prefix reads.topology subject reads.is).named)
         (λ number. wrote.made.means) (ap one_piece (sym wrote.made.is)) (λ cut. wrote.made.drove) wrote.reports
   ]
     where
-      late : Starves o d (setup subject.object chip) subject.lines sink sink' dev dev' result → RanForm i o d (Some (form_of Make)) ws (world old sink dev) (world new sink' dev') result
+      late : Starves o d (setup_of subject) subject.lines sink sink' dev dev' result → RanForm i o d (Some (form_of Make None)) ws (world old sink dev) (world new sink' dev') result
       late starves = record {
         job = Err Memory;
         answers = [];
         cut = starves.reports.cut;
-        asked = by_exit i o (form_of Make) ws old new sink sink' result (Err Memory) [] starves.reports.cut (starved i (form_of Make) ws old new) starves.reports.left starves.reports.ends;
+        asked = by_exit i o (form_of Make None) ws old new sink sink' result (Err Memory) [] starves.reports.cut (starved i (form_of Make None) ws old new) starves.reports.left starves.reports.ends;
         left = starves.reports.left;
         ends = starves.reports.ends;
         touched = elim starves.device [
@@ -166,27 +214,34 @@ module _ {I O D : Type 0} (i : Inputs.Ghosts I) (o : Sink.Ghosts O) (d : Device.
           | inr driven ↦ inr (
             refl,
             subst (λ (n : ℕ). WasDriven d (setup laboratory chip) n dev dev') (of_lines subject reads).lines
-                (subst (λ (object : Object). WasDriven d (setup object chip) subject.lines dev dev') (of_lines subject reads).object driven),
+                (subst (λ (topology : Topology). WasDriven d (setup laboratory topology) subject.lines dev dev') (of_lines subject reads).topology
+                (subst (λ (object : Object). WasDriven d (setup object subject.topology) subject.lines dev dev') (of_lines subject reads).object driven)),
           )
         ];
       }
 
-  pub worked_ran : (work : Work) (subject : Subject) → ReadsSubject i.observable (form_of work) ws (i.state old) (i.state mid) (Ok subject) → Worked i o d work subject (script_word (form_of work).script ws) (world mid sink dev) (world new sink' dev') result → RanForm i o d (Some (form_of work)) ws (world old sink dev) (world new sink' dev') result
-  worked_ran Replay subject reads did = script_ran subject reads (unnamed (λ master. IsReach subject.object chip master []) subject.master (was_read (form_of Replay) ws reads.prefix subject reads.is).named) did
-  worked_ran Reach subject reads did = only_ran (form_of Reach) subject (IsReachText subject.object did.0) (λ text made. record { members = made.members; found = subst (λ (named : Option NodeId). IfSome named (λ master. IsReach subject.object chip master made.members)) (sym did.1) made.reach; is = ap one_piece (sym made.is) }) refl refl object_is_number reads did.2
-  worked_ran Isolate subject reads did = compared_ran subject did.0 did.1 reads did.2
-  worked_ran Print subject reads did = only_ran (form_of Print) subject (λ text. text ≡ text_of subject.object) (λ text made. record { members = []; found = unnamed (λ master. IsReach subject.object chip master []) subject.master (was_read (form_of Print) ws reads.prefix subject reads.is).named; is = ap one_piece (sym made) }) refl refl object_is_number reads did
-  worked_ran Build subject reads did = only_ran (form_of Build) subject (λ bytes. Reads bytes subject.object) (λ bytes made. record { members = []; found = unnamed (λ master. IsReach subject.object chip master []) subject.master (was_read (form_of Build) ws reads.prefix subject reads.is).named; is = ap one_piece (sym made.spelling) }) refl refl text_is_number reads did
-  worked_ran Make subject reads did = made_ran subject reads did.0 did.1
+  -- a form without a master has no reach
+  none_found : (f : Form) (subject : Subject) → is_some f.node ≡ false → ReadsSubject i.observable f ws (i.state old) (i.state mid) (Ok subject) → IsFound subject []
+  none_found f subject none reads = unnamed (λ master. IsReach subject.object subject.topology master []) subject.master ((was_read f ws reads.prefix reads.topology subject reads.is).named ∙ none)
+
+  pub worked_ran : (work : Work) (named : Option ℕ) (subject : Subject) → ReadsSubject i.observable (form_of work named) ws (i.state old) (i.state mid) (Ok subject) → Worked i o d work named subject (script_word (form_of work named).script ws) (world mid sink dev) (world new sink' dev') result → RanForm i o d (Some (form_of work named)) ws (world old sink dev) (world new sink' dev') result
+  worked_ran Replay named subject reads did = script_ran named subject reads (none_found (form_of Replay named) subject refl reads) did
+  worked_ran Reach named subject reads did = only_ran (form_of Reach named) subject (IsReachText subject.object subject.topology did.0) (λ text made. record { members = made.members; found = subst (λ (named : Option NodeId). IfSome named (λ master. IsReach subject.object subject.topology master made.members)) (sym did.1) made.reach; is = ap one_piece (sym made.is) }) refl refl object_is_number reads did.2
+  worked_ran Isolate named subject reads did = compared_ran named subject did.0 did.1 reads did.2
+  worked_ran Print named subject reads did = only_ran (form_of Print named) subject (λ text. text ≡ text_of subject.object) (λ text made. record { members = []; found = none_found (form_of Print named) subject refl reads; is = ap one_piece (sym made) }) refl refl object_is_number reads did
+  worked_ran Build named subject reads did = only_ran (form_of Build named) subject (λ bytes. Reads bytes subject.object) (λ bytes made. record { members = []; found = none_found (form_of Build named) subject refl reads; is = ap one_piece (sym made.spelling) }) refl refl text_is_number reads did
+  worked_ran Make named subject reads did = made_ran subject reads did.0 did.1
+  worked_ran Table named subject reads did = only_ran (form_of Table named) subject (IsTopologyText subject.topology) (λ text made. record { members = []; found = none_found (form_of Table named) subject refl reads; is = ap one_piece (sym made.is) }) refl refl nothing_is_number reads did
 
 -- ---- what Done means
 
 module _ {I O D : Type 0} (i : Inputs.Ghosts I) (o : Sink.Ghosts O) (d : Device.Ghosts D) (ws : List (List ℕ)) (old mid new : I) (sink sink' : O) (dev dev' : D) (result : Exit) (seen : i.observable) (written : o.observable) (is : result ≡ exit.Done) where
   -- what was read was held whole
-  held : (s : Source) (p : Prefix) (object : Object) → (s ≡ source.Number → ⊥) → Takes s i.observable (word 1 ws) (i.state old) (i.state mid) p → Says s p.bytes object → object_by s p ≡ Ok object → Holds (i.state old) (word 1 ws) p.bytes
-  held source.Object p object named took says is = prefix_whole object_limit ((i.state old).file (word 1 ws)) (i.state old).room p (took.is seen) (object_end p object took.size is)
-  held source.Text p object named took says is = prefix_whole text_limit ((i.state old).file (word 1 ws)) (i.state old).room p (took.is seen) (text_end p object took.size says is)
-  held source.Number p object named took says is = absurd (named refl)
+  held_object : (p : Prefix) (between : Moment) (object : Object) → Takes source.Object i.observable (word 1 ws) (i.state old) between p → object_by source.Object p ≡ Ok object → Holds (i.state old) (word 1 ws) p.bytes
+  held_object p between object took is = prefix_whole object_limit ((i.state old).file (word 1 ws)) (i.state old).room p (took.is seen) (object_end p object took.size is)
+
+  held_text : (p : Prefix) (between : Moment) (object : Object) → Takes source.Text i.observable (word 1 ws) (i.state old) between p → Means p.bytes object → object_by source.Text p ≡ Ok object → Holds (i.state old) (word 1 ws) p.bytes
+  held_text p between object took says is = prefix_whole text_limit ((i.state old).file (word 1 ws)) (i.state old).room p (took.is seen) (text_end p object took.size says is)
 
   -- the text that was written
   record IsText (Made : List ℕ → Type 0) : Type 0 where
@@ -215,7 +270,7 @@ module _ {I O D : Type 0} (i : Inputs.Ghosts I) (o : Sink.Ghosts O) (d : Device.
   asked_lines None object is = absurd (err_is_ok is)
   asked_lines (Some n) object is = refl
 
-  made_done : (subject : Subject) → ReadsSubject i.observable (form_of Make) ws (i.state old) (i.state mid) (Ok subject) → Makes o d (setup subject.object chip) subject.lines sink sink' dev dev' result → WorkDone i o d Make ws (world old sink dev) (world new sink' dev')
+  made_done : (subject : Subject) → ReadsSubject i.observable (form_of Make None) ws (i.state old) (i.state mid) (Ok subject) → Makes o d (setup_of subject) subject.lines sink sink' dev dev' result → WorkDone i o d Make None ws (world old sink dev) (world new sink' dev')
   made_done subject reads did = elim did [
     | inl starves ↦ let clash : exit.Done ≡ exit.Memory = sym is ∙ starves.reports.ends ∙ refused_exit Memory starves.reports.cut in absurd (done_is_memory clash)
     | inr wrote ↦ whole wrote
@@ -224,11 +279,13 @@ module _ {I O D : Type 0} (i : Inputs.Ghosts I) (o : Sink.Ghosts O) (d : Device.
       done_is_memory : exit.Done ≡ exit.Memory → ⊥
       done_is_memory e = cc
 
-      whole : Summarizes o d (setup subject.object chip) subject.lines sink sink' dev dev' result → WorkDone i o d Make ws (world old sink dev) (world new sink' dev')
+      whole : Summarizes o d (setup_of subject) subject.lines sink sink' dev dev' result → WorkDone i o d Make None ws (world old sink dev) (world new sink' dev')
       whole wrote =
-          let known = was_read (form_of Make) ws reads.prefix subject reads.is in
+          let known = was_read (form_of Make None) ws reads.prefix reads.topology subject reads.is in
           let lines : lines_asked (word 1 ws) ≡ Some (unwrap_or (lines_asked (word 1 ws)) 0) = subst (λ (p : Prefix). lines_asked p.bytes ≡ Some (unwrap_or (lines_asked p.bytes) 0)) reads.read.0 (asked_lines (lines_asked reads.prefix.bytes) subject.object known.object) in
-          let text : IsSummary d (setup laboratory chip) (unwrap_or (lines_asked (word 1 ws)) 0) dev dev' wrote.text = subst (λ (n : ℕ). IsSummary d (setup laboratory chip) n dev dev' wrote.text) known.lines (subst (λ (object : Object). IsSummary d (setup object chip) subject.lines dev dev' wrote.text) reads.says wrote.made) in
+          let text : IsSummary d (setup laboratory chip) (unwrap_or (lines_asked (word 1 ws)) 0) dev dev' wrote.text = subst (λ (n : ℕ). IsSummary d (setup laboratory chip) n dev dev' wrote.text) known.lines
+          (subst (λ (topology : Topology). IsSummary d (setup laboratory topology) subject.lines dev dev' wrote.text) (is_chip (form_of Make None) i.observable ws (i.state old) (i.state mid) subject reads)
+          (subst (λ (object : Object). IsSummary d (setup object subject.topology) subject.lines dev dev' wrote.text) reads.says wrote.made)) in
           record {
             n = unwrap_or (lines_asked (word 1 ws)) 0;
             events = text.events;
@@ -239,20 +296,91 @@ module _ {I O D : Type 0} (i : Inputs.Ghosts I) (o : Sink.Ghosts O) (d : Device.
             drove = text.drove;
           }
 
-  pub worked_done : (work : Work) (subject : Subject) → ReadsSubject i.observable (form_of work) ws (i.state old) (i.state mid) (Ok subject) → Worked i o d work subject (script_word (form_of work).script ws) (world mid sink dev) (world new sink' dev') result → WorkDone i o d work ws (world old sink dev) (world new sink' dev')
-  worked_done Replay subject reads did =
-      let run = did.done seen written is in
-      record { object_bytes = reads.prefix.bytes; script_bytes = run.script_bytes; object = subject.object; events = run.events; answers = run.answers; object_held = held source.Object reads.prefix subject.object object_is_number reads.read reads.says (was_read (form_of Replay) ws reads.prefix subject reads.is).object; script_held = second_held (word 2 ws) run.script_bytes (reads.read.files seen) run.held; reads = reads.says; means = run.means; text = run.text; drove = run.drove }
-  worked_done Reach subject reads did =
-      let wrote = written_text (IsReachText subject.object did.0) did.2 in
-      (record { bytes = reads.prefix.bytes; object = subject.object; master = did.0; members = wrote.made.members; held = held source.Object reads.prefix subject.object object_is_number reads.read reads.says (was_read (form_of Reach) ws reads.prefix subject reads.is).object; reads = reads.says; named = (was_read (form_of Reach) ws reads.prefix subject reads.is).master 2 refl ∙ did.1; reach = wrote.made.reach; text = after wrote.text (reach_text wrote.made.members) wrote.made.is wrote.appended }, wrote.device)
-  worked_done Isolate subject reads did =
-      let run = did.2.done seen written is in
-      (record { object_bytes = reads.prefix.bytes; script_bytes = run.script_bytes; object = subject.object; events = run.events; master = did.0; members = run.members; object_held = held source.Object reads.prefix subject.object object_is_number reads.read reads.says (was_read (form_of Isolate) ws reads.prefix subject reads.is).object; script_held = second_held (word 2 ws) run.script_bytes (reads.read.files seen) run.held; reads = reads.says; means = run.means; named = (was_read (form_of Isolate) ws reads.prefix subject reads.is).master 3 refl ∙ did.1; reach = run.reach; text = run.text; listed = run.listed }, did.2.device)
-  worked_done Print subject reads did =
+  pub worked_done : (work : Work) (named : Option ℕ) (subject : Subject) → ReadsSubject i.observable (form_of work named) ws (i.state old) (i.state mid) (Ok subject) → Worked i o d work named subject (script_word (form_of work named).script ws) (world mid sink dev) (world new sink' dev') result → WorkDone i o d work named ws (world old sink dev) (world new sink' dev')
+  worked_done Replay named subject reads did = elim did [
+    | inl starves ↦ let clash : exit.Done ≡ exit.Memory = sym is ∙ starves.reports.ends ∙ refused_exit Memory starves.reports.cut in absurd (done_is_memory clash)
+    | inr fits ↦ ran fits
+  ]
+    where
+      done_is_memory : exit.Done ≡ exit.Memory → ⊥
+      done_is_memory e = cc
+
+      ran : ReplaysFitted i o d named (setup_of subject) (word 2 ws) (world mid sink dev) (world new sink' dev') result → IsReplayed i o d named ws (world old sink dev) (world new sink' dev')
+      ran fits =
+          let f : Form = form_of Replay named in
+          let run = fits.done seen written is in
+          record {
+            object_bytes = reads.prefix.bytes;
+            script_bytes = run.script_bytes;
+            object = subject.object;
+            topology = subject.topology;
+            events = run.events;
+            answers = run.answers;
+            start = fits.start;
+            object_held = held_object reads.prefix reads.between subject.object reads.read (was_read f ws reads.prefix reads.topology subject reads.is).object;
+            topology_held = topology_held f i.observable ws (i.state old) (i.state mid) subject reads seen;
+            script_held = second_held (word 2 ws) run.script_bytes (subject_files f i.observable ws (i.state old) (i.state mid) subject reads seen) run.held;
+            reads = reads.says;
+            means = run.means;
+            text = run.text;
+            fitted = fits.fitted;
+            drove = run.drove;
+          }
+  worked_done Reach named subject reads did =
+      let f : Form = form_of Reach named in
+      let wrote = written_text (IsReachText subject.object subject.topology did.0) did.2 in (
+        record {
+          bytes = reads.prefix.bytes;
+          object = subject.object;
+          topology = subject.topology;
+          master = did.0;
+          members = wrote.made.members;
+          held = held_object reads.prefix reads.between subject.object reads.read (was_read f ws reads.prefix reads.topology subject reads.is).object;
+          topology_held = topology_held f i.observable ws (i.state old) (i.state mid) subject reads seen;
+          reads = reads.says;
+          master_named = (was_read f ws reads.prefix reads.topology subject reads.is).master 2 refl ∙ did.1;
+          reach = wrote.made.reach;
+          text = after wrote.text (reach_text wrote.made.members) wrote.made.is wrote.appended;
+        },
+        wrote.device,
+      )
+  worked_done Isolate named subject reads did =
+      let f : Form = form_of Isolate named in
+      let run = did.2.done seen written is in (
+        record {
+          object_bytes = reads.prefix.bytes;
+          script_bytes = run.script_bytes;
+          object = subject.object;
+          topology = subject.topology;
+          events = run.events;
+          master = did.0;
+          members = run.members;
+          object_held = held_object reads.prefix reads.between subject.object reads.read (was_read f ws reads.prefix reads.topology subject reads.is).object;
+          topology_held = topology_held f i.observable ws (i.state old) (i.state mid) subject reads seen;
+          script_held = second_held (word 2 ws) run.script_bytes (subject_files f i.observable ws (i.state old) (i.state mid) subject reads seen) run.held;
+          reads = reads.says;
+          means = run.means;
+          master_named = (was_read f ws reads.prefix reads.topology subject reads.is).master 3 refl ∙ did.1;
+          reach = run.reach;
+          text = run.text;
+          listed = run.listed;
+        },
+        did.2.device,
+      )
+  worked_done Print named subject reads did =
       let wrote = written_text (λ text. text ≡ text_of subject.object) did in
-      (record { bytes = reads.prefix.bytes; object = subject.object; held = held source.Object reads.prefix subject.object object_is_number reads.read reads.says (was_read (form_of Print) ws reads.prefix subject reads.is).object; reads = reads.says; text = after wrote.text (text_of subject.object) wrote.made wrote.appended }, wrote.device)
-  worked_done Build subject reads did =
+      (record { bytes = reads.prefix.bytes; object = subject.object; held = held_object reads.prefix reads.between subject.object reads.read (was_read (form_of Print named) ws reads.prefix reads.topology subject reads.is).object; reads = reads.says; text = after wrote.text (text_of subject.object) wrote.made wrote.appended }, wrote.device)
+  worked_done Build named subject reads did =
       let wrote = written_text (λ bytes. Reads bytes subject.object) did in
-      (record { bytes = reads.prefix.bytes; object = subject.object; held = held source.Text reads.prefix subject.object text_is_number reads.read reads.says (was_read (form_of Build) ws reads.prefix subject reads.is).object; says = reads.says; text = after wrote.text (little_endian (words_of subject.object)) wrote.made.spelling wrote.appended; reads = subst (λ (bytes : List ℕ). Reads bytes subject.object) wrote.made.spelling wrote.made }, wrote.device)
-  worked_done Make subject reads did = made_done subject reads did.0
+      (record { bytes = reads.prefix.bytes; object = subject.object; held = held_text reads.prefix reads.between subject.object reads.read reads.says (was_read (form_of Build named) ws reads.prefix reads.topology subject reads.is).object; says = reads.says; text = after wrote.text (little_endian (words_of subject.object)) wrote.made.spelling wrote.appended; reads = subst (λ (bytes : List ℕ). Reads bytes subject.object) wrote.made.spelling wrote.made }, wrote.device)
+  worked_done Make named subject reads did = made_done subject reads did.0
+  worked_done Table named subject reads did =
+      let wrote = written_text (IsTopologyText subject.topology) did in
+      let chips : subject.topology ≡ chip = is_chip (form_of Table named) i.observable ws (i.state old) (i.state mid) subject reads in
+      let same : wrote.text ≡ table_of chip = wrote.made.is ∙ ap table_of chips in (
+        record {
+          text = after wrote.text (table_of chip) same wrote.appended;
+          means = sym (ap meaning same) ∙ wrote.made.means ∙ ap (λ (t : Topology). Ok t) chips;
+        },
+        wrote.device,
+      )

@@ -14,10 +14,8 @@ use Rattle.pm_base.specs.Writing.{BreaksIn, Leaves}
 use Rattle.pm_object.specs.declared.object.Object.{Object}
 use Rattle.pm_object.specs.declared.object.ObjectFault.{ObjectFault}
 use Rattle.pm_object.specs.Reading.{reading}
-use Rattle.pm_objtext.specs.declared.fault.TextFault.{TextFault}
 use Rattle.pm_objtext.specs.Building.{building}
 use Rattle.pm_objtext.specs.Meaning.{Means}
-use Rattle.pm_trace.specs.declared.faults.Fault.{Fault}
 use Rattle.pm_trace.specs.Report.{Reports, exit_of}
 use Rattle.pm_top.specs.Asked.{built_of, judged, object_limit, object_of, object_or_fault, text_limit, text_or_fault}
 use Rattle.pm_top.specs.Within.{one_piece}

@@ -1,6 +1,6 @@
--- What the words ask for, by what the inputs hold: the object or the number of lines, then the master, and then the script that a
--- form reads, or the fault that refuses it.
-use Rattle.std.specs.Prelude.{◌≡◌, ℕ, ◌==◌, Bool, if◌then◌else◌, List, [], unwrap_or, Option, Some, None, Result, Ok, Err}
+-- What the words ask for, by what the inputs hold: the object or the number of lines, then the topology, then the master, and then
+-- the script that a form reads, or the fault that refuses it.
+use Rattle.std.specs.Prelude.{◌≡◌, ℕ, ◌≤◌, ◌==◌, Bool, true, if◌then◌else◌, List, [], unwrap_or, Option, Some, None, Result, Ok, Err}
 use Rattle.std.specs.List.{list_any}
 use Rattle.pm_base.specs.Inputs.{Moment}
 use Rattle.pm_base.specs.declared.names.NodeId.{NodeId}
@@ -17,10 +17,15 @@ use Rattle.pm_gen.specs.Laboratory.{laboratory}
 use Rattle.pm_objtext.specs.declared.fault.TextFault.{TextFault}
 use Rattle.pm_objtext.specs.Building.{building}
 use Rattle.pm_objtext.specs.Meaning.{Means}
+use Rattle.pm_topology.specs.Chip.{chip}
+use Rattle.pm_topology.specs.declared.topology.Topology.{Topology}
+use Rattle.pm_topofile.specs.declared.fault.TopologyError.{TopologyError}
+use Rattle.pm_topofile.specs.declared.fault.TopologyError.TheVariants.{Bad, Rule, Memory as NoRoom}
+use Rattle.pm_topofile.specs.Meaning.{meaning}
 use Rattle.pm_script.specs.Script.{Script, over, script_limit, script_of}
 use Rattle.pm_script.specs.Script.Stop.{End as AtEnd}
 use Rattle.pm_trace.specs.declared.faults.Fault.{Fault}
-use Rattle.pm_trace.specs.declared.faults.Fault.TheVariants.{Object as BadObject, Text as BadText, Node, Number, Read}
+use Rattle.pm_trace.specs.declared.faults.Fault.TheVariants.{Memory, Object as BadObject, Text as BadText, Topology as BadTopology, TopologyText, Node, Number, Read}
 use Rattle.pm_trace.specs.Scripts.{script_or_fault}
 use Rattle.pm_top.specs.declared.works.Form.{Form}
 use Rattle.pm_top.specs.declared.works.Source.{Source}
@@ -36,6 +41,10 @@ object_limit = 16384
 abbrev pub text_limit : ℕ
 text_limit = 1048576
 
+-- the most bytes of the text of a topology
+abbrev pub topology_limit : ℕ
+topology_limit = 1048576
+
 -- ---- what is read under a name
 
 -- the object of bytes, or the fault of an object that is bad
@@ -48,8 +57,15 @@ abbrev pub text_or_fault : Result Object TextFault → Result Object Fault
 text_or_fault (Ok object) = Ok object
 text_or_fault (Err fault) = Err (BadText fault)
 
+-- the topology of a text, or the fault of a text that is bad, or of a topology that breaks a rule
+abbrev pub topology_or_fault : Result Topology TopologyError → Result Topology Fault
+topology_or_fault (Ok topology) = Ok topology
+topology_or_fault (Err (Bad fault)) = Err (TopologyText fault)
+topology_or_fault (Err (Rule fault)) = Err (BadTopology fault)
+topology_or_fault (Err (NoRoom starved)) = Err Memory
+
 -- what was read to its end or past its limit is judged, and what could not be begun or read on is a fault
-abbrev pub judged : StopReason → Result Object Fault → Result Object Fault
+abbrev pub judged : {T : Type 0} → StopReason → Result T Fault → Result T Fault
 judged End verdict = verdict
 judged Limit verdict = verdict
 judged Failure verdict = Err Read
@@ -62,6 +78,10 @@ object_of p = judged p.stop (object_or_fault (reading p.bytes))
 -- the object that what was read of a name says as a text
 abbrev pub built_of : Prefix → Result Object Fault
 built_of p = judged p.stop (text_or_fault (building p.bytes))
+
+-- the topology that what was read of a name means
+abbrev pub topology_of : Prefix → Result Topology Fault
+topology_of p = judged p.stop (topology_or_fault (meaning p.bytes))
 
 -- ---- how many lines are asked for
 
@@ -92,7 +112,7 @@ laboratory_for word = laboratory_if (lines_asked word)
 abbrev pub first_prefix : ℕ → Moment → List ℕ → Prefix
 first_prefix limit m name = prefix_of limit (m.file name) m.room
 
--- a number is its own word: nothing is read
+-- a number is its own word, and where there is no word it is an empty one: nothing is read
 abbrev pub itself : List ℕ → Prefix
 itself word = record { bytes = word; stop = End }
 
@@ -100,30 +120,46 @@ abbrev pub source_prefix : Source → Moment → List ℕ → Prefix
 source_prefix source.Object m name = first_prefix object_limit m name
 source_prefix source.Text m name = first_prefix text_limit m name
 source_prefix source.Number m name = itself name
+source_prefix source.Nothing m name = itself name
 
 -- the object of that
 abbrev pub object_by : Source → Prefix → Result Object Fault
 object_by source.Object p = object_of p
 object_by source.Text p = built_of p
 object_by source.Number p = laboratory_for p.bytes
+object_by source.Nothing p = Ok laboratory
 
--- bytes are those of an object, or a text that says it; with a number the object is the laboratory's
+-- bytes are those of an object, or a text that says it; with a number and with nothing the object is the laboratory's
 abbrev pub Says : Source → List ℕ → Object → Type 0
 Says source.Object bytes object = Reads bytes object
 Says source.Text bytes object = Means bytes object
 Says source.Number bytes object = object ≡ laboratory
+Says source.Nothing bytes object = object ≡ laboratory
 
 -- how many lines a script has that is made: 0 where none is
 abbrev pub lines_by : Source → List ℕ → ℕ
 lines_by source.Object word = 0
 lines_by source.Text word = 0
 lines_by source.Number word = unwrap_or (lines_asked word) 0
+lines_by source.Nothing word = 0
 
--- what is read of the second name, where another input can be begun
-abbrev pub second_prefix : ℕ → Moment → Bool → List ℕ → Prefix
-second_prefix limit m again name = prefix_of limit (m.file name) (if again then 1 else 0)
+-- what is read of a later name, where another input can be begun or not
+abbrev pub later_prefix : ℕ → Moment → Bool → List ℕ → Prefix
+later_prefix limit m again name = prefix_of limit (m.file name) (if again then 1 else 0)
 
--- ---- the object, and then the master
+-- ---- the object, then the topology, and then the master
+
+-- which inputs can be begun after the first one: all for which there is room at first; of others a source may begin one or not
+pub record Begins (m : Moment) : Type 0 where
+  pub second : Bool
+  pub third : Bool
+  pub two : 2 ≤ m.room → second ≡ true
+  pub three : 3 ≤ m.room → third ≡ true
+
+-- the topology of the text under the word at a place, where another input can be begun or not; the chip's, where no word names one
+abbrev pub topology_by : Option ℕ → List (List ℕ) → Moment → Bool → Result Topology Fault
+topology_by None ws m again = Ok chip
+topology_by (Some k) ws m again = topology_of (later_prefix topology_limit m again (word k ws))
 
 -- the master with this number, where the object has one
 abbrev pub if_master : Object → Option ℕ → Option NodeId
@@ -134,24 +170,30 @@ if_master object (Some n) = if list_any (λ (r : MasterRec). r.node == n) object
 abbrev pub master_of : Object → List ℕ → Option NodeId
 master_of object name = if_master object (at_most 4294967295 (number_of name))
 
--- an object with a master of it: without one the word names none
-abbrev pub with_named : Object → ℕ → Option NodeId → Result Subject Fault
-with_named object lines (Some master) = Ok (record { object = object; master = Some master; lines = lines })
-with_named object lines None = Err Node
+-- an object and a topology with a master of the object: without one the word names none
+abbrev pub with_named : Object → Topology → ℕ → Option NodeId → Result Subject Fault
+with_named object topology lines (Some master) =
+    Ok (record { object = object; topology = topology; master = Some master; lines = lines })
+with_named object topology lines None = Err Node
 
--- an object with the master that the word at a place names, where there is one
-abbrev pub with_master : Object → ℕ → Option ℕ → List (List ℕ) → Result Subject Fault
-with_master object lines None ws = Ok (record { object = object; master = None; lines = lines })
-with_master object lines (Some k) ws = with_named object lines (master_of object (word k ws))
+-- an object and a topology with the master that the word at a place names, where there is one
+abbrev pub with_master : Object → Topology → ℕ → Option ℕ → List (List ℕ) → Result Subject Fault
+with_master object topology lines None ws = Ok (record { object = object; topology = topology; master = None; lines = lines })
+with_master object topology lines (Some k) ws = with_named object topology lines (master_of object (word k ws))
 
--- the object first, and then the master
-abbrev pub subject_by : Result Object Fault → ℕ → Option ℕ → List (List ℕ) → Result Subject Fault
-subject_by (Ok object) lines place ws = with_master object lines place ws
-subject_by (Err fault) lines place ws = Err fault
+-- an object, then its topology, and then the master
+abbrev pub with_topology : Object → Result Topology Fault → ℕ → Option ℕ → List (List ℕ) → Result Subject Fault
+with_topology object (Ok topology) lines place ws = with_master object topology lines place ws
+with_topology object (Err fault) lines place ws = Err fault
 
--- what the work of a form is done on, by what its first word came to
-abbrev pub subject_of : Form → List (List ℕ) → Prefix → Result Subject Fault
-subject_of f ws p = subject_by (object_by f.source p) (lines_by f.source (word 1 ws)) f.node ws
+-- the object first
+abbrev pub subject_by : Result Object Fault → Result Topology Fault → ℕ → Option ℕ → List (List ℕ) → Result Subject Fault
+subject_by (Ok object) topology lines place ws = with_topology object topology lines place ws
+subject_by (Err fault) topology lines place ws = Err fault
+
+-- what the work of a form is done on, by what its first word and its topology came to
+abbrev pub subject_of : Form → List (List ℕ) → Prefix → Result Topology Fault → Result Subject Fault
+subject_of f ws p topology = subject_by (object_by f.source p) topology (lines_by f.source (word 1 ws)) f.node ws
 
 -- ---- and then the script
 
@@ -167,7 +209,17 @@ no_script = over AtEnd
 -- the script under the word at a place, where another input can be begun or not
 abbrev pub script_by : Option ℕ → List (List ℕ) → Moment → Bool → Result Script Fault
 script_by None ws m again = Ok no_script
-script_by (Some k) ws m again = script_or_fault (script_of (second_prefix script_limit m again (word k ws)))
+script_by (Some k) ws m again = script_or_fault (script_of (later_prefix script_limit m again (word k ws)))
+
+-- which input a script is, by the place of the word that names a topology: the third, or the second where there is no such word
+abbrev pub script_turn : Option ℕ → ℕ
+script_turn None = 2
+script_turn (Some k) = 3
+
+-- whether it can be begun
+abbrev pub script_begins : {m : Moment} → Option ℕ → Begins m → Bool
+script_begins None again = again.second
+script_begins (Some k) again = again.third
 
 -- what a form reads
 pub record Asked : Type 0 where
@@ -182,7 +234,9 @@ abbrev pub then_script : Result Subject Fault → Result Script Fault → Result
 then_script (Ok subject) script = with_script subject script
 then_script (Err fault) script = Err fault
 
--- what the words ask for in this form by what the inputs hold, where a second input can be begun or not
-abbrev pub asked_of : Form → List (List ℕ) → Moment → Bool → Result Asked Fault
+-- what the words ask for in this form by what the inputs hold, where these inputs can be begun
+abbrev pub asked_of : Form → List (List ℕ) → (m : Moment) → Begins m → Result Asked Fault
 asked_of f ws m again =
-    then_script (subject_of f ws (source_prefix f.source m (word 1 ws))) (script_by f.script ws m again)
+    then_script
+    (subject_of f ws (source_prefix f.source m (word 1 ws)) (topology_by f.topology ws m again.second))
+    (script_by f.script ws m (script_begins f.topology again))

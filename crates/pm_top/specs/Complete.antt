@@ -12,6 +12,7 @@ use Rattle.pm_base.specs.World.{World}
 use Rattle.pm_object.specs.declared.object.Object.{Object}
 use Rattle.pm_object.specs.Grammar.{Reads}
 use Rattle.pm_objtext.specs.Meaning.{Means}
+use Rattle.pm_topology.specs.declared.topology.Topology.{Topology}
 use Rattle.pm_device.specs.declared.device.Device as Device
 use Rattle.pm_gen.specs.Laboratory.{laboratory}
 use Rattle.pm_script.specs.Named.{IsScript}
@@ -21,6 +22,7 @@ use Rattle.pm_top.specs.declared.works.Source.{Source}
 use Rattle.pm_top.specs.declared.works.Source.TheVariants as source
 use Rattle.pm_top.specs.Asked.{lines_asked, master_of}
 use Rattle.pm_top.specs.Done.{IsDone}
+use Rattle.pm_top.specs.Fit.{HoldsTopology}
 use Rattle.pm_top.specs.Form.{form, word}
 use Rattle.pm_top.specs.Ran.{InputsMayFail}
 
@@ -32,6 +34,7 @@ abbrev pub HoldsObject : Source → Moment → List ℕ → Object → Type 0
 HoldsObject source.Object m name object = (bytes : List ℕ) × Holds m name bytes × Reads bytes object
 HoldsObject source.Text m name object = (bytes : List ℕ) × Holds m name bytes × Means bytes object
 HoldsObject source.Number m name object = IsSome (lines_asked name) × (object ≡ laboratory)
+HoldsObject source.Nothing m name object = object ≡ laboratory
 
 -- the word at a place names a master of an object, where a form has such a word
 abbrev pub NamesMaster : Option ℕ → List (List ℕ) → Object → Type 0
@@ -54,7 +57,9 @@ NamesScript (Some k) ws m = HoldsScript m (word k ws)
 -- what a form reads is right
 pub record ReadsRight (f : Form) (ws : List (List ℕ)) (m : Moment) : Type 0 where
   pub object : Object
+  pub topology : Topology
   pub held : HoldsObject f.source m (word 1 ws) object
+  pub topology_held : HoldsTopology f.topology ws m topology
   pub master : NamesMaster f.node ws object
   pub script : NamesScript f.script ws m
 

@@ -1,5 +1,5 @@
 -- What each work writes, and what Done means for it. No limit, no reason to stop and no cut occurs in Done.
-use Rattle.std.specs.Prelude.{◌≡◌, ℕ, ◌+◌, Bool, List, [], ◌∷◌, ◌++◌, length, unwrap_or, Option, Some, None}
+use Rattle.std.specs.Prelude.{◌≡◌, ◌⊎◌, ℕ, ◌+◌, Bool, List, [], ◌∷◌, ◌++◌, length, unwrap_or, Option, Some, None, Ok}
 use Rattle.pm_base.specs.declared.errors.Exit.{Exit}
 use Rattle.pm_base.specs.declared.errors.Exit.TheVariants.{Done}
 use Rattle.pm_base.specs.declared.events.Event.{Event}
@@ -11,6 +11,9 @@ use Rattle.pm_object.specs.Grammar.{Reads, little_endian, words_of}
 use Rattle.pm_objtext.specs.Meaning.{Means}
 use Rattle.pm_objtext.specs.Printing.{text_of}
 use Rattle.pm_topology.specs.Chip.{chip}
+use Rattle.pm_topology.specs.declared.topology.Topology.{Topology}
+use Rattle.pm_topofile.specs.Meaning.{meaning}
+use Rattle.pm_topofile.specs.Printing.{text_of as table_of}
 use Rattle.pm_reach.specs.declared.members.Member.{Member}
 use Rattle.pm_reach.specs.Membership.{IsReach}
 use Rattle.pm_device.specs.declared.device.Device as Device
@@ -25,23 +28,26 @@ use Rattle.pm_trace.specs.Reach.{reach_text}
 use Rattle.pm_isolate.specs.Differences.{isolate_text}
 use Rattle.pm_isolate.specs.Listed.{AreListed}
 use Rattle.pm_base.specs.Inputs.{Holds}
-use Rattle.pm_run.specs.Run.{setup}
-use Rattle.pm_base.specs.World.{World}
+use Rattle.pm_run.specs.Run.{Setup, setup}
+use Rattle.pm_base.specs.World.{World, world}
 use Rattle.pm_replay.specs.Replay.{replay_report}
 use Rattle.pm_replay.specs.Replayed.{IsRun, Replayed}
 use Rattle.pm_isolate.specs.Compared.{Compared, IsCompared}
 use Rattle.pm_isolate.specs.Differences.{isolate_report}
-use Rattle.pm_trace.specs.Report.{Report}
+use Rattle.pm_trace.specs.Report.{Report, Reports, refusal}
+use Rattle.pm_trace.specs.declared.faults.Fault.TheVariants.{Memory}
 use Rattle.pm_trace.specs.Scripts.{fault_at}
 use Rattle.pm_top.specs.declared.works.Work.{Work}
-use Rattle.pm_top.specs.declared.works.Work.TheVariants.{Replay, Reach, Isolate, Print, Build, Make}
-use Rattle.pm_top.specs.Form.{word, work_of}
+use Rattle.pm_top.specs.declared.works.Work.TheVariants.{Replay, Reach, Isolate, Print, Build, Make, Table}
+use Rattle.pm_top.specs.declared.works.Request.{Request}
+use Rattle.pm_top.specs.Fit.{HoldsTopology, IsFitted}
+use Rattle.pm_top.specs.Form.{request_of, word}
 use Rattle.pm_top.specs.Asked.{lines_asked, master_of}
 use Rattle.pm_top.specs.Job.{Job}
 use Rattle.pm_top.specs.Making.{Makes}
 use Rattle.pm_top.specs.Theorem.{IsReplayed}
 use Rattle.pm_top.specs.declared.reading.Subject.{Subject}
-use Rattle.pm_top.specs.Within.{IsReachText, Writes}
+use Rattle.pm_top.specs.Within.{IsReachText, IsTopologyText, Writes}
 
 -- ---- what is written
 
@@ -49,16 +55,21 @@ use Rattle.pm_top.specs.Within.{IsReachText, Writes}
 abbrev pub no_master : NodeId
 no_master = record { 0 = 0 }
 
+-- the setup of a subject
+abbrev pub setup_of : Subject → Setup
+setup_of subject = setup subject.object subject.topology
+
 -- the pieces that a work writes of its job, under the device's answers
 abbrev pub body_of : Work → Job → List (List Bool) → List (List ℕ)
-body_of Replay job answers = (replay_report (setup job.asked.subject.object chip) job.asked.script answers).body
+body_of Replay job answers = (replay_report (setup_of job.asked.subject) job.asked.script answers).body
 body_of Reach job answers = reach_text job.members ∷ []
 body_of Isolate job answers =
-    (isolate_report (setup job.asked.subject.object chip) (unwrap_or job.asked.subject.master no_master) job.members job.asked.script).body
+    (isolate_report (setup_of job.asked.subject) (unwrap_or job.asked.subject.master no_master) job.members job.asked.script).body
 body_of Print job answers = text_of job.asked.subject.object ∷ []
 body_of Build job answers = little_endian (words_of job.asked.subject.object) ∷ []
 body_of Make job answers =
-    summary job.asked.subject.lines (run_text (setup job.asked.subject.object chip) answers job.events) ∷ []
+    summary job.asked.subject.lines (run_text (setup_of job.asked.subject) answers job.events) ∷ []
+body_of Table job answers = table_of job.asked.subject.topology ∷ []
 
 -- and then the fault at which its script stops, if it does
 abbrev pub report : Work → Job → List (List Bool) → Report
@@ -71,37 +82,41 @@ report work job answers = record {
 
 module _ {I O : Type 0} (i : Inputs.Ghosts I) (o : Sink.Ghosts O) where
   -- an object was held under the first name, the second one names a master of it, and the text of what that master can
-  -- reach was written
-  pub record IsReached (ws : List (List ℕ)) (inputs : I) (old new : O) : Type 0 where
+  -- reach was written: on the chip, or on the topology of the text that was held under a third name
+  pub record IsReached (named : Option ℕ) (ws : List (List ℕ)) (inputs : I) (old new : O) : Type 0 where
     pub bytes : List ℕ
     pub object : Object
+    pub topology : Topology
     pub master : NodeId
     pub members : List Member
     pub held : Holds (i.state inputs) (word 1 ws) bytes
+    pub topology_held : HoldsTopology named ws (i.state inputs) topology
     pub reads : Reads bytes object
-    pub named : master_of object (word 2 ws) ≡ Some master
-    pub reach : IsReach object chip master members
+    pub master_named : master_of object (word 2 ws) ≡ Some master
+    pub reach : IsReach object topology master members
     pub text : (o.state new).bytes ≡ (o.state old).bytes ++ reach_text members
 
   -- an object and a script were held under the first two names, the third one names a master of the object, and what was
   -- written is what that master can reach, each unit whose transitions differ between the run of the script and the run
   -- without the messages of the master, and the number of script lines. Each such unit is in that reach, or a processor of a
-  -- master that is
-  pub record IsIsolated (ws : List (List ℕ)) (inputs : I) (old new : O) : Type 0 where
+  -- master that is. The runs are over the chip, or over the topology of the text that was held under a fourth name
+  pub record IsIsolated (named : Option ℕ) (ws : List (List ℕ)) (inputs : I) (old new : O) : Type 0 where
     pub object_bytes : List ℕ
     pub script_bytes : List ℕ
     pub object : Object
+    pub topology : Topology
     pub events : List Event
     pub master : NodeId
     pub members : List Member
     pub object_held : Holds (i.state inputs) (word 1 ws) object_bytes
+    pub topology_held : HoldsTopology named ws (i.state inputs) topology
     pub script_held : Holds (i.state inputs) (word 2 ws) script_bytes
     pub reads : Reads object_bytes object
     pub means : IsScript script_bytes events
-    pub named : master_of object (word 3 ws) ≡ Some master
-    pub reach : IsReach object chip master members
-    pub text : (o.state new).bytes ≡ (o.state old).bytes ++ isolate_text (setup object chip) master members events
-    pub listed : AreListed (setup object chip) master members events
+    pub master_named : master_of object (word 3 ws) ≡ Some master
+    pub reach : IsReach object topology master members
+    pub text : (o.state new).bytes ≡ (o.state old).bytes ++ isolate_text (setup object topology) master members events
+    pub listed : AreListed (setup object topology) master members events
 
   -- an object was held under the name, and its text was written
   pub record IsPrinted (ws : List (List ℕ)) (inputs : I) (old new : O) : Type 0 where
@@ -120,6 +135,12 @@ module _ {I O : Type 0} (i : Inputs.Ghosts I) (o : Sink.Ghosts O) where
     pub text : (o.state new).bytes ≡ (o.state old).bytes ++ little_endian (words_of object)
     pub reads : Reads (little_endian (words_of object)) object
 
+module _ {O : Type 0} (o : Sink.Ghosts O) where
+  -- the text of the chip's topology was written, which means that topology
+  pub record IsTabled (old new : O) : Type 0 where
+    pub text : (o.state new).bytes ≡ (o.state old).bytes ++ table_of chip
+    pub means : meaning (table_of chip) ≡ Ok chip
+
 module _ {O D : Type 0} (o : Sink.Ghosts O) (d : Device.Ghosts D) where
   -- the word is a number of lines, and the summary was written of the run of the script of so many lines over the laboratory's
   -- object, through which the device was driven
@@ -134,22 +155,23 @@ module _ {O D : Type 0} (o : Sink.Ghosts O) (d : Device.Ghosts D) where
 
 module _ {I O D : Type 0} (i : Inputs.Ghosts I) (o : Sink.Ghosts O) (d : Device.Ghosts D) where
   -- what a work asks for was done. A replay and a run that is made drive the device, and nothing else touches it
-  abbrev pub WorkDone : Work → List (List ℕ) → World I O D → World I O D → Type 0
-  WorkDone Replay ws w w' = IsReplayed i o d ws w w'
-  WorkDone Reach ws w w' = IsReached i o ws w.inputs w.sink w'.sink × (w.device ≡ w'.device)
-  WorkDone Isolate ws w w' = IsIsolated i o ws w.inputs w.sink w'.sink × (w.device ≡ w'.device)
-  WorkDone Print ws w w' = IsPrinted i o ws w.inputs w.sink w'.sink × (w.device ≡ w'.device)
-  WorkDone Build ws w w' = IsBuilt i o ws w.inputs w.sink w'.sink × (w.device ≡ w'.device)
-  WorkDone Make ws w w' = IsMade o d ws w.sink w'.sink w.device w'.device
+  abbrev pub WorkDone : Work → Option ℕ → List (List ℕ) → World I O D → World I O D → Type 0
+  WorkDone Replay named ws w w' = IsReplayed i o d named ws w w'
+  WorkDone Reach named ws w w' = IsReached i o named ws w.inputs w.sink w'.sink × (w.device ≡ w'.device)
+  WorkDone Isolate named ws w w' = IsIsolated i o named ws w.inputs w.sink w'.sink × (w.device ≡ w'.device)
+  WorkDone Print named ws w w' = IsPrinted i o ws w.inputs w.sink w'.sink × (w.device ≡ w'.device)
+  WorkDone Build named ws w w' = IsBuilt i o ws w.inputs w.sink w'.sink × (w.device ≡ w'.device)
+  WorkDone Make named ws w w' = IsMade o d ws w.sink w'.sink w.device w'.device
+  WorkDone Table named ws w w' = IsTabled o w.sink w'.sink × (w.device ≡ w'.device)
 
   -- words that ask for nothing are never done
-  abbrev pub DoneIf : Option Work → List (List ℕ) → World I O D → World I O D → Type 0
+  abbrev pub DoneIf : Option Request → List (List ℕ) → World I O D → World I O D → Type 0
   DoneIf None ws w w' = ⊥
-  DoneIf (Some work) ws w w' = WorkDone work ws w w'
+  DoneIf (Some request) ws w w' = WorkDone request.work request.topology ws w w'
 
   -- the whole text of what the words ask for was written
   abbrev pub IsDone : List (List ℕ) → World I O D → World I O D → Type 0
-  IsDone ws w w' = DoneIf (work_of ws) ws w w'
+  IsDone ws w w' = DoneIf (request_of ws) ws w w'
 
   -- ---- what a work does to its subject, with the script of a name
 
@@ -160,25 +182,39 @@ module _ {I O D : Type 0} (i : Inputs.Ghosts I) (o : Sink.Ghosts O) (d : Device.
     pub device : w.device ≡ w'.device
 
   -- two runs were compared, without the device
-  pub record Compares (object : Object) (master : NodeId) (name : List ℕ) (w w' : World I O D) (exit : Exit) : Type 0 where
-    pub ran : Compared i o (setup object chip) master name w.inputs w'.inputs w.sink w'.sink exit
-    pub done : i.observable → o.observable → exit ≡ Done → IsCompared i o (setup object chip) master name w.inputs w.sink w'.sink
+  pub record Compares (c : Setup) (master : NodeId) (name : List ℕ) (w w' : World I O D) (exit : Exit) : Type 0 where
+    pub ran : Compared i o c master name w.inputs w'.inputs w.sink w'.sink exit
+    pub done : i.observable → o.observable → exit ≡ Done → IsCompared i o c master name w.inputs w.sink w'.sink
     pub device : w.device ≡ w'.device
 
-  -- a script was run
-  pub record Replays (object : Object) (name : List ℕ) (w w' : World I O D) (exit : Exit) : Type 0 where
-    pub ran : Replayed i o d (setup object chip) name w w' exit
-    pub done : i.observable → o.observable → exit ≡ Done → IsRun i o d (setup object chip) name w w'
+  -- memory was wanted before anything was done
+  pub record Starved (w w' : World I O D) (exit : Exit) : Type 0 where
+    pub reports : Reports o (refusal Memory) w.sink w'.sink exit
+    pub inputs : w.inputs ≡ w'.inputs
+    pub device : w.device ≡ w'.device
+
+  -- a device was fitted if a word names a topology, and then a script was run
+  pub record ReplaysFitted (named : Option ℕ) (c : Setup) (name : List ℕ) (w w' : World I O D) (exit : Exit) : Type 0 where
+    pub start : D
+    pub fitted : IsFitted d named c.topology w.device start
+    pub ran : Replayed i o d c name (world w.inputs w.sink start) w' exit
+    pub done : i.observable → o.observable → exit ≡ Done → IsRun i o d c name (world w.inputs w.sink start) w'
+
+  -- the same, or memory was wanted for the fit
+  abbrev pub Replays : Option ℕ → Setup → List ℕ → World I O D → World I O D → Exit → Type 0
+  Replays named c name w w' exit = Starved w w' exit ⊎ ReplaysFitted named c name w w' exit
 
   -- what is done for the master of a subject
   abbrev pub ForMaster : Subject → (NodeId → Type 0) → Type 0
   ForMaster subject Does = (master : NodeId) × (subject.master ≡ Some master) × Does master
 
-  abbrev pub Worked : Work → Subject → List ℕ → World I O D → World I O D → Exit → Type 0
-  Worked Replay subject name w w' exit = Replays subject.object name w w' exit
-  Worked Reach subject name w w' exit = ForMaster subject (λ master. OnlyWrites (IsReachText subject.object master) w w' exit)
-  Worked Isolate subject name w w' exit = ForMaster subject (λ master. Compares subject.object master name w w' exit)
-  Worked Print subject name w w' exit = OnlyWrites (λ text. text ≡ text_of subject.object) w w' exit
-  Worked Build subject name w w' exit = OnlyWrites (λ bytes. Reads bytes subject.object) w w' exit
-  Worked Make subject name w w' exit =
-      Makes o d (setup subject.object chip) subject.lines w.sink w'.sink w.device w'.device exit × (w.inputs ≡ w'.inputs)
+  abbrev pub Worked : Work → Option ℕ → Subject → List ℕ → World I O D → World I O D → Exit → Type 0
+  Worked Replay named subject name w w' exit = Replays named (setup_of subject) name w w' exit
+  Worked Reach named subject name w w' exit =
+      ForMaster subject (λ master. OnlyWrites (IsReachText subject.object subject.topology master) w w' exit)
+  Worked Isolate named subject name w w' exit = ForMaster subject (λ master. Compares (setup_of subject) master name w w' exit)
+  Worked Print named subject name w w' exit = OnlyWrites (λ text. text ≡ text_of subject.object) w w' exit
+  Worked Build named subject name w w' exit = OnlyWrites (λ bytes. Reads bytes subject.object) w w' exit
+  Worked Make named subject name w w' exit =
+      Makes o d (setup_of subject) subject.lines w.sink w'.sink w.device w'.device exit × (w.inputs ≡ w'.inputs)
+  Worked Table named subject name w w' exit = OnlyWrites (IsTopologyText subject.topology) w w' exit

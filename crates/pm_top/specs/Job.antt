@@ -1,6 +1,6 @@
 -- What a form has to do: what it asks for, what the master can reach, and the events of a script that is made; or the fault that
 -- refuses it.
-use Rattle.std.specs.Prelude.{◌≡◌, ℕ, ◌≤◌, ◌⊎◌, Bool, true, is_some, List, IfNone, IfSome, IsSome, Result, Ok, Err, ⊤}
+use Rattle.std.specs.Prelude.{◌≡◌, ℕ, ◌⊎◌, is_some, List, IfNone, IfSome, IsSome, Result, Ok, Err, ⊤}
 use Rattle.pm_base.specs.Faults.{Rose}
 use Rattle.pm_base.specs.declared.errors.Exit.{Exit}
 use Rattle.pm_base.specs.declared.errors.Exit.TheVariants.{ReadFault}
@@ -9,15 +9,16 @@ use Rattle.pm_base.specs.Inputs.{Moment}
 use Rattle.pm_base.specs.declared.inputs.Inputs as Inputs
 use Rattle.pm_gen.specs.Script.{made}
 use Rattle.pm_topology.specs.Chip.{chip}
+use Rattle.pm_topology.specs.WellFormed.{IsSupported}
 use Rattle.pm_reach.specs.declared.members.Member.{Member}
 use Rattle.pm_reach.specs.Membership.{IsReach}
 use Rattle.pm_script.specs.Named.{IsScript}
 use Rattle.pm_trace.specs.declared.faults.Fault.{Fault}
-use Rattle.pm_trace.specs.declared.faults.Fault.TheVariants.{Object as BadObject, Text as BadText, Line, Memory, Node, Number, Read, Size, Usage}
+use Rattle.pm_trace.specs.declared.faults.Fault.TheVariants.{Object as BadObject, Text as BadText, Topology as BadTopology, TopologyText, Line, Memory, Node, Number, Read, Size, Usage}
 use Rattle.pm_top.specs.declared.works.Form.{Form}
 use Rattle.pm_top.specs.declared.works.Source.TheVariants as source
 use Rattle.pm_top.specs.declared.reading.Subject.{Subject}
-use Rattle.pm_top.specs.Asked.{Asked, asked_of, no_script}
+use Rattle.pm_top.specs.Asked.{Asked, Begins, asked_of, no_script}
 
 -- what is asked for, the members of the reach of its master, where there is one, and the events of a script that is made
 pub record Job : Type 0 where
@@ -25,9 +26,9 @@ pub record Job : Type 0 where
   pub members : List Member
   pub events : List Event
 
--- what the master of a subject can reach on the chip, where it has one
+-- what the master of a subject can reach on its topology, where it has one
 abbrev pub IsFound : Subject → List Member → Type 0
-IsFound subject members = IfSome subject.master (λ master. IsReach subject.object chip master members)
+IsFound subject members = IfSome subject.master (λ master. IsReach subject.object subject.topology master members)
 
 -- a job does what is asked for, or is refused for the same fault
 abbrev pub Meets : Result Job Fault → Result Asked Fault → Type 0
@@ -36,9 +37,9 @@ Meets (Ok job) (Err due) = ⊥
 Meets (Err fault) (Ok asked) = ⊥
 Meets (Err fault) (Err due) = fault ≡ due
 
--- a job of the words. Where only one more input can be begun, a source may begin a second one or not
+-- a job of the words. Where fewer inputs can be begun than are named, a source may begin a later one or not
 abbrev pub IsJobOf : Form → List (List ℕ) → Moment → Result Job Fault → Type 0
-IsJobOf f ws m job = (again : Bool) × (2 ≤ m.room → again ≡ true) × Meets job (asked_of f ws m again)
+IsJobOf f ws m job = (again : Begins m) × Meets job (asked_of f ws m again)
 
 -- the faults that may refuse a form: those of what it reads
 abbrev pub IsFaultOf : Form → Fault → Type 0
@@ -46,15 +47,20 @@ IsFaultOf f Read = ⊤
 IsFaultOf f Memory = ⊤
 IsFaultOf f (BadObject fault) = f.source ≡ source.Object
 IsFaultOf f (BadText fault) = f.source ≡ source.Text
+IsFaultOf f (TopologyText fault) = IsSome f.topology
+IsFaultOf f (BadTopology fault) = IsSome f.topology
 IsFaultOf f Node = IsSome f.node
 IsFaultOf f Number = f.source ≡ source.Number
 IsFaultOf f Usage = ⊥
 IsFaultOf f (Line n cause) = ⊥
 IsFaultOf f Size = ⊥
 
--- a job is one of the form: it has a master where a word names one, whose reach is over the chip, a script where a word names one,
--- and the events of the lines that are made where a word is their number
+-- a job is one of the form: its topology keeps all rules, and is the chip's where no word names one; it has a master where a word
+-- names one, whose reach is over that topology, a script where a word names one, and the events of the lines that are made where
+-- a word is their number
 pub record IsOf (f : Form) (job : Job) : Type 0 where
+  pub supported : IsSupported job.asked.subject.topology
+  pub built_in : IfNone f.topology (job.asked.subject.topology ≡ chip)
   pub named : is_some job.asked.subject.master ≡ is_some f.node
   pub reach : IsFound job.asked.subject job.members
   pub unread : IfNone f.script (job.asked.script ≡ no_script)

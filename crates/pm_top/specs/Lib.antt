@@ -1,7 +1,9 @@
+pub mod Fit
 pub mod Form
 pub mod Asked
 pub mod Job
 pub mod Within
+pub mod Reads
 pub mod Making
 pub mod Theorem
 pub mod Done

@@ -1,13 +1,16 @@
 -- What a run of the program did, on every exit, and what each exit means.
-use Rattle.std.specs.Prelude.{◌≡◌, ℕ, ◌+◌, ◌<◌, ◌≤◌, ◌⊎◌, Bool, true, List, [], length, Option, Some, None, Result, Ok, Err, ⊤}
+use Rattle.std.specs.Prelude.{◌≡◌, ℕ, ◌+◌, ◌<◌, ◌⊎◌, Bool, List, [], length, Option, Some, None, Result, Ok, Err, ⊤}
 use Rattle.pm_base.specs.declared.errors.Exit.{Exit}
 use Rattle.pm_base.specs.declared.errors.Exit.TheVariants as exit
+use Rattle.pm_base.specs.declared.events.Event.{Event}
 use Rattle.pm_base.specs.declared.inputs.Inputs as Inputs
 use Rattle.pm_base.specs.declared.sink.Sink as Sink
 use Rattle.pm_base.specs.Inputs.{Moment, MayFail}
 use Rattle.pm_object.specs.declared.object.Object.{Object}
 use Rattle.pm_object.specs.Grammar.{IsObject}
 use Rattle.pm_topology.specs.Chip.{chip}
+use Rattle.pm_topology.specs.declared.topology.Topology.{Topology}
+use Rattle.pm_topology.specs.WellFormed.{IsWellFormed}
 use Rattle.pm_device.specs.declared.device.Device as Device
 use Rattle.pm_drive.specs.Drive.{driven}
 use Rattle.pm_drive.specs.Drove.{Drove}
@@ -20,7 +23,7 @@ use Rattle.pm_trace.specs.Faults.{exit_after}
 use Rattle.pm_trace.specs.Report.{Did, Report}
 use Rattle.pm_trace.specs.Scripts.{fault_at}
 use Rattle.pm_replay.specs.Replay.{Touched}
-use Rattle.pm_replay.specs.Replayed.{AnswersHaveCauses, LinesServe, RunsKeepApart}
+use Rattle.pm_replay.specs.Replayed.{AnswersHaveCauses, LinesServe, LowersCalls, RunsKeepApart}
 use Rattle.pm_run.specs.Run.{setup}
 use Rattle.pm_base.specs.World.{World}
 use Rattle.pm_top.specs.declared.works.Form.{Form}
@@ -28,10 +31,11 @@ use Rattle.pm_top.specs.declared.works.Source.{Source}
 use Rattle.pm_top.specs.declared.works.Source.TheVariants as source
 use Rattle.pm_top.specs.declared.works.Work.{Work}
 use Rattle.pm_top.specs.declared.works.Work.TheVariants.{Replay, Make}
+use Rattle.pm_top.specs.Fit.{HoldsTopology, IsFitted, LeftBy}
 use Rattle.pm_top.specs.Form.{form, word}
-use Rattle.pm_top.specs.Asked.{Asked, asked_of, lines_by, object_limit, text_limit}
+use Rattle.pm_top.specs.Asked.{Asked, Begins, asked_of, lines_by, object_limit, script_turn, text_limit, topology_limit}
 use Rattle.pm_top.specs.Job.{IsAsked, Job}
-use Rattle.pm_top.specs.Done.{report}
+use Rattle.pm_top.specs.Done.{report, setup_of}
 use Rattle.pm_top.specs.Making.{WasDriven}
 
 -- ---- what was done
@@ -48,50 +52,83 @@ drives Make = BeforeItWrites
 drives work = Never
 
 module _ {D : Type 0} (d : Device.Ghosts D) where
-  -- what is done to the device under these answers, up to the cut: it is driven through the steps of the script; or through all
-  -- those of a script of so many lines that is made, or some of them where memory is wanted; or nothing touches it
-  abbrev pub TouchesBy : Drives → ℕ → D → D → Result Job Fault → List (List Bool) → Option ℕ → Type 0
-  TouchesBy AsItWrites n old new (Ok job) answers cut = Touched d (setup job.asked.subject.object chip) old new (Ok job.asked.script) answers cut
-  TouchesBy AsItWrites n old new (Err fault) answers cut = old ≡ new
-  TouchesBy BeforeItWrites n old new (Ok job) answers cut =
-      Drove d (setup job.asked.subject.object chip) (driven (setup job.asked.subject.object chip) answers job.events) old new
-  TouchesBy BeforeItWrites n old new (Err fault) answers cut =
-      (old ≡ new) ⊎ ((fault ≡ Memory) × WasDriven d (setup laboratory chip) n old new)
-  TouchesBy Never n old new job answers cut = old ≡ new
+  -- a device was fitted if a word names a topology, and then driven through the steps of a script up to the cut
+  pub record FitsAndDrives (named : Option ℕ) (job : Job) (answers : List (List Bool)) (cut : Option ℕ) (old new : D) : Type 0 where
+    pub start : D
+    pub fitted : IsFitted d named job.asked.subject.topology old start
+    pub touched : Touched d (setup_of job.asked.subject) start new (Ok job.asked.script) answers cut
 
-  -- the same by the work of a form and the number of lines that its words ask for
-  abbrev pub Touches : Form → List (List ℕ) → D → D → Result Job Fault → List (List Bool) → Option ℕ → Type 0
-  Touches f ws old new job answers cut = TouchesBy (drives f.work) (lines_by f.source (word 1 ws)) old new job answers cut
+  -- what is done to the device under these answers, up to the cut: it is driven through the steps of the script, after it was
+  -- fitted if a word names a topology; or through all those of a script of so many lines that is made, or some of them where
+  -- memory is wanted; or nothing touches it
+  abbrev pub TouchesBy : Drives → Option ℕ → (Topology → Type 0) → ℕ → D → D → Result Job Fault → List (List Bool) → Option ℕ → Type 0
+  TouchesBy AsItWrites named Named n old new (Ok job) answers cut = FitsAndDrives named job answers cut old new
+  TouchesBy AsItWrites named Named n old new (Err fault) answers cut = LeftBy d fault named Named old new
+  TouchesBy BeforeItWrites named Named n old new (Ok job) answers cut =
+      Drove d (setup_of job.asked.subject) (driven (setup_of job.asked.subject) answers job.events) old new
+  TouchesBy BeforeItWrites named Named n old new (Err fault) answers cut =
+      (old ≡ new) ⊎ ((fault ≡ Memory) × WasDriven d (setup laboratory chip) n old new)
+  TouchesBy Never named Named n old new job answers cut = old ≡ new
+
+  -- the same by the work of a form, and the number of lines and the topology that its words ask for
+  abbrev pub Touches : Form → List (List ℕ) → (Topology → Type 0) → D → D → Result Job Fault → List (List Bool) → Option ℕ → Type 0
+  Touches f ws Named old new job answers cut =
+      TouchesBy (drives f.work) f.topology Named (lines_by f.source (word 1 ws)) old new job answers cut
 
 -- words without a form have no job
 abbrev pub nothing_to_do : ⊤ → List (List Bool) → Report
 nothing_to_do job answers = record { body = []; fault = None }
 
 module _ {I O D : Type 0} (i : Inputs.Ghosts I) (o : Sink.Ghosts O) (d : Device.Ghosts D) where
+  -- a topology is the one that a form asks for, by what the inputs show
+  abbrev pub IsShown : Form → List (List ℕ) → World I O D → Topology → Type 0
+  IsShown f ws w topology = i.observable → HoldsTopology f.topology ws (i.state w.inputs) topology
+
   -- what was asked for, what was written of it, and what was done to the device
   abbrev pub RanForm : Option Form → List (List ℕ) → World I O D → World I O D → Exit → Type 0
   RanForm None ws w w' result =
       Did o (λ job. job ≡ Err Usage) nothing_to_do (λ job answers cut. w.device ≡ w'.device) w.sink w'.sink result
   RanForm (Some f) ws w w' result =
-      Did o (IsAsked i f ws w.inputs w'.inputs result) (report f.work) (Touches d f ws w.device w'.device) w.sink w'.sink result
+      Did o (IsAsked i f ws w.inputs w'.inputs result) (report f.work) (Touches d f ws (IsShown f ws w) w.device w'.device)
+      w.sink w'.sink result
 
   -- the same by the words
   abbrev pub Ran : List (List ℕ) → World I O D → World I O D → Exit → Type 0
   Ran ws w w' result = RanForm (form ws) ws w w' result
 
+module _ {D : Type 0} (d : Device.Ghosts D) where
+  -- the device was driven through the whole run of a script over an object and a topology that keeps all rules: the chip's, or, if
+  -- a word names one, that to which it was fitted before
+  pub record DroveRun (named : Option ℕ) (old new : D) : Type 0 where
+    pub object : Object
+    pub topology : Topology
+    pub events : List Event
+    pub answers : List (List Bool)
+    pub start : D
+    pub formed : IsWellFormed topology
+    pub fitted : IsFitted d named topology old start
+    pub drove : Drove d (setup object topology) (driven (setup object topology) answers events) start new
+
 -- ---- what is known of each run
 
--- over whichever object: nothing that a master sends changes what is beyond its reach
-abbrev pub EachKeepsApart : {D : Type 0} → Device.Ghosts D → D → D → Type 0
-EachKeepsApart d old new = (object : Object) → IsObject object → RunsKeepApart d (setup object chip) old new
+-- over whichever object and topology, and from whichever device that the run was begun at: nothing that a master sends changes
+-- what is beyond its reach
+abbrev pub EachKeepsApart : {D : Type 0} → Device.Ghosts D → D → Type 0
+EachKeepsApart {D} d new =
+    (object : Object) (topology : Topology) (start : D)
+    → IsObject object → IsWellFormed topology → RunsKeepApart d (setup object topology) start new
 
--- over whichever object: each answer has its causes in the book before its step
+-- over whichever object and topology: each answer has its causes in the book before its step
 abbrev pub EachHasCauses : Type 0
-EachHasCauses = (object : Object) → AnswersHaveCauses (setup object chip)
+EachHasCauses = (object : Object) (topology : Topology) → AnswersHaveCauses (setup object topology)
 
--- over whichever object: each line that serves sends the messages in all boxes, and leaves them empty
+-- over whichever object and topology: each line that serves sends the messages in all boxes, and leaves them empty
 abbrev pub EachEmptiesBoxes : Type 0
-EachEmptiesBoxes = (object : Object) → IsObject object → LinesServe (setup object chip)
+EachEmptiesBoxes = (object : Object) (topology : Topology) → IsObject object → LinesServe (setup object topology)
+
+-- over whichever object and topology: the line of a power call is the run of the events that it is lowered to, and so is a script
+abbrev pub EachLowersCalls : Type 0
+EachLowersCalls = (object : Object) (topology : Topology) → LowersCalls (setup object topology)
 
 -- ---- what the exits mean
 
@@ -106,37 +143,46 @@ module _ {O : Type 0} (o : Sink.Ghosts O) where
   abbrev pub FormDecides : Option Form → List (List ℕ) → Moment → O → O → Exit → Type 0
   FormDecides None ws m old new result = result ≡ exit.Usage
   FormDecides (Some f) ws m old new result =
-      (again : Bool) × (2 ≤ m.room → again ≡ true) × EndsWith o (job_exit (asked_of f ws m again)) old new result
+      (again : Begins m) × EndsWith o (job_exit (asked_of f ws m again)) old new result
 
   -- the same by the words
   abbrev pub Decides : List (List ℕ) → Moment → O → O → Exit → Type 0
   Decides ws m old new result = FormDecides (form ws) ws m old new result
 
--- want of memory comes before a script is run, unless the run is kept in memory
+-- want of memory comes before anything is done to the device, unless the run is kept in memory, or the device is fitted first
+abbrev pub StarvesBefore : Drives → Option ℕ → Type 0
+StarvesBefore AsItWrites named = named ≡ None
+StarvesBefore BeforeItWrites named = ⊥
+StarvesBefore Never named = ⊤
+
 abbrev pub StarvesFirst : Option Form → Type 0
 StarvesFirst None = ⊤
-StarvesFirst (Some f) = drives f.work ≡ BeforeItWrites → ⊥
+StarvesFirst (Some f) = StarvesBefore (drives f.work) f.topology
 
 -- an exit that comes before a script is run
 abbrev pub IsBeforeRun : Option Form → Exit → Type 0
 IsBeforeRun f result =
     (result ≡ exit.Usage) ⊎ ((result ≡ exit.BadObject) ⊎ ((result ≡ exit.BadText) ⊎ ((result ≡ exit.Memory) × StarvesFirst f)))
 
--- by what the inputs show, a script that the words name can't be begun after another input, or has a failing byte within its limit
-abbrev pub ScriptMayFail : Option ℕ → List (List ℕ) → Moment → Type 0
-ScriptMayFail None ws m = ⊥
-ScriptMayFail (Some k) ws m = (m.room < 2) ⊎ MayFail (word k ws) script_limit m
+-- by what the inputs show, the name at a place, where there is one, can't be begun as the input of this number, or has a failing byte
+-- within this limit
+abbrev pub LaterMayFail : ℕ → ℕ → Option ℕ → List (List ℕ) → Moment → Type 0
+LaterMayFail turn limit None ws m = ⊥
+LaterMayFail turn limit (Some k) ws m = (m.room < turn) ⊎ MayFail (word k ws) limit m
 
 -- a first name can't be begun or has a failing byte within its limit; of a number nothing is read
 abbrev pub SourceMayFail : Source → List ℕ → Moment → Type 0
 SourceMayFail source.Object name m = MayFail name object_limit m
 SourceMayFail source.Text name m = MayFail name text_limit m
 SourceMayFail source.Number name m = ⊥
+SourceMayFail source.Nothing name m = ⊥
 
 -- one that the words name can't be begun or has a failing byte within its limit
 abbrev pub FormMayFail : Option Form → List (List ℕ) → Moment → Type 0
 FormMayFail None ws m = ⊥
-FormMayFail (Some f) ws m = SourceMayFail f.source (word 1 ws) m ⊎ ScriptMayFail f.script ws m
+FormMayFail (Some f) ws m =
+    SourceMayFail f.source (word 1 ws) m
+    ⊎ (LaterMayFail 2 topology_limit f.topology ws m ⊎ LaterMayFail (script_turn f.topology) script_limit f.script ws m)
 
 -- the same by the words
 abbrev pub InputsMayFail : List (List ℕ) → Moment → Type 0

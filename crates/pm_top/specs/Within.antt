@@ -1,5 +1,5 @@
 -- What the parts of a run do. No user of this crate speaks of these words.
-use Rattle.std.specs.Prelude.{◌≡◌, ◌⊎◌, ◌==◌, ◌≤◌, ℕ, List, [], ◌∷◌, None, Result, IfOk, IfSome, IsTrue}
+use Rattle.std.specs.Prelude.{◌≡◌, ◌⊎◌, ◌==◌, ◌≤◌, ℕ, List, [], ◌∷◌, Option, Some, None, Result, Ok, Err, IfOk, IfSome, IsTrue}
 use Rattle.std.specs.List.{list_any}
 use Rattle.pm_base.specs.declared.errors.Exit.{Exit}
 use Rattle.pm_base.specs.declared.names.NodeId.{NodeId}
@@ -10,6 +10,10 @@ use Rattle.pm_object.specs.declared.object.MasterRec.{MasterRec}
 use Rattle.pm_object.specs.declared.object.Object.{Object}
 use Rattle.pm_object.specs.Grammar.{IsObject}
 use Rattle.pm_topology.specs.Chip.{chip}
+use Rattle.pm_topology.specs.declared.topology.Topology.{Topology}
+use Rattle.pm_topology.specs.WellFormed.{IsSupported}
+use Rattle.pm_topofile.specs.Meaning.{meaning}
+use Rattle.pm_topofile.specs.Printing.{text_of as table_of}
 use Rattle.pm_reach.specs.declared.members.Member.{Member}
 use Rattle.pm_reach.specs.Membership.{IsReach}
 use Rattle.pm_trace.specs.Reach.{reach_text}
@@ -21,7 +25,7 @@ use Rattle.pm_top.specs.declared.works.Source.{Source}
 use Rattle.pm_top.specs.declared.reading.Subject.{Subject}
 use Rattle.pm_top.specs.Form.{word}
 use Rattle.pm_top.specs.declared.works.Source.TheVariants as source
-use Rattle.pm_top.specs.Asked.{Says, itself, line_limit, object_by, object_limit, subject_of, text_limit}
+use Rattle.pm_top.specs.Asked.{Says, itself, line_limit, lines_by, object_by, object_limit, subject_of, text_limit, topology_limit, topology_of, with_topology}
 
 -- ---- what is read
 
@@ -30,6 +34,7 @@ abbrev pub Takes : Source → Type 0 → List ℕ → Moment → Moment → Pref
 Takes source.Object shown name before after prefix = ReadsPrefix shown name object_limit before after prefix
 Takes source.Text shown name before after prefix = ReadsPrefix shown name text_limit before after prefix
 Takes source.Number shown name before after prefix = (prefix ≡ itself name) × (before ≡ after)
+Takes source.Nothing shown name before after prefix = (prefix ≡ itself name) × (before ≡ after)
 
 -- a name was taken and judged
 pub record ReadsAs (source : Source) (shown : Type 0) (name : List ℕ) (before after : Moment) (verdict : Result Object Fault) : Type 0 where
@@ -38,20 +43,48 @@ pub record ReadsAs (source : Source) (shown : Type 0) (name : List ℕ) (before 
   pub is : object_by source prefix ≡ verdict
   pub says : IfOk verdict (Says source prefix.bytes)
 
--- the first name of a form was taken and judged, and then the word that names a master
+-- the text of a topology was read within its limit under a name
+pub record ReadsText (shown : Type 0) (name : List ℕ) (before after : Moment) (verdict : Result Topology Fault) : Type 0 where
+  pub prefix : Prefix
+  pub read : ReadsPrefix shown name topology_limit before after prefix
+  pub is : topology_of prefix ≡ verdict
+
+-- the same under the word at a place; without such a word the topology is the chip's, and nothing is read
+abbrev pub ReadsTopology : Type 0 → Option ℕ → List (List ℕ) → Moment → Moment → Result Topology Fault → Type 0
+ReadsTopology shown None ws before after verdict = (verdict ≡ Ok chip) × (before ≡ after)
+ReadsTopology shown (Some k) ws before after verdict = ReadsText shown (word k ws) before after verdict
+
+-- the topology of a form was read after its object, and then the word that names a master
+pub record ReadsRest (shown : Type 0) (f : Form) (ws : List (List ℕ)) (object : Object) (before after : Moment) (verdict : Result Subject Fault) : Type 0 where
+  pub topology : Result Topology Fault
+  pub read : ReadsTopology shown f.topology ws before after topology
+  pub is : with_topology object topology (lines_by f.source (word 1 ws)) f.node ws ≡ verdict
+  pub supported : IfOk verdict (λ subject. IsSupported subject.topology)
+
+-- what follows the object: nothing where it was refused
+abbrev pub ReadsThen : Type 0 → Form → List (List ℕ) → Moment → Moment → Result Object Fault → Result Topology Fault → Type 0
+ReadsThen shown f ws before after (Ok object) topology = ReadsTopology shown f.topology ws before after topology
+ReadsThen shown f ws before after (Err fault) topology = before ≡ after
+
+-- the first name of a form was taken and judged, then its topology, and then the word that names a master
 pub record ReadsSubject (shown : Type 0) (f : Form) (ws : List (List ℕ)) (before after : Moment) (verdict : Result Subject Fault) : Type 0 where
   pub prefix : Prefix
-  pub read : Takes f.source shown (word 1 ws) before after prefix
-  pub is : subject_of f ws prefix ≡ verdict
+  pub between : Moment
+  pub topology : Result Topology Fault
+  pub read : Takes f.source shown (word 1 ws) before between prefix
+  pub rest : ReadsThen shown f ws between after (object_by f.source prefix) topology
+  pub is : subject_of f ws prefix topology ≡ verdict
   pub says : IfOk verdict (λ subject. Says f.source prefix.bytes subject.object)
+  pub supported : IfOk verdict (λ subject. IsSupported subject.topology)
 
 -- the master is one of the object
 abbrev pub IsNamed : Subject → Type 0
 IsNamed subject = IfSome subject.master (λ master. IsTrue (list_any (λ (r : MasterRec). r.node == master.0) subject.object.masters))
 
--- and the object is well formed, and a script that is made isn't too long
+-- and the object is well formed, the topology keeps all rules, and a script that is made isn't too long
 pub record IsSubject (subject : Subject) : Type 0 where
   pub object : IsObject subject.object
+  pub topology : IsSupported subject.topology
   pub named : IsNamed subject
   pub few : subject.lines ≤ line_limit
 
@@ -72,8 +105,13 @@ module _ {O : Type 0} (o : Sink.Ghosts O) where
   abbrev pub Writes : (List ℕ → Type 0) → O → O → Exit → Type 0
   Writes Holds old new exit = Reports o (refusal Memory) old new exit ⊎ WritesOne Holds old new exit
 
--- the text of what a master of an object can reach
-pub record IsReachText (object : Object) (master : NodeId) (text : List ℕ) : Type 0 where
+-- the text of what a master of an object can reach on a topology
+pub record IsReachText (object : Object) (topology : Topology) (master : NodeId) (text : List ℕ) : Type 0 where
   pub members : List Member
-  pub reach : IsReach object chip master members
+  pub reach : IsReach object topology master members
   pub is : text ≡ reach_text members
+
+-- the text of a topology, which means it
+pub record IsTopologyText (topology : Topology) (text : List ℕ) : Type 0 where
+  pub is : text ≡ table_of topology
+  pub means : meaning text ≡ Ok topology

@@ -2,20 +2,22 @@
 
 ghost use Rattle.std.specs.Prelude.{◌≡◌, ◌⊎◌, ◌≤◌, IfOk, MatchResult};
 ghost use Rattle.pm_base.specs.declared.names.Unit.{Unit};
+ghost use Rattle.pm_gen.specs.Laboratory.{laboratory};
 ghost use Rattle.pm_object.specs.Grammar.{IsObject};
-ghost use Rattle.pm_topology.specs.Chip.{chip};
+ghost use Rattle.pm_topology.specs.WellFormed.{IsWellFormed};
 ghost use Rattle.pm_replay.specs.Safe.{IsSafe};
 ghost use Rattle.pm_run.specs.Run.{setup};
 ghost use Rattle.pm_top.specs.Asked.{laboratory_for, line_limit, lines_asked, lines_by};
 ghost use Rattle.pm_top.specs.Making.{IsSummary, Makes, MayBeDriven};
 
 use crate::conversions::write_whole;
-use crate::replaying::replay_over;
 use crate::works::Source;
 use pm_base::{Exit, MemSink, NoMemory, OneInput, Sink, number};
 use pm_device::Device;
 use pm_gen::{lab_object, make, summary_of};
 use pm_object::Object;
+use pm_replay::replay;
+use pm_topology::Topology;
 use pm_trace::{Fault, refuse};
 use std::alloc::Global;
 
@@ -30,6 +32,14 @@ pub(crate) fn laboratory_for(alloc: Global, word: &str) -> Result<Object, Fault>
     if lines_asked(word).is_none() {
         return Err(Fault::Number);
     }
+    laboratory(alloc)
+}
+
+/// The laboratory's object.
+pub(crate) fn laboratory(alloc: Global) -> Result<Object, Fault>
+    ensures exact { (result ≡ Err Fault.Memory) ⊎ (Ok laboratory ≡ result) }
+    ensures formed { IfOk result IsObject }
+{
     match lab_object(alloc) {
         Ok(object) => Ok(object),
         Err(NoMemory) => Err(Fault::Memory),
@@ -41,7 +51,7 @@ pub(crate) fn lines_by(source: Source, word: &str) -> u32
     ensures { result ≡ lines_by source word.now }
 {
     match source {
-        Source::Object | Source::Text => 0,
+        Source::Object | Source::Text | Source::Nothing => 0,
         Source::Number => lines_asked(word).unwrap_or(0),
     }
 }
@@ -56,47 +66,59 @@ fn lines_asked(word: &str) -> Option<u32>
     }
 }
 
-/// Runs a script of so many lines, which is made, over an object and the chip, and writes the summary of its run.
+/// Runs a script of so many lines, which is made, over an object and a topology, and writes the summary of its run.
 pub(crate) fn make_over<O: Sink, D: Device>(
     alloc: Global,
     object: Object,
+    topology: Topology,
     lines: u32,
     out: &mut O,
     dev: &mut D,
 ) -> Exit
     requires object { IsObject object }
+    requires formed { IsWellFormed topology }
     requires few { lines ≤ line_limit }
     requires idle { D.values_observable → (unit : Unit) → (D.state dev.old).value unit ≡ 0 }
-    ensures safe { IsSafe D.Device chip dev.old dev.new }
-    ensures made { Makes O.Sink D.Device (setup object chip) lines out.old out.new dev.old dev.new result }
+    ensures safe { IsSafe D.Device topology dev.old dev.new }
+    ensures made { Makes O.Sink D.Device (setup object topology) lines out.old out.new dev.old dev.new result }
 {
-    match run_made(alloc, object, lines, dev) {
+    match run_made(alloc, object, topology, lines, dev) {
         Ok(summary) => write_whole(summary.as_slice(), out),
         Err(NoMemory) => refuse(Fault::Memory, out),
     }
 }
 
-/// The summary of the run of a script that is made, over an object and the chip. The run's text is kept in memory, so
-/// that want of it can come late, and a write to it fails only for that. Each line that is made has a meaning, and no read
-/// of it fails.
+/// The summary of the run of a script that is made, over an object and a topology. The run's text is kept in memory, so
+/// that want of it can come late, and a write to it fails only for that. Each line that is made has a meaning, and no
+/// read of it fails.
 fn run_made<D: Device>(
     alloc: Global,
     object: Object,
+    topology: Topology,
     lines: u32,
     dev: &mut D,
 ) -> Result<Vec<u8>, NoMemory>
     requires object { IsObject object }
+    requires formed { IsWellFormed topology }
     requires few { lines ≤ line_limit }
     requires idle { D.values_observable → (unit : Unit) → (D.state dev.old).value unit ≡ 0 }
-    ensures safe { IsSafe D.Device chip dev.old dev.new }
+    ensures safe { IsSafe D.Device topology dev.old dev.new }
     ensures made { MatchResult result
-        (λ summary. IsSummary D.Device (setup object chip) lines dev.old dev.new summary.items)
-        (λ _. MayBeDriven D.Device (setup object chip) lines dev.old dev.new) }
+        (λ summary. IsSummary D.Device (setup object topology) lines dev.old dev.new summary.items)
+        (λ _. MayBeDriven D.Device (setup object topology) lines dev.old dev.new) }
 {
     let script = make(alloc, lines)?;
     let mut inputs = OneInput::new(alloc, script.as_slice())?;
     let mut text = MemSink::new(alloc, None)?;
-    match replay_over(alloc, object, &mut inputs, "script", &mut text, dev) {
+    match replay(
+        alloc,
+        object,
+        topology,
+        &mut inputs,
+        "script",
+        &mut text,
+        dev,
+    ) {
         Exit::Done => summary_of(alloc, lines, text.bytes()),
         Exit::Memory | Exit::WriteFault => Err(NoMemory),
         _ => unreachable!(),

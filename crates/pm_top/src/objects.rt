@@ -1,12 +1,14 @@
 //! A named object is read, from its bytes or from its text.
 
 ghost use Rattle.std.specs.Prelude.{◌≡◌, ◌⊎◌, IfOk};
+ghost use Rattle.pm_base.specs.Readings.{Meanwhile};
 ghost use Rattle.pm_object.specs.Grammar.{IsObject, Reads};
 ghost use Rattle.pm_object.specs.Reading.{reading};
 ghost use Rattle.pm_objtext.specs.Building.{building};
 ghost use Rattle.pm_objtext.specs.Meaning.{Means};
 ghost use Rattle.pm_top.specs.declared.works.Source.TheVariants as source;
 ghost use Rattle.pm_top.specs.Asked.{object_or_fault, text_or_fault};
+ghost use Rattle.pm_top.specs.Reads.{ReadsFor, source_named};
 ghost use Rattle.pm_top.specs.Within.{ReadsAs};
 
 use pm_base::{Inputs, StopReason, gather};
@@ -29,6 +31,8 @@ pub(crate) fn read_object<I: Inputs>(
 ) -> Result<Object, Fault>
     ensures read { (result ≡ Err Fault.Memory)
         ⊎ ReadsAs source.Object I.observable name.now (I.state inputs.old) (I.state inputs.new) result }
+    ensures begun { Meanwhile (I.state inputs.old) (I.state inputs.new)
+        (ReadsFor result (source_named source.Object name.now)) }
     ensures formed { IfOk result IsObject }
 {
     let Ok(prefix) = gather(alloc, inputs, name, OBJECT_LIMIT) else {
@@ -61,6 +65,8 @@ pub(crate) fn read_text<I: Inputs>(
 ) -> Result<Object, Fault>
     ensures read { (result ≡ Err Fault.Memory)
         ⊎ ReadsAs source.Text I.observable name.now (I.state inputs.old) (I.state inputs.new) result }
+    ensures begun { Meanwhile (I.state inputs.old) (I.state inputs.new)
+        (ReadsFor result (source_named source.Text name.now)) }
     ensures formed { IfOk result IsObject }
 {
     let Ok(prefix) = gather(alloc, inputs, name, TEXT_LIMIT) else {

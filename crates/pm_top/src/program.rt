@@ -1,25 +1,28 @@
 //! The top call: a run of the program.
 
-ghost use Rattle.std.specs.Prelude.{◌≡◌, ◌↔◌, None, Some, map, string_bytes};
+ghost use Rattle.std.specs.Prelude.{◌≡◌, ◌↔◌, ℕ, Option, None, Some, map, string_bytes};
 ghost use Rattle.pm_base.specs.declared.names.Unit.{Unit};
 ghost use Rattle.pm_base.specs.Faults.{Rose};
+ghost use Rattle.pm_base.specs.Readings.{Meanwhile};
 ghost use Rattle.pm_base.specs.Sink.{HasFailed, IsUnfailed};
 ghost use Rattle.pm_object.specs.Grammar.{IsObject};
-ghost use Rattle.pm_topology.specs.Chip.{chip};
 ghost use Rattle.pm_trace.specs.Exits.{IsStarved};
-ghost use Rattle.pm_replay.specs.Safe.{IsSafe};
 ghost use Rattle.pm_base.specs.World.{world};
 ghost use Rattle.pm_top.specs.Complete.{IsComplete};
 ghost use Rattle.pm_top.specs.Done.{IsDone, WorkDone};
-ghost use Rattle.pm_top.specs.Form.{form, form_of};
-ghost use Rattle.pm_top.specs.Ran.{Decides, EachEmptiesBoxes, EachHasCauses, EachKeepsApart, InputsMayFail, IsBeforeRun, Ran, RanForm};
+ghost use Rattle.pm_top.specs.declared.works.Work.TheVariants.{Replay};
+ghost use Rattle.pm_top.specs.Fit.{IsSafeRun};
+ghost use Rattle.pm_top.specs.Form.{form, form_of, over, request_of, topology_in};
+ghost use Rattle.pm_top.specs.Reads.{FormReads};
+ghost use Rattle.pm_top.specs.Ran.{Decides, DroveRun, EachEmptiesBoxes, EachHasCauses, EachKeepsApart, EachLowersCalls, InputsMayFail, IsBeforeRun, Ran, RanForm};
 
 use crate::reading::{read_subject, script_word};
-use crate::works::{Work, do_work, form_of, work_of};
+use crate::works::{Request, do_work, form_of, request_of};
 use pm_apart::driven_runs_keep_apart;
 use pm_base::{Exit, Inputs, Sink};
 use pm_causes::runs_have_causes;
 use pm_device::Device;
+use pm_drive::{power_calls_are_their_events, scripts_are_lowered};
 use pm_object::one_reading;
 use pm_objtext::one_meaning;
 use pm_run::boxes_of_a_run;
@@ -30,9 +33,11 @@ use std::alloc::Global;
 /// script of one name over the object of another, `reach OBJ NODE` writes what a master of an object can
 /// reach, `isolate OBJ SCRIPT NODE` writes that and what differs between the run of the script and the run
 /// without the messages of the master, `print OBJ` writes the text of an object, `build TEXT` the bytes of
-/// the object that a text says, and `make N` the summary of the run of a script of N lines that is made. No
-/// other words have a form. `replay` and `make` make the device, which stands at 0 everywhere, follow the
-/// book of requirements; no other words command it.
+/// the object that a text says, `make N` the summary of the run of a script of N lines that is made, and
+/// `table` the text of the chip's topology. A `TOPO` behind the words of the first three names the text of
+/// another topology, which they are done over in place of the chip's. No other words have a form. `replay` and
+/// `make` make the device, which stands at 0 everywhere, follow the book of requirements; with a `TOPO` `replay`
+/// fits it to that topology before. No other words command it.
 pub fn pm_main<I: Inputs, O: Sink, D: Device>(
     alloc: Global,
     words: &[String],
@@ -48,6 +53,10 @@ pub fn pm_main<I: Inputs, O: Sink, D: Device>(
         (world inputs.old out.old dev.old) (world inputs.new out.new dev.new) }
     // Usage comes exactly where the words have no form.
     ensures usage { (result ≡ Exit.Usage) ↔ (form (map string_bytes words.now) ≡ None) }
+    // On Done of `replay`, whatever the inputs and the sink show: the device was driven through the whole run of a
+    // script over an object and the chip, or, if the words name a topology, over one that it was fitted to first.
+    ensures driven { (named : Option ℕ) → result ≡ Exit.Done
+        → request_of (map string_bytes words.now) ≡ Some (over named Replay) → DroveRun D.Device named dev.old dev.new }
     // What the inputs hold decides the exit, unless memory is wanted or the sink fails.
     ensures decided { I.observable
         → Decides O.Sink (map string_bytes words.now) (I.state inputs.old) out.old out.new result }
@@ -59,21 +68,30 @@ pub fn pm_main<I: Inputs, O: Sink, D: Device>(
     ensures ran { Ran I.Inputs O.Sink D.Device (map string_bytes words.now)
         (world inputs.old out.old dev.old) (world inputs.new out.new dev.new) result }
     // On every exit: nothing was used without power, and no domain went down under its users.
-    ensures safe { IsSafe D.Device chip dev.old dev.new }
-    // On every exit, of the run of whichever object that the device was driven through: nothing that a master sends
-    // changes what is beyond its reach.
-    ensures keeps { EachKeepsApart D.Device dev.old dev.new }
-    // Each answer of a run of whichever object has its causes in the book before its step.
+    ensures safe { IsSafeRun D.Device (topology_in (map string_bytes words.now)) dev.old dev.new }
+    // On every exit, of the run of whichever object and topology that the device was driven through: nothing that a
+    // master sends changes what is beyond its reach.
+    ensures keeps { EachKeepsApart D.Device dev.new }
+    // Each answer of a run of whichever object and topology has its causes in the book before its step.
     ensures causes { EachHasCauses }
-    // Each line of a run of whichever object that serves sends the messages in all boxes, each once and by rising mask of
-    // their masters, and leaves all boxes empty.
+    // Each line of a run of whichever object and topology that serves sends the messages in all boxes, each once and by
+    // rising mask of their masters, and leaves all boxes empty.
     ensures boxes { EachEmptiesBoxes }
-    // Before a script is run nothing is done to the device.
+    // The line of a power call, of a run of whichever object and topology, is the run of the events that it is lowered
+    // to by the topology and the call alone, and then its answer; and so is a script with power calls the script with a
+    // line for each of these events.
+    ensures calls { EachLowersCalls }
+    // On every exit, of any inputs: the names that the words give are begun in the order of the work, each once, and
+    // read to the end or to one byte past the limit, or up to where the run ends before that; nothing else is begun or
+    // read.
+    ensures begun { Meanwhile (I.state inputs.old) (I.state inputs.new)
+        (FormReads (form (map string_bytes words.now)) (map string_bytes words.now) result) }
+    // Before a script is run nothing is done to the device, but that it may be fitted before memory is wanted.
     ensures untouched { IsBeforeRun (form (map string_bytes words.now)) result → dev.old ≡ dev.new }
     // On Memory nothing was written but the fault line, as far as the sink took it.
     ensures memory { result ≡ Exit.Memory → IsStarved O.Sink out.old out.new }
-    // ReadFault comes only where the inputs' count of faults rose. (Here and below a count at its last value, which can't
-    // rise, counts as one that rose.)
+    // ReadFault comes only where the inputs' count of faults rose. (Here and below a count at its last value, which
+    // can't rise, counts as one that rose.)
     ensures read_fault { result ≡ Exit.ReadFault → Rose (I.state inputs.old).faults (I.state inputs.new).faults }
     // Where the inputs are observable, ReadFault comes only where a name isn't there, one has a failing
     // byte, or fewer inputs can be begun than are named.
@@ -88,6 +106,8 @@ pub fn pm_main<I: Inputs, O: Sink, D: Device>(
     driven_runs_keep_apart::<D>();
     runs_have_causes();
     boxes_of_a_run();
+    power_calls_are_their_events();
+    scripts_are_lowered();
     one_reading();
     one_meaning();
     run_words(alloc, words, inputs, out, dev)
@@ -105,20 +125,22 @@ fn run_words<I: Inputs, O: Sink, D: Device>(
     ensures done { I.observable → O.observable → result ≡ Exit.Done
         → IsDone I.Inputs O.Sink D.Device (map string_bytes words.now)
         (world inputs.old out.old dev.old) (world inputs.new out.new dev.new) }
-    ensures safe { IsSafe D.Device chip dev.old dev.new }
+    ensures safe { IsSafeRun D.Device (topology_in (map string_bytes words.now)) dev.old dev.new }
     ensures ran { Ran I.Inputs O.Sink D.Device (map string_bytes words.now)
         (world inputs.old out.old dev.old) (world inputs.new out.new dev.new) result }
+    ensures begun { Meanwhile (I.state inputs.old) (I.state inputs.new)
+        (FormReads (form (map string_bytes words.now)) (map string_bytes words.now) result) }
 {
-    match work_of(words) {
-        Some(work) => run_work(alloc, work, words, inputs, out, dev),
+    match request_of(words) {
+        Some(request) => run_request(alloc, request, words, inputs, out, dev),
         None => refuse(Fault::Usage, out),
     }
 }
 
-/// Reads what the form of a work reads, and does the work.
-fn run_work<I: Inputs, O: Sink, D: Device>(
+/// Reads what the form of a request reads, and does its work.
+fn run_request<I: Inputs, O: Sink, D: Device>(
     alloc: Global,
-    work: Work,
+    request: Request,
     words: &[String],
     inputs: &mut I,
     out: &mut O,
@@ -126,17 +148,19 @@ fn run_work<I: Inputs, O: Sink, D: Device>(
 ) -> Exit
     requires idle { D.values_observable → (unit : Unit) → (D.state dev.old).value unit ≡ 0 }
     ensures done { I.observable → O.observable → result ≡ Exit.Done
-        → WorkDone I.Inputs O.Sink D.Device work (map string_bytes words.now)
+        → WorkDone I.Inputs O.Sink D.Device request.work request.topology (map string_bytes words.now)
         (world inputs.old out.old dev.old) (world inputs.new out.new dev.new) }
-    ensures safe { IsSafe D.Device chip dev.old dev.new }
-    ensures ran { RanForm I.Inputs O.Sink D.Device (Some (form_of work)) (map string_bytes words.now)
-        (world inputs.old out.old dev.old) (world inputs.new out.new dev.new) result }
+    ensures safe { IsSafeRun D.Device request.topology dev.old dev.new }
+    ensures ran { RanForm I.Inputs O.Sink D.Device (Some (form_of request.work request.topology))
+        (map string_bytes words.now) (world inputs.old out.old dev.old) (world inputs.new out.new dev.new) result }
+    ensures begun { Meanwhile (I.state inputs.old) (I.state inputs.new)
+        (FormReads (Some (form_of request.work request.topology)) (map string_bytes words.now) result) }
 {
-    let form = form_of(work);
+    let form = form_of(request);
     match read_subject(alloc, form, words, inputs) {
         Ok(subject) => do_work(
             alloc,
-            work,
+            request,
             subject,
             inputs,
             script_word(form, words),

@@ -1,42 +1,82 @@
-//! What a form reads before its script: the object or the number of lines, and then the master that a word names.
+//! What a form reads before its script: the object or the number of lines, then the topology, and then the master
+//! that a word names.
 
-ghost use Rattle.std.specs.Prelude.{◌≡◌, ◌⊎◌, ◌==◌, IfOk, IfSome, IsTrue, map, string_bytes};
+ghost use Rattle.std.specs.Prelude.{◌≡◌, ◌≢◌, ◌⊎◌, ◌==◌, None, IfOk, IfSome, IsTrue, map, string_bytes};
 ghost use Rattle.std.specs.List.{list_any};
+ghost use Rattle.pm_base.specs.Readings.{Meanwhile};
 ghost use Rattle.pm_object.specs.Grammar.{IsObject};
 ghost use Rattle.pm_top.specs.Asked.{master_of, script_word, with_master};
-ghost use Rattle.pm_top.specs.Within.{IsNamed, IsSubject, ReadsAs, ReadsSubject};
+ghost use Rattle.pm_top.specs.Form.{word};
+ghost use Rattle.pm_top.specs.Reads.{ReadsFor, SubjectReads, source_named, topology_named};
+ghost use Rattle.pm_top.specs.Within.{IsNamed, IsSubject, ReadsAs, ReadsRest, ReadsSubject};
 
-use crate::making::{laboratory_for, lines_by};
+use crate::making::{laboratory, laboratory_for, lines_by};
 use crate::objects::{read_object, read_text};
+use crate::topologies::topology_for;
 use crate::works::{Form, Source, word};
 use pm_base::{Inputs, NodeId, number};
 use pm_object::{Object, has_key};
+use pm_topology::Topology;
 use pm_trace::Fault;
 use std::alloc::Global;
 
-/// What a work is done on: an object, a master of it, where a word names one, and how many lines a script has that
-/// is made, or 0.
+/// What a work is done on: an object, the topology that it is over, a master of the object, where a word names one,
+/// and how many lines a script has that is made, or 0.
 #[derive(Debug, Drop)]
 pub struct Subject {
     pub object: Object,
+    pub topology: Topology,
     pub master: Option<NodeId>,
     pub lines: u32,
 }
 
-/// Reads the object of a form, and then the master that a word of it names.
+/// Reads the object of a form, then its topology, and then the master that a word of it names.
 pub(crate) fn read_subject<I: Inputs>(
     alloc: Global,
     form: Form,
     words: &[String],
     inputs: &mut I,
 ) -> Result<Subject, Fault>
+    requires plain { form.source ≢ Source.Object → form.topology ≡ None }
     ensures read { (result ≡ Err Fault.Memory)
         ⊎ ReadsSubject I.observable form (map string_bytes words.now) (I.state inputs.old) (I.state inputs.new) result }
+    ensures begun { Meanwhile (I.state inputs.old) (I.state inputs.new)
+        (SubjectReads result (source_named form.source (word 1 (map string_bytes words.now)))
+        (topology_named form.topology (map string_bytes words.now))) }
     ensures sound { IfOk result IsSubject }
 {
     let name = word(words, 1);
     match read_source(alloc, form.source, inputs, name) {
-        Ok(object) => with_master(object, lines_by(form.source, name), form.node, words),
+        Ok(object) => read_rest(alloc, object, form, words, inputs),
+        Err(fault) => Err(fault),
+    }
+}
+
+/// Reads the topology of a form after its object, and then the master that a word of it names.
+fn read_rest<I: Inputs>(
+    alloc: Global,
+    object: Object,
+    form: Form,
+    words: &[String],
+    inputs: &mut I,
+) -> Result<Subject, Fault>
+    requires object { IsObject object }
+    ensures read { (result ≡ Err Fault.Memory)
+        ⊎ ReadsRest I.observable form (map string_bytes words.now) object
+        (I.state inputs.old) (I.state inputs.new) result }
+    ensures begun { Meanwhile (I.state inputs.old) (I.state inputs.new)
+        (ReadsFor result (topology_named form.topology (map string_bytes words.now))) }
+    ensures sound { IfOk result IsSubject }
+{
+    let name = word(words, 1);
+    match topology_for(alloc, form.topology, inputs, words) {
+        Ok(topology) => with_master(
+            object,
+            topology,
+            lines_by(form.source, name),
+            form.node,
+            words,
+        ),
         Err(fault) => Err(fault),
     }
 }
@@ -50,28 +90,33 @@ fn read_source<I: Inputs>(
 ) -> Result<Object, Fault>
     ensures read { (result ≡ Err Fault.Memory)
         ⊎ ReadsAs source I.observable name.now (I.state inputs.old) (I.state inputs.new) result }
+    ensures begun { Meanwhile (I.state inputs.old) (I.state inputs.new)
+        (ReadsFor result (source_named source name.now)) }
     ensures formed { IfOk result IsObject }
 {
     match source {
         Source::Object => read_object(alloc, inputs, name),
         Source::Text => read_text(alloc, inputs, name),
         Source::Number => laboratory_for(alloc, name),
+        Source::Nothing => laboratory(alloc),
     }
 }
 
-/// The object with the master that the word at a place names, where there is one.
+/// The object and its topology with the master that the word at a place names, where there is one.
 fn with_master(
     object: Object,
+    topology: Topology,
     lines: u32,
     node: Option<usize>,
     words: &[String],
 ) -> Result<Subject, Fault>
-    ensures exact { result ≡ with_master object lines node (map string_bytes words.now) }
+    ensures exact { result ≡ with_master object topology lines node (map string_bytes words.now) }
     ensures named { IfOk result IsNamed }
 {
     let Some(place) = node else {
         return Ok(Subject {
             object,
+            topology,
             master: None,
             lines,
         });
@@ -79,6 +124,7 @@ fn with_master(
     match master_of(&object, word(words, place)) {
         Some(master) => Ok(Subject {
             object,
+            topology,
             master: Some(master),
             lines,
         }),

@@ -1,47 +1,74 @@
-//! A script is run over an object and the chip.
+//! A script is run over an object and a topology.
 
-ghost use Rattle.std.specs.Prelude.{◌≡◌};
+ghost use Rattle.std.specs.Prelude.{◌≡◌, IfNone};
 ghost use Rattle.pm_base.specs.declared.names.Unit.{Unit};
 ghost use Rattle.pm_base.specs.World.{world};
+ghost use Rattle.pm_base.specs.Readings.{Meanwhile};
 ghost use Rattle.pm_object.specs.Grammar.{IsObject};
 ghost use Rattle.pm_topology.specs.Chip.{chip};
-ghost use Rattle.pm_replay.specs.Replayed.{IsRun, Replayed};
-ghost use Rattle.pm_replay.specs.Safe.{IsSafe};
+ghost use Rattle.pm_topology.specs.WellFormed.{IsWellFormed};
 ghost use Rattle.pm_run.specs.Run.{setup};
-ghost use Rattle.pm_script.specs.Named.{script_in};
-ghost use Rattle.pm_trace.specs.Exits.{EndsWith};
-ghost use Rattle.pm_trace.specs.Scripts.{script_exit, script_or_fault};
+ghost use Rattle.pm_top.specs.Done.{Replays};
+ghost use Rattle.pm_top.specs.Fit.{IsSafeRun};
+ghost use Rattle.pm_trace.specs.Scripts.{ReadsScript, script_named};
 
 use pm_base::{Exit, Inputs, NoMemory, Sink};
-use pm_device::Device;
+use pm_device::{Device, chain_shows};
 use pm_object::Object;
 use pm_replay::replay;
-use pm_topology::zynqmp;
+use pm_topology::Topology;
 use pm_trace::{Fault, refuse};
 use std::alloc::Global;
 
-/// Runs a script over an object and the chip.
+/// Runs a script over an object and a topology. Where a word names the topology the device is fitted to it first;
+/// else it is the chip's, and the device is of it already.
 pub(crate) fn replay_over<I: Inputs, O: Sink, D: Device>(
     alloc: Global,
+    named: Option<usize>,
     object: Object,
+    topology: Topology,
     inputs: &mut I,
     script: &str,
     out: &mut O,
     dev: &mut D,
 ) -> Exit
     requires object { IsObject object }
+    requires formed { IsWellFormed topology }
+    requires built_in { IfNone named (topology ≡ chip) }
     requires idle { D.values_observable → (unit : Unit) → (D.state dev.old).value unit ≡ 0 }
-    ensures done { I.observable → O.observable → result ≡ Exit.Done
-        → IsRun I.Inputs O.Sink D.Device (setup object chip) script.now
-        (world inputs.old out.old dev.old) (world inputs.new out.new dev.new) }
-    ensures decided { I.observable
-        → EndsWith O.Sink (script_exit (script_or_fault (script_in (I.state inputs.old) script.now))) out.old out.new result }
-    ensures safe { IsSafe D.Device chip dev.old dev.new }
-    ensures ran { Replayed I.Inputs O.Sink D.Device (setup object chip) script.now
+    ensures did { Replays I.Inputs O.Sink D.Device named (setup object topology) script.now
         (world inputs.old out.old dev.old) (world inputs.new out.new dev.new) result }
+    ensures safe { IsSafeRun D.Device named dev.old dev.new }
+    ensures begun { Meanwhile (I.state inputs.old) (I.state inputs.new) (ReadsScript result (script_named script.now)) }
 {
-    match zynqmp(alloc) {
-        Ok(chip) => replay(alloc, object, chip, inputs, script, out, dev),
+    match named {
+        Some(place) => replay_fitted(alloc, place, object, topology, inputs, script, out, dev),
+        None => replay(alloc, object, topology, inputs, script, out, dev),
+    }
+}
+
+/// Fits the device to a topology, and runs a script over it.
+fn replay_fitted<I: Inputs, O: Sink, D: Device>(
+    alloc: Global,
+    place: usize,
+    object: Object,
+    topology: Topology,
+    inputs: &mut I,
+    script: &str,
+    out: &mut O,
+    dev: &mut D,
+) -> Exit
+    requires object { IsObject object }
+    requires formed { IsWellFormed topology }
+    requires idle { D.values_observable → (unit : Unit) → (D.state dev.old).value unit ≡ 0 }
+    ensures did { Replays I.Inputs O.Sink D.Device (Some place) (setup object topology) script.now
+        (world inputs.old out.old dev.old) (world inputs.new out.new dev.new) result }
+    ensures safe { IsSafeRun D.Device (Some place) dev.old dev.new }
+    ensures begun { Meanwhile (I.state inputs.old) (I.state inputs.new) (ReadsScript result (script_named script.now)) }
+{
+    chain_shows::<D>();
+    match dev.fit(alloc, &topology) {
+        Ok(()) => replay(alloc, object, topology, inputs, script, out, dev),
         Err(NoMemory) => refuse(Fault::Memory, out),
     }
 }

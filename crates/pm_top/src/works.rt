@@ -1,22 +1,24 @@
 //! The forms of the words of the program, as data: what each of them reads, and its work.
 
-ghost use Rattle.std.specs.Prelude.{◌≡◌, is_some, map, string_bytes};
+ghost use Rattle.std.specs.Prelude.{◌≡◌, IfNone, is_some, map, string_bytes};
 ghost use Rattle.pm_base.specs.declared.names.Unit.{Unit};
 ghost use Rattle.pm_base.specs.World.{world};
+ghost use Rattle.pm_base.specs.Readings.{Meanwhile};
 ghost use Rattle.pm_topology.specs.Chip.{chip};
-ghost use Rattle.pm_replay.specs.Safe.{IsSafe};
 ghost use Rattle.pm_top.specs.Done.{Worked};
-ghost use Rattle.pm_top.specs.Form.{form_of, word, work_of, work_of_four, work_of_three, work_of_two};
+ghost use Rattle.pm_top.specs.Fit.{IsSafeRun};
+ghost use Rattle.pm_top.specs.Form.{form_of, over_chip, over_named, request_of, request_of_five, request_of_four, request_of_one, request_of_three, request_of_two, word};
+ghost use Rattle.pm_top.specs.Reads.{WorkReads};
 ghost use Rattle.pm_top.specs.Within.{IsSubject};
 
-use crate::conversions::{build_object, print_object};
-use crate::isolating::isolate;
+use crate::conversions::{build_object, print_object, write_table};
 use crate::making::make_over;
 use crate::reaching::write_reach;
 use crate::reading::Subject;
 use crate::replaying::replay_over;
 use pm_base::{Exit, Inputs, Sink};
 use pm_device::Device;
+use pm_isolate::compare;
 use std::alloc::Global;
 
 /// What the word after the first names.
@@ -28,6 +30,8 @@ pub enum Source {
     Text,
     /// Nothing: it is how many lines a script has that is made, and the object is the laboratory's.
     Number,
+    /// Nothing: there is no such word. The laboratory's object stands in.
+    Nothing,
 }
 
 /// What is done with what a form reads.
@@ -45,6 +49,16 @@ pub enum Work {
     Build,
     /// A script that is made is run over the object, and the summary of its run is written.
     Make,
+    /// The text of the topology is written.
+    Table,
+}
+
+/// What the words ask for: a work, and the place of the word that names the topology that it is done over, where
+/// there is one; else that is the chip's.
+#[derive(Clone, Copy, Debug, PartialEq, Eq)]
+pub struct Request {
+    pub work: Work,
+    pub topology: Option<usize>,
 }
 
 /// A form of the words: what is read, in the order in which it is read, and the work.
@@ -52,6 +66,8 @@ pub enum Work {
 pub struct Form {
     /// What the word at place 1 names.
     pub source: Source,
+    /// The place of the word that names the text of a topology, where there is one.
+    pub topology: Option<usize>,
     /// The place of the word that is the number of a master of the object, where there is one.
     pub node: Option<usize>,
     /// The place of the word that names a script, where there is one.
@@ -59,68 +75,114 @@ pub struct Form {
     pub work: Work,
 }
 
-/// The form of a work: `replay OBJ SCRIPT`, `reach OBJ NODE`, `isolate OBJ SCRIPT NODE`, `print OBJ`,
-/// `build TEXT`, `make N`.
-pub(crate) fn form_of(work: Work) -> Form
-    ensures { result ≡ form_of work }
+/// The form of a request: `replay OBJ SCRIPT`, `reach OBJ NODE`, `isolate OBJ SCRIPT NODE`, each with a `TOPO` behind
+/// it where a topology is named, `print OBJ`, `build TEXT`, `make N`, `table`.
+pub(crate) fn form_of(request: Request) -> Form
+    ensures { result ≡ form_of request.work request.topology }
 {
-    let (source, node, script) = match work {
-        Work::Replay => (Source::Object, None, Some(2)),
-        Work::Reach => (Source::Object, Some(2), None),
-        Work::Isolate => (Source::Object, Some(3), Some(2)),
-        Work::Print => (Source::Object, None, None),
-        Work::Build => (Source::Text, None, None),
-        Work::Make => (Source::Number, None, None),
+    let (source, topology, node, script) = match request.work {
+        Work::Replay => (Source::Object, request.topology, None, Some(2)),
+        Work::Reach => (Source::Object, request.topology, Some(2), None),
+        Work::Isolate => (Source::Object, request.topology, Some(3), Some(2)),
+        Work::Print => (Source::Object, None, None, None),
+        Work::Build => (Source::Text, None, None, None),
+        Work::Make => (Source::Number, None, None, None),
+        Work::Table => (Source::Nothing, None, None, None),
     };
     Form {
         source,
+        topology,
         node,
         script,
-        work,
+        work: request.work,
     }
 }
 
-/// The work that the words ask for: the first word and the number of words decide.
-pub(crate) fn work_of(words: &[String]) -> Option<Work>
-    ensures { result ≡ work_of (map string_bytes words.now) }
+/// What the words ask for: the first word and the number of words decide.
+pub(crate) fn request_of(words: &[String]) -> Option<Request>
+    ensures { result ≡ request_of (map string_bytes words.now) }
 {
     match words {
-        [command, _] => work_of_two(command.as_str()),
-        [command, _, _] => work_of_three(command.as_str()),
-        [command, _, _, _] => work_of_four(command.as_str()),
+        [command] => request_of_one(command.as_str()),
+        [command, _] => request_of_two(command.as_str()),
+        [command, _, _] => request_of_three(command.as_str()),
+        [command, _, _, _] => request_of_four(command.as_str()),
+        [command, _, _, _, _] => request_of_five(command.as_str()),
         _ => None,
     }
 }
 
-/// The work of two words by the first.
-fn work_of_two(first: &str) -> Option<Work>
-    ensures { result ≡ work_of_two first.now }
+/// A work over the chip's topology.
+fn over_chip(work: Work) -> Option<Request>
+    ensures { result ≡ over_chip work }
+{
+    Some(Request {
+        work,
+        topology: None,
+    })
+}
+
+/// A work over the topology that the word at a place names.
+fn over_named(work: Work, place: usize) -> Option<Request>
+    ensures { result ≡ over_named work place }
+{
+    Some(Request {
+        work,
+        topology: Some(place),
+    })
+}
+
+/// What one word asks for.
+fn request_of_one(first: &str) -> Option<Request>
+    ensures { result ≡ request_of_one first.now }
 {
     match first {
-        "print" => Some(Work::Print),
-        "build" => Some(Work::Build),
-        "make" => Some(Work::Make),
+        "table" => over_chip(Work::Table),
         _ => None,
     }
 }
 
-/// The work of three words by the first.
-fn work_of_three(first: &str) -> Option<Work>
-    ensures { result ≡ work_of_three first.now }
+/// What two words ask for, by the first.
+fn request_of_two(first: &str) -> Option<Request>
+    ensures { result ≡ request_of_two first.now }
 {
     match first {
-        "replay" => Some(Work::Replay),
-        "reach" => Some(Work::Reach),
+        "print" => over_chip(Work::Print),
+        "build" => over_chip(Work::Build),
+        "make" => over_chip(Work::Make),
         _ => None,
     }
 }
 
-/// The work of four words by the first.
-fn work_of_four(first: &str) -> Option<Work>
-    ensures { result ≡ work_of_four first.now }
+/// What three words ask for, by the first.
+fn request_of_three(first: &str) -> Option<Request>
+    ensures { result ≡ request_of_three first.now }
 {
     match first {
-        "isolate" => Some(Work::Isolate),
+        "replay" => over_chip(Work::Replay),
+        "reach" => over_chip(Work::Reach),
+        _ => None,
+    }
+}
+
+/// What four words ask for, by the first.
+fn request_of_four(first: &str) -> Option<Request>
+    ensures { result ≡ request_of_four first.now }
+{
+    match first {
+        "isolate" => over_chip(Work::Isolate),
+        "replay" => over_named(Work::Replay, 3),
+        "reach" => over_named(Work::Reach, 3),
+        _ => None,
+    }
+}
+
+/// What five words ask for, by the first.
+fn request_of_five(first: &str) -> Option<Request>
+    ensures { result ≡ request_of_five first.now }
+{
+    match first {
+        "isolate" => over_named(Work::Isolate, 4),
         _ => None,
     }
 }
@@ -138,7 +200,7 @@ pub(crate) fn word(words: &[String], place: usize) -> &str
 /// Does a work on its subject, with the script of a name.
 pub(crate) fn do_work<I: Inputs, O: Sink, D: Device>(
     alloc: Global,
-    work: Work,
+    request: Request,
     subject: Subject,
     inputs: &mut I,
     script: &str,
@@ -146,18 +208,37 @@ pub(crate) fn do_work<I: Inputs, O: Sink, D: Device>(
     dev: &mut D,
 ) -> Exit
     requires sound { IsSubject subject }
-    requires complete { is_some subject.master ≡ is_some (form_of work).node }
+    requires complete { is_some subject.master ≡ is_some (form_of request.work request.topology).node }
+    requires built_in { IfNone (form_of request.work request.topology).topology (subject.topology ≡ chip) }
     requires idle { D.values_observable → (unit : Unit) → (D.state dev.old).value unit ≡ 0 }
-    ensures safe { IsSafe D.Device chip dev.old dev.new }
-    ensures worked { Worked I.Inputs O.Sink D.Device work subject script.now
+    ensures safe { IsSafeRun D.Device request.topology dev.old dev.new }
+    ensures worked { Worked I.Inputs O.Sink D.Device request.work request.topology subject script.now
         (world inputs.old out.old dev.old) (world inputs.new out.new dev.new) result }
+    ensures begun { Meanwhile (I.state inputs.old) (I.state inputs.new)
+        (WorkReads (form_of request.work request.topology).script script.now result) }
 {
-    match work {
-        Work::Replay => replay_over(alloc, subject.object, inputs, script, out, dev),
-        Work::Reach => write_reach(alloc, &subject.object, subject.master.unwrap(), out),
-        Work::Isolate => isolate(
+    match request.work {
+        Work::Replay => replay_over(
+            alloc,
+            request.topology,
+            subject.object,
+            subject.topology,
+            inputs,
+            script,
+            out,
+            dev,
+        ),
+        Work::Reach => write_reach(
+            alloc,
+            &subject.object,
+            &subject.topology,
+            subject.master.unwrap(),
+            out,
+        ),
+        Work::Isolate => compare(
             alloc,
             subject.object,
+            subject.topology,
             subject.master.unwrap(),
             inputs,
             script,
@@ -165,6 +246,14 @@ pub(crate) fn do_work<I: Inputs, O: Sink, D: Device>(
         ),
         Work::Print => print_object(alloc, &subject.object, out),
         Work::Build => build_object(alloc, &subject.object, out),
-        Work::Make => make_over(alloc, subject.object, subject.lines, out, dev),
+        Work::Make => make_over(
+            alloc,
+            subject.object,
+            subject.topology,
+            subject.lines,
+            out,
+            dev,
+        ),
+        Work::Table => write_table(alloc, &subject.topology, out),
     }
 }

@@ -1,9 +1,8 @@
 use Rattle.std.proofs.Common.{map, string_bytes}
 use Rattle.pm_base.specs.World.{world}
-use Rattle.pm_topology.specs.Chip.{chip}
-use Rattle.pm_topology.proofs.ChipLaw.{chip_sound}
 use Rattle.pm_run.specs.Run.{setup}
 use Rattle.pm_top.proofs.CompleteLemmas.{is_complete}
+use Rattle.pm_top.proofs.DroveLemmas.{replay_drove}
 use Rattle.pm_top.proofs.MainLemmas.{decides, memory, read_cause, reading_fault, unfailing, untouched, usage, writing_fault}
 use Rattle.pm_top.proofs.program.pm_main.Goals as goal
 
@@ -32,16 +31,26 @@ pub returns-clause-unfailed : goal.returns-clause-unfailed
 returns-clause-unfailed g c = unfailing g.I.Inputs g.O.Sink c.exits_say.ensures g.D.Device (map string_bytes c.args.words.now) (world c.args.inputs.now c.args.out.now c.args.dev.now) (world c.run_words.new.inputs c.run_words.new.out c.run_words.new.dev) c.run_words.result c.run_words.ensures.ran
 
 pub returns-clause-keeps : goal.returns-clause-keeps
-returns-clause-keeps g c = λ object formed. record {
-  run = λ answers events drove. c.driven_runs_keep_apart.ensures.run (setup object chip) events answers c.args.dev.now c.run_words.new.dev formed chip_sound.well_formed drove;
-  steps = λ answers events cut drove. c.driven_runs_keep_apart.ensures.steps (setup object chip) events answers cut c.args.dev.now c.run_words.new.dev formed chip_sound.well_formed drove;
+returns-clause-keeps g c = λ object topology start of formed. record {
+  run = λ answers events drove. c.driven_runs_keep_apart.ensures.run (setup object topology) events answers start c.run_words.new.dev of formed drove;
+  steps = λ answers events cut drove. c.driven_runs_keep_apart.ensures.steps (setup object topology) events answers cut start c.run_words.new.dev of formed drove;
 }
 
 pub returns-clause-causes : goal.returns-clause-causes
-returns-clause-causes g c = λ object events. c.runs_have_causes.ensures.run (setup object chip) events
+returns-clause-causes g c = λ object topology events. c.runs_have_causes.ensures.run (setup object topology) events
 
 pub returns-clause-boxes : goal.returns-clause-boxes
-returns-clause-boxes g c = λ object is events. c.boxes_of_a_run.ensures (setup object chip) events is
+returns-clause-boxes g c = λ object topology is events. c.boxes_of_a_run.ensures (setup object topology) events is
+
+pub returns-clause-calls : goal.returns-clause-calls
+returns-clause-calls g c = λ object topology. record {
+  line = c.power_calls_are_their_events.ensures (setup object topology);
+  script = c.scripts_are_lowered.ensures (setup object topology);
+}
 
 pub returns-clause-complete : goal.returns-clause-complete
 returns-clause-complete g c = is_complete c.one_reading.ensures.written (λ text object. (c.one_meaning.ensures.built text object).1) g.I.Inputs g.O.Sink g.D.Device (map string_bytes c.args.words.now) (world c.args.inputs.now c.args.out.now c.args.dev.now) (world c.run_words.new.inputs c.run_words.new.out c.run_words.new.dev) c.run_words.result (decides g.I.Inputs g.O.Sink c.exits_say.ensures g.D.Device (map string_bytes c.args.words.now) (world c.args.inputs.now c.args.out.now c.args.dev.now) (world c.run_words.new.inputs c.run_words.new.out c.run_words.new.dev) c.run_words.result c.run_words.ensures.ran) c.run_words.ensures.done (reading_fault g.I.Inputs g.O.Sink c.exits_say.ensures g.D.Device (map string_bytes c.args.words.now) (world c.args.inputs.now c.args.out.now c.args.dev.now) (world c.run_words.new.inputs c.run_words.new.out c.run_words.new.dev) c.run_words.result c.run_words.ensures.ran)
+
+pub returns-clause-driven : goal.returns-clause-driven
+returns-clause-driven g c = λ named done is.
+    replay_drove g.I.Inputs g.O.Sink c.exits_say.ensures g.D.Device (map string_bytes c.args.words.now) (world c.args.inputs.now c.args.out.now c.args.dev.now) (world c.run_words.new.inputs c.run_words.new.out c.run_words.new.dev) c.run_words.result named c.run_words.ensures.ran is done

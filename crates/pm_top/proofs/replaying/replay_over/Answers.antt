@@ -1,19 +1,24 @@
-use Rattle.std.proofs.Common.{◌∙◌, inl, inr, refl, [], Err}
-use Rattle.pm_trace.specs.declared.faults.Fault.TheVariants.{Memory}
-use Rattle.pm_trace.proofs.ScriptsLemmas.{memory_exit}
-use Rattle.pm_top.proofs.ExitsLemmas.{refused_exit}
+use Rattle.std.proofs.Common.{◌≡◌, ℕ, Option, inr, refl, subst, sym}
+use Rattle.std.specs.Prelude.{IfNone}
+use Rattle.pm_base.specs.World.{world}
+use Rattle.pm_run.specs.Run.{setup}
+use Rattle.pm_topology.specs.Chip.{chip}
+use Rattle.pm_top.specs.Done.{Replays}
+use Rattle.pm_top.proofs.FitLemmas.{chip_safe}
 use Rattle.pm_top.proofs.replaying.replay_over.Goals as goal
 
-pub returns-in-Err-clause-ran : goal.returns-in-Err-clause-ran
-returns-in-Err-clause-ran g c = record {
-  job = Err Memory;
-  answers = [];
-  cut = c.refuse.ensures.cut;
-  asked = record { shown = λ seen. inl refl; failed = λ is. absurd (memory_exit g.O.Sink c.args.out.now c.refuse.new.out c.refuse.result c.refuse.ensures is); known = inr refl };
-  left = c.refuse.ensures.left;
-  ends = c.refuse.ensures.ends;
-  touched = refl;
-}
+pub returns-in-Some-clause-did : goal.returns-in-Some-clause-did
+returns-in-Some-clause-did g c =
+    let P : Option ℕ → Type 0 = λ named. Replays g.I.Inputs g.O.Sink g.D.Device named (setup c.args.object c.args.topology) c.args.script.now (world c.args.inputs.now c.args.out.now c.args.dev.now) (world c.replay_fitted.new.inputs c.replay_fitted.new.out c.replay_fitted.new.dev) c.replay_fitted.result in
+    subst P (sym c.in-Some.is) c.replay_fitted.ensures.did
 
-pub returns-in-Err-clause-decided : goal.returns-in-Err-clause-decided
-returns-in-Err-clause-decided g c = λ seen. inr (inl (c.refuse.ensures.ends ∙ refused_exit Memory c.refuse.ensures.cut))
+pub returns-in-None-clause-did : goal.returns-in-None-clause-did
+returns-in-None-clause-did g c =
+    let P : Option ℕ → Type 0 = λ named. Replays g.I.Inputs g.O.Sink g.D.Device named (setup c.args.object c.args.topology) c.args.script.now (world c.args.inputs.now c.args.out.now c.args.dev.now) (world c.replay.new.inputs c.replay.new.out c.replay.new.dev) c.replay.result in
+    let chips : c.args.topology ≡ chip = subst (λ (named : Option ℕ). IfNone named (c.args.topology ≡ chip)) c.in-None.is c.requires.built_in in
+    subst P (sym c.in-None.is) (inr (record { start = c.args.dev.now; fitted = (chips, refl); ran = c.replay.ensures.ran; done = c.replay.ensures.done }))
+
+pub returns-in-None-clause-safe : goal.returns-in-None-clause-safe
+returns-in-None-clause-safe g c =
+    let chips : c.args.topology ≡ chip = subst (λ (named : Option ℕ). IfNone named (c.args.topology ≡ chip)) c.in-None.is c.requires.built_in in
+    chip_safe g.D.Device _ c.args.dev.now c.replay.new.dev c.args.topology chips c.replay.ensures.safe

@@ -1,0 +1,60 @@
+//! A device of a run over the topology of a file.
+
+use pm_base::{Command, Exit, MemSink};
+use pm_device::Device;
+use pm_running::{Asked, model, node, run_with};
+use std::test::Fail;
+
+/// A chip of which the device of a test has all units but a slave.
+const TOPOLOGY: &str = "power 62 none 1 20 3000
+power 1 62 0 30 500
+proc 2 1 300 400
+proc 7 62 100 200
+proc 8 62 100 200
+slave 100 62
+state 0 1000 0 0
+state 1 0 1 5
+line 100 100
+owner 1 2
+owner 6 7
+owner 7 7
+owner 8 8
+";
+
+/// An object of a master that may use the slave.
+static OBJECT: [u32; 15] = [2, 2, 1, 257, 1, 1, 1, 100, 0, 0, 258, 1, 100, 1, 1];
+
+/// Words, and which of the nodes 11, of the chip alone, and 100, of the topology alone, the device has after them.
+static CASES: [(&str, bool, bool); 3] = [
+    ("replay obj script topo", false, true),
+    ("reach obj 1 topo", true, false),
+    ("isolate obj script 1 topo", true, false),
+];
+
+/// `replay` fits the device to the topology that its words name, and nothing else does.
+#[test]
+fn a_device_is_fitted_by_a_replay_alone(rt: HostRuntime) -> Result<(), Fail> {
+    for (words, of_chip, of_topology) in CASES {
+        let asked = Asked {
+            words,
+            object: &OBJECT,
+            script: b"ipi 1 21\n",
+            failing: &[],
+            topology: TOPOLOGY.as_bytes(),
+        };
+        let mut device = model(rt.alloc())?;
+        let mut out = MemSink::new(rt.alloc(), None)?;
+        assert_eq!(rt;
+            run_with(rt.alloc(), &asked, &mut out, &mut *device)?,
+            Exit::Done
+        );
+        for (number, has) in [(11, of_chip), (100, of_topology)] {
+            let taken = device.command(Command {
+                unit: node(number),
+                value: 1,
+            });
+            assert_eq!(rt; taken.is_ok(), has, "{words}, node {number}");
+        }
+    }
+    Ok(())
+}

@@ -1,0 +1,31 @@
+use Rattle.std.proofs.Common.{[], ◌∷◌, List, inl, inr, subst, sym, ◌∙◌}
+use Rattle.pm_base.specs.declared.prefix.StopReason.{StopReason}
+use Rattle.pm_base.specs.Calls.{Call, ReadsEach, named}
+use Rattle.pm_base.specs.Readings.{Meanwhile, NameReadBy}
+use Rattle.pm_base.proofs.ReadingsLemmas.{meanwhile_map}
+use Rattle.pm_topofile.specs.Meaning.{meaning}
+use Rattle.pm_top.specs.Asked.{topology_limit}
+use Rattle.pm_top.specs.Reads.{ReadsFor}
+use Rattle.pm_top.proofs.ReadsLemmas.{topology_for}
+use Rattle.pm_top.proofs.topologies.read_named.Goals as goal
+
+pub returns-in-Failure-clause-begun : goal.returns-in-Failure-clause-begun
+returns-in-Failure-clause-begun g c =
+    let S : StopReason → Type 0 = λ stop. Meanwhile (g.I.Inputs.state c.args.inputs.now) (g.I.Inputs.state c.gather.new.inputs) (NameReadBy stop (named c.args.name.now topology_limit)) in
+    elim c.in-Failure.is [
+      | inl is ↦ subst S (sym c.stop.ensures ∙ is) c.in-Ok.ensures.calls
+      | inr is ↦ subst S (sym c.stop.ensures ∙ is) c.in-Ok.ensures.calls
+    ]
+
+pub returns-clause-begun : goal.returns-clause-begun
+returns-clause-begun g c =
+    let old = g.I.Inputs.state c.args.inputs.now in
+    let new = g.I.Inputs.state c.gather.new.inputs in
+    let names = named c.args.name.now topology_limit ∷ [] in
+    let S : StopReason → Type 0 = λ stop. Meanwhile old new (NameReadBy stop (named c.args.name.now topology_limit)) in
+    let whole : Meanwhile old new (ReadsEach names) = elim c.in-End.is [
+      | inl is ↦ subst S (sym c.stop.ensures ∙ is) c.in-Ok.ensures.calls
+      | inr is ↦ subst S (sym c.stop.ensures ∙ is) c.in-Ok.ensures.calls
+    ] in
+    meanwhile_map old new (ReadsEach names) (ReadsFor c.judge.result names)
+    (λ (calls : List Call) reads. topology_for names calls reads c.judge.result (meaning c.bytes.result.now) c.judge.ensures.exact) whole
