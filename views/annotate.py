@@ -16,6 +16,10 @@ from program import BadUse, read_file, run, run_text, write_file
 LONGEST = 255  # bytes of a line of a text
 WIDEST = 40  # no column of comments begins further right
 
+# The answers to power calls that say that one failed (Arm DEN0022, return codes).
+RETURN_CODES = {"-1": " (NOT_SUPPORTED)", "-2": " (INVALID_PARAMETERS)", "-3": " (DENIED)"}
+RETURN_CODES |= {"-4": " (ALREADY_ON)", "-6": " (INTERNAL_FAILURE)"}
+
 
 def masters_in(mask, masters):
     """The masters whose bits a mask has, as names; bits of no master as a number."""
@@ -233,8 +237,13 @@ def meanings_of_replay(told):
     """What the lines of a replay mean."""
     meanings = meanings_of_cores(told.cores, told.script)
     for line in told.lines:
-        _, kind, number, *_ = line.split()
-        yield f"{names.node_name(int(number))}: its box is full" if kind == "busy" else next(meanings)
+        _, kind, number, *words = line.split()
+        if kind == "busy":
+            yield f"{names.node_name(int(number))}: its box is full"
+        elif kind == "smc":
+            yield f"{names.node_name(int(number))}: its power call is answered {words[0]}{RETURN_CODES.get(words[0], '')}"
+        else:
+            yield next(meanings)
 
 
 # The forms.

@@ -1,7 +1,7 @@
 """`diff OBJ SCRIPT NODE`: a script with the messages of the master NODE and without them, side by side.
 
-In the second run each message of NODE is an empty line, so that lines keep their numbers. By step it shows what
-differs: units with the values from and to, starts, answers, callbacks and late replies. What is NODE's own comes after
+In the second run each message of NODE, and each power call if NODE is the master that they are sent as, is an empty
+line, so that lines keep their numbers. By step it shows what differs: units with the values from and to, starts, answers, callbacks and late replies. What is NODE's own comes after
 the rest: its processors, what no other master may use, and what it is told, but for the answers to its messages.
 """
 
@@ -14,6 +14,7 @@ import names
 import objects
 import permits
 import program
+import split
 import steps
 import to_names
 import to_numbers
@@ -21,6 +22,8 @@ import to_numbers
 USAGE = "usage: ./pmu diff OBJ SCRIPT NODE"
 
 NODE_USED, ACKNOWLEDGE = 2007, 31
+# The master as which the boot firmware sends what a power call comes to.
+CALLER = 1
 
 TITLES = {"answer": "answer to", "call": "callback to", "run": "start of"}
 REMARKS = ("DENIED", "REFUSED", "NOT HEARD")
@@ -35,12 +38,23 @@ class Row(NamedTuple):
     remark: str
 
 
+def is_call(line):
+    """Whether a line is a power call."""
+    return split.first_word(line) == "smc"
+
+
+def is_from(line, node):
+    """Whether a line is a message of a master, or a power call that is sent as messages of it."""
+    message = annotate.message_of(line)
+    return message[0] == node if message else node == CALLER and is_call(line)
+
+
 def without_messages(content, node):
-    """A script in numbers with an empty line in place of each message of a master, and the numbers of those lines."""
+    """A script in numbers with an empty line in place of each message and power call of a master, and the numbers of
+    those lines."""
     lines, silenced = content.decode("latin-1").split("\n"), []
     for place, line in enumerate(lines):
-        message = annotate.message_of(line)
-        if message and message[0] == node:
+        if is_from(line, node):
             lines[place] = ""
             silenced.append(place + 1)
     return "\n".join(lines).encode("latin-1"), silenced
@@ -218,7 +232,9 @@ def text(found, node, rows, script, silenced):
             if ours:
                 kept.append((step, ours))
     name = names.node_name(node)
-    yield f"with the {len(silenced)} messages of {name} | without them"
+    calls = sum(is_call(script[number - 1]) for number in silenced)
+    messages = f"{len(silenced) - calls} messages" + f" and {calls} power calls" * (calls > 0)
+    yield f"with the {messages} of {name} | without them"
     yield from part("of others", others, script)
     yield from part(f"of {name} alone", own, script)
     remarks = [row.remark for _, of_step in others for row in of_step]

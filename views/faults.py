@@ -10,6 +10,7 @@ import subprocess
 
 from forms import (
     BAD_LINE, BAD_OBJECT, BAD_TEXT, FORMS, LIMITS, MOST_LINES, NO_MEMORY, TOO_LARGE, UNREADABLE, UNWRITABLE, USAGE, files_of, form_of,
+    forms_of,
 )  # fmt: skip
 from lines import EVENTS, RECORDS, count, first_fault, form_fault, like, number_of, words_of
 
@@ -21,6 +22,11 @@ SECTIONS = {
 HOMES = {
     "master": "masters", "slave": "slaves", "group": "prealloc", "prefer": "prealloc", "power": "power", "reset": "reset",
     "shutdown": "shutdown", "config": "config", "gpo": "gpo",
+}  # fmt: skip
+# The lines of the text of a topology, in the order of their kinds.
+TOPOLOGY_LINES = {
+    "power": "NODE PARENT HELD FIGURE LATENCY", "proc": "NODE PARENT FIGURE LATENCY", "slave": "NODE PARENT",
+    "state": "CAPS LATENCY POWERED FIGURE", "line": "LINE TARGET", "owner": "NODE PROC, with up to 15 more PROC",
 }  # fmt: skip
 STANDARD_INPUT = "/dev/stdin"
 HELP = "./pmu --help has the forms"
@@ -38,6 +44,14 @@ class Run:
     def file(self, wanted):
         """The path and the name of the file of this kind."""
         return next((path, name) for path, name, kind in self.files if kind == wanted)
+
+    def has(self, wanted):
+        """Whether a file of this kind is named."""
+        return wanted in (form_of(self.words) or ())
+
+    def word(self, wanted):
+        """The word that is of this kind."""
+        return self.words[1 + form_of(self.words).index(wanted)]
 
 
 def name_of(word):
@@ -88,6 +102,8 @@ def kind_of(data):
         return "is an object"
     if word in ("header", "section", "master"):
         return "is the text of an object"
+    if word in TOPOLOGY_LINES:
+        return "is the text of a topology"
     if word in EVENTS:
         return "is a script"
     if all(byte in b"\t\n\r" or 0x20 <= byte <= 0x7E for byte in data[:256]):
@@ -122,9 +138,17 @@ def usage(run):
         return f"no form begins with '{first}'{like(first, (*FORMS, *OTHER_WORDS))}: {HELP}"
     if form_of(written):
         return "the program reads no word that isn't UTF-8: " + next(word for word in written if not word.isascii())
-    names = FORMS[first]
     given = len(written) - 1
-    return f"'{first}' takes {' '.join(names)}, which is {count(len(names), 'word')}, and {given} {'is' if given == 1 else 'are'} given"
+    return f"'{first}' takes {taken_by(first)}, and {given} {'is' if given == 1 else 'are'} given"
+
+
+def taken_by(first):
+    """What the words after a first one name, and how many they are."""
+    forms = forms_of(first)
+    names = " ".join(forms[0])
+    if len(forms) == 2:
+        return f"{names} [TOPO], which is {len(forms[0])} or {count(len(forms[1]), 'word')}"
+    return f"{names}, which is {count(len(forms[0]), 'word')}" if names else "no word after it"
 
 
 def object_causes(word, offset, size):
@@ -314,10 +338,65 @@ def no_master(run):
     lines = (words_of(line) for line in written_by(run.program, "print", path).split(b"\n"))
     nodes = [words[1] for words in lines if words[:1] == ["master"]]
     has = f"{name} (it has {' and '.join([', '.join(nodes[:-1]), nodes[-1]] if nodes[1:] else nodes)})" if nodes else name
-    node = number_of(run.words[-1])
+    node = number_of(run.word("NODE"))
     if node is None or node >= 1 << 32:
-        return f"'{run.words[-1]}' is no number of a master of {has}"
+        return f"'{run.word('NODE')}' is no number of a master of {has}"
     return f"node {node} is no master of {has}"
+
+
+def topology_text_cause(number, cause, lines):
+    """The sentence of a cause of a bad text of a topology at a line."""
+    if number == 0:
+        return f"it has more than {LIMITS['TOPO']} bytes"
+    words = words_of(lines[number - 1]) if number <= len(lines) else []
+    first = words[0] if words else ""
+    if cause == 1 and first not in TOPOLOGY_LINES:
+        return f"no line begins with '{first}'{like(first, TOPOLOGY_LINES)}"
+    if cause == 1:
+        return f"the line takes {first} {TOPOLOGY_LINES[first]}, numbers within their limits"
+    if cause == 2:
+        return f"the line is out of place: the kinds come in the order {', '.join(TOPOLOGY_LINES)}, and each state after its slave"
+    return f"{words[2] if len(words) > 2 else 'the parent'} is the node of no 'power' line before this one"
+
+
+# The rule that an entry of a topology breaks, by the number of the cause.
+TOPOLOGY_RULES = {
+    1: "its number is that of an earlier entry",
+    2: "its parent isn't an earlier power node",
+    3: "the slave has no state",
+    4: "its last state lacks a capability of an earlier one, or has a latency",
+    5: "it is past the limit of its list, or has more than 4 states",
+    6: "the line's target is no processor and no slave",
+    7: "the owner is no master, or has a processor that isn't there, that it may not have, or that it has twice",
+    8: "one of the masters 1, 6, 7 and 8 has no 'owner' line",
+    9: "the owner has a processor of an earlier one",
+}
+
+
+def bad_topology(run, said):
+    path, name = run.file("TOPO")
+    data = content(path, LIMITS["TOPO"] + 1)
+    cause, number = (int(said[2]), int(said[3])) if said[1] == "topology" else (int(said[3]), int(said[2]))
+    other = data is not None and misplaced(name, data, "the text of a topology")
+    if other and kind_of(data) != "is a text":
+        return other
+    if said[1] == "topology":
+        return f"{name}: the entry at place {number} of its list, counted from 0: {TOPOLOGY_RULES[cause]}"
+    if data is None:
+        return f"{name}: the text has no meaning, as the fault line says (it can't be read again for more)"
+    lines = data.split(b"\n")
+    return f"{name}{f':{number}' if number else ''}: {topology_text_cause(number, cause, lines)}"
+
+
+def bad_word(run):
+    """What is wrong with the topology or the word of a master."""
+    if run.has("TOPO"):
+        said = last_line(run.program, "reach", run.file("OBJ")[0], "none", run.file("TOPO")[0])
+        if said[:1] == ["fault"] and said[1:2] in (["text"], ["topology"]) and len(said) == 4:
+            return bad_topology(run, said)
+        if not run.has("NODE"):
+            return f"{run.file('TOPO')[1]}: the topology was refused, and is accepted now"
+    return no_master(run)
 
 
 def bad_text(run):
@@ -355,7 +434,7 @@ def sentence(program, words, written, status, target):
     if status == BAD_TEXT and form_of(words) and words[0] == "make":
         return f"'{words[1]}' is no number of lines: 1 to {MOST_LINES} are"
     if status == BAD_TEXT and form_of(words) and words[0] != "build":
-        return no_master(run)
+        return bad_word(run)
     tell = {
         USAGE: usage, BAD_OBJECT: bad_object, BAD_LINE: bad_line, UNREADABLE: unreadable, TOO_LARGE: too_large,
         BAD_TEXT: bad_text,

@@ -8,15 +8,18 @@ FORMS = {
     "print": ("OBJ",),
     "build": ("TEXT",),
     "make": ("N",),
+    "table": (),
 }
+# Those that take the text of a topology behind them.
+WITH_TOPOLOGY = ("replay", "reach", "isolate")
 
 # The exits of the program.
 USAGE, BAD_OBJECT, BAD_LINE, UNREADABLE, UNWRITABLE, NO_MEMORY, TOO_LARGE, BAD_TEXT = range(1, 9)
 # That of the wrapper, if the program wasn't run.
 NOT_RUN = 125
 
-# The most bytes that are read of each kind of file.
-LIMITS = {"OBJ": 16_384, "TEXT": 1_048_576, "SCRIPT": 16_777_216}
+# The most bytes that are read of each kind of file, in the order in which they are read.
+LIMITS = {"OBJ": 16_384, "TEXT": 1_048_576, "TOPO": 1_048_576, "SCRIPT": 67_108_864}
 
 # The most lines of a script that is made.
 MOST_LINES = 200_000
@@ -24,11 +27,18 @@ MOST_LINES = 200_000
 
 def form_of(words):
     """What the words after the first one name, or None if the words have no form."""
-    names = FORMS.get(words[0]) if words else None
-    return names if names and len(names) == len(words) - 1 else None
+    forms = [names for names in forms_of(words[0]) if len(names) == len(words) - 1] if words else []
+    return forms[0] if forms else None
+
+
+def forms_of(first):
+    """What the words after this first one may name, once for each number of words."""
+    if first not in FORMS:
+        return []
+    return [FORMS[first], (*FORMS[first], "TOPO")] if first in WITH_TOPOLOGY else [FORMS[first]]
 
 
 def files_of(words):
     """The files that the words name, each as its place among the words and its kind, in the order in which they are read."""
     names = form_of(words) or ()
-    return [(k, kind) for k, kind in enumerate(names, 1) if kind in LIMITS]
+    return sorted(((k, kind) for k, kind in enumerate(names, 1) if kind in LIMITS), key=lambda file: [*LIMITS].index(file[1]))

@@ -7,8 +7,10 @@ LONGEST = 255
 # The first word of each line of a script, with the words that it takes after it: at least, at most.
 EVENTS = {
     "ipi": (2, 7), "boot": (2, 2), "wfi": (1, 1), "irq": (1, 1), "gic": (1, 1), "tick": (1, 1),
-    "post": (2, 7), "serve": (0, 0), "break": (1, 1), "mend": (1, 1),
+    "post": (2, 7), "serve": (0, 0), "smc": (2, 5), "break": (1, 1), "mend": (1, 1),
 }  # fmt: skip
+# The words after the first one of a line that may have 64 bits, by their places; all others have 32.
+WIDE = {"boot": (2,), "smc": (3, 4, 5)}
 # The same of an object's text; a section is followed by its name.
 RECORDS = {
     "header": (0, 16), "section": (1, 1), "master": (5, 5), "slave": (3, 3), "group": (1, 1), "prefer": (4, 4),
@@ -18,7 +20,7 @@ SECTIONS = ("masters", "slaves", "prealloc", "power", "reset", "shutdown", "conf
 
 # A line of a script that certainly means something. It decides most lines at once.
 GOOD = re.compile(
-    rb"[ \t]*(?:(?:(?:ipi|post)(?:[ \t]+N){2,7}|boot(?:[ \t]+N){2}|(?:wfi|irq|gic|tick|break|mend)[ \t]+N|serve)"
+    rb"[ \t]*(?:(?:(?:ipi|post)(?:[ \t]+N){2,7}|boot(?:[ \t]+N){2}|smc(?:[ \t]+N){2,5}|(?:wfi|irq|gic|tick|break|mend)[ \t]+N|serve)"
     rb"(?=[ \t\r\n]|\Z)[ \t]*)?"
     rb"(?:#[\t -~]*)?\r?".replace(b"N", rb"(?:\d{1,9}|0x[\da-fA-F]{1,8})")
 )
@@ -74,10 +76,11 @@ def wrong_count(words, least, most):
     return f"'{words[0]}' takes {wanted} after it, and {has} {'is' if has == 1 else 'are'} here"
 
 
-def wrong_number(words, bits):
-    """Why a word of a line is no number that fits, or None. The last word has so many bits."""
-    for k, word in enumerate(words[1:], 2):
-        value, wide = number_of(word), bits if k == len(words) else 32
+def wrong_number(words, places=()):
+    """Why a word of a line is no number that fits, or None. The words at these places have 64 bits."""
+    for k, word in enumerate(words[1:], 1):
+        value, wide = number_of(word), 64 if k in places else 32
+        k += 1
         if value is None:
             return f"a number is wanted in word {k}, not '{word}'"
         if value >= 1 << wide:
@@ -98,7 +101,7 @@ def script_fault(line):
     found = wrong_count(words, *EVENTS[words[0]])
     if found:
         return 3, found
-    found = wrong_number(words, 64 if words[0] == "boot" else 32)
+    found = wrong_number(words, WIDE.get(words[0], ()))
     return (2, found) if found else None
 
 
@@ -126,4 +129,4 @@ def form_fault(line):
     if not found and words[0] == "section":
         known = words[1] in SECTIONS
         return None if known else f"no section is named '{words[1]}'{like(words[1], SECTIONS)}"
-    return found or wrong_number(words, 32)
+    return found or wrong_number(words)

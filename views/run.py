@@ -52,7 +52,7 @@ def take_input(words):
     """Puts files that can be read again in the place of open inputs that can't."""
     inputs = {k: open_input(words[k]) for k, _ in files_of(words)}
     if list(inputs.values()).count(0) > 1:
-        raise Refused("standard input can be only one of the two files")
+        raise Refused("standard input can be only one of the files")
     for k, kind in files_of(words):
         if inputs[k] is not None:
             words[k] = spooled(inputs[k], LIMITS[kind])

@@ -1,10 +1,17 @@
 """What the lines of a script are split into: the script that has a line of its own for each core event.
 
 A message that is put into a box by `post` is sent by `ipi` where it is served: a line `serve` becomes one line for each
-message, by rising mask of their masters. A line that sends nothing is empty.
+message, by rising mask of their masters. A power call by `smc` becomes the lines that it comes to. A line that sends
+nothing is empty.
 """
 
+import names
 import to_numbers
+
+# Power calls by their numbers (Arm DEN0022).
+CPU_OFF, SYSTEM_OFF, SYSTEM_RESET = 0x84000002, 0x84000008, 0x84000009
+CPU_ON, AFFINITY_INFO = (0x84000003, 0xC4000003), (0x84000004, 0xC4000004)
+LOW = 0xFFFFFFFF
 
 
 def first_word(line):
@@ -13,9 +20,31 @@ def first_word(line):
     return words[0][1] if words else ""
 
 
-def has_boxes(script):
-    """Whether a line of a script puts a message into a box, or serves the boxes."""
-    return any(first_word(line) in ("post", "serve") for line in script)
+def is_split(script):
+    """Whether a line of a script isn't its own core event: it puts a message into a box, serves the boxes, or is a power
+    call."""
+    return any(first_word(line) in ("post", "serve", "smc") for line in script)
+
+
+def lowered(line):
+    """The lines that a power call comes to. Its targets are the processors of master 1 by their places."""
+    words = [to_numbers.value_of(word) for _, word in to_numbers.words_of(line)[1:]]
+    proc, function, first, second, _ = words + [0] * (5 - len(words))
+    targets = names.MASTERS[1]
+    if proc not in targets:
+        return [""]
+    if function == CPU_OFF:
+        return [f"ipi 1 7 {proc} 0 0 0 0", f"wfi {proc}"]
+    if function in (SYSTEM_OFF, SYSTEM_RESET):
+        return [f"ipi 1 12 {int(function == SYSTEM_RESET)} 2"]
+    if function < 0xC0000000:
+        first, second = first & LOW, second & LOW
+    target = targets[first] if first < len(targets) else None
+    if function in CPU_ON and target and second % 2 == 0:
+        return [f"ipi 1 10 {target} {(second & LOW) + 1} {second >> 32} 2"]
+    if function in AFFINITY_INFO and target and second & LOW == 0:
+        return [f"ipi 1 3 {target}"]
+    return [""]
 
 
 def sent(line):
@@ -30,6 +59,8 @@ def core_lines(line, masks, boxes):
     first = first_word(line)
     if first == "serve":
         return [boxes.pop(master) for master in sorted(boxes, key=masks.get)] or [""]
+    if first == "smc":
+        return lowered(line)
     if first != "post":
         return [line]
     master = to_numbers.value_of(to_numbers.words_of(line)[1][1])

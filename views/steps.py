@@ -30,7 +30,7 @@ class Replay(NamedTuple):
     """A replay, and that of the script which has a line of its own for each core event."""
 
     lines: list  # that the program writes
-    cores: list  # that it writes over the second script: the same ones by other numbers, without those of full boxes
+    cores: list  # that it writes over the second script: the same ones by other numbers, without those that the lines write themselves
     script: list  # the second script
     numbers: list  # of each of its lines, that of the line which it comes from
 
@@ -125,7 +125,7 @@ def lines_of(obj, content, room, name=None):
 def replay_of(obj, content, room, name=None):
     """The replay of a script in numbers, from the file of that name; `room` is a folder for files."""
     script, lines = script_lines(content), lines_of(obj, content, room, name)
-    if not split.has_boxes(script):
+    if not split.is_split(script):
         return Replay(lines, lines, script, list(range(1, len(script) + 1)))
     cores, numbers = split.split(script, master_masks(run_text(["print", obj])))
     return Replay(lines, lines_of(obj, content_of(cores), room), cores, numbers)

@@ -147,6 +147,20 @@ class Names(Case):
             },
         )
 
+    def test_power_calls(self):
+        script = "ipi 1 21\nsmc APU_0 0xC4000003 1 4096\nsmc 2 0xC4000003 1 4096\nsmc APU_1 0x84000002\nsmc RPU_0 1\nsmc 2 1\n"
+        self.check(
+            ["replay", example("laboratory.obj"), self.file("calls.script", script)],
+            {
+                "2 reply 1 0 0 0 0": "APU: success",
+                "2 smc 2 0": "APU_0: its power call is answered 0",
+                "3 smc 2 -4": "APU_0: its power call is answered -4 (ALREADY_ON)",
+                "4 reply 1 0 0 0 0": "APU: success",
+                "5 smc 7 -3": "RPU_0: its power call is answered -3 (DENIED)",
+                "6 smc 2 -1": "APU_0: its power call is answered -1 (NOT_SUPPORTED)",
+            },
+        )
+
     def test_the_words_of_answers(self):
         script = "ipi 1 1\nipi 1 4 11 3\nipi 1 4 11 1\nipi 1 3 10\nipi 1 3 2\nipi 1 18 33\nboot 7 0\nipi 1 13 28 1 0 2\nipi 7 13 28 1 0 2\n"
         self.check(

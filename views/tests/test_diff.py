@@ -111,6 +111,14 @@ class Text(Case):
         late = "2005 its request to suspend ended with abort suspend"
         self.assertEqual(self.rows(self.show(asked, "7")), [f"answer to APU 0 success, version 1.1; {late} | 0 success, version 1.1"])
 
+    def test_power_calls(self):
+        script = "smc 2 0xC4000003 1 4096\nboot 7 0\nsmc 7 0x84000002\n"
+        rows = ["proc APU_1 off -> active | -", "start of APU_1 starts at 0x1000 | -"]
+        shown = self.show(script, "APU")
+        self.assertEqual(self.rows(shown), rows)
+        self.assertEqual(shown.splitlines()[0], "with the 0 messages and 2 power calls of APU | without them")
+        self.assertEqual(self.rows(self.show(script, "RPU_0")), [])
+
     def test_nothing_differs(self):
         text = "with the 0 messages of RPU_0 | without them\nof others: nothing differs\nof RPU_0 alone: nothing differs\n"
         self.assertEqual(self.show("ipi 1 21\n\nboot 7 0", "7"), text + "successes that others lose: 0 denied, 0 refused, 0 not heard\n")

@@ -65,6 +65,7 @@ class Numbers(Case):
             ("ipi 1 13 PD_OCM_1 0x1|CONTEXT 0 REQUEST_ACK_NO", "ipi 1 13 12 3 0 1"),
             ("ipi APU FEATURE_CHECK 13", "ipi 1 63 13"),
             ("post APU REQUEST_NODE UART_0 ACCESS 0 BLOCKING\nserve", "post 1 13 33 1 0 2\nserve"),
+            ("smc APU_1 0xC4000003 2 0x100000000", "smc 3 0xC4000003 2 0x100000000"),
             ("wfi APU_3\nirq GPIO\ngic RPU_1\nboot RPU_0 0x0", "wfi 5\nirq 46\ngic 8\nboot 7 0x0"),
         ]:
             self.assertEqual(self.text("--numbers", self.file("given", given)), wanted)
