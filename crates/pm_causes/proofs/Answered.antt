@@ -1,5 +1,5 @@
 -- Which messages are dropped, which are answered by nothing, and what the others are told.
-use Rattle.std.proofs.Common.{◌≡◌, ◌↔◌, ◌⊎◌, inl, inr, ℕ, Bool, true, false, not, ◌&&◌, ◌==◌, if◌then◌else◌, List, [], Option, Some, None, refl, sym, ◌∙◌, ap}
+use Rattle.std.proofs.Common.{◌≡◌, ◌↔◌, ◌⊎◌, inl, inr, ℕ, Bool, true, false, not, ◌&&◌, ◌==◌, if◌then◌else◌, List, Option, Some, None, refl, sym, ◌∙◌, ap}
 use Rattle.std.specs.Prelude.{is_some, option_and_then, option_map}
 use Rattle.std.proofs.lemmas.Bool.{eqb-true}
 use Rattle.pm_base.specs.declared.events.Event.{Event}
@@ -18,7 +18,7 @@ use Rattle.pm_ipi.specs.Calls.{ack_kind, ack_of, acknowledge_of, call_of, kind_b
 use Rattle.pm_calls.specs.declared.verdict.Asked.{Asked}
 use Rattle.pm_calls.specs.declared.verdict.Effects.{Effects}
 use Rattle.pm_calls.specs.declared.verdict.Say.{Say}
-use Rattle.pm_calls.specs.declared.verdict.Say.TheVariants.{Abort, Ask, Register, Renew}
+use Rattle.pm_calls.specs.declared.verdict.Say.TheVariants.{Ask}
 use Rattle.pm_calls.specs.Checks.{AllHold, Cause, Fits, Stands}
 use Rattle.pm_calls.specs.Verdict.{Called, asked_by, response_of, response_to, verdict_by, verdict_of}
 use Rattle.pm_calls.specs.calls.RegisterNotifier.{notifier_put}

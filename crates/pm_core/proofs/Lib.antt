@@ -2,6 +2,7 @@ pub mod AskedLaw
 pub mod AwakeLaw
 pub mod EndedLaw
 pub mod PassLaw
+pub mod QuietLaw
 pub mod Refused
 pub mod RestartLaw
 pub mod SoundSteps

@@ -39,8 +39,9 @@ use Rattle.pm_values.specs.Along.{IsTrail, Trail}
 use Rattle.pm_values.specs.Caches.{AreKept}
 use Rattle.pm_values.specs.Starts.{was_down}
 use Rattle.pm_values.specs.Touches.{ChangesRows, IsStill, IsTouched, with_core}
-use Rattle.pm_core.specs.Step.{call_at, keeps_values, may_call, may_change, message_stages, path, row_node, served, stages, touched, touched_at, touched_by}
+use Rattle.pm_core.specs.Step.{call_at, keeps_values, leaves_values, may_call, may_change, message_stages, path, row_node, served, stages, touched, touched_at, touched_by, touched_unless}
 use Rattle.pm_core.proofs.AwakeLaw.{LeavesValues, none_leaves, same_twice}
+use Rattle.pm_core.proofs.QuietLaw.{event_leaves}
 use Rattle.pm_core.proofs.Refused.{none_staged}
 use Rattle.pm_core.proofs.StillLaw.{message_stays, shape_leaves}
 
@@ -257,10 +258,21 @@ touched_if event book along caches false is before =
     (subst (LeavesValues book) (sym (none_staged event book is)) (none_leaves book))
 
 -- what is kept before a step is found again as far as its event may touch
-pub step_touches : (event : Event) (book after : State) (found : Option Served) (along : Trail) (caches : Caches) → after ≡ after_stages (stages event book) book → found ≡ served event book → IsSound book → AreKept book caches → IsTrail book (path event book) along
+step_touches : (event : Event) (book after : State) (found : Option Served) (along : Trail) (caches : Caches) → after ≡ after_stages (stages event book) book → found ≡ served event book → IsSound book → AreKept book caches → IsTrail book (path event book) along
     → IsTouched (touched event found after) after along caches
 step_touches event book after found along caches is found_is sound kept trail =
     let P : State → Type 0 = λ b. IsTouched (touched event (served event book) b) b along caches in
     let Q : Option Served → Type 0 = λ s. IsTouched (touched event s after) after along caches in
     subst Q (sym found_is) (subst P (sym is)
     (touched_if event book along caches (may_change event (served event book)) refl (record { sound = sound; kept = kept; trail = trail })))
+
+-- the same where it is told by the book before whether the event changes no value
+pub unless_touches : (still : Bool) (event : Event) (book after : State) (found : Option Served) (along : Trail) (caches : Caches) → leaves_values event book ≡ still → after ≡ after_stages (stages event book) book → found ≡ served event book → IsSound book → AreKept book caches → IsTrail book (path event book) along
+    → IsTouched (touched_unless still event found after) after along caches
+unless_touches false event book after found along caches still is found_is sound kept trail =
+    step_touches event book after found along caches is found_is sound kept trail
+unless_touches true event book after found along caches still is found_is sound kept trail =
+    let P : State → Type 0 = λ b. IsStill b along caches in
+    subst P (sym is)
+    (stays_still book (stages event book) along caches (record { sound = sound; kept = kept; trail = trail })
+    (event_leaves event book sound still))

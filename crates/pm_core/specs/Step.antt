@@ -1,8 +1,10 @@
 -- The step: what an event does to the book, and what it puts out.
 use Rattle.std.specs.Prelude.{ℕ, Bool, true, false, not, ◌&&◌, ◌||◌, List, [], ◌∷◌, Option, Some, None, option_and_then, if◌then◌else◌}
+use Rattle.std.specs.List.{list_any}
 use Rattle.pm_base.specs.declared.names.LineId.{LineId}
 use Rattle.pm_base.specs.declared.names.NodeId.{NodeId}
 use Rattle.pm_base.specs.declared.names.Mode.{Mode}
+use Rattle.pm_base.specs.declared.names.Mode.TheVariants.{Off, Asleep, Suspending}
 use Rattle.pm_base.specs.declared.events.Event.{Event}
 use Rattle.pm_base.specs.declared.events.Event.TheVariants.{Ipi, Boot, Wfi, Irq, Gic, Tick}
 use Rattle.pm_ipi.specs.declared.calls.Call.{Call}
@@ -11,7 +13,11 @@ use Rattle.pm_ipi.specs.declared.calls.AckKind.TheVariants.{No, Blocking, NonBlo
 use Rattle.pm_ipi.specs.declared.responses.Response.{Response}
 use Rattle.pm_ipi.specs.Calls.{call_of, ack_of, node_of}
 use Rattle.pm_notify.specs.declared.notes.Waiting.{Waiting}
-use Rattle.pm_procs.specs.Modes.{is_awake}
+use Rattle.pm_procs.specs.Modes.{is_awake, same_mode}
+use Rattle.pm_procs.specs.Procs.{wakes, mode_at}
+use Rattle.pm_topology.specs.declared.places.Kind.{Kind}
+use Rattle.pm_topology.specs.declared.places.Kind.TheVariants.{Proc}
+use Rattle.pm_topology.specs.Places.{kind_of}
 use Rattle.pm_core.specs.declared.replies.Answer.{Answer}
 use Rattle.pm_core.specs.declared.replies.Answer.TheVariants.{Silent, Drop, Reply, Ack}
 use Rattle.pm_tell.specs.declared.served.Served.{Served}
@@ -259,3 +265,21 @@ touched_by (Some served) book = touched_in served.call book
 -- slave, or anything
 abbrev pub touched : Event → Option Served → State → Touched
 touched event served book = if may_change event served then touched_by served book else Nothing
+
+-- a node of this kind is a processor in this mode
+abbrev pub is_proc_in : Mode → Kind → State → Bool
+is_proc_in mode (Proc p) book = same_mode (mode_at p book.now.core.procs) mode
+is_proc_in mode _ book = false
+
+-- an event changes no value, as is told by the book before it: it starts a processor that isn't off, one that isn't
+-- suspending waits, an interrupt comes to one that isn't asleep, or a slave's while none is asleep or suspending
+abbrev pub leaves_values : Event → State → Bool
+leaves_values (Boot proc address) book = not (is_proc_in Off (kind_of book.fixed.topology proc) book)
+leaves_values (Wfi proc) book = not (is_proc_in Suspending (kind_of book.fixed.topology proc) book)
+leaves_values (Gic proc) book = not (is_proc_in Asleep (kind_of book.fixed.topology proc) book)
+leaves_values (Irq slave) book = not (list_any wakes book.now.core.procs)
+leaves_values _ book = false
+
+-- what of a book an event may touch, where it is told by the book before whether it changes no value
+abbrev pub touched_unless : Bool → Event → Option Served → State → Touched
+touched_unless still event served book = if still then Nothing else touched event served book

@@ -15,7 +15,7 @@ ghost use Rattle.pm_state.specs.Nodes.{master_mode, mode, row};
 
 use crate::laws::books_stay_sound;
 use crate::outbox::Outbox;
-use crate::step::{advance, answer, time_of, touched};
+use crate::step::{advance, answer, leaves_values, time_of, touched_unless};
 use pm_base::{Event, Mode, NoMemory, NodeId, Unit};
 use pm_object::Object;
 use pm_rows::Row;
@@ -137,9 +137,10 @@ impl Book {
             return;
         }
         let count = time_of(&self.tables, event);
+        let still = leaves_values(&self.tables, event);
         let served = advance(&mut self.tables, &self.caches, event, &mut self.telling);
         self.caches.follow(
-            touched(&self.tables, event, served),
+            touched_unless(still, &self.tables, event, served),
             &self.tables,
             &self.telling.along,
             &mut out.moved,

@@ -1,22 +1,24 @@
 //! What one event does to the book, and how it is answered.
 
 ghost use Rattle.std.specs.Prelude.{◌≡◌, false, length};
+ghost use Rattle.pm_topology.specs.Places.{kind_of};
 ghost use Rattle.pm_ipi.specs.Calls.{ack_of, node_of};
 ghost use Rattle.pm_calls.specs.calls.{only_reads, shape_of};
 ghost use Rattle.pm_values.specs.Caches.{AreKept};
 ghost use Rattle.pm_state.specs.Stages.{after_stages, path_from};
-ghost use Rattle.pm_core.specs.Step.{acknowledged, answer_by, answer_of, call_in, is_action, keeps_values, may_call, may_change, is_ipi, message_stages, path, row_node, row_place, served, stages, time_of, touched, touched_at, touched_in, verdict};
+ghost use Rattle.pm_core.specs.Step.{acknowledged, answer_by, answer_of, call_in, is_action, is_proc_in, keeps_values, leaves_values, may_call, may_change, is_ipi, message_stages, path, row_node, row_place, served, stages, time_of, touched, touched_at, touched_in, touched_unless, verdict};
 ghost use Rattle.pm_state.specs.State.{in_force};
 ghost use Rattle.pm_tell.specs.Telling.{HasPlaces};
 ghost use Rattle.pm_values.specs.Along.{Completes, IsTrail, modes_of, trail_from};
 
 use crate::replies::Answer;
-use pm_base::{Event, NodeId};
+use pm_base::{Event, Mode, NodeId};
 use pm_calls::{Verdict, boot, interrupt, raise, serve, wait};
 use pm_ipi::{AckKind, Call, Response, decode_call};
-use pm_procs::is_awake;
+use pm_procs::{is_awake, same_mode};
 use pm_state::Tables;
 use pm_tell::{Served, Telling};
+use pm_topology::Kind;
 use pm_values::{Along, Caches, Touched, point};
 
 /// The time that passes with an event: none while the book is halted.
@@ -163,9 +165,51 @@ fn may_change(event: &Event, served: Option<Served>) -> bool
     }
 }
 
+/// Whether an event changes no value, as is told by the book before it: the processor at which it happens runs after it
+/// just as before. A boot loader starts no other than one that is off, none sleeps but one that is suspending, and
+/// none is woken but one that is asleep, or goes on in place of suspending. The interrupt of a slave wakes none where
+/// none is asleep or suspending.
+pub(crate) fn leaves_values(tables: &Tables, event: &Event) -> bool
+    ensures { result ≡ leaves_values event.now tables.now }
+{
+    match event {
+        Event::Boot { proc, .. } => !is_proc_in(tables, *proc, Mode::Off),
+        Event::Wfi { proc } => !is_proc_in(tables, *proc, Mode::Suspending),
+        Event::Gic { proc } => !is_proc_in(tables, *proc, Mode::Asleep),
+        Event::Irq { .. } => !tables.procs().one_wakes(),
+        _ => false,
+    }
+}
+
+/// Whether a node is a processor in this mode.
+fn is_proc_in(tables: &Tables, node: NodeId, mode: Mode) -> bool
+    ensures { result ≡ is_proc_in mode (kind_of tables.now.fixed.topology node) tables.now }
+{
+    match tables.kind(node) {
+        Kind::Proc(p) => same_mode(tables.procs().mode(p), mode),
+        _ => false,
+    }
+}
+
+/// What of a book an event may touch, where it is told by the book before whether it changes no value.
+pub(crate) fn touched_unless(
+    still: bool,
+    tables: &Tables,
+    event: &Event,
+    served: Option<Served>,
+) -> Touched
+    ensures { result ≡ touched_unless still event.now served tables.now }
+{
+    if still {
+        Touched::Nothing
+    } else {
+        touched(tables, event, served)
+    }
+}
+
 /// What of a book an event may touch, by the verdict on its message: nothing that changes a value, the rows on one
 /// slave, or anything.
-pub(crate) fn touched(tables: &Tables, event: &Event, served: Option<Served>) -> Touched
+fn touched(tables: &Tables, event: &Event, served: Option<Served>) -> Touched
     ensures { result ≡ touched event.now served tables.now }
 {
     if !may_change(event, served) {

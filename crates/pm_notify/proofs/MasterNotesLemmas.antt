@@ -1,6 +1,6 @@
 -- What is read of a master's notes, and of the notes of all masters, after a change of one master's.
-use Rattle.std.proofs.Common.{◌≡◌, ◌≢◌, ℕ, ◌<◌, ◌≤◌, ◌&&◌, Bool, true, false, cond, ◌==◌, List, [], ◌∷◌, length, map, refl, ap, sym, ◌∙◌, arith, ⊎_elim}
-use Rattle.std.specs.Prelude.{Option, Some, None, is_some, replicate, slice_get, slice_set, unwrap_or}
+use Rattle.std.proofs.Common.{◌≡◌, ◌≢◌, ℕ, ◌<◌, ◌≤◌, ◌&&◌, Bool, true, false, cond, ◌==◌, List, [], length, refl, ap, sym, ◌∙◌, arith, ⊎_elim}
+use Rattle.std.specs.Prelude.{Option, Some, None, is_some, slice_set, unwrap_or}
 use Rattle.std.specs.Option.{option_map}
 use Rattle.std.proofs.lemmas.List.{get_or-set_same, get_or-set_other, get_or-replicate, get_or_past, length-replicate, set_past}
 use Rattle.std.proofs.lemmas.Bool.{cases_lt}
@@ -8,10 +8,10 @@ use Rattle.std.proofs.lemmas.Bool.Decides.{nat_tests}
 use Rattle.std.proofs.lemmas.Option.{unwrap_or-slice_get}
 use Rattle.pm_base.specs.declared.names.NodeId.{NodeId}
 use Rattle.pm_base.specs.declared.names.Unit.{Unit}
-use Rattle.pm_base.specs.declared.names.Unit.TheVariants.{Node, Line}
+use Rattle.pm_base.specs.declared.names.Unit.TheVariants.{Node}
 use Rattle.pm_base.proofs.Booleans.{both, differs}
 use Rattle.pm_topology.specs.declared.topology.Topology.{Topology}
-use Rattle.pm_topology.specs.UnitMap.{TableLaws, all_at, units_in, value_of, with_value}
+use Rattle.pm_topology.specs.UnitMap.{TableLaws, all_at, units_in, value_of}
 use Rattle.pm_topology.specs.Units.{UnitLaws, has_in, rises, units_of}
 use Rattle.pm_notify.specs.declared.node_notes.NodeNotes.{NodeNotes}
 use Rattle.pm_notify.specs.MasterNotes.{MasterNotes, forgotten, notes_at, with_notes}

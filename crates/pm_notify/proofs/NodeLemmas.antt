@@ -1,6 +1,6 @@
 -- What is read of one node's notifiers and slots after a change of one.
-use Rattle.std.proofs.Common.{◌≡◌, ℕ, ◌≤◌, Bool, true, false, cond, refl, arith, length, List, [], ◌∷◌}
-use Rattle.std.specs.Prelude.{Option, Some, None}
+use Rattle.std.proofs.Common.{◌≡◌, Bool, false, cond, refl}
+use Rattle.std.specs.Prelude.{Some, None}
 use Rattle.pm_notify.specs.declared.notes.NodeEvent.{NodeEvent}
 use Rattle.pm_notify.specs.declared.notes.NodeEvent.TheVariants as event
 use Rattle.pm_notify.specs.declared.notes.Note.{Note}

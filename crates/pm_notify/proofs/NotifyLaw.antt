@@ -1,16 +1,15 @@
 -- What a change of one master's notifiers and slots leaves, and what it is read as.
-use Rattle.std.proofs.Common.{◌≡◌, ◌≢◌, ℕ, ◌<◌, ◌∙◌, Bool, false, List, [], refl, ap}
+use Rattle.std.proofs.Common.{◌∙◌, Bool, false, refl, ap}
 use Rattle.std.specs.Prelude.{None, Some}
-use Rattle.pm_base.specs.declared.names.NodeId.{NodeId}
 use Rattle.pm_base.specs.declared.names.Unit.TheVariants.{Node}
-use Rattle.pm_topology.specs.UnitMap.{TableLaws, units_in}
+use Rattle.pm_topology.specs.UnitMap.{TableLaws}
 use Rattle.pm_topology.specs.Units.{UnitLaws}
 use Rattle.pm_notify.specs.declared.notes.NodeEvent.{NodeEvent}
 use Rattle.pm_notify.specs.declared.notes.Note.{Note}
 use Rattle.pm_notify.specs.declared.node_notes.NodeNotes.{NodeNotes}
 use Rattle.pm_notify.specs.Laws.{NotifierLaws, OrderLaws, OtherNotesLaws, SlotLaws}
-use Rattle.pm_notify.specs.MasterNotes.{MasterNotes, asks_about, forgotten, notes_at, nothing_more, with_note, with_notifier, without_note}
-use Rattle.pm_notify.specs.NodeNotes.{asks, emptied, filled, no_notes, note_like, with_asked}
+use Rattle.pm_notify.specs.MasterNotes.{asks_about, forgotten, notes_at, nothing_more, with_note, with_notifier, without_note}
+use Rattle.pm_notify.specs.NodeNotes.{asks, emptied, filled, note_like, with_asked}
 use Rattle.pm_notify.specs.Notes.{same_event, same_kind}
 use Rattle.pm_notify.proofs.MasterNotesLemmas.{master_notes_cleared, master_notes_kept, master_notes_put, notes_forgotten, notes_kept, notes_loaded, notes_put, order_loaded, other_notes, units_kept, units_loaded}
 use Rattle.pm_notify.proofs.RestartLemmas.{all_units, as_loaded}

@@ -1,5 +1,5 @@
 -- When all masters forget, the notes of each are about the same units as before, and as at load.
-use Rattle.std.proofs.Common.{◌≡◌, ℕ, ◌<◌, List, [], ◌∷◌, length, map, replicate, zero, suc, refl, ap, ◌∙◌, arith}
+use Rattle.std.proofs.Common.{◌≡◌, ℕ, ◌<◌, List, [], ◌∷◌, length, zero, suc, refl, ap, ◌∙◌, arith}
 use Rattle.pm_topology.specs.declared.topology.Topology.{Topology}
 use Rattle.pm_topology.specs.UnitMap.{TableLaws, all_at, units_in}
 use Rattle.pm_topology.specs.Units.{units_of}

@@ -1,5 +1,5 @@
 -- What waits in a master's notes: the first note, and the rest once it was taken out.
-use Rattle.std.proofs.Common.{◌≡◌, ◌≢◌, ℕ, ◌+◌, ◌*◌, ◌<◌, ◌≤◌, ◌&&◌, ◌||◌, Bool, true, false, cond, ◌==◌, nat_lt, List, [], ◌∷◌, ◌++◌, drop, length, map, refl, ap, sym, ◌∙◌, arith, suc, zero, subst}
+use Rattle.std.proofs.Common.{◌≡◌, ℕ, ◌+◌, ◌*◌, ◌≤◌, Bool, true, false, cond, List, [], ◌∷◌, ◌++◌, drop, length, map, refl, ap, sym, ◌∙◌, arith, suc, zero}
 use Rattle.std.specs.Prelude.{Option, Some, None, slice_get, unwrap_or}
 use Rattle.std.specs.List.{list_all}
 use Rattle.std.proofs.lemmas.List.{length-append, length-map}
@@ -16,9 +16,9 @@ use Rattle.pm_notify.specs.declared.notes.Note.TheVariants.{Ack, Change, ZeroUse
 use Rattle.pm_notify.specs.declared.notes.Waiting.{Waiting}
 use Rattle.pm_notify.specs.declared.node_notes.NodeNotes.{NodeNotes}
 use Rattle.pm_notify.specs.declared.node_notes.Slots.{Slots}
-use Rattle.pm_notify.specs.MasterNotes.{MasterNotes, first_at, notes_at, waiting_about, waiting_in, with_note, without_note}
-use Rattle.pm_notify.specs.NodeNotes.{emptied, in_slot, no_notes, notes_in, note_like}
-use Rattle.pm_notify.specs.Notify.{IsInOrder, dropped, first_for, notes_for, taken, taken_out, waiting_for}
+use Rattle.pm_notify.specs.MasterNotes.{MasterNotes, first_at, notes_at, waiting_about, waiting_in, without_note}
+use Rattle.pm_notify.specs.NodeNotes.{emptied, no_notes, notes_in}
+use Rattle.pm_notify.specs.Notify.{IsInOrder, first_for, notes_for, taken, taken_out, waiting_for}
 use Rattle.pm_notify.proofs.MasterNotesLemmas.{master_notes_changed, units_kept}
 
 -- ---- units in order

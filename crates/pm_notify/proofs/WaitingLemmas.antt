@@ -1,14 +1,13 @@
 -- What waits in a master's notes is exactly what stands in its slots, in the order in which it is told.
-use Rattle.std.proofs.Common.{◌≡◌, ◌≢◌, ℕ, ◌<◌, ◌&&◌, ◌||◌, ◌⊎◌, ⊎_elim, Bool, true, false, cond, ◌==◌, nat_lt, List, [], ◌∷◌, ◌++◌, length, map, refl, ap, sym, ◌∙◌, arith, subst}
+use Rattle.std.proofs.Common.{◌≡◌, ℕ, ◌⊎◌, ⊎_elim, Bool, true, false, cond, List, [], ◌∷◌, ◌++◌, map, refl, ap, sym, ◌∙◌, arith, subst}
 use Rattle.std.specs.Prelude.{Option, Some, None, unwrap_or, Contains, ◌↔◌}
 use Rattle.std.specs.List.{list_all}
 use Rattle.std.specs.Option.{option_map}
-use Rattle.std.proofs.lemmas.Bool.Decides.{nat_tests}
 use Rattle.std.proofs.lemmas.List.Elements.{Contains-append_cases, Contains-append_left, Contains-append_right, Contains-push, Contains-push_cases}
 use Rattle.pm_base.specs.declared.names.NodeId.{NodeId}
 use Rattle.pm_base.specs.declared.names.Unit.{Unit}
 use Rattle.pm_base.specs.declared.names.Unit.TheVariants.{Node, Line}
-use Rattle.pm_base.proofs.Booleans.{both, equal, first_passes, later_passes, pair_of}
+use Rattle.pm_base.proofs.Booleans.{both, equal}
 use Rattle.pm_topology.specs.UnitMap.{units_in, value_of}
 use Rattle.pm_topology.specs.Units.{UnitLaws, is_before, rises, same_unit}
 use Rattle.pm_notify.specs.declared.notes.Note.{Note}
@@ -16,12 +15,10 @@ use Rattle.pm_notify.specs.declared.notes.Note.TheVariants.{Ack, Change, ZeroUse
 use Rattle.pm_notify.specs.declared.notes.Waiting.{Waiting}
 use Rattle.pm_notify.specs.declared.node_notes.NodeNotes.{NodeNotes}
 use Rattle.pm_notify.specs.declared.node_notes.Slots.{Slots}
-use Rattle.pm_notify.specs.Laws.{are_told_in_order}
 use Rattle.pm_notify.specs.MasterNotes.{MasterNotes, notes_at, waiting_about, waiting_in}
-use Rattle.pm_notify.specs.NodeNotes.{in_slot, no_notes, note_like, notes_in}
-use Rattle.pm_notify.specs.Notes.{is_told_before}
+use Rattle.pm_notify.specs.NodeNotes.{in_slot, no_notes, note_like}
 use Rattle.pm_notify.proofs.NodeLemmas.{none_waits}
-use Rattle.pm_notify.proofs.TakeLemmas.{about, before_differs, slots_of}
+use Rattle.pm_notify.proofs.TakeLemmas.{about, before_differs}
 
 nothing_in : {X : Type 0} (x : X) → Contains [] x → ⊥
 nothing_in x (k, within, at) = omega arith

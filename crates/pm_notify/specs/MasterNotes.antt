@@ -1,5 +1,5 @@
 -- What one master has asked for and what waits for it, about each unit of a chip.
-use Rattle.std.specs.Prelude.{ℕ, Bool, ◌++◌, ◌∷◌, [], List, map, slice_get, flat_map, unwrap_or, Option, Some, None}
+use Rattle.std.specs.Prelude.{ℕ, Bool, ◌++◌, ◌∷◌, [], List, map, slice_get, unwrap_or, Option}
 use Rattle.std.specs.Option.{option_and_then}
 use Rattle.pm_base.specs.declared.names.NodeId.{NodeId}
 use Rattle.pm_base.specs.declared.names.Unit.{Unit}

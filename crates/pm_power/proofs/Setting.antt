@@ -6,9 +6,8 @@ use Rattle.pm_base.proofs.ListLemmas.{drop_found}
 use Rattle.pm_base.specs.declared.names.NodeId.{NodeId}
 use Rattle.pm_topology.specs.declared.topology.PowerDef.{PowerDef}
 use Rattle.pm_power.specs.declared.child.Child.{Child}
-use Rattle.pm_power.specs.Uses.{IsForest, IsSetting, WasPut, with_need, levels, levels_of, levels_above, same, AreCounted, AreWithin}
+use Rattle.pm_power.specs.Uses.{IsForest, IsSetting, WasPut, with_need, levels, levels_of, same, AreCounted, AreWithin}
 use Rattle.pm_power.specs.Needs.{set_child}
-use Rattle.pm_cells.specs.Midway.{midway}
 use Rattle.pm_cells.proofs.Midway.{midway_get, midway_set, midway_same, midway_end, midway_len, map_same, there}
 
 module _ (node : NodeId) (on : Bool) (powers : List PowerDef) (first : List Child) (start k : ℕ) (children : List Child) (counts : List ℕ) (ups : List Bool) (steps : ℕ)

@@ -1,13 +1,10 @@
 -- The uses that power nodes make are counted from the last one to the first.
-use Rattle.std.proofs.Common.{◌≡◌, ◌≢◌, ℕ, zero, suc, ◌+◌, ◌-◌, ◌<◌, ◌≤◌, ◌^◌, Bool, true, false, not, ◌&&◌, ◌||◌, ◌==◌, cond, List, [], ◌∷◌, ◌++◌, length, map, replicate, take, drop, Option, Some, None, refl, sym, ◌∙◌, ap, subst, arith, inl, inr, ◌⊎◌, nat_lt, unwrap_or}
+use Rattle.std.proofs.Common.{◌≡◌, ℕ, zero, suc, ◌+◌, ◌-◌, ◌<◌, ◌≤◌, ◌^◌, Bool, true, false, not, ◌&&◌, ◌||◌, ◌==◌, List, [], ◌∷◌, ◌++◌, length, map, replicate, take, drop, Option, Some, None, refl, sym, ◌∙◌, ap, subst, arith, inl, inr, nat_lt, unwrap_or}
 use Rattle.std.specs.Prelude.{count_by, slice_get, slice_set, slice_index, IfSome}
 use Rattle.std.specs.List.{zip}
-use Rattle.std.proofs.lemmas.Bool.{eqb-true, eq-eqb}
-use Rattle.std.proofs.lemmas.Bool.Decides.{nat_tests}
 use Rattle.std.proofs.lemmas.List.{append-nil, drop_all, take_all, length-set, length-replicate, get_or-replicate}
 use Rattle.std.proofs.lemmas.Option.{slice_get_within}
 use Rattle.pm_base.proofs.Counts.{count_by-cons}
-use Rattle.pm_base.proofs.Options.{holds_of}
 use Rattle.pm_cells.proofs.Counting.{one_if, count_set, count_most, get_other, same_or_not}
 use Rattle.pm_topology.specs.declared.topology.PowerDef.{PowerDef}
 use Rattle.pm_topology.specs.declared.topology.SlaveDef.{SlaveDef}
@@ -17,7 +14,7 @@ use Rattle.pm_topology.specs.WellFormed.{IsWellFormed}
 use Rattle.pm_power.specs.declared.child.Child.{Child}
 use Rattle.pm_power.specs.Forest.{Needs, is_parent, is_up, ups, AreAfterParents}
 use Rattle.pm_power.specs.Needs.{child, children_of}
-use Rattle.pm_power.specs.Uses.{is_using_child, child_uses, power_uses, AreCounted, AreSettledFrom, IsForest, AreWithin, counted_by, used_by, pending}
+use Rattle.pm_power.specs.Uses.{is_using_child, child_uses, power_uses, AreCounted, AreSettledFrom, IsForest, AreWithin, used_by}
 use Rattle.pm_power.proofs.Following.{counted_is_up, followed, followed_len, followed_other, get_same, zip_get, zip_set, zip_len}
 use Rattle.pm_power.proofs.UpLaw.{after_parents}
 

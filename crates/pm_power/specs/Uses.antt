@@ -1,5 +1,5 @@
 -- How many uses each power node has.
-use Rattle.std.specs.Prelude.{◌≡◌, ℕ, zero, suc, ◌+◌, ◌-◌, ◌<◌, ◌≤◌, ◌^◌, ◌==◌, Bool, true, false, not, cond, nat_lt, ◌&&◌, ◌||◌, Option, Some, None, List, ◌++◌, map, take, drop, sum_by, if◌then◌else◌, length, count_by, slice_get, slice_set, slice_index}
+use Rattle.std.specs.Prelude.{◌≡◌, ℕ, zero, suc, ◌+◌, ◌-◌, ◌<◌, ◌≤◌, ◌^◌, ◌==◌, Bool, true, false, not, cond, nat_lt, ◌&&◌, ◌||◌, Option, Some, None, List, drop, sum_by, length, count_by, slice_get, slice_set, slice_index}
 use Rattle.std.specs.List.{zip}
 use Rattle.pm_topology.specs.declared.topology.PowerDef.{PowerDef}
 use Rattle.pm_power.specs.declared.child.Child.{Child}

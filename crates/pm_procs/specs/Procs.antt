@@ -1,5 +1,5 @@
 -- The processors of a chip: the mode and the resume address of each, and which master has which of them.
-use Rattle.std.specs.Prelude.{ℕ, ◌==◌, Bool, List, Option, map, slice_get, slice_set, unwrap_or, replicate, []}
+use Rattle.std.specs.Prelude.{ℕ, ◌==◌, Bool, true, false, List, Option, map, slice_get, slice_set, unwrap_or, replicate, []}
 use Rattle.std.specs.List.{list_any}
 use Rattle.pm_base.specs.declared.names.Mode.{Mode}
 use Rattle.pm_base.specs.declared.names.Mode.TheVariants.{Off, Active, Asleep, Suspending}
@@ -25,6 +25,16 @@ proc_at p procs = unwrap_or (slice_get procs p) off
 -- the mode of the processor at a place
 abbrev pub mode_at : ℕ → List Proc → Mode
 mode_at p procs = (proc_at p procs).mode
+
+-- an interrupt wakes the processor, or has it go on in place of suspending
+abbrev pub wakes_in : Mode → Bool
+wakes_in Off = false
+wakes_in Active = false
+wakes_in Asleep = true
+wakes_in Suspending = true
+
+abbrev pub wakes : Proc → Bool
+wakes proc = wakes_in proc.mode
 
 -- a processor after it went to a mode: one that goes off forgets its resume address
 abbrev pub gone : Mode → Proc → Proc

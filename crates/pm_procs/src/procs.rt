@@ -4,7 +4,7 @@ ghost use Rattle.std.specs.Prelude.{◌≡◌, IfOk, length, map, slice_set};
 ghost use Rattle.std.specs.List.{list_any};
 ghost use Rattle.pm_procs.specs.Modes.{has_mode, same_mode as is_same};
 ghost use Rattle.pm_procs.specs.Pending.{all_ended, all_lowered, asked, ended, none_pending, pending_at};
-ghost use Rattle.pm_procs.specs.Procs.{all_off, all_turned_off, gone, master_mode, members_at, mode_at, off, proc_at, turned_off, with_address, with_mode};
+ghost use Rattle.pm_procs.specs.Procs.{all_off, all_turned_off, gone, master_mode, members_at, mode_at, off, proc_at, turned_off, wakes, with_address, with_mode};
 
 use crate::modes::same_mode;
 use crate::pending::{self, Pending};
@@ -43,6 +43,13 @@ impl Proc {
                 address: self.address,
             },
         }
+    }
+
+    /// Whether the processor is asleep or suspending, and so an interrupt wakes it.
+    pub fn wakes(self) -> bool
+        ensures { result ≡ wakes self }
+    {
+        matches!(self.mode, Mode::Asleep | Mode::Suspending)
     }
 }
 
@@ -171,6 +178,13 @@ impl Procs {
         } else {
             Mode::Off
         }
+    }
+
+    /// Whether some processor is asleep or suspending, and so an interrupt wakes it.
+    pub fn one_wakes(&self) -> bool
+        ensures { result ≡ list_any wakes self.now.procs }
+    {
+        self.procs.iter().any(|proc| proc.wakes())
     }
 
     /// The request to suspend that is pending on a master.

@@ -1,6 +1,5 @@
 -- The events that a call comes to: a function of the table and the call alone.
 use Rattle.std.specs.Prelude.{ℕ, ◌+◌, List, [], ◌∷◌, is_some, unwrap_or, if◌then◌else◌}
-use Rattle.pm_base.specs.declared.names.NodeId.{NodeId}
 use Rattle.pm_base.specs.declared.events.Event.{Event}
 use Rattle.pm_base.specs.declared.events.Event.TheVariants.{Ipi, Wfi, Pass}
 use Rattle.pm_topology.specs.declared.topology.Topology.{Topology}

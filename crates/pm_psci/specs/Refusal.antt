@@ -1,9 +1,9 @@
 -- The calls that send no message, and what they are answered (Arm DEN0022, return codes).
-use Rattle.std.specs.Prelude.{ℕ, ℤ, negsuc, ◌%◌, ◌==◌, ◌&&◌, not, Bool, true, false, Option, Some, None, is_some, if◌then◌else◌}
+use Rattle.std.specs.Prelude.{ℤ, negsuc, ◌%◌, ◌==◌, ◌&&◌, not, Bool, true, false, Option, Some, None, is_some, if◌then◌else◌}
 use Rattle.pm_topology.specs.declared.topology.Topology.{Topology}
 use Rattle.pm_psci.specs.declared.calls.Smc.{Smc}
 use Rattle.pm_psci.specs.declared.calls.Function.{Function}
-use Rattle.pm_psci.specs.declared.calls.Function.TheVariants.{CpuOn, CpuOff, AffinityInfo, SystemOff, SystemReset, Unknown}
+use Rattle.pm_psci.specs.declared.calls.Function.TheVariants.{CpuOn, AffinityInfo, Unknown}
 use Rattle.pm_psci.specs.Calls.{function_of}
 use Rattle.pm_psci.specs.Targets.{is_target, target_at}
 

@@ -25,7 +25,7 @@ use Rattle.pm_reader.specs.declared.follow.LinesEnd.{LinesEnd}
 use Rattle.pm_reader.specs.declared.reader.Taken.{Taken}
 use Rattle.pm_reader.specs.declared.reader.Taken.TheVariants as taken
 use Rattle.pm_reader.specs.Follow.{Followed, FollowedInput, FollowedOne, Following}
-use Rattle.pm_reader.specs.Reader.{Grows, Held, IsOpen, KnowsEnd, Turn, is_feed, within, within_limit}
+use Rattle.pm_reader.specs.Reader.{Grows, Held, KnowsEnd, Turn, is_feed, within, within_limit}
 use Rattle.pm_reader.specs.Reader as reader
 use Rattle.pm_reader.proofs.HeldLemmas.{no_feed_at, within_all}
 use Rattle.pm_reader.proofs.ScriptLemmas.{Gives, IsBad, IsOver}

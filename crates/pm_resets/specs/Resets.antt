@@ -1,5 +1,5 @@
 -- The values of the reset lines: a line is asserted or released.
-use Rattle.std.specs.Prelude.{◌≡◌, ℕ, ◌≤◌, ◌==◌, ◌&&◌, Bool, true, false, if◌then◌else◌, nat_lt, List, length, replicate, slice_get, slice_set, unwrap_or}
+use Rattle.std.specs.Prelude.{◌≡◌, ℕ, ◌≤◌, ◌==◌, ◌&&◌, Bool, false, if◌then◌else◌, nat_lt, List, length, replicate, slice_get, slice_set, unwrap_or}
 
 -- the value by which a line is told (UG1200, PM_RESET_GET_STATUS)
 abbrev pub line_value : Bool → ℕ

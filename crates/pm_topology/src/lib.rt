@@ -19,4 +19,7 @@ pub use laws::{kinds_are_exact, unit_map_places, unit_maps, units_stand_in_order
 pub use places::Kind;
 pub use topology::{LineDef, MasterDef, PowerDef, ProcDef, SlaveDef, SlaveState, Topology};
 pub use unit_map::UnitMap;
-pub use units::{has_unit, is_before, needs_in, needs_power, parent_of_unit, same_unit, units_of};
+pub use units::{
+    has_unit, is_before, kind_needs_power, needs_in, needs_power, parent_of_unit, same_unit,
+    units_of,
+};

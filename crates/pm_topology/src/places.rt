@@ -80,7 +80,14 @@ impl Topology {
     pub(crate) fn parent(&self, n: NodeId) -> Option<usize>
         ensures { result ≡ parent_at self.now (kind_of self.now n) }
     {
-        match self.kind(n) {
+        self.parent_by(self.kind(n))
+    }
+
+    /// The place of the power node directly above a node of this kind.
+    pub fn parent_by(&self, kind: Kind) -> Option<usize>
+        ensures { result ≡ parent_at self.now kind }
+    {
+        match kind {
             Kind::Proc(place) => self.procs.as_slice().get(place).map(|proc| proc.parent),
             Kind::Slave(place) => self.slaves.as_slice().get(place).map(|slave| slave.parent),
             Kind::Power(place) => parent_of_power(self.powers.as_slice(), place),

@@ -8,6 +8,7 @@ pub mod MovesLemmas
 pub mod NeededLaw
 pub mod NoticesLaw
 pub mod RestLaw
+pub mod SettledLaw
 pub mod SlaveLaw
 pub mod StartsLaw
 pub mod TouchesLaw

@@ -18,6 +18,18 @@ drop_written k value [] = refl
 drop_written zero value (x ∷ xs) = refl
 drop_written (suc k) value (x ∷ xs) = drop_written k value xs
 
+pub left_written : {T : Type 0} (k : ℕ) (value : T) (es : List (Unit × T)) → drop (k + 1) (with_value_at k value es) ≡ drop (k + 1) es
+left_written k value es =
+    let next : suc k ≡ k + 1 = omega arith in
+    let P : ℕ → Type 0 = λ n. drop n (with_value_at k value es) ≡ drop n es in
+    subst P next (drop_written k value es)
+
+-- a value that is written where it stands changes nothing
+pub same_written : {T : Type 0} (k : ℕ) (value : T) (es : List (Unit × T)) (e : Unit × T) → slice_get es k ≡ Some e → e.1 ≡ value → with_value_at k value es ≡ es
+same_written k value [] e here same = refl
+same_written zero value (x ∷ xs) e here same = let is : x ≡ e = cc in ap (λ v. (x.0, v) ∷ xs) (sym (ap (λ y. y.1) is ∙ same))
+same_written (suc k) value (x ∷ xs) e here same = ap (λ ys. x ∷ ys) (same_written k value xs e here same)
+
 pub length-written : {T : Type 0} (k : ℕ) (value : T) (es : List (Unit × T)) → length (with_value_at k value es) ≡ length es
 length-written k value [] = refl
 length-written zero value (x ∷ xs) = refl

@@ -110,6 +110,11 @@ abbrev pub noticed_at : ℕ → Bool → Option (Unit × ℕ) → List Waiting
 noticed_at value freed None = []
 noticed_at value freed (Some e) = notes_about (not (e.1 == value)) freed e.0
 
+-- nothing happened to the unit of an entry: its value is the one before, and it wasn't left without users
+abbrev pub is_settled : ℕ → Bool → Option (Unit × ℕ) → Bool
+is_settled value freed None = false
+is_settled value freed (Some e) = (e.1 == value) && not freed
+
 -- what happened to the units of a table
 abbrev pub noticed_by : (UnitKind → ℕ) → (UnitKind → Bool) → List UnitKind → List (Unit × ℕ) → List Waiting
 noticed_by new freed [] entries = []

@@ -11,9 +11,9 @@ ghost use Rattle.pm_values.specs.Caches.{AreChosen, AreKept, Finds, HasPlaces, H
 ghost use Rattle.pm_values.specs.Touches.{IsBefore, IsLogged, IsOfRows, IsTouched, rests};
 
 use crate::along::Along;
-use crate::moves::log_moves;
+use crate::moves::log_units;
 use crate::needs::{choose, choose_one, log_runs, set_need, slave_at, state_of};
-use crate::notifications::{freed, log_notice, log_notices, log_use, log_uses};
+use crate::notifications::{freed, log_notice, log_use, log_uses};
 use crate::starts::{Start, log_starts};
 use crate::touches::Touched;
 use pm_base::{BoundedList, NoMemory, NodeId, Unit, at_or};
@@ -138,22 +138,15 @@ impl Caches {
         let ups = self.power.ups();
         log_starts(along, &self.kinds, tables.procs(), &self.values, starts);
         notices.clear();
-        log_notices(
+        log_units(
             tables,
             &self.kinds,
             &self.states,
             ups,
             &self.used,
-            &self.values,
-            notices,
-        );
-        log_moves(
-            tables,
-            &self.kinds,
-            &self.states,
-            ups,
             &mut self.values,
             moved,
+            notices,
         );
         log_uses(tables, &mut self.used);
     }

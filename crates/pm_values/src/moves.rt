@@ -1,29 +1,35 @@
-//! Which units a step moves.
+//! Which units a step moves, and what happens to them.
 
 ghost use Rattle.std.specs.Prelude.{◌≡◌, ◌+◌, ◌<◌, ◌≤◌, ◌++◌, length, slice_get};
 ghost use Rattle.pm_topology.specs.UnitMap.{with_value_at};
-ghost use Rattle.pm_values.specs.Caches.{kind_value, moved_at, moved_by, revalued, unit_value};
+ghost use Rattle.pm_values.specs.Caches.{freed_by, is_settled, kind_value, moved_at, moved_by, noticed_at, noticed_by, revalued, unit_value};
+ghost use Rattle.pm_values.specs.Notifications.{notice_count};
 ghost use Rattle.pm_state.specs.Values.{line_at};
 
 use crate::caches::UnitKind;
+use crate::notifications::{freed, log_notice};
 use pm_base::{BoundedList, Unit, at_or};
+use pm_notify::Waiting;
 use pm_procs::{Proc, Procs, is_awake};
 use pm_resets::Resets;
 use pm_state::Tables;
 use pm_topology::{Kind, UnitMap};
 
-/// Writes the value of each unit by its kind, and puts those units into `moved` whose value isn't the
-/// one before.
-pub(crate) fn log_moves(
+/// Writes the value of each unit by its kind, puts those units into `moved` whose value isn't the one before, and
+/// what happened to each of them into `notices`.
+pub(crate) fn log_units(
     tables: &Tables,
     kinds: &[UnitKind],
     states: &[u32],
     ups: &[bool],
+    used: &[bool],
     values: &mut UnitMap<u32>,
     moved: &mut BoundedList<Unit>,
+    notices: &mut BoundedList<Waiting>,
 )
     requires places { length kinds.now ≡ length values.old }
     requires room { length moved.old.items + length values.old ≤ moved.old.room }
+    requires notices { length notices.old.items + notice_count (length values.old) ≤ notices.old.room }
     ensures values { values.new
         ≡ revalued (unit_value states.now tables.now.now.core.procs ups.now tables.now.now.core.lines)
         kinds.now values.old }
@@ -32,16 +38,57 @@ pub(crate) fn log_moves(
           ++ moved_by (unit_value states.now tables.now.now.core.procs ups.now tables.now.now.core.lines)
           kinds.now values.old;
     } }
+    ensures notices { notices.new ≡ record notices.old {
+      items = notices.old.items
+          ++ noticed_by (unit_value states.now tables.now.now.core.procs ups.now tables.now.now.core.lines)
+          (freed_by used.now tables.now.now.core.rows) kinds.now values.old;
+    } }
+    ensures few { length notices.new.items ≤ length notices.old.items + notice_count (length values.old) }
 {
     let procs = tables.procs();
     let resets = tables.resets();
+    let rows = tables.rows();
     for (k, kind) in kinds.iter().enumerate() {
-        log_move(
-            k,
-            unit_value(*kind, states, procs, ups, resets),
-            values,
-            moved,
-        );
+        let value = unit_value(*kind, states, procs, ups, resets);
+        let freed = freed(*kind, used, rows);
+        log_unit(k, value, freed, values, moved, notices);
+    }
+}
+
+/// Writes the value of the unit at a place, puts the unit into `moved` if that isn't the one before, and what happened
+/// to it into `notices`.
+fn log_unit(
+    k: usize,
+    value: u32,
+    freed: bool,
+    values: &mut UnitMap<u32>,
+    moved: &mut BoundedList<Unit>,
+    notices: &mut BoundedList<Waiting>,
+)
+    requires room { length moved.old.items < moved.old.room }
+    requires notices { length notices.old.items + 2 ≤ notices.old.room }
+    ensures values { values.new ≡ with_value_at k value values.old }
+    ensures moved { moved.new
+        ≡ record moved.old { items = moved.old.items ++ moved_at value (slice_get values.old k) } }
+    ensures notices { notices.new
+        ≡ record notices.old { items = notices.old.items ++ noticed_at value freed (slice_get values.old k) } }
+    ensures few { length notices.new.items ≤ length notices.old.items + 2 }
+{
+    let entry = values.entry(k);
+    if is_settled(entry, value, freed) {
+        return;
+    }
+    log_notice(entry, value, freed, notices);
+    log_move(k, value, values, moved);
+}
+
+/// Whether nothing happened to the unit of an entry: its value is the one before, and it wasn't left without users.
+fn is_settled(entry: Option<(Unit, u32)>, value: u32, freed: bool) -> bool
+    ensures { result ≡ is_settled value freed entry }
+{
+    match entry {
+        Some((_, before)) => before == value && !freed,
+        None => false,
     }
 }
 

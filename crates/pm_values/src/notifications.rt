@@ -1,48 +1,16 @@
 //! What happens to nodes in a step: which change, and which have no users any more.
 
 ghost use Rattle.std.specs.Prelude.{◌≡◌, ◌+◌, ◌<◌, ◌≤◌, ◌++◌, length, slice_set};
-ghost use Rattle.pm_values.specs.Caches.{freed_by, noticed_at, noticed_by, unit_value, use_of};
+ghost use Rattle.pm_values.specs.Caches.{freed_by, noticed_at, use_of};
 ghost use Rattle.pm_values.specs.Notifications as spec;
-ghost use Rattle.pm_values.specs.Notifications.{notice_count};
-ghost use Rattle.pm_state.specs.Values.{value, placed};
+ghost use Rattle.pm_state.specs.Values.{placed};
 
 use crate::caches::UnitKind;
-use crate::moves::unit_value;
 use pm_base::{BoundedList, NodeId, Unit, at_or};
 use pm_notify::{Note, Waiting};
 use pm_rows::Rows;
 use pm_state::Tables;
-use pm_topology::{Kind, UnitMap};
-
-/// Puts what happened to each unit into `notices`, in the order of the units: that its value isn't the one
-/// before, and then that it was used and is used no more.
-pub(crate) fn log_notices(
-    tables: &Tables,
-    kinds: &[UnitKind],
-    states: &[u32],
-    ups: &[bool],
-    used: &[bool],
-    values: &UnitMap<u32>,
-    notices: &mut BoundedList<Waiting>,
-)
-    requires places { length kinds.now ≡ length values.now }
-    requires room { length notices.old.items + notice_count (length values.now) ≤ notices.old.room }
-    ensures notices { notices.new ≡ record notices.old {
-      items = notices.old.items
-          ++ noticed_by (unit_value states.now tables.now.now.core.procs ups.now tables.now.now.core.lines)
-          (freed_by used.now tables.now.now.core.rows) kinds.now values.now;
-    } }
-    ensures few { length notices.new.items ≤ length notices.old.items + notice_count (length values.now) }
-{
-    let procs = tables.procs();
-    let resets = tables.resets();
-    let rows = tables.rows();
-    for (k, kind) in kinds.iter().enumerate() {
-        let value = unit_value(*kind, states, procs, ups, resets);
-        let freed = freed(*kind, used, rows);
-        log_notice(values.entry(k), value, freed, notices);
-    }
-}
+use pm_topology::Kind;
 
 /// Whether a unit of this kind was used, and is used no more.
 pub(crate) fn freed(kind: UnitKind, used: &[bool], rows: &Rows) -> bool

@@ -1,4 +1,3 @@
-use Rattle.pm_notify.specs.Laws.{TakeLaws}
 use Rattle.pm_notify.specs.Notify.{notes_for}
 use Rattle.pm_notify.proofs.OrderLemmas.{told_in_order}
 use Rattle.pm_notify.proofs.TakeLemmas.{all_next, drained, few, next}

@@ -1,4 +1,4 @@
-use Rattle.std.proofs.Common.{◌≡◌, ◌∙◌, Some, None, ap, sym, add-one}
+use Rattle.std.proofs.Common.{◌≡◌, ◌∙◌, Some, None, sym, add-one}
 use Rattle.pm_notify.specs.MasterNotes.{first_at}
 use Rattle.pm_notify.proofs.TakeLemmas.{first_found, none_found}
 use Rattle.pm_notify.proofs.master_notes.first_in.Goals as goal

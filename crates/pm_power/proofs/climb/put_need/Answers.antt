@@ -1,5 +1,5 @@
-use Rattle.std.proofs.Common.{false, ◌≡◌, ℕ, ◌+◌, ◌<◌, ◌≤◌, Some, None, Option, sym, ◌∙◌, ap, subst, refl, arith, rules, length}
-use Rattle.std.specs.Prelude.{slice_get, slice_set, slice_index, nat_lt, IfSome, ◌||◌, List, get_or}
+use Rattle.std.proofs.Common.{false, ◌≡◌, ℕ, ◌+◌, ◌<◌, ◌≤◌, Some, None, Option, sym, ◌∙◌, ap, subst, arith, length}
+use Rattle.std.specs.Prelude.{slice_set, slice_index, nat_lt, IfSome, ◌||◌, List}
 use Rattle.std.proofs.lemmas.Option.{slice_get-get_or}
 use Rattle.pm_power.specs.Uses.{AreCounted, levels, with_need, counted_by, room}
 use Rattle.pm_power.proofs.Following.{need_put, climb_ends, climb_goes_on, turns, level_step, count_has_few, within_put, within_from, room_falls, get_at, earlier, apart_from_test, same_from_test, put_nothing}

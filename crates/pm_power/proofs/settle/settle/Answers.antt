@@ -1,4 +1,4 @@
-use Rattle.std.proofs.Common.{◌≡◌, ℕ, ◌+◌, ◌-◌, subst, sym, arith}
+use Rattle.std.proofs.Common.{◌≡◌, ℕ, ◌+◌, ◌-◌, subst, arith}
 use Rattle.pm_power.specs.Uses.{AreSettledFrom}
 use Rattle.pm_power.proofs.Settled.{settled_first}
 use Rattle.pm_power.proofs.settle.settle.Goals as goal

@@ -30,7 +30,7 @@ use Rattle.pm_core.proofs.Refused.{pass_stays, refused_stays}
 use Rattle.pm_core.proofs.PassLaw.{pass_puts}
 use Rattle.pm_base.specs.declared.events.Event.{Event}
 use Rattle.pm_core.specs.Outbox.{Holds}
-use Rattle.pm_core.proofs.TouchedLaw.{step_touches}
+use Rattle.pm_core.proofs.TouchedLaw.{unless_touches}
 use Rattle.pm_values.specs.declared.touches.Touched.{Touched}
 use Rattle.pm_values.specs.Touches.{IsTouched}
 use Rattle.pm_core.proofs.SoundSteps.{kept_by}
@@ -63,9 +63,9 @@ pub follow-requires-clause-touched : goal.follow-requires-clause-touched
 follow-requires-clause-touched c =
     let mid = c.advance-served.new.tables in
     let P : Touched → Type 0 = λ touched. IsTouched touched mid c.advance-served.new.telling.along c.self.inside.caches in
-    subst P (sym c.touched.ensures)
-    (step_touches c.args.event.now c.self.inside.tables mid c.advance-served.result c.advance-served.new.telling.along c.self.inside.caches
-    c.advance-served.ensures.book c.advance-served.ensures.served c.self.invariant.0.sound c.self.invariant.1 c.advance-served.ensures.along)
+    subst P (sym c.touched_unless.ensures)
+    (unless_touches c.leaves_values-still.result c.args.event.now c.self.inside.tables mid c.advance-served.result c.advance-served.new.telling.along c.self.inside.caches
+    (sym c.leaves_values-still.ensures) c.advance-served.ensures.book c.advance-served.ensures.served c.self.invariant.0.sound c.self.invariant.1 c.advance-served.ensures.along)
 
 pub tell-requires-clause-each : goal.tell-requires-clause-each
 tell-requires-clause-each c =

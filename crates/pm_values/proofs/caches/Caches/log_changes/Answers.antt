@@ -45,10 +45,10 @@ returns-clause-kept c =
       runs = c.requires.chosen.runs;
       used = used_is c;
       power = c.requires.chosen.power;
-      values = c.log_moves.ensures.values
-          ∙ valued_is book c.deref-6.result.now book.now.core.procs c.ups-ups.result.now book.now.core.lines c.deref-5.result.now c.args.self.now.values
-          (c.deref-6.ensures.value ∙ c.requires.chosen.states) refl (c.ups-ups.ensures ∙ ap ups c.requires.chosen.power) refl
-          c.requires.room.places.units (c.deref-5.ensures.value ∙ c.requires.room.places.kinds);
+      values = c.log_units.ensures.values
+          ∙ valued_is book c.deref-3.result.now book.now.core.procs c.ups-ups.result.now book.now.core.lines c.deref-2.result.now c.args.self.now.values
+          (c.deref-3.ensures.value ∙ c.requires.chosen.states) refl (c.ups-ups.ensures ∙ ap ups c.requires.chosen.power) refl
+          c.requires.room.places.units (c.deref-2.ensures.value ∙ c.requires.room.places.kinds);
     }
 
 pub returns-clause-found : goal.returns-clause-found
@@ -64,19 +64,19 @@ returns-clause-found c =
     let noticed_to : List Waiting → Bounded Waiting = λ items. record c.args.notices.now { items = items } in
     let freed : UnitKind → Bool = freed_by old.used.items book.now.core.rows in
     record {
-      moved = c.log_moves.ensures.moved
-          ∙ (ap (λ ks. moved_to (moved_by (new_by c.deref-6.result.now) ks old.values)) c.deref-5.ensures.value
-          ∙ ap moved_to (moved_by-same (new_by c.deref-6.result.now) (value_by book.fixed book.now.core) (is c.deref-6.result.now (c.deref-6.ensures.value ∙ c.requires.chosen.states)) old.kinds.items old.values));
+      moved = c.log_units.ensures.moved
+          ∙ (ap (λ ks. moved_to (moved_by (new_by c.deref-3.result.now) ks old.values)) c.deref-2.ensures.value
+          ∙ ap moved_to (moved_by-same (new_by c.deref-3.result.now) (value_by book.fixed book.now.core) (is c.deref-3.result.now (c.deref-3.ensures.value ∙ c.requires.chosen.states)) old.kinds.items old.values));
       starts = c.log_starts.ensures
           ∙ (ap (λ ss. started_to (ss ++ starts_by c.args.along.now.downs c.procs.result.now.procs c.deref.result.now old.values)) c.requires.room.none
           ∙ (ap (λ ps. started_to (starts_by c.args.along.now.downs ps c.deref.result.now old.values)) c.procs.ensures.procs
           ∙ ap (λ ks. started_to (starts_by c.args.along.now.downs book.now.core.procs ks old.values)) c.deref.ensures.value));
-      notices = c.log_notices.ensures.notices
+      notices = c.log_units.ensures.notices
           ∙ (ap (λ (s : Bounded Waiting). record s { items = s.items ++ noticed_by (new_by c.deref-3.result.now) (freed_by c.deref-4.result.now book.now.core.rows) c.deref-2.result.now old.values }) c.clear.ensures
           ∙ (ap (λ us. noticed_to (noticed_by (new_by c.deref-3.result.now) (freed_by us book.now.core.rows) c.deref-2.result.now old.values)) c.deref-4.ensures.value
           ∙ (ap (λ ks. noticed_to (noticed_by (new_by c.deref-3.result.now) freed ks old.values)) c.deref-2.ensures.value
           ∙ ap noticed_to (noticed_by-same (new_by c.deref-3.result.now) (value_by book.fixed book.now.core) freed (is c.deref-3.result.now (c.deref-3.ensures.value ∙ c.requires.chosen.states)) old.kinds.items old.values))));
       few =
           let empty : length c.clear.new.self.items ≡ 0 = ap (λ (s : Bounded Waiting). length s.items) c.clear.ensures in
-          omega (arith, empty, c.log_notices.ensures.few);
+          omega (arith, empty, c.log_units.ensures.few);
     }
