@@ -1,2 +1,3 @@
 pub mod Owner
 pub mod Permits
+pub mod Several

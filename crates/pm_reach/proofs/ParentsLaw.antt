@@ -108,31 +108,31 @@ module _ (laws : KindLaws) (t : Topology) (well : IsWellFormed t) where
 
   -- ---- what a master brings in
 
-  higher_proc : (object : Object) (a w v : ℕ) → power_parent t.powers w ≡ Some v → is_above_proc object t a w ≡ true → is_above_proc object t a v ≡ true
-  higher_proc object a w v is e =
-      let at_w : ProcDef → Bool = λ p. owns object t a p.node && is_below t w p.node in
-      let at_v : ProcDef → Bool = λ p. owns object t a p.node && is_below t v p.node in
+  higher_proc : (objects : List Object) (a w v : ℕ) → power_parent t.powers w ≡ Some v → is_above_proc objects t a w ≡ true → is_above_proc objects t a v ≡ true
+  higher_proc objects a w v is e =
+      let at_w : ProcDef → Bool = λ p. owns objects t a p.node && is_below t w p.node in
+      let at_v : ProcDef → Bool = λ p. owns objects t a p.node && is_below t v p.node in
       let found = present_at at_w t.procs e in
       let p = found.1 in
-      let parts = both (owns object t a p.node) (is_below t w p.node) found.3 in
+      let parts = both (owns objects t a p.node) (is_below t w p.node) found.3 in
       let below = below_higher p.node p.parent w v (parent_of_proc found.0 p found.2) (well.proc_parents found.0 p found.2) is parts.1 in
-      present_from at_v t.procs found.0 p found.2 (pair_of (owns object t a p.node) _ parts.0 below)
+      present_from at_v t.procs found.0 p found.2 (pair_of (owns objects t a p.node) _ parts.0 below)
 
-  higher_slave : (object : Object) (a w v : ℕ) → power_parent t.powers w ≡ Some v → is_above_slave object t a w ≡ true → is_above_slave object t a v ≡ true
-  higher_slave object a w v is e =
-      let at_w : SlaveDef → Bool = λ s. is_some (brings_slave object t a s.node) && is_below t w s.node in
-      let at_v : SlaveDef → Bool = λ s. is_some (brings_slave object t a s.node) && is_below t v s.node in
+  higher_slave : (objects : List Object) (a w v : ℕ) → power_parent t.powers w ≡ Some v → is_above_slave objects t a w ≡ true → is_above_slave objects t a v ≡ true
+  higher_slave objects a w v is e =
+      let at_w : SlaveDef → Bool = λ s. is_some (brings_slave objects t a s.node) && is_below t w s.node in
+      let at_v : SlaveDef → Bool = λ s. is_some (brings_slave objects t a s.node) && is_below t v s.node in
       let found = present_at at_w t.slaves e in
       let s = found.1 in
-      let parts = both (is_some (brings_slave object t a s.node)) (is_below t w s.node) found.3 in
+      let parts = both (is_some (brings_slave objects t a s.node)) (is_below t w s.node) found.3 in
       let below = below_higher s.node s.parent w v (parent_of_slave found.0 s found.2) (well.slave_parents found.0 s found.2) is parts.1 in
-      present_from at_v t.slaves found.0 s found.2 (pair_of (is_some (brings_slave object t a s.node)) _ parts.0 below)
+      present_from at_v t.slaves found.0 s found.2 (pair_of (is_some (brings_slave objects t a s.node)) _ parts.0 below)
 
-  higher_power : (object : Object) (a w v : ℕ) → power_parent t.powers w ≡ Some v → brings_power object t a w ≡ true → brings_power object t a v ≡ true
-  higher_power object a w v is e =
-      elim (either (is_above_proc object t a w) (is_above_slave object t a w) e) [
-        | inl proc ↦ first_passes (is_above_proc object t a v) _ (higher_proc object a w v is proc)
-        | inr slave ↦ later_passes (is_above_proc object t a v) _ (higher_slave object a w v is slave)
+  higher_power : (objects : List Object) (a w v : ℕ) → power_parent t.powers w ≡ Some v → brings_power objects t a w ≡ true → brings_power objects t a v ≡ true
+  higher_power objects a w v is e =
+      elim (either (is_above_proc objects t a w) (is_above_slave objects t a w) e) [
+        | inl proc ↦ first_passes (is_above_proc objects t a v) _ (higher_proc objects a w v is proc)
+        | inr slave ↦ later_passes (is_above_proc objects t a v) _ (higher_slave objects a w v is slave)
       ]
 
 -- ---- within
@@ -142,36 +142,36 @@ brought true why e = refl
 brought false why e = cc
 
 module _ (laws : KindLaws) where
-  pub to_parent_of_proc : (object : Object) (t : Topology) (from a : ℕ) → IsWellFormed t → Reaches object t from a
+  pub to_parent_of_proc : (objects : List Object) (t : Topology) (from a : ℕ) → IsWellFormed t → Reaches objects t from a
       → (k : ℕ) (p : ProcDef) (n : NodeId) → slice_get t.procs k ≡ Some p
-      → owns object t a p.node ≡ true
+      → owns objects t a p.node ≡ true
       → kind_of t n ≡ kinds.Power p.parent
-      → IsIn object t from members.Power (Node n)
-  to_parent_of_proc object t from a well r k p n is own kind =
-      to_power_above_proc object t from a r n p.parent kind k p is own
+      → IsIn objects t from members.Power (Node n)
+  to_parent_of_proc objects t from a well r k p n is own kind =
+      to_power_above_proc objects t from a r n p.parent kind k p is own
       (below_parent laws t well p.node p.parent (parent_of_proc laws t well k p is) (well.proc_parents k p is))
 
-  pub to_parent_of_slave : (object : Object) (t : Topology) (from : ℕ) → IsWellFormed t
+  pub to_parent_of_slave : (objects : List Object) (t : Topology) (from : ℕ) → IsWellFormed t
       → (k : ℕ) (s : SlaveDef) (n : NodeId) → slice_get t.slaves k ≡ Some s
-      → IsIn object t from members.Slave (Node s.node)
+      → IsIn objects t from members.Slave (Node s.node)
       → kind_of t n ≡ kinds.Power s.parent
-      → IsIn object t from members.Power (Node n)
-  to_parent_of_slave object t from well k s n is within kind =
+      → IsIn objects t from members.Power (Node n)
+  to_parent_of_slave objects t from well k s n is within kind =
       let slave : kinds.Slave k ≡ kind_of t s.node = laws.alone t s.node (kinds.Slave k) well (s, is, refl) in
-      to_power_above_slave object t from n s.parent kind k s k is (sym slave) within
+      to_power_above_slave objects t from n s.parent kind k s k is (sym slave) within
       (below_parent laws t well s.node s.parent (parent_of_slave laws t well k s is) (well.slave_parents k s is))
 
-  pub to_parent_of_power : (object : Object) (t : Topology) (from : ℕ) → IsWellFormed t
+  pub to_parent_of_power : (objects : List Object) (t : Topology) (from : ℕ) → IsWellFormed t
       → (w v : ℕ) (power : PowerDef) (n : NodeId) → slice_get t.powers w ≡ Some power
       → power.parent ≡ Some v
-      → IsIn object t from members.Power (Node power.node)
+      → IsIn objects t from members.Power (Node power.node)
       → kind_of t n ≡ kinds.Power v
-      → IsIn object t from members.Power (Node n)
-  to_parent_of_power object t from well w v power n is up within kind =
+      → IsIn objects t from members.Power (Node n)
+  to_parent_of_power objects t from well w v power n is up within kind =
       let a = within.0 in
       let own : kinds.Power w ≡ kind_of t power.node = laws.alone t power.node (kinds.Power w) well (power, is, refl) in
       let parent : power_parent t.powers w ≡ Some v = ap (λ o. option_and_then (λ (p : PowerDef). p.parent) o) is ∙ up in
-      let old : brings_power object t a w ≡ true =
-      brought (brings_power object t a w) within.1 (ap (brings_as_power object t a) own ∙ within.3)
+      let old : brings_power objects t a w ≡ true =
+      brought (brings_power objects t a w) within.1 (ap (brings_as_power objects t a) own ∙ within.3)
       in
-      (a, Above, within.2, ap (brings_as_power object t a) kind ∙ yes (brings_power object t a v) Above (higher_power laws t well object a w v parent old))
+      (a, Above, within.2, ap (brings_as_power objects t a) kind ∙ yes (brings_power objects t a v) Above (higher_power laws t well objects a w v parent old))

@@ -9,6 +9,7 @@ use Rattle.pm_base.proofs.Booleans.{either, both, pair_of, first_passes, later_p
 use Rattle.pm_base.proofs.Tests.{present_at, present_from}
 use Rattle.pm_object.specs.declared.object.Object.{Object}
 use Rattle.pm_topology.specs.declared.topology.Topology.{Topology}
+use Rattle.pm_perms.specs.Several.{masters_of}
 use Rattle.pm_reach.specs.declared.members.MemberKind.{MemberKind}
 use Rattle.pm_reach.specs.declared.members.Why.{Why}
 use Rattle.pm_reach.specs.declared.members.Why.TheVariants.{Myself}
@@ -130,16 +131,16 @@ same_or_more f g more (suc n) =
 
 -- ---- steps
 
-module _ (object : Object) (t : Topology) (from : ℕ) where
+module _ (objects : List Object) (t : Topology) (from : ℕ) where
   abbrev masters : ℕ
-  masters = length object.masters
+  masters = length (masters_of objects)
 
   abbrev by : ℕ → ℕ → Bool
-  by steps b = is_reached_by object t from steps b
+  by steps b = is_reached_by objects t from steps b
 
   -- one step more leads to this master
   abbrev on : ℕ → ℕ → ℕ → Bool
-  on steps b a = by steps a && is_some (lead object t a b)
+  on steps b a = by steps a && is_some (lead objects t a b)
 
   -- another step leads to no other master
   abbrev Rests : ℕ → Type 0
@@ -148,11 +149,11 @@ module _ (object : Object) (t : Topology) (from : ℕ) where
   more_steps : (steps b : ℕ) → by steps b ≡ true → by (suc steps) b ≡ true
   more_steps steps b e = first_passes (by steps b) _ e
 
-  one_step : (steps a b : ℕ) (why : Why) → b < masters → a < masters → by steps a ≡ true → lead object t a b ≡ Some why → by (suc steps) b ≡ true
+  one_step : (steps a b : ℕ) (why : Why) → b < masters → a < masters → by steps a ≡ true → lead objects t a b ≡ Some why → by (suc steps) b ≡ true
   one_step steps a b why there from_there e leads =
       later_passes (by steps b) _
       (pair_of (nat_lt b masters) _ (lt-ltb b masters there)
-      (any_below (on steps b) masters a from_there (pair_of (by steps a) _ e (is_there (lead object t a b) why leads))))
+      (any_below (on steps b) masters a from_there (pair_of (by steps a) _ e (is_there (lead objects t a b) why leads))))
 
   -- where the last step comes from
   abbrev IsStep : ℕ → ℕ → Type 0
@@ -173,7 +174,7 @@ module _ (object : Object) (t : Topology) (from : ℕ) where
         | inl old ↦ old
         | inr new ↦ (let a = new.1.0 in
             let parts = both (by (suc steps) a) _ new.1.2 in
-            let leads = there (lead object t a b) parts.1 in
+            let leads = there (lead objects t a b) parts.1 in
             one_step steps a b leads.0 new.0 new.1.1 (rests a parts.0) leads.1)
       ]
 
@@ -206,64 +207,64 @@ module _ (object : Object) (t : Topology) (from : ℕ) where
   start_found zero = equal from from refl
   start_found (suc steps) = more_steps steps from (start_found steps)
 
-  end_within : from < masters → (path : List ℕ) (b : ℕ) (why : Why) → IsPath object t from path b why → b < masters
+  end_within : from < masters → (path : List ℕ) (b : ℕ) (why : Why) → IsPath objects t from path b why → b < masters
   end_within within _ _ _ start = within
   end_within within _ _ _ (step path a b before why p less leads) = less
 
-  path_found : from < masters → (path : List ℕ) (b : ℕ) (why : Why) → IsPath object t from path b why → is_reached object t from b ≡ true
+  path_found : from < masters → (path : List ℕ) (b : ℕ) (why : Why) → IsPath objects t from path b why → is_reached objects t from b ≡ true
   path_found within _ _ _ start = start_found masters
   path_found within _ _ _ (step path a b before why p less leads) =
       all_found within b
       (one_step masters a b why less (end_within within path a before p) (path_found within path a before p) leads)
 
-  found_path : (steps b : ℕ) → by steps b ≡ true → Reaches object t from b
+  found_path : (steps b : ℕ) → by steps b ≡ true → Reaches objects t from b
   found_path zero b e =
-      let P : ℕ → Type 0 = λ k. Reaches object t from k in
-      let here : Reaches object t from from = (_, Myself, start) in
+      let P : ℕ → Type 0 = λ k. Reaches objects t from k in
+      let here : Reaches objects t from from = (_, Myself, start) in
       subst P (sym (eqb-true b from e)) here
   found_path (suc steps) b e =
       elim (last_step steps b e) [
         | inl old ↦ found_path steps b old
         | inr new ↦ (let a = new.1.0 in
             let parts = both (by steps a) _ new.1.2 in
-            let leads = there (lead object t a b) parts.1 in
+            let leads = there (lead objects t a b) parts.1 in
             let path = found_path steps a parts.0 in
             (_, leads.0, step path.0 a b path.1 leads.0 path.2 new.0 leads.1))
       ]
 
 -- ---- the tests
 
-pub reached_where : (o : Object) (t : Topology) (from b : ℕ) → from < length o.masters
-    → (is_reached o t from b ≡ true → Reaches o t from b) × (Reaches o t from b → is_reached o t from b ≡ true)
-reached_where o t from b within =
-    (found_path o t from (length o.masters) b, λ path. path_found o t from within path.0 b path.1 path.2)
+pub reached_where : (os : List Object) (t : Topology) (from b : ℕ) → from < length (masters_of os)
+    → (is_reached os t from b ≡ true → Reaches os t from b) × (Reaches os t from b → is_reached os t from b ≡ true)
+reached_where os t from b within =
+    (found_path os t from (length (masters_of os)) b, λ path. path_found os t from within path.0 b path.1 path.2)
 
 -- this master is within reach and brings in the unit
-abbrev reaches_in : Object → Topology → ℕ → MemberKind → Unit → ℕ → Bool
-reaches_in o t from kind unit a = is_reached o t from a && is_some (brings o t kind unit a)
+abbrev reaches_in : List Object → Topology → ℕ → MemberKind → Unit → ℕ → Bool
+reaches_in os t from kind unit a = is_reached os t from a && is_some (brings os t kind unit a)
 
-brought_in : (o : Object) (t : Topology) (from : ℕ) (kind : MemberKind) (unit : Unit) → from < length o.masters
-    → is_brought_in o t from kind unit ≡ true → IsIn o t from kind unit
-brought_in o t from kind unit within e =
-    let found = passes_below (reaches_in o t from kind unit) (length o.masters) e in
-    let parts = both (is_reached o t from found.0) _ found.2 in
-    let why = there (brings o t kind unit found.0) parts.1 in
-    (found.0, why.0, (reached_where o t from found.0 within).0 parts.0, why.1)
+brought_in : (os : List Object) (t : Topology) (from : ℕ) (kind : MemberKind) (unit : Unit) → from < length (masters_of os)
+    → is_brought_in os t from kind unit ≡ true → IsIn os t from kind unit
+brought_in os t from kind unit within e =
+    let found = passes_below (reaches_in os t from kind unit) (length (masters_of os)) e in
+    let parts = both (is_reached os t from found.0) _ found.2 in
+    let why = there (brings os t kind unit found.0) parts.1 in
+    (found.0, why.0, (reached_where os t from found.0 within).0 parts.0, why.1)
 
-in_brought : (o : Object) (t : Topology) (from : ℕ) (kind : MemberKind) (unit : Unit) → from < length o.masters
-    → IsIn o t from kind unit → is_brought_in o t from kind unit ≡ true
-in_brought o t from kind unit within in_reach =
+in_brought : (os : List Object) (t : Topology) (from : ℕ) (kind : MemberKind) (unit : Unit) → from < length (masters_of os)
+    → IsIn os t from kind unit → is_brought_in os t from kind unit ≡ true
+in_brought os t from kind unit within in_reach =
     let path = in_reach.2 in
-    let less = end_within o t from within path.0 in_reach.0 path.1 path.2 in
-    any_below (reaches_in o t from kind unit) (length o.masters) in_reach.0 less
-    (pair_of (is_reached o t from in_reach.0) _ ((reached_where o t from in_reach.0 within).1 path)
-    (is_there (brings o t kind unit in_reach.0) in_reach.1 in_reach.3))
+    let less = end_within os t from within path.0 in_reach.0 path.1 path.2 in
+    any_below (reaches_in os t from kind unit) (length (masters_of os)) in_reach.0 less
+    (pair_of (is_reached os t from in_reach.0) _ ((reached_where os t from in_reach.0 within).1 path)
+    (is_there (brings os t kind unit in_reach.0) in_reach.1 in_reach.3))
 
-pub brought_where : (o : Object) (t : Topology) (from : ℕ) (kind : MemberKind) (unit : Unit) → from < length o.masters
-    → (is_brought_in o t from kind unit ≡ true → IsIn o t from kind unit) × (IsIn o t from kind unit → is_brought_in o t from kind unit ≡ true)
-brought_where o t from kind unit within = (brought_in o t from kind unit within, in_brought o t from kind unit within)
+pub brought_where : (os : List Object) (t : Topology) (from : ℕ) (kind : MemberKind) (unit : Unit) → from < length (masters_of os)
+    → (is_brought_in os t from kind unit ≡ true → IsIn os t from kind unit) × (IsIn os t from kind unit → is_brought_in os t from kind unit ≡ true)
+brought_where os t from kind unit within = (brought_in os t from kind unit within, in_brought os t from kind unit within)
 
-pub some_where : (o : Object) (test : ℕ → Bool)
-    → (some_master o test ≡ true → PassesBelow test (length o.masters)) × (PassesBelow test (length o.masters) → some_master o test ≡ true)
-some_where o test =
-    (passes_below test (length o.masters), λ one. any_below test (length o.masters) one.0 one.1 one.2)
+pub some_where : (os : List Object) (test : ℕ → Bool)
+    → (some_master os test ≡ true → PassesBelow test (length (masters_of os))) × (PassesBelow test (length (masters_of os)) → some_master os test ≡ true)
+some_where os test =
+    (passes_below test (length (masters_of os)), λ one. any_below test (length (masters_of os)) one.0 one.1 one.2)

@@ -10,6 +10,7 @@ use Rattle.pm_base.proofs.ListLemmas.{slice_get-append_left}
 use Rattle.pm_base.proofs.Tests.{present_at, absent_at}
 use Rattle.pm_object.specs.declared.object.Object.{Object}
 use Rattle.pm_topology.specs.declared.topology.Topology.{Topology}
+use Rattle.pm_perms.specs.Several.{masters_of}
 use Rattle.pm_reach.specs.declared.members.Why.{Why}
 use Rattle.pm_reach.specs.declared.members.Why.TheVariants.{Myself}
 use Rattle.pm_reach.specs.declared.routes.Route.{Route}
@@ -50,15 +51,15 @@ module _ (routes : List Route) (path : List ℕ) (end : ℕ) (c : IsCovered rout
 
 -- ---- the search goes on
 
-module _ (object : Object) (t : Topology) (from : ℕ) where
+module _ (objects : List Object) (t : Topology) (from : ℕ) where
   -- the place was tried and no path was found: what it would give is covered
   pub passes_on : (routes : List Route) (next place : ℕ)
       → ((p : Route) (why : Why)
       → slice_get routes next ≡ Some p
-      → lead object t p.end place ≡ Some why
+      → lead objects t p.end place ≡ Some why
       → IsCovered routes (p.path ++ place ∷ []) place)
-      → IsSearch object t from routes next place
-      → IsSearch object t from routes next (place + 1)
+      → IsSearch objects t from routes next place
+      → IsSearch objects t from routes next (place + 1)
   passes_on routes next place here s = record {
     paths = s.paths;
     start = s.start;
@@ -72,8 +73,8 @@ module _ (object : Object) (t : Topology) (from : ℕ) where
     where
       tried : (j : ℕ) (p : Route) (end : ℕ) (why : Why)
           → slice_get routes j ≡ Some p
-          → lead object t p.end end ≡ Some why
-          → end < length object.masters
+          → lead objects t p.end end ≡ Some why
+          → end < length (masters_of objects)
           → (j < next) ⊎ ((j ≡ next) × (end < place + 1))
           → IsCovered routes (p.path ++ end ∷ []) end
       tried j p end why is leads within (inl earlier) = s.tried j p end why is leads within (inl earlier)
@@ -82,7 +83,7 @@ module _ (object : Object) (t : Topology) (from : ℕ) where
             | inl below ↦ s.tried j p end why is leads within (inr (now.0, below))
             | inr at ↦ (
                 let there : slice_get routes next ≡ Some p = ap (λ n. slice_get routes n) (sym now.0) ∙ is in
-                let P : ℕ → Type 0 = λ n. lead object t p.end n ≡ Some why in
+                let P : ℕ → Type 0 = λ n. lead objects t p.end n ≡ Some why in
                 let Q : ℕ → Type 0 = λ n. IsCovered routes (p.path ++ n ∷ []) n in
                 subst Q (sym at) (here p why there (subst P at leads)))
           ]
@@ -90,8 +91,8 @@ module _ (object : Object) (t : Topology) (from : ℕ) where
   -- a path found before ends there
   pub already_found : (routes : List Route) (next place : ℕ)
       → list_any (λ (r : Route). r.end == place) routes ≡ true
-      → IsSearch object t from routes next place
-      → IsSearch object t from routes next (place + 1)
+      → IsSearch objects t from routes next place
+      → IsSearch objects t from routes next (place + 1)
   already_found routes next place found s =
       let it = present_at (λ (r : Route). r.end == place) routes found in
       passes_on routes next place
@@ -107,14 +108,14 @@ module _ (object : Object) (t : Topology) (from : ℕ) where
   -- the path doesn't lead there
   pub leads_nowhere : (routes : List Route) (next place : ℕ) (p : Route)
       → slice_get routes next ≡ Some p
-      → lead object t p.end place ≡ None
-      → IsSearch object t from routes next place
-      → IsSearch object t from routes next (place + 1)
+      → lead objects t p.end place ≡ None
+      → IsSearch objects t from routes next place
+      → IsSearch objects t from routes next (place + 1)
   leads_nowhere routes next place p is none s =
       passes_on routes next place
       (λ q why there leads.
       let same = the_same routes next next p q is there refl in
-      let P : Route → Type 0 = λ r. lead object t r.end place ≡ None in
+      let P : Route → Type 0 = λ r. lead objects t r.end place ≡ None in
       let nothing = subst P same none in
       absurd cc)
       s
@@ -123,12 +124,12 @@ module _ (object : Object) (t : Topology) (from : ℕ) where
   pub finds : (routes : List Route) (next place : ℕ) (p r : Route)
       → slice_get routes next ≡ Some p
       → list_any (λ (x : Route). x.end == place) routes ≡ false
-      → place < length object.masters
-      → lead object t p.end place ≡ Some r.why
+      → place < length (masters_of objects)
+      → lead objects t p.end place ≡ Some r.why
       → r.end ≡ place
       → r.path ≡ p.path ++ place ∷ []
-      → IsSearch object t from routes next place
-      → IsSearch object t from (routes ++ r ∷ []) next (place + 1)
+      → IsSearch objects t from routes next place
+      → IsSearch objects t from (routes ++ r ∷ []) next (place + 1)
   finds routes next place p r is new within leads ends path s = record {
     paths = λ k x at. paths k x (pushed routes r k x at);
     start = covered-more routes (from ∷ []) from s.start r;
@@ -142,13 +143,13 @@ module _ (object : Object) (t : Topology) (from : ℕ) where
       inside : next < length routes
       inside = slice_get_within routes next p is
 
-      paths : (k : ℕ) (x : Route) → (slice_get routes k ≡ Some x) ⊎ ((k ≡ length routes) × (x ≡ r)) → IsPath object t from x.path x.end x.why
+      paths : (k : ℕ) (x : Route) → (slice_get routes k ≡ Some x) ⊎ ((k ≡ length routes) × (x ≡ r)) → IsPath objects t from x.path x.end x.why
       paths k x (inl old) = s.paths k x old
       paths k x (inr now) =
-          let P : Route → Type 0 = λ y. IsPath object t from y.path y.end y.why in
-          let Q : List ℕ → Type 0 = λ l. IsPath object t from l r.end r.why in
-          let R : ℕ → Type 0 = λ n. IsPath object t from (p.path ++ place ∷ []) n r.why in
-          let made : IsPath object t from (p.path ++ place ∷ []) place r.why =
+          let P : Route → Type 0 = λ y. IsPath objects t from y.path y.end y.why in
+          let Q : List ℕ → Type 0 = λ l. IsPath objects t from l r.end r.why in
+          let R : ℕ → Type 0 = λ n. IsPath objects t from (p.path ++ place ∷ []) n r.why in
+          let made : IsPath objects t from (p.path ++ place ∷ []) place r.why =
           step p.path p.end place p.why r.why (s.paths next p is) within leads in
           subst P (sym now.1) (subst Q (sym path) (subst R (sym ends) made))
 
@@ -202,8 +203,8 @@ module _ (object : Object) (t : Topology) (from : ℕ) where
 
       tried : (j : ℕ) (q : Route) (end : ℕ) (why : Why)
           → (slice_get routes j ≡ Some q) ⊎ ((j ≡ length routes) × (q ≡ r))
-          → lead object t q.end end ≡ Some why
-          → end < length object.masters
+          → lead objects t q.end end ≡ Some why
+          → end < length (masters_of objects)
           → (j < next) ⊎ ((j ≡ next) × (end < place + 1))
           → IsCovered (routes ++ r ∷ []) (q.path ++ end ∷ []) end
       tried j q end why (inr now) leads within (inl earlier) = absurd (omega (arith, inside, now.0))
@@ -224,18 +225,18 @@ module _ (object : Object) (t : Topology) (from : ℕ) where
                 })
           ]
 
-      room : length (routes ++ r ∷ []) + unfound (routes ++ r ∷ []) (length object.masters) ≡ length object.masters
+      room : length (routes ++ r ∷ []) + unfound (routes ++ r ∷ []) (length (masters_of objects)) ≡ length (masters_of objects)
       room =
           let P : ℕ → Type 0 = λ n. list_any (λ (x : Route). x.end == n) routes ≡ false in
           let none = subst P (sym ends) new in
-          let less : r.end < length object.masters = omega arith in
-          let one = unfound-more routes r (length object.masters) less none in
+          let less : r.end < length (masters_of objects) = omega arith in
+          let one = unfound-more routes r (length (masters_of objects)) less none in
           omega (arith, length-append routes (r ∷ []), s.room)
 
   -- the next path
   pub goes_on : (routes : List Route) (next : ℕ)
-      → IsSearch object t from routes next (length object.masters)
-      → IsSearch object t from routes (next + 1) 0
+      → IsSearch objects t from routes next (length (masters_of objects))
+      → IsSearch objects t from routes (next + 1) 0
   goes_on routes next s = record {
     paths = s.paths;
     start = s.start;
@@ -252,14 +253,14 @@ module _ (object : Object) (t : Topology) (from : ℕ) where
           let inside = slice_get_within routes (next + 1) q is in
           let p : Route = get_or routes next q in
           let there : slice_get routes next ≡ Some p = slice_get-get_or routes next q (omega arith) in
-          let n = length object.masters in
+          let n = length (masters_of objects) in
           before-through r.path (p.path ++ n ∷ []) (q.path ++ 0 ∷ []) (s.ahead p there k r at)
           (before-step p.path q.path n 0 (s.rising next (next + 1) p q there is (omega arith)))
 
       tried : (j : ℕ) (p : Route) (end : ℕ) (why : Why)
           → slice_get routes j ≡ Some p
-          → lead object t p.end end ≡ Some why
-          → end < length object.masters
+          → lead objects t p.end end ≡ Some why
+          → end < length (masters_of objects)
           → (j < next + 1) ⊎ ((j ≡ next + 1) × (end < 0))
           → IsCovered routes (p.path ++ end ∷ []) end
       tried j p end why is leads within (inr none) = absurd (omega arith)
@@ -271,15 +272,15 @@ module _ (object : Object) (t : Topology) (from : ℕ) where
 
   -- ---- the search begins and ends
 
-  pub begins : (r : Route) → r.end ≡ from → r.why ≡ Myself → r.path ≡ from ∷ [] → from < length object.masters
-      → IsSearch object t from (r ∷ []) 0 0
+  pub begins : (r : Route) → r.end ≡ from → r.why ≡ Myself → r.path ≡ from ∷ [] → from < length (masters_of objects)
+      → IsSearch objects t from (r ∷ []) 0 0
   begins r ends why path within = record {
     paths = λ k x at.
         let same = only k x at in
-        let P : Route → Type 0 = λ y. IsPath object t from y.path y.end y.why in
-        let Q : List ℕ → Type 0 = λ l. IsPath object t from l r.end r.why in
-        let R : ℕ → Type 0 = λ n. IsPath object t from (from ∷ []) n r.why in
-        let W : Why → Type 0 = λ w. IsPath object t from (from ∷ []) from w in
+        let P : Route → Type 0 = λ y. IsPath objects t from y.path y.end y.why in
+        let Q : List ℕ → Type 0 = λ l. IsPath objects t from l r.end r.why in
+        let R : ℕ → Type 0 = λ n. IsPath objects t from (from ∷ []) n r.why in
+        let W : Why → Type 0 = λ w. IsPath objects t from (from ∷ []) from w in
         subst P (sym same.1) (subst Q (sym path) (subst R (sym ends) (subst W (sym why) start)));
     start = record { at = 0; route = r; is = refl; ends = ends; first = inl (sym path) };
     once = λ j k x y at there same. (only j x at).0 ∙ sym (only k y there).0;
@@ -294,9 +295,9 @@ module _ (object : Object) (t : Topology) (from : ℕ) where
         subst P (sym (only k x at).1) (subst Q (sym (only 0 p is).1) (subst R (sym path) refl));
     tried = λ j p end why is leads within when. elim when [ inl less ↦ absurd (omega arith) | inr now ↦ (let h = now.1 in absurd (omega arith)) ];
     room =
-        let less : r.end < length object.masters = omega arith in
-        let one = unfound-more [] r (length object.masters) less refl in
-        omega (arith, unfound-none (length object.masters));
+        let less : r.end < length (masters_of objects) = omega arith in
+        let one = unfound-more [] r (length (masters_of objects)) less refl in
+        omega (arith, unfound-none (length (masters_of objects)));
   }
     where
       only : (k : ℕ) (x : Route) → slice_get (r ∷ []) k ≡ Some x → (k ≡ 0) × (x ≡ r)
@@ -305,15 +306,15 @@ module _ (object : Object) (t : Topology) (from : ℕ) where
 
   covers : (routes : List Route) (next : ℕ)
       → length routes ≤ next
-      → IsSearch object t from routes next 0
+      → IsSearch objects t from routes next 0
       → (path : List ℕ) (end : ℕ) (why : Why)
-      → IsPath object t from path end why
+      → IsPath objects t from path end why
       → IsCovered routes path end
   covers routes next done s _ _ _ start = s.start
   covers routes next done s _ _ _ (step path a b before why is within leads) =
       let c = covers routes next done s path a before is in
       let inside = slice_get_within routes c.at c.route c.is in
-      let P : ℕ → Type 0 = λ n. lead object t n b ≡ Some why in
+      let P : ℕ → Type 0 = λ n. lead objects t n b ≡ Some why in
       let further = s.tried c.at c.route b why c.is (subst P (sym c.ends) leads) within (inl (omega arith)) in
       covered-later routes (c.route.path ++ b ∷ []) b further (path ++ b ∷ []) (
       elim c.first [
@@ -325,8 +326,8 @@ module _ (object : Object) (t : Topology) (from : ℕ) where
   -- where each path found was tried with each master, these are the least paths
   pub ends_least : (routes : List Route) (next : ℕ)
       → length routes ≤ next
-      → IsSearch object t from routes next 0
-      → AreLeast object t from routes
+      → IsSearch objects t from routes next 0
+      → AreLeast objects t from routes
   ends_least routes next done s = record {
     least = λ k r at. record {
       path = s.paths k r at;
@@ -346,17 +347,17 @@ module _ (object : Object) (t : Topology) (from : ℕ) where
   -- the path at next was tried with the master at a place: a new path was found, or none
   pub tries_new : (routes : List Route) (next place : ℕ) (p r : Route)
       → slice_get routes next ≡ Some p
-      → place < length object.masters
-      → Some r ≡ longer_if_new object t routes p place
-      → IsSearch object t from routes next place
-      → IsSearch object t from (routes ++ r ∷ []) next (place + 1)
+      → place < length (masters_of objects)
+      → Some r ≡ longer_if_new objects t routes p place
+      → IsSearch objects t from routes next place
+      → IsSearch objects t from (routes ++ r ∷ []) next (place + 1)
   tries_new routes next place p r is within made s = new _ _ refl refl made
     where
       new : (found : Bool) (why : Option Why)
           → list_any (λ (x : Route). x.end == place) routes ≡ found
-          → lead object t p.end place ≡ why
+          → lead objects t p.end place ≡ why
           → Some r ≡ cond found None (option_map (λ why. record { end = place; why = why; path = p.path ++ place ∷ [] }) why)
-          → IsSearch object t from (routes ++ r ∷ []) next (place + 1)
+          → IsSearch objects t from (routes ++ r ∷ []) next (place + 1)
       new true why any leads e = absurd cc
       new false None any leads e = absurd cc
       new false (Some why) any leads e =
@@ -366,24 +367,24 @@ module _ (object : Object) (t : Topology) (from : ℕ) where
 
   pub tries_none : (routes : List Route) (next place : ℕ) (p : Route)
       → slice_get routes next ≡ Some p
-      → None ≡ longer_if_new object t routes p place
-      → IsSearch object t from routes next place
-      → IsSearch object t from routes next (place + 1)
+      → None ≡ longer_if_new objects t routes p place
+      → IsSearch objects t from routes next place
+      → IsSearch objects t from routes next (place + 1)
   tries_none routes next place p is made s = none _ _ refl refl made
     where
       none : (found : Bool) (why : Option Why)
           → list_any (λ (x : Route). x.end == place) routes ≡ found
-          → lead object t p.end place ≡ why
+          → lead objects t p.end place ≡ why
           → ◌≡◌ {A = Option Route} None (cond found None (option_map (λ why. record { end = place; why = why; path = p.path ++ place ∷ [] }) why))
-          → IsSearch object t from routes next (place + 1)
+          → IsSearch objects t from routes next (place + 1)
       none true why any leads e = already_found routes next place any s
       none false None any leads e = leads_nowhere routes next place p is leads s
       none false (Some why) any leads e = absurd cc
 
 -- what a path and one step more are
-pub new_route : (object : Object) (t : Topology) (routes : List Route) (from : Route) (end : ℕ) (why : Why) (r : Route)
+pub new_route : (objects : List Object) (t : Topology) (routes : List Route) (from : Route) (end : ℕ) (why : Why) (r : Route)
     → list_any (λ (x : Route). x.end == end) routes ≡ false
-    → lead object t from.end end ≡ Some why
+    → lead objects t from.end end ≡ Some why
     → r ≡ record { end = end; why = why; path = from.path ++ end ∷ [] }
-    → Some r ≡ longer_if_new object t routes from end
-new_route object t routes from end why r none leads is = rw (none, leads, is) refl
+    → Some r ≡ longer_if_new objects t routes from end
+new_route objects t routes from end why r none leads is = rw (none, leads, is) refl

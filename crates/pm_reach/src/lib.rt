@@ -11,4 +11,4 @@ pub mod routes;
 
 pub use laws::{masters_within, parents_within, reach_is_decided, units_within};
 pub use members::{Member, MemberKind, Reach, Why};
-pub use membership::reach;
+pub use membership::{reach, reach_by_one};

@@ -38,7 +38,7 @@ pub struct Member {
     pub path: List<NodeId>,
 }
 
-/// What a master can reach: masters in the order of the object, and then slaves, power nodes and lines by
+/// What a master can reach: masters in the order of the objects, and then slaves, power nodes and lines by
 /// number.
 #[derive(Debug, Drop)]
 pub struct Reach {

@@ -2,18 +2,19 @@
 
 ghost use Rattle.std.specs.Prelude.{◌≡◌, ℕ, ◌+◌, ◌<◌, ◌≤◌, ◌++◌, ◌∷◌, ◌==◌, [], length, IfOk, OnOk};
 ghost use Rattle.std.specs.List.{list_any};
+ghost use Rattle.pm_perms.specs.Several.{masters_of};
 ghost use Rattle.pm_reach.specs.declared.members.Why.TheVariants.{Myself};
 ghost use Rattle.pm_reach.specs.Paths.{AreLeast};
 ghost use Rattle.pm_reach.specs.Search.{IsSearch, longer_if_new};
 
-use crate::leads::lead;
+use crate::leads::{lead, master_count};
 use crate::members::Why;
 use pm_base::{List, NoMemory};
 use pm_object::Object;
 use pm_topology::Topology;
 use std::alloc::Global;
 
-/// A path of masters, by their places in the object: where it ends, and for which reason the last but one
+/// A path of masters, by their places in the objects: where it ends, and for which reason the last but one
 /// leads to the last.
 #[derive(Debug, Drop)]
 pub struct Route {
@@ -62,18 +63,18 @@ fn is_found(routes: &[Route], place: usize) -> bool
 /// found so far ends there.
 fn longer_if_new(
     alloc: Global,
-    object: &Object,
+    objects: &[Object],
     t: &Topology,
     routes: &List<Route>,
     from: &Route,
     end: usize,
 ) -> Result<Option<Route>, NoMemory>
-    ensures { IfOk result (λ made. made ≡ longer_if_new object.now t.now routes.now from.now end) }
+    ensures { IfOk result (λ made. made ≡ longer_if_new objects.now t.now routes.now from.now end) }
 {
     if is_found(routes.as_slice(), end) {
         return Ok(None);
     }
-    match lead(object, t, from.end, end) {
+    match lead(objects, t, from.end, end) {
         Some(why) => Ok(Some(longer(alloc, from.path.as_slice(), end, why)?)),
         None => Ok(None),
     }
@@ -82,19 +83,19 @@ fn longer_if_new(
 /// Tries the path at `next` with the master at place `end`.
 fn try_end(
     alloc: Global,
-    object: &Object,
+    objects: &[Object],
     t: &Topology,
     routes: &mut List<Route>,
     next: usize,
     end: usize,
 ) -> Result<(), NoMemory>
     requires next { next < length routes.old }
-    requires end { end < length object.now.masters }
-    ensures search { (from : ℕ) → IsSearch object.now t.now from routes.old next end
-        → OnOk result (IsSearch object.now t.now from routes.new next (end + 1)) }
+    requires end { end < length (masters_of objects.now) }
+    ensures search { (from : ℕ) → IsSearch objects.now t.now from routes.old next end
+        → OnOk result (IsSearch objects.now t.now from routes.new next (end + 1)) }
     ensures longer { length routes.old ≤ length routes.new }
 {
-    if let Some(route) = longer_if_new(alloc, object, t, routes, routes.get(next), end)? {
+    if let Some(route) = longer_if_new(alloc, objects, t, routes, routes.get(next), end)? {
         routes.push(route)?;
     }
     Ok(())
@@ -103,17 +104,17 @@ fn try_end(
 /// Tries the path at `next` with each master.
 fn try_all(
     alloc: Global,
-    object: &Object,
+    objects: &[Object],
     t: &Topology,
     routes: &mut List<Route>,
     next: usize,
 ) -> Result<(), NoMemory>
     requires { next < length routes.old }
-    ensures { (from : ℕ) → IsSearch object.now t.now from routes.old next 0
-        → OnOk result (IsSearch object.now t.now from routes.new (next + 1) 0) }
+    ensures { (from : ℕ) → IsSearch objects.now t.now from routes.old next 0
+        → OnOk result (IsSearch objects.now t.now from routes.new (next + 1) 0) }
 {
-    for end in 0..object.masters.len() {
-        try_end(alloc, object, t, routes, next, end)?;
+    for end in 0..master_count(objects) {
+        try_end(alloc, objects, t, routes, next, end)?;
     }
     Ok(())
 }
@@ -122,18 +123,18 @@ fn try_all(
 /// shorter ones first, and those of one length by the places of their masters.
 pub fn least_routes(
     alloc: Global,
-    object: &Object,
+    objects: &[Object],
     t: &Topology,
     from: usize,
 ) -> Result<List<Route>, NoMemory>
-    requires { from < length object.now.masters }
-    ensures { IfOk result (λ routes. AreLeast object.now t.now from routes) }
+    requires { from < length (masters_of objects.now) }
+    ensures { IfOk result (λ routes. AreLeast objects.now t.now from routes) }
 {
     let mut routes = List::new(alloc);
     routes.push(start(alloc, from)?)?;
     let mut next = 0;
     while next < routes.len() {
-        try_all(alloc, object, t, &mut routes, next)?;
+        try_all(alloc, objects, t, &mut routes, next)?;
         next += 1;
     }
     Ok(routes)

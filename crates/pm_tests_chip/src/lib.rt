@@ -12,6 +12,8 @@ mod reach;
 #[cfg(test)]
 mod reach_masters;
 #[cfg(test)]
+mod reach_several;
+#[cfg(test)]
 mod rows;
 #[cfg(test)]
 mod topology_faults;

@@ -6,7 +6,7 @@ use crate::topology_lists::{LINES, Lists, Master, POWERS, Power, Proc, SLAVES, b
 use pm_base::NodeId;
 use pm_object::{Object, has_key};
 use pm_objtext::build;
-use pm_reach::{Member, MemberKind, Why, reach};
+use pm_reach::{Member, MemberKind, Why, reach_by_one};
 use pm_topology::Topology;
 use std::alloc::Global;
 use std::test::Fail;
@@ -184,7 +184,7 @@ fn is_path(path: &[NodeId], numbers: &[u32]) -> bool {
             .all(|(node, number)| node.0 == *number)
 }
 
-fn are_rows(members: &[Member], rows: &[Row]) -> bool {
+pub(crate) fn are_rows(members: &[Member], rows: &[Row]) -> bool {
     members.len() == rows.len()
         && members
             .iter()
@@ -203,7 +203,7 @@ pub(crate) fn reaches(
     if !has_key(object.masters.as_slice(), master) {
         return Ok(false);
     }
-    let found = reach(alloc, object, t, NodeId(master))?;
+    let found = reach_by_one(alloc, object, t, NodeId(master))?;
     Ok(are_rows(found.members.as_slice(), rows))
 }
 

@@ -6,7 +6,7 @@ use crate::rows::all_right;
 use pm_base::{List, NodeId};
 use pm_object::{MasterRec, Object, has_key};
 use pm_objtext::build;
-use pm_reach::{MemberKind, Why, reach};
+use pm_reach::{MemberKind, Why, reach_by_one};
 use pm_topology::Topology;
 use std::alloc::Global;
 use std::test::Fail;
@@ -257,7 +257,7 @@ fn reason_for(alloc: Global, t: &Topology, object: &Object) -> Result<Option<Why
     if !has_key(object.masters.as_slice(), 7) {
         return Ok(Some(Why::Myself));
     }
-    let found = reach(alloc, object, t, NodeId(7))?;
+    let found = reach_by_one(alloc, object, t, NodeId(7))?;
     Ok(
         found
             .members

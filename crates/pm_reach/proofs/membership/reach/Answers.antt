@@ -1,5 +1,6 @@
 use Rattle.std.proofs.Common.{◌==◌, ap, sym, ◌∙◌}
 use Rattle.pm_object.specs.declared.object.MasterRec.{MasterRec}
+use Rattle.pm_perms.specs.Several.{masters_of}
 use Rattle.pm_reach.specs.Membership.{members_of}
 use Rattle.pm_reach.proofs.MembershipLaw.{is_there}
 use Rattle.pm_reach.proofs.membership.reach.Goals as goal
@@ -10,9 +11,9 @@ returns-in_ok-members-in-Some c = record {
   place = sym c.in-Some.ensures;
   routes = c.in_ok-routes-in-Some.routes;
   least = c.in_ok-routes-in-Some.ensures;
-  members = c.in_ok-members-in-Some.ensures ∙ ap (λ routes. members_of c.args.object.now c.args.t.now routes) c.as_slice.ensures;
+  members = c.in_ok-members-in-Some.ensures ∙ ap (λ routes. members_of c.args.objects.now c.args.t.now routes) c.as_slice.ensures;
 }
 
 pub returns-in-None : goal.returns-in-None
 returns-in-None c =
-    absurd (is_there {X = MasterRec} (λ (r : MasterRec). r.node == c.args.m.0) c.args.object.now.masters c.requires (sym c.in-None.ensures))
+    absurd (is_there {X = MasterRec} (λ (r : MasterRec). r.node == c.args.m.0) (masters_of c.args.objects.now) c.requires (sym c.in-None.ensures))

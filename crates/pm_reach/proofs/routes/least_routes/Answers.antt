@@ -9,12 +9,12 @@ loop-next-init c =
     let r : Route = c.in_ok-start.field-0 in
     let one : c.push.new.self ≡ r ∷ [] = cc (c.in_ok-push.ensures.ok, c.new-routes.ensures) in
     let is = c.in_ok-start.ensures in
-    let P : List Route → Type 0 = λ routes. IsSearch c.args.object.now c.args.t.now c.args.from routes 0 0 in
+    let P : List Route → Type 0 = λ routes. IsSearch c.args.objects.now c.args.t.now c.args.from routes 0 0 in
     subst P (sym one) (
-    begins c.args.object.now c.args.t.now c.args.from r (ap (λ (x : Route). x.end) is) (ap (λ (x : Route). x.why) is) (ap (λ (x : Route). x.path) is) c.requires
+    begins c.args.objects.now c.args.t.now c.args.from r (ap (λ (x : Route). x.end) is) (ap (λ (x : Route). x.why) is) (ap (λ (x : Route). x.path) is) c.requires
     )
 
 pub returns : goal.returns
 returns c =
     let past : length c.loop-next.routes ≤ c.loop-next.next = omega arith in
-    ends_least c.args.object.now c.args.t.now c.args.from c.loop-next.routes c.loop-next.next past c.loop-next.invariant
+    ends_least c.args.objects.now c.args.t.now c.args.from c.loop-next.routes c.loop-next.next past c.loop-next.invariant

@@ -1,4 +1,5 @@
 use Rattle.std.proofs.Common.{◌≡◌, ℕ, length, arith, subst}
+use Rattle.pm_perms.specs.Several.{masters_of}
 use Rattle.pm_reach.specs.Search.{IsSearch}
 use Rattle.pm_reach.proofs.SearchLaw.{goes_on}
 use Rattle.pm_reach.proofs.routes.try_all.Goals as goal
@@ -11,6 +12,6 @@ loop-end-preserved c = record {
 
 pub returns : goal.returns
 returns c = λ from s.
-    let all : c.loop-end.end ≡ length c.args.object.now.masters = omega arith in
-    let P : ℕ → Type 0 = λ end. IsSearch c.args.object.now c.args.t.now from c.loop-end.routes c.args.next end in
-    goes_on c.args.object.now c.args.t.now from c.loop-end.routes c.args.next (subst P all (c.loop-end.invariant.search from s))
+    let all : c.loop-end.end ≡ length (masters_of c.args.objects.now) = omega arith in
+    let P : ℕ → Type 0 = λ end. IsSearch c.args.objects.now c.args.t.now from c.loop-end.routes c.args.next end in
+    goes_on c.args.objects.now c.args.t.now from c.loop-end.routes c.args.next (subst P all (c.loop-end.invariant.search from s))

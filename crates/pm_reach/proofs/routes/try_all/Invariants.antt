@@ -7,6 +7,6 @@ abbrev pub invariant-loop-end : goal.invariant-loop-end
 invariant-loop-end l = record {
   inside : l.next < length l.routes;
   search : (from : ℕ)
-      → IsSearch l.object l.t from l.fn.routes l.next 0
-      → IsSearch l.object l.t from l.routes l.next l.end;
+      → IsSearch l.objects l.t from l.fn.routes l.next 0
+      → IsSearch l.objects l.t from l.routes l.next l.end;
 }
