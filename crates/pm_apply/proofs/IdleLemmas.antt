@@ -9,16 +9,13 @@ use Rattle.pm_topology.specs.declared.topology.Topology.{Topology}
 use Rattle.pm_topology.specs.declared.topology.PowerDef.{PowerDef}
 use Rattle.pm_topology.specs.UnitMap.{units_in}
 use Rattle.pm_topology.specs.Units.{has_in, needs_power, parent_of_unit, same_unit}
-use Rattle.pm_device.specs.Act.{Act}
-use Rattle.pm_core.specs.declared.outbox.Done.{Done}
 use Rattle.pm_apply.proofs.Below.{ChipLaws}
 use Rattle.pm_apply.specs.declared.turns.Turn.{Turn}
 use Rattle.pm_apply.specs.declared.turns.Turn.TheVariants.{PowerOn, Pulse, Apply, PowerOff}
-use Rattle.pm_apply.specs.Carried.{Takes}
+use Rattle.pm_apply.specs.Left.{HaveNone}
 use Rattle.pm_apply.specs.Record.{Kept, kept_value, lags_in}
 use Rattle.pm_apply.specs.Plan.{command, due, is_fed, is_power, is_used, power_off, power_on, pulse_turn, where_due, with_pulse}
 use Rattle.pm_apply.specs.Visits.{IsIdle, IsIdleTurn, IsReady, pulsed}
-use Rattle.pm_apply.proofs.TakesLemmas.{Takes-none}
 
 -- ---- one turn
 
@@ -64,15 +61,11 @@ module _ (t : Topology) (values : Unit → ℕ) (kept : Kept) where
     unpulsed None unit is has idle = refl
     unpulsed (Some line) unit is has idle = unpulsed_by line unit (same_unit (Line line) unit) is has idle refl
 
-    module _ {D : Type 0} (Does : Act → D → D → Type 0) (done : List Done) (now : D) where
-      -- nothing is done
-      abbrev pub Rests : List Turn → Type 0
-      Rests turns = Takes Does t values turns kept kept done done now now
-
-      pub idle_takes : (turn : Turn) → IsIdleTurn t kept turn → Rests (with_pulse pulse turn)
-      idle_takes (PowerOn w) idle = Takes-none Does t values (PowerOn w) kept done now (idle_on (slice_get t.powers w) (λ p here. stands (Node p.node) (idle p here)))
-      idle_takes (Pulse line) idle = absurd idle
-      idle_takes (Apply unit) idle =
-          let P : List Turn → Type 0 = λ before. Rests (before ++ Apply unit ∷ []) in
-          subst P (sym (unpulsed pulse unit refl idle.known idle.idle)) (Takes-none Does t values (Apply unit) kept done now (idle_apply unit (stands unit idle)))
-      idle_takes (PowerOff w) idle = Takes-none Does t values (PowerOff w) kept done now (idle_off w (slice_get t.powers w) (λ p here. stands (Node p.node) (idle p here)))
+    -- its turn has no command, and it isn't pulsed
+    pub idle_none : (turn : Turn) → IsIdleTurn t kept turn → HaveNone t values kept (with_pulse pulse turn)
+    idle_none (PowerOn w) idle = (idle_on (slice_get t.powers w) (λ p here. stands (Node p.node) (idle p here)), tt)
+    idle_none (Pulse line) idle = absurd idle
+    idle_none (Apply unit) idle =
+        let P : List Turn → Type 0 = λ before. HaveNone t values kept (before ++ Apply unit ∷ []) in
+        subst P (sym (unpulsed pulse unit refl idle.known idle.idle)) (idle_apply unit (stands unit idle), tt)
+    idle_none (PowerOff w) idle = (idle_off w (slice_get t.powers w) (λ p here. stands (Node p.node) (idle p here)), tt)

@@ -6,6 +6,7 @@ pub mod ExplainedLaw
 pub mod FailingLemmas
 pub mod GapLemmas
 pub mod IdleLemmas
+pub mod LeftLemmas
 pub mod ListedLemmas
 pub mod MarkingLemmas
 pub mod MarksLemmas

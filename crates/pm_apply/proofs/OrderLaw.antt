@@ -48,14 +48,13 @@ ordered-same t f g (Order c ok ∷ acts) same all = (
   ordered-same t (value_by (Order c ok) f) (value_by (Order c ok) g) acts (λ x. ap (cond (ok && same_unit c.unit x) c.value) (same x)) all.1,
 )
 ordered-same t f g (Rig node broken ∷ acts) same all = ordered-same t f g acts same all
-ordered-same t f g (Fit chip ∷ acts) same all =
-    ordered-same t (value_by (Fit chip) f) (value_by (Fit chip) g) acts (λ x. refl) all
+ordered-same t f g (Fit chip ∷ acts) same all = all
 
 pub ordered-append : (t : Topology) (values : Unit → ℕ) (first second : List Act) → IsOrdered t values first → IsOrdered t (values_after first values) second → IsOrdered t values (first ++ second)
 ordered-append t values [] second one two = two
 ordered-append t values (Order c ok ∷ first) second one two = (one.0, ordered-append t (value_by (Order c ok) values) first second one.1 two)
 ordered-append t values (Rig node broken ∷ first) second one two = ordered-append t values first second one two
-ordered-append t values (Fit chip ∷ first) second one two = ordered-append t (value_by (Fit chip) values) first second one two
+ordered-append t values (Fit chip ∷ first) second one two = one
 
 -- commands each of which is in its place by the record before it, where the units stand as the record says
 along_ordered : ChipLaws → (t : Topology) (units : List Unit) (done : List Done) (kept : Kept) (values : Unit → ℕ)

@@ -1,6 +1,6 @@
 -- What a step visits: a unit that isn't marked has no command, and the turns of a step leave that so.
 use Rattle.std.proofs.Common.{◌≡◌, ℕ, ◌-◌, ◌<◌, ◌≤◌, length, arith, Bool, true, false, ◌&&◌, cond, if◌then◌else◌, Option, Some, None, List, [], ◌∷◌, ◌++◌, map, slice_get, refl, sym, ap, subst, ◌∙◌, ◌⊎◌, inl, inr, zero, suc}
-use Rattle.std.specs.Prelude.{⊤, IfSome, is_some, unwrap_or, reverse}
+use Rattle.std.specs.Prelude.{⊤, IfSome, flat_map, is_some, unwrap_or, reverse}
 use Rattle.std.specs.List.{list_all}
 use Rattle.std.specs.Option.{option_map, option_map_or}
 use Rattle.std.proofs.lemmas.Bool.{and_from, both_ways, cases_Bool, cases_lt, or_left, or_right}
@@ -22,11 +22,8 @@ use Rattle.pm_apply.specs.declared.kept.KeptValue.{KeptValue}
 use Rattle.pm_apply.specs.declared.turns.Turn.{Turn}
 use Rattle.pm_apply.specs.declared.turns.Turn.TheVariants.{PowerOn, Pulse, Apply, PowerOff}
 use Rattle.pm_apply.specs.Record.{Kept, idle, keep, kept_of, kept_value, lags_in, mark, marked}
-use Rattle.pm_apply.specs.Plan.{Carried, after_answer, answers_of, power_places, unit_turns, due, later_answers, next_answer, plan, pulse_turn, take_turn, with_pulse}
+use Rattle.pm_apply.specs.Plan.{Carried, after_answer, power_places, unit_turns, due, later_answers, next_answer, plan, pulse_turn, take_turn, turns_of, with_pulse}
 use Rattle.pm_apply.specs.Visits.{IsIdle, IsIdleAt, power_lags, IsReady, LagsNotAt, StandsAt, StandsElsewhere, pulsed}
-use Rattle.pm_apply.specs.Carried.{Takes}
-use Rattle.pm_device.specs.Act.{Act}
-use Rattle.pm_core.specs.declared.outbox.Done.{Done}
 use Rattle.pm_apply.proofs.TurnsLemmas.{turn_between}
 use Rattle.pm_apply.proofs.RecordLemmas.{units_in-after_answer, kept_value-keep}
 use Rattle.pm_apply.proofs.OrdersDue.{raises, pulses, settles, lowers}
@@ -62,7 +59,7 @@ value_at laws (x ∷ entries) (suc k) e rising here =
 pub kept_at : UnitLaws → (entries : Kept) (k : ℕ) (e : Unit × KeptValue) → rises (units_in entries) ≡ true → slice_get entries k ≡ Some e → kept_of entries e.0 ≡ e.1
 kept_at laws entries k e rising here = ap (λ (found : Option KeptValue). unwrap_or found idle) (value_at laws entries k e rising here)
 
-has_at : UnitLaws → (entries : Kept) (k : ℕ) (e : Unit × KeptValue) → slice_get entries k ≡ Some e → has_in (units_in entries) e.0 ≡ true
+pub has_at : UnitLaws → (entries : Kept) (k : ℕ) (e : Unit × KeptValue) → slice_get entries k ≡ Some e → has_in (units_in entries) e.0 ≡ true
 has_at laws [] k e here = cc
 has_at laws (x ∷ entries) zero e here =
     let same : x ≡ e = cc in
@@ -148,7 +145,7 @@ kept_gone laws c kept x gone =
 
 -- ---- the turns of a step
 
-abbrev no_pulse : Turn → Bool
+abbrev pub no_pulse : Turn → Bool
 no_pulse (Pulse line) = false
 no_pulse _ = true
 
@@ -169,7 +166,7 @@ no_settle : (units : List Unit) → list_all no_pulse (map Apply units) ≡ true
 no_settle [] = refl
 no_settle (u ∷ units) = no_settle units
 
-none_pulses : (t : Topology) → list_all no_pulse (unit_turns t) ≡ true
+pub none_pulses : (t : Topology) → list_all no_pulse (unit_turns t) ≡ true
 none_pulses t =
     list_all-append no_pulse (map PowerOn (power_places t)) (map Apply (units_of t) ++ map PowerOff (reverse (power_places t)))
     ∙ and_from _ _ (no_raise (power_places t))
@@ -239,7 +236,7 @@ module _ (laws : ChipLaws) (t : Topology) (values : Unit → ℕ) (pulse : Optio
       ]
 
   -- the command of a turn leaves it so
-  turn_open : (units : List Unit) (turn : Turn) (kept : Kept) (c : Command) (ok : Bool) → IsPulseOf pulse turn → due t values kept turn ≡ Some c → IsOpen values pulse units kept → IsOpen values pulse units (after_answer c ok kept)
+  pub turn_open : (units : List Unit) (turn : Turn) (kept : Kept) (c : Command) (ok : Bool) → IsPulseOf pulse turn → due t values kept turn ≡ Some c → IsOpen values pulse units kept → IsOpen values pulse units (after_answer c ok kept)
   turn_open units turn kept c ok of is opened =
       let same : units_in (after_answer c ok kept) ≡ units_in kept = units_in-after_answer laws c ok kept in
       let there : (x : Unit) → has_in (units_in (after_answer c ok kept)) x ≡ true → has_in (units_in kept) x ≡ true = λ x has. ap (λ us. has_in us x) (sym same) ∙ has in
@@ -274,20 +271,25 @@ by_line : (pulse found : Option LineId) (unit : Unit) → pulse ≡ found → Ea
 by_line pulse None unit is = (tt, tt)
 by_line pulse (Some line) unit is = by_test pulse line unit (same_unit (Line line) unit) is
 
-are_pulses : (pulse : Option LineId) (turn : Turn) → no_pulse turn ≡ true → Each (IsPulseOf pulse) (with_pulse pulse turn)
+pub are_pulses : (pulse : Option LineId) (turn : Turn) → no_pulse turn ≡ true → Each (IsPulseOf pulse) (with_pulse pulse turn)
 are_pulses pulse (PowerOn w) unpulsed = (tt, tt)
 are_pulses pulse (Pulse line) unpulsed = cc
 are_pulses pulse (Apply unit) unpulsed = by_line pulse pulse unit refl
 are_pulses pulse (PowerOff w) unpulsed = (tt, tt)
 
--- the record after the turn at a place
-pub open_after : ChipLaws → {D : Type 0} (Does : Act → D → D → Type 0) (t : Topology) (values : Unit → ℕ) (pulse : Option LineId) (units : List Unit) (k : ℕ) (turn : Turn) (kept after : Kept) (done done₁ : List Done) (m m₁ : D)
-    → slice_get (unit_turns t) k ≡ Some turn
-    → Takes Does t values (with_pulse pulse turn) kept after done done₁ m m₁
-    → IsOpen values pulse units kept → IsOpen values pulse units after
-open_after laws Does t values pulse units k turn kept after done done₁ m m₁ here takes opened =
-    subst (IsOpen values pulse units) (ap (λ (c : Carried). c.kept) takes.planned)
-    (plan_open laws t values pulse units (with_pulse pulse turn) kept (answers_of takes.done) (are_pulses pulse turn (all_at no_pulse (unit_turns t) k turn (none_pulses t) here)) opened)
+-- each pulse among the turns of a step is that of the line that is pulsed
+pub each_turn : (pulse : Option LineId) (turns : List Turn) → list_all no_pulse turns ≡ true → Each (IsPulseOf pulse) (flat_map (with_pulse pulse) turns)
+each_turn pulse [] all = tt
+each_turn pulse (turn ∷ turns) all =
+    let parts = both (no_pulse turn) (list_all no_pulse turns) all in
+    Each-append (IsPulseOf pulse) (with_pulse pulse turn) (flat_map (with_pulse pulse) turns) (are_pulses pulse turn parts.0) (each_turn pulse turns parts.1)
+
+pub pulses_of : (t : Topology) (pulse : Option LineId) → Each (IsPulseOf pulse) (turns_of t pulse)
+pulses_of t pulse = each_turn pulse (unit_turns t) (none_pulses t)
+
+pub Each-front : (P : Turn → Type 0) (turns others : List Turn) → Each P (turns ++ others) → Each P turns
+Each-front P [] others each = tt
+Each-front P (turn ∷ turns) others each = (each.0, Each-front P turns others each.1)
 
 pub turn_there : (turns : List Turn) (k : ℕ) → k < length turns → (turn : Turn) × (slice_get turns k ≡ Some turn)
 turn_there turns k within =

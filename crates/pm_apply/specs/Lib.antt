@@ -1,5 +1,6 @@
 pub mod Carried
 pub mod Failing
+pub mod Left
 pub mod Order
 pub mod Part
 pub mod Places

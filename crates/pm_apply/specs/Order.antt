@@ -31,12 +31,12 @@ pub record IsOrderly (t : Topology) (values : Unit → ℕ) (command : Command) 
       → needs_power t (Node node) (values (Node node)) ≡ false
 
 -- each order of these acts, whether it is refused or not, is in its place where the units stand at what the acts before
--- it left, by their answers
+-- it left, by their answers; and the device isn't fitted among them
 abbrev pub IsOrdered : Topology → (Unit → ℕ) → List Act → Type 0
 IsOrdered t values [] = ⊤
 IsOrdered t values (Order command ok ∷ acts) = IsOrderly t values command × IsOrdered t (value_by (Order command ok) values) acts
 IsOrdered t values (Rig node broken ∷ acts) = IsOrdered t values acts
-IsOrdered t values (Fit chip ∷ acts) = IsOrdered t (value_by (Fit chip) values) acts
+IsOrdered t values (Fit chip ∷ acts) = ⊥
 
 -- one of these commands failed, on this unit
 pub record FailedOn (done : List Done) (unit : Unit) : Type 0 where

@@ -1,26 +1,24 @@
 //! A device is made to follow the book.
 
-ghost use Rattle.std.specs.Prelude.{◌≡◌, ◌+◌, ◌<◌, ◌≤◌, ◌∷◌, [], IfSome, length, option_to_list, slice_get};
-ghost use Rattle.pm_topology.specs.UnitMap.{units_in};
-ghost use Rattle.pm_topology.specs.Units.{units_of};
+ghost use Rattle.std.specs.Prelude.{◌≡◌, []};
 ghost use Rattle.pm_topology.specs.WellFormed.{IsWellFormed};
 ghost use Rattle.pm_state.specs.Fed.{IsFed};
 ghost use Rattle.pm_core.specs.Outbox.{HasRoomFor, KeepsRoom, outputs_in};
 ghost use Rattle.pm_state.specs.Values.{value};
 ghost use Rattle.pm_device.specs.Act.{AreHarmless, Chain, ShowsAll};
 ghost use Rattle.pm_apply.specs.Carried.{AreMarked, DifferencesAreMarked, KeepsRest, Takes};
+ghost use Rattle.pm_apply.specs.Left.{turns_left};
 ghost use Rattle.pm_apply.specs.Order.{IsOrdered, LagsAreExplained};
 ghost use Rattle.pm_apply.specs.Part.{answers_in, orders_in, part_in, part_of};
-ghost use Rattle.pm_apply.specs.Plan.{due, turns_of, unit_turns, with_pulse};
+ghost use Rattle.pm_apply.specs.Plan.{turns_of};
 ghost use Rattle.pm_apply.specs.Record.{IsRecordOf, StandsAs, kept_value};
-ghost use Rattle.pm_apply.specs.Room.{most_of};
 ghost use Rattle.pm_apply.specs.Visits.{IsReady};
 
-use crate::failing::told_answer;
+use crate::carrying::Carrying;
 use crate::kept::{Kept, KeptValue};
 use crate::laws::{each_part_is_safe, orders_join};
-use crate::turns::{Turn, due, next_visited, pulse_before, turn_at, turn_count};
-use pm_core::{Book, Done, Outbox};
+use crate::turns::turn_count;
+use pm_core::{Book, Outbox};
 use pm_device::{Device, chain_shows};
 use pm_topology::{kinds_are_exact, unit_maps, units_stand_in_order};
 
@@ -74,11 +72,9 @@ pub fn carry<D: Device>(dev: &mut D, kept: &mut Kept, book: &Book, out: &mut Out
     units_stand_in_order();
     kinds_are_exact();
     unit_maps::<KeptValue>();
-    kept.mark_moved(out.moved.as_slice());
-    kept.mark_pulsed(out.pulse);
-    take_turns(dev, kept, book, out);
-    kept.mark(book);
-    out.answer = told_answer(kept, book, out);
+    let left = Carrying::begin(kept, book, out);
+    take_turns(dev, kept, book, out, left);
+    out.answer = Carrying::end(kept, book, out);
     chain_shows::<D>();
 }
 
@@ -114,81 +110,21 @@ pub fn carry_all<D: Device>(dev: &mut D, kept: &mut Kept, book: &Book, out: &mut
     carry(dev, kept, book, out);
 }
 
-/// Takes a turn: where it has a command, the device is given it, the record follows where the device
-/// took it, and it is put into `out.done` with the value before it and its answer.
-fn take_turn<D: Device>(dev: &mut D, kept: &mut Kept, book: &Book, out: &mut Outbox, turn: Turn)
-    requires room { IfSome (due book.now.fixed.topology (λ u. value u book.now) kept.old turn)
-        (λ _. length out.old.done.items < out.old.done.room) }
-    ensures takes { Takes D.Does book.now.fixed.topology (λ u. value u book.now)
-        (turn ∷ []) kept.old kept.new out.old.done.items out.new.done.items dev.old dev.new }
-    ensures rest { KeepsRest out.old out.new }
-{
-    let Some(command) = due(turn, book, kept) else {
-        return;
-    };
-    let from = kept.value(command.unit);
-    let ok = dev.command(command).is_ok();
-    kept.log(command, ok);
-    out.done.push(Done { command, from, ok });
-}
-
-/// Takes a turn, where there is one.
-fn take_pulse<D: Device>(
-    dev: &mut D,
-    kept: &mut Kept,
-    book: &Book,
-    out: &mut Outbox,
-    turn: Option<Turn>,
-)
-    requires room { IfSome turn (λ _. length out.old.done.items < out.old.done.room) }
-    ensures takes { Takes D.Does book.now.fixed.topology (λ u. value u book.now)
-        (option_to_list turn) kept.old kept.new out.old.done.items out.new.done.items dev.old dev.new }
-    ensures rest { KeepsRest out.old out.new }
-{
-    if let Some(turn) = turn {
-        take_turn(dev, kept, book, out, turn);
-    }
-}
-
-/// Takes the turn of a unit, and before it that in which the unit is pulsed, if it is.
-fn take_unit_turn<D: Device>(
-    dev: &mut D,
-    kept: &mut Kept,
-    book: &Book,
-    out: &mut Outbox,
-    turn: Turn,
-)
-    requires room { length out.old.done.items + most_of book.now.fixed.topology (λ u. value u book.now)
-        (with_pulse out.old.pulse turn) ≤ out.old.done.room }
-    ensures takes { Takes D.Does book.now.fixed.topology (λ u. value u book.now)
-        (with_pulse out.old.pulse turn) kept.old kept.new out.old.done.items out.new.done.items dev.old dev.new }
-    ensures rest { KeepsRest out.old out.new }
-{
-    let pulse = pulse_before(out.pulse, turn);
-    take_pulse(dev, kept, book, out, pulse);
-    take_turn(dev, kept, book, out, turn);
-}
-
-/// Takes the turn at a place.
-fn take_turn_at<D: Device>(dev: &mut D, kept: &mut Kept, book: &Book, out: &mut Outbox, k: usize)
-    requires within { k < length (unit_turns book.now.fixed.topology) }
-    requires room { IfSome (slice_get (unit_turns book.now.fixed.topology) k) (λ turn. length out.old.done.items
-        + most_of book.now.fixed.topology (λ u. value u book.now) (with_pulse out.old.pulse turn) ≤ out.old.done.room) }
-    ensures takes { IfSome (slice_get (unit_turns book.now.fixed.topology) k)
-        (λ turn. Takes D.Does book.now.fixed.topology (λ u. value u book.now) (with_pulse out.old.pulse turn)
-        kept.old kept.new out.old.done.items out.new.done.items dev.old dev.new) }
-    ensures rest { KeepsRest out.old out.new }
-{
-    take_unit_turn(dev, kept, book, out, turn_at(k, book));
-}
-
 /// Takes the turns of a step, one after another.
 /// The turn of a unit that isn't marked is passed over, since it has no command.
-fn take_turns<D: Device>(dev: &mut D, kept: &mut Kept, book: &Book, out: &mut Outbox)
+fn take_turns<D: Device>(
+    dev: &mut D,
+    kept: &mut Kept,
+    book: &Book,
+    out: &mut Outbox,
+    left: Carrying,
+)
     requires room { HasRoomFor book.now out.old }
     requires fresh { out.old.done.items ≡ [] }
     requires record { IsRecordOf book.now.fixed.topology kept.old }
     requires ready { IsReady (λ u. value u book.now) out.old.pulse kept.old }
+    requires left { turns_left book.now.fixed.topology out.old.pulse left
+        ≡ turns_of book.now.fixed.topology out.old.pulse }
     ensures formed { IsWellFormed book.now.fixed.topology }
     ensures fed { IsFed book.now.fixed.topology (λ u. value u book.now) }
     ensures takes { Takes D.Does book.now.fixed.topology (λ u. value u book.now)
@@ -200,10 +136,10 @@ fn take_turns<D: Device>(dev: &mut D, kept: &mut Kept, book: &Book, out: &mut Ou
     units_stand_in_order();
     kinds_are_exact();
     unit_maps::<KeptValue>();
-    let turns = turn_count(book);
-    let mut k = next_visited(0, book, kept);
-    while k < turns {
-        take_turn_at(dev, kept, book, out, k);
-        k = next_visited(k + 1, book, kept);
+    turn_count(book);
+    let mut left = left;
+    'commands: while let Some(command) = left.next_command(kept, book, out.pulse) {
+        let ok = dev.command(command).is_ok();
+        left.command_done(command, ok, kept, book, out);
     }
 }

@@ -106,6 +106,20 @@ impl Kept {
         self.next_marked(0) < self.values.len()
     }
 
+    /// The places of the units that are marked, and perhaps of others.
+    pub(crate) fn marked(&self) -> &[usize]
+        ensures { LagsWithin result.now self.now }
+    {
+        self.marked.as_slice()
+    }
+
+    /// The unit at a place, with what is kept of it.
+    pub(crate) fn entry(&self, place: usize) -> Option<(Unit, KeptValue)>
+        ensures { result ≡ slice_get self.now place }
+    {
+        self.values.entry(place)
+    }
+
     /// Whether the unit at a place lags, and true past the last one.
     pub(crate) fn lags_at(&self, place: usize) -> bool
         ensures { result ≡ false → LagsNotAt place self.now }

@@ -2,6 +2,7 @@
 //! no unit is used without power and no domain goes down under its users, over a device that may fail.
 #![tactic(auto)]
 
+mod carrying;
 mod commands;
 mod failing;
 mod kept;
@@ -9,6 +10,7 @@ mod laws;
 mod places;
 mod turns;
 
+pub use carrying::Carrying;
 pub use commands::{carry, carry_all};
 pub use kept::{Kept, KeptValue};
 pub use laws::{

@@ -3,23 +3,21 @@
 ghost use Rattle.std.specs.Prelude.{◌≡◌, ℕ, ◌<◌, ◌≤◌, ◌==◌, ◌&&◌, ◌||◌, false, not, length, option_to_list, slice_get, Some};
 ghost use Rattle.std.specs.List.{list_any};
 ghost use Rattle.pm_base.specs.declared.names.Unit.TheVariants.{Node};
-ghost use Rattle.pm_topology.specs.declared.topology.SlaveDef.{SlaveDef};
-ghost use Rattle.pm_topology.specs.declared.topology.ProcDef.{ProcDef};
-ghost use Rattle.pm_topology.specs.declared.topology.PowerDef.{PowerDef};
 ghost use Rattle.pm_topology.specs.WellFormed.{IsWellFormed};
 ghost use Rattle.pm_topology.specs.UnitMap.{units_in};
-ghost use Rattle.pm_topology.specs.Units.{needs_power, parent_of_unit, units_of};
+ghost use Rattle.pm_topology.specs.Places.{parent_at};
+ghost use Rattle.pm_topology.specs.Units.{kind_needs_power, needs_power, parent_of_unit, units_of};
 ghost use Rattle.pm_state.specs.Fed.{IsFed};
 ghost use Rattle.pm_state.specs.Values.{value};
-ghost use Rattle.pm_apply.specs.Plan.{due, is_fed, is_place, is_power, is_power_kind, is_used, power_off, power_value, power_on, apply, pulse, pulse_before, pulse_turn, unit_turns, where_due};
+ghost use Rattle.pm_apply.specs.Plan.{due, is_fed, is_place, is_power, is_power_kind, is_used, power_off, power_value, power_on, apply, pulse, pulse_before, pulse_turn, unit_turns, uses, uses_at, where_due};
 ghost use Rattle.pm_apply.specs.Record.{kept_value};
-ghost use Rattle.pm_apply.specs.Visits.{IsIdleAt, power_lags};
+ghost use Rattle.pm_apply.specs.Visits.{IsIdleAt, StandsElsewhere, power_lags};
 
 use crate::kept::{Kept, KeptValue};
-use pm_base::{Command, LineId, NodeId, Unit};
+use pm_base::{Command, LineId, Unit};
 use pm_core::Book;
 use pm_topology::{
-    Kind, PowerDef, Topology, kinds_are_exact, needs_power, parent_of_unit, same_unit, unit_maps,
+    Kind, PowerDef, Topology, kind_needs_power, kinds_are_exact, same_unit, unit_maps,
     units_stand_in_order,
 };
 
@@ -169,6 +167,8 @@ fn pulse_turn(pulse: Option<LineId>, unit: Unit) -> Option<Turn>
 
 /// The command of a turn, if there is one: from the book's values and the record.
 pub(crate) fn due(turn: Turn, book: &Book, kept: &Kept) -> Option<Command>
+    requires units { units_in kept.now ≡ units_of book.now.fixed.topology }
+    requires stands { StandsElsewhere (λ u. value u book.now) kept.now }
     ensures { result ≡ due book.now.fixed.topology (λ u. value u book.now) kept.now turn }
 {
     match turn {
@@ -256,14 +256,27 @@ fn takes(unit: Unit, value: u32, t: &Topology, kept: &Kept) -> bool
     ensures { result ≡ (not (is_power t.now unit) && (not (kept_value kept.now unit == value)
         && (not (needs_power t.now unit value) || is_fed t.now kept.now (parent_of_unit t.now unit)))) }
 {
-    !is_power(t, unit)
+    match unit {
+        Unit::Node(node) => takes_by(t.kind(node), unit, value, t, kept),
+        Unit::Line(_) => takes_by(Kind::Unknown, unit, value, t, kept),
+    }
+}
+
+/// The same by the kind of the unit: a reset line is none of the nodes.
+fn takes_by(kind: Kind, unit: Unit, value: u32, t: &Topology, kept: &Kept) -> bool
+    ensures { result ≡ (not (is_power_kind kind) && (not (kept_value kept.now unit == value)
+        && (not (kind_needs_power t.now kind value) || is_fed t.now kept.now (parent_at t.now kind)))) }
+{
+    !is_power_kind(kind)
         && kept.value(unit) != value
-        && (!needs_power(t, unit, value) || is_fed(t, kept, parent_of_unit(t, unit)))
+        && (!kind_needs_power(t, kind, value) || is_fed(t, kept, t.parent_by(kind)))
 }
 
 // ---- a power node goes down
 
 fn power_off(place: usize, book: &Book, kept: &Kept) -> Option<Command>
+    requires units { units_in kept.now ≡ units_of book.now.fixed.topology }
+    requires stands { StandsElsewhere (λ u. value u book.now) kept.now }
     ensures { result ≡ power_off book.now.fixed.topology (λ u. value u book.now) kept.now place
         (slice_get book.now.fixed.topology.powers place) }
 {
@@ -272,77 +285,73 @@ fn power_off(place: usize, book: &Book, kept: &Kept) -> Option<Command>
         unit: Unit::Node(power.node),
         value: 0,
     };
-    where_due(goes_down(command.unit, place, book, kept), command)
+    where_due(goes_down(&power, place, book, kept), command)
 }
 
 /// Whether the power node at a place is down in the book and up in the record, and nothing directly
 /// below needs power by the record.
-fn goes_down(unit: Unit, place: usize, book: &Book, kept: &Kept) -> bool
-    ensures { result ≡ ((value unit book.now == 0)
-        && ((kept_value kept.now unit == 1) && not (is_used book.now.fixed.topology kept.now place))) }
+fn goes_down(power: &PowerDef, place: usize, book: &Book, kept: &Kept) -> bool
+    requires there { slice_get book.now.fixed.topology.powers place ≡ Some power.now }
+    requires units { units_in kept.now ≡ units_of book.now.fixed.topology }
+    requires stands { StandsElsewhere (λ u. value u book.now) kept.now }
+    ensures { result ≡ ((value (Node power.now.node) book.now == 0) && ((kept_value kept.now (Node power.now.node) == 1)
+        && not (is_used book.now.fixed.topology kept.now place))) }
 {
-    book.value(unit) == 0 && kept.value(unit) == 1 && !is_used(book, kept, place)
+    let unit = Unit::Node(power.node);
+    if book.value(unit) != 0 || kept.value(unit) != 1 {
+        return false;
+    }
+    !is_used(power, place, book, kept)
 }
 
-/// Whether some unit directly below the power node at a place needs power by the record.
-fn is_used(book: &Book, kept: &Kept, place: usize) -> bool
+/// Whether some unit directly below the power node at a place, which is down in the book, needs power by the record.
+/// None does by the book then, so one that does by the record is marked: no other is looked at.
+fn is_used(power: &PowerDef, place: usize, book: &Book, kept: &Kept) -> bool
+    requires there { slice_get book.now.fixed.topology.powers place ≡ Some power.now }
+    requires down { value (Node power.now.node) book.now ≡ 0 }
+    requires units { units_in kept.now ≡ units_of book.now.fixed.topology }
+    requires stands { StandsElsewhere (λ u. value u book.now) kept.now }
     ensures { result ≡ is_used book.now.fixed.topology kept.now place }
 {
     units_stand_in_order();
     kinds_are_exact();
     unit_maps::<KeptValue>();
-    one_uses(book.topology(), kept, place)
+    book.stays_sound();
+    one_uses(kept.marked(), book.topology(), kept, place)
 }
 
-/// The same by the tables of the chip.
-fn one_uses(t: &Topology, kept: &Kept, place: usize) -> bool
-    ensures { result ≡ (list_any (λ (s : SlaveDef). is_place place (Some s.parent)
-        && needs_power t.now (Node s.node) (kept_value kept.now (Node s.node))) t.now.slaves
-        || (list_any (λ (p : ProcDef). is_place place (Some p.parent)
-        && needs_power t.now (Node p.node) (kept_value kept.now (Node p.node))) t.now.procs
-        || list_any (λ (p : PowerDef). is_place place p.parent
-        && needs_power t.now (Node p.node) (kept_value kept.now (Node p.node))) t.now.powers)) }
+/// Whether one of the units at these places stands directly below the power node and needs power by the record.
+fn one_uses(places: &[usize], t: &Topology, kept: &Kept, place: usize) -> bool
+    ensures { result ≡ list_any (uses_at t.now kept.now place) places.now }
 {
-    slave_uses(t, kept, place) || proc_uses(t, kept, place) || power_uses(t, kept, place)
+    places.iter().any(|k| uses_at(*k, t, kept, place))
 }
 
-/// Whether a slave directly below the power node at a place needs power by the record.
-fn slave_uses(t: &Topology, kept: &Kept, place: usize) -> bool
-    ensures { result ≡ list_any (λ (s : SlaveDef). is_place place (Some s.parent)
-        && needs_power t.now (Node s.node) (kept_value kept.now (Node s.node))) t.now.slaves }
+/// Whether the unit at a place of the record does.
+fn uses_at(k: usize, t: &Topology, kept: &Kept, place: usize) -> bool
+    ensures { result ≡ uses_at t.now kept.now place k }
 {
-    let slaves = t.slaves.as_slice();
-    slaves.iter().any(|slave| uses(slave.node, Some(slave.parent), place, t, kept))
+    match kept.entry(k) {
+        Some((unit, kept)) => uses(unit, kept.value, t, place),
+        None => false,
+    }
 }
 
-/// Whether a processor directly below it does.
-fn proc_uses(t: &Topology, kept: &Kept, place: usize) -> bool
-    ensures { result ≡ list_any (λ (p : ProcDef). is_place place (Some p.parent)
-        && needs_power t.now (Node p.node) (kept_value kept.now (Node p.node))) t.now.procs }
+/// Whether a unit at this value does.
+fn uses(unit: Unit, value: u32, t: &Topology, place: usize) -> bool
+    ensures { result ≡ uses t.now place unit value }
 {
-    let procs = t.procs.as_slice();
-    procs
-        .iter()
-        .any(|proc| uses(proc.node, Some(proc.parent), place, t, kept))
+    match unit {
+        Unit::Node(node) => uses_by(t.kind(node), value, t, place),
+        Unit::Line(_) => uses_by(Kind::Unknown, value, t, place),
+    }
 }
 
-/// Whether a power node directly below it does.
-fn power_uses(t: &Topology, kept: &Kept, place: usize) -> bool
-    ensures { result ≡ list_any (λ (p : PowerDef). is_place place p.parent
-        && needs_power t.now (Node p.node) (kept_value kept.now (Node p.node))) t.now.powers }
+/// The same by the kind of the unit: a reset line is none of the nodes.
+fn uses_by(kind: Kind, value: u32, t: &Topology, place: usize) -> bool
+    ensures { result ≡ (is_place place (parent_at t.now kind) && kind_needs_power t.now kind value) }
 {
-    let powers = t.powers.as_slice();
-    powers
-        .iter()
-        .any(|power| uses(power.node, power.parent, place, t, kept))
-}
-
-/// Whether a node with this parent stands directly below the power node at a place and needs power by the record.
-fn uses(node: NodeId, parent: Option<usize>, place: usize, t: &Topology, kept: &Kept) -> bool
-    ensures { result ≡ (is_place place parent && needs_power t.now (Node node) (kept_value kept.now (Node node))) }
-{
-    let unit = Unit::Node(node);
-    is_place(place, parent) && needs_power(t, unit, kept.value(unit))
+    is_place(place, t.parent_by(kind)) && kind_needs_power(t, kind, value)
 }
 
 fn is_place(place: usize, parent: Option<usize>) -> bool
@@ -363,16 +372,7 @@ fn power_at(t: &Topology, place: usize) -> Option<PowerDef>
     t.powers.as_slice().get(place).copied()
 }
 
-/// Whether a unit is a power node.
-fn is_power(t: &Topology, unit: Unit) -> bool
-    ensures { result ≡ is_power t.now unit }
-{
-    match unit {
-        Unit::Node(node) => is_power_kind(t.kind(node)),
-        Unit::Line(_) => false,
-    }
-}
-
+/// Whether nodes of this kind are power nodes.
 fn is_power_kind(kind: Kind) -> bool
     ensures { result ≡ is_power_kind kind }
 {

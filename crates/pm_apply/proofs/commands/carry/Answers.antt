@@ -1,35 +1,23 @@
-use Rattle.std.proofs.Common.{rules, List, Bool, subst}
+use Rattle.std.proofs.Common.{rules, List, Bool}
 use Rattle.pm_core.specs.declared.outbox.Outbox.{Outbox}
 use Rattle.pm_core.specs.Outbox.{Outputs}
 use Rattle.pm_apply.specs.Part.{orders_in, part_of}
-use Rattle.pm_base.specs.declared.names.Unit.{Unit}
 use Rattle.pm_state.specs.Values.{value}
-use Rattle.pm_apply.specs.Visits.{Marks}
 use Rattle.pm_apply.proofs.AlikeLemmas.{alike_part}
-use Rattle.pm_apply.proofs.MarkingLemmas.{alike_then, ready_then, record_then}
 use Rattle.pm_apply.proofs.CarryLemmas.{IsSafe, carried, stands_then}
 use Rattle.pm_apply.proofs.FailingLemmas.{told_then}
 use Rattle.pm_apply.proofs.commands.carry.Goals as goal
 
-pub take_turns-requires-clause-record : goal.take_turns-requires-clause-record
-take_turns-requires-clause-record g c =
-    record_then (record { units = c.units_stand_in_order.ensures; kinds = c.kinds_are_exact.ensures; table = c.unit_maps.ensures }) c.args.book.now.fixed.topology (λ u. value u c.args.book.now) c.args.out.now.pulse c.args.out.now.moved.items
-    c.args.kept.now c.mark_moved.new.self c.mark_pulsed.new.self c.requires.«record» c.requires.marked
-    (subst (λ (units : List Unit). Marks units c.args.kept.now c.mark_moved.new.self) c.as_slice.ensures c.mark_moved.ensures) c.mark_pulsed.ensures
-
 pub take_turns-requires-clause-ready : goal.take_turns-requires-clause-ready
-take_turns-requires-clause-ready g c =
-    ready_then (record { units = c.units_stand_in_order.ensures; kinds = c.kinds_are_exact.ensures; table = c.unit_maps.ensures }) c.args.book.now.fixed.topology (λ u. value u c.args.book.now) c.args.out.now.pulse c.args.out.now.moved.items
-    c.args.kept.now c.mark_moved.new.self c.mark_pulsed.new.self c.requires.«record» c.requires.marked
-    (subst (λ (units : List Unit). Marks units c.args.kept.now c.mark_moved.new.self) c.as_slice.ensures c.mark_moved.ensures) c.mark_pulsed.ensures
+take_turns-requires-clause-ready g c = c.begin-left.ensures.followed.ready
 
 pub returns : goal.returns
 returns g c =
     let kept = c.args.kept.now in
-    let left = c.mark.new.self in
+    let left = c.end-out.new.kept in
     let book = c.args.book.now in
     let turned = c.take_turns.new.out in
-    let out : Outbox = record turned { answer = c.told_answer-out.result } in
+    let out : Outbox = record turned { answer = c.end-out.result } in
     let dev = c.args.dev.now in
     let well = c.take_turns.ensures.formed in
     let safe : (answers : List Bool) (outputs : Outputs) → IsSafe kept book (part_of kept answers book outputs) = λ answers outputs. record {
@@ -40,13 +28,9 @@ returns g c =
       marks = c.each_part_is_safe.ensures.marks kept answers book outputs well c.requires.«record»;
       follows = c.each_part_is_safe.ensures.values kept answers book outputs well c.requires.«record»;
     } in
-    let alike = alike_then (record { units = c.units_stand_in_order.ensures; kinds = c.kinds_are_exact.ensures; table = c.unit_maps.ensures }) book.fixed.topology (λ u. value u book) c.args.out.now.pulse c.args.out.now.moved.items
-    kept c.mark_moved.new.self c.mark_pulsed.new.self c.requires.«record» c.requires.marked
-    (subst (λ (units : List Unit). Marks units c.args.kept.now c.mark_moved.new.self) c.as_slice.ensures c.mark_moved.ensures) c.mark_pulsed.ensures
-    in
-    let step = carried g.D.Device.Does kept c.mark_pulsed.new.self c.take_turns.new.kept left book c.args.out.now out dev c.take_turns.new.dev
-    safe (alike_part (record { units = c.units_stand_in_order.ensures; kinds = c.kinds_are_exact.ensures; table = c.unit_maps.ensures }) c.mark_pulsed.new.self kept book alike) c.requires.fresh c.take_turns.ensures.takes
-    (told_then (λ u. value u book) c.args.out.now turned c.told_answer-out.result left c.take_turns.ensures.rest c.told_answer-out.ensures) c.mark.ensures
+    let step = carried g.D.Device.Does kept c.begin-left.new.kept c.take_turns.new.kept left book c.args.out.now out dev c.take_turns.new.dev
+    safe (alike_part (record { units = c.units_stand_in_order.ensures; kinds = c.kinds_are_exact.ensures; table = c.unit_maps.ensures }) c.begin-left.new.kept kept book c.begin-left.ensures.alike) c.requires.fresh c.take_turns.ensures.takes
+    (told_then (λ u. value u book) c.args.out.now turned c.end-out.result left c.take_turns.ensures.rest c.end-out.ensures.answer) c.end-out.ensures.kept
     in
     let shown = c.chain_shows.ensures (orders_in out) dev c.take_turns.new.dev step.given in
     record {

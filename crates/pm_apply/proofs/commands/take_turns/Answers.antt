@@ -1,73 +1,88 @@
-use Rattle.std.proofs.Common.{◌≤◌, ◌+◌, length, Option, refl, sym, ap, subst, arith}
-use Rattle.std.specs.Prelude.{slice_get}
+use Rattle.std.proofs.Common.{◌≡◌, ℕ, Bool, Option, [], length, sym, ap, subst, arith}
 use Rattle.pm_base.specs.declared.names.LineId.{LineId}
+use Rattle.pm_base.specs.declared.names.Unit.{Unit}
+use Rattle.pm_topology.specs.Units.{units_of}
 use Rattle.pm_state.specs.Values.{value}
-use Rattle.pm_apply.specs.Plan.{unit_turns, with_pulse}
-use Rattle.pm_apply.specs.Room.{most_of}
+use Rattle.pm_device.specs.Act.{Order}
+use Rattle.pm_apply.specs.Left.{Answers, IsFollowed, Passes, Waits, turns_left}
 use Rattle.pm_apply.proofs.Below.{ChipLaws}
 use Rattle.pm_apply.proofs.CountLemmas.{most_of_step}
-use Rattle.pm_apply.proofs.GapLemmas.{idle_gap, taken_next}
-use Rattle.pm_apply.proofs.TakesLemmas.{KeepsRest-trans, Takes-all, Takes-fits, Takes-refl}
-use Rattle.pm_apply.proofs.VisitsLemmas.{holds_where}
+use Rattle.pm_apply.proofs.LeftLemmas.{Begins-fewer, Passes-fewer, way_answered, way_end, way_open, way_passes, way_room}
+use Rattle.pm_apply.proofs.TakesLemmas.{KeepsRest-trans}
 use Rattle.pm_apply.proofs.commands.take_turns.Goals as goal
 
-pub take_turn_at-requires-clause-room : goal.take_turn_at-requires-clause-room
-take_turn_at-requires-clause-room g c =
+pub next_command-requires : goal.next_command-requires
+next_command-requires g c =
     let t = c.args.book.now.fixed.topology in
+    let values : Unit → ℕ = λ u. value u c.args.book.now in
     let pulse = c.args.out.now.pulse in
-    let fits = most_of_step t (λ u. value u c.args.book.now) c.units_stand_in_order.ensures pulse in
+    let laws : ChipLaws = record { units = c.units_stand_in_order.ensures; kinds = c.kinds_are_exact.ensures; table = c.unit_maps.ensures } in
+    let opened =
+    way_open g.D.Device.Does t values pulse c.args.kept.now c.args.out.now.done.items c.args.dev.now laws (units_of t) c.commands.left c.commands.kept c.commands.out.done.items c.commands.dev c.commands.invariant.way
+    (record { are = c.requires.«record».units; ready = c.requires.ready })
+    in
+    let P : Option LineId → Type 0 = λ p. IsFollowed t values p c.commands.kept in
+    subst P (sym c.commands.invariant.rest.pulse) (record { units = opened.are; ready = opened.ready })
+
+pub command_done-requires : goal.command_done-requires
+command_done-requires g c =
+    let t = c.args.book.now.fixed.topology in
+    let values : Unit → ℕ = λ u. value u c.args.book.now in
+    let pulse = c.args.out.now.pulse in
+    let fits = most_of_step t values c.units_stand_in_order.ensures pulse in
     let none = ap length c.requires.fresh in
-    holds_where (λ turn. length c.loop-k.out.done.items + most_of t (λ u. value u c.args.book.now) (with_pulse c.loop-k.out.pulse turn) ≤ c.loop-k.out.done.room)
-    (slice_get (unit_turns t) c.loop-k.k)
-    (λ turn here.
-    let P : Option LineId → Type 0 = λ p. length c.loop-k.out.done.items + most_of t (λ u. value u c.args.book.now) (with_pulse p turn) ≤ c.loop-k.out.done.room in
-    subst P (sym c.loop-k.invariant.rest.pulse)
-    (Takes-fits g.D.Device.Does t (λ u. value u c.args.book.now) (with_pulse pulse) (unit_turns t) c.loop-k.k turn c.args.kept.now c.loop-k.kept c.args.out.now.done.items c.loop-k.out.done.items c.args.dev.now c.loop-k.dev c.loop-k.out.done.room here
-    (omega (arith, fits, none, c.loop-k.invariant.rest.room, c.requires.room.done)) c.loop-k.invariant.takes))
-
-pub loop-k-init : goal.loop-k-init
-loop-k-init g c =
-    let t = c.args.book.now.fixed.topology in
-    let kept = c.args.kept.now in
-    let done = c.args.out.now.done.items in
-    let dev = c.args.dev.now in
-    let laws : ChipLaws = record { units = c.units_stand_in_order.ensures; kinds = c.kinds_are_exact.ensures; table = c.unit_maps.ensures } in
-    record {
-      takes = idle_gap laws g.D.Device.Does t (λ u. value u c.args.book.now) c.args.out.now.pulse kept kept done done dev dev c.requires.ready 0 c.next_visited-k.result (omega arith) c.next_visited-k.ensures.idle
-          (Takes-refl g.D.Device.Does t (λ u. value u c.args.book.now) kept done dev);
-      opened = record { are = c.requires.«record».units; ready = c.requires.ready };
-      rest = record { room = refl; moved = refl; pulse = refl; starts = refl; late = refl; callbacks = refl; answer = refl };
-    }
-
-pub next_visited-k-requires-in-loop-k : goal.next_visited-k-requires-in-loop-k
-next_visited-k-requires-in-loop-k g c =
-    let t = c.args.book.now.fixed.topology in
-    let laws : ChipLaws = record { units = c.units_stand_in_order.ensures; kinds = c.kinds_are_exact.ensures; table = c.unit_maps.ensures } in
-    let taken = taken_next laws g.D.Device.Does t (λ u. value u c.args.book.now) c.args.out.now.pulse c.loop-k.out.pulse c.args.kept.now c.loop-k.kept c.take_turn_at.new.kept c.args.out.now.done.items c.loop-k.out.done.items c.take_turn_at.new.out.done.items c.args.dev.now c.loop-k.dev c.take_turn_at.new.dev c.loop-k.k
-    (omega (arith, c.turn_count-turns.ensures.count, c.loop-k-test.true)) c.loop-k.invariant.rest.pulse c.take_turn_at.ensures.takes c.loop-k.invariant.opened c.loop-k.invariant.takes
+    let P : Option LineId → Type 0 = λ p. Passes t values p c.commands.kept c.commands.left c.next_command.new.self × Waits t values p c.commands.kept c.next_command.new.self c.in-Some.command in
+    let both = subst P c.commands.invariant.rest.pulse (c.in-Some.ensures.passes, c.in-Some.ensures.some) in
+    let room =
+    way_room g.D.Device.Does t values pulse c.args.kept.now c.args.out.now.done.items c.args.dev.now c.next_command.new.self c.commands.kept c.commands.out.done.items c.commands.dev c.args.out.now.done.room c.in-Some.command
+    (omega (arith, fits, none, c.requires.room.done))
+    (way_passes g.D.Device.Does t values pulse c.args.kept.now c.args.out.now.done.items c.args.dev.now c.commands.left c.next_command.new.self c.commands.kept c.commands.out.done.items c.commands.dev c.commands.invariant.way both.0) both.1
     in
-    taken.0.are
+    omega (arith, room, c.commands.invariant.rest.room)
 
-pub loop-k-preserved : goal.loop-k-preserved
-loop-k-preserved g c =
+pub commands-smaller : goal.commands-smaller
+commands-smaller g c =
     let t = c.args.book.now.fixed.topology in
+    let values : Unit → ℕ = λ u. value u c.args.book.now in
     let pulse = c.args.out.now.pulse in
-    let laws : ChipLaws = record { units = c.units_stand_in_order.ensures; kinds = c.kinds_are_exact.ensures; table = c.unit_maps.ensures } in
-    let taken = taken_next laws g.D.Device.Does t (λ u. value u c.args.book.now) pulse c.loop-k.out.pulse c.args.kept.now c.loop-k.kept c.take_turn_at.new.kept c.args.out.now.done.items c.loop-k.out.done.items c.take_turn_at.new.out.done.items c.args.dev.now c.loop-k.dev c.take_turn_at.new.dev c.loop-k.k
-    (omega (arith, c.turn_count-turns.ensures.count, c.loop-k-test.true)) c.loop-k.invariant.rest.pulse c.take_turn_at.ensures.takes c.loop-k.invariant.opened c.loop-k.invariant.takes
-    in
+    let P : Option LineId → Type 0 = λ p. Passes t values p c.commands.kept c.commands.left c.next_command.new.self × Waits t values p c.commands.kept c.next_command.new.self c.in-Some.command in
+    let both = subst P c.commands.invariant.rest.pulse (c.in-Some.ensures.passes, c.in-Some.ensures.some) in
+    let Q : Option LineId → Type 0 = λ p. Answers t p c.in-Some.command c.is_ok-ok.result c.next_command.new.self c.command_done.new.self c.commands.kept c.command_done.new.kept c.commands.out.done.items c.command_done.new.out.done.items in
+    let answers = subst Q c.commands.invariant.rest.pulse c.command_done.ensures.answers in
+    let one = Begins-fewer both.1.turn (turns_left t pulse c.next_command.new.self) (turns_left t pulse c.command_done.new.self) both.1.first (answers.left both.1.turn both.1.first) in
+    let two = Passes-fewer t pulse values c.commands.kept c.commands.left c.next_command.new.self both.0 in
+    omega (arith, one, two)
+
+pub commands-preserved : goal.commands-preserved
+commands-preserved g c =
+    let t = c.args.book.now.fixed.topology in
+    let values : Unit → ℕ = λ u. value u c.args.book.now in
+    let pulse = c.args.out.now.pulse in
+    let P : Option LineId → Type 0 = λ p. Passes t values p c.commands.kept c.commands.left c.next_command.new.self × Waits t values p c.commands.kept c.next_command.new.self c.in-Some.command in
+    let both = subst P c.commands.invariant.rest.pulse (c.in-Some.ensures.passes, c.in-Some.ensures.some) in
+    let Q : Option LineId → Type 0 = λ p. Answers t p c.in-Some.command c.is_ok-ok.result c.next_command.new.self c.command_done.new.self c.commands.kept c.command_done.new.kept c.commands.out.done.items c.command_done.new.out.done.items in
+    let answers = subst Q c.commands.invariant.rest.pulse c.command_done.ensures.answers in
+    let Given : Bool → Type 0 = λ ok. g.D.Device.Does (Order c.in-Some.command ok) c.commands.dev c.command.new.self in
     record {
-      takes = idle_gap laws g.D.Device.Does t (λ u. value u c.args.book.now) pulse c.args.kept.now c.take_turn_at.new.kept c.args.out.now.done.items c.take_turn_at.new.out.done.items c.args.dev.now c.take_turn_at.new.dev taken.0.ready
-          (c.loop-k.k + 1) c.next_visited-k-in-loop-k.result c.next_visited-k-in-loop-k.ensures.from c.next_visited-k-in-loop-k.ensures.idle taken.1;
-      opened = taken.0;
-      rest = KeepsRest-trans c.args.out.now c.loop-k.out c.take_turn_at.new.out c.loop-k.invariant.rest c.take_turn_at.ensures.rest;
+      way = way_answered g.D.Device.Does t values pulse c.args.kept.now c.args.out.now.done.items c.args.dev.now c.next_command.new.self c.command_done.new.self c.commands.kept c.command_done.new.kept c.commands.out.done.items c.command_done.new.out.done.items c.commands.dev c.command.new.self c.in-Some.command c.is_ok-ok.result
+          (way_passes g.D.Device.Does t values pulse c.args.kept.now c.args.out.now.done.items c.args.dev.now c.commands.left c.next_command.new.self c.commands.kept c.commands.out.done.items c.commands.dev c.commands.invariant.way both.0)
+          both.1 answers (subst Given (sym c.is_ok-ok.ensures.value) c.command.ensures.does);
+      rest = KeepsRest-trans c.args.out.now c.commands.out c.command_done.new.out c.commands.invariant.rest c.command_done.ensures.rest;
     }
 
 pub returns-clause-takes : goal.returns-clause-takes
 returns-clause-takes g c =
     let t = c.args.book.now.fixed.topology in
-    Takes-all g.D.Device.Does t (λ u. value u c.args.book.now) (with_pulse c.args.out.now.pulse) (unit_turns t) c.loop-k.k c.args.kept.now c.loop-k.kept c.args.out.now.done.items c.loop-k.out.done.items c.args.dev.now c.loop-k.dev
-    (omega (arith, c.turn_count-turns.ensures.count, c.loop-k-test.false)) c.loop-k.invariant.takes
+    let values : Unit → ℕ = λ u. value u c.args.book.now in
+    let pulse = c.args.out.now.pulse in
+    let P : Option LineId → Type 0 = λ p. Passes t values p c.commands.kept c.commands.left c.next_command.new.self × (turns_left t p c.next_command.new.self ≡ []) in
+    let both = subst P c.commands.invariant.rest.pulse (c.in_default.ensures.passes, c.in_default.ensures.none) in
+    way_end g.D.Device.Does t values pulse c.args.kept.now c.args.out.now.done.items c.args.dev.now c.next_command.new.self c.commands.kept c.commands.out.done.items c.commands.dev
+    (way_passes g.D.Device.Does t values pulse c.args.kept.now c.args.out.now.done.items c.args.dev.now c.commands.left c.next_command.new.self c.commands.kept c.commands.out.done.items c.commands.dev c.commands.invariant.way both.0) both.1
 
 pub returns-clause-ready : goal.returns-clause-ready
-returns-clause-ready g c = c.loop-k.invariant.opened.ready
+returns-clause-ready g c =
+    let t = c.args.book.now.fixed.topology in
+    let laws : ChipLaws = record { units = c.units_stand_in_order.ensures; kinds = c.kinds_are_exact.ensures; table = c.unit_maps.ensures } in
+    (way_open g.D.Device.Does t (λ u. value u c.args.book.now) c.args.out.now.pulse c.args.kept.now c.args.out.now.done.items c.args.dev.now laws (units_of t) c.commands.left c.commands.kept c.commands.out.done.items c.commands.dev c.commands.invariant.way
+    (record { are = c.requires.«record».units; ready = c.requires.ready })).ready

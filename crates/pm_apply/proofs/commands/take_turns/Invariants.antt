@@ -1,18 +1,15 @@
-use Rattle.std.proofs.Common.{◌-◌, length, take}
-use Rattle.std.specs.Prelude.{flat_map}
-use Rattle.pm_topology.specs.Units.{units_of}
+use Rattle.std.proofs.Common.{length}
 use Rattle.pm_state.specs.Values.{value}
-use Rattle.pm_apply.specs.Carried.{KeepsRest, Takes}
-use Rattle.pm_apply.specs.Plan.{unit_turns, with_pulse}
-use Rattle.pm_apply.proofs.VisitsLemmas.{IsOpen}
+use Rattle.pm_apply.specs.Carried.{KeepsRest}
+use Rattle.pm_apply.specs.Left.{turns_left}
+use Rattle.pm_apply.proofs.LeftLemmas.{IsUnderWay}
 use Rattle.pm_apply.proofs.commands.take_turns.Given as goal
 
-abbrev pub invariant-loop-k : goal.invariant-loop-k
-invariant-loop-k g l = record {
-  takes : Takes g.D.Device.Does l.book.fixed.topology (λ u. value u l.book) (flat_map (with_pulse l.fn.out.pulse) (take l.k (unit_turns l.book.fixed.topology))) l.fn.kept l.kept l.fn.out.done.items l.out.done.items l.fn.dev l.dev;
-  opened : IsOpen (λ u. value u l.book) l.fn.out.pulse (units_of l.book.fixed.topology) l.kept;
+abbrev pub invariant-commands : goal.invariant-commands
+invariant-commands g l = record {
+  way : IsUnderWay g.D.Device.Does l.book.fixed.topology (λ u. value u l.book) l.fn.out.pulse l.fn.kept l.fn.out.done.items l.fn.dev l.left l.kept l.out.done.items l.dev;
   rest : KeepsRest l.fn.out l.out;
 }
 
-abbrev pub decreases-loop-k : goal.decreases-loop-k
-decreases-loop-k g l = length (unit_turns l.book.fixed.topology) - l.k
+abbrev pub decreases-commands : goal.decreases-commands
+decreases-commands g l = length (turns_left l.book.fixed.topology l.fn.out.pulse l.left)
