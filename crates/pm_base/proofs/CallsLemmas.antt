@@ -1,5 +1,5 @@
 -- Readings of names one after another, and how one goes on.
-use Rattle.std.proofs.Common.{◌≡◌, ◌<◌, ◌≤◌, ◌+◌, ◌-◌, ℕ, zero, suc, List, [], ◌∷◌, ◌++◌, length, map, refl, sym, ◌∙◌, ap, arith, subst, Bool, true, false, Option, Some, None, append_assoc}
+use Rattle.std.proofs.Common.{◌≡◌, ◌<◌, ◌≤◌, ◌+◌, ◌-◌, ℕ, zero, suc, List, [], ◌∷◌, ◌++◌, length, map, refl, sym, ◌∙◌, ap, arith, subst, Bool, true, false, Some, None, append_assoc}
 use Rattle.pm_base.specs.Calls.{Call, Begin, Read, GoesOn, Named, ReadsEach, ReadsOn, ReadsOut, ReadsToFault, ReadsWhole, begun, mended}
 
 pub each_append : (first second : List Named) (one two : List Call) → ReadsEach first one → ReadsEach second two → ReadsEach (first ++ second) (one ++ two)

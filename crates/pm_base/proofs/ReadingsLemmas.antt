@@ -1,7 +1,7 @@
 -- How a reading between two moments goes on, ends and is broken off.
 use Rattle.std.proofs.Common.{◌≡◌, ◌<◌, ◌+◌, ◌-◌, ◌≤◌, ℕ, List, [], ◌∷◌, ◌++◌, length, take, refl, sym, ◌∙◌, ap, arith, subst, Bool, true, false, Some, None, Ok, Err, Result, append_assoc}
 use Rattle.std.proofs.lemmas.List.{append-nil, length-take-le}
-use Rattle.pm_base.specs.Calls.{Call, Begin, Read, Comes, GoesOn, GoesToFault, GoesUpTo, Named, ReadsEach, ReadsOn, ReadsToFault, begun, mended}
+use Rattle.pm_base.specs.Calls.{Call, Begin, Read, Comes, GoesOn, GoesToFault, GoesUpTo, Named, ReadsEach, ReadsOn, ReadsToFault, begun}
 use Rattle.pm_base.specs.Inputs.{Moment}
 use Rattle.pm_base.specs.Prefix.{Prefix}
 use Rattle.pm_base.specs.Readings.{LeftRead, LeftReadBy, Meanwhile, NameRead, NameReadBy}

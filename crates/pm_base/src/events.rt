@@ -53,6 +53,15 @@ pub enum Event {
         function: u32,
         args: [u64; 3],
     },
+    /// The timed task under a key is started at an interval, or started again.
+    Task {
+        key: u32,
+        interval: u32,
+    },
+    /// The timed task under a key is taken out.
+    Cancel {
+        key: u32,
+    },
     /// A node of the device fails from now on.
     Break {
         node: NodeId,

@@ -3,3 +3,7 @@ pub mod DroveLemmas
 pub mod LoweredLaw
 pub mod MetLemmas
 pub mod ToldLemmas
+pub mod BoardsLaw
+pub mod CallsLemmas
+pub mod CallsLaw
+pub mod UnsaidLaw

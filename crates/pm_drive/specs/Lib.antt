@@ -3,3 +3,7 @@ pub mod Drove
 pub mod Lowered
 pub mod PowerCalls
 pub mod Text
+pub mod Tasks
+pub mod Heard
+pub mod Boards
+pub mod Calls

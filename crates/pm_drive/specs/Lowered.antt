@@ -9,7 +9,9 @@ use Rattle.pm_run.specs.Run.{Setup}
 use Rattle.pm_trace.specs.declared.line.Word.{Word}
 use Rattle.pm_trace.specs.Notes.{note_words}
 use Rattle.pm_trace.specs.Step.{notices_of, output_words}
+use Rattle.pm_board.specs.Board.{Standing}
 use Rattle.pm_drive.specs.Drive.{Driven, Given, acts}
+use Rattle.pm_drive.specs.Heard.{heard_by, last_board}
 use Rattle.pm_drive.specs.Text.{closing_after}
 
 -- the lines in place of one
@@ -33,10 +35,13 @@ abbrev pub told_in : List Driven → List (List Word)
 told_in xs = flat_map (λ (x : Driven). flat_map told_by x.cores ++ map note_words x.line.notes) xs
 
 -- in two driven runs the same core steps follow one another, with the same books before and after each, the same outputs,
--- commands and answers. The same lines are written, but for their numbers and the answers to power calls. The same is done to
--- the device, and the closing tables are the same
+-- commands and answers. The same lines are told, but for their numbers and the answers to power calls: those of the books and
+-- the device, and, whatever board both begin with, those that are written where it brings its modules and tasks, which both
+-- leave alike. The same is done to the device, and the closing tables are the same
 pub record HaveSameSteps (c : Setup) (xs ys : List Driven) : Type 0 where
   pub steps : given_in xs ≡ given_in ys
   pub told : told_in xs ≡ told_in ys
+  pub heard : (board : Standing) → told_in (heard_by board xs) ≡ told_in (heard_by board ys)
+  pub board : (board : Standing) → last_board board xs ≡ last_board board ys
   pub done : acts xs ≡ acts ys
   pub closing : closing_after c xs ≡ closing_after c ys

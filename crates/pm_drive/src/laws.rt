@@ -6,8 +6,12 @@ ghost use Rattle.pm_base.specs.declared.names.Unit.{Unit};
 ghost use Rattle.pm_topology.specs.WellFormed.{IsWellFormed};
 ghost use Rattle.pm_device.specs.Act.{Chain};
 ghost use Rattle.pm_run.specs.Run.{Setup};
-ghost use Rattle.pm_drive.specs.Drive.{acts, driven, until};
+ghost use Rattle.pm_board.specs.Board.{Standing};
+ghost use Rattle.pm_drive.specs.Boards.{LeavesRun};
+ghost use Rattle.pm_drive.specs.Calls.{CallsAreTold};
+ghost use Rattle.pm_drive.specs.Drive.{Driven, acts, driven, until};
 ghost use Rattle.pm_drive.specs.Drove.{Drove};
+ghost use Rattle.pm_drive.specs.Heard.{heard_by, last_board};
 ghost use Rattle.pm_drive.specs.Lowered.{HaveSameSteps, lowered_script};
 ghost use Rattle.pm_drive.specs.PowerCalls.{EachCallIsItsEvents};
 
@@ -40,7 +44,7 @@ pub fn driven_follows<D: Device>()
 
 /// The line of a power call is the run of the events that it is lowered to, by the chip and the call alone: its core
 /// steps, the book after it, the commands and their lines are those of these events one after another. Then comes the
-/// answer to the call, if it has one, by the last reply that was told.
+/// answer to the call, if it has one, by the last reply that was told. Modules and tasks change nothing in it.
 pub fn power_calls_are_their_events()
     ensures { (c : Setup) → EachCallIsItsEvents c }
 {}
@@ -51,4 +55,19 @@ pub fn power_calls_are_their_events()
 pub fn scripts_are_lowered()
     ensures { (c : Setup) (events : List Event) (answers : List (List Bool))
         → HaveSameSteps c (driven c answers events) (driven c answers (lowered_script c.topology events)) }
+{}
+
+/// Whatever modules and tasks driven lines find, what is told of them changes, and nothing else: no book, no command and no
+/// kept value.
+pub fn boards_leave_runs()
+    ensures { (board : Standing) (xs : List Driven) → LeavesRun board xs }
+{}
+
+/// Each line of a run tells exactly the calls of the tasks that are due in it: each such task once, by rising key, at the
+/// time after the line, with the answer of its handler. A task that is stored before and after some lines was called once
+/// for each call that they tell of it.
+pub fn calls_are_told()
+    ensures { (c : Setup) (board : Standing) (events : List Event) (answers : List (List Bool)) (cut : Option ℕ)
+        → CallsAreTold (heard_by board (until cut (driven c answers events))) board
+        (last_board board (until cut (driven c answers events))).tasks }
 {}

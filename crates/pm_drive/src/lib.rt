@@ -4,5 +4,8 @@
 mod laws;
 mod rigs;
 
-pub use laws::{driven_follows, power_calls_are_their_events, scripts_are_lowered};
+pub use laws::{
+    boards_leave_runs, calls_are_told, driven_follows, power_calls_are_their_events,
+    scripts_are_lowered,
+};
 pub use rigs::rig;

@@ -6,6 +6,6 @@ pub mod module;
 pub mod modules;
 pub mod responders;
 
-pub use module::Module;
-pub use modules::{AddError, Modules};
+pub use module::{Module, ModuleOf};
+pub use modules::{AddError, AddErrorOf, Modules, ModulesOf};
 pub use responders::{Echo, Masked, Responder};

@@ -2,7 +2,7 @@
 
 ghost use Rattle.std.specs.Prelude.{◌≡◌, ◌≤◌, ◌++◌, ◌∷◌, [], vec_capacity, IfOk, OnOk, OnErr, IfErr, Some, None};
 
-use crate::module::Module;
+use crate::module::ModuleOf;
 use crate::responders::Responder;
 use pm_base::{Message, NoMemory};
 use pm_ipi::Response;
@@ -13,22 +13,28 @@ pub const ROOM: usize = 8;
 
 /// Why a module isn't added. It hands the module back.
 #[derive(Drop)]
-pub enum AddError {
+pub enum AddErrorOf<H: Drop> {
     /// A word is in its range and in that of a module that was added earlier.
-    Overlap(Module),
+    Overlap(ModuleOf<H>),
     /// Eight modules were added already.
-    Full(Module),
+    Full(ModuleOf<H>),
 }
 
 /// At most eight modules, of which no two have a word in common. Contracts see the list of their ranges, each
 /// with what its handler says.
 #[derive(Drop)]
-pub struct Modules {
-    modules: Vec<Module>,
+pub struct ModulesOf<H: Drop> {
+    modules: Vec<ModuleOf<H>>,
     ghost room: { 8 ≤ vec_capacity modules },
 }
 
-impl Modules {
+/// Modules whose handlers are any that a board brings.
+pub type Modules = ModulesOf<Box<dyn Responder>>;
+
+/// Why such a module isn't added.
+pub type AddError = AddErrorOf<Box<dyn Responder>>;
+
+impl<H: Responder> ModulesOf<H> {
     ghost use Rattle.pm_modules.specs.Modules.{overlaps, ranged, ranges, refusal, says_of};
 
     /// No modules, with room for eight. No later call takes memory.
@@ -36,17 +42,17 @@ impl Modules {
     /// # Errors
     ///
     /// `NoMemory` where there is not enough memory.
-    pub fn new(alloc: Global) -> Result<Modules, NoMemory>
-        ensures { IfOk result (λ modules. ranges ⟦<dyn Responder as Responder>⟧ modules ≡ []) }
+    pub fn new(alloc: Global) -> Result<ModulesOf<H>, NoMemory>
+        ensures { IfOk result (λ modules. ranges H.Responder modules ≡ []) }
     {
         match Vec::with_capacity(alloc, ROOM) {
-            Ok(modules) => Ok(Modules { modules }),
+            Ok(modules) => Ok(ModulesOf { modules }),
             Err(_) => Err(NoMemory),
         }
     }
 
-    fn overlaps(&self, added: &Module) -> bool
-        ensures { result ≡ overlaps ⟦<dyn Responder as Responder>⟧ added.now self.now }
+    fn overlaps(&self, added: &ModuleOf<H>) -> bool
+        ensures { result ≡ overlaps H.Responder added.now self.now }
     {
         for module in self.modules.as_slice() {
             if added.overlaps(module) {
@@ -62,18 +68,18 @@ impl Modules {
     ///
     /// `Overlap` where a word is in its range and in that of a module that is stored, and else `Full` where
     /// eight are stored. Both hand the module back, and nothing changes.
-    pub fn add(&mut self, added: Module) -> Result<(), AddError>
-        ensures added { OnOk result (ranges ⟦<dyn Responder as Responder>⟧ self.new
-            ≡ ranges ⟦<dyn Responder as Responder>⟧ self.old ++ ranged ⟦<dyn Responder as Responder>⟧ added ∷ []) }
-        ensures fits { OnOk result (refusal ⟦<dyn Responder as Responder>⟧ added self.old ≡ None) }
-        ensures refused { IfErr result (λ error. refusal ⟦<dyn Responder as Responder>⟧ added self.old ≡ Some error) }
+    pub fn add(&mut self, added: ModuleOf<H>) -> Result<(), AddErrorOf<H>>
+        ensures added { OnOk result (ranges H.Responder self.new
+            ≡ ranges H.Responder self.old ++ ranged H.Responder added ∷ []) }
+        ensures fits { OnOk result (refusal H.Responder added self.old ≡ None) }
+        ensures refused { IfErr result (λ error. refusal H.Responder added self.old ≡ Some error) }
         ensures kept { OnErr result (self.new ≡ self.old) }
     {
         if self.overlaps(&added) {
-            return Err(AddError::Overlap(added));
+            return Err(AddErrorOf::Overlap(added));
         }
         if self.modules.len() >= ROOM {
-            return Err(AddError::Full(added));
+            return Err(AddErrorOf::Full(added));
         }
         self.modules.push_reserved(added);
         Ok(())
@@ -81,7 +87,7 @@ impl Modules {
 
     /// What the handler says whose range has the message's API word, and nothing where no range has it.
     pub fn answer(&self, message: &Message) -> Option<Response>
-        ensures { result ≡ says_of ⟦<dyn Responder as Responder>⟧ self.now message.now }
+        ensures { result ≡ says_of H.Responder self.now message.now }
     {
         for module in self.modules.as_slice() {
             if module.has_word(message.api) {

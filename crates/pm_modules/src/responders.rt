@@ -17,6 +17,15 @@ pub trait Responder: Drop {
         ensures { result ≡ says self.now message.now };
 }
 
+/// A boxed responder says what the one inside says.
+impl Responder for Box<dyn Responder> {
+    ghost says = { λ held. (Responder-box held).says held.value };
+
+    fn serve(&self, message: &Message) -> Response {
+        (**self).serve(message)
+    }
+}
+
 /// Answers status 0 and the first three arguments.
 #[derive(Drop)]
 pub struct Echo;

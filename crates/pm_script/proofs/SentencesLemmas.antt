@@ -16,7 +16,7 @@ use Rattle.pm_script.specs.declared.forms.Width.TheVariants as widths
 use Rattle.pm_script.specs.declared.meaning.LineFault.TheVariants.{Number, Unknown}
 use Rattle.pm_script.specs.Forms.{Row, address_at, argument_of, arguments_of, call_arguments, event_of, line_forms, address_in, message_of, number_at, row, with_first}
 use Rattle.pm_script.specs.Meaning.{form_meaning, found_meaning, words_meaning}
-use Rattle.pm_script.specs.Sentences.{IsNoKeyword, address_of_place, address_of_word, arguments_of_words, boot_meaning, boot_event, break_meaning, gic_meaning, mend_meaning, ipi_meaning, irq_meaning, is_address, is_number, message_of_words, number_of_place, number_of_word, numbers_meaning, post_meaning, serve_meaning, smc_meaning, tick_meaning, wfi_meaning}
+use Rattle.pm_script.specs.Sentences.{IsNoKeyword, address_of_place, address_of_word, arguments_of_words, boot_meaning, boot_event, break_meaning, cancel_meaning, gic_meaning, mend_meaning, ipi_meaning, irq_meaning, is_address, is_number, message_of_words, number_of_place, number_of_word, numbers_meaning, post_meaning, serve_meaning, smc_meaning, task_meaning, tick_meaning, wfi_meaning}
 
 -- the argument of 32 bits that a word is
 abbrev as_number : List ℕ → Argument
@@ -105,6 +105,12 @@ wakes words = numbers_row (row (codes "gic") kinds.Gic 1 (widths.Number ∷ []))
 
 pub ticks : (words : List (List ℕ)) → words_meaning (codes "tick" ∷ words) ≡ tick_meaning words
 ticks words = numbers_row (row (codes "tick") kinds.Tick 1 (widths.Number ∷ [])) (λ words. events.Tick (number_of_place words 0)) (refl, tt) (λ words. ap events.Tick (place_of words 0)) words
+
+pub starts : (words : List (List ℕ)) → words_meaning (codes "task" ∷ words) ≡ task_meaning words
+starts words = numbers_row (row (codes "task") kinds.Task 2 (widths.Number ∷ widths.Number ∷ [])) (λ words. events.Task (number_of_place words 0) (number_of_place words 1)) (refl, (refl, tt)) (λ words. rw (place_of words 0, place_of words 1) refl) words
+
+pub cancels : (words : List (List ℕ)) → words_meaning (codes "cancel" ∷ words) ≡ cancel_meaning words
+cancels words = numbers_row (row (codes "cancel") kinds.Cancel 1 (widths.Number ∷ [])) (λ words. events.Cancel (number_of_place words 0)) (refl, tt) (λ words. ap events.Cancel (place_of words 0)) words
 
 pub breaks : (words : List (List ℕ)) → words_meaning (codes "break" ∷ words) ≡ break_meaning words
 breaks words = numbers_row (row (codes "break") kinds.Break 1 (widths.Number ∷ [])) (λ words. events.Break (record { 0 = number_of_place words 0 })) (refl, tt) (λ words. ap (λ n. events.Break (record { 0 = n })) (place_of words 0)) words

@@ -8,7 +8,7 @@ use Rattle.pm_base.specs.Numbers.{number_of, at_most}
 use Rattle.pm_script.specs.declared.forms.Argument.{Argument}
 use Rattle.pm_script.specs.declared.forms.Argument.TheVariants as arguments
 use Rattle.pm_script.specs.declared.forms.Kind.{Kind}
-use Rattle.pm_script.specs.declared.forms.Kind.TheVariants.{Ipi, Boot, Wfi, Irq, Gic, Tick, Post, Serve, Smc, Break, Mend}
+use Rattle.pm_script.specs.declared.forms.Kind.TheVariants.{Ipi, Boot, Wfi, Irq, Gic, Tick, Post, Serve, Smc, Task, Cancel, Break, Mend}
 use Rattle.pm_script.specs.declared.forms.LineForm.{LineForm}
 use Rattle.pm_script.specs.declared.forms.Width.{Width}
 use Rattle.pm_script.specs.declared.forms.Width.TheVariants.{Number, Address}
@@ -36,6 +36,8 @@ line_forms =
     ∷ row (codes "post") Post 2 (Number ∷ Number ∷ Number ∷ Number ∷ Number ∷ Number ∷ Number ∷ [])
     ∷ row (codes "serve") Serve 0 []
     ∷ row (codes "smc") Smc 2 (Number ∷ Number ∷ Address ∷ Address ∷ Address ∷ [])
+    ∷ row (codes "task") Task 2 (Number ∷ Number ∷ [])
+    ∷ row (codes "cancel") Cancel 1 (Number ∷ [])
     ∷ row (codes "break") Break 1 (Number ∷ [])
     ∷ row (codes "mend") Mend 1 (Number ∷ [])
     ∷ []
@@ -97,6 +99,8 @@ event_of Tick given = events.Tick (number_at given 0)
 event_of Post given = events.Post (record { 0 = number_at given 0 }) (message_of given)
 event_of Serve given = events.Serve
 event_of Smc given = events.Smc (record { 0 = number_at given 0 }) (number_at given 1) (call_arguments given)
+event_of Task given = events.Task (number_at given 0) (number_at given 1)
+event_of Cancel given = events.Cancel (number_at given 0)
 event_of Break given = events.Break (record { 0 = number_at given 0 })
 event_of Mend given = events.Mend (record { 0 = number_at given 0 })
 

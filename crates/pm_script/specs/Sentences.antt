@@ -2,7 +2,7 @@
 use Rattle.std.specs.Prelude.{◌≡◌, codes, ℕ, ◌-◌, ◌^◌, ◌&&◌, Bool, nat_le, if◌then◌else◌, List, [], ◌∷◌, drop, length, slice_get, take, Option, Some, None, is_some, unwrap_or, option_and_then, Result, Ok, Err}
 use Rattle.std.specs.List.{AllByRecursion, list_all}
 use Rattle.pm_base.specs.declared.events.Event.{Event}
-use Rattle.pm_base.specs.declared.events.Event.TheVariants.{Ipi, Boot, Wfi, Irq, Gic, Tick, Post, Serve, Smc, Break, Mend}
+use Rattle.pm_base.specs.declared.events.Event.TheVariants.{Ipi, Boot, Wfi, Irq, Gic, Tick, Post, Serve, Smc, Task, Cancel, Break, Mend}
 use Rattle.pm_base.specs.declared.events.Message.{Message}
 use Rattle.pm_base.specs.Numbers.{number_of, at_most}
 use Rattle.pm_script.specs.declared.meaning.LineFault.{LineFault}
@@ -93,6 +93,14 @@ gic_meaning words = numbers_meaning 1 1 (λ words. Gic (record { 0 = number_of_p
 abbrev pub tick_meaning : List (List ℕ) → Result Event LineFault
 tick_meaning words = numbers_meaning 1 1 (λ words. Tick (number_of_place words 0)) words
 
+-- `task KEY INTERVAL`: the timed task under a key is started at an interval
+abbrev pub task_meaning : List (List ℕ) → Result Event LineFault
+task_meaning words = numbers_meaning 2 2 (λ words. Task (number_of_place words 0) (number_of_place words 1)) words
+
+-- `cancel KEY`: the timed task under a key is taken out
+abbrev pub cancel_meaning : List (List ℕ) → Result Event LineFault
+cancel_meaning words = numbers_meaning 1 1 (λ words. Cancel (number_of_place words 0)) words
+
 -- `break N`: the device's node N fails from now on
 abbrev pub break_meaning : List (List ℕ) → Result Event LineFault
 break_meaning words = numbers_meaning 1 1 (λ words. Break (record { 0 = number_of_place words 0 })) words
@@ -105,7 +113,7 @@ mend_meaning words = numbers_meaning 1 1 (λ words. Mend (record { 0 = number_of
 abbrev pub keywords : List (List ℕ)
 keywords =
     codes "ipi" ∷ codes "boot" ∷ codes "wfi" ∷ codes "irq" ∷ codes "gic" ∷ codes "tick" ∷ codes "post" ∷ codes "serve"
-    ∷ codes "smc" ∷ codes "break" ∷ codes "mend" ∷ []
+    ∷ codes "smc" ∷ codes "task" ∷ codes "cancel" ∷ codes "break" ∷ codes "mend" ∷ []
 
 -- a word is none of them
 abbrev pub IsNoKeyword : List ℕ → Type 0

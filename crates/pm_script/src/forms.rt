@@ -41,6 +41,8 @@ pub(crate) enum Kind {
     Post,
     Serve,
     Smc,
+    Task,
+    Cancel,
     Break,
     Mend,
 }
@@ -51,7 +53,7 @@ pub(crate) enum Kind {
 pub(crate) struct LineForm(pub &'static [u8], pub Kind, pub usize, pub &'static [Width]);
 
 /// The table of the forms of a script's lines.
-static FORMS: [LineForm; 11] = [
+static FORMS: [LineForm; 13] = [
     LineForm(b"ipi", Kind::Ipi, 2, &[Width::Number; 7]),
     LineForm(b"boot", Kind::Boot, 2, &[Width::Number, Width::Address]),
     LineForm(b"wfi", Kind::Wfi, 1, &[Width::Number]),
@@ -72,6 +74,8 @@ static FORMS: [LineForm; 11] = [
             Width::Address,
         ],
     ),
+    LineForm(b"task", Kind::Task, 2, &[Width::Number; 2]),
+    LineForm(b"cancel", Kind::Cancel, 1, &[Width::Number]),
     LineForm(b"break", Kind::Break, 1, &[Width::Number]),
     LineForm(b"mend", Kind::Mend, 1, &[Width::Number]),
 ];
@@ -178,6 +182,11 @@ pub(crate) fn event_of(kind: Kind, arguments: &[Argument]) -> Event
             function: number(1),
             args: call_arguments(arguments),
         },
+        Kind::Task => Event::Task {
+            key: number(0),
+            interval: number(1),
+        },
+        Kind::Cancel => Event::Cancel { key: number(0) },
         Kind::Break => Event::Break {
             node: NodeId(number(0)),
         },

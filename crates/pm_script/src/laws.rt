@@ -7,8 +7,8 @@ ghost use Rattle.pm_base.specs.Prefix.{IsUnread, Prefix};
 ghost use Rattle.pm_base.specs.declared.prefix.StopReason.TheVariants.{Unbegun};
 ghost use Rattle.pm_script.specs.declared.meaning.LineFault.TheVariants.{Unknown};
 ghost use Rattle.pm_script.specs.Meaning.{words_meaning};
-ghost use Rattle.pm_script.specs.Sentences.{IsNoKeyword, boot_meaning, break_meaning, gic_meaning, ipi_meaning, irq_meaning};
-ghost use Rattle.pm_script.specs.Sentences.{mend_meaning, post_meaning, serve_meaning, smc_meaning, tick_meaning, wfi_meaning};
+ghost use Rattle.pm_script.specs.Sentences.{IsNoKeyword, boot_meaning, break_meaning, cancel_meaning, gic_meaning, ipi_meaning, irq_meaning};
+ghost use Rattle.pm_script.specs.Sentences.{mend_meaning, post_meaning, serve_meaning, smc_meaning, task_meaning, tick_meaning, wfi_meaning};
 ghost use Rattle.pm_script.specs.Named.{IsHeldWhole, IsUnreadable, script_in};
 ghost use Rattle.pm_script.specs.Script.{Script, script_from, script_limit, script_lines, script_of, stop_of};
 ghost use Rattle.pm_script.specs.Script.Stop.{End};
@@ -26,6 +26,8 @@ pub fn each_kind_has_its_sentence()
     ensures post { (words : List (List ℕ)) → words_meaning (codes "post" ∷ words) ≡ post_meaning words }
     ensures serve { (words : List (List ℕ)) → words_meaning (codes "serve" ∷ words) ≡ serve_meaning words }
     ensures smc { (words : List (List ℕ)) → words_meaning (codes "smc" ∷ words) ≡ smc_meaning words }
+    ensures task { (words : List (List ℕ)) → words_meaning (codes "task" ∷ words) ≡ task_meaning words }
+    ensures cancel { (words : List (List ℕ)) → words_meaning (codes "cancel" ∷ words) ≡ cancel_meaning words }
     ensures break_ { (words : List (List ℕ)) → words_meaning (codes "break" ∷ words) ≡ break_meaning words }
     ensures mend { (words : List (List ℕ)) → words_meaning (codes "mend" ∷ words) ≡ mend_meaning words }
     ensures unknown { (word : List ℕ) (words : List (List ℕ)) → IsNoKeyword word → words_meaning (word ∷ words) ≡ Err Unknown }

@@ -30,7 +30,8 @@ pub enum LineFault {
 /// processor P at an address of 64 bits; in `wfi P` processor P waits for an interrupt; in `irq S` slave S
 /// raises its interrupt; in `gic P` there is an interrupt at processor P itself; in `tick N` N units of
 /// time pass; in `post M API` with 0 to 5 arguments master M puts a message into its box; in `serve` the messages in all
-/// boxes are served; in `smc P FUNCTION` with 0 to 3 arguments of 64 bits processor P makes a power call; from
+/// boxes are served; in `smc P FUNCTION` with 0 to 3 arguments of 64 bits processor P makes a power call; in
+/// `task KEY INTERVAL` the timed task under KEY is started at INTERVAL; in `cancel KEY` it is taken out; from
 /// `break N` on node N of the device fails; and from `mend N` on it works again.
 pub fn parse_line(line: &[u8]) -> Result<Event, LineFault>
     ensures { result ≡ meaning line.now }

@@ -15,10 +15,14 @@ use Rattle.pm_psci.specs.Lowering.{lowered, or_pass}
 use Rattle.pm_split.specs.Boxes.{Boxes, box_of, waiting_in}
 
 -- what a script line itself writes, beside what its core steps put out: the box of this master had a message already;
--- or what the power call of this processor is answered, which no split says, since it is read from the reply
+-- or what the power call of this processor is answered; or no task could be started or taken out under this key; or the
+-- task under this key was called at this time and answered this word. No split says the last three, since they are read
+-- from the reply and from the board
 pub data Note : Type 0 where
   Busy : NodeId → Note
   Called : NodeId → ℤ → Note
+  NoTask : ℕ → Note
+  Fired : ℕ → ℕ → ℕ → Note
 
 -- the note of a line whose post found a full box
 abbrev pub noted_busy : Option NodeId → List Note

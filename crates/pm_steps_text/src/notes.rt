@@ -2,7 +2,7 @@
 
 use crate::rows::all_right;
 use pm_base::NodeId;
-use pm_trace::{TextLine, busy_line, call_line};
+use pm_trace::{TextLine, busy_line, call_line, no_task_line, task_line};
 
 /// The number of a script line, the master whose box is full in it, and what is written.
 static BUSY: [(u32, u32, &str); 3] = [
@@ -58,4 +58,60 @@ fn wrong_call() -> Option<usize> {
 #[test]
 fn the_answer_to_a_power_call_is_told_in_a_line(rt: HostRuntime) {
     all_right(&rt, wrong_call());
+}
+
+/// The number of a script line, the key under which it finds no task, and what is written.
+static NO_TASK: [(u32, u32, &str); 3] = [
+    (9, 0, "9 notask 0\n"),
+    (0, 1, "0 notask 1\n"),
+    (u32::MAX, u32::MAX, "4294967295 notask 4294967295\n"),
+];
+
+/// The place of the first row that is wrong.
+fn wrong_no_task() -> Option<usize> {
+    let mut line = TextLine::new();
+    for (place, (n, key, text)) in NO_TASK.iter().enumerate() {
+        no_task_line(*n, *key, &mut line);
+        if line.as_slice() != text.as_bytes() {
+            return Some(place);
+        }
+    }
+    None
+}
+
+#[test]
+fn a_missing_task_is_told_in_a_line(rt: HostRuntime) {
+    all_right(&rt, wrong_no_task());
+}
+
+/// The number of a script line, the key of the task that is called in it, the time, the word that it answers, and what
+/// is written.
+static FIRED: [(u32, u64, u64, u32, &str); 4] = [
+    (4, 0, 100, 1, "4 task 0 100 1\n"),
+    (5, 0, 350, 2, "5 task 0 350 2\n"),
+    (0, 1, 0, 0, "0 task 1 0 0\n"),
+    (
+        u32::MAX,
+        u64::MAX,
+        u64::MAX - 1,
+        u32::MAX,
+        "4294967295 task 18446744073709551615 18446744073709551614 4294967295\n",
+    ),
+];
+
+/// The place of the first row that is wrong.
+fn wrong_fired() -> Option<usize> {
+    let mut line = TextLine::new();
+    for (place, (n, key, at, told, text)) in FIRED.iter().enumerate() {
+        task_line(*n, *key, *at, *told, &mut line);
+        if line.as_slice() != text.as_bytes() {
+            return Some(place);
+        }
+    }
+    None
+}
+
+#[test]
+fn the_call_of_a_task_is_told_in_a_line(rt: HostRuntime) {
+    all_right(&rt, wrong_fired());
 }

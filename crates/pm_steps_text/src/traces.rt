@@ -44,8 +44,8 @@ fn outbox(
 fn text_of(alloc: Global, n: u32, out: &Outbox) -> Result<Vec<u8>, Fail> {
     let mut text = Vec::new(alloc);
     let mut line = TextLine::new();
-    for k in 0..entries(out) {
-        entry(n, out, k, &mut line);
+    for k in 0..entries(out, &out.answer) {
+        entry(n, out, &out.answer, k, &mut line);
         text.extend_from_slice(line.as_slice())?;
     }
     Ok(text)
@@ -399,10 +399,10 @@ static LINES: [&str; 7] = [
 fn wrong_line(out: &Outbox) -> Option<usize> {
     let mut line = TextLine::new();
     for (k, text) in LINES.iter().enumerate() {
-        if k >= entries(out) {
+        if k >= entries(out, &out.answer) {
             return Some(k);
         }
-        entry(3, out, k, &mut line);
+        entry(3, out, &out.answer, k, &mut line);
         if line.as_slice() != text.as_bytes() {
             return Some(k);
         }
@@ -417,7 +417,7 @@ fn late_replies_and_callbacks_stand_between_the_starts_and_the_answer(
     let mut out = outbox(rt.alloc(), Some(COMMAND), Some(START), DROP)?;
     out.late = replies(rt.alloc())?;
     out.callbacks = callbacks(rt.alloc())?;
-    assert_eq!(rt; entries(&out), 7);
+    assert_eq!(rt; entries(&out, &out.answer), 7);
     all_right(&rt, wrong_line(&out));
     Ok(())
 }

@@ -1,5 +1,5 @@
 -- The tasks by their keys, the time, and which calls are left of those that are due.
-use Rattle.std.specs.Prelude.{◌≡◌, ◌≢◌, ℕ, ◌+◌, ◌-◌, ◌/◌, ◌%◌, ◌^◌, ◌==◌, ◌&&◌, not, nat_lt, Bool, false, if◌then◌else◌, List, [], ◌∷◌, map, count_by, slice_index_or, slice_set, Option, Some, None, is_some}
+use Rattle.std.specs.Prelude.{◌≡◌, ◌≢◌, ℕ, ◌+◌, ◌-◌, ◌/◌, ◌%◌, ◌^◌, ◌==◌, ◌&&◌, min, not, nat_lt, Bool, false, if◌then◌else◌, List, [], ◌∷◌, map, count_by, slice_index_or, slice_set, Option, Some, None, is_some}
 use Rattle.std.specs.Option.{option_map}
 use Rattle.pm_tasks.specs.declared.tasks.Fired.{Fired}
 
@@ -89,6 +89,10 @@ started key interval t =
 
 abbrev pub cancelled : ℕ → Timetable → Timetable
 cancelled key t = record t { slots = if is_stored key t then slice_set t.slots key None else t.slots }
+
+-- how much time passes: as much as fits 64 bits, at whose end the time stands still
+abbrev pub passing : ℕ → Timetable → ℕ
+passing count t = min count (2 ^ 64 - 1 - t.now)
 
 -- the time moves
 abbrev pub advanced : ℕ → Timetable → Timetable

@@ -1,12 +1,12 @@
 //! Lists of events: what is written of tasks over a whole list.
 
-ghost use Rattle.std.specs.Prelude.{◌≡◌, ◌+◌, ◌*◌, ◌≤◌, ◌<◌, ◌^◌, ◌++◌, [], map, length, OnOk};
+ghost use Rattle.std.specs.Prelude.{◌≡◌, ◌++◌, [], map, OnOk};
 ghost use Rattle.pm_tasks.specs.Stored.{timetable};
 ghost use Rattle.pm_tasks.specs.declared.history.Line.TheVariants.{Task};
 ghost use Rattle.pm_tasks.specs.History.{after, after_all, history, lines};
 
 use crate::handler::Handler;
-use crate::tasks::{Fired, Tasks};
+use crate::tasks::{Fired, TasksOf};
 use std::alloc::AllocError;
 
 /// What happens to tasks.
@@ -30,14 +30,14 @@ pub enum Line {
 }
 
 /// Makes the calls that are due, and writes each.
-fn take_all(tasks: &mut Tasks, out: &mut Vec<Line>) -> Result<(), AllocError>
-    ensures left { OnOk result ((timetable ⟦<dyn Handler as Handler>⟧ tasks.new).left ≡ []) }
-    ensures rest { timetable ⟦<dyn Handler as Handler>⟧ tasks.new
-        ≡ record (timetable ⟦<dyn Handler as Handler>⟧ tasks.old) {
-          left = (timetable ⟦<dyn Handler as Handler>⟧ tasks.new).left;
+fn take_all<H: Handler>(tasks: &mut TasksOf<H>, out: &mut Vec<Line>) -> Result<(), AllocError>
+    ensures left { OnOk result ((timetable H.Handler tasks.new).left ≡ []) }
+    ensures rest { timetable H.Handler tasks.new
+        ≡ record (timetable H.Handler tasks.old) {
+          left = (timetable H.Handler tasks.new).left;
         } }
     ensures told { OnOk result (out.new.items
-        ≡ out.old.items ++ map Task (timetable ⟦<dyn Handler as Handler>⟧ tasks.old).left) }
+        ≡ out.old.items ++ map Task (timetable H.Handler tasks.old).left) }
 {
     'calls: while let Some(fired) = tasks.take() {
         out.push(Line::Task(fired))?;
@@ -46,15 +46,16 @@ fn take_all(tasks: &mut Tasks, out: &mut Vec<Line>) -> Result<(), AllocError>
 }
 
 /// Carries one event out, and writes its lines.
-fn serve(tasks: &mut Tasks, event: &Happening, out: &mut Vec<Line>) -> Result<(), AllocError>
-    requires settled { (timetable ⟦<dyn Handler as Handler>⟧ tasks.old).left ≡ [] }
-    requires fits { (timetable ⟦<dyn Handler as Handler>⟧ tasks.old).now + 2 ^ 32 < 2 ^ 64 }
-    ensures table { OnOk result (timetable ⟦<dyn Handler as Handler>⟧ tasks.new
-        ≡ after event.now (timetable ⟦<dyn Handler as Handler>⟧ tasks.old)) }
+fn serve<H: Handler>(
+    tasks: &mut TasksOf<H>,
+    event: &Happening,
+    out: &mut Vec<Line>,
+) -> Result<(), AllocError>
+    requires settled { (timetable H.Handler tasks.old).left ≡ [] }
+    ensures table { OnOk result (timetable H.Handler tasks.new
+        ≡ after event.now (timetable H.Handler tasks.old)) }
     ensures told { OnOk result (out.new.items
-        ≡ out.old.items ++ lines event.now (timetable ⟦<dyn Handler as Handler>⟧ tasks.old)) }
-    ensures soon { OnOk result ((timetable ⟦<dyn Handler as Handler>⟧ tasks.new).now
-        ≤ (timetable ⟦<dyn Handler as Handler>⟧ tasks.old).now + 2 ^ 32) }
+        ≡ out.old.items ++ lines event.now (timetable H.Handler tasks.old)) }
 {
     match *event {
         Happening::Start(key, interval) => {
@@ -68,7 +69,7 @@ fn serve(tasks: &mut Tasks, event: &Happening, out: &mut Vec<Line>) -> Result<()
             }
         }
         Happening::Tick(count) => {
-            tasks.advance(count);
+            tasks.pass(count);
             take_all(tasks, out)?;
         }
     }
@@ -81,14 +82,17 @@ fn serve(tasks: &mut Tasks, event: &Happening, out: &mut Vec<Line>) -> Result<()
 /// # Errors
 ///
 /// `AllocError` where there is not enough memory for the lines.
-pub fn run(tasks: &mut Tasks, events: &[Happening], out: &mut Vec<Line>) -> Result<(), AllocError>
-    requires settled { (timetable ⟦<dyn Handler as Handler>⟧ tasks.old).left ≡ [] }
-    requires fits { (timetable ⟦<dyn Handler as Handler>⟧ tasks.old).now + length events.now * 2 ^ 32 < 2 ^ 64 }
-    ensures settled { OnOk result ((timetable ⟦<dyn Handler as Handler>⟧ tasks.new).left ≡ []) }
-    ensures table { OnOk result (timetable ⟦<dyn Handler as Handler>⟧ tasks.new
-        ≡ after_all events.now (timetable ⟦<dyn Handler as Handler>⟧ tasks.old)) }
+pub fn run<H: Handler>(
+    tasks: &mut TasksOf<H>,
+    events: &[Happening],
+    out: &mut Vec<Line>,
+) -> Result<(), AllocError>
+    requires settled { (timetable H.Handler tasks.old).left ≡ [] }
+    ensures settled { OnOk result ((timetable H.Handler tasks.new).left ≡ []) }
+    ensures table { OnOk result (timetable H.Handler tasks.new
+        ≡ after_all events.now (timetable H.Handler tasks.old)) }
     ensures lines { OnOk result (out.new.items
-        ≡ out.old.items ++ history events.now (timetable ⟦<dyn Handler as Handler>⟧ tasks.old)) }
+        ≡ out.old.items ++ history events.now (timetable H.Handler tasks.old)) }
 {
     for event in events {
         serve(tasks, event, out)?;

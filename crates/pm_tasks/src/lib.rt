@@ -9,4 +9,4 @@ pub mod tasks;
 
 pub use handler::{Counter, Handler};
 pub use history::{Happening, Line, run};
-pub use tasks::{Fired, Tasks};
+pub use tasks::{Fired, Tasks, TasksOf};

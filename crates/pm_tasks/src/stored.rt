@@ -1,6 +1,6 @@
 //! A task as it is stored under its key.
 
-ghost use Rattle.std.specs.Prelude.{◌≡◌, ◌+◌, ◌%◌, ◌^◌, ◌<◌, Some, None, IsSome, is_some, slice_set, option_map};
+ghost use Rattle.std.specs.Prelude.{◌≡◌, ◌+◌, ◌%◌, ◌^◌, ◌<◌, Some, None, IfSome, IsSome, is_some, slice_set, option_map};
 ghost use Rattle.slab.specs.Slab.{get, slab_len};
 
 use crate::handler::Handler;
@@ -35,18 +35,18 @@ impl Plan {
 
 /// A handler with its plan: none where it is stopped.
 #[derive(Drop)]
-pub(crate) struct Task {
+pub(crate) struct Task<H: Drop> {
     pub(crate) plan: Option<Plan>,
-    pub(crate) handler: Box<dyn Handler>,
+    pub(crate) handler: H,
 }
 
-impl Task {
+impl<H: Handler> Task<H> {
     ghost use Rattle.pm_tasks.specs.Timetable.{called, is_due, planned};
     ghost use Rattle.pm_tasks.specs.Stored.{timed};
 
     /// Whether a whole interval more has passed at one time than at an earlier one.
     pub(crate) fn is_due(&self, before: u64, now: u64) -> bool
-        ensures { result ≡ is_due before now (timed ⟦<dyn Handler as Handler>⟧ self.now).plan }
+        ensures { result ≡ is_due before now (timed H.Handler self.now).plan }
     {
         match &self.plan {
             Some(plan) => plan.is_due(before, now),
@@ -56,9 +56,10 @@ impl Task {
 
     /// Calls the handler.
     pub(crate) fn fire(&mut self, at: u64) -> u32
-        ensures called { timed ⟦<dyn Handler as Handler>⟧ self.new
-            ≡ called (timed ⟦<dyn Handler as Handler>⟧ self.old) }
-        ensures answer { result ≡ (timed ⟦<dyn Handler as Handler>⟧ self.new).calls }
+        ensures called { timed H.Handler self.new
+            ≡ called (timed H.Handler self.old) }
+        ensures answer { result ≡ (timed H.Handler self.new).calls }
+        ensures time { IfSome (H.last self.new.handler) (λ time. time ≡ at) }
     {
         self.handler.fire(at)
     }
@@ -66,8 +67,8 @@ impl Task {
     /// It runs from a time on, at this interval.
     pub(crate) fn run(&mut self, from: u64, interval: u32)
         requires { 0 < interval }
-        ensures { timed ⟦<dyn Handler as Handler>⟧ self.new
-            ≡ planned from interval (timed ⟦<dyn Handler as Handler>⟧ self.old) }
+        ensures { timed H.Handler self.new
+            ≡ planned from interval (timed H.Handler self.old) }
     {
         self.plan = Some(Plan { from, interval });
     }

@@ -21,8 +21,8 @@ pub struct Fired {
 /// Tasks by their keys, and the time. Contracts see the tasks as they are once no call is left, and beside them
 /// the calls that are left of those that are due.
 #[derive(Drop)]
-pub struct Tasks {
-    tasks: Slab<Task>,
+pub struct TasksOf<H: Drop> {
+    tasks: Slab<Task<H>>,
     limit: usize,
     /// The time, and what it was before it moved last.
     time: u64,
@@ -33,20 +33,23 @@ pub struct Tasks {
     ghost room: { limit ≤ tasks.capacity },
 }
 
-impl Tasks {
-    ghost use Rattle.pm_tasks.specs.Timetable.{Adds, advanced, cancelled, can_start, empty, is_due, is_stored, slot, started, stored_count};
-    ghost use Rattle.pm_tasks.specs.Stored.{is_due_at, seen, stored, timetable};
+/// Tasks whose handlers are any that a board brings.
+pub type Tasks = TasksOf<Box<dyn Handler>>;
+
+impl<H: Handler> TasksOf<H> {
+    ghost use Rattle.pm_tasks.specs.Timetable.{Adds, advanced, cancelled, can_start, empty, is_due, is_stored, slot, passing, started, stored_count};
+    ghost use Rattle.pm_tasks.specs.Stored.{is_due_at, last_call, seen, stored, timetable};
 
     /// No tasks, at time 0, with room for this many. No later call takes memory.
     ///
     /// # Errors
     ///
     /// `NoMemory` where there is not enough memory.
-    pub fn new(alloc: Global, limit: usize) -> Result<Tasks, NoMemory>
-        ensures { IfOk result (λ tasks. timetable ⟦<dyn Handler as Handler>⟧ tasks ≡ empty limit) }
+    pub fn new(alloc: Global, limit: usize) -> Result<TasksOf<H>, NoMemory>
+        ensures { IfOk result (λ tasks. timetable H.Handler tasks ≡ empty limit) }
     {
         match Slab::with_capacity(alloc, limit) {
-            Ok(tasks) => Ok(Tasks {
+            Ok(tasks) => Ok(TasksOf {
                 tasks,
                 limit,
                 time: 0,
@@ -62,12 +65,12 @@ impl Tasks {
     /// # Errors
     ///
     /// Hands the handler back where as many tasks are stored as there is room for, and nothing changes.
-    pub fn add(&mut self, handler: Box<dyn Handler>) -> Result<usize, Box<dyn Handler>>
-        requires { (timetable ⟦<dyn Handler as Handler>⟧ self.old).left ≡ [] }
-        ensures added { IfOk result (λ key. Adds (timetable ⟦<dyn Handler as Handler>⟧ self.old)
-            (timetable ⟦<dyn Handler as Handler>⟧ self.new) key (calls handler)) }
-        ensures full { IsErr result ↔ (stored_count (timetable ⟦<dyn Handler as Handler>⟧ self.old)
-            ≡ (timetable ⟦<dyn Handler as Handler>⟧ self.old).limit) }
+    pub fn add(&mut self, handler: H) -> Result<usize, H>
+        requires { (timetable H.Handler self.old).left ≡ [] }
+        ensures added { IfOk result (λ key. Adds (timetable H.Handler self.old)
+            (timetable H.Handler self.new) key (H.calls handler)) }
+        ensures full { IsErr result ↔ (stored_count (timetable H.Handler self.old)
+            ≡ (timetable H.Handler self.old).limit) }
         ensures back { IfErr result (λ back. back ≡ handler) }
         ensures kept { OnErr result (self.new ≡ self.old) }
     {
@@ -85,10 +88,10 @@ impl Tasks {
     /// Starts the task under a key, or starts it again, at the time now: it is due whenever one more whole
     /// interval has passed. Answers whether a task has the key and the interval isn't 0; else nothing changes.
     pub fn start(&mut self, key: usize, interval: u32) -> bool
-        requires { (timetable ⟦<dyn Handler as Handler>⟧ self.old).left ≡ [] }
-        ensures answer { result ≡ can_start key interval (timetable ⟦<dyn Handler as Handler>⟧ self.old) }
-        ensures started { timetable ⟦<dyn Handler as Handler>⟧ self.new
-            ≡ started key interval (timetable ⟦<dyn Handler as Handler>⟧ self.old) }
+        requires { (timetable H.Handler self.old).left ≡ [] }
+        ensures answer { result ≡ can_start key interval (timetable H.Handler self.old) }
+        ensures started { timetable H.Handler self.new
+            ≡ started key interval (timetable H.Handler self.old) }
     {
         if interval == 0 {
             return false;
@@ -106,12 +109,12 @@ impl Tasks {
 
     /// Takes the task under a key out, and hands its handler back. `None` where no task has the key, and then
     /// nothing changes.
-    pub fn cancel(&mut self, key: usize) -> Option<Box<dyn Handler>>
-        requires { (timetable ⟦<dyn Handler as Handler>⟧ self.old).left ≡ [] }
+    pub fn cancel(&mut self, key: usize) -> Option<H>
+        requires { (timetable H.Handler self.old).left ≡ [] }
         ensures handler { result ≡ option_map (λ task. task.handler) (get self.old.tasks key) }
-        ensures answer { is_some result ≡ is_stored key (timetable ⟦<dyn Handler as Handler>⟧ self.old) }
-        ensures cancelled { timetable ⟦<dyn Handler as Handler>⟧ self.new
-            ≡ cancelled key (timetable ⟦<dyn Handler as Handler>⟧ self.old) }
+        ensures answer { is_some result ≡ is_stored key (timetable H.Handler self.old) }
+        ensures cancelled { timetable H.Handler self.new
+            ≡ cancelled key (timetable H.Handler self.old) }
     {
         self.before = self.time;
         match self.tasks.try_remove(key) {
@@ -123,10 +126,10 @@ impl Tasks {
     /// Takes the task under a key out, and drops its handler. Answers whether a task has the key; else nothing
     /// changes.
     pub fn drop_task(&mut self, key: usize) -> bool
-        requires { (timetable ⟦<dyn Handler as Handler>⟧ self.old).left ≡ [] }
-        ensures answer { result ≡ is_stored key (timetable ⟦<dyn Handler as Handler>⟧ self.old) }
-        ensures cancelled { timetable ⟦<dyn Handler as Handler>⟧ self.new
-            ≡ cancelled key (timetable ⟦<dyn Handler as Handler>⟧ self.old) }
+        requires { (timetable H.Handler self.old).left ≡ [] }
+        ensures answer { result ≡ is_stored key (timetable H.Handler self.old) }
+        ensures cancelled { timetable H.Handler self.new
+            ≡ cancelled key (timetable H.Handler self.old) }
     {
         self.before = self.time;
         match self.tasks.try_remove(key) {
@@ -140,26 +143,42 @@ impl Tasks {
 
     /// The time moves on. The tasks that are due then are called by `take`, each once.
     pub fn advance(&mut self, count: u32)
-        requires settled { (timetable ⟦<dyn Handler as Handler>⟧ self.old).left ≡ [] }
-        requires fits { (timetable ⟦<dyn Handler as Handler>⟧ self.old).now + count < 2 ^ 64 }
-        ensures { timetable ⟦<dyn Handler as Handler>⟧ self.new
-            ≡ advanced count (timetable ⟦<dyn Handler as Handler>⟧ self.old) }
+        requires settled { (timetable H.Handler self.old).left ≡ [] }
+        requires fits { (timetable H.Handler self.old).now + count < 2 ^ 64 }
+        ensures { timetable H.Handler self.new
+            ≡ advanced count (timetable H.Handler self.old) }
     {
         self.before = self.time;
         self.time += count as u64;
         self.next = 0;
     }
 
+    /// The time moves on as far as it fits 64 bits: at their end it stands still.
+    pub fn pass(&mut self, count: u32)
+        requires { (timetable H.Handler self.old).left ≡ [] }
+        ensures { timetable H.Handler self.new
+            ≡ advanced (passing count (timetable H.Handler self.old)) (timetable H.Handler self.old) }
+    {
+        let room = u64::MAX - self.time;
+        self.advance(if (count as u64) < room {
+            count
+        } else {
+            room as u32
+        });
+    }
+
     /// Calls the due task with the least key that wasn't called since the time moved. `None` where none is left.
     pub fn take(&mut self) -> Option<Fired>
-        ensures none { IfNone result ((timetable ⟦<dyn Handler as Handler>⟧ self.old).left ≡ []) }
-        ensures done { IfNone result ((timetable ⟦<dyn Handler as Handler>⟧ self.new).left ≡ []) }
-        ensures one { IfSome result (λ fired. (timetable ⟦<dyn Handler as Handler>⟧ self.old).left
-            ≡ fired ∷ (timetable ⟦<dyn Handler as Handler>⟧ self.new).left) }
-        ensures rest { timetable ⟦<dyn Handler as Handler>⟧ self.new
-            ≡ record (timetable ⟦<dyn Handler as Handler>⟧ self.old) {
-              left = (timetable ⟦<dyn Handler as Handler>⟧ self.new).left;
+        ensures none { IfNone result ((timetable H.Handler self.old).left ≡ []) }
+        ensures done { IfNone result ((timetable H.Handler self.new).left ≡ []) }
+        ensures one { IfSome result (λ fired. (timetable H.Handler self.old).left
+            ≡ fired ∷ (timetable H.Handler self.new).left) }
+        ensures rest { timetable H.Handler self.new
+            ≡ record (timetable H.Handler self.old) {
+              left = (timetable H.Handler self.new).left;
             } }
+        ensures time { IfSome result (λ fired. IfSome (last_call H.Handler self.new fired.key)
+            (λ time. time ≡ fired.at)) }
     {
         let key = self.first_due()?;
         let at = self.time;
@@ -171,12 +190,12 @@ impl Tasks {
 
     /// The least key of a task that is due and wasn't called. The tasks below it are passed over.
     fn first_due(&self) -> Option<usize>
-        ensures none { IfNone result ((timetable ⟦<dyn Handler as Handler>⟧ self.now).left ≡ []) }
+        ensures none { IfNone result ((timetable H.Handler self.now).left ≡ []) }
         ensures fits { IfSome result (λ key. key + 1 < 2 ^ 64) }
         ensures due { IfSome result (λ key. is_due_at self.now.before self.now.time key
-            (stored ⟦<dyn Handler as Handler>⟧ self.now.tasks) ≡ true) }
+            (stored H.Handler self.now.tasks) ≡ true) }
         ensures passed { IfSome result (λ key. seen self.now.before self.now.time key self.now.limit
-            (stored ⟦<dyn Handler as Handler>⟧ self.now.tasks) ≡ timetable ⟦<dyn Handler as Handler>⟧ self.now) }
+            (stored H.Handler self.now.tasks) ≡ timetable H.Handler self.now) }
     {
         for key in self.next..self.tasks.capacity() {
             if self.is_due(key) {
@@ -189,7 +208,7 @@ impl Tasks {
     /// Whether the task under a key is due.
     fn is_due(&self, key: usize) -> bool
         ensures { result ≡ is_due_at self.now.before self.now.time key
-            (stored ⟦<dyn Handler as Handler>⟧ self.now.tasks) }
+            (stored H.Handler self.now.tasks) }
     {
         match self.tasks.get(key) {
             Some(task) => task.is_due(self.before, self.time),

@@ -152,7 +152,7 @@ const SPACES: &[u8] = &[b' '; 256];
 const ZEROS: &[u8] = &[0; 256];
 
 /// A line, and the first of its faults.
-static FAULTS: [(&[u8], LineFault); 78] = [
+static FAULTS: [(&[u8], LineFault); 93] = [
     (b"ipi 1 3 11#", LineFault::Number),
     (b"ipi 1 2 3 4 5 6 4294967296", LineFault::Number),
     (b"ipi -1 3", LineFault::Number),
@@ -201,6 +201,18 @@ static FAULTS: [(&[u8], LineFault); 78] = [
     (b"smc 2 1 0 0 -1", LineFault::Number),
     (b"SMC 2 1", LineFault::Unknown),
     (b"Serve", LineFault::Unknown),
+    (b"task", LineFault::Count),
+    (b"task 0", LineFault::Count),
+    (b"task 0 100 1", LineFault::Count),
+    (b"task 4294967296 100", LineFault::Number),
+    (b"task 0 0x100000000", LineFault::Number),
+    (b"task 0 -1", LineFault::Number),
+    (b"tasks 0 100", LineFault::Unknown),
+    (b"cancel", LineFault::Count),
+    (b"cancel 0 100", LineFault::Count),
+    (b"cancel 4294967296", LineFault::Number),
+    (b"cancel x", LineFault::Number),
+    (b"Cancel 0", LineFault::Unknown),
     (b"breaks 1", LineFault::Unknown),
     (b"break", LineFault::Count),
     (b"break 1 2", LineFault::Count),
@@ -221,6 +233,9 @@ static FAULTS: [(&[u8], LineFault); 78] = [
     (b"post x", LineFault::Count),
     (b"serve x", LineFault::Count),
     (b"smc x", LineFault::Count),
+    (b"task x", LineFault::Count),
+    (b"task 0 x 1", LineFault::Count),
+    (b"cancel x 0", LineFault::Count),
     (b"irq \x80", LineFault::NotAscii),
     (b"gic 7\r\r", LineFault::NotAscii),
     (b"boot x y z", LineFault::Count),
@@ -297,9 +312,9 @@ fn a_line_boots_a_processor(rt: HostRuntime) {
 }
 
 /// A line, and what happens in it: a processor waits for an interrupt, a slave raises its own, there is one at a
-/// processor itself, a master puts a message into its box, the boxes are served, a processor makes a power call, or a
-/// node breaks or is mended.
-static EVENTS: [(&[u8], Event); 19] = [
+/// processor itself, a master puts a message into its box, the boxes are served, a processor makes a power call, a timed
+/// task is started or taken out, or a node breaks or is mended.
+static EVENTS: [(&[u8], Event); 24] = [
     (b"wfi 7", Event::Wfi { proc: NodeId(7) }),
     (
         b"wfi 0xffffffff",
@@ -380,6 +395,29 @@ static EVENTS: [(&[u8], Event); 19] = [
             args: [4096, 0, 0],
         },
     ),
+    (
+        b"task 0 100",
+        Event::Task {
+            key: 0,
+            interval: 100,
+        },
+    ),
+    (
+        b" task\t0xFFFFFFFF 4294967295 # 1\r",
+        Event::Task {
+            key: u32::MAX,
+            interval: u32::MAX,
+        },
+    ),
+    (
+        b"task 01 0",
+        Event::Task {
+            key: 1,
+            interval: 0,
+        },
+    ),
+    (b"cancel 1", Event::Cancel { key: 1 }),
+    (b"\tcancel 4294967295 \r", Event::Cancel { key: u32::MAX }),
     (b"break 46", Event::Break { node: NodeId(46) }),
     (b"\tmend 0x2E\r", Event::Mend { node: NodeId(46) }),
 ];

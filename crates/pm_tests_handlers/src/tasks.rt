@@ -1,6 +1,6 @@
 //! Tasks over lists of events.
 
-ghost use Rattle.std.specs.Prelude.{◌≡◌, ◌<◌, ◌^◌, [], length, IfOk};
+ghost use Rattle.std.specs.Prelude.{◌≡◌, ◌<◌, ◌^◌, [], length, IfOk, Some};
 ghost use Rattle.pm_tasks.specs.Stored.{timetable};
 
 use pm_base::NoMemory;
@@ -10,8 +10,8 @@ use std::test::Fail;
 
 /// Tasks with this many counting handlers, all stopped. Their keys are 0 and those that follow.
 fn counting(alloc: Global, count: usize) -> Result<Tasks, NoMemory>
-    ensures settled { IfOk result (λ tasks. (timetable ⟦<dyn Handler as Handler>⟧ tasks).left ≡ []) }
-    ensures start { IfOk result (λ tasks. (timetable ⟦<dyn Handler as Handler>⟧ tasks).now ≡ 0) }
+    ensures settled { IfOk result (λ tasks. (timetable ⟦<Box<dyn Handler> as Handler>⟧ tasks).left ≡ []) }
+    ensures start { IfOk result (λ tasks. (timetable ⟦<Box<dyn Handler> as Handler>⟧ tasks).now ≡ 0) }
 {
     let mut tasks = Tasks::new(alloc, count)?;
     for _added in 0..count {
@@ -31,6 +31,8 @@ struct Noting {
 impl Handler for Noting {
     ghost calls = { λ noting. noting.calls };
 
+    ghost last = { λ noting. Some noting.last };
+
     fn fire(&mut self, at: u64) -> u32 {
         self.last = at;
         self.calls = self.calls.wrapping_add(1);
@@ -40,8 +42,8 @@ impl Handler for Noting {
 
 /// A counting task under key 0, and under key 1 one of the test's own that was called this often.
 fn with_noting(alloc: Global, calls: u32) -> Result<Tasks, NoMemory>
-    ensures settled { IfOk result (λ tasks. (timetable ⟦<dyn Handler as Handler>⟧ tasks).left ≡ []) }
-    ensures start { IfOk result (λ tasks. (timetable ⟦<dyn Handler as Handler>⟧ tasks).now ≡ 0) }
+    ensures settled { IfOk result (λ tasks. (timetable ⟦<Box<dyn Handler> as Handler>⟧ tasks).left ≡ []) }
+    ensures start { IfOk result (λ tasks. (timetable ⟦<Box<dyn Handler> as Handler>⟧ tasks).now ≡ 0) }
 {
     let mut tasks = Tasks::new(alloc, 2)?;
     let counter = Box::new(alloc, Counter { calls: 0 }).map_err(|_| NoMemory)?;

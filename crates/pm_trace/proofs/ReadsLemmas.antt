@@ -1,11 +1,11 @@
 -- Which calls a command makes that reads a named script.
-use Rattle.std.proofs.Common.{◌≡◌, ℕ, ◌+◌, ◌⊎◌, Bool, true, false, List, [], ◌∷◌, ◌++◌, Option, Some, None, refl, sym, ◌∙◌, ap, subst, arith, inl, inr, nat_lt}
+use Rattle.std.proofs.Common.{◌≡◌, ℕ, ◌+◌, ◌⊎◌, Bool, true, false, List, [], ◌∷◌, Option, Some, None, refl, sym, ◌∙◌, ap, subst, arith, inl, inr, nat_lt}
 use Rattle.std.specs.Prelude.{if◌then◌else◌}
 use Rattle.std.proofs.lemmas.Bool.Decides.{nat_tests}
 use Rattle.std.proofs.lemmas.List.{append-nil}
-use Rattle.pm_base.specs.Calls.{Begin, Call, GoesOn, GoesToFault, GoesUpTo, Named}
+use Rattle.pm_base.specs.Calls.{Begin, Call, GoesOn, GoesUpTo, Named}
 use Rattle.pm_base.specs.Inputs.{Adds, Moment}
-use Rattle.pm_base.specs.Readings.{LeftReadBy, Meanwhile, NameReadBy}
+use Rattle.pm_base.specs.Readings.{LeftReadBy, Meanwhile}
 use Rattle.pm_base.specs.declared.errors.Exit.{Exit}
 use Rattle.pm_base.specs.declared.errors.Exit.TheVariants as exit
 use Rattle.pm_base.specs.declared.prefix.StopReason.{StopReason}
@@ -15,10 +15,10 @@ use Rattle.pm_base.proofs.CallsLemmas.{can_end}
 use Rattle.pm_base.proofs.ReadingsLemmas.{begun_up_to, meanwhile_map, meanwhile_none, name_to_fault, name_unbegun, name_up_to, one_name, then_read}
 use Rattle.pm_script.specs.Script.{script_limit, stop_of}
 use Rattle.pm_trace.specs.declared.faults.Fault.{Fault}
-use Rattle.pm_trace.specs.declared.faults.Fault.TheVariants.{Line, Memory, Read}
+use Rattle.pm_trace.specs.declared.faults.Fault.TheVariants.{Memory, Read}
 use Rattle.pm_trace.specs.declared.faults.Fault.TheVariants as faults
 use Rattle.pm_trace.specs.Faults.{exit_by}
-use Rattle.pm_trace.specs.Report.{Report, Reports, exit_of, refusal}
+use Rattle.pm_trace.specs.Report.{Reports, exit_of, refusal}
 use Rattle.pm_trace.specs.Scripts.{IsBegun, ReadsBegun, ReadsScript, at_end, fault_at, script_named}
 
 -- ---- how a command ends

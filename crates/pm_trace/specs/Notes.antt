@@ -1,16 +1,19 @@
 -- The lines that a script line writes itself, after those of its core steps.
 use Rattle.std.specs.Prelude.{ℕ, List, [], ◌∷◌, codes, flat_map}
 use Rattle.pm_split.specs.Split.{Note}
-use Rattle.pm_split.specs.Split.Note.{Busy, Called}
+use Rattle.pm_split.specs.Split.Note.{Busy, Called, NoTask, Fired}
 use Rattle.pm_trace.specs.declared.line.Word.{Word}
 use Rattle.pm_trace.specs.declared.line.Word.TheVariants as word
 use Rattle.pm_trace.specs.Step.{numbered_line}
 
 -- the words of a note after the number of its line: of a post into a full box, the master; of a power call, the
--- processor and the answer
+-- processor and the answer; of a task that isn't there, its key; and of the call of a task, the key, the time and the word
 abbrev pub note_words : Note → List Word
 note_words (Busy master) = word.Name (codes "busy") ∷ word.Number master.0 ∷ []
 note_words (Called proc code) = word.Name (codes "smc") ∷ word.Number proc.0 ∷ word.Signed code ∷ []
+note_words (NoTask key) = word.Name (codes "notask") ∷ word.Number key ∷ []
+note_words (Fired key at told) =
+    word.Name (codes "task") ∷ word.Address key ∷ word.Address at ∷ word.Number told ∷ []
 
 -- the notes of line n
 abbrev pub note_line : ℕ → Note → List ℕ

@@ -4,7 +4,6 @@ use Rattle.std.specs.List.{concat}
 use Rattle.pm_base.specs.declared.names.Unit.{Unit}
 use Rattle.pm_base.specs.declared.names.Unit.TheVariants.{Node, Line}
 use Rattle.pm_base.specs.declared.names.NodeId.{NodeId}
-use Rattle.pm_ipi.specs.declared.responses.Response.{Response}
 use Rattle.pm_ipi.specs.Callbacks.{acknowledge, callback_words}
 use Rattle.pm_ipi.specs.Responses.{response_words}
 use Rattle.pm_tell.specs.declared.callbacks.Callback.{Callback}

@@ -1,7 +1,7 @@
 //! The lines that a script line writes itself.
 
 ghost use Rattle.std.specs.Prelude.{◌≡◌};
-ghost use Rattle.pm_split.specs.Split.Note.{Busy, Called};
+ghost use Rattle.pm_split.specs.Split.Note.{Busy, Called, Fired, NoTask};
 ghost use Rattle.pm_trace.specs.Notes.{note_line};
 
 use crate::line::{TextLine, Word, name, write_line};
@@ -26,5 +26,28 @@ pub fn call_line(n: u32, proc: NodeId, code: i32, line: &mut TextLine)
         line,
         Word::Number(n),
         &[name(b"smc"), Word::Number(proc.0), Word::Signed(code)],
+    );
+}
+
+/// Leaves in `line` the line of script line `n` that finds no task to start or to take out under a key.
+pub fn no_task_line(n: u32, key: u32, line: &mut TextLine)
+    ensures { line.new.items ≡ note_line n (NoTask key) }
+{
+    write_line(line, Word::Number(n), &[name(b"notask"), Word::Number(key)]);
+}
+
+/// Leaves in `line` the line of the call of a task in script line `n`: its key, the time, and the word that it answers.
+pub fn task_line(n: u32, key: u64, at: u64, told: u32, line: &mut TextLine)
+    ensures { line.new.items ≡ note_line n (Fired key at told) }
+{
+    write_line(
+        line,
+        Word::Number(n),
+        &[
+            name(b"task"),
+            Word::Address(key),
+            Word::Address(at),
+            Word::Number(told),
+        ],
     );
 }

@@ -27,32 +27,32 @@ pub enum StepLine {
     Call(Callback),
 }
 
-/// The number of lines of a core step.
-pub fn entries(out: &Outbox) -> usize
-    ensures { result ≡ length (output_words out.now.done.items (notices_in out.now) out.now.answer) }
+/// The number of lines of a core step that is answered so.
+pub fn entries(out: &Outbox, answer: &Answer) -> usize
+    ensures { result ≡ length (output_words out.now.done.items (notices_in out.now) answer.now) }
 {
     out.done.as_slice().len()
         + out.starts.as_slice().len()
         + out.late.as_slice().len()
         + out.callbacks.as_slice().len()
-        + usize::from(answer_line(&out.answer).is_some())
+        + usize::from(answer_line(answer).is_some())
 }
 
-/// Leaves in `line` the `k`-th line, counted from 0, of a core step of script line `n`, with its line
+/// Leaves in `line` the `k`-th line, counted from 0, of a core step of script line `n` that is answered so, with its line
 /// feed.
-pub fn entry(n: u32, out: &Outbox, k: usize, line: &mut TextLine)
-    requires place { k < length (output_words out.now.done.items (notices_in out.now) out.now.answer) }
-    ensures { slice_get (core_lines n out.now.done.items (notices_in out.now) out.now.answer) k ≡ Some line.new.items }
+pub fn entry(n: u32, out: &Outbox, answer: &Answer, k: usize, line: &mut TextLine)
+    requires place { k < length (output_words out.now.done.items (notices_in out.now) answer.now) }
+    ensures { slice_get (core_lines n out.now.done.items (notices_in out.now) answer.now) k ≡ Some line.new.items }
 {
-    match line_at(out, k) {
+    match line_at(out, answer, k) {
         Some(told) => write_told(n, &told, line),
         None => unreachable!(),
     }
 }
 
 /// What the `k`-th line of a core step tells, if it has so many.
-fn line_at(out: &Outbox, k: usize) -> Option<StepLine>
-    ensures { result ≡ slice_get (told_lines out.now.done.items (notices_in out.now) out.now.answer) k }
+fn line_at(out: &Outbox, answer: &Answer, k: usize) -> Option<StepLine>
+    ensures { result ≡ slice_get (told_lines out.now.done.items (notices_in out.now) answer.now) k }
 {
     let k = match at(out.done.as_slice(), k) {
         Ok(done) => return Some(StepLine::Command(done)),
@@ -70,11 +70,7 @@ fn line_at(out: &Outbox, k: usize) -> Option<StepLine>
         Ok(callback) => return Some(StepLine::Call(callback)),
         Err(k) => k,
     };
-    if k == 0 {
-        answer_line(&out.answer)
-    } else {
-        None
-    }
+    if k == 0 { answer_line(answer) } else { None }
 }
 
 /// The element at a place, or else how far the place is past the last one.

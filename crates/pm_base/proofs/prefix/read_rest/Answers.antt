@@ -1,9 +1,9 @@
-use Rattle.std.proofs.Common.{◌≡◌, ◌≤◌, ◌<◌, ◌+◌, ◌-◌, ℕ, zero, suc, List, [], ◌∷◌, false, length, take, Result, arith, subst, sym}
+use Rattle.std.proofs.Common.{◌≤◌, ◌+◌, ◌-◌, ℕ, zero, suc, List, [], ◌∷◌, false, length, take, Result, arith, subst, sym}
 use Rattle.std.proofs.lemmas.Result.{err_from_is_err_and}
 use Rattle.pm_base.specs.declared.errors.NoMemory.{NoMemory}
 use Rattle.pm_base.specs.Prefix.{Prefix}
 use Rattle.pm_base.specs.Readings.{LeftRead, Meanwhile}
-use Rattle.pm_base.proofs.ReadingsLemmas.{comes_got, comes_up_to, comes_whole}
+use Rattle.pm_base.proofs.ReadingsLemmas.{comes_got, comes_whole}
 use Rattle.pm_base.proofs.prefix.read_rest.Goals as goal
 
 -- a front is no longer than its length says

@@ -1,5 +1,5 @@
 use Rattle.std.proofs.Common.{refl}
-use Rattle.pm_script.proofs.SentencesLemmas.{boots, breaks, calls, interrupts, mends, message, none_found, posts, serves, ticks, waits, wakes}
+use Rattle.pm_script.proofs.SentencesLemmas.{boots, breaks, calls, cancels, interrupts, mends, message, none_found, posts, serves, starts, ticks, waits, wakes}
 use Rattle.pm_script.proofs.laws.each_kind_has_its_sentence.Goals as goal
 
 pub returns : goal.returns
@@ -14,6 +14,8 @@ returns c = record {
   post = posts;
   serve = serves;
   smc = calls;
+  task = starts;
+  cancel = cancels;
   break_ = breaks;
   mend = mends;
   unknown = none_found;

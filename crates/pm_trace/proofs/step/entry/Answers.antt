@@ -5,4 +5,4 @@ use Rattle.pm_trace.proofs.step.entry.Goals as goal
 pub returns : goal.returns
 returns c =
     let out = c.args.out.now in
-    line_told c.args.n (told_lines out.done.items (notices_in out) out.answer) c.args.k c.in-Some.told _ c.in-Some.ensures c.write_told.ensures
+    line_told c.args.n (told_lines out.done.items (notices_in out) c.args.answer.now) c.args.k c.in-Some.told _ c.in-Some.ensures c.write_told.ensures

@@ -1,0 +1,6 @@
+//! What modules and timed tasks bring to a run, and what the lines of a script do to tasks.
+#![tactic(auto)]
+
+mod board;
+
+pub use board::happen;
