@@ -12,7 +12,8 @@ use Rattle.pm_ipi.specs.declared.responses.Response.{Response}
 use Rattle.pm_topology.specs.declared.topology.Topology.{Topology}
 use Rattle.pm_psci.specs.Answers.{answered}
 use Rattle.pm_split.specs.Split.{Note, call, called_note, noted_answer}
-use Rattle.pm_split.specs.Split.Note.{Busy, Called}
+use Rattle.pm_split.specs.Split.Note.{Busy, Called, NoTask, Fired}
+use Rattle.pm_board.specs.Board.{Standing}
 use Rattle.pm_run.specs.Run.{Line as ScriptLine, Setup, run}
 use Rattle.pm_laws.specs.Quiet.{quiet}
 use Rattle.pm_laws.specs.Worlds.{AreWorldsAlike, IsLineAlike, busy_of, busy_others}
@@ -21,15 +22,16 @@ use Rattle.pm_trace.specs.declared.step.StepLine.{StepLine}
 use Rattle.pm_trace.specs.declared.step.StepLine.TheVariants as told
 use Rattle.pm_trace.specs.Line.{numbers}
 use Rattle.pm_trace.specs.Notes.{note_words}
-use Rattle.pm_trace.specs.Step.{command_name, notices_of, step_words, told_lines}
+use Rattle.pm_trace.specs.Step.{command_name, step_words}
 use Rattle.pm_drive.specs.Drive.{Driven, Given, drive_line, driven, give, until}
+use Rattle.pm_drive.specs.Heard.{heard_by}
 use Rattle.pm_drive.specs.Text.{notes_of, reply_after}
 use Rattle.pm_apart.specs.Lines.{given_lines, note_lines, numbered, step_lines}
 use Rattle.pm_apart.specs.Telling.{tells_busy}
 use Rattle.pm_apart.proofs.Cuts.{both_map}
-use Rattle.pm_apart.proofs.FilterLemmas.{none_of_both}
 use Rattle.pm_apart.proofs.FoundLemmas.{IsFound, LineFinds, runs_found}
-use Rattle.pm_apart.proofs.TextsLaw.{made_twice, none_made}
+use Rattle.pm_apart.proofs.HeardLaw.{IsDeaf, boards_alike}
+use Rattle.pm_apart.proofs.TextsLaw.{none_given}
 
 module _ (m : NodeId) where
   -- no line of a core step tells of a full box
@@ -46,15 +48,6 @@ module _ (m : NodeId) where
   no_line n (told.Drop master) = refl
   no_line n (told.Call callback) = refl
 
-  none_given : (n : ℕ) (given : List Given) → filter (tells_busy m) (flat_map (given_lines n) given) ≡ []
-  none_given n [] = refl
-  none_given n (g ∷ given) =
-      let lines : List StepLine = told_lines g.part.commands (notices_of g.core.outputs) g.part.answer in
-      none_of_both (tells_busy m) (given_lines n g) (flat_map (given_lines n) given)
-      (ap (filter (tells_busy m)) (made_twice step_words (numbered n) lines)
-      ∙ none_made (tells_busy m) (λ (line : StepLine). numbered n (step_words line)) (no_line n) lines)
-      (none_given n given)
-
   -- the lines of the masters whose boxes are full
   abbrev busy_line : ℕ → NodeId → List Word
   busy_line n master = numbered n (note_words (Busy master))
@@ -65,6 +58,8 @@ module _ (m : NodeId) where
   notes_found : (n : ℕ) (notes : List Note) → filter (tells_busy m) (note_lines n notes) ≡ map (busy_line n) (busy_others m notes)
   notes_found n [] = refl
   notes_found n (Called proc code ∷ notes) = notes_found n notes
+  notes_found n (NoTask key ∷ notes) = notes_found n notes
+  notes_found n (Fired key at told ∷ notes) = notes_found n notes
   notes_found n (Busy master ∷ notes) = at (master.0 == m.0) (notes_found n notes)
     where
       later : List (List Word)
@@ -95,12 +90,24 @@ module _ (m : NodeId) where
       let given : List Given = give kept answers line.cores in
       let x : Driven = drive_line kept answers line in
       filter-append (tells_busy m) (flat_map (given_lines n) given) (note_lines n (notes_of x))
-      ∙ (ap (λ found. found ++ filter (tells_busy m) (note_lines n (notes_of x))) (none_given n given)
+      ∙ (ap (λ found. found ++ filter (tells_busy m) (note_lines n (notes_of x))) (none_given (tells_busy m) no_line n given)
       ∙ (notes_found n (notes_of x)
       ∙ ap (map (busy_line n)) (none_called line.notes line.after.book.fixed.topology line.event (reply_after None x.cores))))
 
-pub busy_apart : (c : Setup) (m : NodeId) (events : List Event) → AreWorldsAlike c m events → (answers others : List (List Bool)) (cut : Option ℕ)
-    → filter (tells_busy m) (step_lines 0 (until cut (driven c answers events))) ≡ filter (tells_busy m) (step_lines 0 (until cut (driven c others (quiet m events))))
-busy_apart c m events alike answers others cut =
-    runs_found (tells_busy m) (busy_lines m) (line_busy m) c m events answers others cut
-    (both_map (IsLineAlike c m) (IsFound (tells_busy m) (busy_lines m)) (λ x y same n. ap (map (busy_line m n)) same.busy) (run c events) (run c (quiet m events)) alike)
+  -- nor does a board change them
+  busy_is_deaf : IsDeaf (tells_busy m)
+  busy_is_deaf = record {
+    replies = λ n master response. no_line n (told.Reply master response);
+    answers = λ n proc code. refl;
+    refusals = λ n key. refl;
+    calls = λ n key at word. refl;
+  }
+
+pub busy_apart : (c : Setup) (m : NodeId) (events : List Event) → AreWorldsAlike c m events
+    → (board other : Standing) (answers others : List (List Bool)) (cut : Option ℕ)
+    → filter (tells_busy m) (step_lines 0 (heard_by board (until cut (driven c answers events))))
+    ≡ filter (tells_busy m) (step_lines 0 (heard_by other (until cut (driven c others (quiet m events)))))
+busy_apart c m events alike board other answers others cut =
+    boards_alike (tells_busy m) (busy_is_deaf m) board other (until cut (driven c answers events)) (until cut (driven c others (quiet m events)))
+    (runs_found (tells_busy m) (busy_lines m) (line_busy m) c m events answers others cut
+    (both_map (IsLineAlike c m) (IsFound (tells_busy m) (busy_lines m)) (λ x y same n. ap (map (busy_line m n)) same.busy) (run c events) (run c (quiet m events)) alike))

@@ -39,3 +39,15 @@ pub made_alike : {X Y : Type 0} (p : Y → Bool) (f g : X → List Y) → ((x : 
     → filter p (flat_map f xs) ≡ filter p (flat_map g xs)
 made_alike p f g same [] = refl
 made_alike p f g same (x ∷ xs) = parts_alike p (f x) (flat_map f xs) (g x) (flat_map g xs) (same x) (made_alike p f g same xs)
+
+-- what passes of elements that are made of two lists is the same where it is of those made of the second ones
+pub after_alike : {X Y : Type 0} (p : Y → Bool) (f : X → Y) (xs ys zs : List X) → filter p (map f ys) ≡ filter p (map f zs)
+    → filter p (map f (xs ++ ys)) ≡ filter p (map f (xs ++ zs))
+after_alike p f [] ys zs same = same
+after_alike p f (x ∷ xs) ys zs same = ap (λ later. cond (p (f x)) (f x ∷ later) later) (after_alike p f xs ys zs same)
+
+-- and it is what passes of those made of the first one, where nothing passes of the second
+pub none_after : {X Y : Type 0} (p : Y → Bool) (f : X → Y) (xs ys : List X) → filter p (map f ys) ≡ []
+    → filter p (map f (xs ++ ys)) ≡ filter p (map f xs)
+none_after p f [] ys none = none
+none_after p f (x ∷ xs) ys none = ap (λ later. cond (p (f x)) (f x ∷ later) later) (none_after p f xs ys none)

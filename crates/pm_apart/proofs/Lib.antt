@@ -3,6 +3,7 @@ pub mod Cuts
 pub mod DropFacts
 pub mod FilterLemmas
 pub mod FoundLemmas
+pub mod HeardLaw
 pub mod LineCommands
 pub mod LinesLaw
 pub mod NodeCommands
@@ -10,6 +11,7 @@ pub mod PartsLaw
 pub mod RecordFacts
 pub mod RunsLaw
 pub mod TablesLaw
+pub mod TasksLaw
 pub mod TellingLaw
 pub mod TextsLaw
 pub mod TurnFacts

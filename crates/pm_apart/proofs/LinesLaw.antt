@@ -8,6 +8,7 @@ use Rattle.pm_object.specs.Grammar.{IsObject}
 use Rattle.pm_topology.specs.WellFormed.{IsWellFormed}
 use Rattle.pm_state.specs.Load.{load_of}
 use Rattle.pm_state.specs.State.{State}
+use Rattle.pm_board.specs.Board.{Standing}
 use Rattle.pm_run.specs.Run.{Line, Setup, run}
 use Rattle.pm_laws.specs.Quiet.{quiet}
 use Rattle.pm_apply.specs.Part.{Kept}
@@ -15,11 +16,13 @@ use Rattle.pm_apply.specs.Record.{at_zero}
 use Rattle.pm_trace.specs.declared.step.StepLine.TheVariants as told
 use Rattle.pm_trace.specs.Step.{step_words}
 use Rattle.pm_drive.specs.Drive.{Driven, drive, driven, last_book, last_kept, until}
+use Rattle.pm_drive.specs.Heard.{heard_by}
 use Rattle.pm_drive.proofs.DroveLaw.{lines-driven, until-drive}
 use Rattle.pm_apart.specs.Apart.{AreDrivenAlike, IsDrivenAlike, IsOutOfReach, StaysApart, StepsStayApart}
 use Rattle.pm_apart.specs.Lines.{closing_line_of, commands_on, is_about, numbered, run_lines, set_lines, step_lines, table_lines}
 use Rattle.pm_apart.proofs.Cuts.{until_both}
 use Rattle.pm_apart.proofs.FilterLemmas.{parts_alike}
+use Rattle.pm_apart.proofs.HeardLaw.{about_is_deaf, boards_alike}
 use Rattle.pm_apart.proofs.RunsLaw.{ReachLaws, runs_alike}
 use Rattle.pm_apart.proofs.TablesLaw.{line_same, table_same}
 use Rattle.pm_apart.proofs.TextsLaw.{lines_about}
@@ -54,14 +57,20 @@ module _ (laws : ReachLaws) (c : Setup) (m : NodeId) (events : List Event) (u : 
   closing_apart = line_same laws c m u object chip beyond (book loud) (book still) (kept loud) (kept still) (runs_alike laws c m u object chip beyond events).end
 
   -- of the lines up to a cut
-  pub steps_apart : (cut : Option ℕ) → filter (is_about u) (step_lines 0 (until cut loud)) ≡ filter (is_about u) (step_lines 0 (until cut still))
-  steps_apart cut =
+  book_steps_apart : (cut : Option ℕ) → filter (is_about u) (step_lines 0 (until cut loud)) ≡ filter (is_about u) (step_lines 0 (until cut still))
+  book_steps_apart cut =
       lines_about u 0 (until cut loud)
       ∙ (set_same u 0 (until cut loud) (until cut still) (until_both (IsDrivenAlike u) cut loud still commands_apart) ∙ sym (lines_about u 0 (until cut still)))
 
-  pub run_apart : filter (is_about u) (run_lines c [] events) ≡ filter (is_about u) (run_lines c [] (quiet m events))
-  run_apart =
-      parts_alike (is_about u) (step_lines 0 loud) (table_lines c loud) (step_lines 0 still) (table_lines c still) (steps_apart None)
+  -- so with any two boards
+  pub steps_apart : (board other : Standing) (cut : Option ℕ)
+      → filter (is_about u) (step_lines 0 (heard_by board (until cut loud))) ≡ filter (is_about u) (step_lines 0 (heard_by other (until cut still)))
+  steps_apart board other cut = boards_alike (is_about u) (about_is_deaf u) board other (until cut loud) (until cut still) (book_steps_apart cut)
+
+  pub run_apart : (board other : Standing) → filter (is_about u) (run_lines c board [] events) ≡ filter (is_about u) (run_lines c other [] (quiet m events))
+  run_apart board other =
+      parts_alike (is_about u) (step_lines 0 (heard_by board loud)) (table_lines c loud) (step_lines 0 (heard_by other still)) (table_lines c still)
+      (steps_apart board other None)
       (table_same laws c m u object chip beyond (book loud) (book still) (kept loud) (kept still) (runs_alike laws c m u object chip beyond events).end)
 
 -- ---- a device that reported no failure
@@ -83,10 +92,11 @@ unfailing_run c answers events cut is =
 
 pub run_by : (c : Setup) (answers : List (List Bool)) (events : List Event) → FollowsUntil c answers events None
     → StaysApart c [] events → StaysApart c answers events
-run_by c answers events is apart m unit beyond =
-    ap (λ xs. filter (is_about unit) (step_lines 0 xs ++ table_lines c xs)) (unfailing_run c answers events None is) ∙ apart m unit beyond
+run_by c answers events is apart board other m unit beyond =
+    ap (λ xs. filter (is_about unit) (step_lines 0 (heard_by board xs) ++ table_lines c xs)) (unfailing_run c answers events None is)
+    ∙ apart board other m unit beyond
 
 pub steps_by : (c : Setup) (answers : List (List Bool)) (events : List Event) (cut : Option ℕ) → FollowsUntil c answers events cut
     → StepsStayApart c [] events cut → StepsStayApart c answers events cut
-steps_by c answers events cut is apart m unit beyond =
-    ap (λ xs. filter (is_about unit) (step_lines 0 xs)) (unfailing_run c answers events cut is) ∙ apart m unit beyond
+steps_by c answers events cut is apart board other m unit beyond =
+    ap (λ xs. filter (is_about unit) (step_lines 0 (heard_by board xs))) (unfailing_run c answers events cut is) ∙ apart board other m unit beyond

@@ -12,6 +12,7 @@ use Rattle.pm_base.specs.declared.names.NodeId.{NodeId}
 use Rattle.pm_base.specs.declared.names.Unit.{Unit}
 use Rattle.pm_base.specs.declared.names.Unit.TheVariants.{Node, Line}
 use Rattle.pm_ipi.specs.Callbacks.{init_suspend, notify}
+use Rattle.pm_ipi.specs.declared.responses.Response.{Response}
 use Rattle.pm_tell.specs.declared.callbacks.Callback.{Callback}
 use Rattle.pm_core.specs.declared.outbox.Done.{Done}
 use Rattle.pm_tell.specs.declared.late.Late.{Late}
@@ -20,7 +21,8 @@ use Rattle.pm_core.specs.declared.replies.Answer.{Answer}
 use Rattle.pm_core.specs.declared.replies.Answer.TheVariants.{Silent, Drop, Reply, Ack}
 use Rattle.pm_state.specs.Values.{value}
 use Rattle.pm_split.specs.Split.{Note}
-use Rattle.pm_split.specs.Split.Note.{Busy, Called}
+use Rattle.pm_split.specs.Split.Note.{Busy, Called, NoTask, Fired}
+use Rattle.pm_board.specs.Board.{Standing}
 use Rattle.pm_run.specs.Run.{Core, Line as ScriptLine, Setup, run}
 use Rattle.pm_laws.specs.Answers.{is_dropped}
 use Rattle.pm_laws.specs.Border.{Border, none_within}
@@ -40,6 +42,7 @@ use Rattle.pm_trace.specs.Line.{numbers}
 use Rattle.pm_trace.specs.Notes.{note_words}
 use Rattle.pm_trace.specs.Step.{acknowledgement, answer_line, command_name, late_line, notices_of, told_lines, step_words}
 use Rattle.pm_drive.specs.Drive.{Given, drive_line, driven, first_answers, give, later_answers, until}
+use Rattle.pm_drive.specs.Heard.{heard_by}
 use Rattle.pm_drive.specs.Text.{notes_of}
 use Rattle.pm_drive.specs.Drove.{IsTold}
 use Rattle.pm_apart.specs.Lines.{given_lines, note_lines, numbered, step_lines}
@@ -49,6 +52,8 @@ use Rattle.pm_apart.proofs.Cuts.{both_map}
 use Rattle.pm_apart.proofs.DropFacts.{Drops}
 use Rattle.pm_apart.proofs.FilterLemmas.{filter_made, kept_in, left_out}
 use Rattle.pm_apart.proofs.FoundLemmas.{IsFound, LineFinds, runs_found}
+use Rattle.pm_apart.proofs.HeardLaw.{IsDeaf, boards_alike}
+use Rattle.pm_apart.proofs.TasksLaw.{tasks_apart}
 use Rattle.pm_apart.proofs.TextsLaw.{made_twice, none_made}
 
 -- ---- lines that a test finds
@@ -186,14 +191,22 @@ module _ (c : Setup) (m : NodeId) (events : List Event) (alike : AreWorldsAlike 
   of_line _ n (told.Drop master) = refl
   of_line _ n (told.Call call) = refl
 
+  no_reply : (what : Tells) (master : NodeId) (response : Response) → tells_of what (told.Reply master response) ≡ false
+  no_reply Starts master response = refl
+  no_reply _ master response = refl
+
   abbrev told_of : Tells → Given → List StepLine
   told_of what g = filter (tells_of what) (told_lines g.part.commands (notices_of g.core.outputs) g.part.answer)
 
   no_note : (what : Tells) (n : ℕ) (note : Note) → tells what (numbered n (note_words note)) ≡ false
   no_note Starts n (Busy master) = refl
   no_note Starts n (Called proc code) = refl
+  no_note Starts n (NoTask key) = refl
+  no_note Starts n (Fired key at told) = refl
   no_note _ n (Busy master) = refl
   no_note _ n (Called proc code) = refl
+  no_note _ n (NoTask key) = refl
+  no_note _ n (Fired key at told) = refl
 
   -- of the lines of a core step the test finds those that tell of it
   found_of : (what : Tells) (F : Core → List StepLine) → ((g : Given) → IsTold g → Drops g.core → told_of what g ≡ F g.core)
@@ -349,17 +362,28 @@ module _ (c : Setup) (m : NodeId) (events : List Event) (alike : AreWorldsAlike 
 
   -- ---- all of them
 
-  -- so it is in two runs
+  -- none of them finds what a board changes
+  is_deaf : (what : Tells) → IsDeaf (tells what)
+  is_deaf what = record {
+    replies = λ n master response. of_line what n (told.Reply master response) ∙ no_reply what master response;
+    answers = λ n proc code. no_note what n (Called proc code);
+    refusals = λ n key. no_note what n (NoTask key);
+    calls = λ n key at word. no_note what n (Fired key at word);
+  }
+
+  -- so it is in two runs, whatever boards they begin with
   found_apart : {X : Type 0} (what : Tells) (f : Core → List X) (G : List X → List StepLine) → G [] ≡ [] → ((xs ys : List X) → G (xs ++ ys) ≡ G xs ++ G ys)
       → ((x y : ScriptLine) → IsLineAlike c m x y → flat_map f x.cores ≡ flat_map f y.cores) → Finds (tells what) (λ core. G (f core)) (no_note what)
-      → (answers others : List (List Bool)) (cut : Option ℕ)
-      → filter (tells what) (step_lines 0 (until cut (driven c answers events))) ≡ filter (tells what) (step_lines 0 (until cut (driven c others (quiet m events))))
-  found_apart what f G none parts same finds answers others cut =
+      → (board other : Standing) (answers others : List (List Bool)) (cut : Option ℕ)
+      → filter (tells what) (step_lines 0 (heard_by board (until cut (driven c answers events))))
+      ≡ filter (tells what) (step_lines 0 (heard_by other (until cut (driven c others (quiet m events)))))
+  found_apart what f G none parts same finds board other answers others cut =
       let found : ℕ → ScriptLine → List (List Word) = lines_found (tells what) (λ core. G (f core)) (no_note what) in
-      runs_found (tells what) found (line_found (tells what) (λ core. G (f core)) (no_note what) finds) c m events answers others cut
+      boards_alike (tells what) (is_deaf what) board other (until cut (driven c answers events)) (until cut (driven c others (quiet m events)))
+      (runs_found (tells what) found (line_found (tells what) (λ core. G (f core)) (no_note what) finds) c m events answers others cut
       (both_map (IsLineAlike c m) (IsFound (tells what) found)
       (λ x y alike n. ap (map (line_of n)) (made_flat f G none parts x.cores ∙ (ap G (same x y alike) ∙ sym (made_flat f G none parts y.cores))))
-      (run c events) (run c (quiet m events)) alike)
+      (run c events) (run c (quiet m events)) alike))
 
   pub telling_apart : TellsApart c events m
   telling_apart = record {
@@ -367,4 +391,5 @@ module _ (c : Setup) (m : NodeId) (events : List Event) (alike : AreWorldsAlike 
     drops = found_apart Drops_sent (drops_in c.object border m) as_drops refl (flat_map-append dropped_line) (λ x y same. same.drops) drops_found;
     callbacks = found_apart Calls (callbacks_in c.object border) as_callbacks refl callbacks_join (λ x y same. same.callbacks) callbacks_found;
     busy = busy_apart c m events alike;
+    tasks = tasks_apart c m events;
   }

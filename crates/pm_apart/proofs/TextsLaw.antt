@@ -16,7 +16,8 @@ use Rattle.pm_state.specs.Load.{load_of}
 use Rattle.pm_state.specs.State.{State}
 use Rattle.pm_state.specs.Units.{units}
 use Rattle.pm_split.specs.Split.{Note}
-use Rattle.pm_split.specs.Split.Note.{Busy, Called}
+use Rattle.pm_split.specs.Split.Note.{Busy, Called, NoTask, Fired}
+use Rattle.pm_board.specs.Board.{Standing}
 use Rattle.pm_run.specs.Run.{Setup}
 use Rattle.pm_apply.specs.Part.{Kept}
 use Rattle.pm_apply.specs.Record.{at_zero, kept_value}
@@ -30,6 +31,7 @@ use Rattle.pm_trace.specs.Line.{line_text, numbers}
 use Rattle.pm_trace.specs.Notes.{note_line, note_words, notes_text}
 use Rattle.pm_trace.specs.Step.{Notices, answer_line, command_name, core_text, late_line, notices_of, numbered_line, output_words, told_lines, step_words}
 use Rattle.pm_drive.specs.Drive.{Driven, Given, driven, last_book, last_kept}
+use Rattle.pm_drive.specs.Heard.{heard_by}
 use Rattle.pm_drive.specs.Text.{driven_text, given_text, notes_of, run_text, texts}
 use Rattle.pm_apart.specs.Lines.{closing_line, commands_of, commands_on, driven_lines, given_lines, is_about, is_on, note_lines, numbered, run_lines, set_lines, step_lines, table_lines}
 use Rattle.pm_apart.proofs.FilterLemmas.{filter_made, left_out, none_of_both}
@@ -88,15 +90,17 @@ table_is book kept (unit ∷ units) =
     (table_is book kept units)
     ∙ sym (text_append (closing_line book kept unit) (flat_map (closing_line book kept) units))
 
-pub run_is : (c : Setup) (answers : List (List Bool)) (events : List Event) → run_text c answers events ≡ text_of (run_lines c answers events)
-run_is c answers events =
+pub run_is : (c : Setup) (board : Standing) (answers : List (List Bool)) (events : List Event)
+    → run_text c board answers events ≡ text_of (run_lines c board answers events)
+run_is c board answers events =
     let xs : List Driven = driven c answers events in
+    let ys : List Driven = heard_by board xs in
     let book : State = last_book (load_of c.object c.topology) xs in
     let kept : Kept = last_kept (at_zero c.topology) xs in
-    concat-append (texts 0 xs) (closing_text book kept ∷ [])
-    ∙ (ap (λ text. concat (texts 0 xs) ++ text) (append-nil (closing_text book kept))
-    ∙ (joined (concat (texts 0 xs)) (closing_text book kept) (text_of (step_lines 0 xs)) (text_of (table_lines c xs)) (steps_are 0 xs) (table_is book kept (units book))
-    ∙ sym (text_append (step_lines 0 xs) (table_lines c xs))))
+    concat-append (texts 0 ys) (closing_text book kept ∷ [])
+    ∙ (ap (λ text. concat (texts 0 ys) ++ text) (append-nil (closing_text book kept))
+    ∙ (joined (concat (texts 0 ys)) (closing_text book kept) (text_of (step_lines 0 ys)) (text_of (table_lines c xs)) (steps_are 0 ys) (table_is book kept (units book))
+    ∙ sym (text_append (step_lines 0 ys) (table_lines c xs))))
 
 -- ---- the lines about a unit
 
@@ -112,6 +116,16 @@ none_made p f fails (x ∷ xs) = left_out p (f x) (map f xs) (fails x) ∙ none_
 pub made_twice : {X Y Z : Type 0} (f : X → Y) (g : Y → Z) (xs : List X) → map g (map f xs) ≡ map (λ x. g (f x)) xs
 made_twice f g [] = refl
 made_twice f g (x ∷ xs) = ap (λ zs. g (f x) ∷ zs) (made_twice f g xs)
+
+-- a test that finds no line of a core step
+pub none_given : (p : List Word → Bool) → ((n : ℕ) (line : StepLine) → p (numbered n (step_words line)) ≡ false)
+    → (n : ℕ) (given : List Given) → filter p (flat_map (given_lines n) given) ≡ []
+none_given p fails n [] = refl
+none_given p fails n (g ∷ given) =
+    let lines : List StepLine = told_lines g.part.commands (notices_of g.core.outputs) g.part.answer in
+    none_of_both p (given_lines n g) (flat_map (given_lines n) given)
+    (ap (filter p) (made_twice step_words (numbered n) lines) ∙ none_made p (λ (line : StepLine). numbered n (step_words line)) (fails n) lines)
+    (none_given p fails n given)
 
 module _ (u : Unit) where
   answer_apart : (answer : Answer) → filter (tells_on u) (option_to_list (answer_line answer)) ≡ []
@@ -184,11 +198,15 @@ module _ (u : Unit) (n : ℕ) where
       ∙ ap (map set_line) (sym (filter-append (is_on u) g.part.commands (commands_of given))))))
 
   -- no note is about a unit
-  note_apart : (x : Unit) (note : Note) → is_about x (numbered n (note_words note)) ≡ false
+  pub note_apart : (x : Unit) (note : Note) → is_about x (numbered n (note_words note)) ≡ false
   note_apart (Node node) (Busy master) = refl
   note_apart (Line line) (Busy master) = refl
   note_apart (Node node) (Called proc code) = refl
   note_apart (Line line) (Called proc code) = refl
+  note_apart (Node node) (NoTask key) = refl
+  note_apart (Line line) (NoTask key) = refl
+  note_apart (Node node) (Fired key at told) = refl
+  note_apart (Line line) (Fired key at told) = refl
 
   notes_apart : (notes : List Note) → filter (is_about u) (note_lines n notes) ≡ []
   notes_apart [] = refl

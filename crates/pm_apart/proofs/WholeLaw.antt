@@ -13,6 +13,7 @@ use Rattle.pm_topology.specs.declared.topology.Topology.{Topology}
 use Rattle.pm_topology.specs.Units.{UnitLaws, has_in, has_unit, is_before, rises, same_unit, units_of}
 use Rattle.pm_state.specs.Load.{load_of}
 use Rattle.pm_state.specs.State.{Fixed, State}
+use Rattle.pm_board.specs.Board.{Standing}
 use Rattle.pm_run.specs.Run.{IsBookOf, Line as ScriptLine, Setup, Stand, loaded, line_0, line_of, lines_of}
 use Rattle.pm_apply.specs.Part.{Kept}
 use Rattle.pm_apply.specs.Record.{at_zero, kept_value}
@@ -22,8 +23,10 @@ use Rattle.pm_trace.specs.Closing.{unit_name}
 use Rattle.pm_state.specs.Values.{shown}
 use Rattle.pm_trace.specs.Line.{numbers}
 use Rattle.pm_drive.specs.Drive.{Driven, answers_after, drive, drive_line, driven, last_book, last_kept}
+use Rattle.pm_drive.specs.Heard.{heard_by}
 use Rattle.pm_apart.specs.Lines.{closing_line, closing_line_of, is_about, run_lines, set_lines, step_lines, table_lines}
 use Rattle.pm_apart.proofs.FilterLemmas.{kept_in, none_of_both}
+use Rattle.pm_apart.proofs.HeardLaw.{about_is_deaf, heard_alike}
 use Rattle.pm_apart.proofs.TablesLaw.{end_about, other_line}
 use Rattle.pm_apart.proofs.TextsLaw.{lines_about}
 
@@ -100,17 +103,18 @@ module _ (units : UnitLaws) (c : Setup) (load : IsBookOf c (loaded c).book) (aft
       let line : ScriptLine = line_of c event stand in
       last_is events line.after (drive_line kept answers line).kept (answers_after line.cores answers) (after event stand is)
 
-  pub whole_about : (answers : List (List Bool)) (events : List Event) (u : Unit) → has_unit c.topology u ≡ true
-      → filter (is_about u) (run_lines c answers events)
+  pub whole_about : (board : Standing) (answers : List (List Bool)) (events : List Event) (u : Unit) → has_unit c.topology u ≡ true
+      → filter (is_about u) (run_lines c board answers events)
       ≡ set_lines u 0 (driven c answers events) ++ closing_line_of c (driven c answers events) u
-  whole_about answers events u has =
+  whole_about board answers events u has =
       let xs : List Driven = driven c answers events in
+      let ys : List Driven = heard_by board xs in
       let book : State = last_book (load_of c.object c.topology) xs in
       let kept : Kept = last_kept (at_zero c.topology) xs in
       let is : IsBookOf c book =
       last_is events (loaded c) (drive_line (at_zero c.topology) answers (line_0 c)).kept (answers_after (line_0 c).cores answers) load
       in
       let there : has_unit book.fixed.topology u ≡ true = ap (λ (f : Fixed). has_unit f.topology u) is.fixed ∙ has in
-      filter-append (is_about u) (step_lines 0 xs) (table_lines c xs)
-      ∙ (ap (λ lines. lines ++ filter (is_about u) (table_lines c xs)) (lines_about u 0 xs)
+      filter-append (is_about u) (step_lines 0 ys) (table_lines c xs)
+      ∙ (ap (λ lines. lines ++ filter (is_about u) (table_lines c xs)) (heard_alike (is_about u) (about_is_deaf u) board 0 xs ∙ lines_about u 0 xs)
       ∙ ap (λ lines. set_lines u 0 xs ++ lines) (table_about units book kept u there))

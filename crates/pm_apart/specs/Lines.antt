@@ -12,6 +12,7 @@ use Rattle.pm_state.specs.Load.{load_of}
 use Rattle.pm_state.specs.State.{State}
 use Rattle.pm_state.specs.Units.{units}
 use Rattle.pm_split.specs.Split.{Note}
+use Rattle.pm_board.specs.Board.{Standing}
 use Rattle.pm_run.specs.Run.{Setup}
 use Rattle.pm_apply.specs.Part.{Kept}
 use Rattle.pm_apply.specs.Record.{at_zero, kept_value}
@@ -24,6 +25,7 @@ use Rattle.pm_trace.specs.Line.{numbers}
 use Rattle.pm_trace.specs.Notes.{note_words}
 use Rattle.pm_trace.specs.Step.{notices_of, output_words, step_words}
 use Rattle.pm_drive.specs.Drive.{Driven, Given, driven, last_book, last_kept}
+use Rattle.pm_drive.specs.Heard.{heard_by}
 use Rattle.pm_drive.specs.Text.{notes_of}
 
 -- ---- the lines of a run
@@ -67,9 +69,9 @@ closing_line_of c xs unit = closing_line (last_book (load_of c.object c.topology
 abbrev pub table_lines : Setup → List Driven → List (List Word)
 table_lines c xs = flat_map (closing_line_of c xs) (units (last_book (load_of c.object c.topology) xs))
 
--- all lines of a run, over a device with these answers
-abbrev pub run_lines : Setup → List (List Bool) → List Event → List (List Word)
-run_lines c answers events = step_lines 0 (driven c answers events) ++ table_lines c (driven c answers events)
+-- all lines of a run that begins with a board, over a device with these answers
+abbrev pub run_lines : Setup → Standing → List (List Bool) → List Event → List (List Word)
+run_lines c board answers events = step_lines 0 (heard_by board (driven c answers events)) ++ table_lines c (driven c answers events)
 
 -- ---- the lines about a unit
 

@@ -1,12 +1,13 @@
 -- The lines of a run, besides those of commands, that tell of what is beyond the reach of a master: which processors start, which
 -- messages of other masters are dropped, and which masters are asked to suspend or notified of a node; and the lines that tell other
--- masters that their boxes are full. A reply and an acknowledgement have no words that say whether they are an answer or come later,
--- so of these the relation of core steps speaks.
+-- masters that their boxes are full, and those of timed tasks. A reply and an acknowledgement have no words that say whether they are
+-- an answer or come later, so of these the relation of core steps speaks.
 use Rattle.std.specs.Prelude.{◌≡◌, ℕ, ◌==◌, Bool, false, not, ◌&&◌, ◌||◌, codes, List, [], ◌∷◌, filter, Option}
 use Rattle.pm_base.specs.declared.events.Event.{Event}
 use Rattle.pm_base.specs.declared.names.NodeId.{NodeId}
 use Rattle.pm_base.specs.declared.names.Unit.TheVariants.{Node}
 use Rattle.pm_ipi.specs.Callbacks.{init_suspend, notify}
+use Rattle.pm_board.specs.Board.{Standing}
 use Rattle.pm_run.specs.Run.{Setup}
 use Rattle.pm_laws.specs.Border.{Border, none_within}
 use Rattle.pm_laws.specs.Hidden.{is_within}
@@ -16,6 +17,7 @@ use Rattle.pm_laws.specs.Values.{is_beyond}
 use Rattle.pm_trace.specs.declared.line.Word.{Word}
 use Rattle.pm_trace.specs.declared.line.Word.TheVariants as word
 use Rattle.pm_drive.specs.Drive.{driven, until}
+use Rattle.pm_drive.specs.Heard.{heard_by}
 use Rattle.pm_apart.specs.Lines.{is_name, step_lines}
 
 -- a number that passes this test, with the words after it
@@ -57,23 +59,37 @@ abbrev pub tells_call : Setup → Border → List Word → Bool
 tells_call c border line =
     is_told (codes "call") (λ master others. not (is_within border (place_of c.object (numbered_node master))) && calls_back border others) line
 
+-- a line that has this name after its number
+abbrev pub is_of : List ℕ → List Word → Bool
+is_of text [] = false
+is_of text (first ∷ []) = false
+is_of text (first ∷ name ∷ others) = is_name text name
+
+-- a timed task is called, or there is none to start or to take out
+abbrev pub tells_task : List Word → Bool
+tells_task line = is_of (codes "task") line || is_of (codes "notask") line
+
 -- a master but this one is told that its box is full
 abbrev pub tells_busy : NodeId → List Word → Bool
 tells_busy m line = is_told (codes "busy") (λ master others. not (master == m.0)) line
 
 -- whatever a device answers in the two runs: of the lines of a run, up to that within whose text it breaks off, if it does, those
 -- that tell of what is beyond the reach of a master are those of the run without the messages of the master, and so are those that
--- tell other masters that their boxes are full
+-- tell other masters that their boxes are full, whatever boards the two begin with. What is told of timed tasks is the same where
+-- those of the two boards stand the same
 pub record TellsApart (c : Setup) (events : List Event) (m : NodeId) : Type 0 where
-  pub starts : (answers others : List (List Bool)) (cut : Option ℕ)
-      → filter (tells_start c (border_of c.object c.topology m)) (step_lines 0 (until cut (driven c answers events)))
-      ≡ filter (tells_start c (border_of c.object c.topology m)) (step_lines 0 (until cut (driven c others (quiet m events))))
-  pub drops : (answers others : List (List Bool)) (cut : Option ℕ)
-      → filter (tells_drop c (border_of c.object c.topology m) m) (step_lines 0 (until cut (driven c answers events)))
-      ≡ filter (tells_drop c (border_of c.object c.topology m) m) (step_lines 0 (until cut (driven c others (quiet m events))))
-  pub callbacks : (answers others : List (List Bool)) (cut : Option ℕ)
-      → filter (tells_call c (border_of c.object c.topology m)) (step_lines 0 (until cut (driven c answers events)))
-      ≡ filter (tells_call c (border_of c.object c.topology m)) (step_lines 0 (until cut (driven c others (quiet m events))))
-  pub busy : (answers others : List (List Bool)) (cut : Option ℕ)
-      → filter (tells_busy m) (step_lines 0 (until cut (driven c answers events)))
-      ≡ filter (tells_busy m) (step_lines 0 (until cut (driven c others (quiet m events))))
+  pub starts : (board other : Standing) (answers others : List (List Bool)) (cut : Option ℕ)
+      → filter (tells_start c (border_of c.object c.topology m)) (step_lines 0 (heard_by board (until cut (driven c answers events))))
+      ≡ filter (tells_start c (border_of c.object c.topology m)) (step_lines 0 (heard_by other (until cut (driven c others (quiet m events)))))
+  pub drops : (board other : Standing) (answers others : List (List Bool)) (cut : Option ℕ)
+      → filter (tells_drop c (border_of c.object c.topology m) m) (step_lines 0 (heard_by board (until cut (driven c answers events))))
+      ≡ filter (tells_drop c (border_of c.object c.topology m) m) (step_lines 0 (heard_by other (until cut (driven c others (quiet m events)))))
+  pub callbacks : (board other : Standing) (answers others : List (List Bool)) (cut : Option ℕ)
+      → filter (tells_call c (border_of c.object c.topology m)) (step_lines 0 (heard_by board (until cut (driven c answers events))))
+      ≡ filter (tells_call c (border_of c.object c.topology m)) (step_lines 0 (heard_by other (until cut (driven c others (quiet m events)))))
+  pub busy : (board other : Standing) (answers others : List (List Bool)) (cut : Option ℕ)
+      → filter (tells_busy m) (step_lines 0 (heard_by board (until cut (driven c answers events))))
+      ≡ filter (tells_busy m) (step_lines 0 (heard_by other (until cut (driven c others (quiet m events)))))
+  pub tasks : (board other : Standing) → board.tasks ≡ other.tasks → (answers others : List (List Bool)) (cut : Option ℕ)
+      → filter tells_task (step_lines 0 (heard_by board (until cut (driven c answers events))))
+      ≡ filter tells_task (step_lines 0 (heard_by other (until cut (driven c others (quiet m events)))))

@@ -12,6 +12,7 @@ ghost use Rattle.pm_run.specs.Run.{Setup};
 ghost use Rattle.pm_laws.specs.Quiet.{quiet};
 ghost use Rattle.pm_trace.specs.Line.{line_text};
 ghost use Rattle.pm_drive.specs.Drive.{Driven, driven, until};
+ghost use Rattle.pm_board.specs.Board.{Standing};
 ghost use Rattle.pm_drive.specs.Drove.{Drove, NoFailure};
 ghost use Rattle.pm_drive.specs.Text.{run_text, texts};
 ghost use Rattle.pm_apart.specs.Apart.{AreDrivenAlike, IsOutOfReach, KeepsApart, StaysApart, StepsKeepApart, StepsStayApart};
@@ -28,14 +29,14 @@ use pm_topology::{unit_maps, units_stand_in_order};
 /// its lines those about a unit of the chip are these and then its closing line.
 pub fn texts_are_lines()
     ensures steps { (n : ℕ) (xs : List Driven) → concat (texts n xs) ≡ concat (map line_text (step_lines n xs)) }
-    ensures run { (c : Setup) (answers : List (List Bool)) (events : List Event)
-        → run_text c answers events ≡ concat (map line_text (run_lines c answers events)) }
+    ensures run { (c : Setup) (board : Standing) (answers : List (List Bool)) (events : List Event)
+        → run_text c board answers events ≡ concat (map line_text (run_lines c board answers events)) }
     ensures about { (n : ℕ) (xs : List Driven) (unit : Unit) → filter (is_about unit) (step_lines n xs)
         ≡ set_lines unit n xs }
-    ensures whole { (c : Setup) (answers : List (List Bool)) (events : List Event) (unit : Unit)
+    ensures whole { (c : Setup) (board : Standing) (answers : List (List Bool)) (events : List Event) (unit : Unit)
         → IsWellFormed c.topology
         → has_unit c.topology unit ≡ true
-        → filter (is_about unit) (run_lines c answers events)
+        → filter (is_about unit) (run_lines c board answers events)
         ≡ set_lines unit 0 (driven c answers events) ++ closing_line_of c (driven c answers events) unit }
 {
     books_of_a_run();
@@ -45,7 +46,8 @@ pub fn texts_are_lines()
 /// Over a device that never fails, nothing that a master sends or puts into its box changes what is written about a unit
 /// beyond its reach: a slave, a power node, a reset line, or a processor of a master beyond or of nobody. Step by step the
 /// same commands are given on the unit, with the same values before them, as in the run without the messages of the master;
-/// its closing line is the same; and so of all lines of the run those about the unit.
+/// its closing line is the same; and so of all lines of the run those about the unit, whatever modules and timed tasks the
+/// two runs begin with.
 pub fn lines_stay_apart()
     ensures commands { (c : Setup) (m : NodeId) (events : List Event) (unit : Unit) → IsObject c.object
         → IsWellFormed c.topology
@@ -90,8 +92,8 @@ pub fn driven_lines_stay_apart<D: Device>()
 /// A device that was driven through a run keeps apart what is beyond the reach of each master: the text is that of its
 /// lines, of which those about a unit beyond are those of the run without the messages of the master, where the device
 /// reported no failure. Whatever it refused, beyond the reach the books of the run are as in that one, and so are the lines
-/// of starts, drops and callbacks, and those of the full boxes of other masters. The same of the script lines of the run
-/// alone, up to where the text breaks off.
+/// of starts, drops and callbacks, those of the full boxes of other masters, and those of timed tasks. The same of the
+/// script lines of the run alone, up to where the text breaks off.
 pub fn driven_runs_keep_apart<D: Device>()
     ensures run { (c : Setup) (events : List Event) (answers : List (List Bool)) (old new : D)
         → IsObject c.object → IsWellFormed c.topology

@@ -8,14 +8,21 @@ ghost use Rattle.pm_device.specs.Model.{moment_of};
 ghost use Rattle.pm_top.specs.declared.works.Work.TheVariants.{Replay};
 ghost use Rattle.pm_top.specs.Form.{form, over, request_of, topology_in};
 ghost use Rattle.pm_top.specs.Ran.{IsBeforeRun};
+ghost use Rattle.pm_modules.specs.Modules.{ranges};
+ghost use Rattle.pm_tasks.specs.Stored.{timetable};
+ghost use Rattle.pm_cli.specs.Brought.{AreTwoCounters, programs_modules};
 ghost use Rattle.pm_cli.specs.Logged.{IsLogOfRun, IsSafeLog};
 
+mod brought;
 mod host;
 
+use brought::{boxed, modules, tasks};
 use host::{HostInputs, HostSink};
 use pm_base::{Exit, NoMemory};
 use pm_device::{ModelDevice, chains_are_logged};
+use pm_modules::{Echo, Masked, Modules, Responder};
 use pm_replay::logged_acts_are_safe;
+use pm_tasks::{Counter, Handler, Tasks};
 use pm_top::pm_main;
 use pm_topology::zynqmp;
 use std::alloc::Global;
@@ -35,18 +42,41 @@ fn run<R: Env + Files + Print + AllocGlobal>(rt: &R) -> Exit {
         Err(error) if error.kind() == io::ErrorKind::InvalidData => Vec::new(rt.alloc()),
         Err(_) => return Exit::Memory,
     };
-    let Ok(mut device) = device(rt.alloc()) else {
-        return Exit::Memory;
-    };
-    work(rt, words.as_slice(), &mut device)
+    match run_words(rt, words.as_slice()) {
+        Ok(exit) => exit,
+        Err(NoMemory) => Exit::Memory,
+    }
 }
 
-/// Runs these words over a new device. Whatever becomes of them, the acts on the device are in an order in which
-/// nothing is used without power, and no domain goes down under its users. Where `replay` is done, they are those of
-/// the whole run of a script, after a fit to the topology that the words name, if they do.
-fn work<R: Files + Print + AllocGlobal>(rt: &R, words: &[String], device: &mut ModelDevice) -> Exit
+/// Runs these words over a new device, with the modules and the timed tasks of the program: two handlers for ranges of
+/// API words, and two that count their calls.
+fn run_words<R: Files + Print + AllocGlobal>(rt: &R, words: &[String]) -> Result<Exit, NoMemory> {
+    let alloc = rt.alloc();
+    let mut device = device(alloc)?;
+    let echo = boxed(alloc, Echo)?;
+    let masked = boxed(alloc, Masked { mask: 255 })?;
+    let modules = modules::<Box<dyn Responder>>(alloc, echo, masked)?;
+    let first = boxed(alloc, Counter { calls: 0 })?;
+    let second = boxed(alloc, Counter { calls: 0 })?;
+    let mut tasks = tasks::<Box<dyn Handler>>(alloc, first, second)?;
+    Ok(work(rt, words, &mut device, &modules, &mut tasks))
+}
+
+/// Runs these words over a new device, with the modules and the timed tasks of the program. Whatever becomes of them,
+/// the acts on the device are in an order in which nothing is used without power, and no domain goes down under its
+/// users. Where `replay` is done, they are those of the whole run of a script, after a fit to the topology that the words
+/// name, if they do.
+fn work<R: Files + Print + AllocGlobal>(
+    rt: &R,
+    words: &[String],
+    device: &mut ModelDevice,
+    modules: &Modules,
+    tasks: &mut Tasks,
+) -> Exit
     requires fresh { IsFresh chip (moment_of device.old) }
     requires log { device.old.log ≡ [] }
+    requires modules { ranges ⟦<Box<dyn Responder> as Responder>⟧ modules.now ≡ programs_modules }
+    requires tasks { AreTwoCounters (timetable ⟦<Box<dyn Handler> as Handler>⟧ tasks.old) }
     // Usage comes only where the words have no form.
     ensures usage { result ≡ Exit.Usage → form (map string_bytes words.now) ≡ None }
     // Before a script is run nothing is done to the device.
@@ -63,7 +93,15 @@ fn work<R: Files + Print + AllocGlobal>(rt: &R, words: &[String], device: &mut M
     let Ok(mut out) = HostSink::new(rt.alloc(), io::writer(rt)) else {
         return Exit::Memory;
     };
-    let exit = pm_main(rt.alloc(), words, &mut inputs, &mut out, device);
+    let exit = pm_main(
+        rt.alloc(),
+        words,
+        &mut inputs,
+        &mut out,
+        device,
+        modules,
+        tasks,
+    );
     out.finish(exit)
 }
 

@@ -52,7 +52,7 @@ module _ {I O : Type 0} (i : Inputs.Ghosts I) (o : Sink.Ghosts O) (c : Setup) (m
 
   -- ---- what a comparison means
 
-  pub compare_done : Compared i o c m name old new sink sink' result → ((members : List Member) (events : List Event) → IsReach c.object c.topology m members → AreListed c m members events) → i.observable → o.observable → result ≡ exit.Done → IsCompared i o c m name old sink sink'
+  pub compare_done : Compared i o c m name old new sink sink' result → ((members : List Member) (events : List Event) → IsReach (c.object ∷ []) c.topology m members → AreListed c m members events) → i.observable → o.observable → result ≡ exit.Done → IsCompared i o c m name old sink sink'
   compare_done did listed seen written done = by did.job refl did.asked ((scripts.said i o script_of_job (comparison_report c m) (of_script c m) name old new sink sink' result (IsComparisonOf i c m name old new result) script_asked TouchesNothing did).done done)
     where
       by : (job : Result Comparison Fault) → did.job ≡ job → IsComparisonOf i c m name old new result job → IsWhole o (report_of (comparison_report c m) job did.answers) did.cut sink sink' → IsCompared i o c m name old sink sink'
@@ -92,7 +92,7 @@ module _ {I O : Type 0} (i : Inputs.Ghosts I) (o : Sink.Ghosts O) (c : Setup) (m
   compare_unbegun none rose reports = compare_refused Read (record { script = scripts.asked_unbegun i name old new result none rose; reach = tt }) reports
 
   -- a script was read, and this is written of it and of the reach of the master
-  pub compare_ran : (s : Script) (members : List Member) → (i.observable → script_in (i.state old) name ≡ Some s) → (result ≡ exit.ReadFault → Rose (i.state old).faults (i.state new).faults) → IsReach c.object c.topology m members → Reports o (isolate_report c m members s) sink sink' result → Compared i o c m name old new sink sink' result
+  pub compare_ran : (s : Script) (members : List Member) → (i.observable → script_in (i.state old) name ≡ Some s) → (result ≡ exit.ReadFault → Rose (i.state old).faults (i.state new).faults) → IsReach (c.object ∷ []) c.topology m members → Reports o (isolate_report c m members s) sink sink' result → Compared i o c m name old new sink sink' result
   compare_ran s members read fails reach reports = record {
     job = Ok (record { members = members; script = s });
     answers = [];

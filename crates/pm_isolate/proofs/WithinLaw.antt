@@ -109,14 +109,14 @@ named a b is = let node : ℕ → NodeId = λ n. record { 0 = n } in ap node is
 named_line : (a b : LineId) → a.0 ≡ b.0 → a ≡ b
 named_line a b is = let line : ℕ → LineId = λ n. record { 0 = n } in ap line is
 
-module _ (laws : ReachLaws) (object : Object) (t : Topology) (m : NodeId) (found : List Member) (reach : IsReach object t m found) where
+module _ (laws : ReachLaws) (object : Object) (t : Topology) (m : NodeId) (found : List Member) (reach : IsReach (object ∷ []) t m found) where
   abbrev border : Border
   border = border_of object t m
 
   edge : IsBorderOf object t reach.from border
   edge = laws.exact object t m reach.from reach.place
 
-  in_found : (kind : MemberKind) (number : ℕ) → HasMember (members_of object t reach.routes) kind number → HasMember found kind number
+  in_found : (kind : MemberKind) (number : ℕ) → HasMember (members_of (object ∷ []) t reach.routes) kind number → HasMember found kind number
   in_found kind number has = subst (λ (list : List Member). HasMember list kind number) (sym reach.members) has
 
   proc_listed : (p : ℕ) (own : Option ℕ) → owner_at object t p ≡ own → unit_beyond object t border (Proc p) ≡ false → IsOfMember object t found p
@@ -128,7 +128,7 @@ module _ (laws : ReachLaws) (object : Object) (t : Topology) (m : NodeId) (found
       record {
         owner = k;
         owns = own;
-        within = in_found members.Master (node_at object k).0 (master_listed laws.units object t reach.from reach.routes reach.least k inside ((edge.master k inside).0 master));
+        within = in_found members.Master (node_at (object ∷ []) k).0 (master_listed laws.units object t reach.from reach.routes reach.least k inside ((edge.master k inside).0 master));
       }
     where
       owner_inside : (got : Option ProcDef) (k : ℕ) → option_and_then (λ (proc : ProcDef). owner object t proc.node) got ≡ Some k → k < length object.masters
@@ -142,11 +142,11 @@ module _ (laws : ReachLaws) (object : Object) (t : Topology) (m : NodeId) (found
   kind_listed node (Slave s) is there not =
       let entry = subst (IsKind t node) is (laws.kinds.is t node) in
       let inside = (edge.slave s entry.0 entry.1).0 not in
-      in_found members.Slave node.0 (slave_listed laws.units object t reach.from reach.routes reach.least (Node node) there (subst (λ (n : NodeId). IsIn object t reach.from members.Slave (Node n)) (named entry.0.node node entry.2) inside))
+      in_found members.Slave node.0 (slave_listed laws.units object t reach.from reach.routes reach.least (Node node) there (subst (λ (n : NodeId). IsIn (object ∷ []) t reach.from members.Slave (Node n)) (named entry.0.node node entry.2) inside))
   kind_listed node (Power w) is there not =
       let entry = subst (IsKind t node) is (laws.kinds.is t node) in
       let inside = (edge.power w entry.0 entry.1).0 not in
-      in_found members.Power node.0 (power_listed laws.units object t reach.from reach.routes reach.least (Node node) there (subst (λ (n : NodeId). IsIn object t reach.from members.Power (Node n)) (named entry.0.node node entry.2) inside))
+      in_found members.Power node.0 (power_listed laws.units object t reach.from reach.routes reach.least (Node node) there (subst (λ (n : NodeId). IsIn (object ∷ []) t reach.from members.Power (Node n)) (named entry.0.node node entry.2) inside))
   kind_listed node Unknown is there not = let clash : true ≡ false = not in absurd cc
 
   -- a reset line that isn't beyond stands at a place of the table, and what stands there is that line
@@ -154,15 +154,15 @@ module _ (laws : ReachLaws) (object : Object) (t : Topology) (m : NodeId) (found
   line_listed_at line None is there not = let clash : true ≡ false = not in absurd cc
   line_listed_at line (Some k) is there not =
       let first = position-first (λ (l : LineDef). l.line.0 == line.0) t.lines k is in
-      let inside : IsIn object t reach.from members.Line (Line first.element.line) = (edge.line k first.element first.here).0 not in
+      let inside : IsIn (object ∷ []) t reach.from members.Line (Line first.element.line) = (edge.line k first.element first.here).0 not in
       let same : first.element.line ≡ line = named_line first.element.line line (one first.element.line.0 line.0 first.passes) in
-      in_found members.Line line.0 (line_listed laws.units object t reach.from reach.routes reach.least (Line line) there (subst (λ (l : LineId). IsIn object t reach.from members.Line (Line l)) same inside))
+      in_found members.Line line.0 (line_listed laws.units object t reach.from reach.routes reach.least (Line line) there (subst (λ (l : LineId). IsIn (object ∷ []) t reach.from members.Line (Line l)) same inside))
 
   listed : (unit : Unit) → has_unit t unit ≡ true → is_beyond object t border unit ≡ false → IsListed object t found unit
   listed (Line line) there not = line_listed_at line (line_place t.lines line.0) refl there not
   listed (Node node) there not = kind_listed node (kind_of t node) refl there not
 
-pub differs_within : (laws : ReachLaws) (c : Setup) (m : NodeId) (events : List Event) (found : List Member) (unit : Unit) → IsObject c.object → IsWellFormed c.topology → IsReach c.object c.topology m found → has_unit c.topology unit ≡ true → differs (run c events) (run c (quiet m events)) unit ≡ true → IsListed c.object c.topology found unit
+pub differs_within : (laws : ReachLaws) (c : Setup) (m : NodeId) (events : List Event) (found : List Member) (unit : Unit) → IsObject c.object → IsWellFormed c.topology → IsReach (c.object ∷ []) c.topology m found → has_unit c.topology unit ≡ true → differs (run c events) (run c (quiet m events)) unit ≡ true → IsListed c.object c.topology found unit
 differs_within laws c m events found unit object chip reach there differ = by (is_beyond c.object c.topology (border_of c.object c.topology m) unit) refl
   where
     by : (b : Bool) → is_beyond c.object c.topology (border_of c.object c.topology m) unit ≡ b → IsListed c.object c.topology found unit
@@ -183,7 +183,7 @@ each_filter {X} P p (x ∷ xs) all = at (p x) refl (each_filter P p xs all.1)
     at true passes later = (all.0 passes, later)
     at false fails later = later
 
-pub all_within : (laws : ReachLaws) (c : Setup) (m : NodeId) (events : List Event) (found : List Member) → IsObject c.object → IsWellFormed c.topology → IsReach c.object c.topology m found → AreListed c m found events
+pub all_within : (laws : ReachLaws) (c : Setup) (m : NodeId) (events : List Event) (found : List Member) → IsObject c.object → IsWellFormed c.topology → IsReach (c.object ∷ []) c.topology m found → AreListed c m found events
 all_within laws c m events found object chip reach =
     let differ : Unit → Bool = differs (run c events) (run c (quiet m events)) in
     let listed : Unit → Type 0 = IsListed c.object c.topology found in

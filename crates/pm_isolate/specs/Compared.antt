@@ -1,5 +1,5 @@
 -- What a comparison of the two runs of a named script did, on every exit, and what Done means.
-use Rattle.std.specs.Prelude.{◌≡◌, ℕ, Bool, List, ◌++◌, Option, Result, Ok, Err, IfOk, ⊤}
+use Rattle.std.specs.Prelude.{◌≡◌, ℕ, Bool, List, ◌++◌, Option, Result, Ok, Err, IfOk, ⊤, [], ◌∷◌}
 use Rattle.pm_base.specs.declared.errors.Exit.{Exit}
 use Rattle.pm_base.specs.declared.events.Event.{Event}
 use Rattle.pm_base.specs.declared.inputs.Inputs as Inputs
@@ -36,7 +36,7 @@ module _ {I : Type 0} (i : Inputs.Ghosts I) where
   -- the master
   pub record IsComparisonOf (c : Setup) (m : NodeId) (name : List ℕ) (old new : I) (exit : Exit) (job : Result Comparison Fault) : Type 0 where
     pub script : IsScriptOf i name old new exit (script_of_job job)
-    pub reach : IfOk job (λ job. IsReach c.object c.topology m job.members)
+    pub reach : IfOk job (λ job. IsReach (c.object ∷ []) c.topology m job.members)
 
 -- no device is touched
 abbrev pub TouchesNothing : Result Comparison Fault → List (List Bool) → Option ℕ → Type 0
@@ -57,6 +57,6 @@ module _ {I O : Type 0} (i : Inputs.Ghosts I) (o : Sink.Ghosts O) where
     pub members : List Member
     pub held : Holds (i.state old) name script_bytes
     pub means : IsScript script_bytes events
-    pub reach : IsReach c.object c.topology m members
+    pub reach : IsReach (c.object ∷ []) c.topology m members
     pub text : (o.state sink').bytes ≡ (o.state sink).bytes ++ isolate_text c m members events
     pub listed : AreListed c m members events

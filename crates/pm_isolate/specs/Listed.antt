@@ -1,5 +1,5 @@
 -- What is listed in a reach: its members, and the processors of its masters.
-use Rattle.std.specs.Prelude.{◌≡◌, ℕ, List, Some, slice_get}
+use Rattle.std.specs.Prelude.{◌≡◌, ℕ, List, Some, slice_get, [], ◌∷◌}
 use Rattle.std.specs.List.{AllByRecursion as Each}
 use Rattle.pm_base.specs.declared.events.Event.{Event}
 use Rattle.pm_base.specs.declared.names.NodeId.{NodeId}
@@ -30,7 +30,7 @@ pub record HasMember (found : List Member) (kind : MemberKind) (number : ℕ) : 
 pub record IsOfMember (object : Object) (t : Topology) (found : List Member) (p : ℕ) : Type 0 where
   pub owner : ℕ
   pub owns : owner_at object t p ≡ Some owner
-  pub within : HasMember found members.Master (node_at object owner).0
+  pub within : HasMember found members.Master (node_at (object ∷ []) owner).0
 
 -- a node of this kind and number is a member, or a processor of a master that is one
 abbrev pub IsKindListed : Object → Topology → List Member → Kind → ℕ → Type 0

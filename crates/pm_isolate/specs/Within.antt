@@ -80,7 +80,7 @@ setup_in w = setup_of w.loud.book
 -- both books are as at load, and the text of the reach of the master is there
 pub record IsPrepared (c : Setup) (m : NodeId) (p : Prepared) : Type 0 where
   pub members : List Member
-  pub reach : IsReach c.object c.topology m members
+  pub reach : IsReach (c.object ∷ []) c.topology m members
   pub text : p.reach.items ≡ reach_text members
   pub worlds : p.worlds ≡ begun c
 

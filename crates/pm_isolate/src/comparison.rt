@@ -25,7 +25,7 @@ use crate::worlds::Worlds;
 use crate::writing::write_end;
 use pm_base::{Exit, Failed, Inputs, NoMemory, NodeId, Sink, StopReason, write_all};
 use pm_object::Object;
-use pm_reach::reach;
+use pm_reach::reach_by_one;
 use pm_reader::LineStop;
 use pm_topology::Topology;
 use pm_trace::{Fault, reach_text, refuse};
@@ -123,7 +123,7 @@ fn prepare(
     requires named { IsTrue (list_any (λ r. r.node == m.0) object.masters) }
     ensures { IfOk result (IsPrepared (setup object topology) m) }
 {
-    let found = reach(alloc, &object, &topology, m)?;
+    let found = reach_by_one(alloc, &object, &topology, m)?;
     let reach = reach_text(alloc, &found)?;
     let worlds = Worlds::load(alloc, object, topology)?;
     Ok(Prepared { reach, worlds })

@@ -1,6 +1,6 @@
 //! Laws of two runs: what it means that a unit differs, and that what differs is in the reach.
 
-ghost use Rattle.std.specs.Prelude.{◌≡◌, true, false, List};
+ghost use Rattle.std.specs.Prelude.{◌≡◌, true, false, List, [], ◌∷◌};
 ghost use Rattle.pm_base.specs.declared.events.Event.{Event};
 ghost use Rattle.pm_base.specs.declared.names.NodeId.{NodeId};
 ghost use Rattle.pm_base.specs.declared.names.Unit.{Unit};
@@ -31,13 +31,13 @@ pub fn transitions_are_exact()
 pub fn what_differs_is_reached()
     ensures one { (c : Setup) (m : NodeId) (events : List Event) (members : List Member) (unit : Unit)
         → IsObject c.object → IsWellFormed c.topology
-        → IsReach c.object c.topology m members
+        → IsReach (c.object ∷ []) c.topology m members
         → has_unit c.topology unit ≡ true
         → differs (run c events) (run c (quiet m events)) unit ≡ true
         → IsListed c.object c.topology members unit }
     ensures all { (c : Setup) (m : NodeId) (events : List Event) (members : List Member)
         → IsObject c.object → IsWellFormed c.topology
-        → IsReach c.object c.topology m members
+        → IsReach (c.object ∷ []) c.topology m members
         → AreListed c m members events }
 {
     reach_keeps_apart();

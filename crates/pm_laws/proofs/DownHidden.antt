@@ -97,26 +97,26 @@ numbered k (y ∷ ys) zero at x is here = let place : k ≡ at = omega (arith, i
 numbered k (y ∷ ys) (suc i) at x is here = numbered (k + 1) ys i at x (omega (arith, is)) here
 
 -- a power node above a node is forced
-above_forced : (object : Object) (t : Topology) (master node forced : NodeId) (w : ℕ) → IsKind t forced (Power w) → is_below t w node ≡ true → may_force object t master forced ≡ true → forces_above object t master node ≡ true
+above_forced : (object : Object) (t : Topology) (master node forced : NodeId) (w : ℕ) → IsKind t forced (Power w) → is_below t w node ≡ true → may_force object t master forced ≡ true → forces_above (object ∷ []) t master node ≡ true
 above_forced object t master node forced w is below may =
     let power : PowerDef = is.0 in
     let own : may_force object t master power.node ≡ true = ap (λ n. may_force object t master (record { 0 = n })) is.2 ∙ may in
-    present_from (λ (e : ℕ × PowerDef). forces_at object t master node e.0 e.1) (enumerate_from 0 t.powers) w (w, power)
+    present_from (λ (e : ℕ × PowerDef). forces_at (object ∷ []) t master node e.0 e.1) (enumerate_from 0 t.powers) w (w, power)
     (numbered 0 t.powers w w power (omega arith) is.1) (pair_of (is_below t w node) (may_force object t master power.node) below own)
 
-proc_forced : (object : Object) (t : Topology) (master forced : NodeId) (kind : Kind) (q : ℕ) (proc : ProcDef) → IsKind t forced kind → slice_get t.procs q ≡ Some proc → is_under t kind q proc.node ≡ true → may_force object t master forced ≡ true → forces_proc object t master proc.node ≡ true
+proc_forced : (object : Object) (t : Topology) (master forced : NodeId) (kind : Kind) (q : ℕ) (proc : ProcDef) → IsKind t forced kind → slice_get t.procs q ≡ Some proc → is_under t kind q proc.node ≡ true → may_force object t master forced ≡ true → forces_proc (object ∷ []) t master proc.node ≡ true
 proc_forced object t master forced (Proc r) q proc is here under may =
     let own : slice_get t.procs q ≡ Some is.0 = ap (slice_get t.procs) (eqb-true q r under) ∙ is.1 in
     let same : proc ≡ is.0 = same_entry proc is.0 (slice_get t.procs q) here own in
     let number : proc.node.0 ≡ forced.0 = ap (λ (p : ProcDef). p.node.0) same ∙ is.2 in
-    first_passes (may_force object t master proc.node) (forces_above object t master proc.node)
+    first_passes (may_force object t master proc.node) (forces_above (object ∷ []) t master proc.node)
     (ap (λ n. may_force object t master (record { 0 = n })) number ∙ may)
 proc_forced object t master forced (Power w) q proc is here under may =
-    later_passes (may_force object t master proc.node) (forces_above object t master proc.node)
+    later_passes (may_force object t master proc.node) (forces_above (object ∷ []) t master proc.node)
     (above_forced object t master proc.node forced w is under may)
 proc_forced object t master forced _ q proc is here under may = cc
 
-slave_forced : (object : Object) (t : Topology) (master forced : NodeId) (kind : Kind) (node : NodeId) → IsKind t forced kind → is_slave_under t kind node ≡ true → may_force object t master forced ≡ true → forces_above object t master node ≡ true
+slave_forced : (object : Object) (t : Topology) (master forced : NodeId) (kind : Kind) (node : NodeId) → IsKind t forced kind → is_slave_under t kind node ≡ true → may_force object t master forced ≡ true → forces_above (object ∷ []) t master node ≡ true
 slave_forced object t master forced (Power w) node is under may = above_forced object t master node forced w is under may
 slave_forced object t master forced _ node is under may = cc
 

@@ -77,7 +77,7 @@ module _ (object : Object) (t : Topology) where
       found None none = absurd (differs slave.node.0 slave.node.0 (position-none (λ (s : SlaveDef). s.node.0 == slave.node.0) t.slaves none s slave at) refl)
       found (Some k) is = refl
 
-  pub permitted_use : IsObject object → (pair : RowSeed) (permitted : IsPermitted object t pair) → may_use object t (node_at object pair.master) permitted.slave.node ≡ true
+  pub permitted_use : IsObject object → (pair : RowSeed) (permitted : IsPermitted object t pair) → may_use object t (node_at (object ∷ []) pair.master) permitted.slave.node ≡ true
   permitted_use formed pair permitted =
       let number = node_is object pair.master permitted.master permitted.configured in
       let own = own_record object formed pair.master permitted.master permitted.configured in

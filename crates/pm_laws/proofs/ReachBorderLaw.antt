@@ -53,16 +53,16 @@ module _ (laws : ReachLaws) (object : Object) (t : Topology) (formed : IsObject 
   border = edge object t from
 
   -- the same permission by the other way to say a master's number
-  by_number : (may : NodeId → Bool) (m : ℕ) → may (number m) ≡ true → may (node_at object m) ≡ true
+  by_number : (may : NodeId → Bool) (m : ℕ) → may (number m) ≡ true → may (node_at (object ∷ []) m) ≡ true
   by_number may m e = ap may (same_node object m) ∙ e
 
-  by_numbers : (may : NodeId → NodeId → Bool) (m k : ℕ) → may (number m) (number k) ≡ true → may (node_at object m) (node_at object k) ≡ true
-  by_numbers may m k e = by_number (λ n. may n (node_at object k)) m (by_number (may (number m)) k e)
+  by_numbers : (may : NodeId → NodeId → Bool) (m k : ℕ) → may (number m) (number k) ≡ true → may (node_at (object ∷ []) m) (node_at (object ∷ []) k) ≡ true
+  by_numbers may m k e = by_number (λ n. may n (node_at (object ∷ []) k)) m (by_number (may (number m)) k e)
 
   -- ---- from master to master
 
   leads : (m k : ℕ) → m < masters
-      → (k < masters → (f : ℕ) → Reaches object t f m → Reaches object t f k)
+      → (k < masters → (f : ℕ) → Reaches (object ∷ []) t f m → Reaches (object ∷ []) t f k)
       → IsBeyond border k
       → IsBeyond border m
   leads m k there on beyond =
@@ -72,56 +72,56 @@ module _ (laws : ReachLaws) (object : Object) (t : Topology) (formed : IsObject 
   suspends : (m k : ℕ) → may_suspend object t (number m) (number k) ≡ true → IsBeyond border k → IsBeyond border m
   suspends m k may beyond =
       leads m k (record_place object formed m (suspends_there object t (number m) (number k) may))
-      (λ there f r. laws.masters.suspended object t f m r k there (by_numbers (may_suspend object t) m k may)) beyond
+      (λ there f r. laws.masters.suspended (object ∷ []) t f m r k there (by_numbers (may_suspend object t) m k may)) beyond
 
   wakes : (m k : ℕ) → may_wake object t (number m) (number k) ≡ true → IsBeyond border k → IsBeyond border m
   wakes m k may beyond =
       leads m k (record_place object formed m (wakes_there object t (number m) (number k) may))
-      (λ there f r. laws.masters.woken object t f m r k there (by_numbers (may_wake object t) m k may)) beyond
+      (λ there f r. laws.masters.woken (object ∷ []) t f m r k there (by_numbers (may_wake object t) m k may)) beyond
 
   owner_is : (p k : ℕ) (proc : ProcDef) → slice_get t.procs p ≡ Some proc → owner_at object t p ≡ Some k → owner object t proc.node ≡ Some k
   owner_is p k proc is own = sym (ap (λ o. option_and_then (λ (proc : ProcDef). owner object t proc.node) o) is) ∙ own
 
-  owned : (p k : ℕ) (proc : ProcDef) → slice_get t.procs p ≡ Some proc → owner_at object t p ≡ Some k → owns object t k proc.node ≡ true
+  owned : (p k : ℕ) (proc : ProcDef) → slice_get t.procs p ≡ Some proc → owner_at object t p ≡ Some k → owns (object ∷ []) t k proc.node ≡ true
   owned p k proc is own = owner_owns object t proc.node k (owner_is p k proc is own)
 
   forces : (m k p : ℕ) (proc : ProcDef) → slice_get t.procs p ≡ Some proc
-      → forces_proc object t (number m) proc.node ≡ true
+      → forces_proc (object ∷ []) t (number m) proc.node ≡ true
       → owner_at object t p ≡ Some k → IsBeyond border k → IsBeyond border m
   forces m k p proc is may own beyond =
       leads m k (record_place object formed m (forces_there object t (number m) proc.node may))
-      (λ there f r. laws.masters.forced object t f m r k there p proc is (owned p k proc is own) (by_number (λ n. forces_proc object t n proc.node) m may)) beyond
+      (λ there f r. laws.masters.forced (object ∷ []) t f m r k there p proc is (owned p k proc is own) (by_number (λ n. forces_proc (object ∷ []) t n proc.node) m may)) beyond
 
   clears : (m k s : ℕ) (slave : SlaveDef) → slice_get t.slaves s ≡ Some slave
-      → forces_above object t (number m) slave.node ≡ true
+      → forces_above (object ∷ []) t (number m) slave.node ≡ true
       → may_use object t (number k) slave.node ≡ true → IsBeyond border k → IsBeyond border m
   clears m k s slave is may use_ beyond =
       leads m k (record_place object formed m (forces_above_there object t (number m) slave.node may))
-      (λ there f r. laws.masters.user object t f m r k there s slave is
-      (by_number (λ n. may_use object t n slave.node) k use_) (by_number (λ n. forces_above object t n slave.node) m may)) beyond
+      (λ there f r. laws.masters.user (object ∷ []) t f m r k there s slave is
+      (by_number (λ n. may_use object t n slave.node) k use_) (by_number (λ n. forces_above (object ∷ []) t n slave.node) m may)) beyond
 
   resets : (m k l : ℕ) (line : LineDef) → slice_get t.lines l ≡ Some line
       → may_reset object t (number m) line.line ≡ true
-      → targets object t line k ≡ true → IsBeyond border k → IsBeyond border m
+      → targets (object ∷ []) t line k ≡ true → IsBeyond border k → IsBeyond border m
   resets m k l line is may target beyond =
       leads m k (record_place object formed m (resets_there object t (number m) line.line may))
-      (λ there f r. laws.masters.reset object t f m r k there l line is target (by_number (λ n. may_reset object t n line.line) m may)) beyond
+      (λ there f r. laws.masters.reset (object ∷ []) t f m r k there l line is target (by_number (λ n. may_reset object t n line.line) m may)) beyond
 
   -- some master beyond, where any is
   one_beyond : border.some ≡ true → (k : ℕ) × IsBeyond border k
-  one_beyond e = let found = (laws.tests.some object (master_beyond object t from)).0 e in (found.0, found.2)
+  one_beyond e = let found = (laws.tests.some (object ∷ []) (master_beyond object t from)).0 e in (found.0, found.2)
 
   shuts : (m : ℕ) → (may_shut object t (number m) 1 || may_shut object t (number m) 2) ≡ true → border.some ≡ true → IsBeyond border m
   shuts m may e =
       let one = one_beyond e in
       leads m one.0 (record_place object formed m (shuts_there object t (number m) may))
-      (λ there f r. laws.masters.shut object t f m r one.0 there (by_number (λ n. may_shut object t n 1 || may_shut object t n 2) m may)) one.1
+      (λ there f r. laws.masters.shut (object ∷ []) t f m r one.0 there (by_number (λ n. may_shut object t n 1 || may_shut object t n 2) m may)) one.1
 
   configures : (m : ℕ) → may_configure object t (number m) ≡ true → border.some ≡ true → IsBeyond border m
   configures m may e =
       let one = one_beyond e in
       leads m one.0 (record_place object formed m (configures_there object t (number m) may))
-      (λ there f r. laws.masters.configured object t f m r one.0 there (by_number (may_configure object t) m may)) one.1
+      (λ there f r. laws.masters.configured (object ∷ []) t f m r one.0 there (by_number (may_configure object t) m may)) one.1
 
   -- ---- from masters to units
 
@@ -153,7 +153,7 @@ module _ (laws : ReachLaws) (object : Object) (t : Topology) (formed : IsObject 
       master_by_unit laws object t from starts pair.master members.Slave (Node slave.node)
       (slice_get_within object.masters pair.master permitted.master permitted.configured)
       (lead_in object t from pair.master members.Slave (Node slave.node)
-      (λ f r. laws.units.used object t f pair.master r slave.node pair.slave kind (permitted_use object t formed pair permitted)))
+      (λ f r. laws.units.used (object ∷ []) t f pair.master r slave.node pair.slave kind (permitted_use object t formed pair permitted)))
       (entry_is members.Slave _ slave.node (slave_node pair.slave slave permitted.there) e)
 
   pairs_closed : (pairs : List RowSeed) → Each (IsPermitted object t) pairs → Each (IsPairClosed border) pairs
@@ -192,10 +192,10 @@ module _ (laws : ReachLaws) (object : Object) (t : Topology) (formed : IsObject 
       let permitted : IsPermitted object t pair = permitted_at (pairs_of object t) found.0 pair (pairs_permitted object t) found.2 in
       let there : slice_get t.slaves s ≡ Some permitted.slave = ap (slice_get t.slaves) (sym (eqb-true pair.slave s parts.0)) ∙ permitted.there in
       let same : permitted.slave ≡ slave = same_entry permitted.slave slave (slice_get t.slaves s) there is in
-      let may : may_use object t (node_at object pair.master) permitted.slave.node ≡ true = permitted_use object t formed pair permitted in (
+      let may : may_use object t (node_at (object ∷ []) pair.master) permitted.slave.node ≡ true = permitted_use object t formed pair permitted in (
         pair.master,
         parts.1,
-        ap (λ n. may_use object t n slave.node) (sym (same_node object pair.master)) ∙ (ap (λ (d : SlaveDef). may_use object t (node_at object pair.master) d.node) (sym same) ∙ may),
+        ap (λ n. may_use object t n slave.node) (sym (same_node object pair.master)) ∙ (ap (λ (d : SlaveDef). may_use object t (node_at (object ∷ []) pair.master) d.node) (sym same) ∙ may),
       )
 
   lines : (m l : ℕ) (line : LineDef) → slice_get t.lines l ≡ Some line
@@ -204,7 +204,7 @@ module _ (laws : ReachLaws) (object : Object) (t : Topology) (formed : IsObject 
       master_by_unit laws object t from starts m members.Line (Line line.line)
       (record_place object formed m (resets_there object t (number m) line.line may))
       (lead_in object t from m members.Line (Line line.line)
-      (λ f r. laws.units.line object t f m r line.line (by_number (λ n. may_reset object t n line.line) m may)))
+      (λ f r. laws.units.line (object ∷ []) t f m r line.line (by_number (λ n. may_reset object t n line.line) m may)))
       (line_is _ line.line (ap (λ o. option_map (λ (line : LineDef). line.line) o) is) e)
 
   owner_within : (p m : ℕ) (proc : ProcDef) → slice_get t.procs p ≡ Some proc → owner_at object t p ≡ Some m → m < masters
@@ -222,7 +222,7 @@ module _ (laws : ReachLaws) (object : Object) (t : Topology) (formed : IsObject 
       let power = entry.0 in
       master_by_unit laws object t from starts m members.Power (Node power.node) (owner_within p m proc is own)
       (lead_in object t from m members.Power (Node power.node)
-      (λ f r. laws.parents.proc object t f m well r p proc power.node is (owned p m proc is own) (power_kind proc.parent power entry.1)))
+      (λ f r. laws.parents.proc (object ∷ []) t f m well r p proc power.node is (owned p m proc is own) (power_kind proc.parent power entry.1)))
       (power_beyond proc.parent power entry.1 e)
 
   slaves : (s : ℕ) (slave : SlaveDef) → slice_get t.slaves s ≡ Some slave → border.power slave.parent ≡ true → border.slave s ≡ true
@@ -232,7 +232,7 @@ module _ (laws : ReachLaws) (object : Object) (t : Topology) (formed : IsObject 
       is_entry members.Slave _ slave.node (slave_node s slave is)
       (unit_by laws object t from starts members.Slave members.Power (Node slave.node) (Node power.node)
       (lead_up object t from members.Slave members.Power (Node slave.node) (Node power.node)
-      (λ f within. laws.parents.slave object t f well s slave power.node is within (power_kind slave.parent power entry.1)))
+      (λ f within. laws.parents.slave (object ∷ []) t f well s slave power.node is within (power_kind slave.parent power entry.1)))
       (power_beyond slave.parent power entry.1 e))
 
   powers : (w v : ℕ) (power : PowerDef) → slice_get t.powers w ≡ Some power → power.parent ≡ Some v
@@ -245,7 +245,7 @@ module _ (laws : ReachLaws) (object : Object) (t : Topology) (formed : IsObject 
       is_entry members.Power _ power.node (power_node w power is)
       (unit_by laws object t from starts members.Power members.Power (Node power.node) (Node above.node)
       (lead_up object t from members.Power members.Power (Node power.node) (Node above.node)
-      (λ f within. laws.parents.power object t f well w v power above.node is up within (power_kind v above entry.1)))
+      (λ f within. laws.parents.power (object ∷ []) t f well w v power above.node is up within (power_kind v above entry.1)))
       (power_beyond v above entry.1 e))
 
   -- ---- numbers of nodes
@@ -289,7 +289,7 @@ module _ (laws : ReachLaws) (object : Object) (t : Topology) (formed : IsObject 
     lines = lines;
     shuts = shuts;
     configures = configures;
-    some = λ m e. (laws.tests.some object (master_beyond object t from)).1 (m, (beyond_parts laws object t from starts m e).0, e);
+    some = λ m e. (laws.tests.some (object ∷ []) (master_beyond object t from)).1 (m, (beyond_parts laws object t from starts m e).0, e);
   }
 
 -- ---- the reach of a master with a number

@@ -1,5 +1,5 @@
 -- The border of a reach is that of the reach: no narrower and no wider.
-use Rattle.std.proofs.Common.{◌≡◌, ℕ, ◌<◌, ◌&&◌, Bool, true, false, not, slice_get, length, Option, Some, None, refl, ap, sym, ◌∙◌, subst, ◌↔◌}
+use Rattle.std.proofs.Common.{◌≡◌, ℕ, ◌<◌, ◌&&◌, Bool, true, false, not, slice_get, length, Option, Some, None, refl, ap, sym, ◌∙◌, subst, ◌↔◌, [], ◌∷◌}
 use Rattle.std.specs.Option.{option_map}
 use Rattle.std.proofs.lemmas.Bool.{lt-ltb}
 use Rattle.pm_base.specs.declared.names.LineId.{LineId}
@@ -29,23 +29,23 @@ module _ (laws : ReachLaws) (object : Object) (t : Topology) (from : ℕ) (start
   abbrev border : Border
   border = edge object t (Some from)
 
-  there : (k : ℕ) → k < length object.masters → border.master k ≡ not (is_reached object t from k)
-  there k within = ap (λ b. b && not (is_reached object t from k)) (lt-ltb k (length object.masters) within)
+  there : (k : ℕ) → k < length object.masters → border.master k ≡ not (is_reached (object ∷ []) t from k)
+  there k within = ap (λ b. b && not (is_reached (object ∷ []) t from k)) (lt-ltb k (length object.masters) within)
 
   entry_where : (kind : MemberKind) (got : Option NodeId) (node : NodeId) → got ≡ Some node
-      → (entry_beyond object t (Some from) kind got ≡ false) ↔ IsIn object t from kind (Node node)
+      → (entry_beyond object t (Some from) kind got ≡ false) ↔ IsIn (object ∷ []) t from kind (Node node)
   entry_where kind got node is =
       let same = ap (entry_beyond object t (Some from) kind) is in
-      let test = laws.tests.units object t from kind (Node node) starts in (
+      let test = laws.tests.units (object ∷ []) t from kind (Node node) starts in (
         λ e. test.0 (not_beyond (brings_in object t (Some from) kind (Node node)) (sym same ∙ e)),
         λ within. same ∙ is_beyond (brings_in object t (Some from) kind (Node node)) (test.1 within),
       )
 
   line_where : (got : Option LineId) (line : LineId) → got ≡ Some line
-      → (reset_beyond object t (Some from) got ≡ false) ↔ IsIn object t from members.Line (Line line)
+      → (reset_beyond object t (Some from) got ≡ false) ↔ IsIn (object ∷ []) t from members.Line (Line line)
   line_where got line is =
       let same = ap (reset_beyond object t (Some from)) is in
-      let test = laws.tests.units object t from members.Line (Line line) starts in (
+      let test = laws.tests.units (object ∷ []) t from members.Line (Line line) starts in (
         λ e. test.0 (not_beyond (brings_in object t (Some from) members.Line (Line line)) (sym same ∙ e)),
         λ within. same ∙ is_beyond (brings_in object t (Some from) members.Line (Line line)) (test.1 within),
       )
@@ -53,14 +53,14 @@ module _ (laws : ReachLaws) (object : Object) (t : Topology) (from : ℕ) (start
   pub edge_exact : IsBorderOf object t from border
   edge_exact = record {
     master = λ k within. (
-      λ e. (laws.tests.masters object t from k starts).0 (not_beyond (is_reached object t from k) (sym (there k within) ∙ e)),
-      λ path. there k within ∙ is_beyond (is_reached object t from k) ((laws.tests.masters object t from k starts).1 path),
+      λ e. (laws.tests.masters (object ∷ []) t from k starts).0 (not_beyond (is_reached (object ∷ []) t from k) (sym (there k within) ∙ e)),
+      λ path. there k within ∙ is_beyond (is_reached (object ∷ []) t from k) ((laws.tests.masters (object ∷ []) t from k starts).1 path),
     );
     slave = λ k s is. entry_where members.Slave _ s.node (ap (λ o. option_map (λ (slave : SlaveDef). slave.node) o) is);
     power = λ k p is. entry_where members.Power _ p.node (ap (λ o. option_map (λ (power : PowerDef). power.node) o) is);
     line = λ k l is. line_where _ l.line (ap (λ o. option_map (λ (line : LineDef). line.line) o) is);
     configured = λ k e. (beyond_parts laws object t (Some from) starts k e).0;
-    some = λ e. let found = (laws.tests.some object (master_beyond object t (Some from))).0 e in (found.0, found.2);
+    some = λ e. let found = (laws.tests.some (object ∷ []) (master_beyond object t (Some from))).0 e in (found.0, found.2);
   }
 
 pub reach_exact : ReachLaws → (object : Object) (t : Topology) (m : NodeId) (from : ℕ) → place_of object m ≡ Some from → IsBorderOf object t from (border_of object t m)

@@ -20,15 +20,15 @@ use Rattle.pm_reach.specs.Leads.{forces_above, forces_at, forces_proc, node_at}
 
 -- ---- the number of the master at a place
 
-node_by : (o : Object) (place : ℕ) (got : Option MasterRec) → slice_get o.masters place ≡ got → node_at o place ≡ master_node o.masters place
+node_by : (o : Object) (place : ℕ) (got : Option MasterRec) → slice_get o.masters place ≡ got → node_at (o ∷ []) place ≡ master_node o.masters place
 node_by o place None is = rw is refl
 node_by o place (Some master) is = rw is refl
 
 -- two ways to say it
-pub same_node : (o : Object) (place : ℕ) → node_at o place ≡ master_node o.masters place
+pub same_node : (o : Object) (place : ℕ) → node_at (o ∷ []) place ≡ master_node o.masters place
 same_node o place = node_by o place (slice_get o.masters place) refl
 
-pub node_is : (o : Object) (place : ℕ) (master : MasterRec) → slice_get o.masters place ≡ Some master → node_at o place ≡ record { 0 = master.node }
+pub node_is : (o : Object) (place : ℕ) (master : MasterRec) → slice_get o.masters place ≡ Some master → node_at (o ∷ []) place ≡ record { 0 = master.node }
 node_is o place master is = rw is refl
 
 no_master_0 : (masters : List MasterRec) → Each IsMaster masters → find (λ (m : MasterRec). m.node == 0) masters ≡ None
@@ -113,14 +113,14 @@ force_there : (o : Object) (t : Topology) (m node : NodeId) → may_force o t m 
 force_there o t m node e =
     in_there (master_record o m) (pair_mask o.power node.0) (both (can_be_forced (kind_of t node)) (is_in (master_record o m) (pair_mask o.power node.0)) e).1
 
-pub forces_above_there : (o : Object) (t : Topology) (m node : NodeId) → forces_above o t m node ≡ true → IsThere o m
+pub forces_above_there : (o : Object) (t : Topology) (m node : NodeId) → forces_above (o ∷ []) t m node ≡ true → IsThere o m
 forces_above_there o t m node e =
-    let found = present_at (λ (power : ℕ × PowerDef). forces_at o t m node power.0 power.1) (enumerate_from 0 t.powers) e in
+    let found = present_at (λ (power : ℕ × PowerDef). forces_at (o ∷ []) t m node power.0 power.1) (enumerate_from 0 t.powers) e in
     force_there o t m found.1.1.node (both (is_below t found.1.0 node) (may_force o t m found.1.1.node) found.3).1
 
-pub forces_there : (o : Object) (t : Topology) (m proc : NodeId) → forces_proc o t m proc ≡ true → IsThere o m
+pub forces_there : (o : Object) (t : Topology) (m proc : NodeId) → forces_proc (o ∷ []) t m proc ≡ true → IsThere o m
 forces_there o t m proc e =
-    elim (either (may_force o t m proc) (forces_above o t m proc) e) [
+    elim (either (may_force o t m proc) (forces_above (o ∷ []) t m proc) e) [
       | inl one ↦ force_there o t m proc one
       | inr above ↦ forces_above_there o t m proc above
     ]

@@ -50,9 +50,9 @@ owner_of_node object t node p is =
     let same : first.element.node ≡ node = ap id (eqb-true first.element.node.0 node.0 first.passes) in
     ap (λ o. option_and_then (λ (proc : ProcDef). owner object t proc.node) o) first.here ∙ ap (owner object t) same
 
-targets_owner : (object : Object) (t : Topology) (line : LineDef) (node : NodeId) (k : ℕ) → line.target ≡ Some node → owner object t node ≡ Some k → targets object t line k ≡ true
+targets_owner : (object : Object) (t : Topology) (line : LineDef) (node : NodeId) (k : ℕ) → line.target ≡ Some node → owner object t node ≡ Some k → targets (object ∷ []) t line k ≡ true
 targets_owner object t line node k target is =
-    ap (λ o. option_map_or (owns object t k) o false) target
+    ap (λ o. option_map_or (owns (object ∷ []) t k) o false) target
     ∙ owner_owns object t node k is
 
 module _ (border : Border) (book : State) (closed : IsClosed book.fixed.object book.fixed.topology border) (m l : ℕ) (line : LineDef)

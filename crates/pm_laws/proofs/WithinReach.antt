@@ -1,5 +1,5 @@
 -- What is within the reach of a master by the tests, and what that makes beyond it.
-use Rattle.std.proofs.Common.{◌≡◌, ℕ, ◌<◌, Bool, true, false, not, nat_lt, length, Option, Some, None, refl}
+use Rattle.std.proofs.Common.{◌≡◌, ℕ, ◌<◌, Bool, true, false, not, nat_lt, length, Option, Some, None, refl, [], ◌∷◌}
 use Rattle.std.specs.Prelude.{⊤}
 use Rattle.std.proofs.lemmas.Bool.{ltb-true, lt-ltb}
 use Rattle.pm_laws.proofs.Common.{KindLaws, Object, Topology, Unit, brings_in, master_beyond, reaches}
@@ -33,42 +33,42 @@ Starts object (Some from) = from < length object.masters
 -- a path leads from there to a master
 abbrev pub Within : Object → Topology → Option ℕ → ℕ → Type 0
 Within object t None k = ⊥
-Within object t (Some from) k = Reaches object t from k
+Within object t (Some from) k = Reaches (object ∷ []) t from k
 
 -- and the master there brings in a unit
 abbrev pub UnitWithin : Object → Topology → Option ℕ → MemberKind → Unit → Type 0
 UnitWithin object t None kind unit = ⊥
-UnitWithin object t (Some from) kind unit = IsIn object t from kind unit
+UnitWithin object t (Some from) kind unit = IsIn (object ∷ []) t from kind unit
 
 -- what leads from one master to another does so from every start
-pub lead : (object : Object) (t : Topology) (from : Option ℕ) (m k : ℕ) → ((f : ℕ) → Reaches object t f m → Reaches object t f k) → Within object t from m → Within object t from k
+pub lead : (object : Object) (t : Topology) (from : Option ℕ) (m k : ℕ) → ((f : ℕ) → Reaches (object ∷ []) t f m → Reaches (object ∷ []) t f k) → Within object t from m → Within object t from k
 lead object t None m k leads within = within
 lead object t (Some f) m k leads within = leads f within
 
-pub lead_in : (object : Object) (t : Topology) (from : Option ℕ) (m : ℕ) (kind : MemberKind) (unit : Unit) → ((f : ℕ) → Reaches object t f m → IsIn object t f kind unit) → Within object t from m → UnitWithin object t from kind unit
+pub lead_in : (object : Object) (t : Topology) (from : Option ℕ) (m : ℕ) (kind : MemberKind) (unit : Unit) → ((f : ℕ) → Reaches (object ∷ []) t f m → IsIn (object ∷ []) t f kind unit) → Within object t from m → UnitWithin object t from kind unit
 lead_in object t None m kind unit leads within = within
 lead_in object t (Some f) m kind unit leads within = leads f within
 
-pub lead_up : (object : Object) (t : Topology) (from : Option ℕ) (kind other : MemberKind) (unit above : Unit) → ((f : ℕ) → IsIn object t f kind unit → IsIn object t f other above) → UnitWithin object t from kind unit → UnitWithin object t from other above
+pub lead_up : (object : Object) (t : Topology) (from : Option ℕ) (kind other : MemberKind) (unit above : Unit) → ((f : ℕ) → IsIn (object ∷ []) t f kind unit → IsIn (object ∷ []) t f other above) → UnitWithin object t from kind unit → UnitWithin object t from other above
 lead_up object t None kind other unit above leads within = within
 lead_up object t (Some f) kind other unit above leads within = leads f within
 
 module _ (laws : ReachLaws) (object : Object) (t : Topology) where
   to_within : (from : Option ℕ) (k : ℕ) → Starts object from → reaches object t from k ≡ true → Within object t from k
   to_within None k starts e = cc
-  to_within (Some from) k starts e = (laws.tests.masters object t from k starts).0 e
+  to_within (Some from) k starts e = (laws.tests.masters (object ∷ []) t from k starts).0 e
 
   from_within : (from : Option ℕ) (k : ℕ) → Starts object from → Within object t from k → reaches object t from k ≡ true
   from_within None k starts e = absurd e
-  from_within (Some from) k starts e = (laws.tests.masters object t from k starts).1 e
+  from_within (Some from) k starts e = (laws.tests.masters (object ∷ []) t from k starts).1 e
 
   unit_to : (from : Option ℕ) (kind : MemberKind) (unit : Unit) → Starts object from → brings_in object t from kind unit ≡ true → UnitWithin object t from kind unit
   unit_to None kind unit starts e = cc
-  unit_to (Some from) kind unit starts e = (laws.tests.units object t from kind unit starts).0 e
+  unit_to (Some from) kind unit starts e = (laws.tests.units (object ∷ []) t from kind unit starts).0 e
 
   unit_from : (from : Option ℕ) (kind : MemberKind) (unit : Unit) → Starts object from → UnitWithin object t from kind unit → brings_in object t from kind unit ≡ true
   unit_from None kind unit starts e = absurd e
-  unit_from (Some from) kind unit starts e = (laws.tests.units object t from kind unit starts).1 e
+  unit_from (Some from) kind unit starts e = (laws.tests.units (object ∷ []) t from kind unit starts).1 e
 
   -- ---- one within brings another in
 

@@ -1,5 +1,5 @@
 -- What lies beyond the reach of a master. The laws of two worlds hold of every border that is closed.
-use Rattle.std.specs.Prelude.{◌≡◌, ℕ, Bool, true, false, ◌&&◌, ◌||◌, ◌==◌, slice_get, position, Option, Some, None}
+use Rattle.std.specs.Prelude.{◌≡◌, ℕ, Bool, true, false, ◌&&◌, ◌||◌, ◌==◌, slice_get, position, Option, Some, None, [], ◌∷◌}
 use Rattle.std.specs.List.{All}
 use Rattle.pm_base.specs.declared.names.NodeId.{NodeId}
 use Rattle.pm_base.specs.declared.names.Unit.{Unit}
@@ -104,15 +104,15 @@ pub record IsClosed (object : Object) (t : Topology) (border : Border) : Type 0 
   -- who may force a processor of a master beyond, or a power node above one, is beyond; and so is who may force a power
   -- node above a slave that a master beyond may use
   pub forces : (m k p : ℕ) (proc : ProcDef) → slice_get t.procs p ≡ Some proc
-      → forces_proc object t (master_node object.masters m) proc.node ≡ true
+      → forces_proc (object ∷ []) t (master_node object.masters m) proc.node ≡ true
       → owner_at object t p ≡ Some k → IsBeyond border k → IsBeyond border m
   pub clears : (m k s : ℕ) (slave : SlaveDef) → slice_get t.slaves s ≡ Some slave
-      → forces_above object t (master_node object.masters m) slave.node ≡ true
+      → forces_above (object ∷ []) t (master_node object.masters m) slave.node ≡ true
       → may_use object t (master_node object.masters k) slave.node ≡ true → IsBeyond border k → IsBeyond border m
   -- who may reset a processor of a master beyond is beyond, and who may reset a line beyond
   pub resets : (m k l : ℕ) (line : LineDef) → slice_get t.lines l ≡ Some line
       → may_reset object t (master_node object.masters m) line.line ≡ true
-      → targets object t line k ≡ true → IsBeyond border k → IsBeyond border m
+      → targets (object ∷ []) t line k ≡ true → IsBeyond border k → IsBeyond border m
   pub lines : (m l : ℕ) (line : LineDef) → slice_get t.lines l ≡ Some line
       → may_reset object t (master_node object.masters m) line.line ≡ true
       → border.line l ≡ true → IsBeyond border m

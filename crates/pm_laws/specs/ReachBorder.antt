@@ -1,5 +1,5 @@
 -- The border of the reach of a master: what its messages can't change, neither by themselves nor through other masters.
-use Rattle.std.specs.Prelude.{◌≡◌, ℕ, Bool, true, false, not, ◌<◌, ◌&&◌, ◌==◌, nat_lt, ◌↔◌, length, position, slice_get, Option, Some, None}
+use Rattle.std.specs.Prelude.{◌≡◌, ℕ, Bool, true, false, not, ◌<◌, ◌&&◌, ◌==◌, nat_lt, ◌↔◌, length, position, slice_get, Option, Some, None, [], ◌∷◌}
 use Rattle.std.specs.List.{list_any}
 use Rattle.std.specs.Option.{option_map}
 use Rattle.pm_base.specs.declared.names.LineId.{LineId}
@@ -27,12 +27,12 @@ place_of object m = position (λ (r : MasterRec). r.node == m.0) object.masters
 -- a path leads from the master at a place to another one: none does where the master isn't configured
 abbrev pub reaches : Object → Topology → Option ℕ → ℕ → Bool
 reaches object t None k = false
-reaches object t (Some from) k = is_reached object t from k
+reaches object t (Some from) k = is_reached (object ∷ []) t from k
 
 -- a master at the end of such a path brings in a unit as a member of this kind
 abbrev pub brings_in : Object → Topology → Option ℕ → MemberKind → Unit → Bool
 brings_in object t None kind unit = false
-brings_in object t (Some from) kind unit = is_brought_in object t from kind unit
+brings_in object t (Some from) kind unit = is_brought_in (object ∷ []) t from kind unit
 
 -- a master of the object to which no path leads
 abbrev pub master_beyond : Object → Topology → Option ℕ → ℕ → Bool
@@ -57,7 +57,7 @@ unit_border object t from nodes = record {
   power = λ w. entry_beyond object t from members.Power (option_map (λ (power : PowerDef). power.node) (slice_get t.powers w));
   line = λ l. reset_beyond object t from (option_map (λ (line : LineDef). line.line) (slice_get t.lines l));
   node = nodes;
-  some = some_master object (master_beyond object t from);
+  some = some_master (object ∷ []) (master_beyond object t from);
 }
 
 -- the number of a node is beyond where its unit and the master of that number are
@@ -73,13 +73,13 @@ border_of object t m = unit_border object t (place_of object m) (number_beyond o
 -- it, and a slave, a power node or a reset line where no master at the end of a path brings it in; and some is beyond
 -- exactly where one of them is
 pub record IsBorderOf (object : Object) (t : Topology) (from : ℕ) (border : Border) : Type 0 where
-  pub master : (k : ℕ) → k < length object.masters → (border.master k ≡ false) ↔ Reaches object t from k
+  pub master : (k : ℕ) → k < length object.masters → (border.master k ≡ false) ↔ Reaches (object ∷ []) t from k
   pub slave : (k : ℕ) (s : SlaveDef) → slice_get t.slaves k ≡ Some s
-      → (border.slave k ≡ false) ↔ IsIn object t from members.Slave (Node s.node)
+      → (border.slave k ≡ false) ↔ IsIn (object ∷ []) t from members.Slave (Node s.node)
   pub power : (k : ℕ) (p : PowerDef) → slice_get t.powers k ≡ Some p
-      → (border.power k ≡ false) ↔ IsIn object t from members.Power (Node p.node)
+      → (border.power k ≡ false) ↔ IsIn (object ∷ []) t from members.Power (Node p.node)
   pub line : (k : ℕ) (l : LineDef) → slice_get t.lines k ≡ Some l
-      → (border.line k ≡ false) ↔ IsIn object t from members.Line (Line l.line)
+      → (border.line k ≡ false) ↔ IsIn (object ∷ []) t from members.Line (Line l.line)
   pub configured : (k : ℕ) → IsBeyond border k → k < length object.masters
   pub some : border.some ≡ true → (k : ℕ) × IsBeyond border k
 

@@ -5,3 +5,4 @@ pub mod LinesLemmas
 pub mod NoticesLemmas
 pub mod ReplayLemmas
 pub mod RestLemmas
+pub mod TasksLemmas

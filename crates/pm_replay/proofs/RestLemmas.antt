@@ -9,6 +9,7 @@ use Rattle.pm_base.specs.declared.errors.Exit.{Exit}
 use Rattle.pm_base.specs.declared.errors.Exit.TheVariants.{WriteFault}
 use Rattle.pm_base.specs.declared.errors.NoMemory.{NoMemory}
 use Rattle.pm_base.specs.declared.events.Event.{Event}
+use Rattle.pm_base.specs.declared.events.Event.TheVariants.{Pass}
 use Rattle.pm_base.specs.declared.prefix.StopReason.{StopReason}
 use Rattle.pm_base.specs.declared.prefix.StopReason.TheVariants as reason
 use Rattle.pm_base.specs.declared.sink.Sink as Sink
@@ -20,6 +21,7 @@ use Rattle.pm_topology.specs.declared.topology.Topology.{Topology}
 use Rattle.pm_device.specs.declared.device.Device as Device
 use Rattle.pm_device.specs.Act.{Act, Chain}
 use Rattle.pm_device.specs.Chains.{Chain-append}
+use Rattle.pm_board.specs.Board.{Standing, board_after}
 use Rattle.pm_state.specs.Load.{load_of}
 use Rattle.pm_core.specs.Outbox.{Holds}
 use Rattle.pm_split.specs.Boxes.{Boxes}
@@ -38,6 +40,7 @@ use Rattle.pm_trace.specs.Faults.{exit_after}
 use Rattle.pm_trace.specs.Report.{Report, Reports, exit_of, fault_lines, pieces, refusal}
 use Rattle.pm_trace.specs.Step.{Notices, core_text, notices_in, notices_of, step_text}
 use Rattle.pm_drive.specs.Drive.{Driven, acts, acts_of, drive, driven, last_book, last_kept, until}
+use Rattle.pm_drive.specs.Heard.{heard_by, last_board}
 use Rattle.pm_drive.specs.Text.{texts}
 use Rattle.pm_trace.specs.Scripts.{at_end, fault_at}
 use Rattle.pm_replay.specs.Replay.{replay_report}
@@ -71,9 +74,10 @@ module _ {O : Type 0} (o : Sink.Ghosts O) where
 
 -- ---- what was driven before a cut that comes later
 
-pub length-texts : (n : ℕ) (xs : List Driven) → length (texts n xs) ≡ length xs
-length-texts n [] = refl
-length-texts n (x ∷ xs) = ap suc (length-texts (n + 1) xs)
+-- what is told of lines are as many
+length-heard : (n : ℕ) (board : Standing) (xs : List Driven) → length (texts n (heard_by board xs)) ≡ length xs
+length-heard n board [] = refl
+length-heard n board (x ∷ xs) = ap suc (length-heard (n + 1) (board_after x.line.event board) xs)
 
 pub until-past : {X : Type 0} (m : ℕ) (cut : Option ℕ) (xs : List X) → length xs ≤ m → until (behind m cut) xs ≡ xs
 until-past m None xs long = refl
@@ -105,67 +109,74 @@ setup_by object topology (Err error) book = tt
 
 module _ {O D : Type 0} (o : Sink.Ghosts O) (d : Device.Ghosts D) where
   -- lines were all carried out or one is bad, and after a report was written
-  rest_by : (c : Setup) (n : ℕ) (s : Script) (now : Controls) (old mid new : O) (from to : D) (exit : Exit) (answers : List (List Bool)) (cut : Option ℕ) (r : Report) → Went o d (texts n (driven_from c now answers s.events)) (driven_from c now answers s.events) cut old mid from to → cut ≡ None → Reports o r mid new exit → report_from c n now s answers ≡ report_after (texts n (driven_from c now answers s.events)) r → RanRest o d c n s now old new from to exit
-  rest_by c n s now old mid new from to exit answers cut r went whole reports is =
+  rest_by : (c : Setup) (n : ℕ) (s : Script) (now : Controls) (old mid new : O) (from to : D) (board is : Standing) (exit : Exit) (answers : List (List Bool)) (cut : Option ℕ) (r : Report) → Went o d (texts n (heard_by board (driven_from c now answers s.events))) (driven_from c now answers s.events) cut old mid from to → cut ≡ None → is ≡ last_board board (until cut (driven_from c now answers s.events)) → Reports o r mid new exit → report_from c board n now s answers ≡ report_after (texts n (heard_by board (driven_from c now answers s.events))) r → RanRest o d c n s now old new from to board is exit
+  rest_by c n s now old mid new from to board is exit answers cut r went whole left reports same =
       let xs : List Driven = driven_from c now answers s.events in
-      let done : List (List ℕ) = texts n xs in
+      let done : List (List ℕ) = texts n (heard_by board xs) in
       let wrote : Wrote o.observable (concat done) (o.state old) (o.state mid) = subst (λ (cut : Option ℕ). Leaves o done cut old mid) whole went.left in
       let given : Chain d.Does (acts xs) from to = subst (λ (cut : Option ℕ). Chain d.Does (acts (until cut xs)) from to) whole went.given in
+      let after : is ≡ last_board board xs = subst (λ (cut : Option ℕ). is ≡ last_board board (until cut xs)) whole left in
+      let long : length xs ≤ length done = omega (arith, length-heard n board xs) in
       record {
         answers = answers;
         cut = behind (length done) reports.cut;
         went = record {
-          left = subst (λ (all : Report). Leaves o (pieces all) (behind (length done) reports.cut) old new) (sym is) (left-after o done r reports.cut old mid new wrote reports.left);
-          given = subst (λ (ys : List Driven). Chain d.Does (acts ys) from to) (sym (until-past (length done) reports.cut xs (omega (arith, length-texts n xs)))) given;
+          left = subst (λ (all : Report). Leaves o (pieces all) (behind (length done) reports.cut) old new) (sym same) (left-after o done r reports.cut old mid new wrote reports.left);
+          given = subst (λ (ys : List Driven). Chain d.Does (acts ys) from to) (sym (until-past (length done) reports.cut xs long)) given;
         };
-        ends = reports.ends ∙ sym (exit-after done r reports.cut) ∙ ap (λ (all : Report). exit_of all (behind (length done) reports.cut)) (sym is);
+        ends = reports.ends ∙ sym (exit-after done r reports.cut) ∙ ap (λ (all : Report). exit_of all (behind (length done) reports.cut)) (sym same);
+        tasks_left = after ∙ sym (ap (λ (ys : List Driven). last_board board ys) (until-past (length done) reports.cut xs long));
       }
 
   -- lines were carried out, and what comes after them was written
-  pub RanRest-closed : (c : Setup) (n : ℕ) (s : Script) (r : StopReason) (now after : Controls) (old mid new : O) (from to : D) (exit : Exit) (count : ℕ) → RanLines o d c n s now after old mid from to (Ok (record { count = count; stop = r })) → Reports o (closing_report (stop_of r) after.book after.kept) mid new exit → RanRest o d c n s now old new from to exit
-  RanRest-closed c n s r now after old mid new from to exit count ran reports =
+  pub RanRest-closed : (c : Setup) (n : ℕ) (s : Script) (r : StopReason) (now after : Controls) (old mid new : O) (from to : D) (board is : Standing) (exit : Exit) (count : ℕ) → RanLines o d c n s now after old mid from to board is (Ok (record { count = count; stop = r })) → Reports o (closing_report (stop_of r) after.book after.kept) mid new exit → RanRest o d c n s now old new from to board is exit
+  RanRest-closed c n s r now after old mid new from to board is exit count ran reports =
       let xs : List Driven = driven_from c now ran.answers s.events in
+      let done : List (List ℕ) = texts n (heard_by board xs) in
       let number : ℕ = n + length s.events in
       let whole = ran.ends.0 in
       let stop : s.stop ≡ stop_of r = ran.ends.1 in
       let book : after.book ≡ last_book now.book xs = ran.ends.2 in
       let kept : after.kept ≡ last_kept now.kept xs = ran.ends.3 in
-      let is : report_from c n now s ran.answers ≡ report_after (texts n xs) (closing_report (stop_of r) after.book after.kept) =
-      ap (λ (stop : Stop). record { body = texts n xs ++ at_end stop (closing_text (last_book now.book xs) (last_kept now.kept xs)); fault = fault_at number stop }) stop
-      ∙ ap (λ (b : State). record { body = texts n xs ++ at_end (stop_of r) (closing_text b (last_kept now.kept xs)); fault = fault_at number (stop_of r) }) (sym book)
-      ∙ ap (λ (k : Kept). record { body = texts n xs ++ at_end (stop_of r) (closing_text after.book k); fault = fault_at number (stop_of r) }) (sym kept)
-      ∙ ap (λ (f : Option Fault). record { body = texts n xs ++ at_end (stop_of r) (closing_text after.book after.kept); fault = f }) (fault-anywhere number 0 r)
+      let same : report_from c board n now s ran.answers ≡ report_after done (closing_report (stop_of r) after.book after.kept) =
+      ap (λ (stop : Stop). record { body = done ++ at_end stop (closing_text (last_book now.book xs) (last_kept now.kept xs)); fault = fault_at number stop }) stop
+      ∙ ap (λ (b : State). record { body = done ++ at_end (stop_of r) (closing_text b (last_kept now.kept xs)); fault = fault_at number (stop_of r) }) (sym book)
+      ∙ ap (λ (k : Kept). record { body = done ++ at_end (stop_of r) (closing_text after.book k); fault = fault_at number (stop_of r) }) (sym kept)
+      ∙ ap (λ (f : Option Fault). record { body = done ++ at_end (stop_of r) (closing_text after.book after.kept); fault = f }) (fault-anywhere number 0 r)
       in
-      rest_by c n s now old mid new from to exit ran.answers ran.cut (closing_report (stop_of r) after.book after.kept) ran.went whole reports is
+      rest_by c n s now old mid new from to board is exit ran.answers ran.cut (closing_report (stop_of r) after.book after.kept) ran.went whole ran.tasks_left reports same
 
   -- a line has no meaning, and the line of that fault was written
-  pub RanRest-bad : (c : Setup) (n m : ℕ) (cause : LineFault) (s : Script) (now after : Controls) (old mid new : O) (from to : D) (exit : Exit) → RanLines o d c n s now after old mid from to (Err (stops.Bad m cause)) → Reports o (refusal (Line m cause)) mid new exit → RanRest o d c n s now old new from to exit
-  RanRest-bad c n m cause s now after old mid new from to exit ran reports =
+  pub RanRest-bad : (c : Setup) (n m : ℕ) (cause : LineFault) (s : Script) (now after : Controls) (old mid new : O) (from to : D) (board is : Standing) (exit : Exit) → RanLines o d c n s now after old mid from to board is (Err (stops.Bad m cause)) → Reports o (refusal (Line m cause)) mid new exit → RanRest o d c n s now old new from to board is exit
+  RanRest-bad c n m cause s now after old mid new from to board is exit ran reports =
       let xs : List Driven = driven_from c now ran.answers s.events in
+      let done : List (List ℕ) = texts n (heard_by board xs) in
       let table : List ℕ = closing_text (last_book now.book xs) (last_kept now.kept xs) in
-      let is : report_from c n now s ran.answers ≡ report_after (texts n xs) (refusal (Line m cause)) =
-      ap (λ (stop : Stop). record { body = texts n xs ++ at_end stop table; fault = fault_at (n + length s.events) stop }) ran.ends.1
-      ∙ ap (λ (number : ℕ). record { body = texts n xs ++ []; fault = Some (Line number cause) }) (sym ran.ends.2)
+      let same : report_from c board n now s ran.answers ≡ report_after done (refusal (Line m cause)) =
+      ap (λ (stop : Stop). record { body = done ++ at_end stop table; fault = fault_at (n + length s.events) stop }) ran.ends.1
+      ∙ ap (λ (number : ℕ). record { body = done ++ []; fault = Some (Line number cause) }) (sym ran.ends.2)
       in
-      rest_by c n s now old mid new from to exit ran.answers ran.cut (refusal (Line m cause)) ran.went ran.ends.0 reports is
+      rest_by c n s now old mid new from to board is exit ran.answers ran.cut (refusal (Line m cause)) ran.went ran.ends.0 ran.tasks_left reports same
 
   -- the sink broke off within the lines
-  pub RanRest-broken : (c : Setup) (n : ℕ) (s : Script) (now after : Controls) (old new : O) (from to : D) → RanLines o d c n s now after old new from to (Err stops.Broken) → RanRest o d c n s now old new from to WriteFault
-  RanRest-broken c n s now after old new from to ran =
+  pub RanRest-broken : (c : Setup) (n : ℕ) (s : Script) (now after : Controls) (old new : O) (from to : D) (board is : Standing) → RanLines o d c n s now after old new from to board is (Err stops.Broken) → RanRest o d c n s now old new from to board is WriteFault
+  RanRest-broken c n s now after old new from to board is ran =
       let xs : List Driven = driven_from c now ran.answers s.events in
-      let r : Report = report_from c n now s ran.answers in
+      let done : List (List ℕ) = texts n (heard_by board xs) in
+      let r : Report = report_from c board n now s ran.answers in
       let k : ℕ = ran.ends.0 in
       let tail : List (List ℕ) = at_end s.stop (closing_text (last_book now.book xs) (last_kept now.kept xs)) in
-      let breaks : BreaksIn o k (texts n xs) old new = subst (λ (cut : Option ℕ). Leaves o (texts n xs) cut old new) ran.ends.1 ran.went.left in
-      let within : k < length (texts n xs) = slice_get_within (texts n xs) k breaks.piece breaks.is in
+      let breaks : BreaksIn o k done old new = subst (λ (cut : Option ℕ). Leaves o done cut old new) ran.ends.1 ran.went.left in
+      let within : k < length done = slice_get_within done k breaks.piece breaks.is in
       record {
         answers = ran.answers;
         cut = Some k;
         went = record {
-          left = Leaves-before o (texts n xs ++ tail) (fault_lines r.fault) k old new (Leaves-before o (texts n xs) tail k old new breaks);
+          left = Leaves-before o (done ++ tail) (fault_lines r.fault) k old new (Leaves-before o done tail k old new breaks);
           given = subst (λ (cut : Option ℕ). Chain d.Does (acts (until cut xs)) from to) ran.ends.1 ran.went.given;
         };
-        ends = ap (λ (b : Bool). if b then WriteFault else exit_after r.fault) (sym (inside k (length (texts n xs)) (length tail) (length (texts n xs ++ tail)) within (length-append (texts n xs) tail)));
+        ends = ap (λ (b : Bool). if b then WriteFault else exit_after r.fault) (sym (inside k (length done) (length tail) (length (done ++ tail)) within (length-append done tail)));
+        tasks_left = subst (λ (cut : Option ℕ). is ≡ last_board board (until cut xs)) ran.ends.1 ran.tasks_left;
       }
     where
       inside : (k m n all : ℕ) → k < m → all ≡ m + n → nat_lt k all ≡ true
@@ -192,65 +203,72 @@ module _ {O D : Type 0} (o : Sink.Ghosts O) (d : Device.Ghosts D) where
       ∙ ap (λ (b : State). first_step c Q ∷ drive after.kept later (lines_of c events (record { book = b; boxes = (at_load c).boxes }))) (sym loaded.book ∙ sym started.book)
       ∙ ap (λ (b : Boxes). first_step c Q ∷ drive after.kept later (lines_of c events (record { book = after.book; boxes = b }))) (sym loaded.boxes ∙ sym started.boxes)
 
-  -- the report of a script is that of its lines behind the text of step 0
-  report_first : (now after : Controls) (s : Script) (later : List (List Bool)) (from to : D) → IsLoaded now → Started o d now after from to → replay_report (setup_of now.book) s (answers_in after.outbox ∷ later) ≡ report_after (step_text 0 after.outbox.done.items (notices_in after.outbox) after.outbox.answer ∷ []) (report_from (setup_of now.book) 1 after s later)
-  report_first now after s later from to loaded started =
+  -- the report of a script is that of its lines behind the text of step 0, which says nothing of modules and tasks
+  report_first : (now after : Controls) (s : Script) (later : List (List Bool)) (board : Standing) (from to : D) → IsLoaded now → Started o d now after from to → replay_report (setup_of now.book) board s (answers_in after.outbox ∷ later) ≡ report_after (step_text 0 after.outbox.done.items (notices_in after.outbox) after.outbox.answer ∷ []) (report_from (setup_of now.book) (board_after Pass board) 1 after s later)
+  report_first now after s later board from to loaded started =
       let c : Setup = setup_of now.book in
       let load : State = load_of c.object c.topology in
       let Q : Part = part_in after.kept after.outbox in
       let ys : List Driven = driven_from (setup_of now.book) after later s.events in
-      ap (λ (xs : List Driven). record { body = texts 0 xs ++ at_end s.stop (closing_text (last_book load xs) (last_kept (at_zero c.topology) xs)); fault = fault_at (1 + length s.events) s.stop }) (driven_first now after s.events later from to loaded started)
-      ∙ ap (λ (text : List ℕ). record { body = text ∷ (texts 1 ys ++ at_end s.stop (closing_text (last_book load ys) (last_kept after.kept ys))); fault = fault_at (1 + length s.events) s.stop }) (append-nil (core_text 0 (outputs_at_load load) Q ++ []) ∙ append-nil (core_text 0 (outputs_at_load load) Q))
-      ∙ ap (λ (b : State). record { body = core_text 0 (outputs_at_load load) Q ∷ (texts 1 ys ++ at_end s.stop (closing_text (last_book b ys) (last_kept after.kept ys))); fault = fault_at (1 + length s.events) s.stop }) (sym loaded.book ∙ sym started.book)
-      ∙ ap (λ (notices : Notices). record { body = step_text 0 Q.commands notices Q.answer ∷ (texts 1 ys ++ at_end s.stop (closing_text (last_book after.book ys) (last_kept after.kept ys))); fault = fault_at (1 + length s.events) s.stop }) (ap (λ (b : State). notices_of (outputs_at_load b)) (sym loaded.book) ∙ sym started.notices)
+      let told : List (List ℕ) = texts 1 (heard_by (board_after Pass board) ys) in
+      ap (λ (xs : List Driven). record { body = texts 0 (heard_by board xs) ++ at_end s.stop (closing_text (last_book load xs) (last_kept (at_zero c.topology) xs)); fault = fault_at (1 + length s.events) s.stop }) (driven_first now after s.events later from to loaded started)
+      ∙ ap (λ (text : List ℕ). record { body = text ∷ (told ++ at_end s.stop (closing_text (last_book load ys) (last_kept after.kept ys))); fault = fault_at (1 + length s.events) s.stop }) (append-nil (core_text 0 (outputs_at_load load) Q ++ []) ∙ append-nil (core_text 0 (outputs_at_load load) Q))
+      ∙ ap (λ (b : State). record { body = core_text 0 (outputs_at_load load) Q ∷ (told ++ at_end s.stop (closing_text (last_book b ys) (last_kept after.kept ys))); fault = fault_at (1 + length s.events) s.stop }) (sym loaded.book ∙ sym started.book)
+      ∙ ap (λ (notices : Notices). record { body = step_text 0 Q.commands notices Q.answer ∷ (told ++ at_end s.stop (closing_text (last_book after.book ys) (last_kept after.kept ys))); fault = fault_at (1 + length s.events) s.stop }) (ap (λ (b : State). notices_of (outputs_at_load b)) (sym loaded.book) ∙ sym started.notices)
 
   acts_first : (now after : Controls) → acts_of (first_step (setup_of now.book) (part_in after.kept after.outbox)) ≡ orders_in after.outbox
   acts_first now after = append-nil (orders_in after.outbox)
 
   -- step 0 was written, and after the rest of the script was run
-  pub RanScript-first : (s : Script) (now after : Controls) (old mid new : O) (from via to : D) (exit : Exit) → IsLoaded now → Started o d now after from via → Wrote o.observable (step_text 0 after.outbox.done.items (notices_in after.outbox) after.outbox.answer) (o.state old) (o.state mid) → RanRest o d (setup_of now.book) 1 s after mid new via to exit → RanScript o d (setup_of now.book) s old new from to exit
-  RanScript-first s now after old mid new from via to exit loaded started wrote rest =
+  pub RanScript-first : (s : Script) (now after : Controls) (old mid new : O) (from via to : D) (board begun is : Standing) (exit : Exit) → IsLoaded now → Started o d now after from via → begun ≡ board_after Pass board → Wrote o.observable (step_text 0 after.outbox.done.items (notices_in after.outbox) after.outbox.answer) (o.state old) (o.state mid) → RanRest o d (setup_of now.book) 1 s after mid new via to begun is exit → RanScript o d (setup_of now.book) s old new from to board is exit
+  RanScript-first s now after old mid new from via to board begun is exit loaded started settles wrote ran =
       let c : Setup = setup_of now.book in
       let first : List ℕ = step_text 0 after.outbox.done.items (notices_in after.outbox) after.outbox.answer in
       let x : Driven = first_step c (part_in after.kept after.outbox) in
+      let rest = subst (λ (b : Standing). RanRest o d (setup_of now.book) 1 s after mid new via to b is exit) settles ran in
       let ys : List Driven = driven_from (setup_of now.book) after rest.answers s.events in
-      let is = report_first now after s rest.answers from via loaded started in
+      let report : Report = report_from (setup_of now.book) (board_after Pass board) 1 after s rest.answers in
+      let same = report_first now after s rest.answers board from via loaded started in
       let xs_are = driven_first now after s.events rest.answers from via loaded started in
       let one : Wrote o.observable (concat (first ∷ [])) (o.state old) (o.state mid) = Wrote-is o.observable first (first ++ []) (o.state old) (o.state mid) (sym (append-nil first)) wrote in
       record {
         answers = answers_in after.outbox ∷ rest.answers;
         cut = behind 1 rest.cut;
         went = record {
-          left = subst (λ (r : Report). Leaves o (pieces r) (behind 1 rest.cut) old new) (sym is) (left-after o (first ∷ []) (report_from (setup_of now.book) 1 after s rest.answers) rest.cut old mid new one rest.went.left);
+          left = subst (λ (r : Report). Leaves o (pieces r) (behind 1 rest.cut) old new) (sym same) (left-after o (first ∷ []) report rest.cut old mid new one rest.went.left);
           given =
               let step : Chain d.Does (acts_of x) from via = subst (λ (done : List Act). Chain d.Does done from via) (sym (acts_first now after)) started.given in
               let whole = Chain-append d.Does (acts_of x) (acts (until rest.cut ys)) from via to step rest.went.given in
               let cut = subst (λ (xs : List Driven). Chain d.Does (acts xs) from to) (sym (until-cons rest.cut x ys)) whole in
               subst (λ (xs : List Driven). Chain d.Does (acts (until (behind 1 rest.cut) xs)) from to) (sym xs_are) cut;
         };
-        ends = rest.ends ∙ sym (exit-after (first ∷ []) (report_from (setup_of now.book) 1 after s rest.answers) rest.cut) ∙ ap (λ (r : Report). exit_of r (behind 1 rest.cut)) (sym is);
+        ends = rest.ends ∙ sym (exit-after (first ∷ []) report rest.cut) ∙ ap (λ (r : Report). exit_of r (behind 1 rest.cut)) (sym same);
+        tasks_left =
+            rest.tasks_left
+            ∙ sym (ap (λ (xs : List Driven). last_board board xs) (until-cons rest.cut x ys))
+            ∙ sym (ap (λ (xs : List Driven). last_board board (until (behind 1 rest.cut) xs)) xs_are);
       }
 
   -- the sink broke off within the text of step 0
-  pub RanScript-cut : (s : Script) (now after : Controls) (old new : O) (from to : D) → IsLoaded now → Started o d now after from to → BreaksIn o 0 (step_text 0 after.outbox.done.items (notices_in after.outbox) after.outbox.answer ∷ []) old new → RanScript o d (setup_of now.book) s old new from to WriteFault
-  RanScript-cut s now after old new from to loaded started breaks =
+  pub RanScript-cut : (s : Script) (now after : Controls) (old new : O) (from to : D) (board is : Standing) → IsLoaded now → Started o d now after from to → is ≡ board_after Pass board → BreaksIn o 0 (step_text 0 after.outbox.done.items (notices_in after.outbox) after.outbox.answer ∷ []) old new → RanScript o d (setup_of now.book) s old new from to board is WriteFault
+  RanScript-cut s now after old new from to board is loaded started settles breaks =
       let c : Setup = setup_of now.book in
       let first : List ℕ = step_text 0 after.outbox.done.items (notices_in after.outbox) after.outbox.answer in
-      let rest : Report = report_from (setup_of now.book) 1 after s [] in
+      let rest : Report = report_from (setup_of now.book) (board_after Pass board) 1 after s [] in
       let x : Driven = first_step c (part_in after.kept after.outbox) in
-      let ys : List Driven = driven_from (setup_of now.book) after [] s.events in
-      let is = report_first now after s [] from to loaded started in
+      let same = report_first now after s [] board from to loaded started in
       let xs_are = driven_first now after s.events [] from to loaded started in
       record {
         answers = answers_in after.outbox ∷ [];
         cut = Some 0;
         went = record {
-          left = subst (λ (r : Report). Leaves o (pieces r) (Some 0) old new) (sym is) (Leaves-before o (first ∷ []) (rest.body ++ fault_lines rest.fault) 0 old new breaks);
+          left = subst (λ (r : Report). Leaves o (pieces r) (Some 0) old new) (sym same) (Leaves-before o (first ∷ []) (rest.body ++ fault_lines rest.fault) 0 old new breaks);
           given =
               let step : Chain d.Does (acts (x ∷ [])) from to = subst (λ (done : List Act). Chain d.Does done from to) (sym (append-nil (acts_of x) ∙ acts_first now after)) started.given in
               subst (λ (xs : List Driven). Chain d.Does (acts (until (Some 0) xs)) from to) (sym xs_are) step;
         };
-        ends = ap (λ (b : Bool). if b then WriteFault else exit_after rest.fault) (sym (some first rest.body)) ∙ ap (λ (r : Report). exit_of r (Some 0)) (sym is);
+        ends = ap (λ (b : Bool). if b then WriteFault else exit_after rest.fault) (sym (some first rest.body)) ∙ ap (λ (r : Report). exit_of r (Some 0)) (sym same);
+        tasks_left = settles ∙ sym (ap (λ (xs : List Driven). last_board board (until (Some 0) xs)) xs_are);
       }
     where
       some : (x : List ℕ) (xs : List (List ℕ)) → nat_lt 0 (length (x ∷ xs)) ≡ true

@@ -7,6 +7,7 @@ use Rattle.pm_base.specs.declared.sink.Sink as Sink
 use Rattle.pm_base.specs.Inputs.{Holds}
 use Rattle.pm_base.specs.World.{World}
 use Rattle.pm_device.specs.declared.device.Device as Device
+use Rattle.pm_board.specs.Board.{Standing}
 use Rattle.pm_run.specs.Run.{Setup, cores_in, loaded, run}
 use Rattle.pm_run.specs.Served.{EachServes}
 use Rattle.pm_causes.specs.Caused.{HaveCauses}
@@ -17,26 +18,30 @@ use Rattle.pm_drive.specs.Drive.{driven, until}
 use Rattle.pm_drive.specs.Drove.{Drove}
 use Rattle.pm_drive.specs.Lowered.{HaveSameSteps, lowered_script}
 use Rattle.pm_drive.specs.PowerCalls.{EachCallIsItsEvents}
+use Rattle.pm_drive.specs.Calls.{CallsAreTold}
+use Rattle.pm_drive.specs.Heard.{heard_by, last_board}
 use Rattle.pm_drive.specs.Text.{run_text}
 use Rattle.pm_apart.specs.Apart.{KeepsApart, StepsKeepApart}
 use Rattle.pm_replay.specs.Replay.{Touched, replay_report}
 
 module _ {I O D : Type 0} (i : Inputs.Ghosts I) (o : Sink.Ghosts O) (d : Device.Ghosts D) where
-  -- on every exit: what was asked for, what was written of it, and what the device was given
-  abbrev pub Replayed : Setup → List ℕ → World I O D → World I O D → Exit → Type 0
-  Replayed c name w w' exit =
-      Did o (IsScriptOf i name w.inputs w'.inputs exit) (replay_report c) (Touched d c w.device w'.device) w.sink w'.sink exit
+  -- on every exit: what was asked for, what was written of it, what the device was given, and how the board is left
+  abbrev pub Replayed : Setup → Standing → Standing → List ℕ → World I O D → World I O D → Exit → Type 0
+  Replayed c board is name w w' exit =
+      Did o (IsScriptOf i name w.inputs w'.inputs exit) (replay_report c board) (Touched d c board is w.device w'.device)
+      w.sink w'.sink exit
 
   -- a script was held under the name, the whole text of its run was written under the device's answers, and the device was
   -- driven through that run
-  pub record IsRun (c : Setup) (name : List ℕ) (w w' : World I O D) : Type 0 where
+  pub record IsRun (c : Setup) (board is : Standing) (name : List ℕ) (w w' : World I O D) : Type 0 where
     pub script_bytes : List ℕ
     pub events : List Event
     pub answers : List (List Bool)
     pub held : Holds (i.state w.inputs) name script_bytes
     pub means : IsScript script_bytes events
-    pub text : (o.state w'.sink).bytes ≡ (o.state w.sink).bytes ++ run_text c answers events
+    pub text : (o.state w'.sink).bytes ≡ (o.state w.sink).bytes ++ run_text c board answers events
     pub drove : Drove d c (driven c answers events) w.device w'.device
+    pub tasks_left : is ≡ last_board board (driven c answers events)
 
 module _ {D : Type 0} (d : Device.Ghosts D) where
   -- whichever run the device was driven through: nothing that a master sends changes what is beyond its reach, in the whole run
@@ -61,3 +66,10 @@ LinesServe c = (events : List Event) → EachServes c (loaded c).boxes (run c ev
 pub record LowersCalls (c : Setup) : Type 0 where
   pub line : EachCallIsItsEvents c
   pub script : (events : List Event) (answers : List (List Bool)) → HaveSameSteps c (driven c answers events) (driven c answers (lowered_script c.topology events))
+
+-- in each run that finds a board so, up to whichever cut: each line tells exactly the calls of tasks that are due in it, and a
+-- task that is stored before and after was called as often as they tell, modulo 2 ^ 32
+abbrev pub TellsCalls : Setup → Standing → Type 0
+TellsCalls c board =
+    (events : List Event) (answers : List (List Bool)) (cut : Option ℕ)
+    → CallsAreTold (heard_by board (until cut (driven c answers events))) board (last_board board (until cut (driven c answers events))).tasks

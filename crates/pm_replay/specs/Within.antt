@@ -9,6 +9,8 @@ use Rattle.pm_base.specs.Sink.{Wrote}
 use Rattle.pm_base.specs.Writing.{BreaksIn, Leaves}
 use Rattle.pm_device.specs.declared.device.Device as Device
 use Rattle.pm_device.specs.Act.{Chain}
+use Rattle.pm_board.specs.Board.{Standing, board_after}
+use Rattle.pm_modules.specs.Ranges.{Ranged}
 use Rattle.pm_state.specs.Load.{load_of}
 use Rattle.pm_core.specs.Outbox.{Holds}
 use Rattle.pm_ipi.specs.declared.responses.Response.{Response}
@@ -29,6 +31,8 @@ use Rattle.pm_trace.specs.Notes.{notes_text}
 use Rattle.pm_trace.specs.Step.{notices_in, notices_of, step_text}
 use Rattle.pm_trace.specs.Scripts.{at_end, fault_at}
 use Rattle.pm_drive.specs.Drive.{Driven, acts, drive, driven, give, kept_after, last_book, last_kept, orders_in_cores, rigs, until}
+use Rattle.pm_drive.specs.Heard.{heard, heard_by, heard_cores, last_board}
+use Rattle.pm_drive.specs.Tasks.{task_notes}
 use Rattle.pm_drive.specs.Text.{given_text, reply_after, texts}
 use Rattle.pm_replay.specs.Controls.{Controls, stand_in}
 use Rattle.pm_replay.specs.Replay.{replay_report}
@@ -48,10 +52,10 @@ driven_from c now answers events = drive now.kept answers (lines_of c events (st
 abbrev pub closing_report : Stop → State → Kept → Report
 closing_report stop book kept = record { body = at_end stop (closing_text book kept); fault = fault_at 0 stop }
 
--- what is written of lines, the first of which has number n, and after them
-abbrev pub report_from : Setup → ℕ → Controls → Script → List (List Bool) → Report
-report_from c n now s answers = record {
-  body = texts n (driven_from c now answers s.events)
+-- what is written of lines, the first of which has number n and finds a board so, and after them
+abbrev pub report_from : Setup → Standing → ℕ → Controls → Script → List (List Bool) → Report
+report_from c board n now s answers = record {
+  body = texts n (heard_by board (driven_from c now answers s.events))
       ++ at_end s.stop (closing_text (last_book now.book (driven_from c now answers s.events)) (last_kept now.kept (driven_from c now answers s.events)));
   fault = fault_at (n + length s.events) s.stop;
 }
@@ -82,40 +86,44 @@ module _ {O D : Type 0} (o : Sink.Ghosts O) (d : Device.Ghosts D) where
 
   -- a core event was carried out from a book and what is kept, the device was made to follow it, and its text was written, by
   -- how the writing of the line stood before
-  pub record RanCore (n : ℕ) (event : Event) (book : State) (kept : Kept) (then : Controls) (so_far result : Result ⊤ Failed) (old new : O) (from to : D) : Type 0 where
+  pub record RanCore (n : ℕ) (event : Event) (book : State) (kept : Kept) (then : Controls) (modules : List Ranged)
+      (so_far result : Result ⊤ Failed) (old new : O) (from to : D) : Type 0 where
     pub after : then.book ≡ effect event book
     pub part : part_in then.kept then.outbox ≡ part_of kept (answers_in then.outbox) then.book (outputs event book)
     pub notices : notices_in then.outbox ≡ notices_of (outputs event book)
     pub given : Chain d.Does (orders_in then.outbox) from to
-    pub writes : WritesOn o (step_text n then.outbox.done.items (notices_in then.outbox) then.outbox.answer) so_far result old new
+    pub writes : WritesOn o (step_text n then.outbox.done.items (notices_in then.outbox) (heard modules event then.outbox.answer)) so_far result old new
 
   -- the same of core events one after another, whatever becomes of their text, from the last reply that was told before
   -- them to the last one that is told
-  pub record RanCores (n : ℕ) (events : List Event) (book : State) (kept : Kept) (then : Controls)
+  pub record RanCores (n : ℕ) (events : List Event) (book : State) (kept : Kept) (then : Controls) (modules : List Ranged)
       (reply told : Option Response) (so_far result : Result ⊤ Failed) (old new : O) (from to : D) : Type 0 where
     pub answers : List (List Bool)
     pub fits : length answers ≡ length events
     pub after : then.book ≡ book_after events book
     pub keeps : then.kept ≡ kept_after kept (give kept answers (cores_of events book))
     pub given : Chain d.Does (orders_in_cores (give kept answers (cores_of events book))) from to
-    pub replied : told ≡ reply_after reply (give kept answers (cores_of events book))
-    pub writes : WritesOn o (given_text n (give kept answers (cores_of events book))) so_far result old new
+    pub replied : told ≡ reply_after reply (heard_cores modules (give kept answers (cores_of events book)))
+    pub writes : WritesOn o (given_text n (heard_cores modules (give kept answers (cores_of events book)))) so_far result old new
 
   -- a line was carried out to its end: first a node was broken or mended, if it asks for that, and then its core events
-  -- followed. Its text was written as far as the sink took it, with the answer to its power call, by the last reply
-  -- that was told
-  pub record RanLine (c : Setup) (n : ℕ) (event : Event) (now then : Controls) (old new : O) (from to : D) (result : Result ⊤ Failed) : Type 0 where
+  -- followed. Its text was written as far as the sink took it, with the notes of tasks and the answer to its power
+  -- call, by the last reply that was told, and the board is as the line leaves it
+  pub record RanLine (c : Setup) (n : ℕ) (event : Event) (now then : Controls) (old new : O) (from to : D)
+      (board is : Standing) (result : Result ⊤ Failed) : Type 0 where
     pub between : D
     pub rigged : Chain d.Does (rigs event) from between
     pub far : Result ⊤ Failed
     pub via : O
     pub told : Option Response
-    pub cores : RanCores n (split c event (stand_in now)).events now.book now.kept then None told (Ok tt) far old via
+    pub cores : RanCores n (split c event (stand_in now)).events now.book now.kept then board.modules None told (Ok tt) far old via
         between to
     pub boxes : then.boxes ≡ (split c event (stand_in now)).boxes
     pub notes : WritesOn o
-        (notes_text n ((split c event (stand_in now)).notes ++ called_note then.book.fixed.topology event told))
+        (notes_text n (((split c event (stand_in now)).notes ++ task_notes event board.tasks)
+        ++ called_note then.book.fixed.topology event told))
         far result via new
+    pub tasks_left : is ≡ board_after event board
 
   -- the device was made to follow the book at load
   pub record Started (now then : Controls) (from to : D) : Type 0 where
@@ -126,22 +134,27 @@ module _ {O D : Type 0} (o : Sink.Ghosts O) (d : Device.Ghosts D) where
     pub given : Chain d.Does (orders_in then.outbox) from to
 
   -- the lines of a script were run up to the first one that has no meaning. The first of them has number n
-  pub record RanLines (c : Setup) (n : ℕ) (s : Script) (now then : Controls) (old new : O) (from to : D) (result : Result reader.LinesEnd LineStop) : Type 0 where
+  pub record RanLines (c : Setup) (n : ℕ) (s : Script) (now then : Controls) (old new : O) (from to : D)
+      (board is : Standing) (result : Result reader.LinesEnd LineStop) : Type 0 where
     pub answers : List (List Bool)
     pub cut : Option ℕ
-    pub went : Went (texts n (driven_from c now answers s.events)) (driven_from c now answers s.events) cut old new from to
+    pub went : Went (texts n (heard_by board (driven_from c now answers s.events))) (driven_from c now answers s.events) cut old new from to
     pub ends : LinesEnd n s now (driven_from c now answers s.events) cut then result
+    pub tasks_left : is ≡ last_board board (until cut (driven_from c now answers s.events))
 
   -- lines were run, and what comes after them was written
-  pub record RanRest (c : Setup) (n : ℕ) (s : Script) (now : Controls) (old new : O) (from to : D) (exit : Exit) : Type 0 where
+  pub record RanRest (c : Setup) (n : ℕ) (s : Script) (now : Controls) (old new : O) (from to : D)
+      (board is : Standing) (exit : Exit) : Type 0 where
     pub answers : List (List Bool)
     pub cut : Option ℕ
-    pub went : Went (pieces (report_from c n now s answers)) (driven_from c now answers s.events) cut old new from to
-    pub ends : exit ≡ exit_of (report_from c n now s answers) cut
+    pub went : Went (pieces (report_from c board n now s answers)) (driven_from c now answers s.events) cut old new from to
+    pub ends : exit ≡ exit_of (report_from c board n now s answers) cut
+    pub tasks_left : is ≡ last_board board (until cut (driven_from c now answers s.events))
 
   -- a script that was begun was run from the load
-  pub record RanScript (c : Setup) (s : Script) (old new : O) (from to : D) (exit : Exit) : Type 0 where
+  pub record RanScript (c : Setup) (s : Script) (old new : O) (from to : D) (board is : Standing) (exit : Exit) : Type 0 where
     pub answers : List (List Bool)
     pub cut : Option ℕ
-    pub went : Went (pieces (replay_report c s answers)) (driven c answers s.events) cut old new from to
-    pub ends : exit ≡ exit_of (replay_report c s answers) cut
+    pub went : Went (pieces (replay_report c board s answers)) (driven c answers s.events) cut old new from to
+    pub ends : exit ≡ exit_of (replay_report c board s answers) cut
+    pub tasks_left : is ≡ last_board board (until cut (driven c answers s.events))

@@ -5,6 +5,7 @@ mod controller;
 mod lines;
 mod run;
 mod safe;
+mod tasks;
 mod writing;
 
 pub use run::replay;

@@ -7,50 +7,71 @@ ghost use Rattle.pm_base.specs.Readings.{Meanwhile};
 ghost use Rattle.pm_reader.specs.Follow.{OfScript, ReadsLines};
 ghost use Rattle.pm_split.specs.Split.{noted_busy, noted_call};
 ghost use Rattle.pm_run.specs.Run.{Setup, setup_of};
+ghost use Rattle.pm_modules.specs.Modules.{ranges};
+ghost use Rattle.pm_board.specs.Standing.{standing};
+ghost use Rattle.pm_drive.specs.Heard.{heard};
 ghost use Rattle.pm_drive.specs.Text.{later_reply};
 ghost use Rattle.pm_trace.specs.Notes.{notes_text};
 ghost use Rattle.pm_trace.specs.Step.{notices_in, step_text};
 ghost use Rattle.pm_replay.specs.Within.{RanLine, RanLines, WritesOn};
 
 use crate::controller::Controller;
+use crate::tasks::tasks_on;
 use crate::writing::{write_busy, write_call, write_step};
 use pm_base::{Event, Failed, Inputs, NodeId, Sink};
 use pm_core::{Answer, Outbox};
 use pm_device::Device;
 use pm_drive::rig;
 use pm_ipi::Response;
+use pm_modules::{ModulesOf, Responder};
 use pm_reader::{Follower, LineStop, LinesEnd, each_line};
 use pm_run::call_answer;
+use pm_tasks::{Handler, TasksOf};
 
 /// What carries out each line of a script, makes the device follow it, and writes its text.
 #[derive(Drop)]
-pub(crate) struct Player<'c, 'o, 'd, O: Sink, D: Device> {
+pub(crate) struct Player<'c, 'o, 'd, 'm, 't, O: Sink, D: Device, H: Drop, T: Drop> {
     controller: &'c mut Controller,
     out: &'o mut O,
     dev: &'d mut D,
+    modules: &'m ModulesOf<H>,
+    tasks: &'t mut TasksOf<T>,
 }
 
-impl<'c, 'o, 'd, O: Sink, D: Device> Follower for Player<'c, 'o, 'd, O, D> {
+impl<'c, 'o, 'd, 'm, 't, O: Sink, D: Device, H: Responder, T: Handler> Follower
+    for Player<'c, 'o, 'd, 'm, 't, O, D, H, T> {
     ghost use Rattle.pm_replay.specs.Plays.{Plays};
 
-    ghost Follows = { Plays O.Sink D.Device };
+    ghost Follows = { Plays O.Sink D.Device H.Responder T.Handler };
 
     fn line(&mut self, number: u32, event: &Event) -> Result<(), Failed> {
-        run_line(number, event, self.controller, self.out, self.dev)
+        run_line(
+            number,
+            event,
+            self.controller,
+            self.out,
+            self.dev,
+            self.modules,
+            self.tasks,
+        )
     }
 }
 
 /// Runs the lines of a begun input up to the first one that has no meaning. Each is taken when the text of the
 /// line before it was written.
-pub(crate) fn run_lines<I: Inputs, O: Sink, D: Device>(
+pub(crate) fn run_lines<I: Inputs, O: Sink, D: Device, H: Responder, T: Handler>(
     controller: &mut Controller,
     inputs: &mut I,
     id: u32,
     out: &mut O,
     dev: &mut D,
+    modules: &ModulesOf<H>,
+    tasks: &mut TasksOf<T>,
 ) -> Result<LinesEnd, LineStop>
     ensures ran { (c : Setup) → setup_of controller.old.book ≡ c → OfScript I.observable id (I.state inputs.old)
-        (λ s. RanLines O.Sink D.Device c 1 s controller.old controller.new out.old out.new dev.old dev.new result) }
+        (λ s. RanLines O.Sink D.Device c 1 s controller.old controller.new out.old out.new dev.old dev.new
+        (standing H.Responder T.Handler modules.now tasks.old)
+        (standing H.Responder T.Handler modules.now tasks.new) result) }
     ensures ends { IfOk result (λ end. end.stop ≢ Unbegun) }
     ensures fault { IfOk result (λ end. end.stop ≡ Failure → Rose (I.state inputs.old).faults (I.state inputs.new).faults) }
     ensures reads { Meanwhile (I.state inputs.old) (I.state inputs.new) (ReadsLines id result) }
@@ -59,21 +80,29 @@ pub(crate) fn run_lines<I: Inputs, O: Sink, D: Device>(
         controller,
         out,
         dev,
+        modules,
+        tasks,
     };
     each_line(inputs, id, &mut player)
 }
 
-/// Breaks or mends a node of the device where the line asks for that, carries out the core events of the line to the last
-/// one, and writes the text of each, and then the line's own and the answer to its power call, while the sink takes it.
-fn run_line<O: Sink, D: Device>(
+/// Breaks or mends a node of the device where the line asks for that, carries out the core events of the line to the
+/// last one, and writes the text of each, and then the line's own, those of tasks, and the answer to its power call,
+/// while the sink takes it. Where the book replies to a message whose API word is a module's, the module's response is
+/// told.
+fn run_line<O: Sink, D: Device, H: Responder, T: Handler>(
     number: u32,
     event: &Event,
     controller: &mut Controller,
     out: &mut O,
     dev: &mut D,
+    modules: &ModulesOf<H>,
+    tasks: &mut TasksOf<T>,
 ) -> Result<(), Failed>
     ensures { (c : Setup) → setup_of controller.old.book ≡ c
-        → RanLine O.Sink D.Device c number event.now controller.old controller.new out.old out.new dev.old dev.new result }
+        → RanLine O.Sink D.Device c number event.now controller.old controller.new out.old out.new dev.old dev.new
+        (standing H.Responder T.Handler modules.now tasks.old)
+        (standing H.Responder T.Handler modules.now tasks.new) result }
 {
     rig(event, dev);
     let parts = controller.split(event);
@@ -83,36 +112,54 @@ fn run_line<O: Sink, D: Device>(
     while let Some(core) = controller.next(&mut left) {
         controller.step(&core, dev);
         let outbox = controller.outbox();
-        written = write_on(written, number, outbox, out);
-        reply = later_reply(reply, outbox);
+        let answer = heard(modules, &core, &outbox.answer);
+        written = write_on(written, number, outbox, &answer, out);
+        reply = later_reply(reply, &answer);
     }
     let noted = note_on(written, number, parts.busy, out);
+    let fired = tasks_on(noted, number, event, tasks, out);
     let called = call_answer(controller.book().topology(), event, reply);
-    call_on(noted, number, called, out)
+    call_on(fired, number, called, out)
+}
+
+/// The answer to a core event as it is told: where the book replies to a message whose API word is a module's, what the
+/// module says stands in place of the reply.
+fn heard<H: Responder>(modules: &ModulesOf<H>, event: &Event, answer: &Answer) -> Answer
+    ensures { result ≡ heard (ranges H.Responder modules.now) event.now answer.now }
+{
+    match (event, *answer) {
+        (Event::Ipi { message, .. }, Answer::Reply { master, response }) => Answer::Reply {
+            master,
+            response: modules.answer(message).unwrap_or(response),
+        },
+        (_, answer) => answer,
+    }
 }
 
 /// The last reply of a line, as it is told: that of the last core step, if it has one.
-fn later_reply(reply: Option<Response>, outbox: &Outbox) -> Option<Response>
-    ensures { result ≡ later_reply reply outbox.now.answer }
+fn later_reply(reply: Option<Response>, answer: &Answer) -> Option<Response>
+    ensures { result ≡ later_reply reply answer.now }
 {
-    match outbox.answer {
+    match *answer {
         Answer::Reply { response, .. } => Some(response),
         _ => reply,
     }
 }
 
-/// Writes the lines of a core step. A sink that has failed before within the line is given nothing more.
+/// Writes the lines of a core step that is answered so. A sink that has failed before within the line is given nothing
+/// more.
 fn write_on<O: Sink>(
     written: Result<(), Failed>,
     number: u32,
     outbox: &Outbox,
+    answer: &Answer,
     out: &mut O,
 ) -> Result<(), Failed>
-    ensures { WritesOn O.Sink (step_text number outbox.now.done.items (notices_in outbox.now) outbox.now.answer)
+    ensures { WritesOn O.Sink (step_text number outbox.now.done.items (notices_in outbox.now) answer.now)
         written result out.old out.new }
 {
     match written {
-        Ok(()) => write_step(number, outbox, out),
+        Ok(()) => write_step(number, outbox, answer, out),
         Err(Failed) => Err(Failed),
     }
 }

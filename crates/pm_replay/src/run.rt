@@ -12,11 +12,12 @@ ghost use Rattle.pm_base.specs.Readings.{Meanwhile};
 ghost use Rattle.pm_reader.specs.Follow.{OfScript};
 ghost use Rattle.pm_topology.specs.WellFormed.{IsWellFormed};
 ghost use Rattle.pm_object.specs.Grammar.{IsObject};
+ghost use Rattle.pm_board.specs.Standing.{standing};
 ghost use Rattle.pm_replay.specs.Within.{IsLoaded, RanRest, RanScript, closing_report};
 ghost use Rattle.pm_trace.specs.Exits.{EndsWith, IsStarved};
 ghost use Rattle.pm_trace.specs.Report.{Reports};
 ghost use Rattle.pm_trace.specs.Scripts.{ReadsBegun, ReadsScript, script_exit, script_named, script_or_fault};
-ghost use Rattle.pm_replay.specs.Replayed.{AnswersHaveCauses, IsRun, LinesServe, LowersCalls, Replayed, RunsKeepApart};
+ghost use Rattle.pm_replay.specs.Replayed.{AnswersHaveCauses, IsRun, LinesServe, LowersCalls, Replayed, RunsKeepApart, TellsCalls};
 ghost use Rattle.pm_run.specs.Run.{Setup, setup, setup_of};
 ghost use Rattle.pm_replay.specs.Safe.{IsSafe};
 ghost use Rattle.pm_base.specs.World.{world};
@@ -25,26 +26,31 @@ use crate::controller::Controller;
 use crate::lines::run_lines;
 use crate::writing::{write_closing, write_step};
 use pm_apart::driven_runs_keep_apart;
-use pm_base::{Exit, Failed, Inputs, NoMemory, Sink, StopReason};
+use pm_base::{Event, Exit, Failed, Inputs, NoMemory, Sink, StopReason};
+use pm_board::happen;
 use pm_causes::runs_have_causes;
 use pm_device::Device;
-use pm_drive::{driven_follows, power_calls_are_their_events, scripts_are_lowered};
+use pm_drive::{calls_are_told, driven_follows, power_calls_are_their_events, scripts_are_lowered};
+use pm_modules::{ModulesOf, Responder};
 use pm_object::Object;
 use pm_reader::LineStop;
 use pm_run::boxes_of_a_run;
+use pm_tasks::{Handler, TasksOf};
 use pm_topology::Topology;
 use pm_trace::{Fault, refuse};
 use std::alloc::Global;
 
 /// Runs the named script over an object and a device. Step 0 makes the device follow the book at
 /// load. Then each line breaks or mends a node of the device, if it asks for that, is carried out,
-/// with the commands that it causes, and is written before the next one is taken. Then comes the
-/// closing table, or the fault line of the answer. Where the script can't be begun, no command is
-/// issued. After the load nothing takes memory, so want of memory comes before the first command and
-/// the first byte of output.
+/// with the commands that it causes and the calls of tasks that are due, and is written before the
+/// next one is taken. Then comes the closing table, or the fault line of the answer. Where the book
+/// replies to a message whose API word is a module's, the module's response is written in place of
+/// the book's. Where the script can't be begun, no command is issued and no task is called. After the
+/// load nothing takes memory, so want of memory comes before the first command and the first byte of
+/// output.
 ///
 /// Answers Done, BadLine, ReadFault, WriteFault, Memory and TooLarge.
-pub fn replay<I: Inputs, O: Sink, D: Device>(
+pub fn replay<I: Inputs, O: Sink, D: Device, H: Responder, T: Handler>(
     alloc: Global,
     object: Object,
     topology: Topology,
@@ -52,22 +58,29 @@ pub fn replay<I: Inputs, O: Sink, D: Device>(
     script: &str,
     out: &mut O,
     dev: &mut D,
+    modules: &ModulesOf<H>,
+    tasks: &mut TasksOf<T>,
 ) -> Exit
     requires object { IsObject object }
     requires formed { IsWellFormed topology }
     requires idle { D.values_observable → (unit : Unit) → (D.state dev.old).value unit ≡ 0 }
-    // On Done the input held a script under the name, the whole text of its run was written, and the
-    // device was driven through that run.
+    // On Done the input held a script under the name, the whole text of its run was written, with what modules say
+    // and with the calls of tasks, and the device was driven through that run.
     ensures done { I.observable → O.observable → result ≡ Exit.Done
-        → IsRun I.Inputs O.Sink D.Device (setup object topology) script.now
+        → IsRun I.Inputs O.Sink D.Device (setup object topology)
+        (standing H.Responder T.Handler modules.now tasks.old)
+        (standing H.Responder T.Handler modules.now tasks.new) script.now
         (world inputs.old out.old dev.old) (world inputs.new out.new dev.new) }
     // What the input holds decides the exit, unless memory is wanted or the sink fails.
     ensures decided { I.observable
         → EndsWith O.Sink (script_exit (script_or_fault (script_in (I.state inputs.old) script.now))) out.old out.new result }
     // On every exit: nothing was used without power, and no domain went down under its users.
     ensures safe { IsSafe D.Device topology dev.old dev.new }
-    // On every exit: what was asked for, what was written of it, and what was done to the device.
-    ensures ran { Replayed I.Inputs O.Sink D.Device (setup object topology) script.now
+    // On every exit: what was asked for, what was written of it, what was done to the device, and how the tasks are
+    // left.
+    ensures ran { Replayed I.Inputs O.Sink D.Device (setup object topology)
+        (standing H.Responder T.Handler modules.now tasks.old)
+        (standing H.Responder T.Handler modules.now tasks.new) script.now
         (world inputs.old out.old dev.old) (world inputs.new out.new dev.new) result }
     // On every exit, of the run that the device was driven through: nothing that a master sends changes what is
     // beyond its reach.
@@ -80,6 +93,9 @@ pub fn replay<I: Inputs, O: Sink, D: Device>(
     // The line of a power call is the run of the events that it is lowered to by the chip and the call alone, and then its
     // answer; and so is a script with power calls the script with a line for each of these events.
     ensures calls { LowersCalls (setup object topology) }
+    // Each line of a run tells exactly the calls of tasks that are due in it, and a task that is stored before and after
+    // was called as often as the lines tell, modulo 2 ^ 32.
+    ensures tasks { TellsCalls (setup object topology) (standing H.Responder T.Handler modules.now tasks.old) }
     // On every exit, of any inputs: the script is begun once, and read to its end or to one byte past the limit, or up
     // to a call that failed, or, where the run ends before, up to somewhere. Nothing else is begun or read.
     ensures begun { Meanwhile (I.state inputs.old) (I.state inputs.new) (ReadsScript result (script_named script.now)) }
@@ -103,11 +119,14 @@ pub fn replay<I: Inputs, O: Sink, D: Device>(
     boxes_of_a_run();
     power_calls_are_their_events();
     scripts_are_lowered();
-    run_named(alloc, object, topology, inputs, script, out, dev)
+    calls_are_told();
+    run_named(
+        alloc, object, topology, inputs, script, out, dev, modules, tasks,
+    )
 }
 
 /// Runs the named script from the load of the object, where it can be read.
-fn run_named<I: Inputs, O: Sink, D: Device>(
+fn run_named<I: Inputs, O: Sink, D: Device, H: Responder, T: Handler>(
     alloc: Global,
     object: Object,
     topology: Topology,
@@ -115,17 +134,21 @@ fn run_named<I: Inputs, O: Sink, D: Device>(
     script: &str,
     out: &mut O,
     dev: &mut D,
+    modules: &ModulesOf<H>,
+    tasks: &mut TasksOf<T>,
 ) -> Exit
     requires formed { IsWellFormed topology }
     requires idle { D.values_observable → (unit : Unit) → (D.state dev.old).value unit ≡ 0 }
-    ensures ran { Replayed I.Inputs O.Sink D.Device (setup object topology) script.now
+    ensures ran { Replayed I.Inputs O.Sink D.Device (setup object topology)
+        (standing H.Responder T.Handler modules.now tasks.old)
+        (standing H.Responder T.Handler modules.now tasks.new) script.now
         (world inputs.old out.old dev.old) (world inputs.new out.new dev.new) result }
     ensures begun { Meanwhile (I.state inputs.old) (I.state inputs.new) (ReadsScript result (script_named script.now)) }
 {
     let Ok(mut controller) = load(alloc, object, topology) else {
         return refuse(Fault::Memory, out);
     };
-    run_loaded(&mut controller, inputs, script, out, dev)
+    run_loaded(&mut controller, inputs, script, out, dev, modules, tasks)
 }
 
 /// All as it stands at load, before the device is given anything.
@@ -138,62 +161,77 @@ fn load(alloc: Global, object: Object, topology: Topology) -> Result<Controller,
 }
 
 /// Runs the named script from the load, where it can be read.
-fn run_loaded<I: Inputs, O: Sink, D: Device>(
+fn run_loaded<I: Inputs, O: Sink, D: Device, H: Responder, T: Handler>(
     controller: &mut Controller,
     inputs: &mut I,
     script: &str,
     out: &mut O,
     dev: &mut D,
+    modules: &ModulesOf<H>,
+    tasks: &mut TasksOf<T>,
 ) -> Exit
     requires formed { IsWellFormed (setup_of controller.old.book).topology }
     requires loaded { IsLoaded controller.old }
     requires idle { D.values_observable → (unit : Unit) → (D.state dev.old).value unit ≡ 0 }
-    ensures ran { Replayed I.Inputs O.Sink D.Device (setup_of controller.old.book) script.now
+    ensures ran { Replayed I.Inputs O.Sink D.Device (setup_of controller.old.book)
+        (standing H.Responder T.Handler modules.now tasks.old)
+        (standing H.Responder T.Handler modules.now tasks.new) script.now
         (world inputs.old out.old dev.old) (world inputs.new out.new dev.new) result }
     ensures begun { Meanwhile (I.state inputs.old) (I.state inputs.new) (ReadsScript result (script_named script.now)) }
 {
     driven_follows::<D>();
     match inputs.begin(script) {
-        Ok(id) => run(controller, inputs, id, out, dev),
+        Ok(id) => run(controller, inputs, id, out, dev, modules, tasks),
         Err(Failed) => refuse(Fault::Read, out),
     }
 }
 
-/// Runs the script of an input that was begun, from its load, and writes its text.
-fn run<I: Inputs, O: Sink, D: Device>(
+/// Runs the script of an input that was begun, from its load, and writes its text. To tasks step 0 is a line in which
+/// nothing happens: calls that were left before are made.
+fn run<I: Inputs, O: Sink, D: Device, H: Responder, T: Handler>(
     controller: &mut Controller,
     inputs: &mut I,
     id: u32,
     out: &mut O,
     dev: &mut D,
+    modules: &ModulesOf<H>,
+    tasks: &mut TasksOf<T>,
 ) -> Exit
     requires loaded { IsLoaded controller.old }
     ensures ran { OfScript I.observable id (I.state inputs.old)
-        (λ s. RanScript O.Sink D.Device (setup_of controller.old.book) s out.old out.new dev.old dev.new result) }
+        (λ s. RanScript O.Sink D.Device (setup_of controller.old.book) s out.old out.new dev.old dev.new
+        (standing H.Responder T.Handler modules.now tasks.old)
+        (standing H.Responder T.Handler modules.now tasks.new) result) }
     ensures fault { result ≡ Exit.ReadFault → Rose (I.state inputs.old).faults (I.state inputs.new).faults }
     ensures reads { Meanwhile (I.state inputs.old) (I.state inputs.new) (ReadsBegun result id) }
 {
     controller.start(dev);
-    match write_step(0, controller.outbox(), out) {
-        Ok(()) => run_rest(controller, inputs, id, out, dev),
+    happen(tasks, &Event::Pass);
+    let outbox = controller.outbox();
+    match write_step(0, outbox, &outbox.answer, out) {
+        Ok(()) => run_rest(controller, inputs, id, out, dev, modules, tasks),
         Err(Failed) => Exit::WriteFault,
     }
 }
 
 /// Runs the lines of a script, and writes what comes after them.
-fn run_rest<I: Inputs, O: Sink, D: Device>(
+fn run_rest<I: Inputs, O: Sink, D: Device, H: Responder, T: Handler>(
     controller: &mut Controller,
     inputs: &mut I,
     id: u32,
     out: &mut O,
     dev: &mut D,
+    modules: &ModulesOf<H>,
+    tasks: &mut TasksOf<T>,
 ) -> Exit
     ensures ran { (c : Setup) → setup_of controller.old.book ≡ c → OfScript I.observable id (I.state inputs.old)
-        (λ s. RanRest O.Sink D.Device c 1 s controller.old out.old out.new dev.old dev.new result) }
+        (λ s. RanRest O.Sink D.Device c 1 s controller.old out.old out.new dev.old dev.new
+        (standing H.Responder T.Handler modules.now tasks.old)
+        (standing H.Responder T.Handler modules.now tasks.new) result) }
     ensures fault { result ≡ Exit.ReadFault → Rose (I.state inputs.old).faults (I.state inputs.new).faults }
     ensures reads { Meanwhile (I.state inputs.old) (I.state inputs.new) (ReadsBegun result id) }
 {
-    match run_lines(controller, inputs, id, out, dev) {
+    match run_lines(controller, inputs, id, out, dev, modules, tasks) {
         Ok(end) => finish(controller, end.stop, out),
         Err(LineStop::Bad(number, cause)) => refuse(Fault::Line(number, cause), out),
         Err(LineStop::Broken) => Exit::WriteFault,

@@ -1,9 +1,11 @@
 //! The text of a run is written: the lines of a step, and the closing table.
 
-ghost use Rattle.std.specs.Prelude.{◌≡◌, ◌<◌, Some, length, map, slice_get};
+ghost use Rattle.std.specs.Prelude.{◌≡◌, ◌<◌, ◌∷◌, [], Some, length, map, slice_get};
 ghost use Rattle.pm_apply.specs.Part.{part_in};
 ghost use Rattle.pm_state.specs.Units.{units};
 ghost use Rattle.pm_split.specs.Split.{noted_busy, noted_call};
+ghost use Rattle.pm_split.specs.Split.Note.{NoTask};
+ghost use Rattle.pm_drive.specs.Tasks.{fired_note};
 ghost use Rattle.pm_trace.specs.Notes.{notes_text};
 ghost use Rattle.pm_trace.specs.Closing.{closing_lines, closing_text};
 ghost use Rattle.pm_trace.specs.Step.{notices_in, step_text};
@@ -11,16 +13,22 @@ ghost use Rattle.pm_replay.specs.Within.{Writes};
 
 use crate::controller::Controller;
 use pm_base::{Failed, NodeId, Sink, write_all};
-use pm_core::Outbox;
-use pm_trace::{TextLine, busy_line, call_line, closing, entries, entry};
+use pm_core::{Answer, Outbox};
+use pm_tasks::Fired;
+use pm_trace::{TextLine, busy_line, call_line, closing, entries, entry, no_task_line, task_line};
 
-/// Writes the lines of a step.
-pub(crate) fn write_step<O: Sink>(number: u32, outbox: &Outbox, out: &mut O) -> Result<(), Failed>
-    ensures { Writes O.Sink (step_text number outbox.now.done.items (notices_in outbox.now) outbox.now.answer) out.old out.new result }
+/// Writes the lines of a step that is answered so.
+pub(crate) fn write_step<O: Sink>(
+    number: u32,
+    outbox: &Outbox,
+    answer: &Answer,
+    out: &mut O,
+) -> Result<(), Failed>
+    ensures { Writes O.Sink (step_text number outbox.now.done.items (notices_in outbox.now) answer.now) out.old out.new result }
 {
     let mut line = TextLine::new();
-    for k in 0..entries(outbox) {
-        entry(number, outbox, k, &mut line);
+    for k in 0..entries(outbox, answer) {
+        entry(number, outbox, answer, k, &mut line);
         write_all(out, line.as_slice())?;
     }
     Ok(())
@@ -46,6 +54,24 @@ pub(crate) fn write_call<O: Sink>(
 {
     let mut line = TextLine::new();
     call_line(number, proc, code, &mut line);
+    write_all(out, line.as_slice())
+}
+
+/// Writes the line of a script line that finds no task under a key.
+pub(crate) fn write_no_task<O: Sink>(number: u32, key: u32, out: &mut O) -> Result<(), Failed>
+    ensures { Writes O.Sink (notes_text number (NoTask key ∷ [])) out.old out.new result }
+{
+    let mut line = TextLine::new();
+    no_task_line(number, key, &mut line);
+    write_all(out, line.as_slice())
+}
+
+/// Writes the line of the call of a task.
+pub(crate) fn write_task<O: Sink>(number: u32, fired: Fired, out: &mut O) -> Result<(), Failed>
+    ensures { Writes O.Sink (notes_text number (fired_note fired ∷ [])) out.old out.new result }
+{
+    let mut line = TextLine::new();
+    task_line(number, fired.key as u64, fired.at, fired.word, &mut line);
     write_all(out, line.as_slice())
 }
 

@@ -10,6 +10,6 @@ pub mod running;
 pub use asked::{Asked, joined, replay_of};
 pub use devices::{listed, model, node};
 pub use objects::{
-    ALONE, BOXES, BOXES_SETTLED, DOMAINS, LABORATORY, OBJECT, STANDS, STARTED, USUAL,
+    ALONE, BOXES, BOXES_CLOSED, BOXES_SETTLED, DOMAINS, LABORATORY, OBJECT, STANDS, STARTED, USUAL,
 };
-pub use running::{bytes_of, run, run_with};
+pub use running::{bytes_of, run, run_with, run_with_board};

@@ -40,6 +40,13 @@ pub const BOXES_SETTLED: &str = "0 set 10 0 1
 1 reply 1 0 0 0 0
 ";
 
+/// The closing table of a run over it that leaves all as it is after that line.
+pub const BOXES_CLOSED: &str = "end power 1 1 1
+end proc 2 1 1
+end power 10 1 1
+end power 62 1 1
+";
+
 /// The real-time processors as two masters, of which the second may use a slave of each class, in each power
 /// domain: the memory 15 in the processors' own domain, the peripherals 28 and 42 below FPD and 33 below LPD,
 /// the external interrupts 49, the dynamic memory 55 below FPD and the block 63 below PLD.

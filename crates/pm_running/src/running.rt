@@ -7,6 +7,8 @@ use crate::asked::Asked;
 use crate::devices::model;
 use pm_base::{Exit, MemInputs, NoMemory, Sink};
 use pm_device::Device;
+use pm_modules::{Modules, ModulesOf, Responder};
+use pm_tasks::{Handler, Tasks, TasksOf};
 use pm_top::pm_main;
 use std::alloc::{AllocError, Global};
 use std::test::Fail;
@@ -44,7 +46,7 @@ fn words_of(alloc: Global, words: &str) -> Result<Vec<String>, AllocError> {
     Ok(texts)
 }
 
-/// A run over any sink, and any device that stands at 0.
+/// A run over any sink, and any device that stands at 0, without modules and tasks.
 pub fn run_with<O: Sink, D: Device>(
     alloc: Global,
     asked: &Asked,
@@ -55,24 +57,50 @@ pub fn run_with<O: Sink, D: Device>(
 {
     let words = words_of(alloc, asked.words)?;
     let mut inputs = inputs_of(alloc, asked)?;
-    Ok(run_words(alloc, &words, &mut inputs, out, dev))
+    let modules = Modules::new(alloc)?;
+    let mut tasks = Tasks::new(alloc, 0)?;
+    Ok(run_words(alloc, &words, &mut inputs, out, dev, &modules, &mut tasks))
 }
 
 /// The call itself, of which nothing is said to the tests.
-fn run_words<O: Sink, D: Device>(
+fn run_words<O: Sink, D: Device, H: Responder, T: Handler>(
     alloc: Global,
     words: &[String],
     inputs: &mut MemInputs,
     out: &mut O,
     dev: &mut D,
+    modules: &ModulesOf<H>,
+    tasks: &mut TasksOf<T>,
 ) -> Exit
     requires idle { D.values_observable → (unit : Unit) → (D.state dev.old).value unit ≡ 0 }
 {
-    pm_main(alloc, words, inputs, out, dev)
+    pm_main(alloc, words, inputs, out, dev, modules, tasks)
 }
 
 /// A run over any sink, and a device that doesn't fail.
 pub fn run<O: Sink>(alloc: Global, asked: &Asked, out: &mut O) -> Result<Exit, Fail> {
     let mut device = model(alloc)?;
     run_with(alloc, asked, out, &mut *device)
+}
+
+/// A run over any sink, and a device that doesn't fail, with these modules and tasks.
+pub fn run_with_board<O: Sink, H: Responder, T: Handler>(
+    alloc: Global,
+    asked: &Asked,
+    modules: &ModulesOf<H>,
+    tasks: &mut TasksOf<T>,
+    out: &mut O,
+) -> Result<Exit, Fail> {
+    let mut device = model(alloc)?;
+    let words = words_of(alloc, asked.words)?;
+    let mut inputs = inputs_of(alloc, asked)?;
+    Ok(run_words(
+        alloc,
+        &words,
+        &mut inputs,
+        out,
+        &mut *device,
+        modules,
+        tasks,
+    ))
 }

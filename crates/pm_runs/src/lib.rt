@@ -12,6 +12,8 @@ mod checks;
 #[cfg(test)]
 mod each_byte;
 #[cfg(test)]
+mod handlers;
+#[cfg(test)]
 mod inputs;
 #[cfg(test)]
 mod isolate;
@@ -19,6 +21,8 @@ mod isolate;
 mod limits;
 #[cfg(test)]
 mod making;
+#[cfg(test)]
+mod modules;
 #[cfg(test)]
 mod objects;
 #[cfg(test)]
@@ -29,6 +33,8 @@ mod reach;
 mod sinks;
 #[cfg(test)]
 mod steps;
+#[cfg(test)]
+mod tasks;
 #[cfg(test)]
 mod topologies;
 #[cfg(test)]

@@ -8,7 +8,7 @@ use std::test::Fail;
 
 /// What a run over the laboratory's object writes at load: the first processor of master 1 starts, and
 /// each slave that master 1 may use is held in its last state.
-const LOADED: &str = "0 set 10 0 1
+pub(crate) const LOADED: &str = "0 set 10 0 1
 0 set 62 0 1
 0 set 1 0 1
 0 set 2 0 1
@@ -21,7 +21,7 @@ const LOADED: &str = "0 set 10 0 1
 ";
 
 /// What it then writes of the line `ipi 1 21`: master 1 has finished its initialization, and uses no slave.
-const SETTLED: &str = "1 set 11 2 0
+pub(crate) const SETTLED: &str = "1 set 11 2 0
 1 set 28 1 0
 1 set 33 1 0
 1 set 39 1 0

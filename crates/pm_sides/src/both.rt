@@ -129,8 +129,8 @@ fn wait_alone(loud: &mut Desk, quiet: &mut Desk, m: NodeId, proc: NodeId) -> boo
 pub(crate) fn text_of(alloc: Global, n: u32, out: &Outbox) -> Result<Vec<u8>, Fail> {
     let mut text = Vec::new(alloc);
     let mut line = TextLine::new();
-    for k in 0..entries(out) {
-        entry(n, out, k, &mut line);
+    for k in 0..entries(out, &out.answer) {
+        entry(n, out, &out.answer, k, &mut line);
         text.extend_from_slice(line.as_slice())?;
     }
     Ok(text)

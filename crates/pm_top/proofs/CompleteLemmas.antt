@@ -19,6 +19,7 @@ use Rattle.pm_objtext.specs.Building.{building}
 use Rattle.pm_objtext.specs.Meaning.{Means}
 use Rattle.pm_topology.specs.declared.topology.Topology.{Topology}
 use Rattle.pm_topofile.specs.Meaning.{meaning}
+use Rattle.pm_board.specs.Board.{Standing}
 use Rattle.pm_device.specs.declared.device.Device as Device
 use Rattle.pm_gen.specs.Laboratory.{laboratory}
 use Rattle.pm_script.specs.Script.{Script, Stop, script_limit, script_of}
@@ -142,7 +143,7 @@ module _ (written : (bytes : List ℕ) (o : Object) → Reads bytes o → readin
 
   -- ---- the run
 
-  module _ {I O D : Type 0} (i : Inputs.Ghosts I) (o : Sink.Ghosts O) (d : Device.Ghosts D) (ws : List (List ℕ)) (w w' : World I O D) (result : Exit) where
+  module _ {I O D : Type 0} (i : Inputs.Ghosts I) (o : Sink.Ghosts O) (d : Device.Ghosts D) (ws : List (List ℕ)) (board is : Standing) (w w' : World I O D) (result : Exit) where
     sure_end : (HasFailed (o.state w.sink) (o.state w'.sink) → ⊥) → EndsWith o exit.Done w.sink w'.sink result → (result ≡ exit.Done) ⊎ (result ≡ exit.Memory)
     sure_end took (inl done) = inl done
     sure_end took (inr (inl memory)) = inr memory
@@ -156,10 +157,10 @@ module _ (written : (bytes : List ℕ) (o : Object) → Reads bytes o → readin
         by (Some f) decides right sure =
             sure_end took (subst (λ (due : Exit). EndsWith o due w.sink w'.sink result) (done_due f ws (i.state w.inputs) decides.0 right sure) decides.1)
 
-    pub is_complete : (i.observable → Decides o ws (i.state w.inputs) w.sink w'.sink result) → (i.observable → o.observable → result ≡ exit.Done → IsDone i o d ws w w') → (result ≡ exit.ReadFault → Rose (i.state w.inputs).faults (i.state w'.inputs).faults) → IsComplete i o d ws w w' result
+    pub is_complete : (i.observable → Decides o ws (i.state w.inputs) w.sink w'.sink result) → (i.observable → o.observable → result ≡ exit.Done → IsDone i o d ws board is w w') → (result ≡ exit.ReadFault → Rose (i.state w.inputs).faults (i.state w'.inputs).faults) → IsComplete i o d ws board is w w' result
     is_complete decides done read = record {
       done = λ seen right sure took. elim (ends (decides seen) right sure took) [
-        | inl is ↦ inl (is, λ written. done seen written is)
+        | inl ended ↦ inl (ended, λ written. done seen written ended)
         | inr memory ↦ inr memory
       ];
       read = λ stays is. stays (read is);

@@ -8,6 +8,7 @@ use Rattle.pm_base.specs.declared.sink.Sink as Sink
 use Rattle.pm_base.specs.Inputs.{Moment}
 use Rattle.pm_base.specs.Sink.{HasFailed, IsUnfailed}
 use Rattle.pm_base.specs.Writing.{Leaves}
+use Rattle.pm_board.specs.Board.{Standing}
 use Rattle.pm_script.specs.Script.{Stop}
 use Rattle.pm_script.specs.Script.Stop.{End, Bad, Past, Failed}
 use Rattle.pm_trace.specs.declared.faults.Fault.{Fault}
@@ -53,20 +54,20 @@ stops_late n (Bad cause) = refl
 stops_late n Past = refl
 stops_late n Failed = refl
 
-late : (work : Work) (job : Job) (answers : List (List Bool)) → comes_before (exit_after (report work job answers).fault) ≡ false
-late work job answers = stops_late (1 + length job.asked.script.events) job.asked.script.stop
+late : (board : Standing) (work : Work) (job : Job) (answers : List (List Bool)) → comes_before (exit_after (report board work job answers).fault) ≡ false
+late board work job answers = stops_late (1 + length job.asked.script.events) job.asked.script.stop
 
 -- a job that isn't refused has no fault that comes before a run
-no_fault : (work : Work) (job : Job) (answers : List (List Bool)) (fault : Fault) → comes_before (exit_by fault) ≡ true → (report work job answers).fault ≡ Some fault → ⊥
-no_fault work job answers fault before is =
-    let clash : true ≡ false = sym before ∙ ap (λ (x : Option Fault). comes_before (exit_after x)) (sym is) ∙ late work job answers in cc
+no_fault : (board : Standing) (work : Work) (job : Job) (answers : List (List Bool)) (fault : Fault) → comes_before (exit_by fault) ≡ true → (report board work job answers).fault ≡ Some fault → ⊥
+no_fault board work job answers fault before is =
+    let clash : true ≡ false = sym before ∙ ap (λ (x : Option Fault). comes_before (exit_after x)) (sym is) ∙ late board work job answers in cc
 
 -- the exit of a job is that of what is asked for, whatever the device answers
-due : (work : Work) (job : Result Job Fault) (asked : Result Asked Fault) (answers : List (List Bool)) → Meets job asked → exit_after (report_of (report work) job answers).fault ≡ job_exit asked
-due work (Ok job) (Ok asked) answers is = ap (λ (asked : Asked). exit_after (fault_at (1 + length asked.script.events) asked.script.stop)) is.0
-due work (Err fault) (Err cause) answers is = ap (λ (fault : Fault). exit_by fault) is
-due work (Ok job) (Err cause) answers is = absurd is
-due work (Err fault) (Ok asked) answers is = absurd is
+due : (board : Standing) (work : Work) (job : Result Job Fault) (asked : Result Asked Fault) (answers : List (List Bool)) → Meets job asked → exit_after (report_of (report board work) job answers).fault ≡ job_exit asked
+due board work (Ok job) (Ok asked) answers is = ap (λ (asked : Asked). exit_after (fault_at (1 + length asked.script.events) asked.script.stop)) is.0
+due board work (Err fault) (Err cause) answers is = ap (λ (fault : Fault). exit_by fault) is
+due board work (Ok job) (Err cause) answers is = absurd is
+due board work (Err fault) (Ok asked) answers is = absurd is
 
 -- all inputs can be begun
 all_begin : (m : Moment) → Begins m
@@ -74,26 +75,26 @@ all_begin m = record { second = true; third = true; two = λ room. refl; three =
 
 -- ---- what a call that did its job means
 
-module _ {I O : Type 0} (i : Inputs.Ghosts I) (o : Sink.Ghosts O) (say : ExitsSay o) (f : Form) (ws : List (List ℕ)) (old new : I) (sink sink' : O) (result : Exit) where
-  module _ (Touching : Result Job Fault → List (List Bool) → Option ℕ → Type 0) (did : Did o (IsAsked i f ws old new result) (report f.work) Touching sink sink' result) where
-    said : ExitSays o (report_of (report f.work) did.job did.answers) did.cut sink sink' result
-    said = say (report_of (report f.work) did.job did.answers) did.cut sink sink' result did.left did.ends
+module _ {I O : Type 0} (i : Inputs.Ghosts I) (o : Sink.Ghosts O) (say : ExitsSay o) (board : Standing) (f : Form) (ws : List (List ℕ)) (old new : I) (sink sink' : O) (result : Exit) where
+  module _ (Touching : Result Job Fault → List (List Bool) → Option ℕ → Type 0) (did : Did o (IsAsked i f ws old new result) (report board f.work) Touching sink sink' result) where
+    said : ExitSays o (report_of (report board f.work) did.job did.answers) did.cut sink sink' result
+    said = say (report_of (report board f.work) did.job did.answers) did.cut sink sink' result did.left did.ends
 
     pub not_usage : result ≡ exit.Usage → ⊥
     not_usage is = by did.job did.asked.known (said.usage is)
       where
-        by : (job : Result Job Fault) → IsKnown f job → (report_of (report f.work) job did.answers).fault ≡ Some Usage → ⊥
+        by : (job : Result Job Fault) → IsKnown f job → (report_of (report board f.work) job did.answers).fault ≡ Some Usage → ⊥
         by (Err fault) known at = subst (IsFaultOf f) (some_is at) known
-        by (Ok job) known at = no_fault f.work job did.answers Usage refl at
+        by (Ok job) known at = no_fault board f.work job did.answers Usage refl at
 
     -- a job that isn't refused ends after its run was begun
     pub not_before : (job : Job) → did.job ≡ Ok job → IsBeforeRun (Some f) result → ⊥
     not_before job is before = by said.ends
       where
-        begun : comes_before (exit_after (report_of (report f.work) did.job did.answers).fault) ≡ false
-        begun = ap (λ (j : Result Job Fault). comes_before (exit_after (report_of (report f.work) j did.answers).fault)) is ∙ late f.work job did.answers
+        begun : comes_before (exit_after (report_of (report board f.work) did.job did.answers).fault) ≡ false
+        begun = ap (λ (j : Result Job Fault). comes_before (exit_after (report_of (report board f.work) j did.answers).fault)) is ∙ late board f.work job did.answers
 
-        by : EndsBy o (exit_after (report_of (report f.work) did.job did.answers).fault) sink sink' result → ⊥
+        by : EndsBy o (exit_after (report_of (report board f.work) did.job did.answers).fault) sink sink' result → ⊥
         by (inl ends) = let clash : true ≡ false = sym (early (Some f) result before) ∙ ap comes_before ends ∙ begun in cc
         by (inr broken) = let clash : true ≡ false = sym (early (Some f) result before) ∙ ap comes_before broken.0 in cc
 
@@ -102,7 +103,7 @@ module _ {I O : Type 0} (i : Inputs.Ghosts I) (o : Sink.Ghosts O) (say : ExitsSa
     starved_first is before = by before
       where
         ended : result ≡ exit.Memory
-        ended = did.ends ∙ ap (λ (j : Result Job Fault). exit_of (report_of (report f.work) j did.answers) did.cut) is ∙ refused_exit Memory did.cut
+        ended = did.ends ∙ ap (λ (j : Result Job Fault). exit_of (report_of (report board f.work) j did.answers) did.cut) is ∙ refused_exit Memory did.cut
 
         by : IsBeforeRun (Some f) result → StarvesFirst (Some f)
         by (inl other) = let clash : exit.Memory ≡ exit.Usage = sym ended ∙ other in cc
@@ -113,11 +114,11 @@ module _ {I O : Type 0} (i : Inputs.Ghosts I) (o : Sink.Ghosts O) (say : ExitsSa
     -- where the script couldn't be begun the exit doesn't come before a run
     pub unread_late : did.job ≡ Err Read → IsBeforeRun (Some f) result → ⊥
     unread_late is before =
-        let ended : result ≡ exit.ReadFault = did.ends ∙ ap (λ (j : Result Job Fault). exit_of (report_of (report f.work) j did.answers) did.cut) is ∙ refused_exit Read did.cut in
+        let ended : result ≡ exit.ReadFault = did.ends ∙ ap (λ (j : Result Job Fault). exit_of (report_of (report board f.work) j did.answers) did.cut) is ∙ refused_exit Read did.cut in
         let clash : true ≡ false = sym (early (Some f) result before) ∙ ap comes_before ended in cc
 
     pub unread : result ≡ exit.ReadFault → FailsToRead did.job
-    unread is = fails f.work did.job did.answers (said.read is)
+    unread is = fails board f.work did.job did.answers (said.read is)
 
     pub read_fault : result ≡ exit.ReadFault → Rose (i.state old).faults (i.state new).faults
     read_fault = did.asked.failed
@@ -131,9 +132,9 @@ module _ {I O : Type 0} (i : Inputs.Ghosts I) (o : Sink.Ghosts O) (say : ExitsSa
     pub starved : result ≡ exit.Memory → IsStarved o sink sink'
     starved is = by did.job did.left (said.memory is)
       where
-        by : (job : Result Job Fault) → Leaves o (pieces (report_of (report f.work) job did.answers)) did.cut sink sink' → (report_of (report f.work) job did.answers).fault ≡ Some Memory → IsStarved o sink sink'
+        by : (job : Result Job Fault) → Leaves o (pieces (report_of (report board f.work) job did.answers)) did.cut sink sink' → (report_of (report board f.work) job did.answers).fault ≡ Some Memory → IsStarved o sink sink'
         by (Err fault) left at = (did.cut, subst (λ (fault : Fault). Leaves o (fault_text fault ∷ []) did.cut sink sink') (some_is at) left)
-        by (Ok job) left at = absurd (no_fault f.work job did.answers Memory refl at)
+        by (Ok job) left at = absurd (no_fault board f.work job did.answers Memory refl at)
 
     pub decided : i.observable → FormDecides o (Some f) ws (i.state old) sink sink' result
     decided seen = elim (did.asked.shown seen) [
@@ -141,10 +142,10 @@ module _ {I O : Type 0} (i : Inputs.Ghosts I) (o : Sink.Ghosts O) (say : ExitsSa
       | inr job ↦ (job.0, by did.job (asked_of f ws (i.state old) job.0) job.1 said.ends)
     ]
       where
-        by_memory : (other : Exit) (job : Result Job Fault) → job ≡ Err Memory → EndsBy o (exit_after (report_of (report f.work) job did.answers).fault) sink sink' result → EndsWith o other sink sink' result
-        by_memory other job is (inl ends) = inr (inl (ends ∙ ap (λ (j : Result Job Fault). exit_after (report_of (report f.work) j did.answers).fault) is))
+        by_memory : (other : Exit) (job : Result Job Fault) → job ≡ Err Memory → EndsBy o (exit_after (report_of (report board f.work) job did.answers).fault) sink sink' result → EndsWith o other sink sink' result
+        by_memory other job is (inl ends) = inr (inl (ends ∙ ap (λ (j : Result Job Fault). exit_after (report_of (report board f.work) j did.answers).fault) is))
         by_memory other job is (inr broken) = inr (inr broken)
 
-        by : (job : Result Job Fault) (asked : Result Asked Fault) → Meets job asked → EndsBy o (exit_after (report_of (report f.work) job did.answers).fault) sink sink' result → EndsWith o (job_exit asked) sink sink' result
-        by job asked is (inl ends) = inl (ends ∙ due f.work job asked did.answers is)
+        by : (job : Result Job Fault) (asked : Result Asked Fault) → Meets job asked → EndsBy o (exit_after (report_of (report board f.work) job did.answers).fault) sink sink' result → EndsWith o (job_exit asked) sink sink' result
+        by job asked is (inl ends) = inl (ends ∙ due board f.work job asked did.answers is)
         by job asked is (inr broken) = inr (inr broken)

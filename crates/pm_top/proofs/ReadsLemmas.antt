@@ -33,6 +33,7 @@ use Rattle.pm_top.specs.declared.works.Source.{Source}
 use Rattle.pm_top.specs.declared.works.Source.TheVariants as source
 use Rattle.pm_top.specs.Asked.{laboratory_if, master_of, object_or_fault, script_word, text_or_fault, topology_or_fault, with_master, with_named}
 use Rattle.pm_top.specs.Form.{word}
+use Rattle.pm_board.specs.Board.{Standing}
 use Rattle.pm_top.specs.Making.{Makes}
 use Rattle.pm_top.specs.Reads.{EndsBare, FormReads, IsFaultBehind, IsOfSource, ReadsBy, ReadsFor, RefusedReads, RefusedSubject, SubjectReads, WorkReads, script_names, source_named, topology_named}
 use Rattle.pm_top.specs.Within.{Writes, one_piece}
@@ -180,9 +181,9 @@ module _ {O : Type 0} (o : Sink.Ghosts O) (Holds : List ℕ → Type 0) (old new
       by (Some k) = cut_first (nat_lt k 1)
 
 -- the run of a script that is made
-pub made_bare : {O D : Type 0} (o : Sink.Ghosts O) (d : Device.Ghosts D) (c : Setup) (n : ℕ) (sink sink' : O) (old new : D) (due : Exit) → Makes o d c n sink sink' old new due → EndsBare due
-made_bare o d c n sink sink' old new due (inl starves) = bare o (λ text. ⊤) sink sink' due (inl starves.reports)
-made_bare o d c n sink sink' old new due (inr wrote) = bare o (λ text. ⊤) sink sink' due (inr (record { text = wrote.text; holds = tt; reports = wrote.reports }))
+pub made_bare : {O D : Type 0} (o : Sink.Ghosts O) (d : Device.Ghosts D) (c : Setup) (board is : Standing) (n : ℕ) (sink sink' : O) (old new : D) (due : Exit) → Makes o d c board is n sink sink' old new due → EndsBare due
+made_bare o d c board is n sink sink' old new due (inl starves) = bare o (λ text. ⊤) sink sink' due (inl starves.reports)
+made_bare o d c board is n sink sink' old new due (inr wrote) = bare o (λ text. ⊤) sink sink' due (inr (record { text = wrote.text; holds = tt; reports = wrote.reports }))
 
 join_script : (first topology : List Named) (name : List ℕ) (due : Exit) (one two : List Call) → ReadsEach (first ++ topology) one → ReadsScript due (script_named name) two → ReadsBy due first topology (script_named name ∷ []) (one ++ two)
 join_script first topology name exit.Done one two whole reads = each_append (first ++ topology) (script_named name ∷ []) one two whole reads

@@ -5,6 +5,7 @@ use Rattle.pm_base.specs.declared.errors.Exit.{Exit}
 use Rattle.pm_base.specs.declared.inputs.Inputs as Inputs
 use Rattle.pm_base.specs.declared.sink.Sink as Sink
 use Rattle.pm_base.specs.Writing.{Leaves}
+use Rattle.pm_board.specs.Board.{Standing}
 use Rattle.pm_script.specs.Script.{Stop}
 use Rattle.pm_script.specs.Script.Stop.{End, Bad, Past, Failed}
 use Rattle.pm_trace.specs.declared.faults.Fault.{Fault}
@@ -31,9 +32,9 @@ failed_stop n (Bad cause) is = cc
 failed_stop n Past is = cc
 failed_stop n Failed is = refl
 
-pub fails : (work : Work) (job : Result Job Fault) (answers : List (List Bool)) → (report_of (report work) job answers).fault ≡ Some Read → FailsToRead job
-fails work (Err fault) answers is = some_is is
-fails work (Ok job) answers is = failed_stop (1 + length job.asked.script.events) job.asked.script.stop is
+pub fails : (board : Standing) (work : Work) (job : Result Job Fault) (answers : List (List Bool)) → (report_of (report board work) job answers).fault ≡ Some Read → FailsToRead job
+fails board work (Err fault) answers is = some_is is
+fails board work (Ok job) answers is = failed_stop (1 + length job.asked.script.events) job.asked.script.stop is
 
 module _ {I : Type 0} (i : Inputs.Ghosts I) where
   -- what is known of a job before the exit is: where an input can't be read the count rose
@@ -43,9 +44,9 @@ module _ {I : Type 0} (i : Inputs.Ghosts I) where
     pub known : IsKnown f job
 
   -- and so the exit says it
-  pub by_exit : {O : Type 0} (o : Sink.Ghosts O) (f : Form) (ws : List (List ℕ)) (old new : I) (sink sink' : O) (result : Exit) (job : Result Job Fault) (answers : List (List Bool)) (cut : Option ℕ) → IsAskedFor f ws old new job → Leaves o (pieces (report_of (report f.work) job answers)) cut sink sink' → result ≡ exit_of (report_of (report f.work) job answers) cut → IsAsked i f ws old new result job
-  by_exit o f ws old new sink sink' result job answers cut asked left ends = record {
+  pub by_exit : {O : Type 0} (o : Sink.Ghosts O) (board : Standing) (f : Form) (ws : List (List ℕ)) (old new : I) (sink sink' : O) (result : Exit) (job : Result Job Fault) (answers : List (List Bool)) (cut : Option ℕ) → IsAskedFor f ws old new job → Leaves o (pieces (report_of (report board f.work) job answers)) cut sink sink' → result ≡ exit_of (report_of (report board f.work) job answers) cut → IsAsked i f ws old new result job
+  by_exit o board f ws old new sink sink' result job answers cut asked left ends = record {
     shown = asked.shown;
-    failed = λ is. asked.failed (fails f.work job answers (read_by o (report_of (report f.work) job answers) cut sink sink' result left ends is));
+    failed = λ is. asked.failed (fails board f.work job answers (read_by o (report_of (report board f.work) job answers) cut sink sink' result left ends is));
     known = asked.known;
   }

@@ -1,5 +1,5 @@
 -- Each work did its job on the subject that was read.
-use Rattle.std.proofs.Common.{◌≡◌, ℕ, ◌⊎◌, Bool, false, List, [], ◌++◌, Option, Some, None, Result, Ok, Err, refl, sym, ◌∙◌, ap, subst, inl, inr}
+use Rattle.std.proofs.Common.{◌≡◌, ℕ, ◌⊎◌, Bool, false, List, [], ◌++◌, Option, Some, None, Result, Ok, Err, refl, sym, ◌∙◌, ap, subst, inl, inr, ◌∷◌}
 use Rattle.std.specs.Prelude.{IfSome, IsSomeAnd, is_some, unwrap_or}
 use Rattle.pm_base.specs.declared.errors.Exit.{Exit}
 use Rattle.pm_base.specs.declared.errors.Exit.TheVariants as exit
@@ -26,6 +26,7 @@ use Rattle.pm_topofile.specs.Printing.{text_of as table_of}
 use Rattle.pm_reach.specs.declared.members.Member.{Member}
 use Rattle.pm_reach.specs.Membership.{IsReach}
 use Rattle.pm_trace.specs.Reach.{reach_text}
+use Rattle.pm_board.specs.Board.{Standing}
 use Rattle.pm_device.specs.Act.{Fit}
 use Rattle.pm_device.specs.declared.device.Device as Device
 use Rattle.pm_run.specs.Run.{setup}
@@ -85,10 +86,10 @@ module _ {D : Type 0} (d : Device.Ghosts D) (Named : Topology → Type 0) (dev d
   left_alone faults.Node named same = same
   left_alone faults.Number named same = same
 
-  still : (drive : Drives) (named : Option ℕ) (n : ℕ) (fault : Fault) (answers : List (List Bool)) (cut : Option ℕ) → dev ≡ dev' → TouchesBy d drive named Named n dev dev' (Err fault) answers cut
-  still AsItWrites named n fault answers cut same = left_alone fault named same
-  still BeforeItWrites named n fault answers cut same = inl same
-  still Never named n fault answers cut same = same
+  untouched : (board is : Standing) (drive : Drives) (named : Option ℕ) (n : ℕ) (fault : Fault) (answers : List (List Bool)) (cut : Option ℕ) → dev ≡ dev' → board ≡ is → TouchesBy d drive named board is Named n dev dev' (Err fault) answers cut
+  untouched board is AsItWrites named n fault answers cut same kept = (left_alone fault named same, kept)
+  untouched board is BeforeItWrites named n fault answers cut same kept = inl (same, kept)
+  untouched board is Never named n fault answers cut same kept = (same, kept)
 
   -- it was fitted, and nothing else was done to it
   fitted_alone : (named : Option ℕ) (topology : Topology) (start : D) → IsFitted d named topology dev start → Named topology → start ≡ dev' → MayBeFitted d named Named dev dev'
@@ -104,48 +105,48 @@ text_is_number e = cc
 nothing_is_number : source.Nothing ≡ source.Number → ⊥
 nothing_is_number e = cc
 
-module _ {I O D : Type 0} (i : Inputs.Ghosts I) (o : Sink.Ghosts O) (d : Device.Ghosts D) (ws : List (List ℕ)) (old new : I) (sink sink' : O) (dev dev' : D) (result : Exit) where
+module _ {I O D : Type 0} (i : Inputs.Ghosts I) (o : Sink.Ghosts O) (d : Device.Ghosts D) (ws : List (List ℕ)) (board is : Standing) (old new : I) (sink sink' : O) (dev dev' : D) (result : Exit) where
   -- a form was refused
-  refused : (f : Form) (fault : Fault) → IsAskedFor i f ws old new (Err fault) → dev ≡ dev' → Reports o (refusal fault) sink sink' result → RanForm i o d (Some f) ws (world old sink dev) (world new sink' dev') result
-  refused f fault asked same reports = record {
+  refused : (f : Form) (fault : Fault) → IsAskedFor i f ws old new (Err fault) → dev ≡ dev' → board ≡ is → Reports o (refusal fault) sink sink' result → RanForm i o d (Some f) ws board is (world old sink dev) (world new sink' dev') result
+  refused f fault asked same kept reports = record {
     job = Err fault;
     answers = [];
     cut = reports.cut;
-    asked = by_exit i o f ws old new sink sink' result (Err fault) [] reports.cut asked reports.left reports.ends;
+    asked = by_exit i o board f ws old new sink sink' result (Err fault) [] reports.cut asked reports.left reports.ends;
     left = reports.left;
     ends = reports.ends;
-    touched = still d (IsShown i o d f ws (world old sink dev)) dev dev' (drives f.work) f.topology (lines_by f.source (word 1 ws)) fault [] reports.cut same;
+    touched = untouched d (IsShown i o d f ws (world old sink dev)) dev dev' board is (drives f.work) f.topology (lines_by f.source (word 1 ws)) fault [] reports.cut same kept;
   }
 
-  pub subject_refused : (f : Form) (fault : Fault) → ((◌≡◌ {A = Result Subject Fault} (Err fault) (Err Memory)) ⊎ ReadsSubject i.observable f ws (i.state old) (i.state new) (Err fault)) → dev ≡ dev' → Reports o (refusal fault) sink sink' result → RanForm i o d (Some f) ws (world old sink dev) (world new sink' dev') result
-  subject_refused f fault reads same reports = refused f fault (asked_refused i f ws old new fault reads) same reports
+  pub subject_refused : (f : Form) (fault : Fault) → ((◌≡◌ {A = Result Subject Fault} (Err fault) (Err Memory)) ⊎ ReadsSubject i.observable f ws (i.state old) (i.state new) (Err fault)) → dev ≡ dev' → board ≡ is → Reports o (refusal fault) sink sink' result → RanForm i o d (Some f) ws board is (world old sink dev) (world new sink' dev') result
+  subject_refused f fault reads same kept reports = refused f fault (asked_refused i f ws old new fault reads) same kept reports
 
   -- a form without a script was carried out: its text is one piece
-  one_ran : (f : Form) (subject : Subject) (members : List Member) (events : List Event) (answers : List (List Bool)) (text : List ℕ) → f.script ≡ None → ReadsSubject i.observable f ws (i.state old) (i.state new) (Ok subject) → IsFound subject members → (f.source ≡ source.Number → IsScript (made subject.lines) events) → report f.work (whole_job subject members events) answers ≡ one_piece text → ((cut : Option ℕ) → Touches d f ws (IsShown i o d f ws (world old sink dev)) dev dev' (Ok (whole_job subject members events)) answers cut) → Reports o (one_piece text) sink sink' result → RanForm i o d (Some f) ws (world old sink dev) (world new sink' dev') result
-  one_ran f subject members events answers text none reads found making is touched reports =
-      let wrote : Reports o (report f.work (whole_job subject members events) answers) sink sink' result = subst (λ (r : Report). Reports o r sink sink' result) (sym is) reports in
+  one_ran : (f : Form) (subject : Subject) (members : List Member) (events : List Event) (answers : List (List Bool)) (text : List ℕ) → f.script ≡ None → ReadsSubject i.observable f ws (i.state old) (i.state new) (Ok subject) → IsFound subject members → (f.source ≡ source.Number → IsScript (made subject.lines) events) → report board f.work (whole_job subject members events) answers ≡ one_piece text → ((cut : Option ℕ) → Touches d f ws board is (IsShown i o d f ws (world old sink dev)) dev dev' (Ok (whole_job subject members events)) answers cut) → Reports o (one_piece text) sink sink' result → RanForm i o d (Some f) ws board is (world old sink dev) (world new sink' dev') result
+  one_ran f subject members events answers text none reads found making same touched reports =
+      let wrote : Reports o (report board f.work (whole_job subject members events) answers) sink sink' result = subst (λ (r : Report). Reports o r sink sink' result) (sym same) reports in
       record {
         job = Ok (whole_job subject members events);
         answers = answers;
         cut = wrote.cut;
-        asked = by_exit i o f ws old new sink sink' result (Ok (whole_job subject members events)) answers wrote.cut (asked_whole i f ws old new subject members events none reads found making) wrote.left wrote.ends;
+        asked = by_exit i o board f ws old new sink sink' result (Ok (whole_job subject members events)) answers wrote.cut (asked_whole i f ws old new subject members events none reads found making) wrote.left wrote.ends;
         left = wrote.left;
         ends = wrote.ends;
         touched = touched wrote.cut;
       }
 
 -- what makes a text that of a job
-record IsTextOf (work : Work) (subject : Subject) (text : List ℕ) : Type 0 where
+record IsTextOf (board : Standing) (work : Work) (subject : Subject) (text : List ℕ) : Type 0 where
   pub members : List Member
   pub found : IsFound subject members
-  pub is : report work (whole_job subject members []) [] ≡ one_piece text
+  pub is : report board work (whole_job subject members []) [] ≡ one_piece text
 
-module _ {I O D : Type 0} (i : Inputs.Ghosts I) (o : Sink.Ghosts O) (d : Device.Ghosts D) (ws : List (List ℕ)) (old mid new : I) (sink sink' : O) (dev dev' : D) (result : Exit) where
+module _ {I O D : Type 0} (i : Inputs.Ghosts I) (o : Sink.Ghosts O) (d : Device.Ghosts D) (ws : List (List ℕ)) (board is : Standing) (old mid new : I) (sink sink' : O) (dev dev' : D) (result : Exit) where
   -- a work that writes one piece and does nothing else
-  only_ran : (f : Form) (subject : Subject) (Holds : List ℕ → Type 0) → ((text : List ℕ) → Holds text → IsTextOf f.work subject text) → f.script ≡ None → drives f.work ≡ Never → (f.source ≡ source.Number → ⊥) → ReadsSubject i.observable f ws (i.state old) (i.state mid) (Ok subject) → OnlyWrites i o d Holds (world mid sink dev) (world new sink' dev') result → RanForm i o d (Some f) ws (world old sink dev) (world new sink' dev') result
+  only_ran : (f : Form) (subject : Subject) (Holds : List ℕ → Type 0) → ((text : List ℕ) → Holds text → IsTextOf board f.work subject text) → f.script ≡ None → drives f.work ≡ Never → (f.source ≡ source.Number → ⊥) → ReadsSubject i.observable f ws (i.state old) (i.state mid) (Ok subject) → OnlyWrites i o d Holds board is (world mid sink dev) (world new sink' dev') result → RanForm i o d (Some f) ws board is (world old sink dev) (world new sink' dev') result
   only_ran f subject Holds made none idle named reads did = elim did.writes [
-    | inl memory ↦ refused i o d ws old new sink sink' dev dev' result f Memory (starved i f ws old new) did.device memory
-    | inr one ↦ let text = made one.text one.holds in one_ran i o d ws old new sink sink' dev dev' result f subject text.members [] [] one.text none (subst (λ (end : I). ReadsSubject i.observable f ws (i.state old) (i.state end) (Ok subject)) did.inputs reads) text.found (λ number. absurd (named number)) text.is (λ cut. subst (λ (drive : Drives). TouchesBy d drive f.topology (IsShown i o d f ws (world old sink dev)) (lines_by f.source (word 1 ws)) dev dev' (Ok (whole_job subject text.members [])) [] cut) (sym idle) did.device) one.reports
+    | inl memory ↦ refused i o d ws board is old new sink sink' dev dev' result f Memory (starved i f ws old new) did.device did.still memory
+    | inr one ↦ let text = made one.text one.holds in one_ran i o d ws board is old new sink sink' dev dev' result f subject text.members [] [] one.text none (subst (λ (end : I). ReadsSubject i.observable f ws (i.state old) (i.state end) (Ok subject)) did.inputs reads) text.found (λ number. absurd (named number)) text.is (λ cut. subst (λ (drive : Drives). TouchesBy d drive f.topology board is (IsShown i o d f ws (world old sink dev)) (lines_by f.source (word 1 ws)) dev dev' (Ok (whole_job subject text.members [])) [] cut) (sym idle) (did.device, did.still)) one.reports
   ]
 
   -- a script that can't be begun, and want of memory, come after the device was fitted
@@ -162,24 +163,24 @@ module _ {I O D : Type 0} (i : Inputs.Ghosts I) (o : Sink.Ghosts O) (d : Device.
       may = fitted_alone d (IsShown i o d (form_of Replay named) ws (world old sink dev)) dev dev' named subject.topology start fitted
           (topology_held (form_of Replay named) i.observable ws (i.state old) (i.state mid) subject reads) same
 
-  script_ran : (named : Option ℕ) (subject : Subject) → ReadsSubject i.observable (form_of Replay named) ws (i.state old) (i.state mid) (Ok subject) → IsFound subject [] → Replays i o d named (setup_of subject) (word 2 ws) (world mid sink dev) (world new sink' dev') result → RanForm i o d (Some (form_of Replay named)) ws (world old sink dev) (world new sink' dev') result
-  script_ran named subject reads found (inl starves) = refused i o d ws old new sink sink' dev dev' result (form_of Replay named) Memory (starved i (form_of Replay named) ws old new) starves.device starves.reports
+  script_ran : (named : Option ℕ) (subject : Subject) → ReadsSubject i.observable (form_of Replay named) ws (i.state old) (i.state mid) (Ok subject) → IsFound subject [] → Replays i o d named (setup_of subject) board is (word 2 ws) (world mid sink dev) (world new sink' dev') result → RanForm i o d (Some (form_of Replay named)) ws board is (world old sink dev) (world new sink' dev') result
+  script_ran named subject reads found (inl starves) = refused i o d ws board is old new sink sink' dev dev' result (form_of Replay named) Memory (starved i (form_of Replay named) ws old new) starves.device starves.still starves.reports
   script_ran named subject reads found (inr did) = by did.ran.job did.ran.asked did.ran.left did.ran.ends did.ran.touched
     where
-      by : (job : Result Script Fault) → IsScriptOf i (word 2 ws) mid new result job → Leaves o (pieces (report_of (replay_report (setup_of subject)) job did.ran.answers)) did.ran.cut sink sink' → result ≡ exit_of (report_of (replay_report (setup_of subject)) job did.ran.answers) did.ran.cut → Touched d (setup_of subject) did.start dev' job did.ran.answers did.ran.cut → RanForm i o d (Some (form_of Replay named)) ws (world old sink dev) (world new sink' dev') result
+      by : (job : Result Script Fault) → IsScriptOf i (word 2 ws) mid new result job → Leaves o (pieces (report_of (replay_report (setup_of subject) board) job did.ran.answers)) did.ran.cut sink sink' → result ≡ exit_of (report_of (replay_report (setup_of subject) board) job did.ran.answers) did.ran.cut → Touched d (setup_of subject) board is did.start dev' job did.ran.answers did.ran.cut → RanForm i o d (Some (form_of Replay named)) ws board is (world old sink dev) (world new sink' dev') result
       by (Ok s) asked left ends touched = record { job = job_by subject (alone (Ok s)); answers = did.ran.answers; cut = did.ran.cut; asked = asked_script i (form_of Replay named) ws 2 refl object_is_number old mid new result subject (alone (Ok s)) reads asked found; left = left; ends = ends; touched = record { start = did.start; fitted = did.fitted; touched = touched } }
-      by (Err fault) asked left ends touched = record { job = Err fault; answers = did.ran.answers; cut = did.ran.cut; asked = asked_script i (form_of Replay named) ws 2 refl object_is_number old mid new result subject (alone (Err fault)) reads asked tt; left = left; ends = ends; touched = left_fitted named subject did.start fault reads did.fitted touched asked.known }
+      by (Err fault) asked left ends touched = record { job = Err fault; answers = did.ran.answers; cut = did.ran.cut; asked = asked_script i (form_of Replay named) ws 2 refl object_is_number old mid new result subject (alone (Err fault)) reads asked tt; left = left; ends = ends; touched = (left_fitted named subject did.start fault reads did.fitted touched.0 asked.known, touched.1) }
 
-  compared_ran : (place : Option ℕ) (subject : Subject) (master : NodeId) → subject.master ≡ Some master → ReadsSubject i.observable (form_of Isolate place) ws (i.state old) (i.state mid) (Ok subject) → Compares i o d (setup_of subject) master (word 2 ws) (world mid sink dev) (world new sink' dev') result → RanForm i o d (Some (form_of Isolate place)) ws (world old sink dev) (world new sink' dev') result
+  compared_ran : (place : Option ℕ) (subject : Subject) (master : NodeId) → subject.master ≡ Some master → ReadsSubject i.observable (form_of Isolate place) ws (i.state old) (i.state mid) (Ok subject) → Compares i o d (setup_of subject) master board is (word 2 ws) (world mid sink dev) (world new sink' dev') result → RanForm i o d (Some (form_of Isolate place)) ws board is (world old sink dev) (world new sink' dev') result
   compared_ran place subject master named reads did = by did.ran.job did.ran.asked did.ran.left did.ran.ends
     where
-      by : (job : Result Comparison Fault) → IsComparisonOf i (setup_of subject) master (word 2 ws) mid new result job → Leaves o (pieces (report_of (comparison_report (setup_of subject) master) job did.ran.answers)) did.ran.cut sink sink' → result ≡ exit_of (report_of (comparison_report (setup_of subject) master) job did.ran.answers) did.ran.cut → RanForm i o d (Some (form_of Isolate place)) ws (world old sink dev) (world new sink' dev') result
+      by : (job : Result Comparison Fault) → IsComparisonOf i (setup_of subject) master (word 2 ws) mid new result job → Leaves o (pieces (report_of (comparison_report (setup_of subject) master) job did.ran.answers)) did.ran.cut sink sink' → result ≡ exit_of (report_of (comparison_report (setup_of subject) master) job did.ran.answers) did.ran.cut → RanForm i o d (Some (form_of Isolate place)) ws board is (world old sink dev) (world new sink' dev') result
       by (Ok found) asked left ends =
           let P : Option NodeId → Type 0 = λ named. Leaves o (pieces (comparison_report (setup_of subject) (unwrap_or named (record { 0 = 0 })) found did.ran.answers)) did.ran.cut sink sink' in
           let Q : Option NodeId → Type 0 = λ named. result ≡ exit_of (comparison_report (setup_of subject) (unwrap_or named (record { 0 = 0 })) found did.ran.answers) did.ran.cut in
-          let reach : IsFound subject found.members = subst (λ (named : Option NodeId). IfSome named (λ master. IsReach subject.object subject.topology master found.members)) (sym named) asked.reach in
-          record { job = job_by subject (Ok found); answers = did.ran.answers; cut = did.ran.cut; asked = asked_script i (form_of Isolate place) ws 2 refl object_is_number old mid new result subject (Ok found) reads asked.script reach; left = subst P (sym named) left; ends = subst Q (sym named) ends; touched = did.device }
-      by (Err fault) asked left ends = record { job = Err fault; answers = did.ran.answers; cut = did.ran.cut; asked = asked_script i (form_of Isolate place) ws 2 refl object_is_number old mid new result subject (Err fault) reads asked.script tt; left = left; ends = ends; touched = did.device }
+          let reach : IsFound subject found.members = subst (λ (named : Option NodeId). IfSome named (λ master. IsReach (subject.object ∷ []) subject.topology master found.members)) (sym named) asked.reach in
+          record { job = job_by subject (Ok found); answers = did.ran.answers; cut = did.ran.cut; asked = asked_script i (form_of Isolate place) ws 2 refl object_is_number old mid new result subject (Ok found) reads asked.script reach; left = subst P (sym named) left; ends = subst Q (sym named) ends; touched = (did.device, did.still) }
+      by (Err fault) asked left ends = record { job = Err fault; answers = did.ran.answers; cut = did.ran.cut; asked = asked_script i (form_of Isolate place) ws 2 refl object_is_number old mid new result subject (Err fault) reads asked.script tt; left = left; ends = ends; touched = (did.device, did.still) }
 
   -- what was made of a number of lines
   record IsOfLines (subject : Subject) : Type 0 where
@@ -191,42 +192,42 @@ module _ {I O D : Type 0} (i : Inputs.Ghosts I) (o : Sink.Ghosts O) (d : Device.
   of_lines subject reads = record { object = reads.says; topology = is_chip (form_of Make None) i.observable ws (i.state old) (i.state mid) subject reads; lines = (was_read (form_of Make None) ws reads.prefix reads.topology subject reads.is).lines }
 
   -- a script that is made was run before its summary was written, or memory is wanted
-  made_ran : (subject : Subject) → ReadsSubject i.observable (form_of Make None) ws (i.state old) (i.state mid) (Ok subject) → Makes o d (setup_of subject) subject.lines sink sink' dev dev' result → mid ≡ new → RanForm i o d (Some (form_of Make None)) ws (world old sink dev) (world new sink' dev') result
+  made_ran : (subject : Subject) → ReadsSubject i.observable (form_of Make None) ws (i.state old) (i.state mid) (Ok subject) → Makes o d (setup_of subject) board is subject.lines sink sink' dev dev' result → mid ≡ new → RanForm i o d (Some (form_of Make None)) ws board is (world old sink dev) (world new sink' dev') result
   made_ran subject reads did same = elim did [
     | inl starves ↦ late starves
     | inr wrote ↦
-        one_ran i o d ws old new sink sink' dev dev' result (form_of Make None) subject [] wrote.made.events wrote.made.answers wrote.text refl
+        one_ran i o d ws board is old new sink sink' dev dev' result (form_of Make None) subject [] wrote.made.events wrote.made.answers wrote.text refl
         (subst (λ (end : I). ReadsSubject i.observable (form_of Make None) ws (i.state old) (i.state end) (Ok subject)) same reads)
-        (unnamed (λ master. IsReach subject.object subject.topology master []) subject.master (was_read (form_of Make None) ws reads.prefix reads.topology subject reads.is).named)
-        (λ number. wrote.made.means) (ap one_piece (sym wrote.made.is)) (λ cut. wrote.made.drove) wrote.reports
+        (unnamed (λ master. IsReach (subject.object ∷ []) subject.topology master []) subject.master (was_read (form_of Make None) ws reads.prefix reads.topology subject reads.is).named)
+        (λ number. wrote.made.means) (ap one_piece (sym wrote.made.said)) (λ cut. (wrote.made.drove, wrote.made.tasks_left)) wrote.reports
   ]
     where
-      late : Starves o d (setup_of subject) subject.lines sink sink' dev dev' result → RanForm i o d (Some (form_of Make None)) ws (world old sink dev) (world new sink' dev') result
+      late : Starves o d (setup_of subject) board is subject.lines sink sink' dev dev' result → RanForm i o d (Some (form_of Make None)) ws board is (world old sink dev) (world new sink' dev') result
       late starves = record {
         job = Err Memory;
         answers = [];
         cut = starves.reports.cut;
-        asked = by_exit i o (form_of Make None) ws old new sink sink' result (Err Memory) [] starves.reports.cut (starved i (form_of Make None) ws old new) starves.reports.left starves.reports.ends;
+        asked = by_exit i o board (form_of Make None) ws old new sink sink' result (Err Memory) [] starves.reports.cut (starved i (form_of Make None) ws old new) starves.reports.left starves.reports.ends;
         left = starves.reports.left;
         ends = starves.reports.ends;
         touched = elim starves.device [
           | inl idle ↦ inl idle
           | inr driven ↦ inr (
             refl,
-            subst (λ (n : ℕ). WasDriven d (setup laboratory chip) n dev dev') (of_lines subject reads).lines
-                (subst (λ (topology : Topology). WasDriven d (setup laboratory topology) subject.lines dev dev') (of_lines subject reads).topology
-                (subst (λ (object : Object). WasDriven d (setup object subject.topology) subject.lines dev dev') (of_lines subject reads).object driven)),
+            subst (λ (n : ℕ). WasDriven d (setup laboratory chip) board is n dev dev') (of_lines subject reads).lines
+                (subst (λ (topology : Topology). WasDriven d (setup laboratory topology) board is subject.lines dev dev') (of_lines subject reads).topology
+                (subst (λ (object : Object). WasDriven d (setup object subject.topology) board is subject.lines dev dev') (of_lines subject reads).object driven)),
           )
         ];
       }
 
   -- a form without a master has no reach
   none_found : (f : Form) (subject : Subject) → is_some f.node ≡ false → ReadsSubject i.observable f ws (i.state old) (i.state mid) (Ok subject) → IsFound subject []
-  none_found f subject none reads = unnamed (λ master. IsReach subject.object subject.topology master []) subject.master ((was_read f ws reads.prefix reads.topology subject reads.is).named ∙ none)
+  none_found f subject none reads = unnamed (λ master. IsReach (subject.object ∷ []) subject.topology master []) subject.master ((was_read f ws reads.prefix reads.topology subject reads.is).named ∙ none)
 
-  pub worked_ran : (work : Work) (named : Option ℕ) (subject : Subject) → ReadsSubject i.observable (form_of work named) ws (i.state old) (i.state mid) (Ok subject) → Worked i o d work named subject (script_word (form_of work named).script ws) (world mid sink dev) (world new sink' dev') result → RanForm i o d (Some (form_of work named)) ws (world old sink dev) (world new sink' dev') result
+  pub worked_ran : (work : Work) (named : Option ℕ) (subject : Subject) → ReadsSubject i.observable (form_of work named) ws (i.state old) (i.state mid) (Ok subject) → Worked i o d work named subject board is (script_word (form_of work named).script ws) (world mid sink dev) (world new sink' dev') result → RanForm i o d (Some (form_of work named)) ws board is (world old sink dev) (world new sink' dev') result
   worked_ran Replay named subject reads did = script_ran named subject reads (none_found (form_of Replay named) subject refl reads) did
-  worked_ran Reach named subject reads did = only_ran (form_of Reach named) subject (IsReachText subject.object subject.topology did.0) (λ text made. record { members = made.members; found = subst (λ (named : Option NodeId). IfSome named (λ master. IsReach subject.object subject.topology master made.members)) (sym did.1) made.reach; is = ap one_piece (sym made.is) }) refl refl object_is_number reads did.2
+  worked_ran Reach named subject reads did = only_ran (form_of Reach named) subject (IsReachText subject.object subject.topology did.0) (λ text made. record { members = made.members; found = subst (λ (named : Option NodeId). IfSome named (λ master. IsReach (subject.object ∷ []) subject.topology master made.members)) (sym did.1) made.reach; is = ap one_piece (sym made.is) }) refl refl object_is_number reads did.2
   worked_ran Isolate named subject reads did = compared_ran named subject did.0 did.1 reads did.2
   worked_ran Print named subject reads did = only_ran (form_of Print named) subject (λ text. text ≡ text_of subject.object) (λ text made. record { members = []; found = none_found (form_of Print named) subject refl reads; is = ap one_piece (sym made) }) refl refl object_is_number reads did
   worked_ran Build named subject reads did = only_ran (form_of Build named) subject (λ bytes. Reads bytes subject.object) (λ bytes made. record { members = []; found = none_found (form_of Build named) subject refl reads; is = ap one_piece (sym made.spelling) }) refl refl text_is_number reads did
@@ -235,7 +236,7 @@ module _ {I O D : Type 0} (i : Inputs.Ghosts I) (o : Sink.Ghosts O) (d : Device.
 
 -- ---- what Done means
 
-module _ {I O D : Type 0} (i : Inputs.Ghosts I) (o : Sink.Ghosts O) (d : Device.Ghosts D) (ws : List (List ℕ)) (old mid new : I) (sink sink' : O) (dev dev' : D) (result : Exit) (seen : i.observable) (written : o.observable) (is : result ≡ exit.Done) where
+module _ {I O D : Type 0} (i : Inputs.Ghosts I) (o : Sink.Ghosts O) (d : Device.Ghosts D) (ws : List (List ℕ)) (board is : Standing) (old mid new : I) (sink sink' : O) (dev dev' : D) (result : Exit) (seen : i.observable) (written : o.observable) (done : result ≡ exit.Done) where
   -- what was read was held whole
   held_object : (p : Prefix) (between : Moment) (object : Object) → Takes source.Object i.observable (word 1 ws) (i.state old) between p → object_by source.Object p ≡ Ok object → Holds (i.state old) (word 1 ws) p.bytes
   held_object p between object took is = prefix_whole object_limit ((i.state old).file (word 1 ws)) (i.state old).room p (took.is seen) (object_end p object took.size is)
@@ -249,11 +250,12 @@ module _ {I O D : Type 0} (i : Inputs.Ghosts I) (o : Sink.Ghosts O) (d : Device.
     pub made : Made text
     pub appended : (o.state sink').bytes ≡ (o.state sink).bytes ++ text
     pub device : dev ≡ dev'
+    pub still : board ≡ is
 
-  written_text : (Made : List ℕ → Type 0) → OnlyWrites i o d Made (world mid sink dev) (world new sink' dev') result → IsText Made
+  written_text : (Made : List ℕ → Type 0) → OnlyWrites i o d Made board is (world mid sink dev) (world new sink' dev') result → IsText Made
   written_text Made did = elim did.writes [
-    | inl memory ↦ let clash : exit.Done ≡ exit.Memory = sym is ∙ memory.ends ∙ refused_exit Memory memory.cut in absurd (done_is_memory clash)
-    | inr one ↦ record { text = one.text; made = one.holds; appended = (wrote_one o one.text sink sink' result one.reports is).appended written; device = did.device }
+    | inl memory ↦ let clash : exit.Done ≡ exit.Memory = sym done ∙ memory.ends ∙ refused_exit Memory memory.cut in absurd (done_is_memory clash)
+    | inr one ↦ record { text = one.text; made = one.holds; appended = (wrote_one o one.text sink sink' result one.reports done).appended written; device = did.device; still = did.still }
   ]
     where
       done_is_memory : exit.Done ≡ exit.Memory → ⊥
@@ -270,45 +272,46 @@ module _ {I O D : Type 0} (i : Inputs.Ghosts I) (o : Sink.Ghosts O) (d : Device.
   asked_lines None object is = absurd (err_is_ok is)
   asked_lines (Some n) object is = refl
 
-  made_done : (subject : Subject) → ReadsSubject i.observable (form_of Make None) ws (i.state old) (i.state mid) (Ok subject) → Makes o d (setup_of subject) subject.lines sink sink' dev dev' result → WorkDone i o d Make None ws (world old sink dev) (world new sink' dev')
+  made_done : (subject : Subject) → ReadsSubject i.observable (form_of Make None) ws (i.state old) (i.state mid) (Ok subject) → Makes o d (setup_of subject) board is subject.lines sink sink' dev dev' result → WorkDone i o d Make None ws board is (world old sink dev) (world new sink' dev')
   made_done subject reads did = elim did [
-    | inl starves ↦ let clash : exit.Done ≡ exit.Memory = sym is ∙ starves.reports.ends ∙ refused_exit Memory starves.reports.cut in absurd (done_is_memory clash)
+    | inl starves ↦ let clash : exit.Done ≡ exit.Memory = sym done ∙ starves.reports.ends ∙ refused_exit Memory starves.reports.cut in absurd (done_is_memory clash)
     | inr wrote ↦ whole wrote
   ]
     where
       done_is_memory : exit.Done ≡ exit.Memory → ⊥
       done_is_memory e = cc
 
-      whole : Summarizes o d (setup_of subject) subject.lines sink sink' dev dev' result → WorkDone i o d Make None ws (world old sink dev) (world new sink' dev')
+      whole : Summarizes o d (setup_of subject) board is subject.lines sink sink' dev dev' result → WorkDone i o d Make None ws board is (world old sink dev) (world new sink' dev')
       whole wrote =
           let known = was_read (form_of Make None) ws reads.prefix reads.topology subject reads.is in
           let lines : lines_asked (word 1 ws) ≡ Some (unwrap_or (lines_asked (word 1 ws)) 0) = subst (λ (p : Prefix). lines_asked p.bytes ≡ Some (unwrap_or (lines_asked p.bytes) 0)) reads.read.0 (asked_lines (lines_asked reads.prefix.bytes) subject.object known.object) in
-          let text : IsSummary d (setup laboratory chip) (unwrap_or (lines_asked (word 1 ws)) 0) dev dev' wrote.text = subst (λ (n : ℕ). IsSummary d (setup laboratory chip) n dev dev' wrote.text) known.lines
-          (subst (λ (topology : Topology). IsSummary d (setup laboratory topology) subject.lines dev dev' wrote.text) (is_chip (form_of Make None) i.observable ws (i.state old) (i.state mid) subject reads)
-          (subst (λ (object : Object). IsSummary d (setup object subject.topology) subject.lines dev dev' wrote.text) reads.says wrote.made)) in
+          let text : IsSummary d (setup laboratory chip) board is (unwrap_or (lines_asked (word 1 ws)) 0) dev dev' wrote.text = subst (λ (n : ℕ). IsSummary d (setup laboratory chip) board is n dev dev' wrote.text) known.lines
+          (subst (λ (topology : Topology). IsSummary d (setup laboratory topology) board is subject.lines dev dev' wrote.text) (is_chip (form_of Make None) i.observable ws (i.state old) (i.state mid) subject reads)
+          (subst (λ (object : Object). IsSummary d (setup object subject.topology) board is subject.lines dev dev' wrote.text) reads.says wrote.made)) in
           record {
             n = unwrap_or (lines_asked (word 1 ws)) 0;
             events = text.events;
             answers = text.answers;
             asked = lines;
             means = text.means;
-            text = after wrote.text (summary (unwrap_or (lines_asked (word 1 ws)) 0) (run_text (setup laboratory chip) text.answers text.events)) text.is ((wrote_one o wrote.text sink sink' result wrote.reports is).appended written);
+            text = after wrote.text (summary (unwrap_or (lines_asked (word 1 ws)) 0) (run_text (setup laboratory chip) board text.answers text.events)) text.said ((wrote_one o wrote.text sink sink' result wrote.reports done).appended written);
             drove = text.drove;
+            tasks_left = text.tasks_left;
           }
 
-  pub worked_done : (work : Work) (named : Option ℕ) (subject : Subject) → ReadsSubject i.observable (form_of work named) ws (i.state old) (i.state mid) (Ok subject) → Worked i o d work named subject (script_word (form_of work named).script ws) (world mid sink dev) (world new sink' dev') result → WorkDone i o d work named ws (world old sink dev) (world new sink' dev')
+  pub worked_done : (work : Work) (named : Option ℕ) (subject : Subject) → ReadsSubject i.observable (form_of work named) ws (i.state old) (i.state mid) (Ok subject) → Worked i o d work named subject board is (script_word (form_of work named).script ws) (world mid sink dev) (world new sink' dev') result → WorkDone i o d work named ws board is (world old sink dev) (world new sink' dev')
   worked_done Replay named subject reads did = elim did [
-    | inl starves ↦ let clash : exit.Done ≡ exit.Memory = sym is ∙ starves.reports.ends ∙ refused_exit Memory starves.reports.cut in absurd (done_is_memory clash)
+    | inl starves ↦ let clash : exit.Done ≡ exit.Memory = sym done ∙ starves.reports.ends ∙ refused_exit Memory starves.reports.cut in absurd (done_is_memory clash)
     | inr fits ↦ ran fits
   ]
     where
       done_is_memory : exit.Done ≡ exit.Memory → ⊥
       done_is_memory e = cc
 
-      ran : ReplaysFitted i o d named (setup_of subject) (word 2 ws) (world mid sink dev) (world new sink' dev') result → IsReplayed i o d named ws (world old sink dev) (world new sink' dev')
+      ran : ReplaysFitted i o d named (setup_of subject) board is (word 2 ws) (world mid sink dev) (world new sink' dev') result → IsReplayed i o d named ws board is (world old sink dev) (world new sink' dev')
       ran fits =
           let f : Form = form_of Replay named in
-          let run = fits.done seen written is in
+          let run = fits.done seen written done in
           record {
             object_bytes = reads.prefix.bytes;
             script_bytes = run.script_bytes;
@@ -325,6 +328,7 @@ module _ {I O D : Type 0} (i : Inputs.Ghosts I) (o : Sink.Ghosts O) (d : Device.
             text = run.text;
             fitted = fits.fitted;
             drove = run.drove;
+            tasks_left = run.tasks_left;
           }
   worked_done Reach named subject reads did =
       let f : Form = form_of Reach named in
@@ -342,11 +346,11 @@ module _ {I O D : Type 0} (i : Inputs.Ghosts I) (o : Sink.Ghosts O) (d : Device.
           reach = wrote.made.reach;
           text = after wrote.text (reach_text wrote.made.members) wrote.made.is wrote.appended;
         },
-        wrote.device,
+        (wrote.device, wrote.still),
       )
   worked_done Isolate named subject reads did =
       let f : Form = form_of Isolate named in
-      let run = did.2.done seen written is in (
+      let run = did.2.done seen written done in (
         record {
           object_bytes = reads.prefix.bytes;
           script_bytes = run.script_bytes;
@@ -365,14 +369,14 @@ module _ {I O D : Type 0} (i : Inputs.Ghosts I) (o : Sink.Ghosts O) (d : Device.
           text = run.text;
           listed = run.listed;
         },
-        did.2.device,
+        (did.2.device, did.2.still),
       )
   worked_done Print named subject reads did =
       let wrote = written_text (λ text. text ≡ text_of subject.object) did in
-      (record { bytes = reads.prefix.bytes; object = subject.object; held = held_object reads.prefix reads.between subject.object reads.read (was_read (form_of Print named) ws reads.prefix reads.topology subject reads.is).object; reads = reads.says; text = after wrote.text (text_of subject.object) wrote.made wrote.appended }, wrote.device)
+      (record { bytes = reads.prefix.bytes; object = subject.object; held = held_object reads.prefix reads.between subject.object reads.read (was_read (form_of Print named) ws reads.prefix reads.topology subject reads.is).object; reads = reads.says; text = after wrote.text (text_of subject.object) wrote.made wrote.appended }, (wrote.device, wrote.still))
   worked_done Build named subject reads did =
       let wrote = written_text (λ bytes. Reads bytes subject.object) did in
-      (record { bytes = reads.prefix.bytes; object = subject.object; held = held_text reads.prefix reads.between subject.object reads.read reads.says (was_read (form_of Build named) ws reads.prefix reads.topology subject reads.is).object; says = reads.says; text = after wrote.text (little_endian (words_of subject.object)) wrote.made.spelling wrote.appended; reads = subst (λ (bytes : List ℕ). Reads bytes subject.object) wrote.made.spelling wrote.made }, wrote.device)
+      (record { bytes = reads.prefix.bytes; object = subject.object; held = held_text reads.prefix reads.between subject.object reads.read reads.says (was_read (form_of Build named) ws reads.prefix reads.topology subject reads.is).object; says = reads.says; text = after wrote.text (little_endian (words_of subject.object)) wrote.made.spelling wrote.appended; reads = subst (λ (bytes : List ℕ). Reads bytes subject.object) wrote.made.spelling wrote.made }, (wrote.device, wrote.still))
   worked_done Make named subject reads did = made_done subject reads did.0
   worked_done Table named subject reads did =
       let wrote = written_text (IsTopologyText subject.topology) did in
@@ -382,5 +386,5 @@ module _ {I O D : Type 0} (i : Inputs.Ghosts I) (o : Sink.Ghosts O) (d : Device.
           text = after wrote.text (table_of chip) same wrote.appended;
           means = sym (ap meaning same) ∙ wrote.made.means ∙ ap (λ (t : Topology). Ok t) chips;
         },
-        wrote.device,
+        (wrote.device, wrote.still),
       )

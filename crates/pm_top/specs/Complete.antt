@@ -13,6 +13,7 @@ use Rattle.pm_object.specs.declared.object.Object.{Object}
 use Rattle.pm_object.specs.Grammar.{Reads}
 use Rattle.pm_objtext.specs.Meaning.{Means}
 use Rattle.pm_topology.specs.declared.topology.Topology.{Topology}
+use Rattle.pm_board.specs.Board.{Standing}
 use Rattle.pm_device.specs.declared.device.Device as Device
 use Rattle.pm_gen.specs.Laboratory.{laboratory}
 use Rattle.pm_script.specs.Named.{IsScript}
@@ -77,8 +78,8 @@ IsRight ws m = FormIsRight (form ws) ws m
 module _ {I O D : Type 0} (i : Inputs.Ghosts I) (o : Sink.Ghosts O) (d : Device.Ghosts D) where
   -- What the words ask for is right, the inputs show no cause of a fault, and the sink doesn't fail: then the exit is Done and
   -- all was done, or memory is wanted. Over inputs that show nothing there is no fault of reading unless their count rose
-  pub record IsComplete (ws : List (List ℕ)) (w w' : World I O D) (result : Exit) : Type 0 where
+  pub record IsComplete (ws : List (List ℕ)) (board is : Standing) (w w' : World I O D) (result : Exit) : Type 0 where
     pub done : i.observable → IsRight ws (i.state w.inputs) → (InputsMayFail ws (i.state w.inputs) → ⊥)
         → (HasFailed (o.state w.sink) (o.state w'.sink) → ⊥)
-        → ((result ≡ exit.Done) × (o.observable → IsDone i o d ws w w')) ⊎ (result ≡ exit.Memory)
+        → ((result ≡ exit.Done) × (o.observable → IsDone i o d ws board is w w')) ⊎ (result ≡ exit.Memory)
     pub read : (Rose (i.state w.inputs).faults (i.state w'.inputs).faults → ⊥) → result ≢ exit.ReadFault

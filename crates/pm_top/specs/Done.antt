@@ -20,6 +20,8 @@ use Rattle.pm_device.specs.declared.device.Device as Device
 use Rattle.pm_script.specs.Named.{IsScript}
 use Rattle.pm_drive.specs.Drive.{driven}
 use Rattle.pm_drive.specs.Drove.{Drove}
+use Rattle.pm_board.specs.Board.{Standing}
+use Rattle.pm_drive.specs.Heard.{last_board}
 use Rattle.pm_drive.specs.Text.{run_text}
 use Rattle.pm_gen.specs.Laboratory.{laboratory}
 use Rattle.pm_gen.specs.Script.{made}
@@ -59,22 +61,22 @@ no_master = record { 0 = 0 }
 abbrev pub setup_of : Subject → Setup
 setup_of subject = setup subject.object subject.topology
 
--- the pieces that a work writes of its job, under the device's answers
-abbrev pub body_of : Work → Job → List (List Bool) → List (List ℕ)
-body_of Replay job answers = (replay_report (setup_of job.asked.subject) job.asked.script answers).body
-body_of Reach job answers = reach_text job.members ∷ []
-body_of Isolate job answers =
+-- the pieces that a work writes of its job, where there is a board, under the device's answers
+abbrev pub body_of : Standing → Work → Job → List (List Bool) → List (List ℕ)
+body_of board Replay job answers = (replay_report (setup_of job.asked.subject) board job.asked.script answers).body
+body_of board Reach job answers = reach_text job.members ∷ []
+body_of board Isolate job answers =
     (isolate_report (setup_of job.asked.subject) (unwrap_or job.asked.subject.master no_master) job.members job.asked.script).body
-body_of Print job answers = text_of job.asked.subject.object ∷ []
-body_of Build job answers = little_endian (words_of job.asked.subject.object) ∷ []
-body_of Make job answers =
-    summary job.asked.subject.lines (run_text (setup_of job.asked.subject) answers job.events) ∷ []
-body_of Table job answers = table_of job.asked.subject.topology ∷ []
+body_of board Print job answers = text_of job.asked.subject.object ∷ []
+body_of board Build job answers = little_endian (words_of job.asked.subject.object) ∷ []
+body_of board Make job answers =
+    summary job.asked.subject.lines (run_text (setup_of job.asked.subject) board answers job.events) ∷ []
+body_of board Table job answers = table_of job.asked.subject.topology ∷ []
 
 -- and then the fault at which its script stops, if it does
-abbrev pub report : Work → Job → List (List Bool) → Report
-report work job answers = record {
-  body = body_of work job answers;
+abbrev pub report : Standing → Work → Job → List (List Bool) → Report
+report board work job answers = record {
+  body = body_of board work job answers;
   fault = fault_at (1 + length job.asked.script.events) job.asked.script.stop;
 }
 
@@ -93,7 +95,7 @@ module _ {I O : Type 0} (i : Inputs.Ghosts I) (o : Sink.Ghosts O) where
     pub topology_held : HoldsTopology named ws (i.state inputs) topology
     pub reads : Reads bytes object
     pub master_named : master_of object (word 2 ws) ≡ Some master
-    pub reach : IsReach object topology master members
+    pub reach : IsReach (object ∷ []) topology master members
     pub text : (o.state new).bytes ≡ (o.state old).bytes ++ reach_text members
 
   -- an object and a script were held under the first two names, the third one names a master of the object, and what was
@@ -114,7 +116,7 @@ module _ {I O : Type 0} (i : Inputs.Ghosts I) (o : Sink.Ghosts O) where
     pub reads : Reads object_bytes object
     pub means : IsScript script_bytes events
     pub master_named : master_of object (word 3 ws) ≡ Some master
-    pub reach : IsReach object topology master members
+    pub reach : IsReach (object ∷ []) topology master members
     pub text : (o.state new).bytes ≡ (o.state old).bytes ++ isolate_text (setup object topology) master members events
     pub listed : AreListed (setup object topology) master members events
 
@@ -143,78 +145,82 @@ module _ {O : Type 0} (o : Sink.Ghosts O) where
 
 module _ {O D : Type 0} (o : Sink.Ghosts O) (d : Device.Ghosts D) where
   -- the word is a number of lines, and the summary was written of the run of the script of so many lines over the laboratory's
-  -- object, through which the device was driven
-  pub record IsMade (ws : List (List ℕ)) (sink sink' : O) (device device' : D) : Type 0 where
+  -- object, through which the device was driven. The tasks are left as that run leaves them
+  pub record IsMade (ws : List (List ℕ)) (board is : Standing) (sink sink' : O) (device device' : D) : Type 0 where
     pub n : ℕ
     pub events : List Event
     pub answers : List (List Bool)
     pub asked : lines_asked (word 1 ws) ≡ Some n
     pub means : IsScript (made n) events
-    pub text : (o.state sink').bytes ≡ (o.state sink).bytes ++ summary n (run_text (setup laboratory chip) answers events)
+    pub text : (o.state sink').bytes ≡ (o.state sink).bytes ++ summary n (run_text (setup laboratory chip) board answers events)
     pub drove : Drove d (setup laboratory chip) (driven (setup laboratory chip) answers events) device device'
+    pub tasks_left : is ≡ last_board board (driven (setup laboratory chip) answers events)
 
 module _ {I O D : Type 0} (i : Inputs.Ghosts I) (o : Sink.Ghosts O) (d : Device.Ghosts D) where
-  -- what a work asks for was done. A replay and a run that is made drive the device, and nothing else touches it
-  abbrev pub WorkDone : Work → Option ℕ → List (List ℕ) → World I O D → World I O D → Type 0
-  WorkDone Replay named ws w w' = IsReplayed i o d named ws w w'
-  WorkDone Reach named ws w w' = IsReached i o named ws w.inputs w.sink w'.sink × (w.device ≡ w'.device)
-  WorkDone Isolate named ws w w' = IsIsolated i o named ws w.inputs w.sink w'.sink × (w.device ≡ w'.device)
-  WorkDone Print named ws w w' = IsPrinted i o ws w.inputs w.sink w'.sink × (w.device ≡ w'.device)
-  WorkDone Build named ws w w' = IsBuilt i o ws w.inputs w.sink w'.sink × (w.device ≡ w'.device)
-  WorkDone Make named ws w w' = IsMade o d ws w.sink w'.sink w.device w'.device
-  WorkDone Table named ws w w' = IsTabled o w.sink w'.sink × (w.device ≡ w'.device)
+  -- what a work asks for was done. A replay and a run that is made drive the device and call tasks, and nothing else touches them
+  abbrev pub WorkDone : Work → Option ℕ → List (List ℕ) → Standing → Standing → World I O D → World I O D → Type 0
+  WorkDone Replay named ws board is w w' = IsReplayed i o d named ws board is w w'
+  WorkDone Reach named ws board is w w' = IsReached i o named ws w.inputs w.sink w'.sink × ((w.device ≡ w'.device) × (board ≡ is))
+  WorkDone Isolate named ws board is w w' = IsIsolated i o named ws w.inputs w.sink w'.sink × ((w.device ≡ w'.device) × (board ≡ is))
+  WorkDone Print named ws board is w w' = IsPrinted i o ws w.inputs w.sink w'.sink × ((w.device ≡ w'.device) × (board ≡ is))
+  WorkDone Build named ws board is w w' = IsBuilt i o ws w.inputs w.sink w'.sink × ((w.device ≡ w'.device) × (board ≡ is))
+  WorkDone Make named ws board is w w' = IsMade o d ws board is w.sink w'.sink w.device w'.device
+  WorkDone Table named ws board is w w' = IsTabled o w.sink w'.sink × ((w.device ≡ w'.device) × (board ≡ is))
 
   -- words that ask for nothing are never done
-  abbrev pub DoneIf : Option Request → List (List ℕ) → World I O D → World I O D → Type 0
-  DoneIf None ws w w' = ⊥
-  DoneIf (Some request) ws w w' = WorkDone request.work request.topology ws w w'
+  abbrev pub DoneIf : Option Request → List (List ℕ) → Standing → Standing → World I O D → World I O D → Type 0
+  DoneIf None ws board is w w' = ⊥
+  DoneIf (Some request) ws board is w w' = WorkDone request.work request.topology ws board is w w'
 
   -- the whole text of what the words ask for was written
-  abbrev pub IsDone : List (List ℕ) → World I O D → World I O D → Type 0
-  IsDone ws w w' = DoneIf (request_of ws) ws w w'
+  abbrev pub IsDone : List (List ℕ) → Standing → Standing → World I O D → World I O D → Type 0
+  IsDone ws board is w w' = DoneIf (request_of ws) ws board is w w'
 
   -- ---- what a work does to its subject, with the script of a name
 
   -- a text of which this holds was written, or memory is wanted; nothing else was done
-  pub record OnlyWrites (Made : List ℕ → Type 0) (w w' : World I O D) (exit : Exit) : Type 0 where
+  pub record OnlyWrites (Made : List ℕ → Type 0) (board is : Standing) (w w' : World I O D) (exit : Exit) : Type 0 where
     pub writes : Writes o Made w.sink w'.sink exit
     pub inputs : w.inputs ≡ w'.inputs
     pub device : w.device ≡ w'.device
+    pub still : board ≡ is
 
-  -- two runs were compared, without the device
-  pub record Compares (c : Setup) (master : NodeId) (name : List ℕ) (w w' : World I O D) (exit : Exit) : Type 0 where
+  -- two runs were compared, without the device and the tasks
+  pub record Compares (c : Setup) (master : NodeId) (board is : Standing) (name : List ℕ) (w w' : World I O D) (exit : Exit) : Type 0 where
     pub ran : Compared i o c master name w.inputs w'.inputs w.sink w'.sink exit
     pub done : i.observable → o.observable → exit ≡ Done → IsCompared i o c master name w.inputs w.sink w'.sink
     pub device : w.device ≡ w'.device
+    pub still : board ≡ is
 
   -- memory was wanted before anything was done
-  pub record Starved (w w' : World I O D) (exit : Exit) : Type 0 where
+  pub record Starved (board is : Standing) (w w' : World I O D) (exit : Exit) : Type 0 where
     pub reports : Reports o (refusal Memory) w.sink w'.sink exit
     pub inputs : w.inputs ≡ w'.inputs
     pub device : w.device ≡ w'.device
+    pub still : board ≡ is
 
   -- a device was fitted if a word names a topology, and then a script was run
-  pub record ReplaysFitted (named : Option ℕ) (c : Setup) (name : List ℕ) (w w' : World I O D) (exit : Exit) : Type 0 where
+  pub record ReplaysFitted (named : Option ℕ) (c : Setup) (board is : Standing) (name : List ℕ) (w w' : World I O D) (exit : Exit) : Type 0 where
     pub start : D
     pub fitted : IsFitted d named c.topology w.device start
-    pub ran : Replayed i o d c name (world w.inputs w.sink start) w' exit
-    pub done : i.observable → o.observable → exit ≡ Done → IsRun i o d c name (world w.inputs w.sink start) w'
+    pub ran : Replayed i o d c board is name (world w.inputs w.sink start) w' exit
+    pub done : i.observable → o.observable → exit ≡ Done → IsRun i o d c board is name (world w.inputs w.sink start) w'
 
   -- the same, or memory was wanted for the fit
-  abbrev pub Replays : Option ℕ → Setup → List ℕ → World I O D → World I O D → Exit → Type 0
-  Replays named c name w w' exit = Starved w w' exit ⊎ ReplaysFitted named c name w w' exit
+  abbrev pub Replays : Option ℕ → Setup → Standing → Standing → List ℕ → World I O D → World I O D → Exit → Type 0
+  Replays named c board is name w w' exit = Starved board is w w' exit ⊎ ReplaysFitted named c board is name w w' exit
 
   -- what is done for the master of a subject
   abbrev pub ForMaster : Subject → (NodeId → Type 0) → Type 0
   ForMaster subject Does = (master : NodeId) × (subject.master ≡ Some master) × Does master
 
-  abbrev pub Worked : Work → Option ℕ → Subject → List ℕ → World I O D → World I O D → Exit → Type 0
-  Worked Replay named subject name w w' exit = Replays named (setup_of subject) name w w' exit
-  Worked Reach named subject name w w' exit =
-      ForMaster subject (λ master. OnlyWrites (IsReachText subject.object subject.topology master) w w' exit)
-  Worked Isolate named subject name w w' exit = ForMaster subject (λ master. Compares (setup_of subject) master name w w' exit)
-  Worked Print named subject name w w' exit = OnlyWrites (λ text. text ≡ text_of subject.object) w w' exit
-  Worked Build named subject name w w' exit = OnlyWrites (λ bytes. Reads bytes subject.object) w w' exit
-  Worked Make named subject name w w' exit =
-      Makes o d (setup_of subject) subject.lines w.sink w'.sink w.device w'.device exit × (w.inputs ≡ w'.inputs)
-  Worked Table named subject name w w' exit = OnlyWrites (IsTopologyText subject.topology) w w' exit
+  abbrev pub Worked : Work → Option ℕ → Subject → Standing → Standing → List ℕ → World I O D → World I O D → Exit → Type 0
+  Worked Replay named subject board is name w w' exit = Replays named (setup_of subject) board is name w w' exit
+  Worked Reach named subject board is name w w' exit =
+      ForMaster subject (λ master. OnlyWrites (IsReachText subject.object subject.topology master) board is w w' exit)
+  Worked Isolate named subject board is name w w' exit = ForMaster subject (λ master. Compares (setup_of subject) master board is name w w' exit)
+  Worked Print named subject board is name w w' exit = OnlyWrites (λ text. text ≡ text_of subject.object) board is w w' exit
+  Worked Build named subject board is name w w' exit = OnlyWrites (λ bytes. Reads bytes subject.object) board is w w' exit
+  Worked Make named subject board is name w w' exit =
+      Makes o d (setup_of subject) board is subject.lines w.sink w'.sink w.device w'.device exit × (w.inputs ≡ w'.inputs)
+  Worked Table named subject board is name w w' exit = OnlyWrites (IsTopologyText subject.topology) board is w w' exit

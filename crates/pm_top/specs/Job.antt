@@ -1,6 +1,6 @@
 -- What a form has to do: what it asks for, what the master can reach, and the events of a script that is made; or the fault that
 -- refuses it.
-use Rattle.std.specs.Prelude.{◌≡◌, ℕ, ◌⊎◌, is_some, List, IfNone, IfSome, IsSome, Result, Ok, Err, ⊤}
+use Rattle.std.specs.Prelude.{◌≡◌, ℕ, ◌⊎◌, is_some, List, IfNone, IfSome, IsSome, Result, Ok, Err, ⊤, [], ◌∷◌}
 use Rattle.pm_base.specs.Faults.{Rose}
 use Rattle.pm_base.specs.declared.errors.Exit.{Exit}
 use Rattle.pm_base.specs.declared.errors.Exit.TheVariants.{ReadFault}
@@ -28,7 +28,8 @@ pub record Job : Type 0 where
 
 -- what the master of a subject can reach on its topology, where it has one
 abbrev pub IsFound : Subject → List Member → Type 0
-IsFound subject members = IfSome subject.master (λ master. IsReach subject.object subject.topology master members)
+IsFound subject members =
+    IfSome subject.master (λ master. IsReach (subject.object ∷ []) subject.topology master members)
 
 -- a job does what is asked for, or is refused for the same fault
 abbrev pub Meets : Result Job Fault → Result Asked Fault → Type 0

@@ -14,6 +14,8 @@ use Rattle.pm_topology.specs.WellFormed.{IsWellFormed}
 use Rattle.pm_device.specs.declared.device.Device as Device
 use Rattle.pm_drive.specs.Drive.{driven}
 use Rattle.pm_drive.specs.Drove.{Drove}
+use Rattle.pm_board.specs.Board.{Standing}
+use Rattle.pm_drive.specs.Heard.{last_board}
 use Rattle.pm_gen.specs.Laboratory.{laboratory}
 use Rattle.pm_script.specs.Script.{script_limit}
 use Rattle.pm_trace.specs.declared.faults.Fault.{Fault}
@@ -23,7 +25,7 @@ use Rattle.pm_trace.specs.Faults.{exit_after}
 use Rattle.pm_trace.specs.Report.{Did, Report}
 use Rattle.pm_trace.specs.Scripts.{fault_at}
 use Rattle.pm_replay.specs.Replay.{Touched}
-use Rattle.pm_replay.specs.Replayed.{AnswersHaveCauses, LinesServe, LowersCalls, RunsKeepApart}
+use Rattle.pm_replay.specs.Replayed.{AnswersHaveCauses, LinesServe, LowersCalls, RunsKeepApart, TellsCalls}
 use Rattle.pm_run.specs.Run.{setup}
 use Rattle.pm_base.specs.World.{World}
 use Rattle.pm_top.specs.declared.works.Form.{Form}
@@ -52,28 +54,29 @@ drives Make = BeforeItWrites
 drives work = Never
 
 module _ {D : Type 0} (d : Device.Ghosts D) where
-  -- a device was fitted if a word names a topology, and then driven through the steps of a script up to the cut
-  pub record FitsAndDrives (named : Option ℕ) (job : Job) (answers : List (List Bool)) (cut : Option ℕ) (old new : D) : Type 0 where
+  -- a device was fitted if a word names a topology, and then driven through the steps of a script up to the cut; and so the tasks
+  pub record FitsAndDrives (named : Option ℕ) (board is : Standing) (job : Job) (answers : List (List Bool)) (cut : Option ℕ) (old new : D) : Type 0 where
     pub start : D
     pub fitted : IsFitted d named job.asked.subject.topology old start
-    pub touched : Touched d (setup_of job.asked.subject) start new (Ok job.asked.script) answers cut
+    pub touched : Touched d (setup_of job.asked.subject) board is start new (Ok job.asked.script) answers cut
 
-  -- what is done to the device under these answers, up to the cut: it is driven through the steps of the script, after it was
+  -- what is done to the device and to the tasks under these answers, up to the cut: it is driven through the steps of the script, after it was
   -- fitted if a word names a topology; or through all those of a script of so many lines that is made, or some of them where
-  -- memory is wanted; or nothing touches it
-  abbrev pub TouchesBy : Drives → Option ℕ → (Topology → Type 0) → ℕ → D → D → Result Job Fault → List (List Bool) → Option ℕ → Type 0
-  TouchesBy AsItWrites named Named n old new (Ok job) answers cut = FitsAndDrives named job answers cut old new
-  TouchesBy AsItWrites named Named n old new (Err fault) answers cut = LeftBy d fault named Named old new
-  TouchesBy BeforeItWrites named Named n old new (Ok job) answers cut =
+  -- memory is wanted; or nothing touches it. The tasks are left as those lines leave them
+  abbrev pub TouchesBy : Drives → Option ℕ → Standing → Standing → (Topology → Type 0) → ℕ → D → D → Result Job Fault → List (List Bool) → Option ℕ → Type 0
+  TouchesBy AsItWrites named board is Named n old new (Ok job) answers cut = FitsAndDrives named board is job answers cut old new
+  TouchesBy AsItWrites named board is Named n old new (Err fault) answers cut = LeftBy d fault named Named old new × (board ≡ is)
+  TouchesBy BeforeItWrites named board is Named n old new (Ok job) answers cut =
       Drove d (setup_of job.asked.subject) (driven (setup_of job.asked.subject) answers job.events) old new
-  TouchesBy BeforeItWrites named Named n old new (Err fault) answers cut =
-      (old ≡ new) ⊎ ((fault ≡ Memory) × WasDriven d (setup laboratory chip) n old new)
-  TouchesBy Never named Named n old new job answers cut = old ≡ new
+      × (is ≡ last_board board (driven (setup_of job.asked.subject) answers job.events))
+  TouchesBy BeforeItWrites named board is Named n old new (Err fault) answers cut =
+      ((old ≡ new) × (board ≡ is)) ⊎ ((fault ≡ Memory) × WasDriven d (setup laboratory chip) board is n old new)
+  TouchesBy Never named board is Named n old new job answers cut = (old ≡ new) × (board ≡ is)
 
   -- the same by the work of a form, and the number of lines and the topology that its words ask for
-  abbrev pub Touches : Form → List (List ℕ) → (Topology → Type 0) → D → D → Result Job Fault → List (List Bool) → Option ℕ → Type 0
-  Touches f ws Named old new job answers cut =
-      TouchesBy (drives f.work) f.topology Named (lines_by f.source (word 1 ws)) old new job answers cut
+  abbrev pub Touches : Form → List (List ℕ) → Standing → Standing → (Topology → Type 0) → D → D → Result Job Fault → List (List Bool) → Option ℕ → Type 0
+  Touches f ws board is Named old new job answers cut =
+      TouchesBy (drives f.work) f.topology board is Named (lines_by f.source (word 1 ws)) old new job answers cut
 
 -- words without a form have no job
 abbrev pub nothing_to_do : ⊤ → List (List Bool) → Report
@@ -84,17 +87,17 @@ module _ {I O D : Type 0} (i : Inputs.Ghosts I) (o : Sink.Ghosts O) (d : Device.
   abbrev pub IsShown : Form → List (List ℕ) → World I O D → Topology → Type 0
   IsShown f ws w topology = i.observable → HoldsTopology f.topology ws (i.state w.inputs) topology
 
-  -- what was asked for, what was written of it, and what was done to the device
-  abbrev pub RanForm : Option Form → List (List ℕ) → World I O D → World I O D → Exit → Type 0
-  RanForm None ws w w' result =
-      Did o (λ job. job ≡ Err Usage) nothing_to_do (λ job answers cut. w.device ≡ w'.device) w.sink w'.sink result
-  RanForm (Some f) ws w w' result =
-      Did o (IsAsked i f ws w.inputs w'.inputs result) (report f.work) (Touches d f ws (IsShown f ws w) w.device w'.device)
+  -- what was asked for, what was written of it, and what was done to the device and to the tasks
+  abbrev pub RanForm : Option Form → List (List ℕ) → Standing → Standing → World I O D → World I O D → Exit → Type 0
+  RanForm None ws board is w w' result =
+      Did o (λ job. job ≡ Err Usage) nothing_to_do (λ job answers cut. (w.device ≡ w'.device) × (board ≡ is)) w.sink w'.sink result
+  RanForm (Some f) ws board is w w' result =
+      Did o (IsAsked i f ws w.inputs w'.inputs result) (report board f.work) (Touches d f ws board is (IsShown f ws w) w.device w'.device)
       w.sink w'.sink result
 
   -- the same by the words
-  abbrev pub Ran : List (List ℕ) → World I O D → World I O D → Exit → Type 0
-  Ran ws w w' result = RanForm (form ws) ws w w' result
+  abbrev pub Ran : List (List ℕ) → Standing → Standing → World I O D → World I O D → Exit → Type 0
+  Ran ws board is w w' result = RanForm (form ws) ws board is w w' result
 
 module _ {D : Type 0} (d : Device.Ghosts D) where
   -- the device was driven through the whole run of a script over an object and a topology that keeps all rules: the chip's, or, if
@@ -129,6 +132,11 @@ EachEmptiesBoxes = (object : Object) (topology : Topology) → IsObject object �
 -- over whichever object and topology: the line of a power call is the run of the events that it is lowered to, and so is a script
 abbrev pub EachLowersCalls : Type 0
 EachLowersCalls = (object : Object) (topology : Topology) → LowersCalls (setup object topology)
+
+-- over whichever object and topology, of the modules and the tasks that a run begins with: each line tells exactly the calls of
+-- tasks that are due in it, and a task that is stored before and after was called as often as lines tell it
+abbrev pub EachTellsCalls : Standing → Type 0
+EachTellsCalls board = (object : Object) (topology : Topology) → TellsCalls (setup object topology) board
 
 -- ---- what the exits mean
 

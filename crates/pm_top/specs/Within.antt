@@ -108,7 +108,7 @@ module _ {O : Type 0} (o : Sink.Ghosts O) where
 -- the text of what a master of an object can reach on a topology
 pub record IsReachText (object : Object) (topology : Topology) (master : NodeId) (text : List ℕ) : Type 0 where
   pub members : List Member
-  pub reach : IsReach object topology master members
+  pub reach : IsReach (object ∷ []) topology master members
   pub is : text ≡ reach_text members
 
 -- the text of a topology, which means it

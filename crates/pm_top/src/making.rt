@@ -5,6 +5,7 @@ ghost use Rattle.pm_base.specs.declared.names.Unit.{Unit};
 ghost use Rattle.pm_gen.specs.Laboratory.{laboratory};
 ghost use Rattle.pm_object.specs.Grammar.{IsObject};
 ghost use Rattle.pm_topology.specs.WellFormed.{IsWellFormed};
+ghost use Rattle.pm_board.specs.Standing.{standing};
 ghost use Rattle.pm_replay.specs.Safe.{IsSafe};
 ghost use Rattle.pm_run.specs.Run.{setup};
 ghost use Rattle.pm_top.specs.Asked.{laboratory_for, line_limit, lines_asked, lines_by};
@@ -15,8 +16,10 @@ use crate::works::Source;
 use pm_base::{Exit, MemSink, NoMemory, OneInput, Sink, number};
 use pm_device::Device;
 use pm_gen::{lab_object, make, summary_of};
+use pm_modules::{ModulesOf, Responder};
 use pm_object::Object;
 use pm_replay::replay;
+use pm_tasks::{Handler, TasksOf};
 use pm_topology::Topology;
 use pm_trace::{Fault, refuse};
 use std::alloc::Global;
@@ -67,22 +70,27 @@ fn lines_asked(word: &str) -> Option<u32>
 }
 
 /// Runs a script of so many lines, which is made, over an object and a topology, and writes the summary of its run.
-pub(crate) fn make_over<O: Sink, D: Device>(
+pub(crate) fn make_over<O: Sink, D: Device, H: Responder, T: Handler>(
     alloc: Global,
     object: Object,
     topology: Topology,
     lines: u32,
     out: &mut O,
     dev: &mut D,
+    modules: &ModulesOf<H>,
+    tasks: &mut TasksOf<T>,
 ) -> Exit
     requires object { IsObject object }
     requires formed { IsWellFormed topology }
     requires few { lines ≤ line_limit }
     requires idle { D.values_observable → (unit : Unit) → (D.state dev.old).value unit ≡ 0 }
     ensures safe { IsSafe D.Device topology dev.old dev.new }
-    ensures made { Makes O.Sink D.Device (setup object topology) lines out.old out.new dev.old dev.new result }
+    ensures made { Makes O.Sink D.Device (setup object topology)
+        (standing H.Responder T.Handler modules.now tasks.old)
+        (standing H.Responder T.Handler modules.now tasks.new)
+        lines out.old out.new dev.old dev.new result }
 {
-    match run_made(alloc, object, topology, lines, dev) {
+    match run_made(alloc, object, topology, lines, dev, modules, tasks) {
         Ok(summary) => write_whole(summary.as_slice(), out),
         Err(NoMemory) => refuse(Fault::Memory, out),
     }
@@ -91,12 +99,14 @@ pub(crate) fn make_over<O: Sink, D: Device>(
 /// The summary of the run of a script that is made, over an object and a topology. The run's text is kept in memory, so
 /// that want of it can come late, and a write to it fails only for that. Each line that is made has a meaning, and no
 /// read of it fails.
-fn run_made<D: Device>(
+fn run_made<D: Device, H: Responder, T: Handler>(
     alloc: Global,
     object: Object,
     topology: Topology,
     lines: u32,
     dev: &mut D,
+    modules: &ModulesOf<H>,
+    tasks: &mut TasksOf<T>,
 ) -> Result<Vec<u8>, NoMemory>
     requires object { IsObject object }
     requires formed { IsWellFormed topology }
@@ -104,8 +114,12 @@ fn run_made<D: Device>(
     requires idle { D.values_observable → (unit : Unit) → (D.state dev.old).value unit ≡ 0 }
     ensures safe { IsSafe D.Device topology dev.old dev.new }
     ensures made { MatchResult result
-        (λ summary. IsSummary D.Device (setup object topology) lines dev.old dev.new summary.items)
-        (λ _. MayBeDriven D.Device (setup object topology) lines dev.old dev.new) }
+        (λ summary. IsSummary D.Device (setup object topology)
+        (standing H.Responder T.Handler modules.now tasks.old)
+        (standing H.Responder T.Handler modules.now tasks.new) lines dev.old dev.new summary.items)
+        (λ _. MayBeDriven D.Device (setup object topology)
+        (standing H.Responder T.Handler modules.now tasks.old)
+        (standing H.Responder T.Handler modules.now tasks.new) lines dev.old dev.new) }
 {
     let script = make(alloc, lines)?;
     let mut inputs = OneInput::new(alloc, script.as_slice())?;
@@ -118,6 +132,8 @@ fn run_made<D: Device>(
         "script",
         &mut text,
         dev,
+        modules,
+        tasks,
     ) {
         Exit::Done => summary_of(alloc, lines, text.bytes()),
         Exit::Memory | Exit::WriteFault => Err(NoMemory),

@@ -5,16 +5,16 @@ ghost use Rattle.pm_base.specs.declared.names.Unit.{Unit};
 ghost use Rattle.pm_base.specs.Faults.{Rose};
 ghost use Rattle.pm_base.specs.Readings.{Meanwhile};
 ghost use Rattle.pm_base.specs.Sink.{HasFailed, IsUnfailed};
-ghost use Rattle.pm_object.specs.Grammar.{IsObject};
 ghost use Rattle.pm_trace.specs.Exits.{IsStarved};
 ghost use Rattle.pm_base.specs.World.{world};
+ghost use Rattle.pm_board.specs.Standing.{standing};
 ghost use Rattle.pm_top.specs.Complete.{IsComplete};
 ghost use Rattle.pm_top.specs.Done.{IsDone, WorkDone};
 ghost use Rattle.pm_top.specs.declared.works.Work.TheVariants.{Replay};
 ghost use Rattle.pm_top.specs.Fit.{IsSafeRun};
 ghost use Rattle.pm_top.specs.Form.{form, form_of, over, request_of, topology_in};
 ghost use Rattle.pm_top.specs.Reads.{FormReads};
-ghost use Rattle.pm_top.specs.Ran.{Decides, DroveRun, EachEmptiesBoxes, EachHasCauses, EachKeepsApart, EachLowersCalls, InputsMayFail, IsBeforeRun, Ran, RanForm};
+ghost use Rattle.pm_top.specs.Ran.{Decides, DroveRun, EachEmptiesBoxes, EachHasCauses, EachKeepsApart, EachLowersCalls, EachTellsCalls, InputsMayFail, IsBeforeRun, Ran, RanForm};
 
 use crate::reading::{read_subject, script_word};
 use crate::works::{Request, do_work, form_of, request_of};
@@ -22,10 +22,12 @@ use pm_apart::driven_runs_keep_apart;
 use pm_base::{Exit, Inputs, Sink};
 use pm_causes::runs_have_causes;
 use pm_device::Device;
-use pm_drive::{power_calls_are_their_events, scripts_are_lowered};
+use pm_drive::{calls_are_told, power_calls_are_their_events, scripts_are_lowered};
+use pm_modules::{ModulesOf, Responder};
 use pm_object::one_reading;
 use pm_objtext::one_meaning;
 use pm_run::boxes_of_a_run;
+use pm_tasks::{Handler, TasksOf};
 use pm_trace::{Fault, exits_say, refuse};
 use std::alloc::Global;
 
@@ -35,21 +37,26 @@ use std::alloc::Global;
 /// without the messages of the master, `print OBJ` writes the text of an object, `build TEXT` the bytes of
 /// the object that a text says, `make N` the summary of the run of a script of N lines that is made, and
 /// `table` the text of the chip's topology. A `TOPO` behind the words of the first three names the text of
-/// another topology, which they are done over in place of the chip's. No other words have a form. `replay` and
-/// `make` make the device, which stands at 0 everywhere, follow the book of requirements; with a `TOPO` `replay`
-/// fits it to that topology before. No other words command it.
-pub fn pm_main<I: Inputs, O: Sink, D: Device>(
+/// another topology, which they are done over in place of the chip's. No other words have a form. In `replay` and `make`
+/// the modules answer messages of their words, and the tasks are started, taken out and called as the script says.
+/// `replay` and `make` make the device, which stands at 0 everywhere, follow the book of requirements; with a `TOPO`
+/// `replay` fits it to that topology before. No other words command it.
+pub fn pm_main<I: Inputs, O: Sink, D: Device, H: Responder, T: Handler>(
     alloc: Global,
     words: &[String],
     inputs: &mut I,
     out: &mut O,
     dev: &mut D,
+    modules: &ModulesOf<H>,
+    tasks: &mut TasksOf<T>,
 ) -> Exit
     requires idle { D.values_observable → (unit : Unit) → (D.state dev.old).value unit ≡ 0 }
     // On Done the inputs held what the words name, and the whole text of what the words ask for was
     // written; `replay` and `make` drove the device through the run of the script over the object.
     ensures done { I.observable → O.observable → result ≡ Exit.Done
         → IsDone I.Inputs O.Sink D.Device (map string_bytes words.now)
+        (standing H.Responder T.Handler modules.now tasks.old)
+        (standing H.Responder T.Handler modules.now tasks.new)
         (world inputs.old out.old dev.old) (world inputs.new out.new dev.new) }
     // Usage comes exactly where the words have no form.
     ensures usage { (result ≡ Exit.Usage) ↔ (form (map string_bytes words.now) ≡ None) }
@@ -63,9 +70,14 @@ pub fn pm_main<I: Inputs, O: Sink, D: Device>(
     // Where what the words ask for is right, the inputs show no cause of a fault and the sink doesn't fail, the run is
     // Done, or memory is wanted.
     ensures complete { IsComplete I.Inputs O.Sink D.Device (map string_bytes words.now)
+        (standing H.Responder T.Handler modules.now tasks.old)
+        (standing H.Responder T.Handler modules.now tasks.new)
         (world inputs.old out.old dev.old) (world inputs.new out.new dev.new) result }
-    // On every exit: what was asked for, what was written of it, and what was done to the device.
+    // On every exit: what was asked for, what was written of it, what was done to the device, and how the tasks are
+    // left.
     ensures ran { Ran I.Inputs O.Sink D.Device (map string_bytes words.now)
+        (standing H.Responder T.Handler modules.now tasks.old)
+        (standing H.Responder T.Handler modules.now tasks.new)
         (world inputs.old out.old dev.old) (world inputs.new out.new dev.new) result }
     // On every exit: nothing was used without power, and no domain went down under its users.
     ensures safe { IsSafeRun D.Device (topology_in (map string_bytes words.now)) dev.old dev.new }
@@ -81,6 +93,9 @@ pub fn pm_main<I: Inputs, O: Sink, D: Device>(
     // to by the topology and the call alone, and then its answer; and so is a script with power calls the script with a
     // line for each of these events.
     ensures calls { EachLowersCalls }
+    // Each line of a run of whichever object and topology tells exactly the calls of timed tasks that are due in it,
+    // and a task that is stored before and after was called as often as the lines tell it.
+    ensures tasks { EachTellsCalls (standing H.Responder T.Handler modules.now tasks.old) }
     // On every exit, of any inputs: the names that the words give are begun in the order of the work, each once, and
     // read to the end or to one byte past the limit, or up to where the run ends before that; nothing else is begun or
     // read.
@@ -88,6 +103,9 @@ pub fn pm_main<I: Inputs, O: Sink, D: Device>(
         (FormReads (form (map string_bytes words.now)) (map string_bytes words.now) result) }
     // Before a script is run nothing is done to the device, but that it may be fitted before memory is wanted.
     ensures untouched { IsBeforeRun (form (map string_bytes words.now)) result → dev.old ≡ dev.new }
+    // And no task is started, taken out or called.
+    ensures still { IsBeforeRun (form (map string_bytes words.now)) result
+        → standing H.Responder T.Handler modules.now tasks.old ≡ standing H.Responder T.Handler modules.now tasks.new }
     // On Memory nothing was written but the fault line, as far as the sink took it.
     ensures memory { result ≡ Exit.Memory → IsStarved O.Sink out.old out.new }
     // ReadFault comes only where the inputs' count of faults rose. (Here and below a count at its last value, which
@@ -108,51 +126,65 @@ pub fn pm_main<I: Inputs, O: Sink, D: Device>(
     boxes_of_a_run();
     power_calls_are_their_events();
     scripts_are_lowered();
+    calls_are_told();
     one_reading();
     one_meaning();
-    run_words(alloc, words, inputs, out, dev)
+    run_words(alloc, words, inputs, out, dev, modules, tasks)
 }
 
 /// Runs the words.
-fn run_words<I: Inputs, O: Sink, D: Device>(
+fn run_words<I: Inputs, O: Sink, D: Device, H: Responder, T: Handler>(
     alloc: Global,
     words: &[String],
     inputs: &mut I,
     out: &mut O,
     dev: &mut D,
+    modules: &ModulesOf<H>,
+    tasks: &mut TasksOf<T>,
 ) -> Exit
     requires idle { D.values_observable → (unit : Unit) → (D.state dev.old).value unit ≡ 0 }
     ensures done { I.observable → O.observable → result ≡ Exit.Done
         → IsDone I.Inputs O.Sink D.Device (map string_bytes words.now)
+        (standing H.Responder T.Handler modules.now tasks.old)
+        (standing H.Responder T.Handler modules.now tasks.new)
         (world inputs.old out.old dev.old) (world inputs.new out.new dev.new) }
     ensures safe { IsSafeRun D.Device (topology_in (map string_bytes words.now)) dev.old dev.new }
     ensures ran { Ran I.Inputs O.Sink D.Device (map string_bytes words.now)
+        (standing H.Responder T.Handler modules.now tasks.old)
+        (standing H.Responder T.Handler modules.now tasks.new)
         (world inputs.old out.old dev.old) (world inputs.new out.new dev.new) result }
     ensures begun { Meanwhile (I.state inputs.old) (I.state inputs.new)
         (FormReads (form (map string_bytes words.now)) (map string_bytes words.now) result) }
 {
     match request_of(words) {
-        Some(request) => run_request(alloc, request, words, inputs, out, dev),
+        Some(request) => run_request(alloc, request, words, inputs, out, dev, modules, tasks),
         None => refuse(Fault::Usage, out),
     }
 }
 
 /// Reads what the form of a request reads, and does its work.
-fn run_request<I: Inputs, O: Sink, D: Device>(
+fn run_request<I: Inputs, O: Sink, D: Device, H: Responder, T: Handler>(
     alloc: Global,
     request: Request,
     words: &[String],
     inputs: &mut I,
     out: &mut O,
     dev: &mut D,
+    modules: &ModulesOf<H>,
+    tasks: &mut TasksOf<T>,
 ) -> Exit
     requires idle { D.values_observable → (unit : Unit) → (D.state dev.old).value unit ≡ 0 }
     ensures done { I.observable → O.observable → result ≡ Exit.Done
         → WorkDone I.Inputs O.Sink D.Device request.work request.topology (map string_bytes words.now)
+        (standing H.Responder T.Handler modules.now tasks.old)
+        (standing H.Responder T.Handler modules.now tasks.new)
         (world inputs.old out.old dev.old) (world inputs.new out.new dev.new) }
     ensures safe { IsSafeRun D.Device request.topology dev.old dev.new }
     ensures ran { RanForm I.Inputs O.Sink D.Device (Some (form_of request.work request.topology))
-        (map string_bytes words.now) (world inputs.old out.old dev.old) (world inputs.new out.new dev.new) result }
+        (map string_bytes words.now)
+        (standing H.Responder T.Handler modules.now tasks.old)
+        (standing H.Responder T.Handler modules.now tasks.new)
+        (world inputs.old out.old dev.old) (world inputs.new out.new dev.new) result }
     ensures begun { Meanwhile (I.state inputs.old) (I.state inputs.new)
         (FormReads (Some (form_of request.work request.topology)) (map string_bytes words.now) result) }
 {
@@ -166,6 +198,8 @@ fn run_request<I: Inputs, O: Sink, D: Device>(
             script_word(form, words),
             out,
             dev,
+            modules,
+            tasks,
         ),
         Err(fault) => refuse(fault, out),
     }

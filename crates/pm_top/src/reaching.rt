@@ -7,7 +7,7 @@ ghost use Rattle.pm_top.specs.Within.{IsReachText, Writes};
 use crate::conversions::write_whole;
 use pm_base::{Exit, NoMemory, NodeId, Sink};
 use pm_object::Object;
-use pm_reach::reach;
+use pm_reach::reach_by_one;
 use pm_topology::Topology;
 use pm_trace::{Fault, reach_text, refuse};
 use std::alloc::Global;
@@ -39,6 +39,6 @@ fn text_of(
     requires { IsTrue (list_any (λ r. r.node == master.0) object.now.masters) }
     ensures { IfOk result (λ text. IsReachText object.now topology.now master text.items) }
 {
-    let found = reach(alloc, object, topology, master)?;
+    let found = reach_by_one(alloc, object, topology, master)?;
     reach_text(alloc, &found)
 }

@@ -7,6 +7,7 @@ ghost use Rattle.pm_base.specs.Readings.{Meanwhile};
 ghost use Rattle.pm_object.specs.Grammar.{IsObject};
 ghost use Rattle.pm_topology.specs.Chip.{chip};
 ghost use Rattle.pm_topology.specs.WellFormed.{IsWellFormed};
+ghost use Rattle.pm_board.specs.Standing.{standing};
 ghost use Rattle.pm_run.specs.Run.{setup};
 ghost use Rattle.pm_top.specs.Done.{Replays};
 ghost use Rattle.pm_top.specs.Fit.{IsSafeRun};
@@ -14,15 +15,17 @@ ghost use Rattle.pm_trace.specs.Scripts.{ReadsScript, script_named};
 
 use pm_base::{Exit, Inputs, NoMemory, Sink};
 use pm_device::{Device, chain_shows};
+use pm_modules::{ModulesOf, Responder};
 use pm_object::Object;
 use pm_replay::replay;
+use pm_tasks::{Handler, TasksOf};
 use pm_topology::Topology;
 use pm_trace::{Fault, refuse};
 use std::alloc::Global;
 
 /// Runs a script over an object and a topology. Where a word names the topology the device is fitted to it first;
 /// else it is the chip's, and the device is of it already.
-pub(crate) fn replay_over<I: Inputs, O: Sink, D: Device>(
+pub(crate) fn replay_over<I: Inputs, O: Sink, D: Device, H: Responder, T: Handler>(
     alloc: Global,
     named: Option<usize>,
     object: Object,
@@ -31,24 +34,32 @@ pub(crate) fn replay_over<I: Inputs, O: Sink, D: Device>(
     script: &str,
     out: &mut O,
     dev: &mut D,
+    modules: &ModulesOf<H>,
+    tasks: &mut TasksOf<T>,
 ) -> Exit
     requires object { IsObject object }
     requires formed { IsWellFormed topology }
     requires built_in { IfNone named (topology ≡ chip) }
     requires idle { D.values_observable → (unit : Unit) → (D.state dev.old).value unit ≡ 0 }
-    ensures did { Replays I.Inputs O.Sink D.Device named (setup object topology) script.now
-        (world inputs.old out.old dev.old) (world inputs.new out.new dev.new) result }
+    ensures did { Replays I.Inputs O.Sink D.Device named (setup object topology)
+        (standing H.Responder T.Handler modules.now tasks.old)
+        (standing H.Responder T.Handler modules.now tasks.new)
+        script.now (world inputs.old out.old dev.old) (world inputs.new out.new dev.new) result }
     ensures safe { IsSafeRun D.Device named dev.old dev.new }
     ensures begun { Meanwhile (I.state inputs.old) (I.state inputs.new) (ReadsScript result (script_named script.now)) }
 {
     match named {
-        Some(place) => replay_fitted(alloc, place, object, topology, inputs, script, out, dev),
-        None => replay(alloc, object, topology, inputs, script, out, dev),
+        Some(place) => replay_fitted(
+            alloc, place, object, topology, inputs, script, out, dev, modules, tasks,
+        ),
+        None => replay(
+            alloc, object, topology, inputs, script, out, dev, modules, tasks,
+        ),
     }
 }
 
 /// Fits the device to a topology, and runs a script over it.
-fn replay_fitted<I: Inputs, O: Sink, D: Device>(
+fn replay_fitted<I: Inputs, O: Sink, D: Device, H: Responder, T: Handler>(
     alloc: Global,
     place: usize,
     object: Object,
@@ -57,18 +68,24 @@ fn replay_fitted<I: Inputs, O: Sink, D: Device>(
     script: &str,
     out: &mut O,
     dev: &mut D,
+    modules: &ModulesOf<H>,
+    tasks: &mut TasksOf<T>,
 ) -> Exit
     requires object { IsObject object }
     requires formed { IsWellFormed topology }
     requires idle { D.values_observable → (unit : Unit) → (D.state dev.old).value unit ≡ 0 }
-    ensures did { Replays I.Inputs O.Sink D.Device (Some place) (setup object topology) script.now
-        (world inputs.old out.old dev.old) (world inputs.new out.new dev.new) result }
+    ensures did { Replays I.Inputs O.Sink D.Device (Some place) (setup object topology)
+        (standing H.Responder T.Handler modules.now tasks.old)
+        (standing H.Responder T.Handler modules.now tasks.new)
+        script.now (world inputs.old out.old dev.old) (world inputs.new out.new dev.new) result }
     ensures safe { IsSafeRun D.Device (Some place) dev.old dev.new }
     ensures begun { Meanwhile (I.state inputs.old) (I.state inputs.new) (ReadsScript result (script_named script.now)) }
 {
     chain_shows::<D>();
     match dev.fit(alloc, &topology) {
-        Ok(()) => replay(alloc, object, topology, inputs, script, out, dev),
+        Ok(()) => replay(
+            alloc, object, topology, inputs, script, out, dev, modules, tasks,
+        ),
         Err(NoMemory) => refuse(Fault::Memory, out),
     }
 }

@@ -5,6 +5,7 @@ ghost use Rattle.pm_base.specs.declared.names.Unit.{Unit};
 ghost use Rattle.pm_base.specs.World.{world};
 ghost use Rattle.pm_base.specs.Readings.{Meanwhile};
 ghost use Rattle.pm_topology.specs.Chip.{chip};
+ghost use Rattle.pm_board.specs.Standing.{standing};
 ghost use Rattle.pm_top.specs.Done.{Worked};
 ghost use Rattle.pm_top.specs.Fit.{IsSafeRun};
 ghost use Rattle.pm_top.specs.Form.{form_of, over_chip, over_named, request_of, request_of_five, request_of_four, request_of_one, request_of_three, request_of_two, word};
@@ -19,6 +20,8 @@ use crate::replaying::replay_over;
 use pm_base::{Exit, Inputs, Sink};
 use pm_device::Device;
 use pm_isolate::compare;
+use pm_modules::{ModulesOf, Responder};
+use pm_tasks::{Handler, TasksOf};
 use std::alloc::Global;
 
 /// What the word after the first names.
@@ -198,7 +201,7 @@ pub(crate) fn word(words: &[String], place: usize) -> &str
 }
 
 /// Does a work on its subject, with the script of a name.
-pub(crate) fn do_work<I: Inputs, O: Sink, D: Device>(
+pub(crate) fn do_work<I: Inputs, O: Sink, D: Device, H: Responder, T: Handler>(
     alloc: Global,
     request: Request,
     subject: Subject,
@@ -206,14 +209,18 @@ pub(crate) fn do_work<I: Inputs, O: Sink, D: Device>(
     script: &str,
     out: &mut O,
     dev: &mut D,
+    modules: &ModulesOf<H>,
+    tasks: &mut TasksOf<T>,
 ) -> Exit
     requires sound { IsSubject subject }
     requires complete { is_some subject.master ≡ is_some (form_of request.work request.topology).node }
     requires built_in { IfNone (form_of request.work request.topology).topology (subject.topology ≡ chip) }
     requires idle { D.values_observable → (unit : Unit) → (D.state dev.old).value unit ≡ 0 }
     ensures safe { IsSafeRun D.Device request.topology dev.old dev.new }
-    ensures worked { Worked I.Inputs O.Sink D.Device request.work request.topology subject script.now
-        (world inputs.old out.old dev.old) (world inputs.new out.new dev.new) result }
+    ensures worked { Worked I.Inputs O.Sink D.Device request.work request.topology subject
+        (standing H.Responder T.Handler modules.now tasks.old)
+        (standing H.Responder T.Handler modules.now tasks.new)
+        script.now (world inputs.old out.old dev.old) (world inputs.new out.new dev.new) result }
     ensures begun { Meanwhile (I.state inputs.old) (I.state inputs.new)
         (WorkReads (form_of request.work request.topology).script script.now result) }
 {
@@ -227,6 +234,8 @@ pub(crate) fn do_work<I: Inputs, O: Sink, D: Device>(
             script,
             out,
             dev,
+            modules,
+            tasks,
         ),
         Work::Reach => write_reach(
             alloc,
@@ -253,6 +262,8 @@ pub(crate) fn do_work<I: Inputs, O: Sink, D: Device>(
             subject.lines,
             out,
             dev,
+            modules,
+            tasks,
         ),
         Work::Table => write_table(alloc, &subject.topology, out),
     }

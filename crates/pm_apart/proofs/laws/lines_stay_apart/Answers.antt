@@ -28,6 +28,6 @@ returns c =
     record {
       commands = commands_apart laws;
       closing = closing_apart laws;
-      steps = λ setup events cut object chip m unit beyond. steps_apart laws setup m events unit object chip beyond cut;
-      run = λ setup events object chip m unit beyond. run_apart laws setup m events unit object chip beyond;
+      steps = λ setup events cut object chip board other m unit beyond. steps_apart laws setup m events unit object chip beyond board other cut;
+      run = λ setup events object chip board other m unit beyond. run_apart laws setup m events unit object chip beyond board other;
     }

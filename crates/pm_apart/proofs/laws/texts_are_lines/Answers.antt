@@ -7,7 +7,7 @@ returns c = record {
   steps = steps_are;
   run = run_is;
   about = λ n xs unit. lines_about unit n xs;
-  whole = λ setup answers events unit chip has.
+  whole = λ setup board answers events unit chip has.
       whole_about c.units_stand_in_order.ensures setup (c.books_of_a_run.ensures.load setup chip)
-      (λ event stand is. c.books_of_a_run.ensures.line setup event stand chip is) answers events unit has;
+      (λ event stand is. c.books_of_a_run.ensures.line setup event stand chip is) board answers events unit has;
 }

@@ -1,10 +1,11 @@
 use Rattle.std.proofs.Common.{length}
+use Rattle.pm_modules.specs.Modules.{ranges}
 use Rattle.pm_split.specs.Left.{events_left}
 use Rattle.pm_replay.proofs.CoresLemmas.{IsUnderWay}
 use Rattle.pm_replay.proofs.lines.run_line.Given as goal
 
 abbrev pub invariant-loop-core : goal.invariant-loop-core
-invariant-loop-core g l = IsUnderWay g.O.Sink g.D.Device l.number l.event l.left l.fn.controller l.controller l.reply l.written l.fn.out l.out l.initial.dev l.dev
+invariant-loop-core g l = IsUnderWay g.O.Sink g.D.Device l.number l.event (ranges g.H.Responder l.modules) l.left l.fn.controller l.controller l.reply l.written l.fn.out l.out l.initial.dev l.dev
 
 abbrev pub decreases-loop-core : goal.decreases-loop-core
 decreases-loop-core g l = length (events_left l.fn.controller.book.fixed.object l.fn.controller.book.fixed.topology l.controller.boxes l.left)

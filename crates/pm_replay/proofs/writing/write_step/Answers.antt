@@ -6,7 +6,7 @@ use Rattle.pm_replay.proofs.writing.write_step.Goals as goal
 
 pub returns-in_err-write_all : goal.returns-in_err-write_all
 returns-in_err-write_all g c =
-    let all : List (List ℕ) = core_lines c.args.number c.args.outbox.now.done.items (notices_in c.args.outbox.now) c.args.outbox.now.answer in
+    let all : List (List ℕ) = core_lines c.args.number c.args.outbox.now.done.items (notices_in c.args.outbox.now) c.args.answer.now in
     let first = c.args.out.now in
     let mid = c.loop-k.out in
     let last = c.write_all.new.sink in
@@ -14,4 +14,4 @@ returns-in_err-write_all g c =
     rw p.1 (BreaksIn-joined g.O.Sink all c.loop-k.k first last (BreaksIn-piece g.O.Sink all c.loop-k.k c.as_slice.result.now first mid last (c.entry.ensures ∙ ap (λ (line : List ℕ). Some line) (sym c.as_slice.ensures.value)) c.loop-k.invariant c.in_err-write_all.ensures.short))
 
 pub loop-k-preserved : goal.loop-k-preserved
-loop-k-preserved g c = Wrote-piece g.O.Sink.observable (core_lines c.args.number c.args.outbox.now.done.items (notices_in c.args.outbox.now) c.args.outbox.now.answer) c.loop-k.k c.as_slice.result.now (g.O.Sink.state c.args.out.now) (g.O.Sink.state c.loop-k.out) (g.O.Sink.state c.write_all.new.sink) (c.entry.ensures ∙ ap (λ (line : List ℕ). Some line) (sym c.as_slice.ensures.value)) c.loop-k.invariant c.in_ok-write_all.ensures.written
+loop-k-preserved g c = Wrote-piece g.O.Sink.observable (core_lines c.args.number c.args.outbox.now.done.items (notices_in c.args.outbox.now) c.args.answer.now) c.loop-k.k c.as_slice.result.now (g.O.Sink.state c.args.out.now) (g.O.Sink.state c.loop-k.out) (g.O.Sink.state c.write_all.new.sink) (c.entry.ensures ∙ ap (λ (line : List ℕ). Some line) (sym c.as_slice.ensures.value)) c.loop-k.invariant c.in_ok-write_all.ensures.written

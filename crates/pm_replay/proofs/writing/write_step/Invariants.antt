@@ -5,4 +5,4 @@ use Rattle.pm_trace.specs.Step.{core_lines, notices_in}
 use Rattle.pm_replay.proofs.writing.write_step.Given as goal
 
 abbrev pub invariant-loop-k : goal.invariant-loop-k
-invariant-loop-k g l = Wrote g.O.Sink.observable (concat (take l.k (core_lines l.number l.outbox.done.items (notices_in l.outbox) l.outbox.answer))) (g.O.Sink.state l.fn.out) (g.O.Sink.state l.out)
+invariant-loop-k g l = Wrote g.O.Sink.observable (concat (take l.k (core_lines l.number l.outbox.done.items (notices_in l.outbox) l.answer))) (g.O.Sink.state l.fn.out) (g.O.Sink.state l.out)

@@ -23,13 +23,13 @@ returns-in-Memory-clause-made g c =
     made_driven c.args.lines c.requires.few short meant held refl c.replay.result tt c.replay.ensures.ran
 
 pub returns-in_err-script-clause-made : goal.returns-in_err-script-clause-made
-returns-in_err-script-clause-made g c = let p = err_from_is_err_and c.from_residual.result c.from_residual.ensures.1 in rw p.1 (inl refl)
+returns-in_err-script-clause-made g c = let p = err_from_is_err_and c.from_residual.result c.from_residual.ensures.1 in rw p.1 (inl (refl, refl))
 
 pub returns-in_err-inputs-clause-made : goal.returns-in_err-inputs-clause-made
-returns-in_err-inputs-clause-made g c = let p = err_from_is_err_and c.from_residual-in_err-inputs.result c.from_residual-in_err-inputs.ensures.1 in rw p.1 (inl refl)
+returns-in_err-inputs-clause-made g c = let p = err_from_is_err_and c.from_residual-in_err-inputs.result c.from_residual-in_err-inputs.ensures.1 in rw p.1 (inl (refl, refl))
 
 pub returns-in_err-text-clause-made : goal.returns-in_err-text-clause-made
-returns-in_err-text-clause-made g c = let p = err_from_is_err_and c.from_residual-in_err-text.result c.from_residual-in_err-text.ensures.1 in rw p.1 (inl refl)
+returns-in_err-text-clause-made g c = let p = err_from_is_err_and c.from_residual-in_err-text.result c.from_residual-in_err-text.ensures.1 in rw p.1 (inl (refl, refl))
 
 pub unreachable-requires : goal.unreachable-requires
 unreachable-requires g c =

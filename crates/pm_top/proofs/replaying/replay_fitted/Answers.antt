@@ -19,7 +19,7 @@ pub returns-in-Ok-clause-safe : goal.returns-in-Ok-clause-safe
 returns-in-Ok-clause-safe g c = record { named = Some c.args.place; asked = inr refl; topology = c.args.topology; start = c.fit.new.self; fitted = c.in-Ok.ensures.does; safe = c.replay.ensures.safe }
 
 pub returns-in-Err-clause-did : goal.returns-in-Err-clause-did
-returns-in-Err-clause-did g c = inl (record { reports = c.refuse.ensures; inputs = refl; device = sym c.in-Err.ensures.refused })
+returns-in-Err-clause-did g c = inl (record { reports = c.refuse.ensures; inputs = refl; device = sym c.in-Err.ensures.refused; still = refl })
 
 pub returns-in-Err-clause-safe : goal.returns-in-Err-clause-safe
 returns-in-Err-clause-safe g c = still_safe g.D.Device _ c.args.dev.now c.fit.new.self (sym c.in-Err.ensures.refused)

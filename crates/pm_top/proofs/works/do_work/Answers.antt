@@ -60,7 +60,7 @@ pub returns-in-Make-clause-begun : goal.returns-in-Make-clause-begun
 returns-in-Make-clause-begun g c =
     let m = g.I.Inputs.state c.args.inputs.now in
     let W : Work → Type 0 = λ work. Meanwhile m m (WorkReads (form_of work c.args.request.topology).script c.args.script.now c.make_over.result) in
-    subst W (sym c.in-Make.is) (meanwhile_none m (WorkReads None c.args.script.now c.make_over.result) (refl, made_bare g.O.Sink g.D.Device _ _ c.args.out.now c.make_over.new.out c.args.dev.now c.make_over.new.dev c.make_over.result c.make_over.ensures.made))
+    subst W (sym c.in-Make.is) (meanwhile_none m (WorkReads None c.args.script.now c.make_over.result) (refl, made_bare g.O.Sink g.D.Device _ _ _ _ c.args.out.now c.make_over.new.out c.args.dev.now c.make_over.new.dev c.make_over.result c.make_over.ensures.made))
 
 pub returns-in-Table-clause-begun : goal.returns-in-Table-clause-begun
 returns-in-Table-clause-begun g c =
