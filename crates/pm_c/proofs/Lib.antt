@@ -1,0 +1,3 @@
+pub mod HeldLemmas
+pub mod LinesLemmas
+pub mod RunLemmas

@@ -1,0 +1,56 @@
+-- A run of a script that one input in memory holds.
+use Rattle.std.proofs.Common.{◌≡◌, ℕ, List, [], ◌++◌, Option, Some, refl, sym, ap, subst, ◌∙◌}
+use Rattle.pm_base.specs.declared.inputs.Inputs as Inputs
+use Rattle.pm_base.specs.declared.sink.Sink as Sink
+use Rattle.pm_base.specs.Inputs.{File}
+use Rattle.pm_base.specs.OneInput.{OneContent, file_with}
+use Rattle.pm_base.specs.World.{World}
+use Rattle.pm_object.specs.declared.object.Object.{Object}
+use Rattle.pm_topology.specs.declared.topology.Topology.{Topology}
+use Rattle.pm_topology.specs.Chip.{chip}
+use Rattle.pm_device.specs.declared.device.Device as Device
+use Rattle.pm_device.specs.Fresh.{IsFresh}
+use Rattle.std.specs.Prelude.{IsSomeAnd}
+use Rattle.pm_script.specs.Named.{IsScript}
+use Rattle.pm_modules.specs.Ranges.{Ranged}
+use Rattle.pm_tasks.specs.Timetable.{Timetable, empty}
+use Rattle.pm_board.specs.Board.{Standing}
+use Rattle.pm_run.specs.Run.{setup}
+use Rattle.pm_drive.specs.Text.{run_text}
+use Rattle.pm_replay.specs.Replayed.{IsRun}
+use Rattle.pm_c.specs.Run.{WasRunOver, no_board}
+
+-- no modules and no tasks are no board
+pub none_stand : (modules : List Ranged) (tasks : Timetable) → modules ≡ [] → tasks ≡ empty 0
+    → ◌≡◌ {A = Standing} (record { modules = modules; tasks = tasks }) no_board
+none_stand modules tasks no_modules no_tasks = rw (no_modules, no_tasks) refl
+
+-- an input that has these bytes has a file of them
+pub one_holds : (held : OneContent) (content : OneContent) → held ≡ content → ◌≡◌ {A = Option File} (Some (file_with held.bytes)) (Some (file_with content.bytes))
+one_holds held content is = ap (λ (h : OneContent). Some (file_with h.bytes)) is
+
+module _ {I O D : Type 0} (i : Inputs.Ghosts I) (o : Sink.Ghosts O) (d : Device.Ghosts D) where
+  chip_run : (object : Object) (is : Standing) (name script : List ℕ) (w w' : World I O D)
+      → (i.state w.inputs).file name ≡ Some (file_with script) → (o.state w.sink).bytes ≡ [] → IsFresh chip (d.state w.device)
+      → IsRun i o d (setup object chip) no_board is name w w' → WasRunOver d object script (o.state w'.sink).bytes
+  chip_run object is name script w w' held none fresh run =
+      let is_held : script ≡ run.script_bytes = subst (λ (f : Option File). IsSomeAnd f (λ file. file.bytes ≡ run.script_bytes)) held run.held in
+      record {
+        events = run.events;
+        answers = run.answers;
+        before = w.device;
+        after = w'.device;
+        means = subst (λ (b : List ℕ). IsScript b run.events) (sym is_held) run.means;
+        fresh = fresh;
+        drove = run.drove;
+        whole = run.text ∙ ap (λ (b : List ℕ). b ++ run_text (setup object chip) no_board run.answers run.events) none;
+      }
+
+  pub was_run : (object : Object) (topology : Topology) (board is : Standing) (name script : List ℕ) (w w' : World I O D)
+      → topology ≡ chip → board ≡ no_board → (i.state w.inputs).file name ≡ Some (file_with script) → (o.state w.sink).bytes ≡ []
+      → IsFresh topology (d.state w.device)
+      → IsRun i o d (setup object topology) board is name w w' → WasRunOver d object script (o.state w'.sink).bytes
+  was_run object topology board is name script w w' over with_none held none fresh run =
+      chip_run object is name script w w' held none (subst (λ (t : Topology). IsFresh t (d.state w.device)) over fresh)
+      (subst (λ (b : Standing). IsRun i o d (setup object chip) b is name w w') with_none
+      (subst (λ (t : Topology). IsRun i o d (setup object t) board is name w w') over run))

@@ -1,0 +1,151 @@
+//! Events: a message of a master, a boot, a wait, an interrupt, and time that passes. Each begins a step. All of them
+//! answer `DONE`; `COMMAND_LEFT` while a command of the step before waits; `NO_MEMORY`; and `CLOSED`. But for `DONE` nothing
+//! changes.
+
+ghost use Rattle.std.specs.Prelude.{◌≡◌, ◌<◌, [], ◌∷◌, None};
+ghost use Rattle.pm_base.specs.declared.events.Event.TheVariants as events;
+ghost use Rattle.pm_controller.specs.Steps.{TakesEvent};
+ghost use Rattle.pm_slot.specs.Held.{Holds, Leads, inside};
+ghost use Rattle.pm_c.specs.Handle.{IsOneOf, IsOver, IsWaiting};
+
+use crate::answers::{CLOSED, COMMAND_LEFT, DONE, NO_MEMORY};
+use pm_base::{Event, Message, NodeId};
+use pm_slot::{Held, Slot};
+use std::alloc::Global;
+
+/// A message of a master.
+#[unsafe(no_mangle)]
+pub extern "C" fn pmu_ipi(
+    alloc: Global,
+    pmu: &mut Slot,
+    master: u32,
+    api: u32,
+    first: u32,
+    second: u32,
+    third: u32,
+    fourth: u32,
+    fifth: u32,
+) -> u32
+    ensures done { result ≡ 0 → Leads (TakesEvent (events.Ipi (record { 0 = master }) (record {
+      api = api;
+      args = first ∷ second ∷ third ∷ fourth ∷ fifth ∷ [];
+    }))) pmu.old.held pmu.new.held }
+    ensures kept { 0 < result → inside pmu.new.held ≡ inside pmu.old.held }
+    ensures over { result ≡ 0 → Holds IsOver pmu.old.held }
+    ensures left { result ≡ 16 → Holds IsWaiting pmu.old.held }
+    ensures closed { result ≡ 19 → inside pmu.old.held ≡ None }
+    ensures codes { IsOneOf (0 ∷ 6 ∷ 16 ∷ 19 ∷ []) result }
+{
+    let message = Message {
+        api,
+        args: [first, second, third, fourth, fifth],
+    };
+    let master = NodeId(master);
+    tell(alloc, pmu, Event::Ipi { master, message })
+}
+
+/// A boot loader starts a processor at an address.
+#[unsafe(no_mangle)]
+pub extern "C" fn pmu_boot(alloc: Global, pmu: &mut Slot, proc: u32, address: u64) -> u32
+    ensures done { result ≡ 0 → Leads (TakesEvent (events.Boot (record { 0 = proc }) address)) pmu.old.held pmu.new.held }
+    ensures kept { 0 < result → inside pmu.new.held ≡ inside pmu.old.held }
+    ensures over { result ≡ 0 → Holds IsOver pmu.old.held }
+    ensures left { result ≡ 16 → Holds IsWaiting pmu.old.held }
+    ensures closed { result ≡ 19 → inside pmu.old.held ≡ None }
+    ensures codes { IsOneOf (0 ∷ 6 ∷ 16 ∷ 19 ∷ []) result }
+{
+    let proc = NodeId(proc);
+    tell(alloc, pmu, Event::Boot { proc, address })
+}
+
+/// A processor waits for an interrupt.
+#[unsafe(no_mangle)]
+pub extern "C" fn pmu_wfi(alloc: Global, pmu: &mut Slot, proc: u32) -> u32
+    ensures done { result ≡ 0 → Leads (TakesEvent (events.Wfi (record { 0 = proc }))) pmu.old.held pmu.new.held }
+    ensures kept { 0 < result → inside pmu.new.held ≡ inside pmu.old.held }
+    ensures over { result ≡ 0 → Holds IsOver pmu.old.held }
+    ensures left { result ≡ 16 → Holds IsWaiting pmu.old.held }
+    ensures closed { result ≡ 19 → inside pmu.old.held ≡ None }
+    ensures codes { IsOneOf (0 ∷ 6 ∷ 16 ∷ 19 ∷ []) result }
+{
+    let proc = NodeId(proc);
+    tell(alloc, pmu, Event::Wfi { proc })
+}
+
+/// An interrupt at a processor itself.
+#[unsafe(no_mangle)]
+pub extern "C" fn pmu_gic(alloc: Global, pmu: &mut Slot, proc: u32) -> u32
+    ensures done { result ≡ 0 → Leads (TakesEvent (events.Gic (record { 0 = proc }))) pmu.old.held pmu.new.held }
+    ensures kept { 0 < result → inside pmu.new.held ≡ inside pmu.old.held }
+    ensures over { result ≡ 0 → Holds IsOver pmu.old.held }
+    ensures left { result ≡ 16 → Holds IsWaiting pmu.old.held }
+    ensures closed { result ≡ 19 → inside pmu.old.held ≡ None }
+    ensures codes { IsOneOf (0 ∷ 6 ∷ 16 ∷ 19 ∷ []) result }
+{
+    let proc = NodeId(proc);
+    tell(alloc, pmu, Event::Gic { proc })
+}
+
+/// A slave raises its interrupt.
+#[unsafe(no_mangle)]
+pub extern "C" fn pmu_irq(alloc: Global, pmu: &mut Slot, slave: u32) -> u32
+    ensures done { result ≡ 0 → Leads (TakesEvent (events.Irq (record { 0 = slave }))) pmu.old.held pmu.new.held }
+    ensures kept { 0 < result → inside pmu.new.held ≡ inside pmu.old.held }
+    ensures over { result ≡ 0 → Holds IsOver pmu.old.held }
+    ensures left { result ≡ 16 → Holds IsWaiting pmu.old.held }
+    ensures closed { result ≡ 19 → inside pmu.old.held ≡ None }
+    ensures codes { IsOneOf (0 ∷ 6 ∷ 16 ∷ 19 ∷ []) result }
+{
+    let slave = NodeId(slave);
+    tell(alloc, pmu, Event::Irq { slave })
+}
+
+/// Units of time pass.
+#[unsafe(no_mangle)]
+pub extern "C" fn pmu_tick(alloc: Global, pmu: &mut Slot, count: u32) -> u32
+    ensures done { result ≡ 0 → Leads (TakesEvent (events.Tick count)) pmu.old.held pmu.new.held }
+    ensures kept { 0 < result → inside pmu.new.held ≡ inside pmu.old.held }
+    ensures over { result ≡ 0 → Holds IsOver pmu.old.held }
+    ensures left { result ≡ 16 → Holds IsWaiting pmu.old.held }
+    ensures closed { result ≡ 19 → inside pmu.old.held ≡ None }
+    ensures codes { IsOneOf (0 ∷ 6 ∷ 16 ∷ 19 ∷ []) result }
+{
+    tell(alloc, pmu, Event::Tick { count })
+}
+
+/// Tells a controller an event.
+fn tell(alloc: Global, pmu: &mut Slot, event: Event) -> u32
+    ensures done { result ≡ 0 → Leads (TakesEvent event) pmu.old.held pmu.new.held }
+    ensures kept { 0 < result → inside pmu.new.held ≡ inside pmu.old.held }
+    ensures over { result ≡ 0 → Holds IsOver pmu.old.held }
+    ensures left { result ≡ 16 → Holds IsWaiting pmu.old.held }
+    ensures closed { result ≡ 19 → inside pmu.old.held ≡ None }
+    ensures codes { IsOneOf (0 ∷ 6 ∷ 16 ∷ 19 ∷ []) result }
+{
+    let Some(mut held) = pmu.take(alloc) else {
+        return NO_MEMORY;
+    };
+    let code = tell_held(&mut held, &event);
+    pmu.put(held);
+    code
+}
+
+fn tell_held(held: &mut Held, event: &Event) -> u32
+    ensures done { result ≡ 0 → Leads (TakesEvent event.now) held.old held.new }
+    ensures kept { 0 < result → inside held.new ≡ inside held.old }
+    ensures over { result ≡ 0 → Holds IsOver held.old }
+    ensures left { result ≡ 16 → Holds IsWaiting held.old }
+    ensures closed { result ≡ 19 → inside held.old ≡ None }
+    ensures codes { IsOneOf (0 ∷ 16 ∷ 19 ∷ []) result }
+{
+    match &mut held.controller {
+        Some(controller) => {
+            if controller.event(event) {
+                DONE
+            } else {
+                COMMAND_LEFT
+            }
+        }
+        None => CLOSED,
+    }
+}

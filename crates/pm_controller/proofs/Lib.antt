@@ -1,0 +1,3 @@
+pub mod ComingLemmas
+pub mod StepLemmas
+pub mod WayLemmas

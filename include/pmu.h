@@ -1,0 +1,132 @@
+/* The proved core of pmu as a library: a whole run in one call, and a power management controller behind a handle.
+ *
+ * Link libpmu.a and the three memory functions (see "Memory" below). docs/EMBEDDING.md says how, and has examples.
+ *
+ * A call answers at once and calls nothing of yours. What the controller asks of your device comes out as commands: a step
+ * is an event, its commands one by one, each with your answer, and then what it tells.
+ *
+ *     pmu_ipi(pmu, 1, 13, 33, 1, 0, 2, 0);
+ *     while (pmu_next(pmu, &command) == PMU_DONE)
+ *         pmu_done(pmu, my_device(&command));
+ *     pmu_text(pmu, 1, text, sizeof text, &written);
+ *
+ * What is proved of each call, for every call that meets the types below: it is safe, it ends, and it does what is said
+ * here of the controller behind the handle and of the buffers; a call with one handle changes no other.
+ * What is yours to keep: a handle comes from pmu_open and wasn't closed; one call at a time, by one thread; what a handle
+ * points to is never copied; a size is that of the memory before it; pointers aren't null; the memory functions.
+ *
+ * Memory: pmu_open takes the memory of a controller. Each other call with a handle takes a block of a few bytes and
+ * gives it back (pmu_text a copy of the text too), and answers PMU_NO_MEMORY if it gets none. Blocks are taken by
+ * rattle_alloc, rattle_realloc and rattle_dealloc: liblibc_c.a of the toolchain makes them of malloc, realloc and free, and
+ * without a C library they are yours to write: one allocator; a block is aligned to each power of two up to 16 that
+ * divides its size. For the block that pmu_close frees see there.
+ */
+#ifndef PMU_H
+#define PMU_H
+
+#include <stdbool.h>
+#include <stddef.h>
+#include <stdint.h>
+
+#ifdef __cplusplus
+extern "C" {
+#endif
+
+/* What a call answers. Those up to 15 are the exits of the program. But for PMU_DONE nothing was done, where no other
+ * word is said. */
+enum {
+    PMU_DONE = 0,          /* all was done */
+    PMU_BAD_OBJECT = 2,    /* the bytes are no configuration object */
+    PMU_BAD_LINE = 3,      /* a line of the script has no meaning; what stands before it was run */
+    PMU_READ_FAULT = 4,    /* (no call of this library has a cause for it) */
+    PMU_NO_ROOM = 5,       /* the text doesn't fit the buffer; as much as fits was written */
+    PMU_NO_MEMORY = 6,     /* memory is wanted */
+    PMU_TOO_LARGE = 7,     /* the script has more than 67108864 bytes; the lines up to there were run */
+    PMU_COMMAND_LEFT = 16, /* a command of the last step waits for its answer */
+    PMU_NO_COMMAND = 17,   /* no command waits for its answer */
+    PMU_NO_NODE = 18,      /* the chip has no such node */
+    PMU_CLOSED = 19        /* the handle holds no controller */
+};
+
+/* ---- A whole run ------------------------------------------------------------------------------------------------ */
+
+/* Runs a script over a configuration object, the topology of the chip and a new device in memory, as
+ * `pmu replay OBJ SCRIPT` does, but with no modules and no timed tasks. The text of the run goes to `text`, of which `size`
+ * bytes may be written, and *written is how many were.
+ * PMU_DONE: exactly the text of the run was written (proved). PMU_BAD_OBJECT, PMU_BAD_LINE, PMU_TOO_LARGE: the text ends
+ * with the fault line. PMU_NO_ROOM: it breaks off at `size`. PMU_NO_MEMORY: it is empty or the line `fault memory`.
+ * The buffers are yours, and nothing of them is kept. */
+uint32_t pmu_replay(const uint8_t *object, size_t object_size, const uint8_t *script, size_t script_size,
+                    uint8_t *text, size_t size, size_t *written);
+
+/* ---- A controller ------------------------------------------------------------------------------------------------ */
+
+/* What a handle points to. Never read, write or copy it. */
+struct pmu {
+    void *owned;
+};
+
+/* Loads a controller for a configuration object, over the topology of the chip, and hands its handle out in *handle.
+ * Step 0 has begun: its commands bring a device of which each unit stands at 0 to the book at load. Nothing of the object's
+ * bytes is kept. PMU_DONE, PMU_BAD_OBJECT, PMU_NO_MEMORY; *handle is written with PMU_DONE alone. */
+uint32_t pmu_open(const uint8_t *object, size_t object_size, struct pmu **handle);
+
+/* Ends a controller: pmu_close(pmu). pmu_end gives back what the handle owns; the block that it points to was taken by
+ * rattle_alloc too, so with liblibc_c.a it is freed by `free`. */
+void pmu_end(struct pmu pmu);
+#ifndef PMU_NO_LIBC
+#include <stdlib.h>
+static inline void pmu_close(struct pmu *pmu)
+{
+    pmu_end(*pmu);
+    free(pmu);
+}
+#endif
+
+/* Events. Each begins a step. PMU_DONE; PMU_COMMAND_LEFT while a command of the step before waits; PMU_NO_MEMORY. */
+uint32_t pmu_ipi(struct pmu *pmu, uint32_t master, uint32_t api, uint32_t a1, uint32_t a2, uint32_t a3, uint32_t a4,
+                 uint32_t a5);                                       /* a message of a master (UG1200) */
+uint32_t pmu_boot(struct pmu *pmu, uint32_t proc, uint64_t address); /* a boot loader starts a processor */
+uint32_t pmu_wfi(struct pmu *pmu, uint32_t proc);                    /* a processor waits for an interrupt */
+uint32_t pmu_gic(struct pmu *pmu, uint32_t proc);                    /* an interrupt at a processor itself */
+uint32_t pmu_irq(struct pmu *pmu, uint32_t slave);                   /* a slave raises its interrupt */
+uint32_t pmu_tick(struct pmu *pmu, uint32_t count);                  /* units of time pass */
+
+/* A command to the device: a unit goes to a value. */
+struct pmu_command {
+    uint32_t line;   /* 0: a node, of a slave its state, of a power node or a processor 1 or 0; 1: a reset line */
+    uint32_t number; /* of the node or the line */
+    uint32_t value;
+};
+
+/* The command that waits for its answer: the next one of the step, and the same one again until pmu_done.
+ * PMU_DONE: *command is it. PMU_NO_COMMAND: the step is over. PMU_NO_MEMORY. Else *command stays as it was. */
+uint32_t pmu_next(struct pmu *pmu, struct pmu_command *command);
+
+/* The device took the command that waits (ok), or failed it: then it is given again in a later step, until the device
+ * takes it. PMU_DONE; PMU_NO_COMMAND where none waits; PMU_NO_MEMORY. */
+uint32_t pmu_done(struct pmu *pmu, bool ok);
+
+/* Whether the step is over, and the device took the book's value for each unit of the chip. PMU_DONE, PMU_NO_MEMORY. */
+uint32_t pmu_is_settled(struct pmu *pmu, bool *settled);
+
+/* ---- What is told ------------------------------------------------------------------------------------------------ */
+
+/* The lines of the last step, as `pmu replay` writes them (docs/FORMATS.md, "The output"), each after this number, go to
+ * `text`, of which `size` bytes may be written, and *written is how many were.
+ * PMU_DONE: exactly those lines. PMU_NO_ROOM: it breaks off at `size`. PMU_COMMAND_LEFT: the step isn't over, *written is 0.
+ * PMU_NO_MEMORY: *written is 0. */
+uint32_t pmu_text(struct pmu *pmu, uint32_t number, uint8_t *text, size_t size, size_t *written);
+
+/* The value of a node in the book: of a slave its state, of a power node 1 if it is up, of a processor 1 if it runs or
+ * suspends, and else 0. PMU_DONE, PMU_NO_NODE, PMU_NO_MEMORY. */
+uint32_t pmu_value(struct pmu *pmu, uint32_t node, uint32_t *value);
+
+/* The mode of a processor: 0 off, 1 active, 2 asleep, 3 suspending. PMU_DONE, PMU_NO_NODE, PMU_NO_MEMORY. */
+uint32_t pmu_mode(struct pmu *pmu, uint32_t proc, uint32_t *mode);
+
+#ifdef __cplusplus
+}
+#endif
+
+#endif
