@@ -163,7 +163,7 @@ def meaning_of_words(message, words):
         return [f"{'power' if rest[0] == 1 else 'latency'} {words[0]}"]
     if api == 18:
         return ["asserted" if words[0] else "released"]
-    return []
+    return [] if api in names.CALLS else ["words " + " ".join(map(str, words))]
 
 
 def meaning_of_answer(message, status, words):
@@ -242,6 +242,10 @@ def meanings_of_replay(told):
             yield f"{names.node_name(int(number))}: its box is full"
         elif kind == "smc":
             yield f"{names.node_name(int(number))}: its power call is answered {words[0]}{RETURN_CODES.get(words[0], '')}"
+        elif kind == "task":
+            yield f"timed task {number} is called at {words[0]} and answers {words[1]}"
+        elif kind == "notask":
+            yield f"no timed task {number}, or no interval"
         else:
             yield next(meanings)
 

@@ -16,6 +16,9 @@ from program import BadUse, Failed, run_text, write_file
 GET_NODE_STATUS = 3
 SUSPENDING, ASLEEP = 3, 2
 
+# The lines that a script line writes itself, after those of its core events.
+OWN = ("busy", "task", "notask", "smc")
+
 # The calls that can change the mode of a processor: SELF_SUSPEND, FORCE_POWERDOWN, ABORT_SUSPEND, REQUEST_WAKEUP,
 # SYSTEM_SHUTDOWN and RESET_ASSERT.
 CHANGING = (7, 8, 9, 10, 12, 17)
@@ -122,13 +125,18 @@ def lines_of(obj, content, room, name=None):
     return run_text(["replay", obj, path], ["replay", obj, name or path])
 
 
+def of_cores(lines):
+    """The lines of a replay without those that its script lines write themselves."""
+    return [line for line in lines if line.split()[1] not in OWN]
+
+
 def replay_of(obj, content, room, name=None):
     """The replay of a script in numbers, from the file of that name; `room` is a folder for files."""
     script, lines = script_lines(content), lines_of(obj, content, room, name)
     if not split.is_split(script):
-        return Replay(lines, lines, script, list(range(1, len(script) + 1)))
+        return Replay(lines, of_cores(lines), script, list(range(1, len(script) + 1)))
     cores, numbers = split.split(script, master_masks(run_text(["print", obj])))
-    return Replay(lines, lines_of(obj, content_of(cores), room), cores, numbers)
+    return Replay(lines, of_cores(lines_of(obj, content_of(cores), room)), cores, numbers)
 
 
 def content_of(script):

@@ -16,6 +16,7 @@ from program import BadUse, read_file
 
 # The words after the first one of a line of a script, by what they mean; those of a message say it themselves.
 SCRIPT = {"boot": ("node", "address"), "wfi": ("node",), "irq": ("node",), "gic": ("node",), "tick": ("time",)}
+SCRIPT |= {"task": ("key", "interval"), "cancel": ("key",)}
 SCRIPT |= {"break": ("node",), "mend": ("node",), "smc": ("node", "function", "argument", "argument", "argument")}
 
 # The first words of lines with a message.

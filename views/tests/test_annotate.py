@@ -147,6 +147,19 @@ class Names(Case):
             },
         )
 
+    def test_modules_and_timed_tasks(self):
+        script = "ipi 1 256 7 8 9\ntask 0 10\ntick 20\ncancel 0\ncancel 0\npost 1 260 511\nserve\ntask 1 5\ntick 5\n"
+        self.check(
+            ["replay", example("laboratory.obj"), self.file("tasks.script", script)],
+            {
+                "1 reply 1 0 7 8 9": "APU: success, words 7 8 9",
+                "3 task 0 20 1": "timed task 0 is called at 20 and answers 1",
+                "5 notask 0": "no timed task 0, or no interval",
+                "7 reply 1 0 255 0 0": "APU: success, words 255 0 0",
+                "9 task 1 25 1": "timed task 1 is called at 25 and answers 1",
+            },
+        )
+
     def test_power_calls(self):
         script = "ipi 1 21\nsmc APU_0 0xC4000003 1 4096\nsmc 2 0xC4000003 1 4096\nsmc APU_1 0x84000002\nsmc RPU_0 1\nsmc 2 1\n"
         self.check(

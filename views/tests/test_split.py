@@ -16,7 +16,7 @@ class Split(unittest.TestCase):
         self.assertEqual(numbers, sorted(numbers))
 
     def test_a_line_without_a_message_in_a_box_is_its_own_core_event(self):
-        script = ["ipi 1 3 11 # a", "", "#post", "irq 46", " boot 7\t0"]
+        script = ["ipi 1 3 11 # a", "", "#post", "irq 46", " boot 7\t0", "task 0 1", "cancel 0"]
         self.check(script, [[line] for line in script])
         self.assertFalse(split.is_split(script))
 

@@ -66,6 +66,7 @@ class Numbers(Case):
             ("ipi APU FEATURE_CHECK 13", "ipi 1 63 13"),
             ("post APU REQUEST_NODE UART_0 ACCESS 0 BLOCKING\nserve", "post 1 13 33 1 0 2\nserve"),
             ("smc APU_1 0xC4000003 2 0x100000000", "smc 3 0xC4000003 2 0x100000000"),
+            ("task 0 100\ncancel 0", "task 0 100\ncancel 0"),
             ("wfi APU_3\nirq GPIO\ngic RPU_1\nboot RPU_0 0x0", "wfi 5\nirq 46\ngic 8\nboot 7 0x0"),
         ]:
             self.assertEqual(self.text("--numbers", self.file("given", given)), wanted)
@@ -84,6 +85,8 @@ class Numbers(Case):
             ("serve\npost APU REQUEST_NODE UART_9\n", "given:2: no node is named UART_9"),
             ("ipi APU REQUEST_NODE UART_0 READ\n", "given:1: no capability is named READ"),
             ("ipi APU REQUEST_NODE UART_0 ACCESS LOW\n", "given:1: the qos is a number, not LOW"),
+            ("task APU 100\n", "given:1: the key is a number, not APU"),
+            ("task 0 SECOND\n", "given:1: the interval is a number, not SECOND"),
             ("ipi APU RESET_ASSERT FPD ASSERT\n", "given:1: no reset line is named FPD"),
             ("ipi APU FEATURE_CHECK REQUEST_NODE\n", "given:1: a number is wanted, not REQUEST_NODE"),
             ("header\nsection masters\nmaster APU APU 1 0 0\nsection slaves\nslave GPIO 0 RPU_0\n", "given:5: no master line of this text has the mask of RPU_0"),

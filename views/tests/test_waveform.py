@@ -80,6 +80,15 @@ class Waveform(Case):
         self.assertEqual(dump.named("answer").changes, list(enumerate(answers)))
         self.assertEqual(dump.named("UART_0", ("reset_lines",)).changes, [(0, 0), (6, 1), (6, 0)])
 
+    def test_the_calls_of_timed_tasks_are_at_their_time(self):
+        script = self.file("tasks.script", "task 0 2\ntask 1 1\ntick 2\nipi 1 260 511\ncancel 2")
+        dump = self.dump(example("laboratory.obj"), script)
+        lines = ["load", "task 0 2", "task 1 1", "tick 2", "ipi APU 260 511", "cancel 2"]
+        self.assertEqual(dump.named("line").changes, list(enumerate(lines)))
+        answers = ["", "", "", "timed task 0 is called at 2 and answers 1; timed task 1 is called at 2 and answers 1"]
+        answers += ["APU: success, words 255 0 0", "no timed task 2, or no interval"]
+        self.assertEqual(dump.named("answer").changes, list(enumerate(answers)))
+
     def test_a_script_with_carriage_returns(self):
         with open(example("sleep.script"), "rb") as file:
             script = file.read().replace(b"\n", b"\r\n")
