@@ -23,7 +23,7 @@ use Rattle.pm_calls.specs.ProcCalls.{address_in, is_in, proc_changes, put_at}
 use Rattle.pm_calls.specs.RowCalls.{changes_of, row_changes, can_have, is_in_use}
 use Rattle.pm_state.specs.Sound.{IsSound}
 use Rattle.pm_state.specs.Stages.{after_stage, after_stages}
-use Rattle.pm_state.specs.State.{State, in_force}
+use Rattle.pm_state.specs.State.{State, grants_in, in_force}
 use Rattle.pm_calls.specs.calls.{called}
 use Rattle.pm_state.specs.Values.{slave_place}
 use Rattle.pm_calls.specs.Verdict.{Called, stages_of}
@@ -156,7 +156,7 @@ called_keeps laws m (SelfSuspend node address) book sound heard =
     let view : ProcView = proc_view m node book in
     call_keeps (self_suspend m address view) book sound (λ all. put_keeps laws.rows m view.place Suspending address book sound)
 called_keeps laws m (ForcePowerdown node ack) book sound heard =
-    call_keeps (force_powerdown book.fixed m node ack) book sound
+    call_keeps (force_powerdown (grants_in book) book.fixed m node ack) book sound
     (λ all. stages_kept laws (force_stages book.fixed node) book (offs_free book.fixed (Under node), (clears_free book.fixed node, tt)) sound)
 called_keeps laws m (AbortSuspend node reason) book sound heard =
     let view : ProcView = proc_view m node book in
@@ -167,7 +167,7 @@ called_keeps laws m (RequestWakeup node address ack) book sound heard =
 called_keeps laws m (SetWakeupSource target source enable) book sound heard =
     row_call_keeps laws.rows m (arming target enable) (set_wakeup_source target enable (proc_view m target book)) book (slave_place source book) sound (λ view. refl) (arming_fits m target enable book)
 called_keeps laws m (SystemShutdown shutdown_type subtype) book sound heard =
-    call_keeps (system_shutdown book.fixed m shutdown_type subtype) book sound
+    call_keeps (system_shutdown (grants_in book) book.fixed m shutdown_type subtype) book sound
     (λ all. each_shutdown (λ stages. IsSound (after_stages stages book)) book.fixed m sound
     (λ restarts. stages_kept laws (own_stages book.fixed m restarts) book (own_free book.fixed m restarts) sound)
     (λ restarts. stages_kept laws (all_stages book.fixed restarts) book (all_free book.fixed restarts) sound) shutdown_type subtype)

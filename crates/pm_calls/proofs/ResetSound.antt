@@ -1,40 +1,37 @@
 -- The reset of a line keeps the book sound: only a line that a master may reset is asserted.
-use Rattle.std.proofs.Common.{◌≡◌, ◌≢◌, ℕ, ◌==◌, Bool, true, false, true≢false, if◌then◌else◌, IsTrue, List, [], ◌++◌, slice_get, Option, Some, None, refl, sym, ◌∙◌, ap, inl, inr}
+use Rattle.std.proofs.Common.{◌≡◌, ◌≢◌, ℕ, ◌==◌, Bool, true, false, true≢false, if◌then◌else◌, List, [], ◌++◌, Option, Some, None, refl, sym, ◌∙◌, ap, inl, inr}
 use Rattle.std.specs.Prelude.{slice_set}
-use Rattle.std.proofs.lemmas.Bool.{cases_eq, eqb-true}
+use Rattle.std.proofs.lemmas.Bool.{cases_eq}
 use Rattle.std.proofs.lemmas.List.{get_or-set_other, length-set}
 use Rattle.std.proofs.lemmas.Option.{unwrap_or-slice_get}
-use Rattle.pm_base.proofs.Searches.{IsFirst, position-first}
 use Rattle.pm_base.specs.declared.names.LineId.{LineId}
 use Rattle.pm_base.specs.declared.names.Mode.TheVariants.{Off}
-use Rattle.pm_topology.specs.declared.topology.LineDef.{LineDef}
-use Rattle.pm_perms.specs.Permits.{may_reset}
+use Rattle.pm_grants.specs.Grants.{grants_of, permits_reset}
 use Rattle.pm_resets.specs.Resets.{is_asserted, with_line}
 use Rattle.pm_calls.specs.declared.reset_lines.LineView.{LineView}
 use Rattle.pm_calls.specs.declared.reset_lines.OwnedProc.{OwnedProc}
-use Rattle.pm_calls.specs.ResetLines.{line_view, reset_at}
+use Rattle.pm_calls.specs.ResetLines.{can_reset, line_view, reset_at}
 use Rattle.pm_state.specs.Members.{owns}
 use Rattle.pm_calls.specs.Checks.{AllHold}
-use Rattle.pm_state.specs.Prims.{Prim, Put_line, applies, apply, changed}
+use Rattle.pm_state.specs.Prims.{Put_line, applies, apply, changed}
 use Rattle.pm_state.specs.Sound.{IsSound}
 use Rattle.pm_state.specs.Stages.{after_stage}
 use Rattle.pm_state.specs.State.{Fixed, Now, State}
 use Rattle.pm_state.specs.Values.{line_place}
-use Rattle.pm_state.specs.Nodes.{master_node}
 use Rattle.pm_calls.specs.calls.ResetAssert.{line_put, reset_changes, reset_checks, stopped, stopped_by}
 use Rattle.pm_state.proofs.RowLaws.{RowLaws}
 use Rattle.pm_state.proofs.StageLaw.{IsWithin, within, put_keeps, followed_sound}
 
--- the master at place m may reset the line with this entry
-abbrev MayReset : Fixed → ℕ → LineDef → Type 0
-MayReset fixed m line = may_reset fixed.object fixed.topology (master_node fixed.object.masters m) line.line ≡ true
+-- the master at place m may reset the line at place l
+abbrev MayReset : Fixed → ℕ → ℕ → Type 0
+MayReset fixed m l = permits_reset (grants_of fixed.object fixed.topology) m l ≡ true
 
 other_line : (lines : List Bool) (l k : ℕ) (asserted : Bool) → k ≢ l → is_asserted k (with_line l asserted lines) ≡ is_asserted k lines
 other_line lines l k asserted other =
     unwrap_or-slice_get (slice_set lines l asserted) k false ∙ (get_or-set_other lines l k asserted false other ∙ sym (unwrap_or-slice_get lines k false))
 
 -- a line that a master may reset may be asserted
-pub put_line_keeps : (fixed : Fixed) (now : Now) (m l : ℕ) (asserted : Bool) → ((line : LineDef) → slice_get fixed.topology.lines l ≡ Some line → MayReset fixed m line) → IsWithin fixed now → IsWithin fixed (apply fixed (Put_line l asserted) now)
+pub put_line_keeps : (fixed : Fixed) (now : Now) (m l : ℕ) (asserted : Bool) → MayReset fixed m l → IsWithin fixed now → IsWithin fixed (apply fixed (Put_line l asserted) now)
 put_line_keeps fixed now m l asserted may of = record {
   rows = of.rows;
   boot = of.boot;
@@ -42,9 +39,9 @@ put_line_keeps fixed now m l asserted may of = record {
   procs = record { each = of.procs.each; nobodys = of.procs.nobodys };
   lines = record {
     each = length-set now.core.lines l asserted ∙ of.lines.each;
-    nobodys = λ k line is nobody. elim (cases_eq k l) [
-      | inl own ↦ absurd (true≢false (sym (may line (ap (slice_get fixed.topology.lines) (sym own) ∙ is)) ∙ nobody m))
-      | inr other ↦ other_line now.core.lines l k asserted other ∙ of.lines.nobodys k line is nobody
+    nobodys = λ k nobody. elim (cases_eq k l) [
+      | inl own ↦ absurd (true≢false (sym may ∙ (ap (permits_reset (grants_of fixed.object fixed.topology) m) (sym own) ∙ nobody m)))
+      | inr other ↦ other_line now.core.lines l k asserted other ∙ of.lines.nobodys k nobody
     ];
   };
   armed = of.armed;
@@ -62,28 +59,15 @@ stops_keep : (fixed : Fixed) (release : Bool) (target : Option OwnedProc) (now :
 stops_keep fixed true target now of = of
 stops_keep fixed false target now of = stopped_keeps fixed target now of
 
--- the entry at the place of a line has its number
-line_is : (number : ℕ) (lines : List LineDef) (l : ℕ) (line : LineDef) (first : IsFirst (λ (x : LineDef). x.line.0 == number) lines l) → slice_get lines l ≡ Some line → line.line ≡ record { 0 = number }
-line_is number lines l line first is =
-    let same : first.element ≡ line = cc in
-    let id : ℕ → LineId = λ n. record { 0 = n } in
-    ap id (eqb-true line.line.0 number (ap (λ (x : LineDef). x.line.0 == number) (sym same) ∙ first.passes))
-
-placed_may : (m : ℕ) (line : LineId) (book : State) (l : ℕ) → line_place line book.fixed ≡ Some l → IsTrue (line_view m line book).permitted → (def : LineDef) → slice_get book.fixed.topology.lines l ≡ Some def → MayReset book.fixed m def
-placed_may m line book l at may def is =
-    let first = position-first (λ (x : LineDef). x.line.0 == line.0) book.fixed.topology.lines l at in
-    let same : def.line ≡ line = line_is line.0 book.fixed.topology.lines l def first is in
-    ap (λ (id : LineId). may_reset book.fixed.object book.fixed.topology (master_node book.fixed.object.masters m) id) same ∙ may
-
-reset_within : (m : ℕ) (line : LineId) (action : ℕ) (book : State) (place : Option ℕ) (target : Option OwnedProc) → line_place line book.fixed ≡ place → IsTrue (line_view m line book).permitted → IsSound book → IsWithin book.fixed (applies book.fixed (line_put place (action == 1) ++ stopped_by action target) book.now)
-reset_within m line action book None target at may sound = stops_keep book.fixed (action == 0) target book.now (within book sound)
-reset_within m line action book (Some l) target at may sound =
+reset_within : (m action : ℕ) (book : State) (place : Option ℕ) (target : Option OwnedProc) → can_reset m place book ≡ true → IsSound book → IsWithin book.fixed (applies book.fixed (line_put place (action == 1) ++ stopped_by action target) book.now)
+reset_within m action book None target may sound = stops_keep book.fixed (action == 0) target book.now (within book sound)
+reset_within m action book (Some l) target may sound =
     stops_keep book.fixed (action == 0) target (apply book.fixed (Put_line l (action == 1)) book.now)
-    (put_line_keeps book.fixed book.now m l (action == 1) (placed_may m line book l at may) (within book sound))
+    (put_line_keeps book.fixed book.now m l (action == 1) may (within book sound))
 
 -- the call that resets a line
 pub reset_keeps : RowLaws → (m : ℕ) (line : LineId) (action : ℕ) (book : State) → IsSound book → AllHold (reset_checks action (line_view m line book)) → IsSound (after_stage (reset_changes action (line_view m line book)) book)
 reset_keeps laws m line action book sound all =
     let view : LineView = line_view m line book in
     followed_sound laws (changed (reset_changes action view) book)
-    (reset_within m line action book (line_place line book.fixed) (reset_at (line_place line book.fixed) book.fixed) refl all.permitted sound)
+    (reset_within m action book (line_place line book.fixed) (reset_at (line_place line book.fixed) book.fixed) all.permitted sound)

@@ -1,19 +1,18 @@
 -- What the calls read of a reset line.
-use Rattle.std.specs.Prelude.{ℕ, slice_get, Option, Some, None, option_map}
+use Rattle.std.specs.Prelude.{ℕ, Bool, false, slice_get, Option, Some, None, option_map}
 use Rattle.pm_base.specs.declared.names.LineId.{LineId}
 use Rattle.pm_base.specs.declared.names.NodeId.{NodeId}
 use Rattle.pm_topology.specs.declared.places.Kind.{Kind}
 use Rattle.pm_topology.specs.declared.places.Kind.TheVariants.{Proc}
 use Rattle.pm_topology.specs.declared.topology.LineDef.{LineDef}
 use Rattle.pm_topology.specs.Places.{kind_of}
-use Rattle.pm_perms.specs.Permits.{may_reset}
+use Rattle.pm_grants.specs.Grants.{permits_reset}
 use Rattle.pm_resets.specs.Resets.{value_of}
 use Rattle.pm_calls.specs.declared.reset_lines.LineView.{LineView}
 use Rattle.pm_calls.specs.declared.reset_lines.OwnedProc.{OwnedProc}
 use Rattle.pm_state.specs.Members.{owner_at}
-use Rattle.pm_state.specs.State.{Fixed, State, in_force}
+use Rattle.pm_state.specs.State.{Fixed, State, grants_in}
 use Rattle.pm_state.specs.Values.{line_place}
-use Rattle.pm_state.specs.Nodes.{master_node}
 
 -- the processor at place p with the configured master that has it
 abbrev pub owned_by : Option ℕ → ℕ → Option OwnedProc
@@ -38,11 +37,16 @@ abbrev pub reset_at : Option ℕ → Fixed → Option OwnedProc
 reset_at None fixed = None
 reset_at (Some l) fixed = reset_by (slice_get fixed.topology.lines l) fixed
 
+-- the master at place m may reset the line at this place, if there is one
+abbrev pub can_reset : ℕ → Option ℕ → State → Bool
+can_reset m None book = false
+can_reset m (Some l) book = permits_reset (grants_in book) m l
+
 -- what the master at place m sees of a reset line: its place, whether it may reset it, and the processor that the line resets
 abbrev pub line_view : ℕ → LineId → State → LineView
 line_view m line book = record {
   place = line_place line book.fixed;
-  permitted = may_reset (in_force book) book.fixed.topology (master_node (in_force book).masters m) line;
+  permitted = can_reset m (line_place line book.fixed) book;
   target = reset_at (line_place line book.fixed) book.fixed;
 }
 

@@ -11,7 +11,7 @@ use Rattle.pm_calls.specs.Characteristics.{characteristics}
 use Rattle.pm_state.specs.Members.{mode_of_master}
 use Rattle.pm_calls.specs.ResetLines.{line_status, line_view}
 use Rattle.pm_calls.specs.RowCalls.{row_changes}
-use Rattle.pm_state.specs.State.{State}
+use Rattle.pm_state.specs.State.{State, grants_in}
 use Rattle.pm_calls.specs.Verdict.{Called, changing, effecting, told}
 use Rattle.pm_calls.specs.Views.{is_asked, proc_view, row_view, status_view, suspend_view, wake_view, watched}
 use Rattle.pm_calls.specs.calls.AbortSuspend.{abort_suspend}
@@ -72,6 +72,6 @@ shaped m (Own_abort node reason) book = abort_suspend m reason (is_asked m book)
 shaped m (Own_notifier node event enable) book = register_notifier m node event enable (watched m node book)
 shaped m (Other_wakeup node address ack) book = request_wakeup address ack (wake_view m node book)
 shaped m (Other_suspend node ack latency state) book = request_suspend m node ack latency state (suspend_view m node book)
-shaped m (All_forced node ack) book = force_powerdown book.fixed m node ack
-shaped m (All_shut shutdown_type subtype) book = system_shutdown book.fixed m shutdown_type subtype
+shaped m (All_forced node ack) book = force_powerdown (grants_in book) book.fixed m node ack
+shaped m (All_shut shutdown_type subtype) book = system_shutdown (grants_in book) book.fixed m shutdown_type subtype
 shaped m (All_reset line action) book = reset_assert line action (line_view m line book)

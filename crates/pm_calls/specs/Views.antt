@@ -20,10 +20,10 @@ use Rattle.pm_procs.specs.declared.procs.Proc.{Proc as Processor}
 use Rattle.pm_procs.specs.Procs.{proc_at}
 use Rattle.pm_state.specs.Members.{owner_at, owns, mode_of_master}
 use Rattle.pm_object.specs.Grammar.{is_master_node}
-use Rattle.pm_perms.specs.Permits.{may_suspend, may_use, may_wake}
+use Rattle.pm_grants.specs.Grants.{permits_suspend, permits_use, permits_wake}
 use Rattle.pm_procs.specs.Pending.{pending_at}
 use Rattle.pm_state.specs.Values.{slave_place, point_at}
-use Rattle.pm_state.specs.State.{Fixed, State, in_force}
+use Rattle.pm_state.specs.State.{Fixed, State, grants_in, in_force}
 use Rattle.pm_state.specs.Nodes.{master_node, named_master}
 
 -- the node of the other master that uses a slave which can't be shared
@@ -60,9 +60,7 @@ proc_view m node book = proc_view_at m (kind_of book.fixed.topology node) book
 
 -- the master at place m may wake the processors of the one at place k: they are its own, or the object permits it
 abbrev pub can_wake : ℕ → ℕ → State → Bool
-can_wake m k book =
-    (k == m)
-    || may_wake (in_force book) book.fixed.topology (master_node (in_force book).masters m) (master_node (in_force book).masters k)
+can_wake m k book = (k == m) || permits_wake (grants_in book) m k
 
 -- the processor at place p with the master that has it, where the master at place m may wake it
 abbrev pub wakeable : ℕ → ℕ → Option ℕ → State → Option Wakeable
@@ -98,8 +96,7 @@ master_timeout masters place = option_map_or (λ (master : MasterRec). master.ti
 
 -- the object permits the master at place m to ask the one at place k that it suspends
 abbrev pub can_suspend : ℕ → ℕ → State → Bool
-can_suspend m k book =
-    may_suspend (in_force book) book.fixed.topology (master_node (in_force book).masters m) (master_node (in_force book).masters k)
+can_suspend m k book = permits_suspend (grants_in book) m k
 
 -- what is seen of the master at place k
 abbrev pub suspendable_at : ℕ → State → Suspendable
@@ -122,14 +119,13 @@ suspend_view m node book =
 
 -- what the master at place m sees of a node of this kind, of which it wants to be told: that it is a slave, and whether the master
 -- may use it; that it is a power node; or nothing
-abbrev pub watched_at : ℕ → NodeId → Kind → State → Watched
-watched_at m node (Slave s) book =
-    SlaveNode (may_use (in_force book) book.fixed.topology (master_node (in_force book).masters m) node)
-watched_at m node (Power w) book = PowerNode
-watched_at m node _ book = Nothing
+abbrev pub watched_at : ℕ → Kind → State → Watched
+watched_at m (Slave s) book = SlaveNode (permits_use (grants_in book) m s)
+watched_at m (Power w) book = PowerNode
+watched_at m _ book = Nothing
 
 abbrev pub watched : ℕ → NodeId → State → Watched
-watched m node book = watched_at m node (kind_of book.fixed.topology node) book
+watched m node book = watched_at m (kind_of book.fixed.topology node) book
 
 -- a node that isn't a slave is told with this operating point alone
 abbrev pub plain : ℕ → StatusView

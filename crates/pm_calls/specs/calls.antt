@@ -22,7 +22,7 @@ use Rattle.pm_ipi.specs.declared.calls.Call.{Call}
 use Rattle.pm_ipi.specs.declared.calls.Call.TheVariants as call
 use Rattle.pm_rows.specs.declared.row.Change.TheVariants.{Request, Release, Set, Limit}
 use Rattle.pm_state.specs.Members.{mode_of_master}
-use Rattle.pm_state.specs.State.{State}
+use Rattle.pm_state.specs.State.{State, grants_in}
 use Rattle.pm_calls.specs.Characteristics.{characteristics}
 use Rattle.pm_calls.specs.Checks.{unchecked}
 use Rattle.pm_calls.specs.ResetLines.{line_view, line_status}
@@ -60,12 +60,12 @@ called m (call.RegisterNotifier node event wake enable) book =
 called m (call.RequestSuspend node ack latency state) book =
     request_suspend m node ack latency state (suspend_view m node book)
 called m (call.SelfSuspend node address) book = self_suspend m address (proc_view m node book)
-called m (call.ForcePowerdown node ack) book = force_powerdown book.fixed m node ack
+called m (call.ForcePowerdown node ack) book = force_powerdown (grants_in book) book.fixed m node ack
 called m (call.AbortSuspend node reason) book = abort_suspend m reason (is_asked m book) (proc_view m node book)
 called m (call.RequestWakeup node address ack) book = request_wakeup address ack (wake_view m node book)
 called m (call.SetWakeupSource target source enable) book =
     set_wakeup_source target enable (proc_view m target book) (row_view m source book)
-called m (call.SystemShutdown shutdown_type subtype) book = system_shutdown book.fixed m shutdown_type subtype
+called m (call.SystemShutdown shutdown_type subtype) book = system_shutdown (grants_in book) book.fixed m shutdown_type subtype
 called m (call.RequestNode node caps ack) book = request_node caps ack (row_view m node book)
 called m (call.ReleaseNode node) book = release_node (row_view m node book)
 called m (call.SetRequirement node caps ack) book =

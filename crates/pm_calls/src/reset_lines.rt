@@ -1,12 +1,11 @@
 //! The reset lines of a book, and what the calls read of one.
 
 ghost use Rattle.std.specs.Prelude.{◌≡◌, slice_get};
-ghost use Rattle.pm_calls.specs.ResetLines.{line_status, line_view, owned_by, owned_node, owned_of, reset_at};
+ghost use Rattle.pm_calls.specs.ResetLines.{can_reset, line_status, line_view, owned_by, owned_node, owned_of, reset_at};
 ghost use Rattle.pm_state.specs.Values.{line_place};
 
 use pm_base::{LineId, NodeId};
-use pm_perms::may_reset;
-use pm_state::{Tables, master_node};
+use pm_state::Tables;
 use pm_topology::{Kind, LineDef};
 
 /// A processor, by its place, and the place of the configured master that has it.
@@ -43,22 +42,19 @@ pub(crate) fn line_view(tables: &Tables, master: usize, line: LineId) -> LineVie
     let place = line_place(tables, line);
     LineView {
         place,
-        permitted: permits_reset(tables, master, line),
+        permitted: can_reset(tables, master, place),
         target: reset_at(tables, place),
     }
 }
 
-/// Whether the object permits a master to reset a line.
-fn permits_reset(tables: &Tables, master: usize, line: LineId) -> bool
-    ensures { result ≡ (line_view master line tables.now).permitted }
+/// Whether a master may reset the line at a place, if there is one.
+fn can_reset(tables: &Tables, master: usize, place: Option<usize>) -> bool
+    ensures { result ≡ can_reset master place tables.now }
 {
-    let masters = tables.in_force().masters.as_slice();
-    may_reset(
-        tables.in_force(),
-        tables.topology(),
-        master_node(masters, master),
-        line,
-    )
+    match place {
+        Some(line) => tables.grants().permits_reset(master, line),
+        None => false,
+    }
 }
 
 /// The processor that the line at a place resets, where it resets one that a configured master has.

@@ -2,16 +2,12 @@
 
 ghost use Rattle.std.specs.Prelude.{◌≡◌};
 ghost use Rattle.pm_rows.specs.Rows.{now_of};
-ghost use Rattle.pm_perms.specs.Permits.{may_use};
 ghost use Rattle.pm_values.specs.Caches.{AreKept};
-ghost use Rattle.pm_state.specs.State.{in_force};
 ghost use Rattle.pm_calls.specs.Views;
 ghost use Rattle.pm_calls.specs.Views.{row_view, own_proc, proc_view, can_wake, wakeable, wake_view, can_suspend, is_asked, names_master, suspendable, suspendable_at, suspend_view, watched, status_view};
-ghost use Rattle.pm_state.specs.Nodes;
 
 use pm_base::{Caps, Mode, NodeId};
 use pm_object::{MasterRec, is_master_node};
-use pm_perms::{may_suspend, may_use, may_wake};
 use pm_procs::Proc;
 use pm_rows::Entry;
 use pm_state::{Tables, master_node};
@@ -180,14 +176,7 @@ fn wake_target(tables: &Tables, master: usize, p: usize, owner: Option<usize>) -
 fn can_wake(tables: &Tables, master: usize, owner: usize) -> bool
     ensures { result ≡ can_wake master owner tables.now }
 {
-    let masters = tables.in_force().masters.as_slice();
-    owner == master
-        || may_wake(
-            tables.in_force(),
-            tables.topology(),
-            master_node(masters, master),
-            master_node(masters, owner),
-        )
+    owner == master || tables.grants().permits_wake(master, owner)
 }
 
 fn master_timeout(masters: &[MasterRec], place: usize) -> u32
@@ -245,39 +234,19 @@ fn suspendable_at(tables: &Tables, target: usize) -> Suspendable
 fn can_suspend(tables: &Tables, master: usize, target: usize) -> bool
     ensures { result ≡ can_suspend master target tables.now }
 {
-    let masters = tables.in_force().masters.as_slice();
-    may_suspend(
-        tables.in_force(),
-        tables.topology(),
-        master_node(masters, master),
-        master_node(masters, target),
-    )
+    tables.grants().permits_suspend(master, target)
 }
 
 pub(crate) fn watched_node(tables: &Tables, master: usize, node: NodeId) -> Watched
     ensures { result ≡ watched master node tables.now }
 {
     match tables.kind(node) {
-        Kind::Slave(_) => Watched::SlaveNode {
-            permitted: permits_use(tables, master, node),
+        Kind::Slave(slave) => Watched::SlaveNode {
+            permitted: tables.grants().permits_use(master, slave),
         },
         Kind::Power(_) => Watched::PowerNode,
         Kind::Proc(_) | Kind::Unknown => Watched::Nothing,
     }
-}
-
-/// Whether the object permits a master to use a slave.
-fn permits_use(tables: &Tables, master: usize, slave: NodeId) -> bool
-    ensures { result ≡ may_use (in_force tables.now) tables.now.fixed.topology
-        (Nodes.master_node (in_force tables.now).masters master) slave }
-{
-    let masters = tables.in_force().masters.as_slice();
-    may_use(
-        tables.in_force(),
-        tables.topology(),
-        master_node(masters, master),
-        slave,
-    )
 }
 
 /// What is told of a node that isn't a slave: its operating point alone.

@@ -1,13 +1,13 @@
 -- Agreement beyond a border: of a sound book with itself, turned round, and through a third book.
-use Rattle.std.proofs.Common.{◌≡◌, ℕ, ◌+◌, ◌<◌, Bool, true, false, true≢false, List, [], ◌∷◌, length, map, slice_get, unwrap_or, Option, Some, None, refl, sym, ◌∙◌, ap, subst, arith, inl, inr}
+use Rattle.std.proofs.Common.{◌≡◌, ℕ, ◌+◌, ◌<◌, Bool, true, false, true≢false, List, [], ◌∷◌, length, map, slice_get, unwrap_or, Option, Some, None, refl, sym, ◌∙◌, ap, subst, arith}
 use Rattle.std.specs.List.{AllByRecursion as Each}
 use Rattle.std.proofs.lemmas.List.Elements.{recursion_from_All}
-use Rattle.std.proofs.lemmas.Option.{slice_get_cases, slice_get_within}
-use Rattle.pm_laws.proofs.Common.{Agree, Border, Entry, Fixed, HasNotes, IsBeyond, IsClosed, IsPairClosed, IsSound, IsUserKnown, IsWithin, Now, Object, Off, RowSeed, Same, SameKnown, SameLine, SameMasterNotes, SamePending, SameProc, SameRow, SameRows, SameTalk, State, TalkHalf, Topology, in_force, master_node, mode_at, off, owner_at}
+use Rattle.std.proofs.lemmas.Option.{slice_get_within}
+use Rattle.pm_laws.proofs.Common.{Agree, Border, Entry, Fixed, HasNotes, IsBeyond, IsClosed, IsPairClosed, IsSound, IsUserKnown, IsWithin, Now, Object, Off, RowSeed, Same, SameKnown, SameLine, SameMasterNotes, SamePending, SameProc, SameRow, SameRows, SameTalk, State, TalkHalf, Topology, in_force, mode_at, off, owner_at}
 use Rattle.pm_procs.specs.declared.procs.Proc.{Proc}
 use Rattle.pm_rows.specs.Sound.{pair_in}
-use Rattle.pm_topology.specs.declared.topology.LineDef.{LineDef}
-use Rattle.pm_perms.specs.Permits.{may_reset}
+use Rattle.pm_grants.specs.Grants.{permits_reset}
+use Rattle.pm_state.specs.State.{grants_in}
 use Rattle.pm_state.specs.Load.{load_of}
 use Rattle.pm_state.specs.Pairs.{pairs_of}
 use Rattle.pm_notify.specs.MasterNotes.{MasterNotes}
@@ -162,19 +162,14 @@ master_notes_order units book sound m notes is =
 
 module _ (border : Border) (book : State) (closed : IsClosed book.fixed.object book.fixed.topology border) (sound : IsSound book) where
   -- where no master is beyond nobody may reset a line beyond
-  unreset : (m l : ℕ) (line : LineDef) (may : Bool) → may_reset book.fixed.object book.fixed.topology (master_node book.fixed.object.masters m) line.line ≡ may
-      → slice_get book.fixed.topology.lines l ≡ Some line → border.some ≡ false → border.line l ≡ true → may ≡ false
-  unreset m l line false is here none beyond = refl
-  unreset m l line true is here none beyond = clash border.some (closed.some m (closed.lines m l line here is beyond)) none
+  unreset : (m l : ℕ) (may : Bool) → permits_reset (grants_in book) m l ≡ may → border.some ≡ false → border.line l ≡ true → may ≡ false
+  unreset m l false is none beyond = refl
+  unreset m l true is none beyond = clash border.some (closed.some m (closed.lines m l is beyond)) none
 
   line_released : (l : ℕ) (x : Bool) → slice_get book.now.core.lines l ≡ Some x → border.some ≡ false → border.line l ≡ true → x ≡ false
   line_released l x is none beyond =
-      elim ((slice_get_cases book.fixed.topology.lines l).1) [
-        | inl here ↦
-            let Q : Option Bool → Type 0 = λ o. unwrap_or o false ≡ false in
-            subst Q is (sound.lines.nobodys l here.0 here.2 (λ m. unreset m l here.0 (may_reset book.fixed.object book.fixed.topology (master_node book.fixed.object.masters m) here.0.line) refl here.2 none beyond))
-        | inr past ↦ absurd (omega (arith, past.0, sound.lines.each, slice_get_within book.now.core.lines l x is))
-      ]
+      let Q : Option Bool → Type 0 = λ o. unwrap_or o false ≡ false in
+      subst Q is (sound.lines.nobodys l (λ m. unreset m l (permits_reset (grants_in book) m l) refl none beyond))
 
   line_self : (l : ℕ) (x : Bool) → slice_get book.now.core.lines l ≡ Some x → SameLine border (0 + l) x x
   line_self l x is =

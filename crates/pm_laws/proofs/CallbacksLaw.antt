@@ -22,7 +22,7 @@ use Rattle.pm_laws.proofs.CalledAlike.{point_alike}
 use Rattle.pm_laws.proofs.MasterNotesFacts.{master_notes_same}
 use Rattle.pm_laws.proofs.NoteChangesLaw.{NewsAlike, no_news, notes_alike, wakes_alike}
 use Rattle.pm_laws.proofs.Places.{StandsFrom, stands_first, stands_from_start, stands_later}
-use Rattle.pm_laws.proofs.Records.{own_place}
+use Rattle.pm_grants.proofs.GrantsLaw.{own_place}
 use Rattle.pm_laws.proofs.StepLaw.{effect_alike, effect_hidden}
 use Rattle.pm_laws.proofs.TellingsLaw.{after_alike, found_alike, found_hidden, later, news_alike, news_hidden}
 
@@ -182,7 +182,7 @@ module _ (object : Object) (formed : IsObject object) (border : Border) (a b : N
   callbacks_alike k (master ∷ masters) stands =
       beyond_append object border (called_back a k (record { 0 = master.node }) (was k) (mode_first k) (notes_for k xs) first) (callbacks_from a was xs first (k + 1) masters)
       (called_back b k (record { 0 = master.node }) (were k) (mode_second k) (notes_for k ys) second) (callbacks_from b were ys second (k + 1) masters)
-      (at_alike k (record { 0 = master.node }) (border.master k) (own_place object formed k master (stands_first object.masters k master masters stands)) refl)
+      (at_alike k (record { 0 = master.node }) (border.master k) (own_place object k master formed (stands_first object.masters k master masters stands)) refl)
       (callbacks_alike (k + 1) masters (stands_later object.masters k master masters stands))
 
 -- ---- where nothing is told and no mode changes

@@ -19,14 +19,15 @@ use Rattle.pm_calls.specs.Characteristics.{characteristics_at}
 use Rattle.pm_resets.specs.Resets.{value_of}
 use Rattle.pm_calls.specs.calls.RequestSuspend.{request_suspend}
 use Rattle.pm_calls.specs.calls.RequestWakeup.{request_wakeup}
+use Rattle.pm_calls.specs.calls.ResetAssert.{reset_assert}
 use Rattle.pm_calls.specs.calls.SelfSuspend.{self_suspend}
 use Rattle.pm_calls.specs.calls.SetWakeupSource.{set_wakeup_source}
 use Rattle.pm_laws.specs.Answers.{all_beyond, names_beyond}
-use Rattle.pm_laws.proofs.CallsAlike.{asked_agrees, book_of, entries_alike, entry_alike, proc_views_agree, row_views_agree, rows_both, suspend_views_agree, watched_same}
+use Rattle.pm_laws.proofs.CallsAlike.{asked_agrees, book_of, entries_alike, entry_alike, line_same, proc_views_agree, row_views_agree, rows_both, suspend_views_agree, watched_same}
 use Rattle.pm_laws.proofs.FollowLaw.{mode_alike, proc_alike}
 use Rattle.pm_laws.proofs.Places.{Both-any}
 use Rattle.pm_calls.specs.calls.{shape_of}
-use Rattle.pm_calls.specs.Shapes.{Shape, Node_status, Node_figures, Line_value, Own_row, Own_arming, Own_suspend, Own_abort, Own_notifier, Other_wakeup, Other_suspend, shaped, telling}
+use Rattle.pm_calls.specs.Shapes.{Shape, Node_status, Node_figures, Line_value, Own_row, Own_arming, Own_suspend, Own_abort, Own_notifier, Other_wakeup, Other_suspend, All_reset, shaped, telling}
 use Rattle.pm_laws.proofs.ShapesLaw.{called_shaped, named_shaped, names_of}
 use Rattle.pm_laws.proofs.ValuesLaw.{kind_alike, line_alike, mode_same}
 
@@ -196,10 +197,11 @@ module _ (laws : BelowLaws) (kinds : KindLaws) (fixed : Fixed) (border : Border)
       ap (abort_suspend m reason (is_asked m first)) (own_same m node beyond)
       ∙ ap (λ pending. abort_suspend m reason pending (proc_view m node second)) (asked_agrees border m first second beyond agree)
   shape_same m (Own_notifier node event enable) beyond is =
-      ap (register_notifier m node event enable) (watched_same fixed m node (kind_of fixed.topology node) a b)
+      ap (register_notifier m node event enable) (watched_same fixed m (kind_of fixed.topology node) a b)
   shape_same m (Other_wakeup node address ack) beyond is =
       ap (request_wakeup address ack) (wake_kind m (kind_of fixed.topology node) (unit_of node is))
   shape_same m (Other_suspend node ack latency state) beyond is = ap (request_suspend m node ack latency state) (suspend_same m node is)
+  shape_same m (All_reset line action) beyond is = ap (reset_assert line action) (line_same fixed m line a b)
   shape_same m _ beyond is = refl
 
   pub call_same : (m : ℕ) (call : Call) → IsBeyond border m → names_beyond fixed.topology border call ≡ true → called m call first ≡ called m call second

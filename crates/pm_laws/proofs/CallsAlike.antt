@@ -4,27 +4,31 @@ use Rattle.std.specs.Prelude.{find, is_some, option_map, cond}
 use Rattle.std.proofs.lemmas.Bool.{eqb-true}
 use Rattle.pm_laws.proofs.Common.{Agree, AreAlike, BelowLaws, Border, Both, Entry, Fixed, IsBeyond, IsClosed, IsSeenAlike, Kind, NodeId, Now, Prim, RowSeed, Same, SamePending, SameRow, SameRows, State, called, can_suspend, can_wake, changes_within, changing, is_asked, is_place, is_slave_within, is_within, kind_of, master_node, master_timeout, mode_of_master, named_master, names_master, owner_at, owner_by, proc_at, proc_view, proc_view_at, rival_node, row_view, row_view_at, shape_within, stages_of, suspend_view, suspendable, suspendable_at, wake_view, wake_view_at, wakeable, watched_at}
 use Rattle.pm_base.proofs.Booleans.{both, equal}
+use Rattle.pm_base.specs.declared.names.LineId.{LineId}
 use Rattle.pm_ipi.specs.declared.calls.Call.{Call}
 use Rattle.pm_procs.specs.declared.procs.Proc.{Proc as Processor}
 use Rattle.pm_procs.specs.Pending.{pending_at}
 use Rattle.pm_rows.specs.declared.row.Row.{Row}
 use Rattle.pm_rows.specs.Rows.{entry_at, is_at, is_rival}
 use Rattle.pm_rows.specs.Sound.{pair_in}
+use Rattle.pm_calls.specs.declared.reset_lines.LineView.{LineView}
 use Rattle.pm_calls.specs.declared.views.ProcView.{ProcView}
 use Rattle.pm_calls.specs.declared.views.RowView.{RowView}
 use Rattle.pm_topology.specs.declared.places.Kind.TheVariants.{Proc}
 use Rattle.pm_state.specs.Members.{owns}
-use Rattle.pm_state.specs.Values.{slave_place}
+use Rattle.pm_state.specs.Values.{line_place, slave_place}
+use Rattle.pm_calls.specs.ResetLines.{can_reset, line_view, reset_at}
 use Rattle.pm_calls.specs.RowCalls.{row_changes}
 use Rattle.pm_calls.specs.calls.AbortSuspend.{abort_suspend}
 use Rattle.pm_calls.specs.calls.RegisterNotifier.{register_notifier}
 use Rattle.pm_calls.specs.calls.RequestSuspend.{request_suspend}
 use Rattle.pm_calls.specs.calls.RequestWakeup.{request_wakeup}
+use Rattle.pm_calls.specs.calls.ResetAssert.{reset_assert}
 use Rattle.pm_calls.specs.calls.SelfSuspend.{self_suspend}
 use Rattle.pm_calls.specs.calls.SetWakeupSource.{set_wakeup_source}
 use Rattle.pm_calls.proofs.Verdicts.{nothing_done}
 use Rattle.pm_calls.specs.calls.{shape_of}
-use Rattle.pm_calls.specs.Shapes.{Shape, Node_status, Node_figures, Line_value, Own_row, Own_arming, Own_suspend, Own_abort, Own_notifier, Other_wakeup, Other_suspend, shaped}
+use Rattle.pm_calls.specs.Shapes.{Shape, Node_status, Node_figures, Line_value, Own_row, Own_arming, Own_suspend, Own_abort, Own_notifier, Other_wakeup, Other_suspend, All_reset, shaped}
 use Rattle.pm_laws.proofs.ShapesLaw.{called_shaped, reads_within}
 use Rattle.pm_laws.proofs.AgreeLaw.{clash}
 use Rattle.pm_laws.proofs.FollowLaw.{mode_alike, proc_alike}
@@ -161,9 +165,21 @@ source_alike fixed border m node enable target (Some s) a b some same =
 
 -- ---- the view of a node of which a master wants to be told: by what is fixed alone
 
-pub watched_same : (fixed : Fixed) (m : ℕ) (node : NodeId) (kind : Kind) (a b : Now) → watched_at m node kind (book_of fixed a) ≡ watched_at m node kind (book_of fixed b)
-watched_same fixed m node (Proc p) a b = refl
-watched_same fixed m node _ a b = refl
+pub watched_same : (fixed : Fixed) (m : ℕ) (kind : Kind) (a b : Now) → watched_at m kind (book_of fixed a) ≡ watched_at m kind (book_of fixed b)
+watched_same fixed m (Proc p) a b = refl
+watched_same fixed m _ a b = refl
+
+-- ---- the view of a reset line: by what is fixed alone
+
+reset_same : (fixed : Fixed) (m : ℕ) (place : Option ℕ) (a b : Now) → can_reset m place (book_of fixed a) ≡ can_reset m place (book_of fixed b)
+reset_same fixed m None a b = refl
+reset_same fixed m (Some l) a b = refl
+
+pub line_same : (fixed : Fixed) (m : ℕ) (line : LineId) (a b : Now) → line_view m line (book_of fixed a) ≡ line_view m line (book_of fixed b)
+line_same fixed m line a b =
+    let place : Option ℕ = line_place line fixed in
+    let view : Bool → LineView = λ may. record { place = place; permitted = may; target = reset_at place fixed } in
+    ap view (reset_same fixed m place a b)
 
 -- ---- calls
 
@@ -187,11 +203,12 @@ module _ (laws : BelowLaws) (fixed : Fixed) (border : Border) (m : ℕ) (a b : N
       ap (abort_suspend m reason (is_asked m first)) (proc_view_alike fixed border m (kind_of fixed.topology node) a b beyond same)
       ∙ ap (λ pending. abort_suspend m reason (is_some pending) (proc_view m node second)) (pending_alike fixed border m a b beyond same)
   shape_same (Own_notifier node event enable) blind plain =
-      ap (register_notifier m node event enable) (watched_same fixed m node (kind_of fixed.topology node) a b)
+      ap (register_notifier m node event enable) (watched_same fixed m (kind_of fixed.topology node) a b)
   shape_same (Other_wakeup node address ack) blind plain =
       ap (request_wakeup address ack) (wake_alike fixed border m (kind_of fixed.topology node) a b plain same)
   shape_same (Other_suspend node ack latency state) blind plain =
       ap (request_suspend m node ack latency state) (suspend_alike laws fixed border m node a b plain same)
+  shape_same (All_reset line action) blind plain = ap (reset_assert line action) (line_same fixed m line a b)
   shape_same (Node_status node call) blind plain = cc
   shape_same (Node_figures node call) blind plain = cc
   shape_same (Line_value line call) blind plain = cc

@@ -3,11 +3,12 @@
 use Rattle.std.proofs.Common.{◌≡◌, ℕ, Bool, true, false, not, ◌&&◌, ◌||◌, ◌==◌, if◌then◌else◌, List, [], ◌∷◌, Option, Some, None, refl, sym, ◌∙◌, ap, subst, inl, inr}
 use Rattle.std.specs.Prelude.{unwrap_or}
 use Rattle.std.proofs.lemmas.Bool.{eqb-true}
-use Rattle.pm_laws.proofs.Common.{Active, AreHidden, At_row, Border, Called, Entry, IsUnseen, Kind, KindLaws, Mode, Prim, Put_proc, Settle, State, Suspending, called, can_wake, changes_within, changing, in_force, is_arming, is_asked, is_slave_within, is_within, kind_of, master_node, mode_of_master, owner_at, owner_by, proc_at, proc_view, row_view_at, shape_within, stages_by, stages_of, suspend_view, wake_view, wake_view_at, wakeable}
+use Rattle.pm_laws.proofs.Common.{Active, AreHidden, At_row, Border, Called, Entry, IsUnseen, Kind, KindLaws, Mode, Prim, Put_proc, Settle, State, Suspending, called, can_wake, changes_within, changing, is_arming, is_asked, is_slave_within, is_within, kind_of, mode_of_master, owner_at, owner_by, proc_at, proc_view, row_view_at, shape_within, stages_by, stages_of, suspend_view, wake_view, wake_view_at, wakeable}
 use Rattle.pm_base.proofs.Booleans.{both, either}
 use Rattle.pm_topology.specs.declared.places.Kind.TheVariants.{Proc}
 use Rattle.pm_procs.specs.declared.procs.Proc.{Proc as Processor}
-use Rattle.pm_perms.specs.Permits.{may_wake}
+use Rattle.pm_grants.specs.Grants.{permits_wake}
+use Rattle.pm_state.specs.State.{grants_in}
 use Rattle.pm_base.proofs.Counts.{split}
 use Rattle.pm_ipi.specs.declared.calls.Call.{Call}
 use Rattle.pm_rows.specs.declared.row.Change.{Change}
@@ -86,8 +87,7 @@ wake_hidden border k p address proc false within = refl
 -- whom a master within may wake is within
 woken_within : (border : Border) (m k : ℕ) (book : State) → HasClosed border book → border.master m ≡ false → can_wake m k book ≡ true → border.master k ≡ false
 woken_within border m k book closed within can =
-    let masters = (in_force book).masters in
-    elim (either (k == m) (may_wake (in_force book) book.fixed.topology (master_node masters m) (master_node masters k)) can) [
+    elim (either (k == m) (permits_wake (grants_in book) m k) can) [
       | inl same ↦ ap border.master (eqb-true k m same) ∙ within
       | inr may ↦ within_by (border.master k) (border.master m) (closed.wakes m k may) within
     ]
@@ -137,7 +137,7 @@ caller_shape laws border m (Own_abort node reason) book closed within =
     call_hidden border (abort_suspend m reason (is_asked m book) view) (going_hidden border m view (is_in Suspending view) within, tt)
 caller_shape laws border m (Other_wakeup node address ack) book closed within =
     call_hidden border (request_wakeup address ack (wake_view m node book)) (caller_kind border m (kind_of book.fixed.topology node) address book closed within, tt)
-caller_shape laws border m (All_forced node ack) book closed within = force_hidden laws border m ack node book closed within
+caller_shape laws border m (All_forced node ack) book closed within = force_hidden border m ack node book closed within
 caller_shape laws border m (All_shut shutdown_type subtype) book closed within = shutdown_hidden border m shutdown_type subtype book closed within
 caller_shape laws border m (All_reset line action) book closed within = reset_hidden border m line action book closed within
 caller_shape laws border m shape book closed within = call_hidden border (shaped m shape book) tt

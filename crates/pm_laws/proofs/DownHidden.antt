@@ -1,29 +1,23 @@
 -- Nothing is seen of a force and of a shutdown by a master within reach.
-use Rattle.std.proofs.Common.{◌≡◌, ℕ, ◌+◌, Bool, true, false, ◌&&◌, ◌||◌, ◌==◌, if◌then◌else◌, List, [], ◌∷◌, ◌++◌, slice_get, Option, Some, None, is_some, zero, suc, refl, sym, ◌∙◌, ap, inl, inr, arith}
-use Rattle.std.specs.List.{enumerate_from}
-use Rattle.std.proofs.lemmas.Bool.{eqb-true}
+use Rattle.std.proofs.Common.{◌≡◌, ℕ, ◌+◌, Bool, true, false, ◌||◌, ◌==◌, if◌then◌else◌, List, [], ◌∷◌, ◌++◌, slice_get, Option, Some, None, refl, sym, ◌∙◌, ap}
 use Rattle.std.proofs.lemmas.List.Elements.{filter-append}
-use Rattle.pm_base.proofs.Booleans.{both, either, first_passes, later_passes, pair_of}
-use Rattle.pm_base.proofs.Tests.{present_from}
-use Rattle.pm_laws.proofs.Common.{Active, AreHidden, Border, Called, Clear, Fixed, Halt, HasSome, IsClosed, IsKind, IsUnseen, Kind, KindLaws, NodeId, Object, Off, Power, Prim, Put_proc, Reload, State, Topology, called, is_below, kind_of, master_node, owner_at, seen, seen_part, stages_by, stages_of}
-use Rattle.pm_topology.specs.declared.places.Kind.TheVariants.{Proc}
-use Rattle.pm_topology.specs.declared.topology.PowerDef.{PowerDef}
+use Rattle.pm_laws.proofs.Common.{Active, AreHidden, Border, Called, Clear, Fixed, Halt, HasSome, IsClosed, IsUnseen, Kind, NodeId, Off, Prim, Put_proc, Reload, State, called, kind_of, owner_at, seen, seen_part, stages_by, stages_of}
 use Rattle.pm_topology.specs.declared.topology.ProcDef.{ProcDef}
 use Rattle.pm_topology.specs.declared.topology.SlaveDef.{SlaveDef}
-use Rattle.pm_perms.specs.Permits.{is_in, master_record, may_force, may_shut, pair_mask}
-use Rattle.pm_reach.specs.Leads.{forces_above, forces_at, forces_proc}
+use Rattle.pm_grants.specs.declared.grants.Grants.{Grants}
+use Rattle.pm_grants.specs.Grants.{grants_of, permits_force, permits_shut}
+use Rattle.pm_state.specs.State.{grants_in}
 use Rattle.pm_state.specs.declared.scope.Scope.{Scope}
 use Rattle.pm_state.specs.declared.scope.Scope.TheVariants.{Under, Own, All}
 use Rattle.pm_calls.specs.Checks.{AllHold, Cause, Fits, Stands, first_failing}
-use Rattle.pm_state.specs.Scope.{clear_at, clears, clears_from, is_slave_under, is_under, off_at, off_by, offs, offs_from, takes}
+use Rattle.pm_state.specs.Scope.{clear_at, clears, clears_from, is_slave_under, off_at, off_by, offs, offs_from, takes}
 use Rattle.pm_calls.specs.calls.ForcePowerdown.{force_powerdown}
 use Rattle.pm_calls.specs.calls.SystemShutdown.{all_stages, own_stages, starting, system_shutdown, system_shutdown_checks}
 use Rattle.pm_state.specs.Members.{first_own}
 use Rattle.pm_ipi.specs.declared.calls.Call.TheVariants.{ForcePowerdown, SystemShutdown}
 use Rattle.pm_calls.proofs.Verdicts.{all_hold}
-use Rattle.pm_laws.proofs.AgreeLaw.{clash}
 use Rattle.pm_laws.proofs.HiddenLemmas.{HasClosed, one_hidden, within_by}
-use Rattle.pm_laws.proofs.Places.{StandsFrom, same_entry, stands_first, stands_from_start, stands_later}
+use Rattle.pm_laws.proofs.Places.{StandsFrom, stands_first, stands_from_start, stands_later}
 use Rattle.pm_laws.proofs.PrimFacts.{placed_by}
 
 -- ---- a call whose checks hold
@@ -90,53 +84,18 @@ clears_hidden border fixed forced unused = clears_from_hidden border fixed force
 
 -- ---- a force
 
--- an entry stands beside its place
-numbered : {X : Type 0} (k : ℕ) (xs : List X) (i at : ℕ) (x : X) → at ≡ k + i → slice_get xs i ≡ Some x → slice_get (enumerate_from k xs) i ≡ Some (at, x)
-numbered k [] i at x is here = cc
-numbered k (y ∷ ys) zero at x is here = let place : k ≡ at = omega (arith, is) in let same : y ≡ x = cc in cc
-numbered k (y ∷ ys) (suc i) at x is here = numbered (k + 1) ys i at x (omega (arith, is)) here
-
--- a power node above a node is forced
-above_forced : (object : Object) (t : Topology) (master node forced : NodeId) (w : ℕ) → IsKind t forced (Power w) → is_below t w node ≡ true → may_force object t master forced ≡ true → forces_above (object ∷ []) t master node ≡ true
-above_forced object t master node forced w is below may =
-    let power : PowerDef = is.0 in
-    let own : may_force object t master power.node ≡ true = ap (λ n. may_force object t master (record { 0 = n })) is.2 ∙ may in
-    present_from (λ (e : ℕ × PowerDef). forces_at (object ∷ []) t master node e.0 e.1) (enumerate_from 0 t.powers) w (w, power)
-    (numbered 0 t.powers w w power (omega arith) is.1) (pair_of (is_below t w node) (may_force object t master power.node) below own)
-
-proc_forced : (object : Object) (t : Topology) (master forced : NodeId) (kind : Kind) (q : ℕ) (proc : ProcDef) → IsKind t forced kind → slice_get t.procs q ≡ Some proc → is_under t kind q proc.node ≡ true → may_force object t master forced ≡ true → forces_proc (object ∷ []) t master proc.node ≡ true
-proc_forced object t master forced (Proc r) q proc is here under may =
-    let own : slice_get t.procs q ≡ Some is.0 = ap (slice_get t.procs) (eqb-true q r under) ∙ is.1 in
-    let same : proc ≡ is.0 = same_entry proc is.0 (slice_get t.procs q) here own in
-    let number : proc.node.0 ≡ forced.0 = ap (λ (p : ProcDef). p.node.0) same ∙ is.2 in
-    first_passes (may_force object t master proc.node) (forces_above (object ∷ []) t master proc.node)
-    (ap (λ n. may_force object t master (record { 0 = n })) number ∙ may)
-proc_forced object t master forced (Power w) q proc is here under may =
-    later_passes (may_force object t master proc.node) (forces_above (object ∷ []) t master proc.node)
-    (above_forced object t master proc.node forced w is under may)
-proc_forced object t master forced _ q proc is here under may = cc
-
-slave_forced : (object : Object) (t : Topology) (master forced : NodeId) (kind : Kind) (node : NodeId) → IsKind t forced kind → is_slave_under t kind node ≡ true → may_force object t master forced ≡ true → forces_above (object ∷ []) t master node ≡ true
-slave_forced object t master forced (Power w) node is under may = above_forced object t master node forced w is under may
-slave_forced object t master forced _ node is under may = cc
-
-pub force_hidden : KindLaws → (border : Border) (m ack : ℕ) (node : NodeId) (book : State) → HasClosed border book → border.master m ≡ false → AreHidden border (stages_of (called m (ForcePowerdown node ack) book))
-force_hidden laws border m ack node book closed within =
+pub force_hidden : (border : Border) (m ack : ℕ) (node : NodeId) (book : State) → HasClosed border book → border.master m ≡ false → AreHidden border (stages_of (called m (ForcePowerdown node ack) book))
+force_hidden border m ack node book closed within =
     let fixed : Fixed = book.fixed in
-    let object : Object = fixed.object in
-    let t : Topology = fixed.topology in
-    let caller : NodeId = master_node object.masters m in
-    let call = force_powerdown fixed m node ack in
+    let kind : Kind = kind_of fixed.topology node in
+    let call = force_powerdown (grants_in book) fixed m node ack in
     call_hides border call (λ all.
-    let may : may_force object t caller node ≡ true = all.permitted in
+    let may : permits_force (grants_in book) m kind ≡ true = all.permitted in
     let takes_within : TakesWithin border fixed (Under node) = λ q proc here under k own.
-    within_by (border.master k) (border.master m)
-    (closed.forces m k q proc here (proc_forced object t caller node (kind_of t node) q proc (laws.is t node) here under may) own) within
+    within_by (border.master k) (border.master m) (closed.forces m k q proc kind here may under own) within
     in
     let unused : ClearsUnused border fixed node = λ s slave here under.
-    within_by (border.used s) (border.master m)
-    (λ used. let user = closed.used s slave here used in
-    closed.clears m user.0 s slave here (slave_forced object t caller node (kind_of t node) slave.node (laws.is t node) under may) user.2 user.1) within
+    within_by (border.used s) (border.master m) (λ used. let user = closed.used s used in closed.clears m user.0 s slave kind here may under user.2 user.1) within
     in
     (offs_hidden border fixed (Under node) takes_within, (clears_hidden border fixed node unused, tt)))
 
@@ -162,42 +121,24 @@ all_hidden : (border : Border) (fixed : Fixed) (restarts : Bool) → HasSome bor
 all_hidden border fixed false some none = (offs_hidden border fixed All (all_takes border fixed some none), (one_hidden border Halt none, tt))
 all_hidden border fixed true some none = (offs_hidden border fixed All (all_takes border fixed some none), (one_hidden border Reload none, tt))
 
--- who may shut down more than itself
-more_shut : (object : Object) (t : Topology) (caller : NodeId) (subtype : ℕ) → (subtype == 0) ≡ false → may_shut object t caller subtype ≡ true → (may_shut object t caller 1 || may_shut object t caller 2) ≡ true
-more_shut object t caller subtype more may =
-    let permits : Bool = is_in (master_record object caller) (pair_mask object.shutdown subtype) in
-    elim (either (is_some (master_record object caller) && (subtype == 0)) (((subtype == 1) || (subtype == 2)) && permits) may) [
-      | inl own ↦ clash (subtype == 0) (both (is_some (master_record object caller)) (subtype == 0) own).1 more
-      | inr all ↦ elim (either (subtype == 1) (subtype == 2) (both ((subtype == 1) || (subtype == 2)) permits all).0) [
-        | inl one ↦
-            first_passes (may_shut object t caller 1) (may_shut object t caller 2) (ap (may_shut object t caller) (sym (eqb-true subtype 1 one)) ∙ may)
-        | inr two ↦
-            later_passes (may_shut object t caller 1) (may_shut object t caller 2) (ap (may_shut object t caller) (sym (eqb-true subtype 2 two)) ∙ may)
-      ]
-    ]
-
 -- the checks of a shutdown that is no scope: the caller may shut that much down
-pub may_shut_down : (fixed : Fixed) (m shutdown_type subtype : ℕ) → (shutdown_type == 2) ≡ false → AllHold (system_shutdown_checks fixed m shutdown_type subtype) → may_shut fixed.object fixed.topology (master_node fixed.object.masters m) subtype ≡ true
-may_shut_down fixed m shutdown_type subtype no_scope all =
-    let may : Bool = may_shut fixed.object fixed.topology (master_node fixed.object.masters m) subtype in
-    sym (ap (λ b. b || may) no_scope) ∙ all.permitted
+pub may_shut_down : (grants : Grants) (m shutdown_type subtype : ℕ) → (shutdown_type == 2) ≡ false → AllHold (system_shutdown_checks grants m shutdown_type subtype) → permits_shut grants m subtype ≡ true
+may_shut_down grants m shutdown_type subtype no_scope all = sym (ap (λ b. b || permits_shut grants m subtype) no_scope) ∙ all.permitted
 
 -- so where a master within may shut down more than itself, no master is beyond
-pub none_beyond : (border : Border) (fixed : Fixed) (m subtype : ℕ) → IsClosed fixed.object fixed.topology border → border.master m ≡ false → (subtype == 0) ≡ false → may_shut fixed.object fixed.topology (master_node fixed.object.masters m) subtype ≡ true → border.some ≡ false
-none_beyond border fixed m subtype closed within more may =
-    within_by border.some (border.master m)
-    (closed.shuts m (more_shut fixed.object fixed.topology (master_node fixed.object.masters m) subtype more may)) within
+pub none_beyond : (border : Border) (fixed : Fixed) (m subtype : ℕ) → IsClosed fixed.object fixed.topology border → border.master m ≡ false → (subtype == 0) ≡ false → permits_shut (grants_of fixed.object fixed.topology) m subtype ≡ true → border.some ≡ false
+none_beyond border fixed m subtype closed within more may = within_by border.some (border.master m) (closed.shuts m subtype more may) within
 
-stages_hidden : (border : Border) (fixed : Fixed) (m shutdown_type subtype : ℕ) (scope own restarts : Bool) → IsClosed fixed.object fixed.topology border → border.master m ≡ false → (shutdown_type == 2) ≡ scope → (subtype == 0) ≡ own → AllHold (system_shutdown_checks fixed m shutdown_type subtype)
+stages_hidden : (border : Border) (fixed : Fixed) (m shutdown_type subtype : ℕ) (scope own restarts : Bool) → IsClosed fixed.object fixed.topology border → border.master m ≡ false → (shutdown_type == 2) ≡ scope → (subtype == 0) ≡ own → AllHold (system_shutdown_checks (grants_of fixed.object fixed.topology) m shutdown_type subtype)
     → AreHidden border (if scope then [] else if own then own_stages fixed m restarts else all_stages fixed restarts)
 stages_hidden border fixed m shutdown_type subtype true own restarts closed within is_scope is_own all = tt
 stages_hidden border fixed m shutdown_type subtype false true restarts closed within is_scope is_own all = own_hidden border fixed m restarts within
 stages_hidden border fixed m shutdown_type subtype false false restarts closed within is_scope is_own all =
     all_hidden border fixed restarts closed.some
-    (none_beyond border fixed m subtype closed within is_own (may_shut_down fixed m shutdown_type subtype is_scope all))
+    (none_beyond border fixed m subtype closed within is_own (may_shut_down (grants_of fixed.object fixed.topology) m shutdown_type subtype is_scope all))
 
 pub shutdown_hidden : (border : Border) (m shutdown_type subtype : ℕ) (book : State) → HasClosed border book → border.master m ≡ false → AreHidden border (stages_of (called m (SystemShutdown shutdown_type subtype) book))
 shutdown_hidden border m shutdown_type subtype book closed within =
-    let call = system_shutdown book.fixed m shutdown_type subtype in
+    let call = system_shutdown (grants_in book) book.fixed m shutdown_type subtype in
     call_hides border call
     (stages_hidden border book.fixed m shutdown_type subtype (shutdown_type == 2) (subtype == 0) (shutdown_type == 1) closed within refl refl)

@@ -1,19 +1,18 @@
 -- Each permitted pair is one of a master of the object and a slave of the chip which that master may use.
-use Rattle.std.proofs.Common.{◌≡◌, ℕ, ◌+◌, ◌==◌, Bool, true, false, if◌then◌else◌, is_some, List, [], ◌∷◌, slice_get, Option, Some, None, refl, ap, ◌∙◌}
+use Rattle.std.proofs.Common.{◌≡◌, ℕ, ◌+◌, Bool, true, false, if◌then◌else◌, map, unwrap_or, List, [], ◌∷◌, slice_get, Option, Some, None, refl, ap, ◌∙◌}
 use Rattle.std.specs.List.{AllByRecursion as Each}
-use Rattle.pm_laws.proofs.Common.{IsObject, MasterRec, NodeId, Object, RowSeed, Topology}
-use Rattle.pm_base.proofs.Booleans.{differs, pair_of}
+use Rattle.std.specs.Option.{option_map, option_map_or}
+use Rattle.std.proofs.lemmas.Option.{slice_get-map}
+use Rattle.pm_laws.proofs.Common.{MasterRec, Object, RowSeed, Topology}
 use Rattle.pm_base.proofs.Elements.{AllByRecursion-append}
-use Rattle.pm_base.proofs.Searches.{position-none}
 use Rattle.pm_object.specs.declared.object.SlaveRec.{SlaveRec}
 use Rattle.pm_topology.specs.declared.topology.SlaveDef.{SlaveDef}
-use Rattle.pm_topology.specs.Places.{slave_place}
-use Rattle.pm_perms.specs.Permits.{mask_has, may_use, may_use_by, slave_record}
-use Rattle.pm_reach.specs.Leads.{node_at}
+use Rattle.pm_perms.specs.Permits.{mask_has, slave_record}
+use Rattle.pm_grants.specs.declared.grants.MasterMasks.{MasterMasks}
+use Rattle.pm_grants.specs.Grants.{bit_of, grants_of, mask_at, master_masks, permits_use, slave_mask}
 use Rattle.pm_state.specs.Boot.{boot_master}
 use Rattle.pm_state.specs.Pairs.{pairs_from, pairs_of, pairs_of_masters, pairs_on, seed_of}
 use Rattle.pm_laws.proofs.Places.{StandsFrom, stands_first, stands_from_start, stands_later}
-use Rattle.pm_laws.proofs.Records.{node_is, own_record}
 
 -- the object permits the pair
 pub record IsPermitted (object : Object) (t : Topology) (pair : RowSeed) : Type 0 where
@@ -70,18 +69,15 @@ module _ (object : Object) (t : Topology) where
   pairs_permitted = slaves_permitted (boot_master object t) 0 t.slaves (stands_from_start t.slaves)
 
   -- so that master may use the slave
-  slave_there : (s : ℕ) (slave : SlaveDef) → slice_get t.slaves s ≡ Some slave → is_some (slave_place t.slaves slave.node.0) ≡ true
-  slave_there s slave at = found (slave_place t.slaves slave.node.0) refl
-    where
-      found : (got : Option ℕ) → slave_place t.slaves slave.node.0 ≡ got → is_some got ≡ true
-      found None none = absurd (differs slave.node.0 slave.node.0 (position-none (λ (s : SlaveDef). s.node.0 == slave.node.0) t.slaves none s slave at) refl)
-      found (Some k) is = refl
-
-  pub permitted_use : IsObject object → (pair : RowSeed) (permitted : IsPermitted object t pair) → may_use object t (node_at (object ∷ []) pair.master) permitted.slave.node ≡ true
-  permitted_use formed pair permitted =
-      let number = node_is object pair.master permitted.master permitted.configured in
-      let own = own_record object formed pair.master permitted.master permitted.configured in
-      ap (λ (n : NodeId). may_use object t n permitted.slave.node) number
-      ∙ pair_of (is_some (slave_place t.slaves permitted.slave.node.0)) _ (slave_there pair.slave permitted.slave permitted.there)
-      (ap (λ m. may_use_by m (slave_record object permitted.slave.node)) own
-      ∙ (ap (λ r. may_use_by (Some permitted.master) r) permitted.recorded ∙ permitted.has))
+  pub permitted_use : (pair : RowSeed) → IsPermitted object t pair → permits_use (grants_of object t) pair.master pair.slave ≡ true
+  permitted_use pair permitted =
+      let mask : SlaveDef → ℕ = slave_mask object in
+      let of_slave : mask_at (map mask t.slaves) pair.slave ≡ permitted.entry.mask =
+      ap (λ o. unwrap_or o 0) (slice_get-map mask t.slaves pair.slave ∙ ap (option_map mask) permitted.there)
+      ∙ ap (λ r. unwrap_or (option_map (λ (r : SlaveRec). r.mask) r) 0) permitted.recorded
+      in
+      let of_master : bit_of (grants_of object t) pair.master ≡ permitted.master.mask =
+      ap (λ got. option_map_or (λ (x : MasterMasks). x.bit) got 0)
+      (slice_get-map master_masks object.masters pair.master ∙ ap (option_map master_masks) permitted.configured)
+      in
+      ap (λ mask. mask_has mask (bit_of (grants_of object t) pair.master)) of_slave ∙ (ap (mask_has permitted.entry.mask) of_master ∙ permitted.has)

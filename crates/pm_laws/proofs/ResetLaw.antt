@@ -4,17 +4,18 @@ use Rattle.std.specs.Prelude.{option_and_then}
 use Rattle.std.specs.Option.{option_map_or}
 use Rattle.std.proofs.lemmas.Bool.{eqb-true}
 use Rattle.pm_base.specs.declared.names.LineId.{LineId}
-use Rattle.pm_laws.proofs.Common.{AreHidden, Border, IsClosed, IsUnseen, Kind, NodeId, Object, Off, Prim, Put_line, Put_proc, State, Topology, called, kind_at, kind_of, master_node, owner_at, proc_place, seen, seen_part, stages_of}
+use Rattle.pm_laws.proofs.Common.{AreHidden, Border, IsClosed, IsUnseen, Kind, NodeId, Object, Off, Prim, Put_line, Put_proc, State, Topology, called, kind_at, kind_of, owner_at, proc_place, seen, seen_part, stages_of}
 use Rattle.pm_base.proofs.Searches.{position-first}
 use Rattle.pm_ipi.specs.declared.calls.Call.TheVariants.{ResetAssert}
 use Rattle.pm_perms.specs.Owner.{owner}
-use Rattle.pm_perms.specs.Permits.{may_reset}
+use Rattle.pm_grants.specs.Grants.{permits_reset}
+use Rattle.pm_state.specs.State.{grants_in}
 use Rattle.pm_reach.specs.Leads.{owns, targets}
 use Rattle.pm_topology.specs.declared.places.Kind.TheVariants.{Proc}
 use Rattle.pm_topology.specs.declared.topology.LineDef.{LineDef}
 use Rattle.pm_topology.specs.declared.topology.ProcDef.{ProcDef}
 use Rattle.pm_calls.specs.declared.reset_lines.OwnedProc.{OwnedProc}
-use Rattle.pm_calls.specs.ResetLines.{line_view, owned_by, owned_node, owned_of, reset_at, reset_by}
+use Rattle.pm_calls.specs.ResetLines.{can_reset, owned_by, owned_node, owned_of, reset_at, reset_by}
 use Rattle.pm_state.specs.Values.{line_place}
 use Rattle.pm_calls.specs.calls.ResetAssert.{line_put, stopped, stopped_by}
 use Rattle.pm_laws.proofs.DownHidden.{call_hides}
@@ -57,7 +58,7 @@ targets_owner object t line node k target is =
 
 module _ (border : Border) (book : State) (closed : IsClosed book.fixed.object book.fixed.topology border) (m l : ℕ) (line : LineDef)
     (here : slice_get book.fixed.topology.lines l ≡ Some line)
-    (may : may_reset book.fixed.object book.fixed.topology (master_node book.fixed.object.masters m) line.line ≡ true)
+    (may : permits_reset (grants_in book) m l ≡ true)
     (within : border.master m ≡ false) where
   -- the owner of a processor that the line resets is within
   owner_within : (node : NodeId) (p : ℕ) (got : Option ℕ) (x : OwnedProc) → line.target ≡ Some node → kind_of book.fixed.topology node ≡ Proc p
@@ -81,40 +82,27 @@ module _ (border : Border) (book : State) (closed : IsClosed book.fixed.object b
   target_within None x target is = cc
   target_within (Some node) x target is = kind_within node (kind_of book.fixed.topology node) x target refl is
 
+module _ (border : Border) (book : State) (closed : IsClosed book.fixed.object book.fixed.topology border) (m l : ℕ)
+    (may : permits_reset (grants_in book) m l ≡ true) (within : border.master m ≡ false) where
+  entry_within : (got : Option LineDef) (x : OwnedProc) → slice_get book.fixed.topology.lines l ≡ got → reset_by got book.fixed ≡ Some x → border.master x.owner ≡ false
+  entry_within None x here is = cc
+  entry_within (Some line) x here is = target_within border book closed m l line here may within line.target x refl is
+
   reset_within : (x : OwnedProc) → reset_at (Some l) book.fixed ≡ Some x → border.master x.owner ≡ false
-  reset_within x is = target_within line.target x refl (sym (ap (λ o. reset_by o book.fixed) here) ∙ is)
+  reset_within x is = entry_within (slice_get book.fixed.topology.lines l) x refl is
 
   pub line_within : border.line l ≡ false
-  line_within = within_by (border.line l) (border.master m) (closed.lines m l line here may) within
+  line_within = within_by (border.line l) (border.master m) (closed.lines m l may) within
 
 -- ---- the call
 
--- the entry of a line that has a place, and that the master at place m may reset
-pub record IsPlaced (book : State) (m l : ℕ) : Type 0 where
-  pub line : LineDef
-  pub here : slice_get book.fixed.topology.lines l ≡ Some line
-  pub may : may_reset book.fixed.object book.fixed.topology (master_node book.fixed.object.masters m) line.line ≡ true
-
-pub placed : (m : ℕ) (line : LineId) (book : State) (l : ℕ) → line_place line book.fixed ≡ Some l → (line_view m line book).permitted ≡ true → IsPlaced book m l
-placed m line book l at may =
-    let first = position-first (λ (x : LineDef). x.line.0 == line.0) book.fixed.topology.lines l at in
-    let id : ℕ → LineId = λ n. record { 0 = n } in
-    let same : first.element.line ≡ line = ap id (eqb-true first.element.line.0 line.0 first.passes) in
-    record {
-      line = first.element;
-      here = first.here;
-      may = ap (may_reset book.fixed.object book.fixed.topology (master_node book.fixed.object.masters m)) same ∙ may;
-    }
-
-placed_unseen : (border : Border) (m : ℕ) (line : LineId) (action : ℕ) (book : State) (place : Option ℕ) → IsClosed book.fixed.object book.fixed.topology border → border.master m ≡ false → line_place line book.fixed ≡ place → (line_view m line book).permitted ≡ true → IsUnseen border (line_put place (action == 1) ++ stopped_by action (reset_at place book.fixed))
-placed_unseen border m line action book None closed within at may = stops_unseen border (action == 0) None (λ x is. cc)
-placed_unseen border m line action book (Some l) closed within at may =
-    let entry : IsPlaced book m l = placed m line book l at may in
-    unseen_more border (Put_line l (action == 1)) (stopped_by action (reset_at (Some l) book.fixed))
-    (line_within border book closed m l entry.line entry.here entry.may within)
-    (stops_unseen border (action == 0) (reset_at (Some l) book.fixed) (reset_within border book closed m l entry.line entry.here entry.may within))
+placed_unseen : (border : Border) (m action : ℕ) (book : State) (place : Option ℕ) → IsClosed book.fixed.object book.fixed.topology border → border.master m ≡ false → can_reset m place book ≡ true → IsUnseen border (line_put place (action == 1) ++ stopped_by action (reset_at place book.fixed))
+placed_unseen border m action book None closed within may = stops_unseen border (action == 0) None (λ x is. cc)
+placed_unseen border m action book (Some l) closed within may =
+    unseen_more border (Put_line l (action == 1)) (stopped_by action (reset_at (Some l) book.fixed)) (line_within border book closed m l may within)
+    (stops_unseen border (action == 0) (reset_at (Some l) book.fixed) (reset_within border book closed m l may within))
 
 pub reset_hidden : (border : Border) (m : ℕ) (line : LineId) (action : ℕ) (book : State) → IsClosed book.fixed.object book.fixed.topology border → border.master m ≡ false → AreHidden border (stages_of (called m (ResetAssert line action) book))
 reset_hidden border m line action book closed within =
     call_hides border (called m (ResetAssert line action) book)
-    (λ all. (placed_unseen border m line action book (line_place line book.fixed) closed within refl all.permitted, tt))
+    (λ all. (placed_unseen border m action book (line_place line book.fixed) closed within all.permitted, tt))

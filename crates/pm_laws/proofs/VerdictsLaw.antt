@@ -14,7 +14,8 @@ use Rattle.pm_calls.specs.declared.verdict.Say.{Say}
 use Rattle.pm_calls.specs.declared.verdict.Say.TheVariants.{Ask as SaysAsk, Abort as SaysAbort, Register as SaysRegister, Renew as SaysRenew}
 use Rattle.pm_calls.specs.declared.verdict.Verdict.{Verdict}
 use Rattle.pm_calls.specs.Checks.{AllHold, Cause, Fits, Stands, first_failing}
-use Rattle.pm_calls.specs.ResetLines.{line_view}
+use Rattle.pm_calls.specs.ResetLines.{can_reset}
+use Rattle.pm_state.specs.State.{grants_in}
 use Rattle.pm_state.specs.Talk.{Ask, Notify, Renew, Talk}
 use Rattle.pm_tell.specs.Opening.{renew_by, say_by}
 use Rattle.pm_state.specs.Values.{line_place}
@@ -32,7 +33,7 @@ use Rattle.pm_laws.proofs.CallsHidden.{turned}
 use Rattle.pm_laws.proofs.DownHidden.{may_shut_down, none_beyond}
 use Rattle.pm_laws.proofs.MayCallLaw.{heard_same}
 use Rattle.pm_laws.proofs.HiddenLemmas.{HasClosed, within_by}
-use Rattle.pm_laws.proofs.ResetLaw.{IsPlaced, line_within, placed}
+use Rattle.pm_laws.proofs.ResetLaw.{line_within}
 
 -- ---- what is told within
 
@@ -115,11 +116,10 @@ module _ (border : Border) (book : State) where
   pulse_within line l true at within = ap (λ b. if b then Some line else None) (ap (line_beyond border) at ∙ within)
   pulse_within line l false at within = refl
 
-  placed_pulse : (m : ℕ) (line : LineId) (action : ℕ) (place : Option ℕ) → HasClosed border book → border.master m ≡ false → line_place line book.fixed ≡ place → is_some place ≡ true → (line_view m line book).permitted ≡ true → pulse_beyond book.fixed.topology border (pulsed action line) ≡ None
+  placed_pulse : (m : ℕ) (line : LineId) (action : ℕ) (place : Option ℕ) → HasClosed border book → border.master m ≡ false → line_place line book.fixed ≡ place → is_some place ≡ true → can_reset m place book ≡ true → pulse_beyond book.fixed.topology border (pulsed action line) ≡ None
   placed_pulse m line action None closed within at some may = cc
   placed_pulse m line action (Some l) closed within at some may =
-      let entry : IsPlaced book m l = placed m line book l at may in
-      pulse_within line l (action == 2) at (line_within border book closed m l entry.line entry.here entry.may within)
+      pulse_within line l (action == 2) at (line_within border book closed m l may within)
 
   -- a call of a master within
   caller_within : (m : ℕ) (shape : Shape) → HasClosed border book → border.master m ≡ false → IsWithin book.fixed.topology border (verdict_of (shaped m shape book))
@@ -137,7 +137,7 @@ module _ (border : Border) (book : State) where
         renewal_within (restarts_all shutdown_type subtype)
             (λ restart. let parts = both (shutdown_type == 1) (not (subtype == 0)) restart in
             none_beyond border book.fixed m subtype closed within (turned (subtype == 0) parts.1)
-            (may_shut_down book.fixed m shutdown_type subtype (no_scope shutdown_type parts.0) all)),
+            (may_shut_down (grants_in book) m shutdown_type subtype (no_scope shutdown_type parts.0) all)),
         refl,
       ))
   caller_within m (All_reset line action) closed within =

@@ -4,6 +4,7 @@ use Rattle.std.specs.Prelude.{⊤}
 use Rattle.std.proofs.lemmas.Bool.{ltb-true, lt-ltb}
 use Rattle.pm_laws.proofs.Common.{KindLaws, Object, Topology, Unit, brings_in, master_beyond, reaches}
 use Rattle.pm_base.proofs.Booleans.{both, pair_of}
+use Rattle.pm_grants.specs.Laws.{GrantLaws}
 use Rattle.pm_reach.specs.declared.members.MemberKind.{MemberKind}
 use Rattle.pm_reach.specs.Border.{IsClosedToMasters, IsClosedToUnits, IsClosedUpwards, Reaches, IsIn}
 use Rattle.pm_reach.specs.Reached.{ReachTests}
@@ -15,6 +16,7 @@ pub record ReachLaws : Type 0 where
   pub parents : IsClosedUpwards
   pub tests : ReachTests
   pub kinds : KindLaws
+  pub grants : GrantLaws
 
 -- ---- tests
 

@@ -1,5 +1,5 @@
 -- What lies beyond the reach of a master. The laws of two worlds hold of every border that is closed.
-use Rattle.std.specs.Prelude.{◌≡◌, ℕ, Bool, true, false, ◌&&◌, ◌||◌, ◌==◌, slice_get, position, Option, Some, None, [], ◌∷◌}
+use Rattle.std.specs.Prelude.{◌≡◌, ℕ, Bool, true, false, ◌&&◌, ◌==◌, slice_get, position, Option, Some, None, [], ◌∷◌}
 use Rattle.std.specs.List.{All}
 use Rattle.pm_base.specs.declared.names.NodeId.{NodeId}
 use Rattle.pm_base.specs.declared.names.Unit.{Unit}
@@ -17,9 +17,10 @@ use Rattle.pm_topology.specs.declared.topology.SlaveDef.{SlaveDef}
 use Rattle.pm_topology.specs.declared.topology.Topology.{Topology}
 use Rattle.pm_state.specs.Members.{owner_at}
 use Rattle.pm_state.specs.Pairs.{pairs_of}
-use Rattle.pm_state.specs.Nodes.{master_node, named_master}
-use Rattle.pm_perms.specs.Permits.{may_configure, may_reset, may_shut, may_suspend, may_use, may_wake}
-use Rattle.pm_reach.specs.Leads.{forces_above, forces_proc, targets}
+use Rattle.pm_state.specs.Nodes.{named_master}
+use Rattle.pm_state.specs.Scope.{is_slave_under, is_under}
+use Rattle.pm_grants.specs.Grants.{grants_of, permits_configure, permits_force, permits_reset, permits_shut, permits_suspend, permits_use, permits_wake}
+use Rattle.pm_reach.specs.Leads.{targets}
 
 -- which masters, slaves, power nodes and reset lines are beyond, by their places; which slaves a master beyond may use; which
 -- nodes are beyond, by their numbers; and whether any master is
@@ -82,8 +83,7 @@ pub record IsClosed (object : Object) (t : Topology) (border : Border) : Type 0 
   pub users : All (IsPairClosed border) (pairs_of object t)
   -- a slave is one that masters beyond may use exactly where one of them may
   pub known : All (IsUserKnown border) (pairs_of object t)
-  pub used : (s : ℕ) (slave : SlaveDef) → slice_get t.slaves s ≡ Some slave → border.used s ≡ true
-      → (k : ℕ) × IsBeyond border k × (may_use object t (master_node object.masters k) slave.node ≡ true)
+  pub used : (s : ℕ) → border.used s ≡ true → (k : ℕ) × IsBeyond border k × (permits_use (grants_of object t) k s ≡ true)
   -- what stands directly below a power node beyond is beyond, or is a processor that no configured master has
   pub slaves : (s : ℕ) (slave : SlaveDef) → slice_get t.slaves s ≡ Some slave
       → border.power slave.parent ≡ true → border.slave s ≡ true
@@ -97,28 +97,24 @@ pub record IsClosed (object : Object) (t : Topology) (border : Border) : Type 0 
   pub names : (node : NodeId) → border.node node.0 ≡ true
       → none_within border (named_master (record { object = object; topology = t }) node) ≡ true
   -- who may suspend or wake a master beyond is beyond
-  pub suspends : (m k : ℕ) → may_suspend object t (master_node object.masters m) (master_node object.masters k) ≡ true
-      → IsBeyond border k → IsBeyond border m
-  pub wakes : (m k : ℕ) → may_wake object t (master_node object.masters m) (master_node object.masters k) ≡ true
-      → IsBeyond border k → IsBeyond border m
+  pub suspends : (m k : ℕ) → permits_suspend (grants_of object t) m k ≡ true → IsBeyond border k → IsBeyond border m
+  pub wakes : (m k : ℕ) → permits_wake (grants_of object t) m k ≡ true → IsBeyond border k → IsBeyond border m
   -- who may force a processor of a master beyond, or a power node above one, is beyond; and so is who may force a power
   -- node above a slave that a master beyond may use
-  pub forces : (m k p : ℕ) (proc : ProcDef) → slice_get t.procs p ≡ Some proc
-      → forces_proc (object ∷ []) t (master_node object.masters m) proc.node ≡ true
+  pub forces : (m k p : ℕ) (proc : ProcDef) (kind : Kind) → slice_get t.procs p ≡ Some proc
+      → permits_force (grants_of object t) m kind ≡ true → is_under t kind p proc.node ≡ true
       → owner_at object t p ≡ Some k → IsBeyond border k → IsBeyond border m
-  pub clears : (m k s : ℕ) (slave : SlaveDef) → slice_get t.slaves s ≡ Some slave
-      → forces_above (object ∷ []) t (master_node object.masters m) slave.node ≡ true
-      → may_use object t (master_node object.masters k) slave.node ≡ true → IsBeyond border k → IsBeyond border m
+  pub clears : (m k s : ℕ) (slave : SlaveDef) (kind : Kind) → slice_get t.slaves s ≡ Some slave
+      → permits_force (grants_of object t) m kind ≡ true → is_slave_under t kind slave.node ≡ true
+      → permits_use (grants_of object t) k s ≡ true → IsBeyond border k → IsBeyond border m
   -- who may reset a processor of a master beyond is beyond, and who may reset a line beyond
   pub resets : (m k l : ℕ) (line : LineDef) → slice_get t.lines l ≡ Some line
-      → may_reset object t (master_node object.masters m) line.line ≡ true
+      → permits_reset (grants_of object t) m l ≡ true
       → targets (object ∷ []) t line k ≡ true → IsBeyond border k → IsBeyond border m
-  pub lines : (m l : ℕ) (line : LineDef) → slice_get t.lines l ≡ Some line
-      → may_reset object t (master_node object.masters m) line.line ≡ true
-      → border.line l ≡ true → IsBeyond border m
+  pub lines : (m l : ℕ) → permits_reset (grants_of object t) m l ≡ true → border.line l ≡ true → IsBeyond border m
   -- where any master is beyond, so is who may shut down more than itself, and who may set the configuration
-  pub shuts : (m : ℕ) → (may_shut object t (master_node object.masters m) 1 || may_shut object t (master_node object.masters m) 2) ≡ true
+  pub shuts : (m subtype : ℕ) → (subtype == 0) ≡ false → permits_shut (grants_of object t) m subtype ≡ true
       → border.some ≡ true → IsBeyond border m
-  pub configures : (m : ℕ) → may_configure object t (master_node object.masters m) ≡ true → border.some ≡ true → IsBeyond border m
+  pub configures : (m : ℕ) → permits_configure (grants_of object t) m ≡ true → border.some ≡ true → IsBeyond border m
   -- where a master is beyond, some is
   pub some : HasSome border

@@ -38,6 +38,7 @@ ghost use Rattle.pm_laws.specs.SeenTalk.{seen_talk, talk_part, IsTalkUnseen, ask
 ghost use Rattle.pm_laws.specs.Values.{is_beyond, starts_beyond};
 
 use pm_core::{books_stay_sound, members_are_owned};
+use pm_grants::grants_are_permissions;
 use pm_reach::{masters_within, parents_within, reach_is_decided, units_within};
 use pm_rows::shifts_leave_others;
 use pm_topology::{kinds_are_exact, units_stand_in_order};
@@ -261,4 +262,5 @@ pub fn reach_is_closed()
     parents_within();
     reach_is_decided();
     kinds_are_exact();
+    grants_are_permissions();
 }

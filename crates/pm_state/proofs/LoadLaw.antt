@@ -211,7 +211,7 @@ load_sound rows modes requests orders object topology =
         each = counted (boot_proc object topology) (length topology.procs);
         nobodys = nobody_up object topology (boot_proc object topology) refl;
       };
-      lines = record { each = length-replicate (length topology.lines) false; nobodys = λ l line is none. none_asserted (length topology.lines) l };
+      lines = record { each = length-replicate (length topology.lines) false; nobodys = λ l none. none_asserted (length topology.lines) l };
       armed = load_arms (record { object = object; topology = topology }) (pairs_of object topology);
       pending = none_named requests (record { object = object; topology = topology });
       notes = load_notes orders topology masters;

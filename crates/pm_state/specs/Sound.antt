@@ -5,7 +5,6 @@ use Rattle.std.specs.List.{list_all}
 use Rattle.pm_base.specs.declared.names.NodeId.{NodeId}
 use Rattle.pm_base.specs.declared.names.Unit.{Unit}
 use Rattle.pm_base.specs.declared.names.Unit.TheVariants.{Node, Line}
-use Rattle.pm_topology.specs.declared.topology.LineDef.{LineDef}
 use Rattle.pm_topology.specs.declared.topology.ProcDef.{ProcDef}
 use Rattle.pm_topology.specs.declared.topology.SlaveDef.{SlaveDef}
 use Rattle.pm_topology.specs.declared.topology.PowerDef.{PowerDef}
@@ -23,7 +22,7 @@ use Rattle.pm_notify.specs.Notify.{notes_for}
 use Rattle.pm_procs.specs.declared.pending.Pending.{Pending}
 use Rattle.pm_procs.specs.Pending.{pending_at}
 use Rattle.pm_procs.specs.Procs.{mode_at}
-use Rattle.pm_perms.specs.Permits.{may_reset}
+use Rattle.pm_grants.specs.Grants.{grants_of, permits_reset}
 use Rattle.pm_resets.specs.Resets.{is_asserted}
 use Rattle.pm_rows.specs.Rows.{mode_of}
 use Rattle.pm_rows.specs.Sound.{AreSound}
@@ -33,7 +32,7 @@ use Rattle.pm_state.specs.Boot.{boot_master}
 use Rattle.pm_state.specs.Members.{owner_at, owns, mode_of_master}
 use Rattle.pm_state.specs.Pairs.{pairs_of}
 use Rattle.pm_state.specs.State.{Fixed, State, in_force}
-use Rattle.pm_state.specs.Nodes.{master_node, named_master}
+use Rattle.pm_state.specs.Nodes.{named_master}
 
 -- the rows are those of the permitted pairs, a slave that can't be shared has one user at most, each row wants only
 -- what its slave has, while a master is active nothing is scheduled in its rows, and one that is off uses nothing
@@ -89,8 +88,7 @@ HasNotes book = AreNotes book.fixed.topology (length (in_force book).masters) bo
 -- each reset line is asserted or released, and one that no master may reset is released
 pub record AreLines (fixed : Fixed) (lines : List Bool) : Type 0 where
   pub each : length lines ≡ length fixed.topology.lines
-  pub nobodys : (l : ℕ) (line : LineDef) → slice_get fixed.topology.lines l ≡ Some line
-      → ((m : ℕ) → may_reset fixed.object fixed.topology (master_node fixed.object.masters m) line.line ≡ false)
+  pub nobodys : (l : ℕ) → ((m : ℕ) → permits_reset (grants_of fixed.object fixed.topology) m l ≡ false)
       → is_asserted l lines ≡ false
 
 abbrev pub HasLines : State → Type 0

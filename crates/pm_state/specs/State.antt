@@ -3,6 +3,8 @@
 use Rattle.std.specs.Prelude.{Bool, List, Option}
 use Rattle.pm_object.specs.declared.object.Object.{Object}
 use Rattle.pm_topology.specs.declared.topology.Topology.{Topology}
+use Rattle.pm_grants.specs.declared.grants.Grants.{Grants}
+use Rattle.pm_grants.specs.Grants.{grants_of}
 use Rattle.pm_notify.specs.MasterNotes.{MasterNotes}
 use Rattle.pm_procs.specs.declared.pending.Pending.{Pending}
 use Rattle.pm_procs.specs.declared.procs.Proc.{Proc}
@@ -38,3 +40,7 @@ pub record State : Type 0 where
 -- the configuration object in force
 abbrev pub in_force : State → Object
 in_force book = book.fixed.object
+
+-- what it permits on the chip, by places
+abbrev pub grants_in : State → Grants
+grants_in book = grants_of (in_force book) book.fixed.topology

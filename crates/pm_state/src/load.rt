@@ -14,6 +14,7 @@ use crate::members::members_of;
 use crate::pairs::push_pairs;
 use crate::tables::Tables;
 use pm_base::{Mode, NoMemory};
+use pm_grants::Grants;
 use pm_notify::Notify;
 use pm_object::Object;
 use pm_procs::{Proc, Procs};
@@ -31,6 +32,7 @@ impl Tables {
         ensures sound { IfOk result IsSound }
     {
         loads_are_sound();
+        let grants = Grants::load(alloc, &object, &topology)?;
         let members = members_of(alloc, &object, &topology)?;
         let mut procs = Procs::load(alloc, &topology, members)?;
         let notify = Notify::load(alloc, &topology, object.masters.len())?;
@@ -45,6 +47,7 @@ impl Tables {
         start(&mut procs, boot);
         Ok(Tables {
             object,
+            grants,
             topology,
             rows,
             procs,

@@ -4,10 +4,11 @@ ghost use Rattle.std.specs.Prelude.{◌≡◌, length};
 ghost use Rattle.pm_topology.specs.WellFormed.{IsWellFormed};
 ghost use Rattle.pm_topology.specs.Places.{kind_of};
 ghost use Rattle.pm_procs.specs.Pending.{pending_at};
-ghost use Rattle.pm_state.specs.State.{in_force};
+ghost use Rattle.pm_state.specs.State.{grants_in, in_force};
 ghost use Rattle.pm_state.specs.Values.{slave_place, master_place};
 
 use pm_base::NodeId;
+use pm_grants::Grants;
 use pm_notify::Notify;
 use pm_object::Object;
 use pm_procs::{Pending, Procs};
@@ -16,12 +17,13 @@ use pm_rows::Rows;
 use pm_topology::{Kind, Topology};
 use std::marker::Model;
 
-/// The object, the parts of the chip, a row for each permitted pair of a master and a slave, the
+/// The object, what it permits, the parts of the chip, a row for each permitted pair of a master and a slave, the
 /// processors, the reset lines, whether the book is halted, and the notes of each master. A change of it owes
 /// nothing to what is kept of the book's values.
 #[derive(Drop)]
 pub struct Tables {
     pub(crate) object: Object,
+    pub(crate) grants: Grants,
     pub(crate) topology: Topology,
     pub(crate) rows: Rows,
     pub(crate) procs: Procs,
@@ -33,6 +35,7 @@ pub struct Tables {
 impl Model for Tables {
     ghost use Rattle.pm_topology.specs.WellFormed.{IsWellFormed};
     ghost use Rattle.std.specs.Prelude.{◌≡◌};
+    ghost use Rattle.pm_grants.specs.Grants.{grants_of};
     ghost use Rattle.pm_state.specs.Members.{members_of};
     ghost use Rattle.pm_state.specs.State.{State};
 
@@ -52,7 +55,8 @@ impl Model for Tables {
     } };
 
     ghost invariant = { λ tables. IsWellFormed tables.topology
-        × (tables.procs.members ≡ members_of tables.object tables.topology) };
+        × (tables.procs.members ≡ members_of tables.object tables.topology)
+        × (tables.grants ≡ grants_of tables.object tables.topology) };
 }
 
 impl Tables {
@@ -61,6 +65,13 @@ impl Tables {
         ensures { result.now ≡ in_force self.now }
     {
         &self.object
+    }
+
+    /// What the object in force permits on the chip, by places.
+    pub fn grants(&self) -> &Grants
+        ensures { result.now ≡ grants_in self.now }
+    {
+        &self.grants
     }
 
     pub fn topology(&self) -> &Topology

@@ -4,10 +4,11 @@
 use crate::chip::chip;
 use crate::rows::all_right;
 use pm_base::{LineId, NodeId};
+use pm_grants::Grants;
 use pm_object::Object;
 use pm_objtext::build;
 use pm_perms::{may_configure, may_force, may_reset, may_shut, may_suspend, may_use, may_wake};
-use pm_topology::Topology;
+use pm_topology::{Kind, Topology};
 use std::alloc::Global;
 use std::test::Fail;
 
@@ -381,6 +382,76 @@ fn each_permission_is_given_by_its_own_bit(rt: HostRuntime) -> Result<(), Fail> 
     all_right(
         &rt,
         wrong_permission(rt.alloc(), &chip, MASTERS, CONFIGURATIONS)?,
+    );
+    Ok(())
+}
+
+fn place_of(object: &Object, master: u32) -> Option<usize> {
+    object
+        .masters
+        .as_slice()
+        .iter()
+        .position(|entry| entry.node == master)
+}
+
+fn slave_of(chip: &Topology, node: u32) -> Option<usize> {
+    match chip.kind(NodeId(node)) {
+        Kind::Slave(slave) => Some(slave),
+        Kind::Proc(_) | Kind::Power(_) | Kind::Unknown => None,
+    }
+}
+
+/// The same by places: nothing where one of them isn't there.
+fn looked_up(grants: &Grants, object: &Object, chip: &Topology, deed: Deed) -> Option<bool> {
+    match deed {
+        Deed::Use(m, slave) => {
+            Some(grants.permits_use(place_of(object, m)?, slave_of(chip, slave)?))
+        }
+        Deed::Suspend(m, other) => {
+            Some(grants.permits_suspend(place_of(object, m)?, place_of(object, other)?))
+        }
+        Deed::Wake(m, other) => {
+            Some(grants.permits_wake(place_of(object, m)?, place_of(object, other)?))
+        }
+        Deed::Force(m, node) => {
+            Some(grants.permits_force(place_of(object, m)?, chip.kind(NodeId(node))))
+        }
+        Deed::Reset(m, line) => {
+            Some(grants.permits_reset(place_of(object, m)?, chip.line_place(LineId(line))?))
+        }
+        Deed::Shut(m, subtype) => Some(grants.permits_shut(place_of(object, m)?, subtype)),
+        Deed::Configure(m) => Some(grants.permits_configure(place_of(object, m)?)),
+    }
+}
+
+fn wrong_grant(
+    alloc: Global,
+    chip: &Topology,
+    head: &str,
+    rows: &[Permission],
+) -> Result<Option<usize>, Fail> {
+    for (place, (rest, deed, want)) in rows.iter().enumerate() {
+        let object = object_of(alloc, head, rest)?;
+        let grants = Grants::load(alloc, &object, chip)?;
+        if looked_up(&grants, &object, chip, *deed).unwrap_or(false) != *want {
+            return Ok(Some(place));
+        }
+    }
+    Ok(None)
+}
+
+#[test]
+fn each_permission_is_looked_up_by_places(rt: HostRuntime) -> Result<(), Fail> {
+    let chip = Box::new(rt.alloc(), chip(rt.alloc())?)?;
+    all_right(&rt, wrong_grant(rt.alloc(), &chip, MASTERS, USES)?);
+    all_right(&rt, wrong_grant(rt.alloc(), &chip, HEAD, SUSPENDS)?);
+    all_right(&rt, wrong_grant(rt.alloc(), &chip, HEAD, WAKES)?);
+    all_right(&rt, wrong_grant(rt.alloc(), &chip, MASTERS, FORCES)?);
+    all_right(&rt, wrong_grant(rt.alloc(), &chip, MASTERS, RESETS)?);
+    all_right(&rt, wrong_grant(rt.alloc(), &chip, MASTERS, SHUTDOWNS)?);
+    all_right(
+        &rt,
+        wrong_grant(rt.alloc(), &chip, MASTERS, CONFIGURATIONS)?,
     );
     Ok(())
 }

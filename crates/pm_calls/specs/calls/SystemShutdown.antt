@@ -1,7 +1,8 @@
 -- PM_SYSTEM_SHUTDOWN (UG1200).
 use Rattle.std.specs.Prelude.{ℕ, ◌==◌, ◌&&◌, ◌||◌, nat_le, Bool, true, false, not, if◌then◌else◌, List, [], ◌∷◌, Option, Some, None}
 use Rattle.pm_base.specs.declared.names.Mode.TheVariants.{Active}
-use Rattle.pm_perms.specs.Permits.{may_shut}
+use Rattle.pm_grants.specs.declared.grants.Grants.{Grants}
+use Rattle.pm_grants.specs.Grants.{permits_shut}
 use Rattle.pm_state.specs.declared.scope.Scope.TheVariants.{Own, All}
 use Rattle.pm_calls.specs.declared.verdict.Say.{Say}
 use Rattle.pm_calls.specs.declared.verdict.Say.TheVariants.{Renew}
@@ -10,14 +11,13 @@ use Rattle.pm_state.specs.Prims.{Prim, Put_proc, Halt, Reload}
 use Rattle.pm_state.specs.Scope.{offs}
 use Rattle.pm_state.specs.State.{Fixed}
 use Rattle.pm_calls.specs.Verdict.{Called, saying, staged}
-use Rattle.pm_state.specs.Nodes.{master_node}
 use Rattle.pm_state.specs.Members.{first_own}
 
 -- the type and the subtype are known, and the caller may shut that much down; a scope (type 2) needs no permission
-abbrev pub system_shutdown_checks : Fixed → (m shutdown_type subtype : ℕ) → Checks
-system_shutdown_checks fixed m shutdown_type subtype = record unchecked {
+abbrev pub system_shutdown_checks : Grants → (m shutdown_type subtype : ℕ) → Checks
+system_shutdown_checks grants m shutdown_type subtype = record unchecked {
   arguments = in_range (nat_le shutdown_type 2 && nat_le subtype 2);
-  permitted = (shutdown_type == 2) || may_shut fixed.object fixed.topology (master_node fixed.object.masters m) subtype;
+  permitted = (shutdown_type == 2) || permits_shut grants m subtype;
 }
 
 -- this processor of the master starts at address 0, if there is one
@@ -56,8 +56,8 @@ restarts_all shutdown_type subtype = (shutdown_type == 1) && not (subtype == 0)
 abbrev pub renewal : Bool → Option Say
 renewal all = if all then Some Renew else None
 
-abbrev pub system_shutdown : Fixed → (m shutdown_type subtype : ℕ) → Called
-system_shutdown fixed m shutdown_type subtype =
-    record (staged (system_shutdown_checks fixed m shutdown_type subtype) (shutdown_stages fixed m shutdown_type subtype)) {
+abbrev pub system_shutdown : Grants → Fixed → (m shutdown_type subtype : ℕ) → Called
+system_shutdown grants fixed m shutdown_type subtype =
+    record (staged (system_shutdown_checks grants m shutdown_type subtype) (shutdown_stages fixed m shutdown_type subtype)) {
       effects = saying (renewal (restarts_all shutdown_type subtype));
     }

@@ -1,19 +1,20 @@
 //! PM_FORCE_POWERDOWN (UG1200).
 
 ghost use Rattle.std.specs.Prelude.{◌≡◌};
-ghost use Rattle.pm_perms.specs.Permits.{can_be_forced, may_force};
+ghost use Rattle.pm_perms.specs.Permits.{can_be_forced};
+ghost use Rattle.pm_topology.specs.Places.{kind_of};
+ghost use Rattle.pm_grants.specs.Grants.{permits_force};
 ghost use Rattle.pm_values.specs.Along.{Completes, trail_from};
 ghost use Rattle.pm_calls.specs.Verdict.{stages_of, verdict_of};
 ghost use Rattle.pm_state.specs.Stages.{after_stages, path_from};
-ghost use Rattle.pm_state.specs.Nodes.{master_node};
+ghost use Rattle.pm_state.specs.State.{grants_in};
 ghost use Rattle.pm_calls.specs.calls.ForcePowerdown.{force_powerdown, force_stages};
 
 use crate::verdict::Verdict;
 use pm_base::NodeId;
 use pm_ipi::ack_kind;
 use pm_ipi::status::{INVALID_NODE, INVALID_PARAMETER, NO_ACCESS};
-use pm_perms::may_force;
-use pm_state::{Scope, Tables, master_node};
+use pm_state::{Scope, Tables};
 use pm_topology::Kind;
 use pm_values::Along;
 
@@ -27,10 +28,12 @@ pub fn serve(
     along: &mut Along,
 ) -> Verdict
     requires { along.old ≡ trail_from tables.old }
-    ensures verdict { result ≡ verdict_of (force_powerdown tables.old.fixed master node ack) }
-    ensures book { tables.new ≡ after_stages (stages_of (force_powerdown tables.old.fixed master node ack)) tables.old }
+    ensures verdict { result ≡ verdict_of (force_powerdown (grants_in tables.old) tables.old.fixed master node ack) }
+    ensures book { tables.new
+        ≡ after_stages (stages_of (force_powerdown (grants_in tables.old) tables.old.fixed master node ack)) tables.old }
     ensures along { Completes tables.old
-        (path_from (stages_of (force_powerdown tables.old.fixed master node ack)) tables.old) tables.new along.new }
+        (path_from (stages_of (force_powerdown (grants_in tables.old) tables.old.fixed master node ack)) tables.old)
+        tables.new along.new }
 {
     if ack_kind(ack).is_none() {
         return Verdict::refused(INVALID_PARAMETER);
@@ -47,11 +50,9 @@ pub fn serve(
 
 /// Whether the object permits a master to force a node.
 fn permits_force(tables: &Tables, master: usize, node: NodeId) -> bool
-    ensures { result ≡ may_force tables.now.fixed.object tables.now.fixed.topology
-        (master_node tables.now.fixed.object.masters master) node }
+    ensures { result ≡ permits_force (grants_in tables.now) master (kind_of tables.now.fixed.topology node) }
 {
-    let caller = master_node(tables.in_force().masters.as_slice(), master);
-    may_force(tables.in_force(), tables.topology(), caller, node)
+    tables.grants().permits_force(master, tables.kind(node))
 }
 
 /// The stages of a force. The modes are noted between them.

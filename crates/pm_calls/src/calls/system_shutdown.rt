@@ -1,20 +1,19 @@
 //! PM_SYSTEM_SHUTDOWN (UG1200).
 
 ghost use Rattle.std.specs.Prelude.{◌≡◌};
-ghost use Rattle.pm_perms.specs.Permits.{may_shut};
+ghost use Rattle.pm_grants.specs.Grants.{permits_shut};
 ghost use Rattle.pm_values.specs.Along.{Completes, trail_from};
 ghost use Rattle.pm_calls.specs.Verdict.{stages_of, verdict_of};
 ghost use Rattle.pm_state.specs.Prims.{changed};
 ghost use Rattle.pm_state.specs.Stages.{after_stages, path_from};
-ghost use Rattle.pm_state.specs.Nodes.{master_node};
+ghost use Rattle.pm_state.specs.State.{grants_in};
 ghost use Rattle.pm_state.specs.Members.{first_own};
 ghost use Rattle.pm_calls.specs.calls.SystemShutdown.{own_stages, restart_all, starting, stop_all, system_shutdown};
 
 use crate::verdict::{Say, Verdict};
 use pm_base::Mode;
 use pm_ipi::status::{INVALID_PARAMETER, NO_ACCESS};
-use pm_perms::may_shut;
-use pm_state::{Scope, Tables, master_node};
+use pm_state::{Scope, Tables};
 use pm_values::Along;
 
 /// The type that asks for a restart, and the one that only says what a later shutdown is to mean.
@@ -32,12 +31,13 @@ pub fn serve(
     along: &mut Along,
 ) -> Verdict
     requires { along.old ≡ trail_from tables.old }
-    ensures verdict { result ≡ verdict_of (system_shutdown tables.old.fixed master shutdown_type subtype) }
-    ensures book { tables.new
-        ≡ after_stages (stages_of (system_shutdown tables.old.fixed master shutdown_type subtype)) tables.old }
+    ensures verdict { result
+        ≡ verdict_of (system_shutdown (grants_in tables.old) tables.old.fixed master shutdown_type subtype) }
+    ensures book { tables.new ≡ after_stages
+        (stages_of (system_shutdown (grants_in tables.old) tables.old.fixed master shutdown_type subtype)) tables.old }
     ensures along { Completes tables.old
-        (path_from (stages_of (system_shutdown tables.old.fixed master shutdown_type subtype)) tables.old)
-        tables.new along.new }
+        (path_from (stages_of (system_shutdown (grants_in tables.old) tables.old.fixed master shutdown_type subtype))
+        tables.old) tables.new along.new }
 {
     if shutdown_type > 2 || subtype > 2 {
         return Verdict::refused(INVALID_PARAMETER);
@@ -62,11 +62,9 @@ pub fn serve(
 
 /// Whether a master may shut down what a subtype names.
 fn permits_shutdown(tables: &Tables, master: usize, subtype: u32) -> bool
-    ensures { result ≡ may_shut tables.now.fixed.object tables.now.fixed.topology
-        (master_node tables.now.fixed.object.masters master) subtype }
+    ensures { result ≡ permits_shut (grants_in tables.now) master subtype }
 {
-    let caller = master_node(tables.in_force().masters.as_slice(), master);
-    may_shut(tables.in_force(), tables.topology(), caller, subtype)
+    tables.grants().permits_shut(master, subtype)
 }
 
 /// A master's processors go off, and then its first one starts, where it restarts. The modes are noted

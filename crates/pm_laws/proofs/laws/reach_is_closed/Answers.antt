@@ -11,5 +11,6 @@ returns c =
       parents = c.parents_within.ensures;
       tests = c.reach_is_decided.ensures;
       kinds = c.kinds_are_exact.ensures;
+      grants = c.grants_are_permissions.ensures;
     } in
     record { closed = reach_closed laws; exact = reach_exact laws; unconfigured = all_beyond; own = caller_within laws }
