@@ -9,3 +9,4 @@ pub mod SoundSteps
 pub mod StepLaw
 pub mod StillLaw
 pub mod TouchedLaw
+pub mod ModesLaw

@@ -35,12 +35,13 @@ use Rattle.pm_calls.specs.calls.SetWakeupSource.{arming}
 use Rattle.pm_tell.specs.declared.served.Served.{Served}
 use Rattle.pm_values.specs.declared.caches.Caches.{Caches}
 use Rattle.pm_values.specs.declared.touches.Touched.TheVariants.{Nothing}
-use Rattle.pm_values.specs.Along.{IsTrail, Trail}
+use Rattle.pm_values.specs.Along.{IsTrail, Trail, modes_of}
 use Rattle.pm_values.specs.Caches.{AreKept}
 use Rattle.pm_values.specs.Starts.{was_down}
-use Rattle.pm_values.specs.Touches.{ChangesRows, IsStill, IsTouched, with_core}
-use Rattle.pm_core.specs.Step.{call_at, keeps_values, leaves_values, may_call, may_change, message_stages, path, row_node, served, stages, touched, touched_at, touched_by, touched_unless}
+use Rattle.pm_values.specs.Touches.{ChangesModes, ChangesRows, IsOfModes, IsStill, IsTouched, with_core}
+use Rattle.pm_core.specs.Step.{call_at, is_action, keeps_values, leaves_values, may_call, may_change, message_stages, path, row_node, served, stages, touched, touched_at, touched_by, touched_unless}
 use Rattle.pm_core.proofs.AwakeLaw.{LeavesValues, none_leaves, same_twice}
+use Rattle.pm_core.proofs.ModesLaw.{event_turns}
 use Rattle.pm_core.proofs.QuietLaw.{event_leaves}
 use Rattle.pm_core.proofs.Refused.{none_staged}
 use Rattle.pm_core.proofs.StillLaw.{message_stays, shape_leaves}
@@ -174,14 +175,16 @@ called_shaped m GetApiVersion book = refl
 called_shaped m _ book = refl
 
 -- what is kept before these stages
-record IsBefore (book : State) (stages : List (List Prim)) (along : Trail) (caches : Caches) : Type 0 where
+record IsBefore (book : State) (stages : List (List Prim)) (modes : List Mode) (along : Trail) (caches : Caches) : Type 0 where
   pub sound : IsSound book
   pub kept : AreKept book caches
   pub trail : IsTrail book (path_from stages book) along
+  pub was : modes ≡ modes_of book
+  pub now : along.modes ≡ modes_of (after_stages stages book)
 
 -- what is kept is that of the core half before, by what is fixed
-core_kept : (book : State) (stages : List (List Prim)) (along : Trail) (caches : Caches) → IsBefore book stages along caches → AreKept (with_core book.now.core (after_stages stages book)) caches
-core_kept book stages along caches before = record {
+core_kept : (book : State) (stages : List (List Prim)) (modes : List Mode) (along : Trail) (caches : Caches) → IsBefore book stages modes along caches → AreKept (with_core book.now.core (after_stages stages book)) caches
+core_kept book stages modes along caches before = record {
   kinds = before.kept.kinds;
   states = before.kept.states;
   needs = before.kept.needs;
@@ -191,88 +194,103 @@ core_kept book stages along caches before = record {
   values = before.kept.values;
 }
 
-stays_still : (book : State) (stages : List (List Prim)) (along : Trail) (caches : Caches) → IsBefore book stages along caches → LeavesValues book stages → IsStill (after_stages stages book) along caches
-stays_still book stages along caches before leaves = record {
+stays_still : (book : State) (stages : List (List Prim)) (modes : List Mode) (along : Trail) (caches : Caches) → IsBefore book stages modes along caches → LeavesValues book stages → IsStill (after_stages stages book) along caches
+stays_still book stages modes along caches before leaves = record {
   before = book.now.core;
-  kept = core_kept book stages along caches before;
+  kept = core_kept book stages modes along caches before;
   changes = leaves.changes;
   downs = λ p within. before.trail.downs p within ∙ leaves.downs p;
 }
 
-place_touched : (place : Option ℕ) (book : State) (stages : List (List Prim)) (along : Trail) (caches : Caches) → IsBefore book stages along caches → ((s : ℕ) → place ≡ Some s → LeavesOthers s book stages) → IsTouched (touched_at place) (after_stages stages book) along caches
-place_touched None book stages along caches before leaves = tt
-place_touched (Some s) book stages along caches before leaves =
+place_touched : (place : Option ℕ) (book : State) (stages : List (List Prim)) (modes : List Mode) (along : Trail) (caches : Caches) → IsBefore book stages modes along caches → ((s : ℕ) → place ≡ Some s → LeavesOthers s book stages) → IsTouched (touched_at place) modes (after_stages stages book) along caches
+place_touched None book stages modes along caches before leaves = tt
+place_touched (Some s) book stages modes along caches before leaves =
     let own : LeavesOthers s book stages = leaves s refl in
     record {
       before = book.now.core;
-      kept = core_kept book stages along caches before;
+      kept = core_kept book stages modes along caches before;
       changes = own.changes;
       downs = λ p within. before.trail.downs p within ∙ own.downs p;
     }
 
-values_touched : (call : Call) (shape : Shape) (place : Option ℕ) (book : State) (along : Trail) (caches : Caches) → shape_of call ≡ shape → keeps_values shape ≡ true → IsBefore book (message_stages (option_and_then (call_at call book) place)) along caches
+values_touched : (call : Call) (shape : Shape) (place : Option ℕ) (book : State) (modes : List Mode) (along : Trail) (caches : Caches) → shape_of call ≡ shape → keeps_values shape ≡ true → IsBefore book (message_stages (option_and_then (call_at call book) place)) modes along caches
     → IsStill (after_stages (message_stages (option_and_then (call_at call book) place)) book) along caches
-values_touched call shape place book along caches is keeps before =
-    stays_still book (message_stages (option_and_then (call_at call book) place)) along caches before
+values_touched call shape place book modes along caches is keeps before =
+    stays_still book (message_stages (option_and_then (call_at call book) place)) modes along caches before
     (message_stays call book place (λ m.
     let Q : Called → Type 0 = λ c. LeavesValues book (stages_of c) in
     let shapes : called m call book ≡ shaped m shape book = called_shaped m call book ∙ ap (λ shape. shaped m shape book) is in
     subst Q (sym shapes) (shape_leaves m shape book before.sound keeps)))
 
-shape_touched : (call : Call) (shape : Shape) (place : Option ℕ) (book : State) (along : Trail) (caches : Caches) → shape_of call ≡ shape → IsBefore book (message_stages (option_and_then (call_at call book) place)) along caches
-    → IsTouched (if keeps_values shape then Nothing else touched_at (option_and_then (λ node. slave_place node book) (row_node shape))) (after_stages (message_stages (option_and_then (call_at call book) place)) book) along caches
-shape_touched call (Own_row node by of) place book along caches is before =
-    place_touched (slave_place node book) book (message_stages (option_and_then (call_at call book) place)) along caches before
+shape_touched : (call : Call) (shape : Shape) (place : Option ℕ) (book : State) (modes : List Mode) (along : Trail) (caches : Caches) → shape_of call ≡ shape → IsBefore book (message_stages (option_and_then (call_at call book) place)) modes along caches
+    → IsTouched (if keeps_values shape then Nothing else touched_at (option_and_then (λ node. slave_place node book) (row_node shape))) modes (after_stages (message_stages (option_and_then (call_at call book) place)) book) along caches
+shape_touched call (Own_row node by of) place book modes along caches is before =
+    place_touched (slave_place node book) book (message_stages (option_and_then (call_at call book) place)) modes along caches before
     (λ s at. message_leaves s call book place (λ m.
     let Q : Called → Type 0 = λ c. LeavesOthers s book c.stages in
     let shapes : called m call book ≡ shaped m (Own_row node by of) book = called_shaped m call book ∙ ap (λ shape. shaped m shape book) is in
     subst Q (sym shapes) (view_leaves m s (by (mode_of_master book.fixed book.now.core m)) book (slave_place node book) before.sound at)))
-shape_touched call (Own_arming target source enable) place book along caches is before =
-    place_touched (slave_place source book) book (message_stages (option_and_then (call_at call book) place)) along caches before
+shape_touched call (Own_arming target source enable) place book modes along caches is before =
+    place_touched (slave_place source book) book (message_stages (option_and_then (call_at call book) place)) modes along caches before
     (λ s at. message_leaves s call book place (λ m.
     let Q : Called → Type 0 = λ c. LeavesOthers s book c.stages in
     let shapes : called m call book ≡ shaped m (Own_arming target source enable) book = called_shaped m call book ∙ ap (λ shape. shaped m shape book) is in
     subst Q (sym shapes) (view_leaves m s (arming target enable) book (slave_place source book) before.sound at)))
-shape_touched call (Own_notifier node event enable) place book along caches is before =
-    values_touched call (Own_notifier node event enable) place book along caches is refl before
-shape_touched call (Other_suspend node ack latency state) place book along caches is before =
-    values_touched call (Other_suspend node ack latency state) place book along caches is refl before
-shape_touched call (Own_suspend node address) place book along caches is before =
-    values_touched call (Own_suspend node address) place book along caches is refl before
-shape_touched call (Own_abort node reason) place book along caches is before =
-    values_touched call (Own_abort node reason) place book along caches is refl before
-shape_touched call _ place book along caches is before = tt
+shape_touched call (Own_notifier node event enable) place book modes along caches is before =
+    values_touched call (Own_notifier node event enable) place book modes along caches is refl before
+shape_touched call (Other_suspend node ack latency state) place book modes along caches is before =
+    values_touched call (Other_suspend node ack latency state) place book modes along caches is refl before
+shape_touched call (Own_suspend node address) place book modes along caches is before =
+    values_touched call (Own_suspend node address) place book modes along caches is refl before
+shape_touched call (Own_abort node reason) place book modes along caches is before =
+    values_touched call (Own_abort node reason) place book modes along caches is refl before
+shape_touched call _ place book modes along caches is before = tt
+
+-- ---- an event that is no message
+
+modes_touched : (event : Event) (book : State) (modes : List Mode) (along : Trail) (caches : Caches) → is_action event ≡ true → IsBefore book (stages event book) modes along caches
+    → IsOfModes modes (after_stages (stages event book) book) along caches
+modes_touched event book modes along caches is before =
+    let after : State = after_stages (stages event book) book in
+    let turns = event_turns event book before.sound is in
+    let P : List Mode → Type 0 = λ was. ChangesModes was along.modes book.now.core after.now.core in
+    let Q : List Mode → Type 0 = λ now. ChangesModes (modes_of book) now book.now.core after.now.core in
+    record {
+      before = book.now.core;
+      kept = core_kept book (stages event book) modes along caches before;
+      changes = subst P (sym before.was) (subst Q (sym before.now) turns.changes);
+    }
 
 -- ---- a step
 
-may_touch : (event : Event) (book : State) (along : Trail) (caches : Caches) → IsBefore book (stages event book) along caches → IsTouched (touched_by (served event book) (after_stages (stages event book) book)) (after_stages (stages event book) book) along caches
-may_touch (Ipi master message) book along caches before =
-    shape_touched (call_of message) (shape_of (call_of message)) (master_place master book) book along caches refl before
-may_touch _ book along caches before = tt
+may_touch : (event : Event) (book : State) (modes : List Mode) (along : Trail) (caches : Caches) → may_change event (served event book) ≡ true → IsBefore book (stages event book) modes along caches → IsTouched (touched_by (served event book) (after_stages (stages event book) book)) modes (after_stages (stages event book) book) along caches
+may_touch (Ipi master message) book modes along caches is before =
+    shape_touched (call_of message) (shape_of (call_of message)) (master_place master book) book modes along caches refl before
+may_touch event book modes along caches is before = modes_touched event book modes along caches is before
 
-touched_if : (event : Event) (book : State) (along : Trail) (caches : Caches) (may : Bool) → may_change event (served event book) ≡ may → IsBefore book (stages event book) along caches
-    → IsTouched (if may then touched_by (served event book) (after_stages (stages event book) book) else Nothing) (after_stages (stages event book) book) along caches
-touched_if event book along caches true is before = may_touch event book along caches before
-touched_if event book along caches false is before =
-    stays_still book (stages event book) along caches before
+touched_if : (event : Event) (book : State) (modes : List Mode) (along : Trail) (caches : Caches) (may : Bool) → may_change event (served event book) ≡ may → IsBefore book (stages event book) modes along caches
+    → IsTouched (if may then touched_by (served event book) (after_stages (stages event book) book) else Nothing) modes (after_stages (stages event book) book) along caches
+touched_if event book modes along caches true is before = may_touch event book modes along caches is before
+touched_if event book modes along caches false is before =
+    stays_still book (stages event book) modes along caches before
     (subst (LeavesValues book) (sym (none_staged event book is)) (none_leaves book))
 
 -- what is kept before a step is found again as far as its event may touch
-step_touches : (event : Event) (book after : State) (found : Option Served) (along : Trail) (caches : Caches) → after ≡ after_stages (stages event book) book → found ≡ served event book → IsSound book → AreKept book caches → IsTrail book (path event book) along
-    → IsTouched (touched event found after) after along caches
-step_touches event book after found along caches is found_is sound kept trail =
-    let P : State → Type 0 = λ b. IsTouched (touched event (served event book) b) b along caches in
-    let Q : Option Served → Type 0 = λ s. IsTouched (touched event s after) after along caches in
+step_touches : (event : Event) (book after : State) (found : Option Served) (modes : List Mode) (along : Trail) (caches : Caches) → after ≡ after_stages (stages event book) book → found ≡ served event book → IsSound book → AreKept book caches → IsTrail book (path event book) along → modes ≡ modes_of book → along.modes ≡ modes_of (after_stages (stages event book) book)
+    → IsTouched (touched event found after) modes after along caches
+step_touches event book after found modes along caches is found_is sound kept trail was now =
+    let P : State → Type 0 = λ b. IsTouched (touched event (served event book) b) modes b along caches in
+    let Q : Option Served → Type 0 = λ s. IsTouched (touched event s after) modes after along caches in
     subst Q (sym found_is) (subst P (sym is)
-    (touched_if event book along caches (may_change event (served event book)) refl (record { sound = sound; kept = kept; trail = trail })))
+    (touched_if event book modes along caches (may_change event (served event book)) refl (record { sound = sound; kept = kept; trail = trail; was = was; now = now })))
 
 -- the same where it is told by the book before whether the event changes no value
-pub unless_touches : (still : Bool) (event : Event) (book after : State) (found : Option Served) (along : Trail) (caches : Caches) → leaves_values event book ≡ still → after ≡ after_stages (stages event book) book → found ≡ served event book → IsSound book → AreKept book caches → IsTrail book (path event book) along
-    → IsTouched (touched_unless still event found after) after along caches
-unless_touches false event book after found along caches still is found_is sound kept trail =
-    step_touches event book after found along caches is found_is sound kept trail
-unless_touches true event book after found along caches still is found_is sound kept trail =
+pub unless_touches : (still : Bool) (event : Event) (book after : State) (found : Option Served) (modes : List Mode) (along : Trail) (caches : Caches) → leaves_values event book ≡ still → after ≡ after_stages (stages event book) book → found ≡ served event book → IsSound book → AreKept book caches → IsTrail book (path event book) along → modes ≡ modes_of book → along.modes ≡ modes_of (after_stages (stages event book) book)
+    → IsTouched (touched_unless still event found after) modes after along caches
+unless_touches false event book after found modes along caches still is found_is sound kept trail was now =
+    step_touches event book after found modes along caches is found_is sound kept trail was now
+unless_touches true event book after found modes along caches still is found_is sound kept trail was now =
     let P : State → Type 0 = λ b. IsStill b along caches in
     subst P (sym is)
-    (stays_still book (stages event book) along caches (record { sound = sound; kept = kept; trail = trail })
+    (stays_still book (stages event book) modes along caches (record { sound = sound; kept = kept; trail = trail; was = was; now = now })
     (event_leaves event book sound still))

@@ -29,7 +29,7 @@ use Rattle.pm_calls.specs.declared.verdict.Verdict.TheVariants.{Dropped, Refused
 use Rattle.pm_tell.specs.Callbacks.{News, callbacks, late_replies}
 use Rattle.pm_tell.specs.Ended.{ended_from}
 use Rattle.pm_values.specs.declared.touches.Touched.{Touched}
-use Rattle.pm_values.specs.declared.touches.Touched.TheVariants.{All, Nothing, Rows}
+use Rattle.pm_values.specs.declared.touches.Touched.TheVariants.{All, Modes, Nothing, Rows}
 use Rattle.pm_values.specs.Turns.{turns_along}
 use Rattle.pm_calls.specs.Events.{boot, wait, interrupt, raised}
 use Rattle.pm_calls.specs.Shapes.{Shape, Other_suspend, Own_abort, Own_arming, Own_notifier, Own_row, Own_suspend}
@@ -258,11 +258,11 @@ abbrev pub touched_in : Call → State → Touched
 touched_in call book = if keeps_values (shape_of call) then Nothing else touched_at (row_place call book)
 
 abbrev pub touched_by : Option Served → State → Touched
-touched_by None book = All
+touched_by None book = Modes
 touched_by (Some served) book = touched_in served.call book
 
 -- what of a book an event may touch, by the verdict on its message: nothing that changes a value, the rows on one
--- slave, or anything
+-- slave, modes of processors with the rows of the masters whose mode turns, or anything
 abbrev pub touched : Event → Option Served → State → Touched
 touched event served book = if may_change event served then touched_by served book else Nothing
 

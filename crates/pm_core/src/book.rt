@@ -7,6 +7,7 @@ ghost use Rattle.pm_state.specs.Load.{load_of};
 ghost use Rattle.pm_core.specs.Outbox.{HasRoom, HasRoomFor, Holds, IsEmpty, KeepsRoom};
 ghost use Rattle.pm_perms.specs.Permits.{may_use};
 ghost use Rattle.pm_core.specs.Step.{effect, outputs, outputs_at_load, is_refused};
+ghost use Rattle.pm_core.specs.Usage.{usage};
 ghost use Rattle.pm_state.specs.State.{in_force};
 ghost use Rattle.pm_state.specs.Sound.{IsSound, StandsAsWanted, MeetsRequirements};
 ghost use Rattle.pm_state.specs.Units.{units};
@@ -143,6 +144,7 @@ impl Book {
             touched_unless(still, &self.tables, event, served),
             &self.tables,
             &self.telling.along,
+            &self.telling.modes,
             &mut out.moved,
             &mut out.starts,
             &mut self.telling.notices,
@@ -268,5 +270,15 @@ impl Book {
     {
         books_stay_sound();
         self.tables.row(master, slave)
+    }
+
+    /// Who uses a slave, as a configured master is told: 0 nobody, 1 that master alone, 2 others alone, 3 both. There is
+    /// no answer where the master isn't configured, or the slave isn't in the table.
+    pub fn usage(&self, master: NodeId, slave: NodeId) -> Option<u32>
+        ensures { result ≡ usage master slave self.now }
+    {
+        let master = self.tables.master_place(master)?;
+        let slave = self.tables.slave_place(slave)?;
+        Some(self.tables.rows().usage(master, slave))
     }
 }

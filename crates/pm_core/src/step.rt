@@ -51,6 +51,7 @@ pub(crate) fn advance(
     ensures served { result ≡ served event.now tables.old }
     ensures modes { telling.new.modes.items ≡ modes_of tables.old }
     ensures along { IsTrail tables.old (path event.now tables.old) telling.new.along }
+    ensures now { telling.new.along.modes ≡ modes_of tables.new }
     ensures places { HasPlaces tables.new.fixed.topology (length (in_force tables.new).masters) telling.new }
     ensures ended { telling.new.ended ≡ telling.old.ended }
     ensures notices { telling.new.notices ≡ telling.old.notices }
@@ -208,7 +209,7 @@ pub(crate) fn touched_unless(
 }
 
 /// What of a book an event may touch, by the verdict on its message: nothing that changes a value, the rows on one
-/// slave, or anything.
+/// slave, modes of processors with the rows of the masters whose mode turns, or anything.
 fn touched(tables: &Tables, event: &Event, served: Option<Served>) -> Touched
     ensures { result ≡ touched event.now served tables.now }
 {
@@ -217,7 +218,7 @@ fn touched(tables: &Tables, event: &Event, served: Option<Served>) -> Touched
     }
     match served {
         Some(served) => touched_in(tables, &served.call),
-        None => Touched::All,
+        None => Touched::Modes,
     }
 }
 

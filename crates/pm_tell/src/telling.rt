@@ -23,7 +23,7 @@ use std::alloc::Global;
 /// with room for two notes about each unit.
 #[derive(Drop)]
 pub struct Telling {
-    modes: Vec<Mode>,
+    pub modes: Vec<Mode>,
     pub along: Along,
     asks: Option<Asked>,
     ended: BoundedList<Ended>,

@@ -13,3 +13,5 @@ pub mod SlaveLaw
 pub mod StartsLaw
 pub mod TouchesLaw
 pub mod Wants
+pub mod RenewedLaw
+pub mod ModesLaw

@@ -47,15 +47,16 @@ starts_step downs procs kinds k kind es items new whole at within is before =
     ∙ (append_assoc items (started_at downs procs kind (slice_get es k)) (starts_by downs procs (drop (k + 1) kinds) (drop (k + 1) es))
     ∙ (ap (λ xs. items ++ xs) (sym (starts_left downs procs kinds k kind es at within)) ∙ before))
 
--- there is room for one more start where all of them have room
-pub start_fits : (downs : List Bool) (procs : List Processor) (kinds : List UnitKind) (k : ℕ) (kind : UnitKind) (es : List (Unit × ℕ)) (items first : List Start) (start : Start) (room : ℕ) → slice_get kinds k ≡ Some kind → k < length es → started_at downs procs kind (slice_get es k) ≡ start ∷ [] → items ++ starts_by downs procs (drop k kinds) (drop k es) ≡ first ++ starts_by downs procs kinds es → length first + length (starts_by downs procs kinds es) ≤ room → length items < room
-start_fits downs procs kinds k kind es items first start room at within one before fits =
+-- there is room for the start at place k where all of them have room
+pub starts_fit : (downs : List Bool) (procs : List Processor) (kinds : List UnitKind) (k : ℕ) (kind : UnitKind) (es : List (Unit × ℕ)) (items whole : List Start) (room : ℕ) → slice_get kinds k ≡ Some kind → k < length es → items ++ starts_by downs procs (drop k kinds) (drop k es) ≡ whole → length whole ≤ room → length items + length (started_at downs procs kind (slice_get es k)) ≤ room
+starts_fit downs procs kinds k kind es items whole room at within before fits =
+    let here : List Start = started_at downs procs kind (slice_get es k) in
     let later : List Start = starts_by downs procs (drop (k + 1) kinds) (drop (k + 1) es) in
-    let left : starts_by downs procs (drop k kinds) (drop k es) ≡ start ∷ later = starts_left downs procs kinds k kind es at within ∙ ap (λ xs. xs ++ later) one in
-    let all : length items + length (start ∷ later) ≡ length first + length (starts_by downs procs kinds es) =
-    sym (length-append items (start ∷ later))
-    ∙ (ap (λ xs. length (items ++ xs)) (sym left) ∙ (ap length before ∙ length-append first (starts_by downs procs kinds es)))
+    let left : starts_by downs procs (drop k kinds) (drop k es) ≡ here ++ later = starts_left downs procs kinds k kind es at within in
+    let all : length items + length (here ++ later) ≡ length whole =
+    sym (length-append items (here ++ later)) ∙ (ap (λ xs. length (items ++ xs)) (sym left) ∙ ap length before)
     in
+    let both : length (here ++ later) ≡ length here + length later = length-append here later in
     omega arith
 
 -- ---- how many there are

@@ -1,5 +1,5 @@
 -- What a book keeps of its values, so that they needn't be found again. Each of it is a function of the book.
-use Rattle.std.specs.Prelude.{◌≡◌, ◌≤◌, ℕ, ◌+◌, ◌==◌, ◌&&◌, Bool, false, not, cond, if◌then◌else◌, List, [], ◌∷◌, ◌++◌, map, length, slice_get, unwrap_or, Option, Some, None}
+use Rattle.std.specs.Prelude.{◌≡◌, ◌≤◌, ℕ, ◌+◌, ◌==◌, ◌&&◌, Bool, true, false, not, cond, if◌then◌else◌, List, [], ◌∷◌, ◌++◌, map, length, slice_get, slice_set, unwrap_or, Option, Some, None}
 use Rattle.pm_base.specs.BoundedList.{Bounded}
 use Rattle.pm_base.specs.declared.names.Unit.{Unit}
 use Rattle.pm_base.specs.declared.names.Unit.TheVariants.{Node, Line}
@@ -115,6 +115,23 @@ abbrev pub is_settled : ℕ → Bool → Option (Unit × ℕ) → Bool
 is_settled value freed None = false
 is_settled value freed (Some e) = (e.1 == value) && not freed
 
+-- a unit rests: it is a slave of which that was found, or a reset line, where all of them are as before
+abbrev pub slave_rests : List Bool → Kind → Bool
+slave_rests rests (Slave s) = unwrap_or (slice_get rests s) false
+slave_rests rests (Proc p) = false
+slave_rests rests (Power w) = false
+slave_rests rests Unknown = false
+
+abbrev pub is_resting : Bool → List Bool → UnitKind → Bool
+is_resting lines rests (Entry kind) = slave_rests rests kind
+is_resting lines rests (Reset place) = lines
+
+-- nothing happened to the units of a table that rest
+abbrev pub AreSettled : (UnitKind → ℕ) → (UnitKind → Bool) → Bool → List Bool → List UnitKind → List (Unit × ℕ) → Type 0
+AreSettled new freed lines rests kinds entries =
+    (k : ℕ) (kind : UnitKind) → slice_get kinds k ≡ Some kind → is_resting lines rests kind ≡ true
+    → is_settled (new kind) (freed kind) (slice_get entries k) ≡ true
+
 -- what happened to the units of a table
 abbrev pub noticed_by : (UnitKind → ℕ) → (UnitKind → Bool) → List UnitKind → List (Unit × ℕ) → List Waiting
 noticed_by new freed [] entries = []
@@ -148,6 +165,18 @@ pub record HasPlaces (t : Topology) (caches : Caches) : Type 0 where
   pub powers : caches.power.powers ≡ t.powers
   pub children : map idle caches.power.children ≡ children_of t (λ _. false)
   pub units : units_in caches.values ≡ units_of t
+
+-- a list with one item for each slave, in which those of the slaves that pass the test are found anew
+abbrev pub renewed : {A : Type 0} → (ℕ → Bool) → (ℕ → SlaveDef → A) → ℕ → List SlaveDef → List A → List A
+renewed test new s [] items = items
+renewed test new s (slave ∷ slaves) [] = []
+renewed test new s (slave ∷ slaves) (item ∷ items) =
+    (if test s then new s slave else item) ∷ renewed test new (s + 1) slaves items
+
+-- the item of one slave is found anew, if there is such a slave and it is asked for
+abbrev pub renewed_at : {A : Type 0} → Bool → (ℕ → SlaveDef → A) → ℕ → Option SlaveDef → List A → List A
+renewed_at asked new s None items = items
+renewed_at asked new s (Some slave) items = if asked then slice_set items s (new s slave) else items
 
 -- the caches are those of the book
 pub record AreKept (book : State) (caches : Caches) : Type 0 where

@@ -1,17 +1,21 @@
 -- What a step may have changed of what values are found by, and what is as it was before the step.
-use Rattle.std.specs.Prelude.{◌≡◌, ◌≢◌, ◌<◌, ◌==◌, ◌&&◌, ℕ, Bool, not, ⊤, [], ◌∷◌, length, slice_get, slice_set, unwrap_or}
+use Rattle.std.specs.Prelude.{◌≡◌, ◌≢◌, ◌<◌, ◌==◌, ◌&&◌, ℕ, Bool, false, not, ⊤, List, [], ◌∷◌, length, slice_get, slice_set, unwrap_or}
+use Rattle.std.specs.List.{list_any}
+use Rattle.pm_base.specs.declared.names.Mode.{Mode}
 use Rattle.pm_base.specs.declared.names.NodeId.{NodeId}
 use Rattle.pm_base.specs.declared.names.Unit.TheVariants.{Node}
 use Rattle.pm_topology.specs.declared.places.Kind.TheVariants.{Slave}
 use Rattle.pm_topology.specs.UnitMap.{with_value}
+use Rattle.pm_procs.specs.Modes.{same_mode}
+use Rattle.pm_rows.specs.declared.row.Entry.{Entry as RowEntry}
 use Rattle.pm_rows.specs.Wanted.{wanted_of}
 use Rattle.pm_state.specs.State.{CoreHalf, State}
 use Rattle.pm_state.specs.Values.{runs, state_at, value}
 use Rattle.pm_values.specs.declared.caches.Caches.{Caches}
 use Rattle.pm_values.specs.declared.caches.UnitKind.TheVariants.{Entry}
 use Rattle.pm_values.specs.declared.touches.Touched.{Touched}
-use Rattle.pm_values.specs.declared.touches.Touched.TheVariants.{Nothing, Rows, All}
-use Rattle.pm_values.specs.Along.{Trail, down_logged}
+use Rattle.pm_values.specs.declared.touches.Touched.TheVariants.{Nothing, Rows, Modes, All}
+use Rattle.pm_values.specs.Along.{Trail, down_logged, mode_logged}
 use Rattle.pm_values.specs.Caches.{AreKept, freed_by}
 use Rattle.pm_values.specs.Notifications.{is_used}
 use Rattle.pm_values.specs.Starts.{was_down}
@@ -60,6 +64,32 @@ pub record IsBefore (s : ℕ) (book : State) (caches : Caches) : Type 0 where
   pub kept : AreKept (with_core before book) caches
   pub changes : ChangesRows s before book.now.core
 
+-- the mode of the master at place m isn't the one before, by the modes of the masters before and now
+abbrev pub turned : List Mode → List Mode → ℕ → Bool
+turned modes now m = not (same_mode (mode_logged modes m) (mode_logged now m))
+
+-- a row on the slave at place s, of a master that passes this test
+abbrev pub is_on : (ℕ → Bool) → ℕ → RowEntry → Bool
+is_on test s entry = (entry.seed.slave == s) && test entry.seed.master
+
+-- one of these rows is on the slave, and of a master that passes the test
+abbrev pub is_among : (ℕ → Bool) → List RowEntry → ℕ → Bool
+is_among test entries s = list_any (is_on test s) entries
+
+-- a step from this core half to that one changed modes of processors, and the rows of the masters whose mode turned: the
+-- reset lines are as before, and so is what is wanted of each slave on which none of these has a row, and whether some
+-- master uses it
+pub record ChangesModes (modes now : List Mode) (before after : CoreHalf) : Type 0 where
+  pub lines : after.lines ≡ before.lines
+  pub wanted : (s : ℕ) → is_among (turned modes now) after.rows.entries s ≡ false → wanted_of s after.rows ≡ wanted_of s before.rows
+  pub used : (s : ℕ) → is_among (turned modes now) after.rows.entries s ≡ false → is_used s after.rows ≡ is_used s before.rows
+
+-- what is kept is that of a book before, from which a step to this one changed modes, and rows of masters whose mode turned
+pub record IsOfModes (modes : List Mode) (book : State) (along : Trail) (caches : Caches) : Type 0 where
+  pub before : CoreHalf
+  pub kept : AreKept (with_core before book) caches
+  pub changes : ChangesModes modes along.modes before book.now.core
+
 -- the value of this slave is written, and whether it is used; what is kept besides is as it was
 pub record IsLogged (s : ℕ) (node : NodeId) (book : State) (before after : Caches) : Type 0 where
   pub values : after.values ≡ with_value (Node node) (value (Node node) book) before.values
@@ -70,11 +100,12 @@ pub record IsLogged (s : ℕ) (node : NodeId) (book : State) (before after : Cac
   pub runs : after.runs ≡ before.runs
   pub power : after.power ≡ before.power
 
--- what is kept before a step that may have touched so much
-abbrev pub IsTouched : Touched → State → Trail → Caches → Type 0
-IsTouched Nothing book along caches = IsStill book along caches
-IsTouched (Rows s) book along caches = IsOfRows s book along caches
-IsTouched All book along caches = ⊤
+-- what is kept before a step that may have touched so much, where the masters had these modes
+abbrev pub IsTouched : Touched → List Mode → State → Trail → Caches → Type 0
+IsTouched Nothing modes book along caches = IsStill book along caches
+IsTouched (Rows s) modes book along caches = IsOfRows s book along caches
+IsTouched Modes modes book along caches = IsOfModes modes book along caches
+IsTouched All modes book along caches = ⊤
 
 -- the slave at place s is in the state that is kept, and no master left it without users
 abbrev pub rests : ℕ → State → Caches → Bool

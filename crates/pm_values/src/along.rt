@@ -68,6 +68,13 @@ impl Along {
         add_downs(tables, &mut self.downs);
     }
 
+    /// The mode of the master at a place at the last moment that was logged.
+    pub(crate) fn mode(&self, m: usize) -> Mode
+        ensures { result ≡ mode_logged self.now.modes m }
+    {
+        at_or(&self.modes, m, Mode::Off)
+    }
+
     /// What became of the mode of the master at a place.
     pub fn turns(&self, m: usize) -> Turns
         ensures { result ≡ turns_logged m self.now.turns }

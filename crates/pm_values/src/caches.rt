@@ -1,22 +1,24 @@
 //! What the book keeps of its values.
 
-ghost use Rattle.std.specs.Prelude.{◌≡◌, ◌<◌, ◌≤◌, ◌++◌, IfOk, Some, length, map, option_map, slice_get};
+ghost use Rattle.std.specs.Prelude.{◌≡◌, ℕ, ◌<◌, ◌≤◌, ◌++◌, IfOk, Some, true, false, length, map, option_map, slice_get};
 ghost use Rattle.pm_base.specs.declared.names.Unit.TheVariants.{Node};
 ghost use Rattle.pm_topology.specs.declared.places.Kind.TheVariants.{Slave};
 ghost use Rattle.pm_topology.specs.Units.{units_of};
 ghost use Rattle.pm_state.specs.Values.{value};
 ghost use Rattle.pm_values.specs.declared.caches.UnitKind.TheVariants.{Entry};
 ghost use Rattle.pm_topology.specs.UnitMap.{all_at};
-ghost use Rattle.pm_values.specs.Caches.{AreChosen, AreKept, Finds, HasPlaces, HasRoom, IsChosen, freed_by, kind_of_unit, moved_at, noticed_at, value_kept};
-ghost use Rattle.pm_values.specs.Touches.{IsBefore, IsLogged, IsOfRows, IsTouched, rests};
+ghost use Rattle.pm_values.specs.Caches.{AreChosen, AreKept, AreSettled, Finds, HasPlaces, HasRoom, IsChosen, freed_by, kind_of_unit, moved_at, noticed_at, slave_rests, value_by, value_kept};
+ghost use Rattle.pm_values.specs.Touches.{IsBefore, IsLogged, IsOfModes, IsOfRows, IsTouched, is_among, rests, turned};
 
 use crate::along::Along;
 use crate::moves::log_units;
-use crate::needs::{choose, choose_one, log_runs, set_need, slave_at, state_of};
+use crate::needs::{
+    choose, choose_one, choose_turned, log_runs, set_need, slave_at, state_of, wake,
+};
 use crate::notifications::{freed, log_notice, log_use, log_uses};
-use crate::starts::{Start, log_starts};
+use crate::starts::Start;
 use crate::touches::Touched;
-use pm_base::{BoundedList, NoMemory, NodeId, Unit, at_or};
+use pm_base::{BoundedList, Mode, NoMemory, NodeId, Unit, at_or};
 use pm_notify::Waiting;
 use pm_power::Power;
 use pm_state::Tables;
@@ -36,7 +38,7 @@ pub enum UnitKind {
 
 /// What is kept of the values of a book: the kind of each unit by its place, the chosen state of each
 /// slave and whether it needs its power node in it, whether each processor runs, whether some master uses
-/// each slave, the power nodes, and the value of each unit.
+/// each slave, the power nodes, and the value of each unit. Along a step it is kept, too, which slaves rest in it.
 #[derive(Drop)]
 pub struct Caches {
     kinds: Vec<UnitKind>,
@@ -44,6 +46,7 @@ pub struct Caches {
     needs: Vec<bool>,
     runs: Vec<bool>,
     used: Vec<bool>,
+    rests: Vec<bool>,
     power: Power,
     values: UnitMap<u32>,
 }
@@ -62,6 +65,7 @@ impl Caches {
             needs: no_needs(alloc, slaves)?,
             runs: no_needs(alloc, t.procs.len())?,
             used: no_needs(alloc, slaves)?,
+            rests: no_needs(alloc, slaves)?,
             power: Power::load(alloc, t)?,
             values: UnitMap::load(alloc, t, 0)?,
         })
@@ -115,11 +119,11 @@ impl Caches {
             notices.old notices.new }
     {
         self.choose(tables);
-        self.log_changes(tables, along, moved, starts, notices);
+        self.log_all(tables, along, moved, starts, notices);
     }
 
     /// The same once the states are chosen and the power nodes are found.
-    fn log_changes(
+    fn log_all(
         &mut self,
         tables: &Tables,
         along: &Along,
@@ -133,28 +137,14 @@ impl Caches {
         ensures found { Finds tables.now along.now.downs self.old moved.old moved.new starts.old starts.new
             notices.old notices.new }
     {
-        units_stand_in_order();
-        kinds_are_exact();
-        let ups = self.power.ups();
-        log_starts(along, &self.kinds, tables.procs(), &self.values, starts);
-        notices.clear();
-        log_units(
-            tables,
-            &self.kinds,
-            &self.states,
-            ups,
-            &self.used,
-            &mut self.values,
-            moved,
-            notices,
-        );
-        log_uses(tables, &mut self.used);
+        wake(&mut self.rests);
+        self.log_changes(false, tables, along, moved, starts, notices);
     }
 
-    /// The same after a step that may have touched so much: what it didn't touch isn't found again.
-    pub fn follow(
+    /// The same where units rest: reset lines, if all of them are as before, and slaves of which that was found.
+    fn log_changes(
         &mut self,
-        touched: Touched,
+        lines: bool,
         tables: &Tables,
         along: &Along,
         moved: &mut BoundedList<Unit>,
@@ -162,7 +152,49 @@ impl Caches {
         notices: &mut BoundedList<Waiting>,
     )
         requires room { HasRoom tables.now.fixed.topology self.old moved.old starts.old notices.old }
-        requires touched { IsTouched touched tables.now along.now self.old }
+        requires chosen { AreChosen tables.now self.old }
+        requires settled { AreSettled (value_by tables.now.fixed tables.now.now.core)
+            (freed_by self.old.used.items tables.now.now.core.rows) lines self.old.rests.items self.old.kinds.items
+            self.old.values }
+        ensures kept { AreKept tables.now self.new }
+        ensures found { Finds tables.now along.now.downs self.old moved.old moved.new starts.old starts.new
+            notices.old notices.new }
+    {
+        units_stand_in_order();
+        kinds_are_exact();
+        let ups = self.power.ups();
+        notices.clear();
+        log_units(
+            tables,
+            along,
+            &self.kinds,
+            &self.states,
+            ups,
+            &self.used,
+            lines,
+            &self.rests,
+            &mut self.values,
+            moved,
+            starts,
+            notices,
+        );
+        log_uses(tables, &mut self.used);
+    }
+
+    /// The same after a step that may have touched so much, before which the masters had these modes: what it didn't touch
+    /// isn't found again.
+    pub fn follow(
+        &mut self,
+        touched: Touched,
+        tables: &Tables,
+        along: &Along,
+        modes: &[Mode],
+        moved: &mut BoundedList<Unit>,
+        starts: &mut BoundedList<Start>,
+        notices: &mut BoundedList<Waiting>,
+    )
+        requires room { HasRoom tables.now.fixed.topology self.old moved.old starts.old notices.old }
+        requires touched { IsTouched touched modes.now tables.now along.now self.old }
         ensures kept { AreKept tables.now self.new }
         ensures found { Finds tables.now along.now.downs self.old moved.old moved.new starts.old starts.new
             notices.old notices.new }
@@ -171,8 +203,51 @@ impl Caches {
         match touched {
             Touched::Nothing => notices.clear(),
             Touched::Rows(s) => self.follow_rows(s, tables, along, moved, starts, notices),
+            Touched::Modes => self.follow_modes(tables, along, modes, moved, starts, notices),
             Touched::All => self.update(tables, along, moved, starts, notices),
         }
+    }
+
+    /// The same after a step that changed modes of processors, and rows of the masters whose mode turned: reset lines rest,
+    /// and so do the slaves on which none of these masters has a row.
+    fn follow_modes(
+        &mut self,
+        tables: &Tables,
+        along: &Along,
+        modes: &[Mode],
+        moved: &mut BoundedList<Unit>,
+        starts: &mut BoundedList<Start>,
+        notices: &mut BoundedList<Waiting>,
+    )
+        requires room { HasRoom tables.now.fixed.topology self.old moved.old starts.old notices.old }
+        requires of_modes { IsOfModes modes.now tables.now along.now self.old }
+        ensures kept { AreKept tables.now self.new }
+        ensures found { Finds tables.now along.now.downs self.old moved.old moved.new starts.old starts.new
+            notices.old notices.new }
+    {
+        self.choose_turned(tables, along, modes);
+        self.log_changes(true, tables, along, moved, starts, notices);
+    }
+
+    /// Chooses the states of the slaves on which a master has a row whose mode turned, and finds which power nodes are up by
+    /// that and by the processors that run. All other slaves rest.
+    fn choose_turned(&mut self, tables: &Tables, along: &Along, modes: &[Mode])
+        requires places { HasPlaces tables.now.fixed.topology self.old }
+        requires of_modes { IsOfModes modes.now tables.now along.now self.old }
+        ensures chosen { IsChosen tables.now self.old self.new }
+        ensures rests { (s : ℕ) → slave_rests self.new.rests.items (Slave s) ≡ true
+            → is_among (turned modes.now along.now.modes) tables.now.now.core.rows.entries s ≡ false }
+    {
+        choose_turned(
+            tables,
+            along,
+            modes,
+            &mut self.states,
+            &mut self.needs,
+            &mut self.rests,
+        );
+        log_runs(tables, &mut self.runs);
+        self.power.recompute(&self.needs, &self.runs);
     }
 
     /// The same after a step that changed the rows on one slave alone: where that rests, all values do.
@@ -225,7 +300,7 @@ impl Caches {
                 if at_or(self.power.ups(), slave.parent, false) == was_up {
                     self.log_slave(s, slave.node, tables, moved, notices);
                 } else {
-                    self.log_changes(tables, along, moved, starts, notices);
+                    self.log_all(tables, along, moved, starts, notices);
                 }
             }
             None => self.update(tables, along, moved, starts, notices),

@@ -1,34 +1,46 @@
 //! Which units a step moves, and what happens to them.
 
-ghost use Rattle.std.specs.Prelude.{◌≡◌, ◌+◌, ◌<◌, ◌≤◌, ◌++◌, length, slice_get};
+ghost use Rattle.std.specs.Prelude.{◌≡◌, ◌+◌, ◌<◌, ◌≤◌, ◌++◌, [], length, slice_get, true};
 ghost use Rattle.pm_topology.specs.UnitMap.{with_value_at};
-ghost use Rattle.pm_values.specs.Caches.{freed_by, is_settled, kind_value, moved_at, moved_by, noticed_at, noticed_by, revalued, unit_value};
+ghost use Rattle.pm_values.specs.Caches.{AreSettled, freed_by, is_resting, is_settled, kind_value, moved_at, moved_by, noticed_at, noticed_by, revalued, started_at, starts_by, unit_value};
 ghost use Rattle.pm_values.specs.Notifications.{notice_count};
 ghost use Rattle.pm_state.specs.Values.{line_at};
 
+use crate::along::Along;
 use crate::caches::UnitKind;
 use crate::notifications::{freed, log_notice};
+use crate::starts::{Start, log_start};
 use pm_base::{BoundedList, Unit, at_or};
 use pm_notify::Waiting;
 use pm_procs::{Proc, Procs, is_awake};
 use pm_resets::Resets;
+use pm_rows::Rows;
 use pm_state::Tables;
 use pm_topology::{Kind, UnitMap};
 
-/// Writes the value of each unit by its kind, puts those units into `moved` whose value isn't the one before, and
-/// what happened to each of them into `notices`.
+/// Writes the value of each unit by its kind, puts those units into `moved` whose value isn't the one before, the
+/// processors that are active now and were down by what is kept along the step into `starts`, and what happened to each
+/// unit into `notices`.
 pub(crate) fn log_units(
     tables: &Tables,
+    along: &Along,
     kinds: &[UnitKind],
     states: &[u32],
     ups: &[bool],
     used: &[bool],
+    lines: bool,
+    rests: &[bool],
     values: &mut UnitMap<u32>,
     moved: &mut BoundedList<Unit>,
+    starts: &mut BoundedList<Start>,
     notices: &mut BoundedList<Waiting>,
 )
+    requires settled { AreSettled (unit_value states.now tables.now.now.core.procs ups.now tables.now.now.core.lines)
+        (freed_by used.now tables.now.now.core.rows) lines rests.now kinds.now values.old }
     requires places { length kinds.now ≡ length values.old }
     requires room { length moved.old.items + length values.old ≤ moved.old.room }
+    requires starts { length starts.old.items
+        + length (starts_by along.now.downs tables.now.now.core.procs kinds.now values.old) ≤ starts.old.room }
     requires notices { length notices.old.items + notice_count (length values.old) ≤ notices.old.room }
     ensures values { values.new
         ≡ revalued (unit_value states.now tables.now.now.core.procs ups.now tables.now.now.core.lines)
@@ -37,6 +49,9 @@ pub(crate) fn log_units(
       items = moved.old.items
           ++ moved_by (unit_value states.now tables.now.now.core.procs ups.now tables.now.now.core.lines)
           kinds.now values.old;
+    } }
+    ensures starts { starts.new ≡ record starts.old {
+      items = starts.old.items ++ starts_by along.now.downs tables.now.now.core.procs kinds.now values.old;
     } }
     ensures notices { notices.new ≡ record notices.old {
       items = notices.old.items
@@ -49,10 +64,73 @@ pub(crate) fn log_units(
     let resets = tables.resets();
     let rows = tables.rows();
     for (k, kind) in kinds.iter().enumerate() {
-        let value = unit_value(*kind, states, procs, ups, resets);
-        let freed = freed(*kind, used, rows);
-        log_unit(k, value, freed, values, moved, notices);
+        let resting = is_resting(*kind, lines, rests);
+        log_kind(
+            k, *kind, resting, along, states, procs, ups, resets, used, rows, values, moved,
+            starts, notices,
+        );
     }
+}
+
+/// Whether a unit rests, as it was found of slaves, and of all reset lines.
+fn is_resting(kind: UnitKind, lines: bool, rests: &[bool]) -> bool
+    ensures { result ≡ is_resting lines rests.now kind }
+{
+    match kind {
+        UnitKind::Entry(Kind::Slave(s)) => at_or(rests, s, false),
+        UnitKind::Entry(Kind::Proc(_) | Kind::Power(_) | Kind::Unknown) => false,
+        UnitKind::Reset(_) => lines,
+    }
+}
+
+/// The same of the unit at a place, of this kind: where it rests nothing is looked up.
+fn log_kind(
+    k: usize,
+    kind: UnitKind,
+    resting: bool,
+    along: &Along,
+    states: &[u32],
+    procs: &Procs,
+    ups: &[bool],
+    resets: &Resets,
+    used: &[bool],
+    rows: &Rows,
+    values: &mut UnitMap<u32>,
+    moved: &mut BoundedList<Unit>,
+    starts: &mut BoundedList<Start>,
+    notices: &mut BoundedList<Waiting>,
+)
+    requires settled { resting ≡ true
+        → is_settled (unit_value states.now procs.now.procs ups.now resets.now kind) (freed_by used.now rows.now kind)
+        (slice_get values.old k) ≡ true }
+    requires still { resting ≡ true → started_at along.now.downs procs.now.procs kind (slice_get values.old k) ≡ [] }
+    requires room { length moved.old.items < moved.old.room }
+    requires starts { length starts.old.items
+        + length (started_at along.now.downs procs.now.procs kind (slice_get values.old k)) ≤ starts.old.room }
+    requires notices { length notices.old.items + 2 ≤ notices.old.room }
+    ensures values { values.new
+        ≡ with_value_at k (unit_value states.now procs.now.procs ups.now resets.now kind) values.old }
+    ensures moved { moved.new ≡ record moved.old {
+      items = moved.old.items
+          ++ moved_at (unit_value states.now procs.now.procs ups.now resets.now kind) (slice_get values.old k);
+    } }
+    ensures starts { starts.new ≡ record starts.old {
+      items = starts.old.items ++ started_at along.now.downs procs.now.procs kind (slice_get values.old k);
+    } }
+    ensures notices { notices.new ≡ record notices.old {
+      items = notices.old.items
+          ++ noticed_at (unit_value states.now procs.now.procs ups.now resets.now kind) (freed_by used.now rows.now kind)
+          (slice_get values.old k);
+    } }
+    ensures few { length notices.new.items ≤ length notices.old.items + 2 }
+{
+    if resting {
+        return;
+    }
+    log_start(along, kind, procs, k, values, starts);
+    let value = unit_value(kind, states, procs, ups, resets);
+    let freed = freed(kind, used, rows);
+    log_unit(k, value, freed, values, moved, notices);
 }
 
 /// Writes the value of the unit at a place, puts the unit into `moved` if that isn't the one before, and what happened

@@ -1,14 +1,18 @@
 //! What each slave and each processor needs.
 
-ghost use Rattle.std.specs.Prelude.{◌≡◌, ◌<◌, Some, length, slice_get, slice_set};
+ghost use Rattle.std.specs.Prelude.{◌≡◌, ◌<◌, Some, ℕ, false, true, if◌then◌else◌, length, replicate, slice_get, slice_set};
+ghost use Rattle.pm_topology.specs.declared.places.Kind.TheVariants.{Slave};
+ghost use Rattle.pm_values.specs.Caches.{renewed, renewed_at, slave_rests};
+ghost use Rattle.pm_values.specs.Touches.{is_among, turned};
 ghost use Rattle.std.specs.Option.{option_copied};
 ghost use Rattle.pm_power.specs.Needs.{set_need};
 ghost use Rattle.pm_state.specs.Values.{state_at, placed, chosen, need_of, run_of};
 
+use crate::along::Along;
 use crate::choice::chosen_state;
-use pm_base::{NodeId, Steps};
+use pm_base::{Mode, NodeId, Steps, at_or};
 use pm_power::Power;
-use pm_procs::is_awake;
+use pm_procs::{is_awake, same_mode};
 use pm_state::Tables;
 use pm_topology::{SlaveDef, needs_in};
 use std::sync::ledger::{Blank, Ledger};
@@ -65,6 +69,97 @@ pub(crate) fn choose_one(
     states[s] = chosen;
     needs[s] = need;
     need
+}
+
+/// Chooses the states of the slaves on which a master has a row whose mode turned, and whether they need their power nodes
+/// then. All other slaves rest.
+pub(crate) fn choose_turned(
+    tables: &Tables,
+    along: &Along,
+    modes: &[Mode],
+    states: &mut [u32],
+    needs: &mut [bool],
+    rests: &mut [bool],
+)
+    requires states { length states.old ≡ length tables.now.fixed.topology.slaves }
+    requires needs { length needs.old ≡ length tables.now.fixed.topology.slaves }
+    ensures states { states.new
+        ≡ renewed (is_among (turned modes.now along.now.modes) tables.now.now.core.rows.entries)
+        (chosen tables.now.now.core) 0 tables.now.fixed.topology.slaves states.old }
+    ensures needs { needs.new
+        ≡ renewed (is_among (turned modes.now along.now.modes) tables.now.now.core.rows.entries)
+        (need_of tables.now.now.core) 0 tables.now.fixed.topology.slaves needs.old }
+    ensures places { length rests.new ≡ length rests.old }
+    ensures rests { (s : ℕ) → slave_rests rests.new (Slave s) ≡ true
+        → is_among (turned modes.now along.now.modes) tables.now.now.core.rows.entries s ≡ false }
+{
+    rest(rests);
+    for k in 0..tables.rows().len() {
+        let seed = tables.rows().entry(k).seed;
+        let turns = has_turned(along, modes, seed.master);
+        choose_if(tables, turns, seed.slave, states, needs, rests);
+    }
+}
+
+/// Whether the mode of a master isn't the one before.
+fn has_turned(along: &Along, modes: &[Mode], m: usize) -> bool
+    ensures { result ≡ turned modes.now along.now.modes m }
+{
+    !same_mode(at_or(modes, m, Mode::Off), along.mode(m))
+}
+
+/// All slaves rest.
+fn rest(rests: &mut [bool])
+    ensures { length rests.new ≡ length rests.old }
+{
+    rests.fill(true);
+}
+
+/// No slave rests.
+pub(crate) fn wake(rests: &mut [bool])
+    ensures { rests.new ≡ replicate (length rests.old) false }
+{
+    rests.fill(false);
+}
+
+/// The state of the slave at a place, if it is asked for, and whether it needs its power node then. It doesn't rest.
+fn choose_if(
+    tables: &Tables,
+    asked: bool,
+    s: usize,
+    states: &mut [u32],
+    needs: &mut [bool],
+    rests: &mut [bool],
+)
+    requires states { length states.old ≡ length tables.now.fixed.topology.slaves }
+    requires needs { length needs.old ≡ length tables.now.fixed.topology.slaves }
+    ensures states { states.new ≡ renewed_at asked (chosen tables.now.now.core) s
+        (slice_get tables.now.fixed.topology.slaves s) states.old }
+    ensures needs { needs.new ≡ renewed_at asked (need_of tables.now.now.core) s
+        (slice_get tables.now.fixed.topology.slaves s) needs.old }
+    ensures rests { rests.new ≡ (if asked then slice_set rests.old s false else rests.old) }
+{
+    if !asked {
+        return;
+    }
+    if s < rests.len() {
+        rests[s] = false;
+    }
+    choose_at(tables, s, states, needs);
+}
+
+/// The state of the slave at a place, if there is one, and whether it needs its power node then.
+fn choose_at(tables: &Tables, s: usize, states: &mut [u32], needs: &mut [bool])
+    requires states { length states.old ≡ length tables.now.fixed.topology.slaves }
+    requires needs { length needs.old ≡ length tables.now.fixed.topology.slaves }
+    ensures states { states.new ≡ renewed_at true (chosen tables.now.now.core) s
+        (slice_get tables.now.fixed.topology.slaves s) states.old }
+    ensures needs { needs.new ≡ renewed_at true (need_of tables.now.now.core) s
+        (slice_get tables.now.fixed.topology.slaves s) needs.old }
+{
+    if let Some(slave) = slave_at(tables.topology().slaves.as_slice(), s) {
+        choose_one(tables, s, slave, states, needs);
+    }
 }
 
 /// Sets whether a slave needs its power node, with a counter that is thrown away.

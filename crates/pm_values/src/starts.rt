@@ -1,8 +1,10 @@
 //! Which processors a step starts.
 
-ghost use Rattle.std.specs.Prelude.{◌≡◌, ◌+◌, ◌≤◌, ◌++◌, length, option_to_list};
+ghost use Rattle.std.specs.Prelude.{◌≡◌, ◌+◌, ◌≤◌, ◌++◌, length, option_to_list, slice_get};
 ghost use Rattle.pm_base.specs.declared.names.Unit.TheVariants.{Node};
-ghost use Rattle.pm_values.specs.Caches.{start_in, start_if, started_at, starts_by};
+ghost use Rattle.pm_topology.specs.declared.places.Kind.TheVariants as kinds;
+ghost use Rattle.pm_values.specs.declared.caches.UnitKind.TheVariants.{Entry};
+ghost use Rattle.pm_values.specs.Caches.{start_if, started_at};
 
 use crate::along::Along;
 use crate::caches::UnitKind;
@@ -17,51 +19,49 @@ pub struct Start {
     pub address: u64,
 }
 
-/// Puts the processors that are active now, and were down by what is kept along the step, into `starts`.
-pub(crate) fn log_starts(
+/// Puts the unit at a place, of this kind, into `starts`, if it is a processor that is active now and was down by what is
+/// kept along the step.
+pub(crate) fn log_start(
     along: &Along,
-    kinds: &[UnitKind],
+    kind: UnitKind,
     procs: &Procs,
+    k: usize,
     values: &UnitMap<u32>,
     starts: &mut BoundedList<Start>,
 )
-    requires places { length kinds.now ≡ length values.now }
-    requires room { length starts.old.items
-        + length (starts_by along.now.downs procs.now.procs kinds.now values.now) ≤ starts.old.room }
+    requires { length starts.old.items
+        + length (started_at along.now.downs procs.now.procs kind (slice_get values.now k)) ≤ starts.old.room }
     ensures { starts.new ≡ record starts.old {
-      items = starts.old.items ++ starts_by along.now.downs procs.now.procs kinds.now values.now;
+      items = starts.old.items ++ started_at along.now.downs procs.now.procs kind (slice_get values.now k);
     } }
 {
-    for (k, kind) in kinds.iter().enumerate() {
-        if let Some(start) = start_at(along, *kind, procs, values.entry(k)) {
-            starts.push(start);
-        }
+    if let Some(start) = start_at(along, kind, procs, k, values) {
+        starts.push(start);
     }
 }
 
-/// The start of the unit of an entry, if it is a processor that starts.
+/// The start of the unit at a place, of this kind, if it is a processor that starts. No other unit is looked up.
 fn start_at(
     along: &Along,
     kind: UnitKind,
     procs: &Procs,
-    entry: Option<(Unit, u32)>,
+    k: usize,
+    values: &UnitMap<u32>,
 ) -> Option<Start>
-    ensures { option_to_list result ≡ started_at along.now.downs procs.now.procs kind entry }
+    ensures { option_to_list result ≡ started_at along.now.downs procs.now.procs kind (slice_get values.now k) }
 {
-    match (kind, entry) {
-        (UnitKind::Entry(kind), Some(entry)) => start_in(along, kind, procs, entry),
+    match kind {
+        UnitKind::Entry(Kind::Proc(place)) => start_in(along, place, procs, values.entry(k)),
         _ => None,
     }
 }
 
-/// The same for a node of this kind.
-fn start_in(along: &Along, kind: Kind, procs: &Procs, entry: (Unit, u32)) -> Option<Start>
-    ensures { option_to_list result ≡ start_in along.now.downs procs.now.procs kind entry }
+/// The start of the unit of an entry, which is the processor at this place.
+fn start_in(along: &Along, place: usize, procs: &Procs, entry: Option<(Unit, u32)>) -> Option<Start>
+    ensures { option_to_list result ≡ started_at along.now.downs procs.now.procs (Entry (kinds.Proc place)) entry }
 {
-    match (kind, entry) {
-        (Kind::Proc(place), (Unit::Node(node), _)) => {
-            started(along.was_down(place), node, procs.proc(place))
-        }
+    match entry {
+        Some((Unit::Node(node), _)) => started(along.was_down(place), node, procs.proc(place)),
         _ => None,
     }
 }

@@ -36,10 +36,13 @@ update-requires c =
       few = omega (arith, c.units.ensures, c.in_ok-telling.ensures.notices);
     }
 
--- where the room for what is told can't be had, nothing was put out since the outbox was cleared
+-- where the room for what is kept or told can't be had, nothing was put out since the outbox was cleared
 if_err : {T E : Type 0} {P : E → Type 0} (r : Result T E) → ((e : E) → P e) → IfErr r P
 if_err (Ok value) holds = tt
 if_err (Err e) holds = holds e
+
+pub returns-in_err-caches-clause-nothing : goal.returns-in_err-caches-clause-nothing
+returns-in_err-caches-clause-nothing c = if_err c.from_residual-in_err-caches.result (λ _. c.clear.ensures.empty)
 
 pub returns-in_err-telling-clause-nothing : goal.returns-in_err-telling-clause-nothing
 returns-in_err-telling-clause-nothing c = if_err c.from_residual-in_err-telling.result (λ _. c.clear.ensures.empty)

@@ -6,7 +6,7 @@ use Rattle.pm_topology.specs.declared.topology.Topology.{Topology}
 use Rattle.pm_topology.specs.Units.{units_of, entry_count}
 use Rattle.pm_values.specs.Caches.{AreKept, moved_by, value_by}
 use Rattle.pm_tell.specs.Callbacks.{callbacks, late_replies}
-use Rattle.pm_values.specs.Along.{IsTrail, Trail, mode_logged, turns_logged}
+use Rattle.pm_values.specs.Along.{IsTrail, Trail, mode_logged, modes_of, turns_logged}
 use Rattle.pm_tell.specs.Served.{pulse_in, says_in}
 use Rattle.pm_base.specs.BoundedList.{Bounded}
 use Rattle.pm_state.specs.Sound.{AreNotes, IsBook}
@@ -62,10 +62,11 @@ follow-requires-clause-room c =
 pub follow-requires-clause-touched : goal.follow-requires-clause-touched
 follow-requires-clause-touched c =
     let mid = c.advance-served.new.tables in
-    let P : Touched → Type 0 = λ touched. IsTouched touched mid c.advance-served.new.telling.along c.self.inside.caches in
+    let P : Touched → Type 0 = λ touched. IsTouched touched c.deref.result.now mid c.advance-served.new.telling.along c.self.inside.caches in
     subst P (sym c.touched_unless.ensures)
-    (unless_touches c.leaves_values-still.result c.args.event.now c.self.inside.tables mid c.advance-served.result c.advance-served.new.telling.along c.self.inside.caches
-    (sym c.leaves_values-still.ensures) c.advance-served.ensures.book c.advance-served.ensures.served c.self.invariant.0.sound c.self.invariant.1 c.advance-served.ensures.along)
+    (unless_touches c.leaves_values-still.result c.args.event.now c.self.inside.tables mid c.advance-served.result c.deref.result.now c.advance-served.new.telling.along c.self.inside.caches
+    (sym c.leaves_values-still.ensures) c.advance-served.ensures.book c.advance-served.ensures.served c.self.invariant.0.sound c.self.invariant.1 c.advance-served.ensures.along
+    (c.deref.ensures.value ∙ c.advance-served.ensures.modes) (c.advance-served.ensures.now ∙ ap modes_of c.advance-served.ensures.book))
 
 pub tell-requires-clause-each : goal.tell-requires-clause-each
 tell-requires-clause-each c =

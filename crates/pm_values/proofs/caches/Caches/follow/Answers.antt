@@ -10,7 +10,7 @@ returns-in-Nothing-clause-kept c =
     let book = c.args.tables.now in
     let along = c.args.along.now in
     let caches = c.args.self.now in
-    let P : Touched → Type 0 = λ touched. IsTouched touched book along caches in
+    let P : Touched → Type 0 = λ touched. IsTouched touched c.args.modes.now book along caches in
     still_kept book along caches (subst P c.in-Nothing.is c.requires.touched)
 
 pub returns-in-Nothing-clause-found : goal.returns-in-Nothing-clause-found
@@ -18,6 +18,6 @@ returns-in-Nothing-clause-found c =
     let book = c.args.tables.now in
     let along = c.args.along.now in
     let caches = c.args.self.now in
-    let P : Touched → Type 0 = λ touched. IsTouched touched book along caches in
+    let P : Touched → Type 0 = λ touched. IsTouched touched c.args.modes.now book along caches in
     nothing_found c.kinds_are_exact.ensures book along caches c.args.moved.now c.args.starts.now c.args.notices.now c.clear.new.self
     (still_rests book along caches (subst P c.in-Nothing.is c.requires.touched)) c.requires.room.none c.clear.ensures

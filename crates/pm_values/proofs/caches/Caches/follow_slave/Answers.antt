@@ -51,8 +51,8 @@ log_slave-requires-clause-state c =
     c.ups.ensures c.ups-in-Some.ensures c.at_or-was_up.ensures c.at_or.ensures (same_from_test c.at_or.result c.at_or-was_up.result c.if-at_or-was_up.true))
     c.choose_slave.ensures.states
 
-pub log_changes-requires-clause-room : goal.log_changes-requires-clause-room
-log_changes-requires-clause-room c =
+pub log_all-requires-clause-room : goal.log_all-requires-clause-room
+log_all-requires-clause-room c =
     chosen_room c.args.tables.now c.args.self.now c.choose_slave.new.self c.args.moved.now c.args.starts.now c.args.notices.now c.requires.room c.choose_slave.ensures
 
 pub returns-then-at_or-was_up-clause-kept : goal.returns-then-at_or-was_up-clause-kept

@@ -17,6 +17,7 @@ returns-clause-places c =
       needs = c.in_ok-no_needs.field-0;
       runs = c.in_ok-no_needs-2.field-0;
       used = c.in_ok-no_needs-3.field-0;
+      rests = c.in_ok-no_needs-4.field-0;
       power = c.in_ok-load.field-0;
       values = c.in_ok-load-2.field-0;
     } in

@@ -1,10 +1,11 @@
+use Rattle.std.specs.Prelude.{slice_get}
 use Rattle.std.proofs.Common.{◌≡◌, ℕ, ◌≤◌, ◌++◌, Bool, length, take, drop, List, refl, sym, ◌∙◌, ap, arith}
 use Rattle.pm_base.specs.declared.names.Unit.{Unit}
 use Rattle.pm_values.specs.declared.caches.UnitKind.{UnitKind}
 use Rattle.pm_power.specs.Forest.{ups}
 use Rattle.pm_notify.specs.declared.notes.Waiting.{Waiting}
 use Rattle.pm_values.specs.declared.starts.Start.{Start}
-use Rattle.pm_values.specs.Caches.{freed_by, moved_by, noticed_by, starts_by, unit_value, use_of, value_by}
+use Rattle.pm_values.specs.Caches.{freed_by, is_resting, is_settled, moved_by, noticed_by, starts_by, unit_value, use_of, value_by}
 use Rattle.pm_base.specs.BoundedList.{Bounded}
 use Rattle.pm_state.specs.Values.{placed, chosen}
 use Rattle.pm_values.proofs.CachesLaw.{written_back, valued_is, unit_value_is}
@@ -14,10 +15,10 @@ use Rattle.pm_state.proofs.PlacedLemmas.{length-placed}
 use Rattle.pm_values.proofs.StartsLaw.{starts_few}
 use Rattle.pm_values.proofs.caches.Caches.log_changes.Goals as goal
 
-pub log_starts-requires-clause-room : goal.log_starts-requires-clause-room
-log_starts-requires-clause-room c =
+pub log_units-requires-clause-starts : goal.log_units-requires-clause-starts
+log_units-requires-clause-starts c =
     let t = c.args.tables.now.fixed.topology in
-    let procs = c.procs.result.now.procs in
+    let procs = c.args.tables.now.now.core.procs in
     let none = ap length c.requires.room.none in
     let downs = c.args.along.now.downs in
     let few : length (starts_by downs procs c.deref.result.now c.args.self.now.values) ≤ length t.procs =
@@ -25,6 +26,18 @@ log_starts-requires-clause-room c =
     (c.deref.ensures.value ∙ c.requires.room.places.kinds)
     in
     omega (arith, none, few, c.requires.room.procs)
+
+pub log_units-requires-clause-settled : goal.log_units-requires-clause-settled
+log_units-requires-clause-settled c = λ k kind at is.
+    let book = c.args.tables.now in
+    let old = c.args.self.now in
+    let entry = slice_get old.values k in
+    let same = unit_value_is book.fixed book.now.core c.deref-2.result.now book.now.core.procs c.ups-ups.result.now book.now.core.lines
+    (c.deref-2.ensures.value ∙ c.requires.chosen.states) refl (c.ups-ups.ensures ∙ ap ups c.requires.chosen.power) refl kind in
+    ap (λ v. is_settled v (freed_by c.deref-3.result.now book.now.core.rows kind) entry) same
+    ∙ (ap (λ (us : List Bool). is_settled (value_by book.fixed book.now.core kind) (freed_by us book.now.core.rows kind) entry) c.deref-3.ensures.value
+    ∙ c.requires.settled k kind (ap (λ (ks : List UnitKind). slice_get ks k) (sym c.deref.ensures.value) ∙ at)
+    (ap (λ (rs : List Bool). is_resting c.args.lines rs kind) (sym c.deref-4.ensures.value) ∙ is))
 
 -- whether each slave is used is written
 used_is : (c : goal.After-self-1) → take c.args.self.now.used.len (c.log_uses.new.used ++ drop (length c.log_uses.new.used) c.args.self.now.used.items) ≡ placed (use_of c.args.tables.now.now.core) 0 c.args.tables.now.fixed.topology.slaves
@@ -46,9 +59,9 @@ returns-clause-kept c =
       used = used_is c;
       power = c.requires.chosen.power;
       values = c.log_units.ensures.values
-          ∙ valued_is book c.deref-3.result.now book.now.core.procs c.ups-ups.result.now book.now.core.lines c.deref-2.result.now c.args.self.now.values
-          (c.deref-3.ensures.value ∙ c.requires.chosen.states) refl (c.ups-ups.ensures ∙ ap ups c.requires.chosen.power) refl
-          c.requires.room.places.units (c.deref-2.ensures.value ∙ c.requires.room.places.kinds);
+          ∙ valued_is book c.deref-2.result.now book.now.core.procs c.ups-ups.result.now book.now.core.lines c.deref.result.now c.args.self.now.values
+          (c.deref-2.ensures.value ∙ c.requires.chosen.states) refl (c.ups-ups.ensures ∙ ap ups c.requires.chosen.power) refl
+          c.requires.room.places.units (c.deref.ensures.value ∙ c.requires.room.places.kinds);
     }
 
 pub returns-clause-found : goal.returns-clause-found
@@ -65,17 +78,16 @@ returns-clause-found c =
     let freed : UnitKind → Bool = freed_by old.used.items book.now.core.rows in
     record {
       moved = c.log_units.ensures.moved
-          ∙ (ap (λ ks. moved_to (moved_by (new_by c.deref-3.result.now) ks old.values)) c.deref-2.ensures.value
-          ∙ ap moved_to (moved_by-same (new_by c.deref-3.result.now) (value_by book.fixed book.now.core) (is c.deref-3.result.now (c.deref-3.ensures.value ∙ c.requires.chosen.states)) old.kinds.items old.values));
-      starts = c.log_starts.ensures
-          ∙ (ap (λ ss. started_to (ss ++ starts_by c.args.along.now.downs c.procs.result.now.procs c.deref.result.now old.values)) c.requires.room.none
-          ∙ (ap (λ ps. started_to (starts_by c.args.along.now.downs ps c.deref.result.now old.values)) c.procs.ensures.procs
-          ∙ ap (λ ks. started_to (starts_by c.args.along.now.downs book.now.core.procs ks old.values)) c.deref.ensures.value));
+          ∙ (ap (λ ks. moved_to (moved_by (new_by c.deref-2.result.now) ks old.values)) c.deref.ensures.value
+          ∙ ap moved_to (moved_by-same (new_by c.deref-2.result.now) (value_by book.fixed book.now.core) (is c.deref-2.result.now (c.deref-2.ensures.value ∙ c.requires.chosen.states)) old.kinds.items old.values));
+      starts = c.log_units.ensures.starts
+          ∙ (ap (λ ss. started_to (ss ++ starts_by c.args.along.now.downs book.now.core.procs c.deref.result.now old.values)) c.requires.room.none
+          ∙ ap (λ ks. started_to (starts_by c.args.along.now.downs book.now.core.procs ks old.values)) c.deref.ensures.value);
       notices = c.log_units.ensures.notices
-          ∙ (ap (λ (s : Bounded Waiting). record s { items = s.items ++ noticed_by (new_by c.deref-3.result.now) (freed_by c.deref-4.result.now book.now.core.rows) c.deref-2.result.now old.values }) c.clear.ensures
-          ∙ (ap (λ us. noticed_to (noticed_by (new_by c.deref-3.result.now) (freed_by us book.now.core.rows) c.deref-2.result.now old.values)) c.deref-4.ensures.value
-          ∙ (ap (λ ks. noticed_to (noticed_by (new_by c.deref-3.result.now) freed ks old.values)) c.deref-2.ensures.value
-          ∙ ap noticed_to (noticed_by-same (new_by c.deref-3.result.now) (value_by book.fixed book.now.core) freed (is c.deref-3.result.now (c.deref-3.ensures.value ∙ c.requires.chosen.states)) old.kinds.items old.values))));
+          ∙ (ap (λ (s : Bounded Waiting). record s { items = s.items ++ noticed_by (new_by c.deref-2.result.now) (freed_by c.deref-3.result.now book.now.core.rows) c.deref.result.now old.values }) c.clear.ensures
+          ∙ (ap (λ us. noticed_to (noticed_by (new_by c.deref-2.result.now) (freed_by us book.now.core.rows) c.deref.result.now old.values)) c.deref-3.ensures.value
+          ∙ (ap (λ ks. noticed_to (noticed_by (new_by c.deref-2.result.now) freed ks old.values)) c.deref.ensures.value
+          ∙ ap noticed_to (noticed_by-same (new_by c.deref-2.result.now) (value_by book.fixed book.now.core) freed (is c.deref-2.result.now (c.deref-2.ensures.value ∙ c.requires.chosen.states)) old.kinds.items old.values))));
       few =
           let empty : length c.clear.new.self.items ≡ 0 = ap (λ (s : Bounded Waiting). length s.items) c.clear.ensures in
           omega (arith, empty, c.log_units.ensures.few);

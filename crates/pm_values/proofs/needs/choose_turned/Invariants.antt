@@ -1,0 +1,18 @@
+use Rattle.std.proofs.Common.{◌≡◌, ℕ, true, false, length, take, slice_get}
+use Rattle.std.specs.Prelude.{unwrap_or}
+use Rattle.pm_state.specs.Values.{chosen, need_of}
+use Rattle.pm_values.specs.Caches.{renewed}
+use Rattle.pm_values.specs.Touches.{is_among, turned}
+use Rattle.pm_values.proofs.needs.choose_turned.Given as goal
+
+-- the states and needs of the slaves of the rows before place k are found anew, where the mode of their masters turned, and
+-- none of these rests
+abbrev pub invariant-loop-k : goal.invariant-loop-k
+invariant-loop-k l = record {
+  states_places : length l.states ≡ length l.tables.fixed.topology.slaves;
+  needs_places : length l.needs ≡ length l.tables.fixed.topology.slaves;
+  rests_places : length l.rests ≡ length l.fn.rests;
+  states : l.states ≡ renewed (is_among (turned l.modes l.along.modes) (take l.k l.tables.now.core.rows.entries)) (chosen l.tables.now.core) 0 l.tables.fixed.topology.slaves l.fn.states;
+  needs : l.needs ≡ renewed (is_among (turned l.modes l.along.modes) (take l.k l.tables.now.core.rows.entries)) (need_of l.tables.now.core) 0 l.tables.fixed.topology.slaves l.fn.needs;
+  rests : (s : ℕ) → unwrap_or (slice_get l.rests s) false ≡ true → is_among (turned l.modes l.along.modes) (take l.k l.tables.now.core.rows.entries) s ≡ false;
+}
