@@ -24,6 +24,7 @@ pub mod PlanLemmas
 pub mod PulseLemmas
 pub mod RecordLaw
 pub mod RecordLemmas
+pub mod RestsLemmas
 pub mod StepLaw
 pub mod TakesLemmas
 pub mod TurnsLemmas

@@ -1,6 +1,6 @@
 //! A device is made to follow the book.
 
-ghost use Rattle.std.specs.Prelude.{◌≡◌, []};
+ghost use Rattle.std.specs.Prelude.{◌≡◌, ℕ, ◌<◌, [], true, None, length};
 ghost use Rattle.pm_topology.specs.WellFormed.{IsWellFormed};
 ghost use Rattle.pm_state.specs.Fed.{IsFed};
 ghost use Rattle.pm_core.specs.Outbox.{HasRoomFor, KeepsRoom, outputs_in};
@@ -12,7 +12,7 @@ ghost use Rattle.pm_apply.specs.Order.{IsOrdered, LagsAreExplained};
 ghost use Rattle.pm_apply.specs.Part.{answers_in, orders_in, part_in, part_of};
 ghost use Rattle.pm_apply.specs.Plan.{turns_of};
 ghost use Rattle.pm_apply.specs.Record.{IsRecordOf, StandsAs, kept_value};
-ghost use Rattle.pm_apply.specs.Visits.{IsReady};
+ghost use Rattle.pm_apply.specs.Visits.{IsReady, LagsNotAt};
 
 use crate::carrying::Carrying;
 use crate::kept::{Kept, KeptValue};
@@ -33,7 +33,7 @@ use pm_topology::{kinds_are_exact, unit_maps, units_stand_in_order};
 /// The outbox was loaded for the book's topology and holds no command yet, and the record is one of
 /// that topology. Each unit whose value in the record isn't the book's moved in the step, or lags: turns are
 /// taken for units that moved or lag and for the line that is pulsed alone, by the list of their places. Beside them
-/// the mark of each power node is looked at.
+/// the mark of each power node is looked at. Where no unit moved or lags and no line is pulsed, nothing is done.
 pub fn carry<D: Device>(dev: &mut D, kept: &mut Kept, book: &Book, out: &mut Outbox)
     requires room { HasRoomFor book.now out.old }
     requires fresh { out.old.done.items ≡ [] }
@@ -72,10 +72,14 @@ pub fn carry<D: Device>(dev: &mut D, kept: &mut Kept, book: &Book, out: &mut Out
     units_stand_in_order();
     kinds_are_exact();
     unit_maps::<KeptValue>();
+    chain_shows::<D>();
+    book.stays_sound();
+    if is_at_rest(kept, out) {
+        return;
+    }
     let left = Carrying::begin(kept, book, out);
     take_turns(dev, kept, book, out, left);
     out.answer = Carrying::end(kept, book, out);
-    chain_shows::<D>();
 }
 
 /// The same whatever the record marks: each unit of the chip is visited. This is for the first step, and for a
@@ -108,6 +112,15 @@ pub fn carry_all<D: Device>(dev: &mut D, kept: &mut Kept, book: &Book, out: &mut
     orders_join();
     kept.mark_each(book);
     carry(dev, kept, book, out);
+}
+
+/// Whether a step has nothing to do with the device: no unit moved in it, it pulses no line, and no unit is marked.
+fn is_at_rest(kept: &Kept, out: &Outbox) -> bool
+    ensures moved { result ≡ true → out.now.moved.items ≡ [] }
+    ensures pulse { result ≡ true → out.now.pulse ≡ None }
+    ensures marks { result ≡ true → (k : ℕ) → k < length kept.now → LagsNotAt k kept.now }
+{
+    out.moved.as_slice().is_empty() && out.pulse.is_none() && !kept.has_marks()
 }
 
 /// Takes the turns of a step, one after another.

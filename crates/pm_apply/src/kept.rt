@@ -103,7 +103,7 @@ impl Kept {
     pub(crate) fn has_marks(&self) -> bool
         ensures { result ≡ false → (k : ℕ) → k < length self.now → LagsNotAt k self.now }
     {
-        self.next_marked(0) < self.values.len()
+        !self.marked.is_empty()
     }
 
     /// The places of the units that are marked, and perhaps of others.
@@ -191,11 +191,16 @@ impl Kept {
     }
 
     /// Marks exactly the units whose value isn't the book's. Each unit that isn't marked has that value, and isn't
-    /// looked at.
+    /// looked at: where none is marked, nothing changes.
     pub(crate) fn mark(&mut self, book: &Book)
         requires { StandsElsewhere (λ u. value u book.now) self.old }
         ensures { self.new ≡ marked (λ u. value u book.now) self.old }
     {
+        units_stand_in_order();
+        let _units = self.values.len();
+        if !self.has_marks() {
+            return;
+        }
         swap(&mut self.marked, &mut self.spare);
         self.marked.clear();
         mark_all(

@@ -1,6 +1,6 @@
 //! A list of places in rising order.
 
-ghost use Rattle.std.specs.Prelude.{◌≡◌, ℕ, ◌<◌, ◌≤◌, ◌==◌, ◌||◌, [], false, IfOk, MatchResult, slice_get, Some};
+ghost use Rattle.std.specs.Prelude.{◌≡◌, ℕ, ◌<◌, ◌≤◌, ◌==◌, ◌||◌, [], false, true, IfOk, MatchResult, slice_get, Some};
 ghost use Rattle.pm_apply.specs.Places.{StandsBefore, has_place};
 
 use pm_base::NoMemory;
@@ -64,6 +64,13 @@ impl Places {
             Ok(_) => from,
             Err(i) => self.get(i).unwrap_or(self.end),
         }
+    }
+
+    /// Whether there is none.
+    pub(crate) fn is_empty(&self) -> bool
+        ensures { result ≡ true → self.now.items ≡ [] }
+    {
+        self.items.is_empty()
     }
 
     /// Takes all places out.
