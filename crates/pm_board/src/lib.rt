@@ -1,6 +1,8 @@
 //! What modules and timed tasks bring to a run, and what the lines of a script do to tasks.
 #![tactic(auto)]
 
-mod board;
+mod lines;
+mod standing;
 
-pub use board::happen;
+pub use lines::happen;
+pub use standing::Board;

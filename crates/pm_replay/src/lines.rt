@@ -19,6 +19,7 @@ use crate::controller::Controller;
 use crate::tasks::tasks_on;
 use crate::writing::{write_busy, write_call, write_step};
 use pm_base::{Event, Failed, Inputs, NodeId, Sink};
+use pm_board::Board;
 use pm_core::{Answer, Outbox};
 use pm_device::Device;
 use pm_drive::rig;
@@ -65,13 +66,12 @@ pub(crate) fn run_lines<I: Inputs, O: Sink, D: Device, H: Responder, T: Handler>
     id: u32,
     out: &mut O,
     dev: &mut D,
-    modules: &ModulesOf<H>,
-    tasks: &mut TasksOf<T>,
+    board: &mut Board<H, T>,
 ) -> Result<LinesEnd, LineStop>
     ensures ran { (c : Setup) → setup_of controller.old.book ≡ c → OfScript I.observable id (I.state inputs.old)
         (λ s. RanLines O.Sink D.Device c 1 s controller.old controller.new out.old out.new dev.old dev.new
-        (standing H.Responder T.Handler modules.now tasks.old)
-        (standing H.Responder T.Handler modules.now tasks.new) result) }
+        (standing H.Responder T.Handler board.old.modules.now board.old.tasks)
+        (standing H.Responder T.Handler board.old.modules.now board.new.tasks) result) }
     ensures ends { IfOk result (λ end. end.stop ≢ Unbegun) }
     ensures fault { IfOk result (λ end. end.stop ≡ Failure → Rose (I.state inputs.old).faults (I.state inputs.new).faults) }
     ensures reads { Meanwhile (I.state inputs.old) (I.state inputs.new) (ReadsLines id result) }
@@ -80,8 +80,8 @@ pub(crate) fn run_lines<I: Inputs, O: Sink, D: Device, H: Responder, T: Handler>
         controller,
         out,
         dev,
-        modules,
-        tasks,
+        modules: board.modules,
+        tasks: &mut board.tasks,
     };
     each_line(inputs, id, &mut player)
 }

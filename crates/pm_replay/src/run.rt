@@ -27,7 +27,7 @@ use crate::lines::run_lines;
 use crate::writing::{write_closing, write_step};
 use pm_apart::driven_runs_keep_apart;
 use pm_base::{Event, Exit, Failed, Inputs, NoMemory, Sink, StopReason};
-use pm_board::happen;
+use pm_board::{Board, happen};
 use pm_causes::runs_have_causes;
 use pm_device::Device;
 use pm_drive::{calls_are_told, driven_follows, power_calls_are_their_events, scripts_are_lowered};
@@ -39,6 +39,7 @@ use pm_tasks::{Handler, TasksOf};
 use pm_topology::Topology;
 use pm_trace::{Fault, refuse};
 use std::alloc::Global;
+use std::mem::replace;
 
 /// Runs the named script over an object and a device. Step 0 makes the device follow the book at
 /// load. Then each line breaks or mends a node of the device, if it asks for that, is carried out,
@@ -120,9 +121,15 @@ pub fn replay<I: Inputs, O: Sink, D: Device, H: Responder, T: Handler>(
     power_calls_are_their_events();
     scripts_are_lowered();
     calls_are_told();
-    run_named(
-        alloc, object, topology, inputs, script, out, dev, modules, tasks,
-    )
+    let mut board = Board {
+        modules,
+        tasks: replace(tasks, TasksOf::without_room(alloc)),
+    };
+    let exit = run_named(
+        alloc, object, topology, inputs, script, out, dev, &mut board,
+    );
+    *tasks = board.tasks;
+    exit
 }
 
 /// Runs the named script from the load of the object, where it can be read.
@@ -134,21 +141,20 @@ fn run_named<I: Inputs, O: Sink, D: Device, H: Responder, T: Handler>(
     script: &str,
     out: &mut O,
     dev: &mut D,
-    modules: &ModulesOf<H>,
-    tasks: &mut TasksOf<T>,
+    board: &mut Board<H, T>,
 ) -> Exit
     requires formed { IsWellFormed topology }
     requires idle { D.values_observable → (unit : Unit) → (D.state dev.old).value unit ≡ 0 }
     ensures ran { Replayed I.Inputs O.Sink D.Device (setup object topology)
-        (standing H.Responder T.Handler modules.now tasks.old)
-        (standing H.Responder T.Handler modules.now tasks.new) script.now
+        (standing H.Responder T.Handler board.old.modules.now board.old.tasks)
+        (standing H.Responder T.Handler board.old.modules.now board.new.tasks) script.now
         (world inputs.old out.old dev.old) (world inputs.new out.new dev.new) result }
     ensures begun { Meanwhile (I.state inputs.old) (I.state inputs.new) (ReadsScript result (script_named script.now)) }
 {
     let Ok(mut controller) = load(alloc, object, topology) else {
         return refuse(Fault::Memory, out);
     };
-    run_loaded(&mut controller, inputs, script, out, dev, modules, tasks)
+    run_loaded(&mut controller, inputs, script, out, dev, board)
 }
 
 /// All as it stands at load, before the device is given anything.
@@ -167,21 +173,20 @@ fn run_loaded<I: Inputs, O: Sink, D: Device, H: Responder, T: Handler>(
     script: &str,
     out: &mut O,
     dev: &mut D,
-    modules: &ModulesOf<H>,
-    tasks: &mut TasksOf<T>,
+    board: &mut Board<H, T>,
 ) -> Exit
     requires formed { IsWellFormed (setup_of controller.old.book).topology }
     requires loaded { IsLoaded controller.old }
     requires idle { D.values_observable → (unit : Unit) → (D.state dev.old).value unit ≡ 0 }
     ensures ran { Replayed I.Inputs O.Sink D.Device (setup_of controller.old.book)
-        (standing H.Responder T.Handler modules.now tasks.old)
-        (standing H.Responder T.Handler modules.now tasks.new) script.now
+        (standing H.Responder T.Handler board.old.modules.now board.old.tasks)
+        (standing H.Responder T.Handler board.old.modules.now board.new.tasks) script.now
         (world inputs.old out.old dev.old) (world inputs.new out.new dev.new) result }
     ensures begun { Meanwhile (I.state inputs.old) (I.state inputs.new) (ReadsScript result (script_named script.now)) }
 {
     driven_follows::<D>();
     match inputs.begin(script) {
-        Ok(id) => run(controller, inputs, id, out, dev, modules, tasks),
+        Ok(id) => run(controller, inputs, id, out, dev, board),
         Err(Failed) => refuse(Fault::Read, out),
     }
 }
@@ -194,22 +199,21 @@ fn run<I: Inputs, O: Sink, D: Device, H: Responder, T: Handler>(
     id: u32,
     out: &mut O,
     dev: &mut D,
-    modules: &ModulesOf<H>,
-    tasks: &mut TasksOf<T>,
+    board: &mut Board<H, T>,
 ) -> Exit
     requires loaded { IsLoaded controller.old }
     ensures ran { OfScript I.observable id (I.state inputs.old)
         (λ s. RanScript O.Sink D.Device (setup_of controller.old.book) s out.old out.new dev.old dev.new
-        (standing H.Responder T.Handler modules.now tasks.old)
-        (standing H.Responder T.Handler modules.now tasks.new) result) }
+        (standing H.Responder T.Handler board.old.modules.now board.old.tasks)
+        (standing H.Responder T.Handler board.old.modules.now board.new.tasks) result) }
     ensures fault { result ≡ Exit.ReadFault → Rose (I.state inputs.old).faults (I.state inputs.new).faults }
     ensures reads { Meanwhile (I.state inputs.old) (I.state inputs.new) (ReadsBegun result id) }
 {
     controller.start(dev);
-    happen(tasks, &Event::Pass);
+    happen(&mut board.tasks, &Event::Pass);
     let outbox = controller.outbox();
     match write_step(0, outbox, &outbox.answer, out) {
-        Ok(()) => run_rest(controller, inputs, id, out, dev, modules, tasks),
+        Ok(()) => run_rest(controller, inputs, id, out, dev, board),
         Err(Failed) => Exit::WriteFault,
     }
 }
@@ -221,17 +225,16 @@ fn run_rest<I: Inputs, O: Sink, D: Device, H: Responder, T: Handler>(
     id: u32,
     out: &mut O,
     dev: &mut D,
-    modules: &ModulesOf<H>,
-    tasks: &mut TasksOf<T>,
+    board: &mut Board<H, T>,
 ) -> Exit
     ensures ran { (c : Setup) → setup_of controller.old.book ≡ c → OfScript I.observable id (I.state inputs.old)
         (λ s. RanRest O.Sink D.Device c 1 s controller.old out.old out.new dev.old dev.new
-        (standing H.Responder T.Handler modules.now tasks.old)
-        (standing H.Responder T.Handler modules.now tasks.new) result) }
+        (standing H.Responder T.Handler board.old.modules.now board.old.tasks)
+        (standing H.Responder T.Handler board.old.modules.now board.new.tasks) result) }
     ensures fault { result ≡ Exit.ReadFault → Rose (I.state inputs.old).faults (I.state inputs.new).faults }
     ensures reads { Meanwhile (I.state inputs.old) (I.state inputs.new) (ReadsBegun result id) }
 {
-    match run_lines(controller, inputs, id, out, dev, modules, tasks) {
+    match run_lines(controller, inputs, id, out, dev, board) {
         Ok(end) => finish(controller, end.stop, out),
         Err(LineStop::Bad(number, cause)) => refuse(Fault::Line(number, cause), out),
         Err(LineStop::Broken) => Exit::WriteFault,

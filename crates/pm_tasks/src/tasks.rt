@@ -60,6 +60,19 @@ impl<H: Handler> TasksOf<H> {
         }
     }
 
+    /// No tasks, at time 0, and room for none. Takes no memory.
+    pub fn without_room(alloc: Global) -> TasksOf<H>
+        ensures { timetable H.Handler result ≡ empty 0 }
+    {
+        TasksOf {
+            tasks: Slab::new(alloc),
+            limit: 0,
+            time: 0,
+            before: 0,
+            next: 0,
+        }
+    }
+
     /// Stores a stopped task, and answers its key, which no stored task had.
     ///
     /// # Errors

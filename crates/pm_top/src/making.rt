@@ -14,12 +14,13 @@ ghost use Rattle.pm_top.specs.Making.{IsSummary, Makes, MayBeDriven};
 use crate::conversions::write_whole;
 use crate::works::Source;
 use pm_base::{Exit, MemSink, NoMemory, OneInput, Sink, number};
+use pm_board::Board;
 use pm_device::Device;
 use pm_gen::{lab_object, make, summary_of};
-use pm_modules::{ModulesOf, Responder};
+use pm_modules::Responder;
 use pm_object::Object;
 use pm_replay::replay;
-use pm_tasks::{Handler, TasksOf};
+use pm_tasks::Handler;
 use pm_topology::Topology;
 use pm_trace::{Fault, refuse};
 use std::alloc::Global;
@@ -77,8 +78,7 @@ pub(crate) fn make_over<O: Sink, D: Device, H: Responder, T: Handler>(
     lines: u32,
     out: &mut O,
     dev: &mut D,
-    modules: &ModulesOf<H>,
-    tasks: &mut TasksOf<T>,
+    board: &mut Board<H, T>,
 ) -> Exit
     requires object { IsObject object }
     requires formed { IsWellFormed topology }
@@ -86,11 +86,11 @@ pub(crate) fn make_over<O: Sink, D: Device, H: Responder, T: Handler>(
     requires idle { D.values_observable → (unit : Unit) → (D.state dev.old).value unit ≡ 0 }
     ensures safe { IsSafe D.Device topology dev.old dev.new }
     ensures made { Makes O.Sink D.Device (setup object topology)
-        (standing H.Responder T.Handler modules.now tasks.old)
-        (standing H.Responder T.Handler modules.now tasks.new)
+        (standing H.Responder T.Handler board.old.modules.now board.old.tasks)
+        (standing H.Responder T.Handler board.old.modules.now board.new.tasks)
         lines out.old out.new dev.old dev.new result }
 {
-    match run_made(alloc, object, topology, lines, dev, modules, tasks) {
+    match run_made(alloc, object, topology, lines, dev, board) {
         Ok(summary) => write_whole(summary.as_slice(), out),
         Err(NoMemory) => refuse(Fault::Memory, out),
     }
@@ -105,8 +105,7 @@ fn run_made<D: Device, H: Responder, T: Handler>(
     topology: Topology,
     lines: u32,
     dev: &mut D,
-    modules: &ModulesOf<H>,
-    tasks: &mut TasksOf<T>,
+    board: &mut Board<H, T>,
 ) -> Result<Vec<u8>, NoMemory>
     requires object { IsObject object }
     requires formed { IsWellFormed topology }
@@ -115,11 +114,11 @@ fn run_made<D: Device, H: Responder, T: Handler>(
     ensures safe { IsSafe D.Device topology dev.old dev.new }
     ensures made { MatchResult result
         (λ summary. IsSummary D.Device (setup object topology)
-        (standing H.Responder T.Handler modules.now tasks.old)
-        (standing H.Responder T.Handler modules.now tasks.new) lines dev.old dev.new summary.items)
+        (standing H.Responder T.Handler board.old.modules.now board.old.tasks)
+        (standing H.Responder T.Handler board.old.modules.now board.new.tasks) lines dev.old dev.new summary.items)
         (λ _. MayBeDriven D.Device (setup object topology)
-        (standing H.Responder T.Handler modules.now tasks.old)
-        (standing H.Responder T.Handler modules.now tasks.new) lines dev.old dev.new) }
+        (standing H.Responder T.Handler board.old.modules.now board.old.tasks)
+        (standing H.Responder T.Handler board.old.modules.now board.new.tasks) lines dev.old dev.new) }
 {
     let script = make(alloc, lines)?;
     let mut inputs = OneInput::new(alloc, script.as_slice())?;
@@ -132,8 +131,8 @@ fn run_made<D: Device, H: Responder, T: Handler>(
         "script",
         &mut text,
         dev,
-        modules,
-        tasks,
+        board.modules,
+        &mut board.tasks,
     ) {
         Exit::Done => summary_of(alloc, lines, text.bytes()),
         Exit::Memory | Exit::WriteFault => Err(NoMemory),

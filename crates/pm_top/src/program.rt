@@ -20,6 +20,7 @@ use crate::reading::{read_subject, script_word};
 use crate::works::{Request, do_work, form_of, request_of};
 use pm_apart::driven_runs_keep_apart;
 use pm_base::{Exit, Inputs, Sink};
+use pm_board::Board;
 use pm_causes::runs_have_causes;
 use pm_device::Device;
 use pm_drive::{calls_are_told, power_calls_are_their_events, scripts_are_lowered};
@@ -30,6 +31,7 @@ use pm_run::boxes_of_a_run;
 use pm_tasks::{Handler, TasksOf};
 use pm_trace::{Fault, exits_say, refuse};
 use std::alloc::Global;
+use std::mem::replace;
 
 /// Does all that the program does, for its words without its own name. `replay OBJ SCRIPT` runs the
 /// script of one name over the object of another, `reach OBJ NODE` writes what a master of an object can
@@ -129,11 +131,11 @@ pub fn pm_main<I: Inputs, O: Sink, D: Device, H: Responder, T: Handler>(
     calls_are_told();
     one_reading();
     one_meaning();
-    run_words(alloc, words, inputs, out, dev, modules, tasks)
+    run_board(alloc, words, inputs, out, dev, modules, tasks)
 }
 
-/// Runs the words.
-fn run_words<I: Inputs, O: Sink, D: Device, H: Responder, T: Handler>(
+/// Takes the tasks from the caller, runs the words, and puts the tasks back.
+fn run_board<I: Inputs, O: Sink, D: Device, H: Responder, T: Handler>(
     alloc: Global,
     words: &[String],
     inputs: &mut I,
@@ -156,8 +158,40 @@ fn run_words<I: Inputs, O: Sink, D: Device, H: Responder, T: Handler>(
     ensures begun { Meanwhile (I.state inputs.old) (I.state inputs.new)
         (FormReads (form (map string_bytes words.now)) (map string_bytes words.now) result) }
 {
+    let mut board = Board {
+        modules,
+        tasks: replace(tasks, TasksOf::without_room(alloc)),
+    };
+    let exit = run_words(alloc, words, inputs, out, dev, &mut board);
+    *tasks = board.tasks;
+    exit
+}
+
+/// Runs the words.
+fn run_words<I: Inputs, O: Sink, D: Device, H: Responder, T: Handler>(
+    alloc: Global,
+    words: &[String],
+    inputs: &mut I,
+    out: &mut O,
+    dev: &mut D,
+    board: &mut Board<H, T>,
+) -> Exit
+    requires idle { D.values_observable → (unit : Unit) → (D.state dev.old).value unit ≡ 0 }
+    ensures done { I.observable → O.observable → result ≡ Exit.Done
+        → IsDone I.Inputs O.Sink D.Device (map string_bytes words.now)
+        (standing H.Responder T.Handler board.old.modules.now board.old.tasks)
+        (standing H.Responder T.Handler board.old.modules.now board.new.tasks)
+        (world inputs.old out.old dev.old) (world inputs.new out.new dev.new) }
+    ensures safe { IsSafeRun D.Device (topology_in (map string_bytes words.now)) dev.old dev.new }
+    ensures ran { Ran I.Inputs O.Sink D.Device (map string_bytes words.now)
+        (standing H.Responder T.Handler board.old.modules.now board.old.tasks)
+        (standing H.Responder T.Handler board.old.modules.now board.new.tasks)
+        (world inputs.old out.old dev.old) (world inputs.new out.new dev.new) result }
+    ensures begun { Meanwhile (I.state inputs.old) (I.state inputs.new)
+        (FormReads (form (map string_bytes words.now)) (map string_bytes words.now) result) }
+{
     match request_of(words) {
-        Some(request) => run_request(alloc, request, words, inputs, out, dev, modules, tasks),
+        Some(request) => run_request(alloc, request, words, inputs, out, dev, board),
         None => refuse(Fault::Usage, out),
     }
 }
@@ -170,20 +204,19 @@ fn run_request<I: Inputs, O: Sink, D: Device, H: Responder, T: Handler>(
     inputs: &mut I,
     out: &mut O,
     dev: &mut D,
-    modules: &ModulesOf<H>,
-    tasks: &mut TasksOf<T>,
+    board: &mut Board<H, T>,
 ) -> Exit
     requires idle { D.values_observable → (unit : Unit) → (D.state dev.old).value unit ≡ 0 }
     ensures done { I.observable → O.observable → result ≡ Exit.Done
         → WorkDone I.Inputs O.Sink D.Device request.work request.topology (map string_bytes words.now)
-        (standing H.Responder T.Handler modules.now tasks.old)
-        (standing H.Responder T.Handler modules.now tasks.new)
+        (standing H.Responder T.Handler board.old.modules.now board.old.tasks)
+        (standing H.Responder T.Handler board.old.modules.now board.new.tasks)
         (world inputs.old out.old dev.old) (world inputs.new out.new dev.new) }
     ensures safe { IsSafeRun D.Device request.topology dev.old dev.new }
     ensures ran { RanForm I.Inputs O.Sink D.Device (Some (form_of request.work request.topology))
         (map string_bytes words.now)
-        (standing H.Responder T.Handler modules.now tasks.old)
-        (standing H.Responder T.Handler modules.now tasks.new)
+        (standing H.Responder T.Handler board.old.modules.now board.old.tasks)
+        (standing H.Responder T.Handler board.old.modules.now board.new.tasks)
         (world inputs.old out.old dev.old) (world inputs.new out.new dev.new) result }
     ensures begun { Meanwhile (I.state inputs.old) (I.state inputs.new)
         (FormReads (Some (form_of request.work request.topology)) (map string_bytes words.now) result) }
@@ -198,8 +231,7 @@ fn run_request<I: Inputs, O: Sink, D: Device, H: Responder, T: Handler>(
             script_word(form, words),
             out,
             dev,
-            modules,
-            tasks,
+            board,
         ),
         Err(fault) => refuse(fault, out),
     }

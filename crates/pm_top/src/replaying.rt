@@ -14,11 +14,12 @@ ghost use Rattle.pm_top.specs.Fit.{IsSafeRun};
 ghost use Rattle.pm_trace.specs.Scripts.{ReadsScript, script_named};
 
 use pm_base::{Exit, Inputs, NoMemory, Sink};
+use pm_board::Board;
 use pm_device::{Device, chain_shows};
-use pm_modules::{ModulesOf, Responder};
+use pm_modules::Responder;
 use pm_object::Object;
 use pm_replay::replay;
-use pm_tasks::{Handler, TasksOf};
+use pm_tasks::Handler;
 use pm_topology::Topology;
 use pm_trace::{Fault, refuse};
 use std::alloc::Global;
@@ -34,26 +35,33 @@ pub(crate) fn replay_over<I: Inputs, O: Sink, D: Device, H: Responder, T: Handle
     script: &str,
     out: &mut O,
     dev: &mut D,
-    modules: &ModulesOf<H>,
-    tasks: &mut TasksOf<T>,
+    board: &mut Board<H, T>,
 ) -> Exit
     requires object { IsObject object }
     requires formed { IsWellFormed topology }
     requires built_in { IfNone named (topology ≡ chip) }
     requires idle { D.values_observable → (unit : Unit) → (D.state dev.old).value unit ≡ 0 }
     ensures did { Replays I.Inputs O.Sink D.Device named (setup object topology)
-        (standing H.Responder T.Handler modules.now tasks.old)
-        (standing H.Responder T.Handler modules.now tasks.new)
+        (standing H.Responder T.Handler board.old.modules.now board.old.tasks)
+        (standing H.Responder T.Handler board.old.modules.now board.new.tasks)
         script.now (world inputs.old out.old dev.old) (world inputs.new out.new dev.new) result }
     ensures safe { IsSafeRun D.Device named dev.old dev.new }
     ensures begun { Meanwhile (I.state inputs.old) (I.state inputs.new) (ReadsScript result (script_named script.now)) }
 {
     match named {
         Some(place) => replay_fitted(
-            alloc, place, object, topology, inputs, script, out, dev, modules, tasks,
+            alloc, place, object, topology, inputs, script, out, dev, board,
         ),
         None => replay(
-            alloc, object, topology, inputs, script, out, dev, modules, tasks,
+            alloc,
+            object,
+            topology,
+            inputs,
+            script,
+            out,
+            dev,
+            board.modules,
+            &mut board.tasks,
         ),
     }
 }
@@ -68,15 +76,14 @@ fn replay_fitted<I: Inputs, O: Sink, D: Device, H: Responder, T: Handler>(
     script: &str,
     out: &mut O,
     dev: &mut D,
-    modules: &ModulesOf<H>,
-    tasks: &mut TasksOf<T>,
+    board: &mut Board<H, T>,
 ) -> Exit
     requires object { IsObject object }
     requires formed { IsWellFormed topology }
     requires idle { D.values_observable → (unit : Unit) → (D.state dev.old).value unit ≡ 0 }
     ensures did { Replays I.Inputs O.Sink D.Device (Some place) (setup object topology)
-        (standing H.Responder T.Handler modules.now tasks.old)
-        (standing H.Responder T.Handler modules.now tasks.new)
+        (standing H.Responder T.Handler board.old.modules.now board.old.tasks)
+        (standing H.Responder T.Handler board.old.modules.now board.new.tasks)
         script.now (world inputs.old out.old dev.old) (world inputs.new out.new dev.new) result }
     ensures safe { IsSafeRun D.Device (Some place) dev.old dev.new }
     ensures begun { Meanwhile (I.state inputs.old) (I.state inputs.new) (ReadsScript result (script_named script.now)) }
@@ -84,7 +91,15 @@ fn replay_fitted<I: Inputs, O: Sink, D: Device, H: Responder, T: Handler>(
     chain_shows::<D>();
     match dev.fit(alloc, &topology) {
         Ok(()) => replay(
-            alloc, object, topology, inputs, script, out, dev, modules, tasks,
+            alloc,
+            object,
+            topology,
+            inputs,
+            script,
+            out,
+            dev,
+            board.modules,
+            &mut board.tasks,
         ),
         Err(NoMemory) => refuse(Fault::Memory, out),
     }

@@ -18,10 +18,11 @@ use crate::reaching::write_reach;
 use crate::reading::Subject;
 use crate::replaying::replay_over;
 use pm_base::{Exit, Inputs, Sink};
+use pm_board::Board;
 use pm_device::Device;
 use pm_isolate::compare;
-use pm_modules::{ModulesOf, Responder};
-use pm_tasks::{Handler, TasksOf};
+use pm_modules::Responder;
+use pm_tasks::Handler;
 use std::alloc::Global;
 
 /// What the word after the first names.
@@ -209,8 +210,7 @@ pub(crate) fn do_work<I: Inputs, O: Sink, D: Device, H: Responder, T: Handler>(
     script: &str,
     out: &mut O,
     dev: &mut D,
-    modules: &ModulesOf<H>,
-    tasks: &mut TasksOf<T>,
+    board: &mut Board<H, T>,
 ) -> Exit
     requires sound { IsSubject subject }
     requires complete { is_some subject.master ≡ is_some (form_of request.work request.topology).node }
@@ -218,8 +218,8 @@ pub(crate) fn do_work<I: Inputs, O: Sink, D: Device, H: Responder, T: Handler>(
     requires idle { D.values_observable → (unit : Unit) → (D.state dev.old).value unit ≡ 0 }
     ensures safe { IsSafeRun D.Device request.topology dev.old dev.new }
     ensures worked { Worked I.Inputs O.Sink D.Device request.work request.topology subject
-        (standing H.Responder T.Handler modules.now tasks.old)
-        (standing H.Responder T.Handler modules.now tasks.new)
+        (standing H.Responder T.Handler board.old.modules.now board.old.tasks)
+        (standing H.Responder T.Handler board.old.modules.now board.new.tasks)
         script.now (world inputs.old out.old dev.old) (world inputs.new out.new dev.new) result }
     ensures begun { Meanwhile (I.state inputs.old) (I.state inputs.new)
         (WorkReads (form_of request.work request.topology).script script.now result) }
@@ -234,8 +234,7 @@ pub(crate) fn do_work<I: Inputs, O: Sink, D: Device, H: Responder, T: Handler>(
             script,
             out,
             dev,
-            modules,
-            tasks,
+            board,
         ),
         Work::Reach => write_reach(
             alloc,
@@ -262,8 +261,7 @@ pub(crate) fn do_work<I: Inputs, O: Sink, D: Device, H: Responder, T: Handler>(
             subject.lines,
             out,
             dev,
-            modules,
-            tasks,
+            board,
         ),
         Work::Table => write_table(alloc, &subject.topology, out),
     }

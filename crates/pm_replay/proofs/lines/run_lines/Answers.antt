@@ -11,5 +11,9 @@ returns-clause-ran g c = λ cs is.
     let controller : c.controller-1.given.0 ≡ new.controller.now = search (rules, sym, c.controller-1.given.1, same.controller) in
     let out : c.out-1.given.0 ≡ new.out.now = search (rules, sym, c.out-1.given.1, same.out) in
     let dev : c.dev-1.given.0 ≡ new.dev.now = search (rules, sym, c.dev-1.given.1, same.dev) in
-    let tasks : c.tasks-1.given.0 ≡ new.tasks.now = search (rules, sym, c.tasks-1.given.1, same.tasks) in
-    rw (controller, out, dev, tasks) (of_more g.I.Inputs.observable c.args.id (g.I.Inputs.state c.args.inputs.now) _ _ (λ s did. ran_lines g.O.Sink g.D.Device g.H.Responder g.T.Handler cs 1 s _ new c.each_line.result is did) followed)
+    rw (controller, out, dev) (of_more g.I.Inputs.observable c.args.id (g.I.Inputs.state c.args.inputs.now) _ _ (λ s did. ran_lines g.O.Sink g.D.Device g.H.Responder g.T.Handler cs 1 s _ new c.each_line.result is did) followed)
+
+-- the tasks that the player gives back are those of the board
+pub shape_of-board : goal.shape_of-board
+shape_of-board g c =
+    sym (holds_same g.O.Sink g.D.Device g.H.Responder g.T.Handler 1 _ _ c.each_line.new.follower c.each_line.result c.each_line.ensures.followed.followed.holds).tasks

@@ -1,4 +1,7 @@
+use Rattle.std.proofs.Common.{subst}
+use Rattle.pm_tasks.specs.declared.tasks.TasksOf.{TasksOf}
 use Rattle.pm_replay.specs.Replay.{Touched, replay_report}
+use Rattle.pm_replay.specs.Replayed.{Replayed}
 use Rattle.pm_board.specs.Standing.{standing}
 use Rattle.pm_run.specs.Run.{setup}
 use Rattle.pm_base.specs.World.{world}
@@ -11,12 +14,12 @@ pub returns : goal.returns
 returns g c =
     let cs = setup c.args.object c.args.topology in
     let w = world c.args.inputs.now c.args.out.now c.args.dev.now in
-    let w' = world c.run_named.new.inputs c.run_named.new.out c.run_named.new.dev in
+    let w' = world c.run_named-exit.new.inputs c.run_named-exit.new.out c.run_named-exit.new.dev in
     let board = standing g.H.Responder g.T.Handler c.args.modules.now c.args.tasks.now in
-    let left = standing g.H.Responder g.T.Handler c.args.modules.now c.run_named.new.tasks in
+    let left = standing g.H.Responder g.T.Handler c.args.modules.now c.run_named-exit.new.board.tasks in
     let name = c.args.script.now in
-    let result = c.run_named.result in
-    let ran = c.run_named.ensures.ran in
+    let result = c.run_named-exit.result in
+    let ran = subst (λ (tasks : TasksOf _). Replayed g.I.Inputs g.O.Sink g.D.Device cs (standing g.H.Responder g.T.Handler c.args.modules.now tasks) left name w w' result) c.replace.ensures.value c.run_named-exit.ensures.ran in
     let Asks = IsScriptOf g.I.Inputs name w.inputs w'.inputs result in
     let Touching = Touched g.D.Device cs board left w.device w'.device in
     record {
@@ -29,7 +32,7 @@ returns g c =
       boxes = λ events. c.boxes_of_a_run.ensures cs events c.requires.object;
       calls = record { line = c.power_calls_are_their_events.ensures cs; script = c.scripts_are_lowered.ensures cs };
       tasks = c.calls_are_told.ensures cs board;
-      begun = c.run_named.ensures.begun;
+      begun = c.run_named-exit.ensures.begun;
       memory = scripts.did_memory g.I.Inputs g.O.Sink script_itself (replay_report cs board) (of_script cs board) name w.inputs w'.inputs w.sink w'.sink result Asks (λ job asked. asked) Touching ran;
       untouched = replay_untouched g.I.Inputs g.O.Sink g.D.Device cs board left name w w' result ran;
       read_fault = scripts.did_read_fault g.I.Inputs g.O.Sink script_itself (replay_report cs board) (of_script cs board) name w.inputs w'.inputs w.sink w'.sink result Asks (λ job asked. asked) Touching ran;

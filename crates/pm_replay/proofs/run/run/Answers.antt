@@ -15,10 +15,10 @@ use Rattle.pm_replay.proofs.run.run.Goals as goal
 pub returns-in-Ok-clause-ran : goal.returns-in-Ok-clause-ran
 returns-in-Ok-clause-ran g c =
     let then = c.start.new.self in
-    let board = standing g.H.Responder g.T.Handler c.args.modules.now c.args.tasks.now in
-    let begun = standing g.H.Responder g.T.Handler c.args.modules.now c.happen.new.tasks in
+    let board = standing g.H.Responder g.T.Handler c.args.board.now.modules.now c.args.board.now.tasks in
+    let begun = standing g.H.Responder g.T.Handler c.args.board.now.modules.now c.happen.new.tasks in
     let started : Started g.O.Sink g.D.Device c.args.controller.now then c.args.dev.now c.start.new.dev = record { book = c.start.ensures.book; boxes = c.start.ensures.boxes; part = c.start.ensures.part; notices = c.start.ensures.notices; given = c.start.ensures.given } in
-    let left = standing g.H.Responder g.T.Handler c.args.modules.now c.run_rest.new.tasks in
+    let left = standing g.H.Responder g.T.Handler c.args.board.now.modules.now c.run_rest.new.board.tasks in
     let P : Outbox → Type 0 = λ outbox. Wrote g.O.Sink.observable (step_text 0 outbox.done.items (notices_in outbox) outbox.answer) (g.O.Sink.state c.args.out.now) (g.O.Sink.state c.write_step.new.out) in
     of_more g.I.Inputs.observable c.args.id (g.I.Inputs.state c.args.inputs.now) _ _
     (λ s rest. RanScript-first g.O.Sink g.D.Device s c.args.controller.now then c.args.out.now c.write_step.new.out c.run_rest.new.out c.args.dev.now c.start.new.dev c.run_rest.new.dev board begun left c.run_rest.result c.requires.loaded started (ap (λ (t : Timetable). record board { tasks = t }) c.happen.ensures.tasks) (subst P c.outbox-outbox.ensures c.in-Ok.ensures) rest)
@@ -27,8 +27,8 @@ returns-in-Ok-clause-ran g c =
 pub returns-in-Err-clause-ran : goal.returns-in-Err-clause-ran
 returns-in-Err-clause-ran g c =
     let then = c.start.new.self in
-    let board = standing g.H.Responder g.T.Handler c.args.modules.now c.args.tasks.now in
-    let begun = standing g.H.Responder g.T.Handler c.args.modules.now c.happen.new.tasks in
+    let board = standing g.H.Responder g.T.Handler c.args.board.now.modules.now c.args.board.now.tasks in
+    let begun = standing g.H.Responder g.T.Handler c.args.board.now.modules.now c.happen.new.tasks in
     let started : Started g.O.Sink g.D.Device c.args.controller.now then c.args.dev.now c.start.new.dev = record { book = c.start.ensures.book; boxes = c.start.ensures.boxes; part = c.start.ensures.part; notices = c.start.ensures.notices; given = c.start.ensures.given } in
     let P : Outbox → Type 0 = λ outbox. BreaksIn g.O.Sink 0 (step_text 0 outbox.done.items (notices_in outbox) outbox.answer ∷ []) c.args.out.now c.write_step.new.out in
     of_any g.I.Inputs.observable c.args.id (g.I.Inputs.state c.args.inputs.now) _

@@ -16,8 +16,8 @@ returns-in-Ok-clause-ran g c =
     let name = c.args.script.now in
     let w = world c.args.inputs.now c.args.out.now c.args.dev.now in
     let w' = world c.run.new.inputs c.run.new.out c.run.new.dev in
-    let board = standing g.H.Responder g.T.Handler c.args.modules.now c.args.tasks.now in
-    let left = standing g.H.Responder g.T.Handler c.args.modules.now c.run.new.tasks in
+    let board = standing g.H.Responder g.T.Handler c.args.board.now.modules.now c.args.board.now.tasks in
+    let left = standing g.H.Responder g.T.Handler c.args.board.now.modules.now c.run.new.board.tasks in
     let of = c.run.ensures.ran in
     let ran = of.holds in
     let s : Script = script_from (script_lines of.prefix) (stop_of of.prefix.stop) in
@@ -31,7 +31,7 @@ pub returns-in-Err-clause-ran : goal.returns-in-Err-clause-ran
 returns-in-Err-clause-ran g c =
     let w = world c.args.inputs.now c.args.out.now c.args.dev.now in
     let w' = world c.begin.new.self c.refuse.new.out c.args.dev.now in
-    let board = standing g.H.Responder g.T.Handler c.args.modules.now c.args.tasks.now in
+    let board = standing g.H.Responder g.T.Handler c.args.board.now.modules.now c.args.board.now.tasks in
     replay_unbegun g.I.Inputs g.O.Sink g.D.Device (setup_of c.args.controller.now.book) board board c.args.script.now w w' c.refuse.result
     (λ seen. script_unbegun c.args.script.now (g.I.Inputs.state c.args.inputs.now) ((c.in-Err.ensures.failed seen).0 refl))
     c.in-Err.ensures.cause.failed c.refuse.ensures refl refl

@@ -15,7 +15,7 @@ pub returns-in_default-clause-ran : goal.returns-in_default-clause-ran
 returns-in_default-clause-ran g c =
     let w = world c.args.inputs.now c.args.out.now c.args.dev.now in
     let w' = world c.args.inputs.now c.refuse.new.out c.args.dev.now in
-    let board = standing g.H.Responder g.T.Handler c.args.modules.now c.args.tasks.now in
+    let board = standing g.H.Responder g.T.Handler c.args.board.now.modules.now c.args.board.now.tasks in
     replay_refused g.I.Inputs g.O.Sink g.D.Device (setup c.args.object c.args.topology) board board c.args.script.now w w' c.refuse.result _ (asked_starved g.I.Inputs c.args.script.now w.inputs w'.inputs c.refuse.result (memory_exit g.O.Sink w.sink w'.sink c.refuse.result c.refuse.ensures)) c.refuse.ensures refl refl
 
 pub run_loaded-requires : goal.run_loaded-requires
@@ -29,8 +29,8 @@ pub returns-clause-ran : goal.returns-clause-ran
 returns-clause-ran g c =
     let w = world c.args.inputs.now c.args.out.now c.args.dev.now in
     let w' = world c.run_loaded.new.inputs c.run_loaded.new.out c.run_loaded.new.dev in
-    let board = standing g.H.Responder g.T.Handler c.args.modules.now c.args.tasks.now in
-    let left = standing g.H.Responder g.T.Handler c.args.modules.now c.run_loaded.new.tasks in
+    let board = standing g.H.Responder g.T.Handler c.args.board.now.modules.now c.args.board.now.tasks in
+    let left = standing g.H.Responder g.T.Handler c.args.board.now.modules.now c.run_loaded.new.board.tasks in
     subst (λ (s : Setup). Replayed g.I.Inputs g.O.Sink g.D.Device s board left c.args.script.now w w' c.run_loaded.result) c.in-Ok.ensures.setup c.run_loaded.ensures.ran
 
 pub returns-in_default-clause-begun : goal.returns-in_default-clause-begun

@@ -14,8 +14,8 @@ use Rattle.pm_replay.proofs.run.run_rest.Goals as goal
 pub returns-in-Ok-clause-ran : goal.returns-in-Ok-clause-ran
 returns-in-Ok-clause-ran g c = λ cs is.
     let then = c.run_lines.new.controller in
-    let board = standing g.H.Responder g.T.Handler c.args.modules.now c.args.tasks.now in
-    let left = standing g.H.Responder g.T.Handler c.args.modules.now c.run_lines.new.tasks in
+    let board = standing g.H.Responder g.T.Handler c.args.board.now.modules.now c.args.board.now.tasks in
+    let left = standing g.H.Responder g.T.Handler c.args.board.now.modules.now c.run_lines.new.board.tasks in
     of_more g.I.Inputs.observable c.args.id (g.I.Inputs.state c.args.inputs.now) _ _
     (λ s ran. RanRest-closed g.O.Sink g.D.Device cs 1 s c.in-Ok.end.stop c.args.controller.now then c.args.out.now c.run_lines.new.out c.finish.new.out c.args.dev.now c.run_lines.new.dev board left c.finish.result c.in-Ok.end.count ran c.finish.ensures)
     (c.in-Ok.ensures.ran cs is)
@@ -28,8 +28,8 @@ returns-in-Ok-clause-fault g c = λ is.
 
 pub returns-in-Err-Bad-clause-ran : goal.returns-in-Err-Bad-clause-ran
 returns-in-Err-Bad-clause-ran g c = λ cs is.
-    let board = standing g.H.Responder g.T.Handler c.args.modules.now c.args.tasks.now in
-    let left = standing g.H.Responder g.T.Handler c.args.modules.now c.run_lines.new.tasks in
+    let board = standing g.H.Responder g.T.Handler c.args.board.now.modules.now c.args.board.now.tasks in
+    let left = standing g.H.Responder g.T.Handler c.args.board.now.modules.now c.run_lines.new.board.tasks in
     of_more g.I.Inputs.observable c.args.id (g.I.Inputs.state c.args.inputs.now) _ _
     (λ s ran. RanRest-bad g.O.Sink g.D.Device cs 1 c.in-Err-Bad.number c.in-Err-Bad.cause s c.args.controller.now c.run_lines.new.controller c.args.out.now c.run_lines.new.out c.refuse.new.out c.args.dev.now c.run_lines.new.dev board left c.refuse.result ran c.refuse.ensures)
     ((rw c.in-Err-Bad.field-0-is at c.in-Err-Bad.ensures.ran) cs is)
@@ -41,8 +41,8 @@ returns-in-Err-Bad-clause-fault g c = λ is.
 
 pub returns-in-Err-Broken-clause-ran : goal.returns-in-Err-Broken-clause-ran
 returns-in-Err-Broken-clause-ran g c = λ cs is.
-    let board = standing g.H.Responder g.T.Handler c.args.modules.now c.args.tasks.now in
-    let left = standing g.H.Responder g.T.Handler c.args.modules.now c.run_lines.new.tasks in
+    let board = standing g.H.Responder g.T.Handler c.args.board.now.modules.now c.args.board.now.tasks in
+    let left = standing g.H.Responder g.T.Handler c.args.board.now.modules.now c.run_lines.new.board.tasks in
     of_more g.I.Inputs.observable c.args.id (g.I.Inputs.state c.args.inputs.now) _ _
     (λ s ran. RanRest-broken g.O.Sink g.D.Device cs 1 s c.args.controller.now c.run_lines.new.controller c.args.out.now c.run_lines.new.out c.args.dev.now c.run_lines.new.dev board left ran)
     ((rw c.in-Err-Broken.field-0-is at c.in-Err-Broken.ensures.ran) cs is)

@@ -8,36 +8,36 @@ use Rattle.pm_board.specs.Standing.{standing}
 use Rattle.pm_top.proofs.program.pm_main.Goals as goal
 
 pub returns-clause-usage : goal.returns-clause-usage
-returns-clause-usage g c = usage g.I.Inputs g.O.Sink c.exits_say.ensures g.D.Device (map string_bytes c.args.words.now) (standing g.H.Responder g.T.Handler c.args.modules.now c.args.tasks.now) (standing g.H.Responder g.T.Handler c.args.modules.now c.run_words.new.tasks) (world c.args.inputs.now c.args.out.now c.args.dev.now) (world c.run_words.new.inputs c.run_words.new.out c.run_words.new.dev) c.run_words.result c.run_words.ensures.ran
+returns-clause-usage g c = usage g.I.Inputs g.O.Sink c.exits_say.ensures g.D.Device (map string_bytes c.args.words.now) (standing g.H.Responder g.T.Handler c.args.modules.now c.args.tasks.now) (standing g.H.Responder g.T.Handler c.args.modules.now c.run_board.new.tasks) (world c.args.inputs.now c.args.out.now c.args.dev.now) (world c.run_board.new.inputs c.run_board.new.out c.run_board.new.dev) c.run_board.result c.run_board.ensures.ran
 
 pub returns-clause-decided : goal.returns-clause-decided
-returns-clause-decided g c = decides g.I.Inputs g.O.Sink c.exits_say.ensures g.D.Device (map string_bytes c.args.words.now) (standing g.H.Responder g.T.Handler c.args.modules.now c.args.tasks.now) (standing g.H.Responder g.T.Handler c.args.modules.now c.run_words.new.tasks) (world c.args.inputs.now c.args.out.now c.args.dev.now) (world c.run_words.new.inputs c.run_words.new.out c.run_words.new.dev) c.run_words.result c.run_words.ensures.ran
+returns-clause-decided g c = decides g.I.Inputs g.O.Sink c.exits_say.ensures g.D.Device (map string_bytes c.args.words.now) (standing g.H.Responder g.T.Handler c.args.modules.now c.args.tasks.now) (standing g.H.Responder g.T.Handler c.args.modules.now c.run_board.new.tasks) (world c.args.inputs.now c.args.out.now c.args.dev.now) (world c.run_board.new.inputs c.run_board.new.out c.run_board.new.dev) c.run_board.result c.run_board.ensures.ran
 
 pub returns-clause-untouched : goal.returns-clause-untouched
-returns-clause-untouched g c = λ before. (untouched g.I.Inputs g.O.Sink c.exits_say.ensures g.D.Device (map string_bytes c.args.words.now) (standing g.H.Responder g.T.Handler c.args.modules.now c.args.tasks.now) (standing g.H.Responder g.T.Handler c.args.modules.now c.run_words.new.tasks) (world c.args.inputs.now c.args.out.now c.args.dev.now) (world c.run_words.new.inputs c.run_words.new.out c.run_words.new.dev) c.run_words.result c.run_words.ensures.ran before).0
+returns-clause-untouched g c = λ before. (untouched g.I.Inputs g.O.Sink c.exits_say.ensures g.D.Device (map string_bytes c.args.words.now) (standing g.H.Responder g.T.Handler c.args.modules.now c.args.tasks.now) (standing g.H.Responder g.T.Handler c.args.modules.now c.run_board.new.tasks) (world c.args.inputs.now c.args.out.now c.args.dev.now) (world c.run_board.new.inputs c.run_board.new.out c.run_board.new.dev) c.run_board.result c.run_board.ensures.ran before).0
 
 pub returns-clause-still : goal.returns-clause-still
-returns-clause-still g c = λ before. (untouched g.I.Inputs g.O.Sink c.exits_say.ensures g.D.Device (map string_bytes c.args.words.now) (standing g.H.Responder g.T.Handler c.args.modules.now c.args.tasks.now) (standing g.H.Responder g.T.Handler c.args.modules.now c.run_words.new.tasks) (world c.args.inputs.now c.args.out.now c.args.dev.now) (world c.run_words.new.inputs c.run_words.new.out c.run_words.new.dev) c.run_words.result c.run_words.ensures.ran before).1
+returns-clause-still g c = λ before. (untouched g.I.Inputs g.O.Sink c.exits_say.ensures g.D.Device (map string_bytes c.args.words.now) (standing g.H.Responder g.T.Handler c.args.modules.now c.args.tasks.now) (standing g.H.Responder g.T.Handler c.args.modules.now c.run_board.new.tasks) (world c.args.inputs.now c.args.out.now c.args.dev.now) (world c.run_board.new.inputs c.run_board.new.out c.run_board.new.dev) c.run_board.result c.run_board.ensures.ran before).1
 
 pub returns-clause-memory : goal.returns-clause-memory
-returns-clause-memory g c = memory g.I.Inputs g.O.Sink c.exits_say.ensures g.D.Device (map string_bytes c.args.words.now) (standing g.H.Responder g.T.Handler c.args.modules.now c.args.tasks.now) (standing g.H.Responder g.T.Handler c.args.modules.now c.run_words.new.tasks) (world c.args.inputs.now c.args.out.now c.args.dev.now) (world c.run_words.new.inputs c.run_words.new.out c.run_words.new.dev) c.run_words.result c.run_words.ensures.ran
+returns-clause-memory g c = memory g.I.Inputs g.O.Sink c.exits_say.ensures g.D.Device (map string_bytes c.args.words.now) (standing g.H.Responder g.T.Handler c.args.modules.now c.args.tasks.now) (standing g.H.Responder g.T.Handler c.args.modules.now c.run_board.new.tasks) (world c.args.inputs.now c.args.out.now c.args.dev.now) (world c.run_board.new.inputs c.run_board.new.out c.run_board.new.dev) c.run_board.result c.run_board.ensures.ran
 
 pub returns-clause-read_fault : goal.returns-clause-read_fault
-returns-clause-read_fault g c = reading_fault g.I.Inputs g.O.Sink c.exits_say.ensures g.D.Device (map string_bytes c.args.words.now) (standing g.H.Responder g.T.Handler c.args.modules.now c.args.tasks.now) (standing g.H.Responder g.T.Handler c.args.modules.now c.run_words.new.tasks) (world c.args.inputs.now c.args.out.now c.args.dev.now) (world c.run_words.new.inputs c.run_words.new.out c.run_words.new.dev) c.run_words.result c.run_words.ensures.ran
+returns-clause-read_fault g c = reading_fault g.I.Inputs g.O.Sink c.exits_say.ensures g.D.Device (map string_bytes c.args.words.now) (standing g.H.Responder g.T.Handler c.args.modules.now c.args.tasks.now) (standing g.H.Responder g.T.Handler c.args.modules.now c.run_board.new.tasks) (world c.args.inputs.now c.args.out.now c.args.dev.now) (world c.run_board.new.inputs c.run_board.new.out c.run_board.new.dev) c.run_board.result c.run_board.ensures.ran
 
 pub returns-clause-read_cause : goal.returns-clause-read_cause
-returns-clause-read_cause g c = read_cause g.I.Inputs g.O.Sink c.exits_say.ensures g.D.Device (map string_bytes c.args.words.now) (standing g.H.Responder g.T.Handler c.args.modules.now c.args.tasks.now) (standing g.H.Responder g.T.Handler c.args.modules.now c.run_words.new.tasks) (world c.args.inputs.now c.args.out.now c.args.dev.now) (world c.run_words.new.inputs c.run_words.new.out c.run_words.new.dev) c.run_words.result c.run_words.ensures.ran
+returns-clause-read_cause g c = read_cause g.I.Inputs g.O.Sink c.exits_say.ensures g.D.Device (map string_bytes c.args.words.now) (standing g.H.Responder g.T.Handler c.args.modules.now c.args.tasks.now) (standing g.H.Responder g.T.Handler c.args.modules.now c.run_board.new.tasks) (world c.args.inputs.now c.args.out.now c.args.dev.now) (world c.run_board.new.inputs c.run_board.new.out c.run_board.new.dev) c.run_board.result c.run_board.ensures.ran
 
 pub returns-clause-write_fault : goal.returns-clause-write_fault
-returns-clause-write_fault g c = writing_fault g.I.Inputs g.O.Sink c.exits_say.ensures g.D.Device (map string_bytes c.args.words.now) (standing g.H.Responder g.T.Handler c.args.modules.now c.args.tasks.now) (standing g.H.Responder g.T.Handler c.args.modules.now c.run_words.new.tasks) (world c.args.inputs.now c.args.out.now c.args.dev.now) (world c.run_words.new.inputs c.run_words.new.out c.run_words.new.dev) c.run_words.result c.run_words.ensures.ran
+returns-clause-write_fault g c = writing_fault g.I.Inputs g.O.Sink c.exits_say.ensures g.D.Device (map string_bytes c.args.words.now) (standing g.H.Responder g.T.Handler c.args.modules.now c.args.tasks.now) (standing g.H.Responder g.T.Handler c.args.modules.now c.run_board.new.tasks) (world c.args.inputs.now c.args.out.now c.args.dev.now) (world c.run_board.new.inputs c.run_board.new.out c.run_board.new.dev) c.run_board.result c.run_board.ensures.ran
 
 pub returns-clause-unfailed : goal.returns-clause-unfailed
-returns-clause-unfailed g c = unfailing g.I.Inputs g.O.Sink c.exits_say.ensures g.D.Device (map string_bytes c.args.words.now) (standing g.H.Responder g.T.Handler c.args.modules.now c.args.tasks.now) (standing g.H.Responder g.T.Handler c.args.modules.now c.run_words.new.tasks) (world c.args.inputs.now c.args.out.now c.args.dev.now) (world c.run_words.new.inputs c.run_words.new.out c.run_words.new.dev) c.run_words.result c.run_words.ensures.ran
+returns-clause-unfailed g c = unfailing g.I.Inputs g.O.Sink c.exits_say.ensures g.D.Device (map string_bytes c.args.words.now) (standing g.H.Responder g.T.Handler c.args.modules.now c.args.tasks.now) (standing g.H.Responder g.T.Handler c.args.modules.now c.run_board.new.tasks) (world c.args.inputs.now c.args.out.now c.args.dev.now) (world c.run_board.new.inputs c.run_board.new.out c.run_board.new.dev) c.run_board.result c.run_board.ensures.ran
 
 pub returns-clause-keeps : goal.returns-clause-keeps
 returns-clause-keeps g c = λ object topology start of formed. record {
-  run = λ answers events drove. c.driven_runs_keep_apart.ensures.run (setup object topology) events answers start c.run_words.new.dev of formed drove;
-  steps = λ answers events cut drove. c.driven_runs_keep_apart.ensures.steps (setup object topology) events answers cut start c.run_words.new.dev of formed drove;
+  run = λ answers events drove. c.driven_runs_keep_apart.ensures.run (setup object topology) events answers start c.run_board.new.dev of formed drove;
+  steps = λ answers events cut drove. c.driven_runs_keep_apart.ensures.steps (setup object topology) events answers cut start c.run_board.new.dev of formed drove;
 }
 
 pub returns-clause-causes : goal.returns-clause-causes
@@ -56,8 +56,8 @@ pub returns-clause-tasks : goal.returns-clause-tasks
 returns-clause-tasks g c = λ object topology. c.calls_are_told.ensures (setup object topology) (standing g.H.Responder g.T.Handler c.args.modules.now c.args.tasks.now)
 
 pub returns-clause-complete : goal.returns-clause-complete
-returns-clause-complete g c = is_complete c.one_reading.ensures.written (λ text object. (c.one_meaning.ensures.built text object).1) g.I.Inputs g.O.Sink g.D.Device (map string_bytes c.args.words.now) (standing g.H.Responder g.T.Handler c.args.modules.now c.args.tasks.now) (standing g.H.Responder g.T.Handler c.args.modules.now c.run_words.new.tasks) (world c.args.inputs.now c.args.out.now c.args.dev.now) (world c.run_words.new.inputs c.run_words.new.out c.run_words.new.dev) c.run_words.result (decides g.I.Inputs g.O.Sink c.exits_say.ensures g.D.Device (map string_bytes c.args.words.now) (standing g.H.Responder g.T.Handler c.args.modules.now c.args.tasks.now) (standing g.H.Responder g.T.Handler c.args.modules.now c.run_words.new.tasks) (world c.args.inputs.now c.args.out.now c.args.dev.now) (world c.run_words.new.inputs c.run_words.new.out c.run_words.new.dev) c.run_words.result c.run_words.ensures.ran) c.run_words.ensures.done (reading_fault g.I.Inputs g.O.Sink c.exits_say.ensures g.D.Device (map string_bytes c.args.words.now) (standing g.H.Responder g.T.Handler c.args.modules.now c.args.tasks.now) (standing g.H.Responder g.T.Handler c.args.modules.now c.run_words.new.tasks) (world c.args.inputs.now c.args.out.now c.args.dev.now) (world c.run_words.new.inputs c.run_words.new.out c.run_words.new.dev) c.run_words.result c.run_words.ensures.ran)
+returns-clause-complete g c = is_complete c.one_reading.ensures.written (λ text object. (c.one_meaning.ensures.built text object).1) g.I.Inputs g.O.Sink g.D.Device (map string_bytes c.args.words.now) (standing g.H.Responder g.T.Handler c.args.modules.now c.args.tasks.now) (standing g.H.Responder g.T.Handler c.args.modules.now c.run_board.new.tasks) (world c.args.inputs.now c.args.out.now c.args.dev.now) (world c.run_board.new.inputs c.run_board.new.out c.run_board.new.dev) c.run_board.result (decides g.I.Inputs g.O.Sink c.exits_say.ensures g.D.Device (map string_bytes c.args.words.now) (standing g.H.Responder g.T.Handler c.args.modules.now c.args.tasks.now) (standing g.H.Responder g.T.Handler c.args.modules.now c.run_board.new.tasks) (world c.args.inputs.now c.args.out.now c.args.dev.now) (world c.run_board.new.inputs c.run_board.new.out c.run_board.new.dev) c.run_board.result c.run_board.ensures.ran) c.run_board.ensures.done (reading_fault g.I.Inputs g.O.Sink c.exits_say.ensures g.D.Device (map string_bytes c.args.words.now) (standing g.H.Responder g.T.Handler c.args.modules.now c.args.tasks.now) (standing g.H.Responder g.T.Handler c.args.modules.now c.run_board.new.tasks) (world c.args.inputs.now c.args.out.now c.args.dev.now) (world c.run_board.new.inputs c.run_board.new.out c.run_board.new.dev) c.run_board.result c.run_board.ensures.ran)
 
 pub returns-clause-driven : goal.returns-clause-driven
 returns-clause-driven g c = λ named done is.
-    replay_drove g.I.Inputs g.O.Sink c.exits_say.ensures g.D.Device (map string_bytes c.args.words.now) (standing g.H.Responder g.T.Handler c.args.modules.now c.args.tasks.now) (standing g.H.Responder g.T.Handler c.args.modules.now c.run_words.new.tasks) (world c.args.inputs.now c.args.out.now c.args.dev.now) (world c.run_words.new.inputs c.run_words.new.out c.run_words.new.dev) c.run_words.result named c.run_words.ensures.ran is done
+    replay_drove g.I.Inputs g.O.Sink c.exits_say.ensures g.D.Device (map string_bytes c.args.words.now) (standing g.H.Responder g.T.Handler c.args.modules.now c.args.tasks.now) (standing g.H.Responder g.T.Handler c.args.modules.now c.run_board.new.tasks) (world c.args.inputs.now c.args.out.now c.args.dev.now) (world c.run_board.new.inputs c.run_board.new.out c.run_board.new.dev) c.run_board.result named c.run_board.ensures.ran is done

@@ -42,21 +42,21 @@ returns-in-Ok-clause-done g c = λ seen written is.
     let R : Form → Type 0 = λ f. (◌≡◌ {A = Result Subject Fault} (Ok c.in-Ok.subject) (Err Memory)) ⊎ ReadsSubject g.I.Inputs.observable f (map string_bytes c.args.words.now) (g.I.Inputs.state c.args.inputs.now) (g.I.Inputs.state c.read_subject.new.inputs) (Ok c.in-Ok.subject) in
     let reads = known_read c.in-Ok.subject (subst R c.form_of-form.ensures c.in-Ok.ensures.read) in
     let N : Form → Type 0 = λ f. c.script_word.result.now ≡ script_word f.script (map string_bytes c.args.words.now) in
-    let W : List ℕ → Type 0 = λ name. Worked g.I.Inputs g.O.Sink g.D.Device c.args.request.work c.args.request.topology c.in-Ok.subject (standing g.H.Responder g.T.Handler c.args.modules.now c.args.tasks.now) (standing g.H.Responder g.T.Handler c.args.modules.now c.do_work.new.tasks) name (world c.read_subject.new.inputs c.args.out.now c.args.dev.now) (world c.do_work.new.inputs c.do_work.new.out c.do_work.new.dev) c.do_work.result in
-    worked_done g.I.Inputs g.O.Sink g.D.Device (map string_bytes c.args.words.now) (standing g.H.Responder g.T.Handler c.args.modules.now c.args.tasks.now) (standing g.H.Responder g.T.Handler c.args.modules.now c.do_work.new.tasks) c.args.inputs.now c.read_subject.new.inputs c.do_work.new.inputs c.args.out.now c.do_work.new.out c.args.dev.now c.do_work.new.dev c.do_work.result seen written is c.args.request.work c.args.request.topology c.in-Ok.subject reads (subst W (subst N c.form_of-form.ensures c.script_word.ensures) c.do_work.ensures.worked)
+    let W : List ℕ → Type 0 = λ name. Worked g.I.Inputs g.O.Sink g.D.Device c.args.request.work c.args.request.topology c.in-Ok.subject (standing g.H.Responder g.T.Handler c.args.board.now.modules.now c.args.board.now.tasks) (standing g.H.Responder g.T.Handler c.args.board.now.modules.now c.do_work.new.board.tasks) name (world c.read_subject.new.inputs c.args.out.now c.args.dev.now) (world c.do_work.new.inputs c.do_work.new.out c.do_work.new.dev) c.do_work.result in
+    worked_done g.I.Inputs g.O.Sink g.D.Device (map string_bytes c.args.words.now) (standing g.H.Responder g.T.Handler c.args.board.now.modules.now c.args.board.now.tasks) (standing g.H.Responder g.T.Handler c.args.board.now.modules.now c.do_work.new.board.tasks) c.args.inputs.now c.read_subject.new.inputs c.do_work.new.inputs c.args.out.now c.do_work.new.out c.args.dev.now c.do_work.new.dev c.do_work.result seen written is c.args.request.work c.args.request.topology c.in-Ok.subject reads (subst W (subst N c.form_of-form.ensures c.script_word.ensures) c.do_work.ensures.worked)
 
 pub returns-in-Ok-clause-ran : goal.returns-in-Ok-clause-ran
 returns-in-Ok-clause-ran g c =
     let R : Form → Type 0 = λ f. (◌≡◌ {A = Result Subject Fault} (Ok c.in-Ok.subject) (Err Memory)) ⊎ ReadsSubject g.I.Inputs.observable f (map string_bytes c.args.words.now) (g.I.Inputs.state c.args.inputs.now) (g.I.Inputs.state c.read_subject.new.inputs) (Ok c.in-Ok.subject) in
     let reads = known_read c.in-Ok.subject (subst R c.form_of-form.ensures c.in-Ok.ensures.read) in
     let N : Form → Type 0 = λ f. c.script_word.result.now ≡ script_word f.script (map string_bytes c.args.words.now) in
-    let W : List ℕ → Type 0 = λ name. Worked g.I.Inputs g.O.Sink g.D.Device c.args.request.work c.args.request.topology c.in-Ok.subject (standing g.H.Responder g.T.Handler c.args.modules.now c.args.tasks.now) (standing g.H.Responder g.T.Handler c.args.modules.now c.do_work.new.tasks) name (world c.read_subject.new.inputs c.args.out.now c.args.dev.now) (world c.do_work.new.inputs c.do_work.new.out c.do_work.new.dev) c.do_work.result in
-    worked_ran g.I.Inputs g.O.Sink g.D.Device (map string_bytes c.args.words.now) (standing g.H.Responder g.T.Handler c.args.modules.now c.args.tasks.now) (standing g.H.Responder g.T.Handler c.args.modules.now c.do_work.new.tasks) c.args.inputs.now c.read_subject.new.inputs c.do_work.new.inputs c.args.out.now c.do_work.new.out c.args.dev.now c.do_work.new.dev c.do_work.result c.args.request.work c.args.request.topology c.in-Ok.subject reads (subst W (subst N c.form_of-form.ensures c.script_word.ensures) c.do_work.ensures.worked)
+    let W : List ℕ → Type 0 = λ name. Worked g.I.Inputs g.O.Sink g.D.Device c.args.request.work c.args.request.topology c.in-Ok.subject (standing g.H.Responder g.T.Handler c.args.board.now.modules.now c.args.board.now.tasks) (standing g.H.Responder g.T.Handler c.args.board.now.modules.now c.do_work.new.board.tasks) name (world c.read_subject.new.inputs c.args.out.now c.args.dev.now) (world c.do_work.new.inputs c.do_work.new.out c.do_work.new.dev) c.do_work.result in
+    worked_ran g.I.Inputs g.O.Sink g.D.Device (map string_bytes c.args.words.now) (standing g.H.Responder g.T.Handler c.args.board.now.modules.now c.args.board.now.tasks) (standing g.H.Responder g.T.Handler c.args.board.now.modules.now c.do_work.new.board.tasks) c.args.inputs.now c.read_subject.new.inputs c.do_work.new.inputs c.args.out.now c.do_work.new.out c.args.dev.now c.do_work.new.dev c.do_work.result c.args.request.work c.args.request.topology c.in-Ok.subject reads (subst W (subst N c.form_of-form.ensures c.script_word.ensures) c.do_work.ensures.worked)
 
 pub returns-in-Err-clause-ran : goal.returns-in-Err-clause-ran
 returns-in-Err-clause-ran g c =
     let R : Form → Type 0 = λ f. (◌≡◌ {A = Result Subject Fault} (Err c.in-Err.fault) (Err Memory)) ⊎ ReadsSubject g.I.Inputs.observable f (map string_bytes c.args.words.now) (g.I.Inputs.state c.args.inputs.now) (g.I.Inputs.state c.read_subject.new.inputs) (Err c.in-Err.fault) in
-    subject_refused g.I.Inputs g.O.Sink g.D.Device (map string_bytes c.args.words.now) (standing g.H.Responder g.T.Handler c.args.modules.now c.args.tasks.now) (standing g.H.Responder g.T.Handler c.args.modules.now c.args.tasks.now) c.args.inputs.now c.read_subject.new.inputs c.args.out.now c.refuse.new.out c.args.dev.now c.args.dev.now c.refuse.result (form_of c.args.request.work c.args.request.topology) c.in-Err.fault (subst R c.form_of-form.ensures c.in-Err.ensures.read) refl refl c.refuse.ensures
+    subject_refused g.I.Inputs g.O.Sink g.D.Device (map string_bytes c.args.words.now) (standing g.H.Responder g.T.Handler c.args.board.now.modules.now c.args.board.now.tasks) (standing g.H.Responder g.T.Handler c.args.board.now.modules.now c.args.board.now.tasks) c.args.inputs.now c.read_subject.new.inputs c.args.out.now c.refuse.new.out c.args.dev.now c.args.dev.now c.refuse.result (form_of c.args.request.work c.args.request.topology) c.in-Err.fault (subst R c.form_of-form.ensures c.in-Err.ensures.read) refl refl c.refuse.ensures
 
 pub returns-in-Ok-clause-begun : goal.returns-in-Ok-clause-begun
 returns-in-Ok-clause-begun g c =

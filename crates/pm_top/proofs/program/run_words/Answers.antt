@@ -15,17 +15,17 @@ use Rattle.pm_top.proofs.program.run_words.Goals as goal
 
 pub returns-in-Some-clause-done : goal.returns-in-Some-clause-done
 returns-in-Some-clause-done g c = λ seen written is.
-    let P : Option Request → Type 0 = λ request. DoneIf g.I.Inputs g.O.Sink g.D.Device request (map string_bytes c.args.words.now) (standing g.H.Responder g.T.Handler c.args.modules.now c.args.tasks.now) (standing g.H.Responder g.T.Handler c.args.modules.now c.run_request.new.tasks) (world c.args.inputs.now c.args.out.now c.args.dev.now) (world c.run_request.new.inputs c.run_request.new.out c.run_request.new.dev) in
+    let P : Option Request → Type 0 = λ request. DoneIf g.I.Inputs g.O.Sink g.D.Device request (map string_bytes c.args.words.now) (standing g.H.Responder g.T.Handler c.args.board.now.modules.now c.args.board.now.tasks) (standing g.H.Responder g.T.Handler c.args.board.now.modules.now c.run_request.new.board.tasks) (world c.args.inputs.now c.args.out.now c.args.dev.now) (world c.run_request.new.inputs c.run_request.new.out c.run_request.new.dev) in
     subst P c.in-Some.ensures (c.run_request.ensures.done seen written is)
 
 pub returns-in-Some-clause-ran : goal.returns-in-Some-clause-ran
 returns-in-Some-clause-ran g c =
-    let P : Option Request → Type 0 = λ request. RanForm g.I.Inputs g.O.Sink g.D.Device (form_if request) (map string_bytes c.args.words.now) (standing g.H.Responder g.T.Handler c.args.modules.now c.args.tasks.now) (standing g.H.Responder g.T.Handler c.args.modules.now c.run_request.new.tasks) (world c.args.inputs.now c.args.out.now c.args.dev.now) (world c.run_request.new.inputs c.run_request.new.out c.run_request.new.dev) c.run_request.result in
+    let P : Option Request → Type 0 = λ request. RanForm g.I.Inputs g.O.Sink g.D.Device (form_if request) (map string_bytes c.args.words.now) (standing g.H.Responder g.T.Handler c.args.board.now.modules.now c.args.board.now.tasks) (standing g.H.Responder g.T.Handler c.args.board.now.modules.now c.run_request.new.board.tasks) (world c.args.inputs.now c.args.out.now c.args.dev.now) (world c.run_request.new.inputs c.run_request.new.out c.run_request.new.dev) c.run_request.result in
     subst P c.in-Some.ensures c.run_request.ensures.ran
 
 pub returns-in-None-clause-ran : goal.returns-in-None-clause-ran
 returns-in-None-clause-ran g c =
-    let P : Option Request → Type 0 = λ request. RanForm g.I.Inputs g.O.Sink g.D.Device (form_if request) (map string_bytes c.args.words.now) (standing g.H.Responder g.T.Handler c.args.modules.now c.args.tasks.now) (standing g.H.Responder g.T.Handler c.args.modules.now c.args.tasks.now) (world c.args.inputs.now c.args.out.now c.args.dev.now) (world c.args.inputs.now c.refuse.new.out c.args.dev.now) c.refuse.result in
+    let P : Option Request → Type 0 = λ request. RanForm g.I.Inputs g.O.Sink g.D.Device (form_if request) (map string_bytes c.args.words.now) (standing g.H.Responder g.T.Handler c.args.board.now.modules.now c.args.board.now.tasks) (standing g.H.Responder g.T.Handler c.args.board.now.modules.now c.args.board.now.tasks) (world c.args.inputs.now c.args.out.now c.args.dev.now) (world c.args.inputs.now c.refuse.new.out c.args.dev.now) c.refuse.result in
     subst P c.in-None.ensures (record { job = Err Usage; answers = []; cut = c.refuse.ensures.cut; asked = refl; left = c.refuse.ensures.left; ends = c.refuse.ensures.ends; touched = (refl, refl) })
 
 pub returns-in-Some-clause-begun : goal.returns-in-Some-clause-begun

@@ -1,6 +1,6 @@
 use Rattle.std.proofs.Common.{◌≡◌, length}
 use Rattle.pm_tasks.specs.Stored.{timetable}
-use Rattle.pm_board.proofs.board.settle.Given as goal
+use Rattle.pm_board.proofs.lines.settle.Given as goal
 
 -- nothing changes but the calls that are left
 abbrev pub invariant-calls : goal.invariant-calls
