@@ -2,24 +2,25 @@
  *
  * Link libpmu.a and the three memory functions (see "Memory" below). docs/EMBEDDING.md says how, and has examples.
  *
- * A call answers at once and calls nothing of yours. What the controller asks of your device comes out as commands: a step
- * is an event, its commands one by one, each with your answer, and then what it tells.
+ * A call answers at once and calls nothing of yours. What the controller asks of your device comes out as commands:
+ * a step is an event, its commands one by one, each with your answer, and then what it tells.
  *
  *     pmu_ipi(pmu, 1, 13, 33, 1, 0, 2, 0);
  *     while (pmu_next(pmu, &command) == PMU_DONE)
  *         pmu_done(pmu, my_device(&command));
  *     pmu_text(pmu, 1, text, sizeof text, &written);
  *
- * What is proved of each call, for every call that meets the types below: it is safe, it ends, and it does what is said
- * here of the controller behind the handle and of the buffers; a call with one handle changes no other.
- * What is yours to keep: a handle comes from pmu_open and wasn't closed; one call at a time, by one thread; what a handle
- * points to is never copied; a size is that of the memory before it; pointers aren't null; the memory functions.
+ * What is proved of each call, for every call that meets the types below: it is safe, it ends, and it does what is
+ * said here of the controller behind the handle and of the buffers; a call with one handle changes no other.
+ * What is yours to keep: a handle comes from pmu_open and wasn't closed; one call at a time, by one thread; what a
+ * handle points to is never copied; a size is that of the memory before it; pointers aren't null; the memory
+ * functions.
  *
  * Memory: pmu_open takes the memory of a controller. Each other call with a handle takes a block of a few bytes and
- * gives it back (pmu_text a copy of the text too), and answers PMU_NO_MEMORY if it gets none. Blocks are taken by
- * rattle_alloc, rattle_realloc and rattle_dealloc: liblibc_c.a of the toolchain makes them of malloc, realloc and free, and
- * without a C library they are yours to write: one allocator; a block is aligned to each power of two up to 16 that
- * divides its size. For the block that pmu_close frees see there.
+ * gives it back (pmu_text a copy of the text too, pmu_is_beyond a list for each master), and answers PMU_NO_MEMORY
+ * if it gets none. Blocks are taken by rattle_alloc, rattle_realloc and rattle_dealloc: liblibc_c.a of the toolchain
+ * makes them of malloc, realloc and free, and without a C library they are yours to write: one allocator; a block is
+ * aligned to each power of two up to 16 that divides its size. pmu_close frees the block that pmu_open took.
  */
 #ifndef PMU_H
 #define PMU_H
@@ -44,35 +45,36 @@ enum {
     PMU_TOO_LARGE = 7,     /* the script has more than 67108864 bytes; the lines up to there were run */
     PMU_COMMAND_LEFT = 16, /* a command of the last step waits for its answer */
     PMU_NO_COMMAND = 17,   /* no command waits for its answer */
-    PMU_NO_NODE = 18,      /* the chip has no such node */
+    PMU_NO_NODE = 18,      /* the chip has no such node, or the object no such master */
     PMU_CLOSED = 19        /* the handle holds no controller */
 };
 
 /* ---- A whole run ------------------------------------------------------------------------------------------------ */
 
-/* Runs a script over a configuration object, the topology of the chip and a new device in memory, as
- * `pmu replay OBJ SCRIPT` does, but with no modules and no timed tasks. The text of the run goes to `text`, of which `size`
+/* Runs a script over a configuration object, the topology of the chip and a new device in memory, as `pmu replay
+ * OBJ SCRIPT` does, but with no modules and no timed tasks. The text of the run goes to `text`, of which `size`
  * bytes may be written, and *written is how many were.
- * PMU_DONE: exactly the text of the run was written (proved). PMU_BAD_OBJECT, PMU_BAD_LINE, PMU_TOO_LARGE: the text ends
- * with the fault line. PMU_NO_ROOM: it breaks off at `size`. PMU_NO_MEMORY: it is empty or the line `fault memory`.
- * The buffers are yours, and nothing of them is kept. */
+ * PMU_DONE: exactly the text of the run was written (proved). PMU_BAD_OBJECT, PMU_BAD_LINE, PMU_TOO_LARGE: the text
+ * ends with the fault line. PMU_NO_ROOM: it breaks off at `size`. PMU_NO_MEMORY: it is empty or the line `fault
+ * memory`. The buffers are yours, and nothing of them is kept. */
 uint32_t pmu_replay(const uint8_t *object, size_t object_size, const uint8_t *script, size_t script_size,
                     uint8_t *text, size_t size, size_t *written);
 
-/* ---- A controller ------------------------------------------------------------------------------------------------ */
+/* ---- A controller ----------------------------------------------------------------------------------------------- */
 
 /* What a handle points to. Never read, write or copy it. */
 struct pmu {
     void *owned;
 };
 
-/* Loads a controller for a configuration object, over the topology of the chip, and hands its handle out in *handle.
- * Step 0 has begun: its commands bring a device of which each unit stands at 0 to the book at load. Nothing of the object's
- * bytes is kept. PMU_DONE, PMU_BAD_OBJECT, PMU_NO_MEMORY; *handle is written with PMU_DONE alone. */
+/* Loads a controller for a configuration object, over the topology of the chip, and hands its handle out in
+ * *handle. Step 0 has begun: its commands bring a device of which each unit stands at 0 to the book at load.
+ * Nothing of the object's bytes is kept. PMU_DONE, PMU_BAD_OBJECT, PMU_NO_MEMORY; *handle is written with PMU_DONE
+ * alone. */
 uint32_t pmu_open(const uint8_t *object, size_t object_size, struct pmu **handle);
 
-/* Ends a controller: pmu_close(pmu). pmu_end gives back what the handle owns; the block that it points to was taken by
- * rattle_alloc too, so with liblibc_c.a it is freed by `free`. */
+/* Ends a controller: pmu_close(pmu). pmu_end gives back what the handle owns; the block that it points to was taken
+ * by rattle_alloc too, so with liblibc_c.a it is freed by `free`. */
 void pmu_end(struct pmu pmu);
 #ifndef PMU_NO_LIBC
 #include <stdlib.h>
@@ -84,8 +86,8 @@ static inline void pmu_close(struct pmu *pmu)
 #endif
 
 /* Events. Each begins a step. PMU_DONE; PMU_COMMAND_LEFT while a command of the step before waits; PMU_NO_MEMORY. */
-uint32_t pmu_ipi(struct pmu *pmu, uint32_t master, uint32_t api, uint32_t a1, uint32_t a2, uint32_t a3, uint32_t a4,
-                 uint32_t a5);                                       /* a message of a master (UG1200) */
+uint32_t pmu_ipi(struct pmu *pmu, uint32_t master, uint32_t api, uint32_t a1, uint32_t a2, uint32_t a3,
+                 uint32_t a4, uint32_t a5);                          /* a message of a master (UG1200) */
 uint32_t pmu_boot(struct pmu *pmu, uint32_t proc, uint64_t address); /* a boot loader starts a processor */
 uint32_t pmu_wfi(struct pmu *pmu, uint32_t proc);                    /* a processor waits for an interrupt */
 uint32_t pmu_gic(struct pmu *pmu, uint32_t proc);                    /* an interrupt at a processor itself */
@@ -103,27 +105,52 @@ struct pmu_command {
  * PMU_DONE: *command is it. PMU_NO_COMMAND: the step is over. PMU_NO_MEMORY. Else *command stays as it was. */
 uint32_t pmu_next(struct pmu *pmu, struct pmu_command *command);
 
-/* The device took the command that waits (ok), or failed it: then it is given again in a later step, until the device
- * takes it. PMU_DONE; PMU_NO_COMMAND where none waits; PMU_NO_MEMORY. */
+/* The device took the command that waits (ok), or failed it: then it is given again in a later step, until the
+ * device takes it. PMU_DONE; PMU_NO_COMMAND where none waits; PMU_NO_MEMORY. */
 uint32_t pmu_done(struct pmu *pmu, bool ok);
 
-/* Whether the step is over, and the device took the book's value for each unit of the chip. PMU_DONE, PMU_NO_MEMORY. */
+/* Whether the step is over, and the device took the book's value for each unit. PMU_DONE, PMU_NO_MEMORY. */
 uint32_t pmu_is_settled(struct pmu *pmu, bool *settled);
 
-/* ---- What is told ------------------------------------------------------------------------------------------------ */
+/* ---- What is told ----------------------------------------------------------------------------------------------- */
 
-/* The lines of the last step, as `pmu replay` writes them (docs/FORMATS.md, "The output"), each after this number, go to
- * `text`, of which `size` bytes may be written, and *written is how many were.
- * PMU_DONE: exactly those lines. PMU_NO_ROOM: it breaks off at `size`. PMU_COMMAND_LEFT: the step isn't over, *written is 0.
- * PMU_NO_MEMORY: *written is 0. */
+/* The lines of the last step, as `pmu replay` writes them (docs/FORMATS.md, "The output"), each after this number,
+ * go to `text`, of which `size` bytes may be written, and *written is how many were.
+ * PMU_DONE: exactly those lines. PMU_NO_ROOM: it breaks off at `size`. PMU_COMMAND_LEFT: the step isn't over,
+ * *written is 0. PMU_NO_MEMORY: *written is 0. */
 uint32_t pmu_text(struct pmu *pmu, uint32_t number, uint8_t *text, size_t size, size_t *written);
 
-/* The value of a node in the book: of a slave its state, of a power node 1 if it is up, of a processor 1 if it runs or
- * suspends, and else 0. PMU_DONE, PMU_NO_NODE, PMU_NO_MEMORY. */
+/* The value of a node in the book: of a slave its state, of a power node 1 if it is up, of a processor 1 if it runs
+ * or suspends, and else 0. PMU_DONE, PMU_NO_NODE, PMU_NO_MEMORY. */
 uint32_t pmu_value(struct pmu *pmu, uint32_t node, uint32_t *value);
 
 /* The mode of a processor: 0 off, 1 active, 2 asleep, 3 suspending. PMU_DONE, PMU_NO_NODE, PMU_NO_MEMORY. */
 uint32_t pmu_mode(struct pmu *pmu, uint32_t proc, uint32_t *mode);
+
+/* The three words that PM_GET_NODE_STATUS (UG1200) tells a master of a node. */
+struct pmu_status {
+    uint32_t state;       /* of a slave its state, of a power node 1 if it is up, of a processor its mode */
+    uint32_t requirement; /* the capabilities that the master requires of a slave now: 1 access, 2 context, 4 wake-up */
+    uint32_t usage;       /* who uses a slave: 0 nobody, 1 the master alone, 2 other masters alone, 3 both */
+};
+
+/* The status of a node as the master is told it, without a message: no step begins, and the master may be in any
+ * mode. Of a node that is no slave `requirement` and `usage` are 0. PMU_DONE: *status has exactly the words that
+ * this call tells the master from the book as it is (proved). PMU_NO_NODE: the chip has no such node, or the object
+ * no such master. PMU_NO_MEMORY. But for PMU_DONE *status stays as it was. */
+uint32_t pmu_node_status(struct pmu *pmu, uint32_t master, uint32_t node, struct pmu_status *status);
+
+/* Whether a message of the master `sender` is beyond the reach of the master `of`: `sender` is beyond it, and so is
+ * each node that the message names, or the reset line whose value it asks for. The reach of a master is what `pmu
+ * reach` prints: by what the object permits, all that its messages can change, by themselves or by way of masters
+ * that they wake or stop. A message that is beyond it is answered the same whatever messages `of` sends, before the
+ * device's failures are told (proved of two runs, one of them without the messages of `of`). All is beyond the
+ * reach of a number that is no configured master, and such a number as `sender` counts as beyond. So with `sender`
+ * 0 the answer is of the nodes alone: whether each that the message names is beyond the reach of `of`, whoever
+ * sends it. A message that names no node is beyond then, and so is a number that no node of the chip has.
+ * PMU_DONE: *beyond is the answer. PMU_NO_MEMORY: it stays as it was. */
+uint32_t pmu_is_beyond(struct pmu *pmu, uint32_t of, uint32_t sender, uint32_t api, uint32_t a1, uint32_t a2,
+                       uint32_t a3, uint32_t a4, uint32_t a5, bool *beyond);
 
 #ifdef __cplusplus
 }

@@ -6,11 +6,11 @@ ghost use Rattle.std.specs.Prelude.{◌≡◌, ◌<◌, [], ◌∷◌, None};
 ghost use Rattle.pm_base.specs.declared.events.Event.TheVariants as events;
 ghost use Rattle.pm_controller.specs.Steps.{TakesEvent};
 ghost use Rattle.pm_slot.specs.Held.{Holds, Leads, inside};
-ghost use Rattle.pm_c.specs.Handle.{IsOneOf, IsOver, IsWaiting};
+ghost use Rattle.pm_handle.specs.Handle.{IsOneOf, IsOver, IsWaiting};
 
-use crate::answers::{CLOSED, COMMAND_LEFT, DONE, NO_MEMORY};
 use pm_base::{Event, Message, NodeId};
-use pm_slot::{Held, Slot};
+use pm_handle::events::tell;
+use pm_slot::Slot;
 use std::alloc::Global;
 
 /// A message of a master.
@@ -47,7 +47,8 @@ pub extern "C" fn pmu_ipi(
 /// A boot loader starts a processor at an address.
 #[unsafe(no_mangle)]
 pub extern "C" fn pmu_boot(alloc: Global, pmu: &mut Slot, proc: u32, address: u64) -> u32
-    ensures done { result ≡ 0 → Leads (TakesEvent (events.Boot (record { 0 = proc }) address)) pmu.old.held pmu.new.held }
+    ensures done { result ≡ 0
+        → Leads (TakesEvent (events.Boot (record { 0 = proc }) address)) pmu.old.held pmu.new.held }
     ensures kept { 0 < result → inside pmu.new.held ≡ inside pmu.old.held }
     ensures over { result ≡ 0 → Holds IsOver pmu.old.held }
     ensures left { result ≡ 16 → Holds IsWaiting pmu.old.held }
@@ -111,41 +112,4 @@ pub extern "C" fn pmu_tick(alloc: Global, pmu: &mut Slot, count: u32) -> u32
     ensures codes { IsOneOf (0 ∷ 6 ∷ 16 ∷ 19 ∷ []) result }
 {
     tell(alloc, pmu, Event::Tick { count })
-}
-
-/// Tells a controller an event.
-fn tell(alloc: Global, pmu: &mut Slot, event: Event) -> u32
-    ensures done { result ≡ 0 → Leads (TakesEvent event) pmu.old.held pmu.new.held }
-    ensures kept { 0 < result → inside pmu.new.held ≡ inside pmu.old.held }
-    ensures over { result ≡ 0 → Holds IsOver pmu.old.held }
-    ensures left { result ≡ 16 → Holds IsWaiting pmu.old.held }
-    ensures closed { result ≡ 19 → inside pmu.old.held ≡ None }
-    ensures codes { IsOneOf (0 ∷ 6 ∷ 16 ∷ 19 ∷ []) result }
-{
-    let Some(mut held) = pmu.take(alloc) else {
-        return NO_MEMORY;
-    };
-    let code = tell_held(&mut held, &event);
-    pmu.put(held);
-    code
-}
-
-fn tell_held(held: &mut Held, event: &Event) -> u32
-    ensures done { result ≡ 0 → Leads (TakesEvent event.now) held.old held.new }
-    ensures kept { 0 < result → inside held.new ≡ inside held.old }
-    ensures over { result ≡ 0 → Holds IsOver held.old }
-    ensures left { result ≡ 16 → Holds IsWaiting held.old }
-    ensures closed { result ≡ 19 → inside held.old ≡ None }
-    ensures codes { IsOneOf (0 ∷ 16 ∷ 19 ∷ []) result }
-{
-    match &mut held.controller {
-        Some(controller) => {
-            if controller.event(event) {
-                DONE
-            } else {
-                COMMAND_LEFT
-            }
-        }
-        None => CLOSED,
-    }
 }

@@ -1,9 +1,9 @@
-//! What C calls: a whole run in one call, and a controller behind a handle. `include/pmu.h` declares it.
+//! What C calls: a whole run in one call, and a controller behind a handle. `include/pmu.h` declares it. Each export calls
+//! the function that does its work, and says of it again what that says.
 #![tactic(auto)]
 
-pub mod answers;
 pub mod commands;
 pub mod events;
 pub mod handles;
+pub mod reading;
 pub mod running;
-pub mod telling;

@@ -1,19 +1,13 @@
 //! A whole run.
 
-ghost use Rattle.std.specs.Prelude.{◌≡◌, ◌≤◌, [], take, length, Ok, true};
+ghost use Rattle.std.specs.Prelude.{◌≡◌, ◌≤◌, take, length};
 ghost use Rattle.pm_object.specs.declared.object.Object.{Object};
-ghost use Rattle.pm_object.specs.Grammar.{IsObject, Reads};
-ghost use Rattle.pm_c.specs.Run.{WasRun, WasRunOver};
+ghost use Rattle.pm_object.specs.Grammar.{Reads};
+ghost use Rattle.pm_whole_run.specs.Run.{WasRun, exit_due};
 
-use crate::answers::{BAD_OBJECT, NO_MEMORY, NO_ROOM, number_of};
-use pm_base::{Exit, MemSink, NoMemory, OneInput};
+use pm_base::Exit;
 use pm_device::{Device, ModelDevice};
-use pm_modules::{Echo, ModulesOf};
-use pm_object::{DecodeError, Object, decode};
-use pm_replay::replay;
-use pm_tasks::{Counter, TasksOf};
-use pm_topology::zynqmp;
-use pm_trace::{Fault, refuse};
+use pm_whole_run::running::run_in_memory;
 use std::alloc::Global;
 
 /// Runs a script over a configuration object, the topology of the chip and a new device in memory, with no modules and
@@ -29,77 +23,10 @@ pub extern "C" fn pmu_replay(
 ) -> u32
     ensures done { result ≡ 0 → WasRun ⟦<ModelDevice as Device>⟧ object.now script.now (take written.new text.new) }
     ensures bad { result ≡ 2 → (o : Object) → Reads object.now o → ⊥ }
+    ensures line { result ≡ 3 → exit_due script.now ≡ Exit.BadLine }
+    ensures unread { result ≡ 4 → exit_due script.now ≡ Exit.ReadFault }
+    ensures large { result ≡ 7 → exit_due script.now ≡ Exit.TooLarge }
     ensures within { written.new ≤ length text.new }
 {
-    let Ok(mut out) = MemSink::new(alloc, Some(room_of(text.len()))) else {
-        *written = 0;
-        return NO_MEMORY;
-    };
-    let code = run(alloc, object, script, &mut out);
-    let (count, whole) = copy(out.bytes(), text);
-    *written = count;
-    if whole { code } else { NO_ROOM }
-}
-
-/// The room of a sink for a text of so many bytes.
-fn room_of(len: usize) -> u32 {
-    len.min(u32::MAX as usize) as u32
-}
-
-/// Copies bytes to the front of a buffer, as far as they fit, and answers how many, and whether it was all of them.
-pub(crate) fn copy(bytes: &[u8], text: &mut [u8]) -> (usize, bool)
-    ensures whole { result.1 ≡ true → take result.0 text.new ≡ bytes.now }
-    ensures within { result.0 ≤ length text.new }
-{
-    let count = bytes.len().min(text.len());
-    text[..count].copy_from_slice(&bytes[..count]);
-    (count, count == bytes.len())
-}
-
-/// Reads the object, and runs the script over it.
-fn run(alloc: Global, object: &[u8], script: &[u8], out: &mut MemSink) -> u32
-    requires empty { out.old.bytes ≡ [] }
-    ensures done { result ≡ 0 → WasRun ⟦<ModelDevice as Device>⟧ object.now script.now out.new.bytes }
-    ensures bad { result ≡ 2 → (o : Object) → Reads object.now o → ⊥ }
-{
-    match decode(alloc, object) {
-        Ok(object) => match run_over(alloc, object, script, out) {
-            Ok(exit) => number_of(exit),
-            Err(NoMemory) => NO_MEMORY,
-        },
-        Err(DecodeError::Bad(fault)) => {
-            let _ = refuse(Fault::Object(fault), out);
-            BAD_OBJECT
-        }
-        Err(DecodeError::Memory(_)) => NO_MEMORY,
-    }
-}
-
-/// Runs the script over an object.
-fn run_over(
-    alloc: Global,
-    object: Object,
-    script: &[u8],
-    out: &mut MemSink,
-) -> Result<Exit, NoMemory>
-    requires object { IsObject object }
-    requires empty { out.old.bytes ≡ [] }
-    ensures done { result ≡ Ok Exit.Done → WasRunOver ⟦<ModelDevice as Device>⟧ object script.now out.new.bytes }
-{
-    let topology = zynqmp(alloc)?;
-    let mut device = ModelDevice::new(alloc, &topology)?;
-    let mut inputs = OneInput::new(alloc, script)?;
-    let modules = ModulesOf::<Echo>::new(alloc)?;
-    let mut tasks = TasksOf::<Counter>::new(alloc, 0)?;
-    Ok(replay(
-        alloc,
-        object,
-        topology,
-        &mut inputs,
-        "script",
-        out,
-        &mut device,
-        &modules,
-        &mut tasks,
-    ))
+    run_in_memory(alloc, object, script, text, written)
 }

@@ -1,3 +1,4 @@
 pub mod ComingLemmas
+pub mod StatusLemmas
 pub mod StepLemmas
 pub mod WayLemmas

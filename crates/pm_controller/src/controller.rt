@@ -4,18 +4,22 @@ ghost use Rattle.std.specs.Prelude.{◌≡◌, ◌<◌, ◌∷◌, ◌++◌, ℕ
 ghost use Rattle.std.specs.List.{list_all};
 ghost use Rattle.pm_topology.specs.WellFormed.{IsWellFormed};
 ghost use Rattle.pm_state.specs.Units.{units};
-ghost use Rattle.pm_state.specs.Values.{value};
+ghost use Rattle.pm_state.specs.Values.{master_place, value};
 ghost use Rattle.pm_core.specs.Outbox.{HasRoomFor, outputs_in};
 ghost use Rattle.pm_apply.specs.Carried.{KeepsRest};
 ghost use Rattle.pm_apply.specs.Left.{turns_left};
 ghost use Rattle.pm_apply.specs.Plan.{done_as, plan};
 ghost use Rattle.pm_trace.specs.Step.{core_lines, notices_in};
+ghost use Rattle.pm_controller.specs.Beyond.{is_beyond};
 ghost use Rattle.pm_controller.specs.Controls.{Controls, coming_where, is_settled, mode_of, mode_where, part_with, stands_at, value_of};
 ghost use Rattle.pm_controller.specs.Stands.{IsAsking, IsUnderWay, Stands};
+ghost use Rattle.pm_controller.specs.Status.{Tells, status_of};
 ghost use Rattle.pm_controller.specs.Steps.{IsLoaded, IsNext, TakesAnswer, TakesEvent};
 
+use crate::status::{NodeStatus, status_of};
 use pm_apply::{Carrying, Kept, KeptValue, each_part_is_safe, marks_suffice};
-use pm_base::{Command, Event, Mode, NoMemory, NodeId, Unit};
+use pm_base::{Command, Event, Message, Mode, NoMemory, NodeId, Unit};
+use pm_beyond::is_message_beyond;
 use pm_core::{Book, Outbox};
 use pm_object::Object;
 use pm_topology::{Kind, Topology, has_unit, kinds_are_exact, unit_maps, units_stand_in_order};
@@ -168,6 +172,41 @@ impl Controller {
             Kind::Proc(_) => Some(self.book.mode(proc)),
             _ => None,
         }
+    }
+
+    /// The three words that GET_NODE_STATUS (UG1200) tells a master of a node, without a message: its state, the capabilities
+    /// that the master requires of it, and who uses it. `None` where the chip has no such node, or the object no such master.
+    pub fn status(&self, master: NodeId, node: NodeId) -> Option<NodeStatus>
+        ensures status { result ≡ status_of master node self.now.book }
+        ensures told { IfSome result (Tells (master_place master self.now.book) node self.now.book) }
+    {
+        status_of(&self.book, master, node)
+    }
+
+    /// Whether a message of `sender` is beyond the reach of the master `of`: the sender is beyond, or is no configured master,
+    /// and so is each node that the message names, or the reset line whose value it asks for. What such a message is answered
+    /// doesn't depend on the messages of `of`.
+    ///
+    /// # Errors
+    ///
+    /// `NoMemory` where there is not enough memory.
+    pub fn is_beyond(
+        &self,
+        alloc: Global,
+        of: NodeId,
+        sender: NodeId,
+        message: &Message,
+    ) -> Result<bool, NoMemory>
+        ensures { IfOk result (λ beyond. beyond ≡ is_beyond of sender message.now self.now) }
+    {
+        is_message_beyond(
+            alloc,
+            self.book.object(),
+            self.book.topology(),
+            of,
+            sender,
+            message,
+        )
     }
 
     /// Whether the step is over, and the device took the book's value for each unit of the chip.

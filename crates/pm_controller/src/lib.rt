@@ -3,5 +3,7 @@
 #![tactic(auto)]
 
 mod controller;
+mod status;
 
 pub use controller::Controller;
+pub use status::NodeStatus;

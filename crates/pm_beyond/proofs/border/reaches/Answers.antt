@@ -1,0 +1,7 @@
+use Rattle.std.proofs.Common.{◌∙◌}
+use Rattle.pm_beyond.proofs.FoundLaw.{reaches_by}
+use Rattle.pm_beyond.proofs.border.reaches.Goals as goal
+
+pub returns : goal.returns
+returns c = λ object t from are.
+    c.end_at.ensures ∙ reaches_by c.reach_is_decided.ensures object t from c.args.routes.now c.args.place are

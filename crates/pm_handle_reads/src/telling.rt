@@ -1,0 +1,76 @@
+//! The lines of the last step are written.
+
+ghost use Rattle.std.specs.Prelude.{◌≡◌, ◌≤◌, [], ◌∷◌, None, IfOk, take, length};
+ghost use Rattle.pm_controller.specs.Controls.{text_of};
+ghost use Rattle.pm_slot.specs.Held.{Holds, inside};
+ghost use Rattle.pm_handle.specs.Handle.{IsOneOf, IsOver, IsWaiting};
+
+use pm_controller::Controller;
+use pm_handle::answers::{CLOSED, COMMAND_LEFT, DONE, NO_MEMORY, NO_ROOM};
+use pm_handle::buffer::copy;
+use pm_slot::{Held, Slot};
+use pm_trace::TextLine;
+use std::alloc::{AllocError, Global};
+
+/// The lines of the last step, with this number before each, are written to `text`, of which the first `written` bytes are
+/// written then. Answers `DONE`; `NO_ROOM` where they don't fit, and then as many bytes as fit; `COMMAND_LEFT` where the step
+/// isn't over; `NO_MEMORY`; and `CLOSED`. Nothing else changes.
+pub fn write_text(
+    alloc: Global,
+    pmu: &mut Slot,
+    number: u32,
+    text: &mut [u8],
+    written: &mut usize,
+) -> u32
+    ensures kept { inside pmu.new.held ≡ inside pmu.old.held }
+    ensures done { result ≡ 0 → Holds (λ c. take written.new text.new ≡ text_of number c) pmu.old.held }
+    ensures over { result ≡ 0 → Holds IsOver pmu.old.held }
+    ensures left { result ≡ 16 → Holds IsWaiting pmu.old.held }
+    ensures closed { result ≡ 19 → inside pmu.old.held ≡ None }
+    ensures codes { IsOneOf (0 ∷ 5 ∷ 6 ∷ 16 ∷ 19 ∷ []) result }
+    ensures within { written.new ≤ length text.new }
+{
+    *written = 0;
+    let Some(held) = pmu.take(alloc) else {
+        return NO_MEMORY;
+    };
+    let code = write_held(alloc, &held, number, text, written);
+    pmu.put(held);
+    code
+}
+
+fn write_held(alloc: Global, held: &Held, number: u32, text: &mut [u8], written: &mut usize) -> u32
+    requires { written.old ≤ length text.old }
+    ensures done { result ≡ 0 → Holds (λ c. take written.new text.new ≡ text_of number c) held.now }
+    ensures over { result ≡ 0 → Holds IsOver held.now }
+    ensures left { result ≡ 16 → Holds IsWaiting held.now }
+    ensures closed { result ≡ 19 → inside held.now ≡ None }
+    ensures codes { IsOneOf (0 ∷ 5 ∷ 6 ∷ 16 ∷ 19 ∷ []) result }
+    ensures within { written.new ≤ length text.new }
+{
+    let Some(controller) = &held.controller else {
+        return CLOSED;
+    };
+    if controller.next_command().is_some() {
+        return COMMAND_LEFT;
+    }
+    let Ok(lines) = lines_of(alloc, controller, number) else {
+        return NO_MEMORY;
+    };
+    let (count, whole) = copy(&lines, text);
+    *written = count;
+    if whole { DONE } else { NO_ROOM }
+}
+
+/// The lines of the last step of a controller.
+fn lines_of(alloc: Global, controller: &Controller, number: u32) -> Result<Vec<u8>, AllocError>
+    ensures { IfOk result (λ lines. lines.items ≡ text_of number controller.now) }
+{
+    let mut lines = Vec::new(alloc);
+    let mut line = TextLine::new();
+    for k in 0..controller.lines() {
+        controller.line(number, k, &mut line);
+        lines.extend_from_slice(line.as_slice())?;
+    }
+    Ok(lines)
+}
