@@ -1,12 +1,12 @@
 -- The needs of children are set one after another.
-use Rattle.std.proofs.Common.{◌≡◌, ℕ, ◌+◌, ◌<◌, Bool, false, List, [], ◌∷◌, ◌++◌, length, take, drop, get_or, slice_get, unwrap_or, refl, zero, suc, arith, ap, sym, ◌∙◌, subst}
+use Rattle.std.proofs.Common.{◌≡◌, ℕ, ◌+◌, ◌<◌, ◌≤◌, Bool, false, List, [], ◌∷◌, ◌++◌, length, take, drop, get_or, slice_get, unwrap_or, refl, zero, suc, arith, ap, sym, ◌∙◌, subst}
 use Rattle.std.specs.Prelude.{slice_set, Some}
 use Rattle.std.proofs.lemmas.List.{length-set}
 use Rattle.std.proofs.lemmas.Option.{slice_get_within, slice_get-get_or}
 use Rattle.pm_topology.specs.declared.topology.PowerDef.{PowerDef}
 use Rattle.pm_power.specs.declared.child.Child.{Child}
-use Rattle.pm_power.specs.Needs.{child, with_needs}
-use Rattle.pm_power.specs.Uses.{WasPut}
+use Rattle.pm_power.specs.Needs.{child, with_need_at, with_needs}
+use Rattle.pm_power.specs.Uses.{WasPut, with_need}
 
 -- what is left once one more need is set, and what was left before it
 set_first : (needs : List Bool) (c : Child) (cs : List Child) (d : Child) → d ≡ child c.node c.parent (unwrap_or (slice_get needs zero) false) → d ∷ with_needs (drop (suc zero) needs) cs ≡ with_needs needs (c ∷ cs)
@@ -48,3 +48,20 @@ put_step needs cs k on next powers before after whole put is done =
 pub put_len : (cs : List Child) (k : ℕ) (on : Bool) (next : List Child) (powers : List PowerDef) (before after : ℕ)
     → WasPut k on cs next powers before after → length next ≡ length cs
 put_len cs k on next powers before after put = ap length put.put ∙ length-set cs k (child put.child.node put.child.parent on)
+
+-- ---- the need of one child, by its place
+
+set_child_at : (cs : List Child) (k : ℕ) (on : Bool) (c : Child) → slice_get cs k ≡ Some c → slice_set cs k (with_need on c) ≡ with_need_at k on cs
+set_child_at [] k on c at = refl
+set_child_at (d ∷ cs) zero on c at = let same : d ≡ c = cc in ap (λ (e : Child). child e.node e.parent on ∷ cs) (sym same)
+set_child_at (d ∷ cs) (suc k) on c at = ap (λ later. d ∷ later) (set_child_at cs k on c at)
+
+pub put_is : (cs : List Child) (k : ℕ) (on : Bool) (next : List Child) (powers : List PowerDef) (before after : ℕ)
+    → WasPut k on cs next powers before after → next ≡ with_need_at k on cs
+put_is cs k on next powers before after put = put.put ∙ set_child_at cs k on put.child put.here
+
+-- past the last one nothing changes
+pub past_last : (cs : List Child) (k : ℕ) (on : Bool) → length cs ≤ k → with_need_at k on cs ≡ cs
+past_last [] k on past = refl
+past_last (c ∷ cs) zero on past = absurd (omega (arith, past))
+past_last (c ∷ cs) (suc k) on past = ap (λ later. c ∷ later) (past_last cs k on (omega (arith, past)))

@@ -1,5 +1,5 @@
 -- The needs of processors and slaves, and how one of them is set.
-use Rattle.std.specs.Prelude.{ℕ, ◌==◌, Bool, false, Option, Some, None, List, [], ◌∷◌, ◌++◌, map, find, if◌then◌else◌}
+use Rattle.std.specs.Prelude.{ℕ, zero, suc, ◌==◌, Bool, false, Option, Some, None, List, [], ◌∷◌, ◌++◌, map, find, if◌then◌else◌}
 use Rattle.std.specs.Option.{option_map}
 use Rattle.pm_base.specs.declared.names.NodeId.{NodeId}
 use Rattle.pm_topology.specs.declared.topology.Topology.{Topology}
@@ -32,6 +32,12 @@ abbrev pub with_needs : List Bool → List Child → List Child
 with_needs needs [] = []
 with_needs [] (c ∷ later) = child c.node c.parent false ∷ with_needs [] later
 with_needs (need ∷ needs) (c ∷ later) = child c.node c.parent need ∷ with_needs needs later
+
+-- the children where the one at this place has this need; past the last one nothing changes
+abbrev pub with_need_at : ℕ → Bool → List Child → List Child
+with_need_at place on [] = []
+with_need_at zero on (c ∷ later) = child c.node c.parent on ∷ later
+with_need_at (suc place) on (c ∷ later) = c ∷ with_need_at place on later
 
 -- whether a processor or slave needs its parent; None for any other node
 abbrev pub child_need : List Child → NodeId → Option Bool

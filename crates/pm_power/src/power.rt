@@ -4,7 +4,7 @@ ghost use Rattle.std.specs.Prelude.{replicate, length, ◌≡◌, ◌+◌, ◌<�
 ghost use Rattle.pm_topology.specs.Places.{power_place};
 ghost use Rattle.pm_topology.specs.WellFormed.{IsWellFormed};
 ghost use Rattle.pm_power.specs.Forest.{AreAfterParents, ChildNeeds, IsHeld, PowerNeeds, is_up, ups};
-ghost use Rattle.pm_power.specs.Needs.{does_need, needs_of, power_need, set_child, set_need, with_needs};
+ghost use Rattle.pm_power.specs.Needs.{does_need, needs_of, power_need, set_child, set_need, with_need_at, with_needs};
 ghost use Rattle.pm_power.specs.Uses.{AreSettledFrom, IsForest, levels_above};
 
 use crate::child::{self, Child, child_at, need_at};
@@ -91,6 +91,23 @@ impl Power {
             &mut self.ups,
             slaves,
             procs,
+            Blank::new(1),
+        );
+    }
+
+    /// Sets whether the processor or slave at a place needs its power node: the slaves come first, in the order of
+    /// their table, and then the processors. Past the last one nothing changes. Where the need is as before, nothing
+    /// is counted.
+    pub fn put(&mut self, place: usize, on: bool)
+        ensures { self.new ≡ record self.old { children = with_need_at place on self.old.children } }
+    {
+        put_uncounted::<Brand>(
+            self.powers.as_slice(),
+            &mut self.children,
+            &mut self.counts,
+            &mut self.ups,
+            place,
+            on,
             Blank::new(1),
         );
     }
@@ -261,4 +278,34 @@ fn put_needs_uncounted<L: Ledger>(
         later,
         &mut Steps::<L>::new(blank),
     );
+}
+
+/// Sets the need of the child at a place, with a counter that is thrown away.
+fn put_uncounted<L: Ledger>(
+    powers: &[PowerDef],
+    children: &mut [Child],
+    counts: &mut Counts,
+    ups: &mut [bool],
+    place: usize,
+    on: bool,
+    blank: Blank,
+)
+    requires forest { IsForest children.old powers.now counts.old ups.old }
+    requires name { blank.name ≡ L.name }
+    requires parts { blank.parts ≡ L.parts }
+    requires some { 0 < blank.parts }
+    ensures children { children.new ≡ with_need_at place on children.old }
+    ensures forest { IsForest children.new powers.now counts.new ups.new }
+{
+    if place < children.len() {
+        put_need(
+            powers,
+            children,
+            counts,
+            ups,
+            place,
+            on,
+            &mut Steps::<L>::new(blank),
+        );
+    }
 }

@@ -34,8 +34,8 @@ kind_at_is : (t : Topology) (n : NodeId) (proc slave power : Option ℕ)
     → power_place t.powers n.0 ≡ power
     → IsKind t n (kind_at proc slave power)
 kind_at_is t n (Some k) slave power p s w = found_at (λ (p : ProcDef). p.node.0) t.procs n.0 k p
-kind_at_is t n None (Some k) power p s w = found_at (λ (s : SlaveDef). s.node.0) t.slaves n.0 k s
-kind_at_is t n None None (Some k) p s w = found_at (λ (p : PowerDef). p.node.0) t.powers n.0 k w
+kind_at_is t n None slave (Some k) p s w = found_at (λ (p : PowerDef). p.node.0) t.powers n.0 k w
+kind_at_is t n None (Some k) None p s w = found_at (λ (s : SlaveDef). s.node.0) t.slaves n.0 k s
 kind_at_is t n None None None p s w = (
   absent (λ (p : ProcDef). p.node.0) t.procs n.0 p,
   absent (λ (s : SlaveDef). s.node.0) t.slaves n.0 s,

@@ -25,11 +25,11 @@ power_place powers number = position (λ p. p.node.0 == number) powers
 abbrev pub line_place : List LineDef → ℕ → Option ℕ
 line_place lines number = position (λ l. l.line.0 == number) lines
 
--- the kind of a node, given its place in the three lists
+-- the kind of a node, given its place in the three lists: in a chip that is well-formed it has one at most
 abbrev pub kind_at : Option ℕ → Option ℕ → Option ℕ → Kind
 kind_at (Some k) slave power = Proc k
-kind_at None (Some k) power = Slave k
-kind_at None None (Some k) = Power k
+kind_at None slave (Some k) = Power k
+kind_at None (Some k) None = Slave k
 kind_at None None None = Unknown
 
 abbrev pub kind_of : Topology → NodeId → Kind

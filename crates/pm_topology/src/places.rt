@@ -50,18 +50,18 @@ impl Topology {
         }
     }
 
-    /// The first of processors, slaves and power nodes that has this number.
+    /// The first of processors, power nodes and slaves that has this number: of slaves there are the most.
     fn search(&self, n: NodeId) -> Kind
         ensures { result ≡ kind_of self.now n }
     {
         if let Some(place) = proc_place(self.procs.as_slice(), n) {
             return Kind::Proc(place);
         }
-        if let Some(place) = slave_place(self.slaves.as_slice(), n) {
-            return Kind::Slave(place);
+        if let Some(place) = power_place(self.powers.as_slice(), n) {
+            return Kind::Power(place);
         }
-        match power_place(self.powers.as_slice(), n) {
-            Some(place) => Kind::Power(place),
+        match slave_place(self.slaves.as_slice(), n) {
+            Some(place) => Kind::Slave(place),
             None => Kind::Unknown,
         }
     }

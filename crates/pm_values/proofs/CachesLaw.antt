@@ -175,7 +175,7 @@ idle_is t =
     idle_slaves t.slaves (map (λ p. child p.node p.parent false) t.procs)
     ∙ ap (λ cs. map (λ s. child s.node s.parent false) t.slaves ++ cs) (idle_procs t.procs)
 
-forest_idle : (fixed : Fixed) (core : CoreHalf) → map idle (forest fixed core).children ≡ children_of fixed.topology (λ _. false)
+pub forest_idle : (fixed : Fixed) (core : CoreHalf) → map idle (forest fixed core).children ≡ children_of fixed.topology (λ _. false)
 forest_idle fixed core =
     slaves_idle core 0 fixed.topology.slaves (placed (proc_child core) 0 fixed.topology.procs)
     ∙ ap (λ cs. map (λ s. child s.node s.parent false) fixed.topology.slaves ++ cs) (procs_idle core 0 fixed.topology.procs)

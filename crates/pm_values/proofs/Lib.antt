@@ -15,3 +15,6 @@ pub mod TouchesLaw
 pub mod Wants
 pub mod RenewedLaw
 pub mod ModesLaw
+pub mod FollowLaw
+pub mod KindsLaw
+pub mod UnderWay

@@ -1,8 +1,8 @@
 -- After a step that changed modes, and rows of the masters whose mode turned, all other slaves and all reset lines are as before.
-use Rattle.std.proofs.Common.{◌≡◌, ℕ, ◌==◌, ◌&&◌, Bool, true, false, not, List, slice_get, unwrap_or, Option, Some, None, refl, zero, suc, arith, ap, sym, ◌∙◌, subst}
-use Rattle.std.specs.Prelude.{option_map, replicate}
+use Rattle.std.proofs.Common.{◌≡◌, ℕ, ◌==◌, ◌&&◌, Bool, true, false, not, List, length, slice_get, unwrap_or, Option, Some, None, refl, arith, ap, sym, ◌∙◌, subst}
+use Rattle.std.specs.Prelude.{option_map}
 use Rattle.std.proofs.lemmas.Bool.{eq-eqb}
-use Rattle.std.proofs.lemmas.Option.{slice_get-map}
+use Rattle.std.proofs.lemmas.Option.{slice_get-map, slice_get_within}
 use Rattle.pm_base.specs.declared.names.Mode.{Mode}
 use Rattle.pm_base.specs.declared.names.Unit.{Unit}
 use Rattle.pm_topology.specs.declared.places.Kind.TheVariants.{Proc, Slave, Power, Unknown}
@@ -18,23 +18,11 @@ use Rattle.pm_values.specs.declared.caches.Caches.{Caches}
 use Rattle.pm_values.specs.declared.caches.UnitKind.{UnitKind}
 use Rattle.pm_values.specs.declared.caches.UnitKind.TheVariants.{Entry, Reset}
 use Rattle.pm_values.specs.Along.{Trail}
-use Rattle.pm_values.specs.Caches.{AreSettled, IsChosen, freed_by, is_resting, is_settled, kind_of_unit, slave_rests, use_of, value_by}
+use Rattle.pm_values.specs.Caches.{AreSettled, IsChosen, freed_by, is_settled, kind_of_unit, use_of, value_by}
+use Rattle.pm_values.specs.Kinds.{MayRest, may_rest, rests_at}
 use Rattle.pm_values.specs.Notifications.{is_used}
 use Rattle.pm_values.specs.Touches.{ChangesModes, IsOfModes, is_among, turned, with_core}
 use Rattle.pm_values.proofs.CachesLaw.{value_by_is}
-
-awake : (n s : ℕ) → unwrap_or (slice_get (replicate n false) s) false ≡ false
-awake zero s = refl
-awake (suc n) zero = refl
-awake (suc n) (suc s) = awake n s
-
--- no slave rests, and no reset line
-pub none_rest : (n : ℕ) (kind : UnitKind) → is_resting false (replicate n false) kind ≡ false
-none_rest n (Entry (Slave s)) = awake n s
-none_rest n (Entry (Proc p)) = refl
-none_rest n (Entry (Power w)) = refl
-none_rest n (Entry Unknown) = refl
-none_rest n (Reset place) = refl
 
 -- ---- a slave on which no such master has a row
 
@@ -73,38 +61,37 @@ both_so a b freed same none = ap (λ f. (a == b) && not f) none ∙ ap (λ e. e 
 
 -- ---- a unit that rests
 
-module _ (modes now : List Mode) (fixed : Fixed) (before after : CoreHalf) (used rests : List Bool) (changes : ChangesModes modes now before after)
+module _ (modes now : List Mode) (fixed : Fixed) (before after : CoreHalf) (used : List Bool) (changes : ChangesModes modes now before after)
     (used_are : used ≡ placed (use_of before) 0 fixed.topology.slaves)
-    (resting : (s : ℕ) → unwrap_or (slice_get rests s) false ≡ true → is_among (turned modes now) after.rows.entries s ≡ false)
   where
     -- by its kind, where its value is that of the book before
-    kind_settled : (u : Unit) (kind : UnitKind) → is_resting true rests kind ≡ true
+    kind_settled : (u : Unit) (kind : UnitKind) → may_rest kind ≡ true → ((s : ℕ) → kind ≡ Entry (Slave s) → is_among (turned modes now) after.rows.entries s ≡ false)
         → is_settled (value_by fixed after kind) (freed_by used after.rows kind) (Some (u, value_by fixed before kind)) ≡ true
-    kind_settled u (Entry (Slave s)) is =
+    kind_settled u (Entry (Slave s)) may clear =
+        let none : is_among (turned modes now) after.rows.entries s ≡ false = clear s refl in
         both_so (value_by fixed before (Entry (Slave s))) (value_by fixed after (Entry (Slave s))) (freed_by used after.rows (Entry (Slave s)))
-        (state_same modes now before after changes s (slice_get fixed.topology.slaves s) (resting s is))
-        (freed_none modes now before after changes s fixed.topology.slaves used used_are (resting s is))
-    kind_settled u (Entry (Proc p)) is = cc
-    kind_settled u (Entry (Power w)) is = cc
-    kind_settled u (Entry Unknown) is = cc
-    kind_settled u (Reset place) is =
+        (state_same modes now before after changes s (slice_get fixed.topology.slaves s) none)
+        (freed_none modes now before after changes s fixed.topology.slaves used used_are none)
+    kind_settled u (Entry (Proc p)) may clear = cc
+    kind_settled u (Entry (Power w)) may clear = cc
+    kind_settled u (Entry Unknown) may clear = cc
+    kind_settled u (Reset place) may clear =
         both_so (line_at place before.lines) (line_at place after.lines) false (ap (line_at place) (sym changes.lines)) refl
 
     unit_settled : (t : Topology) (value_of : Unit → ℕ) (u : Option Unit) (kind : UnitKind) → ((u : Unit) → value_of u ≡ value_by fixed before (kind_of_unit t u))
-        → option_map (kind_of_unit t) u ≡ Some kind → is_resting true rests kind ≡ true
+        → option_map (kind_of_unit t) u ≡ Some kind → may_rest kind ≡ true → ((s : ℕ) → kind ≡ Entry (Slave s) → is_among (turned modes now) after.rows.entries s ≡ false)
         → is_settled (value_by fixed after kind) (freed_by used after.rows kind) (option_map (λ u. (u, value_of u)) u) ≡ true
-    unit_settled t value_of None kind are at is = cc
-    unit_settled t value_of (Some u) kind are at is =
+    unit_settled t value_of None kind are at may clear = cc
+    unit_settled t value_of (Some u) kind are at may clear =
         let same : kind_of_unit t u ≡ kind = cc in
-        let P : UnitKind → Type 0 = λ kind. is_resting true rests kind ≡ true in
-        let Q : UnitKind → Type 0 = λ kind. is_settled (value_by fixed after kind) (freed_by used after.rows kind) (Some (u, value_of u)) ≡ true in
-        let R : ℕ → Type 0 = λ n. is_settled (value_by fixed after (kind_of_unit t u)) (freed_by used after.rows (kind_of_unit t u)) (Some (u, n)) ≡ true in
-        subst Q same (subst R (sym (are u)) (kind_settled u (kind_of_unit t u) (subst P (sym same) is)))
+        let R : ℕ → Type 0 = λ n. is_settled (value_by fixed after kind) (freed_by used after.rows kind) (Some (u, n)) ≡ true in
+        subst R (sym (are u ∙ ap (value_by fixed before) same)) (kind_settled u kind may clear)
 
 pub modes_settled : (modes : List Mode) (book : State) (along : Trail) (old new : Caches) → IsOfModes modes book along old → IsChosen book old new
-    → ((s : ℕ) → slave_rests new.rests.items (Slave s) ≡ true → is_among (turned modes along.modes) book.now.core.rows.entries s ≡ false)
-    → AreSettled (value_by book.fixed book.now.core) (freed_by new.used.items book.now.core.rows) true new.rests.items new.kinds.items new.values
-modes_settled modes book along old new of_modes chosen_by resting = λ k kind at is.
+    → MayRest new.kinds.items (length new.kinds.items) new.kinds.awake
+    → ((k s : ℕ) → slice_get new.kinds.items k ≡ Some (Entry (Slave s)) → rests_at new.kinds.awake k ≡ true → is_among (turned modes along.modes) book.now.core.rows.entries s ≡ false)
+    → AreSettled (value_by book.fixed book.now.core) (freed_by new.used.items book.now.core.rows) new.kinds.awake new.kinds.items new.values
+modes_settled modes book along old new of_modes chosen_by calm resting = λ k kind at is.
     let before : CoreHalf = of_modes.before in
     let was : State = with_core before book in
     let t : Topology = book.fixed.topology in
@@ -116,6 +103,10 @@ modes_settled modes book along old new of_modes chosen_by resting = λ k kind at
     let entry : slice_get new.values k ≡ option_map (λ u. (u, value u was)) u =
     ap (λ es. slice_get es k) (chosen_by.values ∙ of_modes.kept.values) ∙ slice_get-map (λ u. (u, value u was)) us k
     in
-    ap (is_settled (value_by book.fixed book.now.core kind) (freed_by new.used.items book.now.core.rows kind)) entry
-    ∙ unit_settled modes along.modes book.fixed before book.now.core new.used.items new.rests.items of_modes.changes (chosen_by.used ∙ of_modes.kept.used) resting
-    t (λ u. value u was) u kind (λ u. sym (value_by_is was u)) found is
+    let may : may_rest kind ≡ true = calm k kind (slice_get_within new.kinds.items k kind at) at is in (
+      may,
+      ap (is_settled (value_by book.fixed book.now.core kind) (freed_by new.used.items book.now.core.rows kind)) entry
+          ∙ unit_settled modes along.modes book.fixed before book.now.core new.used.items of_modes.changes (chosen_by.used ∙ of_modes.kept.used)
+          t (λ u. value u was) u kind (λ u. sym (value_by_is was u)) found may
+          (λ s slave. resting k s (at ∙ ap (λ x. Some x) slave) is),
+    )

@@ -1,7 +1,8 @@
 -- Lists with one item for each slave, some of which are found anew.
-use Rattle.std.proofs.Common.{◌≡◌, ◌≢◌, ℕ, ◌+◌, ◌≤◌, ◌<◌, ◌==◌, ◌&&◌, ◌||◌, Bool, true, false, if◌then◌else◌, List, [], ◌∷◌, ◌++◌, length, take, slice_get, Option, Some, None, refl, zero, suc, arith, ap, sym, ◌∙◌}
-use Rattle.std.specs.Prelude.{slice_set, unwrap_or}
+use Rattle.std.proofs.Common.{◌≡◌, ℕ, ◌+◌, ◌≤◌, ◌==◌, ◌&&◌, ◌||◌, Bool, true, false, if◌then◌else◌, List, [], ◌∷◌, length, take, slice_get, Option, Some, None, refl, zero, suc, arith, ap, sym, ◌∙◌}
+use Rattle.std.specs.Prelude.{slice_set}
 use Rattle.std.specs.List.{list_any}
+use Rattle.std.proofs.lemmas.Bool.{eqb-true}
 use Rattle.std.proofs.lemmas.Bool.Decides.{nat_tests}
 use Rattle.std.proofs.lemmas.List.Folds.{list_any-append}
 use Rattle.pm_base.proofs.ListLemmas.{take_next}
@@ -126,36 +127,20 @@ module _ {A : Type 0} (new : ℕ → SlaveDef → A) where
       ∙ renewed_same (and_one was (test entry.seed.master) s) (is_among test (take (k + 1) entries)) 0 slaves start
       (λ j from. sym (among_next test entries k entry j at))))))
 
--- ---- the slaves that rest
+-- ---- the slaves on which no such row is
 
-rests_other : (rests : List Bool) (s j : ℕ) → unwrap_or (slice_get (slice_set rests s false) j) false ≡ true → ((s == j) ≡ false) × (unwrap_or (slice_get rests j) false ≡ true)
-rests_other [] s j is = cc
-rests_other (x ∷ xs) zero zero is = cc
-rests_other (x ∷ xs) zero (suc j) is = let apart : (0 == suc j) ≡ false = grind (arith, nat_tests) in (apart, is)
-rests_other (x ∷ xs) (suc s) zero is = let apart : (suc s == 0) ≡ false = grind (arith, nat_tests) in (apart, is)
-rests_other (x ∷ xs) (suc s) (suc j) is =
-    let later = rests_other xs s j is in
-    let apart : (suc s == suc j) ≡ false = next s j later.0 in
-    (apart, later.1)
-  where
-    next : (s j : ℕ) → (s == j) ≡ false → (suc s == suc j) ≡ false
-    next s j is = grind (arith, nat_tests)
-
-pub rests_next : (test : ℕ → Bool) (entries : List Entry) (k : ℕ) (entry : Entry) (rests after : List Bool) (asked : Bool) → slice_get entries k ≡ Some entry
+-- one row more, which isn't on this slave where it is asked for
+pub none_next : (test : ℕ → Bool) (entries : List Entry) (k : ℕ) (entry : Entry) (asked : Bool) (s : ℕ) → slice_get entries k ≡ Some entry
     → asked ≡ test entry.seed.master
-    → after ≡ (if asked then slice_set rests entry.seed.slave false else rests)
-    → ((s : ℕ) → unwrap_or (slice_get rests s) false ≡ true → is_among test (take k entries) s ≡ false)
-    → (s : ℕ) → unwrap_or (slice_get after s) false ≡ true → is_among test (take (k + 1) entries) s ≡ false
-rests_next test entries k entry rests after asked at is written before s rests_now =
-    among_next {A = ℕ} (λ s slave. 0) test entries k entry s at ∙ (ap (λ b. is_among test (take k entries) s || ((entry.seed.slave == s) && b)) (sym is) ∙ by asked written)
+    → is_among test (take k entries) s ≡ false
+    → (asked ≡ true → entry.seed.slave ≡ s → ⊥)
+    → is_among test (take (k + 1) entries) s ≡ false
+none_next test entries k entry asked s at is before apart =
+    among_next {A = ℕ} (λ s slave. 0) test entries k entry s at
+    ∙ (ap (λ b. b || ((entry.seed.slave == s) && test entry.seed.master)) before
+    ∙ (ap (λ b. (entry.seed.slave == s) && b) (sym is) ∙ by asked refl (entry.seed.slave == s) refl))
   where
-    none : (b : Bool) → (b && false) ≡ false
-    none true = refl
-    none false = refl
-
-    by : (b : Bool) → after ≡ (if b then slice_set rests entry.seed.slave false else rests) → (is_among test (take k entries) s || ((entry.seed.slave == s) && b)) ≡ false
-    by true set =
-        let parts = rests_other rests entry.seed.slave s (ap (λ xs. unwrap_or (slice_get xs s) false) (sym set) ∙ rests_now) in
-        ap (λ b. b || ((entry.seed.slave == s) && true)) (before s parts.1) ∙ ap (λ b. b && true) parts.0
-    by false set =
-        ap (λ b. b || ((entry.seed.slave == s) && false)) (before s (ap (λ xs. unwrap_or (slice_get xs s) false) (sym set) ∙ rests_now)) ∙ none (entry.seed.slave == s)
+    by : (a : Bool) → asked ≡ a → (e : Bool) → (entry.seed.slave == s) ≡ e → (e && asked) ≡ false
+    by a so false own = refl
+    by true so true own = absurd (apart so (eqb-true entry.seed.slave s own))
+    by false so true own = so

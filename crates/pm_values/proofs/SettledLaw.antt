@@ -9,7 +9,8 @@ use Rattle.pm_topology.specs.declared.places.Kind.TheVariants.{Proc, Slave, Powe
 use Rattle.pm_procs.specs.declared.procs.Proc.{Proc as Processor}
 use Rattle.pm_values.specs.declared.caches.UnitKind.{UnitKind}
 use Rattle.pm_values.specs.declared.caches.UnitKind.TheVariants.{Entry, Reset}
-use Rattle.pm_values.specs.Caches.{is_resting, is_settled, moved_at, noticed_at, started_at}
+use Rattle.pm_values.specs.Caches.{is_settled, moved_at, noticed_at, started_at}
+use Rattle.pm_values.specs.Kinds.{may_rest}
 use Rattle.pm_values.specs.Notifications.{notes_about}
 use Rattle.pm_values.proofs.MovesLemmas.{same_written}
 
@@ -53,11 +54,11 @@ get_drop (x ∷ xs) (suc k) = get_drop xs k
 pub same_ahead : {X : Type 0} (xs ys : List X) (k : ℕ) → drop k xs ≡ drop k ys → slice_get xs k ≡ slice_get ys k
 same_ahead xs ys k same = get_drop xs k ∙ (ap (λ zs. slice_get zs 0) same ∙ sym (get_drop ys k))
 
--- a unit that rests doesn't start
-pub rest_starts : (downs : List Bool) (procs : List Processor) (lines : Bool) (rests : List Bool) (kind : UnitKind) (entry : Option (Unit × ℕ)) → is_resting lines rests kind ≡ true → started_at downs procs kind entry ≡ []
-rest_starts downs procs lines rests kind None is = refl
-rest_starts downs procs lines rests (Entry (Slave s)) (Some e) is = refl
-rest_starts downs procs lines rests (Entry (Proc p)) (Some e) is = cc
-rest_starts downs procs lines rests (Entry (Power w)) (Some e) is = refl
-rest_starts downs procs lines rests (Entry Unknown) (Some e) is = refl
-rest_starts downs procs lines rests (Reset place) (Some e) is = refl
+-- a unit that may rest doesn't start
+pub rest_starts : (downs : List Bool) (procs : List Processor) (kind : UnitKind) (entry : Option (Unit × ℕ)) → may_rest kind ≡ true → started_at downs procs kind entry ≡ []
+rest_starts downs procs kind None is = refl
+rest_starts downs procs (Entry (Slave s)) (Some e) is = refl
+rest_starts downs procs (Entry (Proc p)) (Some e) is = cc
+rest_starts downs procs (Entry (Power w)) (Some e) is = refl
+rest_starts downs procs (Entry Unknown) (Some e) is = refl
+rest_starts downs procs (Reset place) (Some e) is = refl

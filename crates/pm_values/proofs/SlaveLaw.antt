@@ -4,7 +4,7 @@ use mathlib.Core.Bool.{beq}
 use Rattle.std.specs.Prelude.{flat_map, option_map, slice_set}
 use Rattle.std.specs.List.{list_all, list_any}
 use Rattle.std.proofs.lemmas.Bool.{cases_eq, eq-eqb}
-use Rattle.std.proofs.lemmas.List.{append-nil, length-map, map-append}
+use Rattle.std.proofs.lemmas.List.{append-nil, length-map}
 use Rattle.pm_base.proofs.Booleans.{both, differs, equal, later_passes, neither, unequal}
 use Rattle.pm_base.proofs.Tests.{present_from}
 use Rattle.pm_base.specs.declared.names.NodeId.{NodeId}
@@ -13,7 +13,6 @@ use Rattle.pm_base.specs.declared.names.Unit.TheVariants.{Node, Line}
 use Rattle.pm_topology.specs.declared.places.Kind.{Kind}
 use Rattle.pm_topology.specs.declared.places.Kind.TheVariants.{Proc, Slave, Power, Unknown}
 use Rattle.pm_topology.specs.declared.topology.PowerDef.{PowerDef}
-use Rattle.pm_topology.specs.declared.topology.ProcDef.{ProcDef}
 use Rattle.pm_topology.specs.declared.topology.SlaveDef.{SlaveDef}
 use Rattle.pm_topology.specs.declared.topology.Topology.{Topology}
 use Rattle.pm_topology.specs.FirstFault.{has_power, has_proc}
@@ -24,7 +23,7 @@ use Rattle.pm_topology.specs.WellFormed.{IsWellFormed}
 use Rattle.pm_topology.proofs.UnitsLaw.{none_after}
 use Rattle.pm_power.specs.declared.child.Child.{Child}
 use Rattle.pm_power.specs.Forest.{Needs, child_needs, is_up, power_needs, ups, ups_from}
-use Rattle.pm_power.specs.Needs.{child, set_child, set_need}
+use Rattle.pm_power.specs.Needs.{child}
 use Rattle.pm_procs.specs.Modes.{is_awake}
 use Rattle.pm_procs.specs.Procs.{mode_at}
 use Rattle.pm_state.specs.Choice.{state_for}
@@ -64,68 +63,6 @@ one_needed s slave before after slaves there changes =
     ap (λ n. need_of after n x) place ∙ ap (need_of after s) (same_entry (slice_get slaves s) x slave found there))
 
 -- ---- the power nodes
-
-map_placed : {X Y : Type 0} (h : Y → Y) (f g : ℕ → X → Y) (k : ℕ) (xs : List X) → ((i at : ℕ) (x : X) → at ≡ k + i → slice_get xs i ≡ Some x → h (f at x) ≡ g at x) → map h (placed f k xs) ≡ placed g k xs
-map_placed h f g k [] same = refl
-map_placed h f g k (x ∷ xs) same =
-    ap (λ y. y ∷ map h (placed f (k + 1) xs)) (same zero k x (omega arith) refl)
-    ∙ ap (λ ys. g k x ∷ ys) (map_placed h f g (k + 1) xs (λ i at y is here. same (suc i) at y (omega (arith, is)) here))
-
-slave_is : (a b : ℕ) → Slave a ≡ Slave b → a ≡ b
-slave_is a b same = cc
-
-not_proc : (p s : ℕ) → Proc p ≡ Slave s → ⊥
-not_proc p s same = cc
-
--- the need of the slave at place s is set
-slave_set : (s : ℕ) (slave : SlaveDef) (t : Topology) (before after : CoreHalf) (k : ℕ) (x : SlaveDef) → KindLaws → IsWellFormed t → slice_get t.slaves s ≡ Some slave → ChangesRows s before after → slice_get t.slaves k ≡ Some x
-    → set_child slave.node (need_of after s slave) (slave_child before k x) ≡ slave_child after k x
-slave_set s slave t before after k x laws well there changes found = elim (cases_eq k s) [
-  | inl own ↦
-      let same : slave ≡ x = same_entry (slice_get t.slaves s) slave x there (ap (slice_get t.slaves) (sym own) ∙ found) in
-      let on : (x.node.0 == slave.node.0) ≡ true = equal x.node.0 slave.node.0 (ap (λ (d : SlaveDef). d.node.0) (sym same)) in
-      let need : need_of after s slave ≡ need_of after k x = ap (need_of after s) same ∙ ap (λ n. need_of after n x) (sym own) in
-      ap (λ b. if b then child x.node x.parent (need_of after s slave) else slave_child before k x) on
-      ∙ ap (child x.node x.parent) need
-  | inr other ↦
-      let off : (x.node.0 == slave.node.0) ≡ false =
-      unequal x.node.0 slave.node.0 (λ same. other (slave_is k s
-      (laws.alone t slave.node (Slave k) well (x, found, same) ∙ sym (laws.alone t slave.node (Slave s) well (slave, there, refl)))))
-      in
-      ap (λ b. if b then child x.node x.parent (need_of after s slave) else slave_child before k x) off
-      ∙ ap (child x.node x.parent) (need_other s before after k x changes other)
-]
-
-proc_set : (s : ℕ) (slave : SlaveDef) (t : Topology) (before after : CoreHalf) (p : ℕ) (x : ProcDef) → KindLaws → IsWellFormed t → slice_get t.slaves s ≡ Some slave → ChangesRows s before after → slice_get t.procs p ≡ Some x
-    → set_child slave.node (need_of after s slave) (proc_child before p x) ≡ proc_child after p x
-proc_set s slave t before after p x laws well there changes found =
-    let off : (x.node.0 == slave.node.0) ≡ false =
-    unequal x.node.0 slave.node.0 (λ same. not_proc p s
-    (laws.alone t slave.node (Proc p) well (x, found, same) ∙ sym (laws.alone t slave.node (Slave s) well (slave, there, refl))))
-    in
-    ap (λ b. if b then child x.node x.parent (need_of after s slave) else proc_child before p x) off
-    ∙ ap (λ ps. child x.node x.parent (is_awake (mode_at p ps))) (sym changes.procs)
-
-pub one_forest : (s : ℕ) (slave : SlaveDef) (fixed : Fixed) (before after : CoreHalf) → KindLaws → IsWellFormed fixed.topology → slice_get fixed.topology.slaves s ≡ Some slave → ChangesRows s before after
-    → set_need slave.node (need_of after s slave) (forest fixed before) ≡ forest fixed after
-one_forest s slave fixed before after laws well there changes =
-    let t : Topology = fixed.topology in
-    let set : Child → Child = set_child slave.node (need_of after s slave) in
-    let slaves_first : List Child = placed (slave_child before) 0 t.slaves in
-    let procs_first : List Child = placed (proc_child before) 0 t.procs in
-    let slaves_are : map set slaves_first ≡ placed (slave_child after) 0 t.slaves =
-    map_placed set (slave_child before) (slave_child after) 0 t.slaves
-    (λ i at x is found. let place : i ≡ at = omega (arith, is) in
-    slave_set s slave t before after at x laws well there changes (ap (slice_get t.slaves) (sym place) ∙ found))
-    in
-    let procs_are : map set procs_first ≡ placed (proc_child after) 0 t.procs =
-    map_placed set (proc_child before) (proc_child after) 0 t.procs
-    (λ i at x is found. let place : i ≡ at = omega (arith, is) in
-    proc_set s slave t before after at x laws well there changes (ap (slice_get t.procs) (sym place) ∙ found))
-    in
-    ap (λ cs. record { powers = t.powers; children = cs })
-    (map-append set slaves_first procs_first
-    ∙ (ap (λ cs. cs ++ map set procs_first) slaves_are ∙ ap (λ cs. placed (slave_child after) 0 t.slaves ++ cs) procs_are))
 
 any_placed : {X Y : Type 0} (p : Y → Bool) (f g : ℕ → X → Y) (k : ℕ) (xs : List X) (rest : List Y) → ((i at : ℕ) (x : X) → at ≡ k + i → slice_get xs i ≡ Some x → p (f at x) ≡ p (g at x)) → list_any p (placed f k xs ++ rest) ≡ list_any p (placed g k xs ++ rest)
 any_placed p f g k [] rest same = refl

@@ -11,7 +11,8 @@ use Rattle.pm_topology.specs.Places.{kind_of, line_place}
 use Rattle.pm_topology.specs.Units.{units_of}
 use Rattle.pm_topology.specs.UnitMap.{units_in, value_of}
 use Rattle.pm_power.specs.declared.child.Child.{Child}
-use Rattle.pm_power.specs.Needs.{child, children_of}
+use Rattle.pm_power.specs.Forest.{Needs}
+use Rattle.pm_power.specs.Needs.{child, children_of, with_needs}
 use Rattle.pm_base.specs.declared.names.Mode.TheVariants.{Active}
 use Rattle.pm_procs.specs.declared.procs.Proc.{Proc as Processor}
 use Rattle.pm_procs.specs.Modes.{is_awake, same_mode}
@@ -22,6 +23,7 @@ use Rattle.pm_values.specs.declared.caches.UnitKind.TheVariants.{Entry, Reset}
 use Rattle.pm_values.specs.declared.starts.Start.{Start}
 use Rattle.pm_notify.specs.declared.notes.Waiting.{Waiting}
 use Rattle.pm_rows.specs.Rows.{Rows}
+use Rattle.pm_values.specs.Kinds.{may_rest, rests_at}
 use Rattle.pm_values.specs.Notifications.{is_used, notes_about, notice_count, used_at}
 use Rattle.pm_values.specs.Along.{down_logged}
 use Rattle.pm_state.specs.State.{Fixed, CoreHalf, State}
@@ -115,22 +117,11 @@ abbrev pub is_settled : ℕ → Bool → Option (Unit × ℕ) → Bool
 is_settled value freed None = false
 is_settled value freed (Some e) = (e.1 == value) && not freed
 
--- a unit rests: it is a slave of which that was found, or a reset line, where all of them are as before
-abbrev pub slave_rests : List Bool → Kind → Bool
-slave_rests rests (Slave s) = unwrap_or (slice_get rests s) false
-slave_rests rests (Proc p) = false
-slave_rests rests (Power w) = false
-slave_rests rests Unknown = false
-
-abbrev pub is_resting : Bool → List Bool → UnitKind → Bool
-is_resting lines rests (Entry kind) = slave_rests rests kind
-is_resting lines rests (Reset place) = lines
-
--- nothing happened to the units of a table that rest
-abbrev pub AreSettled : (UnitKind → ℕ) → (UnitKind → Bool) → Bool → List Bool → List UnitKind → List (Unit × ℕ) → Type 0
-AreSettled new freed lines rests kinds entries =
-    (k : ℕ) (kind : UnitKind) → slice_get kinds k ≡ Some kind → is_resting lines rests kind ≡ true
-    → is_settled (new kind) (freed kind) (slice_get entries k) ≡ true
+-- the units of a table in groups that rest are slaves and reset lines, and nothing happened to them
+abbrev pub AreSettled : (UnitKind → ℕ) → (UnitKind → Bool) → List Bool → List UnitKind → List (Unit × ℕ) → Type 0
+AreSettled new freed awake kinds entries =
+    (k : ℕ) (kind : UnitKind) → slice_get kinds k ≡ Some kind → rests_at awake k ≡ true
+    → (may_rest kind ≡ true) × (is_settled (new kind) (freed kind) (slice_get entries k) ≡ true)
 
 -- what happened to the units of a table
 abbrev pub noticed_by : (UnitKind → ℕ) → (UnitKind → Bool) → List UnitKind → List (Unit × ℕ) → List Waiting
@@ -166,6 +157,24 @@ pub record HasPlaces (t : Topology) (caches : Caches) : Type 0 where
   pub children : map idle caches.power.children ≡ children_of t (λ _. false)
   pub units : units_in caches.values ≡ units_of t
 
+-- the slaves and processors below these power nodes have these needs: those of the slaves, and then those of the
+-- processors
+abbrev pub AreNeeded : (needs runs : List Bool) → Needs → Type 0
+AreNeeded needs runs power = with_needs (needs ++ runs) power.children ≡ power.children
+
+-- the power nodes followed the needs of slaves from these to those, whatever processors need
+pub record FollowNeeds (needs_before needs_after : List Bool) (before after : Needs) : Type 0 where
+  pub powers : after.powers ≡ before.powers
+  pub children : map idle after.children ≡ map idle before.children
+  pub each : (runs : List Bool) → AreNeeded needs_before runs before → AreNeeded needs_after runs after
+
+-- the power nodes followed the needs of processors from these to those, whatever so many slaves need
+pub record FollowRuns (slaves : ℕ) (runs_before runs_after : List Bool) (before after : Needs) : Type 0 where
+  pub powers : after.powers ≡ before.powers
+  pub children : map idle after.children ≡ map idle before.children
+  pub each : (needs : List Bool) → length needs ≡ slaves → AreNeeded needs runs_before before
+      → AreNeeded needs runs_after after
+
 -- a list with one item for each slave, in which those of the slaves that pass the test are found anew
 abbrev pub renewed : {A : Type 0} → (ℕ → Bool) → (ℕ → SlaveDef → A) → ℕ → List SlaveDef → List A → List A
 renewed test new s [] items = items
@@ -197,6 +206,16 @@ pub record IsChosen (book : State) (before after : Caches) : Type 0 where
   pub kinds : after.kinds.items ≡ before.kinds.items
   pub used : after.used.items ≡ before.used.items
   pub values : after.values ≡ before.values
+
+-- the values are written by this book; what is kept besides is as it was
+pub record IsWritten (book : State) (before after : Caches) : Type 0 where
+  pub kinds : after.kinds ≡ before.kinds
+  pub states : after.states ≡ before.states
+  pub needs : after.needs ≡ before.needs
+  pub runs : after.runs ≡ before.runs
+  pub used : after.used ≡ before.used
+  pub power : after.power ≡ before.power
+  pub values : after.values ≡ valued book
 
 -- the states and needs, the processors that run, and the power nodes are those of the book
 pub record AreChosen (book : State) (caches : Caches) : Type 0 where

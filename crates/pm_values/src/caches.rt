@@ -1,33 +1,29 @@
 //! What the book keeps of its values.
 
-ghost use Rattle.std.specs.Prelude.{◌≡◌, ℕ, ◌<◌, ◌≤◌, ◌++◌, IfOk, Some, true, false, length, map, option_map, slice_get};
+ghost use Rattle.std.specs.Prelude.{◌≡◌, ℕ, ◌<◌, ◌≤◌, ◌++◌, IfOk, Some, true, false, length, option_map, slice_get};
 ghost use Rattle.pm_base.specs.declared.names.Unit.TheVariants.{Node};
 ghost use Rattle.pm_topology.specs.declared.places.Kind.TheVariants.{Slave};
 ghost use Rattle.pm_topology.specs.Units.{units_of};
 ghost use Rattle.pm_state.specs.Values.{value};
 ghost use Rattle.pm_values.specs.declared.caches.UnitKind.TheVariants.{Entry};
 ghost use Rattle.pm_topology.specs.UnitMap.{all_at};
-ghost use Rattle.pm_values.specs.Caches.{AreChosen, AreKept, AreSettled, Finds, HasPlaces, HasRoom, IsChosen, freed_by, kind_of_unit, moved_at, noticed_at, slave_rests, value_by, value_kept};
+ghost use Rattle.pm_values.specs.Caches.{AreChosen, AreKept, AreSettled, Finds, HasPlaces, HasRoom, IsChosen, IsWritten, freed_by, moved_at, noticed_at, value_by, value_kept};
+ghost use Rattle.pm_values.specs.Kinds.{MayRest, rests_at};
 ghost use Rattle.pm_values.specs.Touches.{IsBefore, IsLogged, IsOfModes, IsOfRows, IsTouched, is_among, rests, turned};
 
 use crate::along::Along;
+use crate::kinds::Kinds;
 use crate::moves::log_units;
-use crate::needs::{
-    choose, choose_one, choose_turned, log_runs, set_need, slave_at, state_of, wake,
-};
-use crate::notifications::{freed, log_notice, log_use, log_uses};
+use crate::needs::{choose, choose_one, choose_turned, follow_runs, log_runs, slave_at, state_of};
+use crate::notifications::{freed, log_notice, log_turned_uses, log_use, log_uses};
 use crate::starts::Start;
 use crate::touches::Touched;
 use pm_base::{BoundedList, Mode, NoMemory, NodeId, Unit, at_or};
 use pm_notify::Waiting;
 use pm_power::Power;
 use pm_state::Tables;
-use pm_topology::{
-    Kind, SlaveDef, Topology, UnitMap, kinds_are_exact, units_of, units_stand_in_order,
-};
+use pm_topology::{Kind, SlaveDef, UnitMap, kinds_are_exact, units_stand_in_order};
 use std::alloc::Global;
-use std::marker::Brand;
-use std::sync::ledger::Blank;
 
 /// What the value of a unit is found by: the kind of a node, or the place of a reset line.
 #[derive(Clone, Copy, Debug, PartialEq, Eq)]
@@ -38,15 +34,14 @@ pub enum UnitKind {
 
 /// What is kept of the values of a book: the kind of each unit by its place, the chosen state of each
 /// slave and whether it needs its power node in it, whether each processor runs, whether some master uses
-/// each slave, the power nodes, and the value of each unit. Along a step it is kept, too, which slaves rest in it.
+/// each slave, the power nodes, and the value of each unit. Along a step it is kept, too, which units rest in it.
 #[derive(Drop)]
 pub struct Caches {
-    kinds: Vec<UnitKind>,
+    kinds: Kinds,
     states: Vec<u32>,
     needs: Vec<bool>,
     runs: Vec<bool>,
     used: Vec<bool>,
-    rests: Vec<bool>,
     power: Power,
     values: UnitMap<u32>,
 }
@@ -60,12 +55,11 @@ impl Caches {
         let t = tables.topology();
         let slaves = t.slaves.len();
         Ok(Caches {
-            kinds: kinds_of(alloc, t, units_of(alloc, t)?.as_slice())?,
+            kinds: Kinds::load(alloc, t)?,
             states: zeros(alloc, slaves)?,
             needs: no_needs(alloc, slaves)?,
             runs: no_needs(alloc, t.procs.len())?,
             used: no_needs(alloc, slaves)?,
-            rests: no_needs(alloc, slaves)?,
             power: Power::load(alloc, t)?,
             values: UnitMap::load(alloc, t, 0)?,
         })
@@ -137,14 +131,13 @@ impl Caches {
         ensures found { Finds tables.now along.now.downs self.old moved.old moved.new starts.old starts.new
             notices.old notices.new }
     {
-        wake(&mut self.rests);
-        self.log_changes(false, tables, along, moved, starts, notices);
+        self.kinds.wake_all();
+        self.log_changes(tables, along, moved, starts, notices);
     }
 
-    /// The same where units rest: reset lines, if all of them are as before, and slaves of which that was found.
+    /// The same where units rest: slaves and reset lines to which nothing happened.
     fn log_changes(
         &mut self,
-        lines: bool,
         tables: &Tables,
         along: &Along,
         moved: &mut BoundedList<Unit>,
@@ -154,9 +147,31 @@ impl Caches {
         requires room { HasRoom tables.now.fixed.topology self.old moved.old starts.old notices.old }
         requires chosen { AreChosen tables.now self.old }
         requires settled { AreSettled (value_by tables.now.fixed tables.now.now.core)
-            (freed_by self.old.used.items tables.now.now.core.rows) lines self.old.rests.items self.old.kinds.items
+            (freed_by self.old.used.items tables.now.now.core.rows) self.old.kinds.awake self.old.kinds.items
             self.old.values }
         ensures kept { AreKept tables.now self.new }
+        ensures found { Finds tables.now along.now.downs self.old moved.old moved.new starts.old starts.new
+            notices.old notices.new }
+    {
+        self.log_values(tables, along, moved, starts, notices);
+        log_uses(tables, &mut self.used);
+    }
+
+    /// The same but for whether slaves are used, which stays as it is kept.
+    fn log_values(
+        &mut self,
+        tables: &Tables,
+        along: &Along,
+        moved: &mut BoundedList<Unit>,
+        starts: &mut BoundedList<Start>,
+        notices: &mut BoundedList<Waiting>,
+    )
+        requires room { HasRoom tables.now.fixed.topology self.old moved.old starts.old notices.old }
+        requires chosen { AreChosen tables.now self.old }
+        requires settled { AreSettled (value_by tables.now.fixed tables.now.now.core)
+            (freed_by self.old.used.items tables.now.now.core.rows) self.old.kinds.awake self.old.kinds.items
+            self.old.values }
+        ensures written { IsWritten tables.now self.old self.new }
         ensures found { Finds tables.now along.now.downs self.old moved.old moved.new starts.old starts.new
             notices.old notices.new }
     {
@@ -167,18 +182,16 @@ impl Caches {
         log_units(
             tables,
             along,
-            &self.kinds,
+            self.kinds.as_slice(),
+            self.kinds.awake(),
             &self.states,
             ups,
             &self.used,
-            lines,
-            &self.rests,
             &mut self.values,
             moved,
             starts,
             notices,
         );
-        log_uses(tables, &mut self.used);
     }
 
     /// The same after a step that may have touched so much, before which the masters had these modes: what it didn't touch
@@ -208,8 +221,8 @@ impl Caches {
         }
     }
 
-    /// The same after a step that changed modes of processors, and rows of the masters whose mode turned: reset lines rest,
-    /// and so do the slaves on which none of these masters has a row.
+    /// The same after a step that changed modes of processors, and rows of the masters whose mode turned: reset lines and
+    /// the slaves on which none of these masters has a row may rest.
     fn follow_modes(
         &mut self,
         tables: &Tables,
@@ -226,28 +239,31 @@ impl Caches {
             notices.old notices.new }
     {
         self.choose_turned(tables, along, modes);
-        self.log_changes(true, tables, along, moved, starts, notices);
+        self.log_values(tables, along, moved, starts, notices);
+        log_turned_uses(tables, along, modes, &mut self.used);
     }
 
     /// Chooses the states of the slaves on which a master has a row whose mode turned, and finds which power nodes are up by
-    /// that and by the processors that run. All other slaves rest.
+    /// that and by the processors that run. All other slaves may rest.
     fn choose_turned(&mut self, tables: &Tables, along: &Along, modes: &[Mode])
         requires places { HasPlaces tables.now.fixed.topology self.old }
         requires of_modes { IsOfModes modes.now tables.now along.now self.old }
         ensures chosen { IsChosen tables.now self.old self.new }
-        ensures rests { (s : ℕ) → slave_rests self.new.rests.items (Slave s) ≡ true
+        ensures calm { MayRest self.new.kinds.items (length self.new.kinds.items) self.new.kinds.awake }
+        ensures rests { (k s : ℕ) → slice_get self.new.kinds.items k ≡ Some (Entry (Slave s))
+            → rests_at self.new.kinds.awake k ≡ true
             → is_among (turned modes.now along.now.modes) tables.now.now.core.rows.entries s ≡ false }
     {
         choose_turned(
             tables,
             along,
             modes,
+            &mut self.kinds,
             &mut self.states,
             &mut self.needs,
-            &mut self.rests,
+            &mut self.power,
         );
-        log_runs(tables, &mut self.runs);
-        self.power.recompute(&self.needs, &self.runs);
+        follow_runs(tables, &mut self.runs, &mut self.power);
     }
 
     /// The same after a step that changed the rows on one slave alone: where that rests, all values do.
@@ -313,10 +329,8 @@ impl Caches {
         requires rows { IsBefore s tables.now self.old }
         ensures { IsChosen tables.now self.old self.new }
     {
-        kinds_are_exact();
-        let _chip = tables.topology();
         let need = choose_one(tables, s, slave, &mut self.states, &mut self.needs);
-        set_need::<Brand>(&mut self.power, slave.node, need, Blank::new(1));
+        self.power.put(s, need);
     }
 
     /// Writes the value of the slave at a place, which has this number, and whether it is used, puts it into `moved` if
@@ -363,26 +377,6 @@ impl Caches {
     {
         state_of(tables, s) == at_or(&self.states, s, 0)
             && !freed(UnitKind::Entry(Kind::Slave(s)), &self.used, tables.rows())
-    }
-}
-
-/// The kind of each of these units.
-fn kinds_of(alloc: Global, t: &Topology, units: &[Unit]) -> Result<Vec<UnitKind>, NoMemory>
-    ensures { IfOk result (λ kinds. kinds.items ≡ map (kind_of_unit t.now) units.now) }
-{
-    let mut kinds = Vec::new(alloc);
-    for unit in units {
-        kinds.push(kind_of_unit(t, *unit)).map_err(|_| NoMemory)?;
-    }
-    Ok(kinds)
-}
-
-fn kind_of_unit(t: &Topology, unit: Unit) -> UnitKind
-    ensures { result ≡ kind_of_unit t.now unit }
-{
-    match unit {
-        Unit::Node(node) => UnitKind::Entry(t.kind(node)),
-        Unit::Line(line) => UnitKind::Reset(t.line_place(line)),
     }
 }
 

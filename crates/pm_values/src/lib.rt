@@ -5,6 +5,7 @@
 mod along;
 mod caches;
 mod choice;
+mod kinds;
 mod laws;
 mod moves;
 mod needs;

@@ -1,13 +1,14 @@
 //! Which units a step moves, and what happens to them.
 
-ghost use Rattle.std.specs.Prelude.{◌≡◌, ◌+◌, ◌<◌, ◌≤◌, ◌++◌, [], length, slice_get, true};
+ghost use Rattle.std.specs.Prelude.{◌≡◌, ◌+◌, ◌<◌, ◌≤◌, ◌++◌, length, slice_get};
 ghost use Rattle.pm_topology.specs.UnitMap.{with_value_at};
-ghost use Rattle.pm_values.specs.Caches.{AreSettled, freed_by, is_resting, is_settled, kind_value, moved_at, moved_by, noticed_at, noticed_by, revalued, started_at, starts_by, unit_value};
+ghost use Rattle.pm_values.specs.Caches.{AreSettled, freed_by, is_settled, kind_value, moved_at, moved_by, noticed_at, noticed_by, revalued, started_at, starts_by, unit_value};
 ghost use Rattle.pm_values.specs.Notifications.{notice_count};
 ghost use Rattle.pm_state.specs.Values.{line_at};
 
 use crate::along::Along;
 use crate::caches::UnitKind;
+use crate::kinds::{past_group, rests_at};
 use crate::notifications::{freed, log_notice};
 use crate::starts::{Start, log_start};
 use pm_base::{BoundedList, Unit, at_or};
@@ -25,18 +26,17 @@ pub(crate) fn log_units(
     tables: &Tables,
     along: &Along,
     kinds: &[UnitKind],
+    awake: &[bool],
     states: &[u32],
     ups: &[bool],
     used: &[bool],
-    lines: bool,
-    rests: &[bool],
     values: &mut UnitMap<u32>,
     moved: &mut BoundedList<Unit>,
     starts: &mut BoundedList<Start>,
     notices: &mut BoundedList<Waiting>,
 )
     requires settled { AreSettled (unit_value states.now tables.now.now.core.procs ups.now tables.now.now.core.lines)
-        (freed_by used.now tables.now.now.core.rows) lines rests.now kinds.now values.old }
+        (freed_by used.now tables.now.now.core.rows) awake.now kinds.now values.old }
     requires places { length kinds.now ≡ length values.old }
     requires room { length moved.old.items + length values.old ≤ moved.old.room }
     requires starts { length starts.old.items
@@ -63,31 +63,24 @@ pub(crate) fn log_units(
     let procs = tables.procs();
     let resets = tables.resets();
     let rows = tables.rows();
-    for (k, kind) in kinds.iter().enumerate() {
-        let resting = is_resting(*kind, lines, rests);
-        log_kind(
-            k, *kind, resting, along, states, procs, ups, resets, used, rows, values, moved,
-            starts, notices,
-        );
+    let mut k = 0;
+    while k < kinds.len() {
+        if rests_at(awake, k) {
+            k = past_group(k, kinds.len());
+        } else {
+            log_kind(
+                k, kinds[k], along, states, procs, ups, resets, used, rows, values, moved, starts,
+                notices,
+            );
+            k += 1;
+        }
     }
 }
 
-/// Whether a unit rests, as it was found of slaves, and of all reset lines.
-fn is_resting(kind: UnitKind, lines: bool, rests: &[bool]) -> bool
-    ensures { result ≡ is_resting lines rests.now kind }
-{
-    match kind {
-        UnitKind::Entry(Kind::Slave(s)) => at_or(rests, s, false),
-        UnitKind::Entry(Kind::Proc(_) | Kind::Power(_) | Kind::Unknown) => false,
-        UnitKind::Reset(_) => lines,
-    }
-}
-
-/// The same of the unit at a place, of this kind: where it rests nothing is looked up.
+/// The same of the unit at a place, of this kind.
 fn log_kind(
     k: usize,
     kind: UnitKind,
-    resting: bool,
     along: &Along,
     states: &[u32],
     procs: &Procs,
@@ -100,10 +93,6 @@ fn log_kind(
     starts: &mut BoundedList<Start>,
     notices: &mut BoundedList<Waiting>,
 )
-    requires settled { resting ≡ true
-        → is_settled (unit_value states.now procs.now.procs ups.now resets.now kind) (freed_by used.now rows.now kind)
-        (slice_get values.old k) ≡ true }
-    requires still { resting ≡ true → started_at along.now.downs procs.now.procs kind (slice_get values.old k) ≡ [] }
     requires room { length moved.old.items < moved.old.room }
     requires starts { length starts.old.items
         + length (started_at along.now.downs procs.now.procs kind (slice_get values.old k)) ≤ starts.old.room }
@@ -124,9 +113,6 @@ fn log_kind(
     } }
     ensures few { length notices.new.items ≤ length notices.old.items + 2 }
 {
-    if resting {
-        return;
-    }
     log_start(along, kind, procs, k, values, starts);
     let value = unit_value(kind, states, procs, ups, resets);
     let freed = freed(kind, used, rows);

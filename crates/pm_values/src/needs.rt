@@ -1,21 +1,22 @@
 //! What each slave and each processor needs.
 
-ghost use Rattle.std.specs.Prelude.{◌≡◌, ◌<◌, Some, ℕ, false, true, if◌then◌else◌, length, replicate, slice_get, slice_set};
+ghost use Rattle.std.specs.Prelude.{◌≡◌, ◌<◌, Some, ℕ, false, true, length, slice_get, slice_set};
 ghost use Rattle.pm_topology.specs.declared.places.Kind.TheVariants.{Slave};
-ghost use Rattle.pm_values.specs.Caches.{renewed, renewed_at, slave_rests};
+ghost use Rattle.pm_values.specs.Caches.{FollowNeeds, FollowRuns, renewed, renewed_at};
+ghost use Rattle.pm_values.specs.declared.caches.UnitKind.TheVariants.{Entry};
+ghost use Rattle.pm_values.specs.Kinds.{MayRest, rests_at};
 ghost use Rattle.pm_values.specs.Touches.{is_among, turned};
 ghost use Rattle.std.specs.Option.{option_copied};
-ghost use Rattle.pm_power.specs.Needs.{set_need};
 ghost use Rattle.pm_state.specs.Values.{state_at, placed, chosen, need_of, run_of};
 
 use crate::along::Along;
 use crate::choice::chosen_state;
-use pm_base::{Mode, NodeId, Steps, at_or};
+use crate::kinds::Kinds;
+use pm_base::{Mode, at_or};
 use pm_power::Power;
 use pm_procs::{is_awake, same_mode};
 use pm_state::Tables;
 use pm_topology::{SlaveDef, needs_in};
-use std::sync::ledger::{Blank, Ledger};
 
 /// The slave at a place.
 pub(crate) fn slave_at(slaves: &[SlaveDef], place: usize) -> Option<&SlaveDef>
@@ -72,104 +73,103 @@ pub(crate) fn choose_one(
 }
 
 /// Chooses the states of the slaves on which a master has a row whose mode turned, and whether they need their power nodes
-/// then. All other slaves rest.
+/// then, which follow that. All other slaves may rest.
 pub(crate) fn choose_turned(
     tables: &Tables,
     along: &Along,
     modes: &[Mode],
+    kinds: &mut Kinds,
     states: &mut [u32],
     needs: &mut [bool],
-    rests: &mut [bool],
+    power: &mut Power,
 )
     requires states { length states.old ≡ length tables.now.fixed.topology.slaves }
     requires needs { length needs.old ≡ length tables.now.fixed.topology.slaves }
+    ensures power { FollowNeeds needs.old needs.new power.old power.new }
     ensures states { states.new
         ≡ renewed (is_among (turned modes.now along.now.modes) tables.now.now.core.rows.entries)
         (chosen tables.now.now.core) 0 tables.now.fixed.topology.slaves states.old }
     ensures needs { needs.new
         ≡ renewed (is_among (turned modes.now along.now.modes) tables.now.now.core.rows.entries)
         (need_of tables.now.now.core) 0 tables.now.fixed.topology.slaves needs.old }
-    ensures places { length rests.new ≡ length rests.old }
-    ensures rests { (s : ℕ) → slave_rests rests.new (Slave s) ≡ true
+    ensures kinds { kinds.new.items ≡ kinds.old.items }
+    ensures calm { MayRest kinds.old.items (length kinds.old.items) kinds.new.awake }
+    ensures rests { (k s : ℕ) → slice_get kinds.old.items k ≡ Some (Entry (Slave s)) → rests_at kinds.new.awake k ≡ true
         → is_among (turned modes.now along.now.modes) tables.now.now.core.rows.entries s ≡ false }
 {
-    rest(rests);
+    kinds.rest();
     for k in 0..tables.rows().len() {
         let seed = tables.rows().entry(k).seed;
         let turns = has_turned(along, modes, seed.master);
-        choose_if(tables, turns, seed.slave, states, needs, rests);
+        choose_if(tables, turns, seed.slave, kinds, states, needs, power);
     }
 }
 
 /// Whether the mode of a master isn't the one before.
-fn has_turned(along: &Along, modes: &[Mode], m: usize) -> bool
+pub(crate) fn has_turned(along: &Along, modes: &[Mode], m: usize) -> bool
     ensures { result ≡ turned modes.now along.now.modes m }
 {
     !same_mode(at_or(modes, m, Mode::Off), along.mode(m))
 }
 
-/// All slaves rest.
-fn rest(rests: &mut [bool])
-    ensures { length rests.new ≡ length rests.old }
-{
-    rests.fill(true);
-}
-
-/// No slave rests.
-pub(crate) fn wake(rests: &mut [bool])
-    ensures { rests.new ≡ replicate (length rests.old) false }
-{
-    rests.fill(false);
-}
-
-/// The state of the slave at a place, if it is asked for, and whether it needs its power node then. It doesn't rest.
+/// The state of the slave at a place, if it is asked for, and whether it needs its power node then, which follows that. It
+/// doesn't rest.
 fn choose_if(
     tables: &Tables,
     asked: bool,
     s: usize,
+    kinds: &mut Kinds,
     states: &mut [u32],
     needs: &mut [bool],
-    rests: &mut [bool],
+    power: &mut Power,
 )
     requires states { length states.old ≡ length tables.now.fixed.topology.slaves }
     requires needs { length needs.old ≡ length tables.now.fixed.topology.slaves }
+    ensures power { FollowNeeds needs.old needs.new power.old power.new }
     ensures states { states.new ≡ renewed_at asked (chosen tables.now.now.core) s
         (slice_get tables.now.fixed.topology.slaves s) states.old }
     ensures needs { needs.new ≡ renewed_at asked (need_of tables.now.now.core) s
         (slice_get tables.now.fixed.topology.slaves s) needs.old }
-    ensures rests { rests.new ≡ (if asked then slice_set rests.old s false else rests.old) }
+    ensures kinds { kinds.new.items ≡ kinds.old.items }
+    ensures woken { asked ≡ true → (k : ℕ) → slice_get kinds.old.items k ≡ Some (Entry (Slave s))
+        → rests_at kinds.new.awake k ≡ false }
+    ensures others { (k : ℕ) → rests_at kinds.new.awake k ≡ true → rests_at kinds.old.awake k ≡ true }
 {
     if !asked {
         return;
     }
-    if s < rests.len() {
-        rests[s] = false;
-    }
-    choose_at(tables, s, states, needs);
+    kinds.wake(s);
+    choose_at(tables, s, states, needs, power);
 }
 
-/// The state of the slave at a place, if there is one, and whether it needs its power node then.
-fn choose_at(tables: &Tables, s: usize, states: &mut [u32], needs: &mut [bool])
+/// The state of the slave at a place, if there is one, and whether it needs its power node then, which follows that.
+fn choose_at(tables: &Tables, s: usize, states: &mut [u32], needs: &mut [bool], power: &mut Power)
     requires states { length states.old ≡ length tables.now.fixed.topology.slaves }
     requires needs { length needs.old ≡ length tables.now.fixed.topology.slaves }
+    ensures power { FollowNeeds needs.old needs.new power.old power.new }
     ensures states { states.new ≡ renewed_at true (chosen tables.now.now.core) s
         (slice_get tables.now.fixed.topology.slaves s) states.old }
     ensures needs { needs.new ≡ renewed_at true (need_of tables.now.now.core) s
         (slice_get tables.now.fixed.topology.slaves s) needs.old }
 {
     if let Some(slave) = slave_at(tables.topology().slaves.as_slice(), s) {
-        choose_one(tables, s, slave, states, needs);
+        let need = choose_one(tables, s, slave, states, needs);
+        power.put(s, need);
     }
 }
 
-/// Sets whether a slave needs its power node, with a counter that is thrown away.
-pub(crate) fn set_need<L: Ledger>(power: &mut Power, node: NodeId, need: bool, blank: Blank)
-    requires name { blank.name ≡ L.name }
-    requires parts { blank.parts ≡ L.parts }
-    requires some { 0 < blank.parts }
-    ensures { power.new ≡ set_need node need power.old }
+/// Writes whether each processor runs, and so needs its power node, which follows that.
+pub(crate) fn follow_runs(tables: &Tables, runs: &mut [bool], power: &mut Power)
+    requires { length runs.old ≡ length tables.now.fixed.topology.procs }
+    ensures runs { runs.new ≡ placed (run_of tables.now.now.core) 0 tables.now.fixed.topology.procs }
+    ensures power { FollowRuns (length tables.now.fixed.topology.slaves) runs.old runs.new power.old power.new }
 {
-    power.need(node, need, &mut Steps::<L>::new(blank));
+    let t = tables.topology();
+    for p in 0..t.procs.len() {
+        let run = is_awake(tables.procs().mode(p));
+        runs[p] = run;
+        power.put(t.slaves.len() + p, run);
+    }
 }
 
 /// Writes whether each processor runs, and so needs its power node.

@@ -1,12 +1,15 @@
 //! What happens to nodes in a step: which change, and which have no users any more.
 
-ghost use Rattle.std.specs.Prelude.{◌≡◌, ◌+◌, ◌<◌, ◌≤◌, ◌++◌, length, slice_set};
-ghost use Rattle.pm_values.specs.Caches.{freed_by, noticed_at, use_of};
+ghost use Rattle.std.specs.Prelude.{◌≡◌, ◌+◌, ◌<◌, ◌≤◌, ◌++◌, length, slice_get, slice_set};
+ghost use Rattle.pm_values.specs.Caches.{freed_by, noticed_at, renewed, renewed_at, use_of};
+ghost use Rattle.pm_values.specs.Touches.{is_among, turned};
 ghost use Rattle.pm_values.specs.Notifications as spec;
 ghost use Rattle.pm_state.specs.Values.{placed};
 
+use crate::along::Along;
 use crate::caches::UnitKind;
-use pm_base::{BoundedList, NodeId, Unit, at_or};
+use crate::needs::has_turned;
+use pm_base::{BoundedList, Mode, NodeId, Unit, at_or};
 use pm_notify::{Note, Waiting};
 use pm_rows::Rows;
 use pm_state::Tables;
@@ -75,5 +78,29 @@ pub(crate) fn log_use(tables: &Tables, s: usize, used: &mut [bool])
 {
     if s < used.len() {
         used[s] = is_used(s, tables.rows());
+    }
+}
+
+/// Writes whether some master uses each slave on which a master has a row whose mode turned.
+pub(crate) fn log_turned_uses(tables: &Tables, along: &Along, modes: &[Mode], used: &mut [bool])
+    requires { length used.old ≡ length tables.now.fixed.topology.slaves }
+    ensures { used.new ≡ renewed (is_among (turned modes.now along.now.modes) tables.now.now.core.rows.entries)
+        (use_of tables.now.now.core) 0 tables.now.fixed.topology.slaves used.old }
+{
+    for k in 0..tables.rows().len() {
+        let seed = tables.rows().entry(k).seed;
+        let turns = has_turned(along, modes, seed.master);
+        log_use_if(tables, turns, seed.slave, used);
+    }
+}
+
+/// The same of the slave at a place, if it is asked for.
+fn log_use_if(tables: &Tables, asked: bool, s: usize, used: &mut [bool])
+    requires { length used.old ≡ length tables.now.fixed.topology.slaves }
+    ensures { used.new ≡ renewed_at asked (use_of tables.now.now.core) s
+        (slice_get tables.now.fixed.topology.slaves s) used.old }
+{
+    if asked {
+        log_use(tables, s, used);
     }
 }

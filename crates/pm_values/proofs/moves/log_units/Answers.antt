@@ -1,50 +1,51 @@
-use Rattle.std.proofs.Common.{◌≡◌, ℕ, Bool, ◌+◌, ◌<◌, ◌≤◌, ◌++◌, List, length, take, drop, get_or, slice_get, Some, sym, ◌∙◌, ap, subst, arith}
+use Rattle.std.proofs.Common.{◌≡◌, ℕ, Bool, true, ◌+◌, ◌<◌, ◌≤◌, ◌++◌, List, length, take, drop, get_or, slice_get, Some, sym, ◌∙◌, ap, subst, arith}
 use Rattle.std.proofs.lemmas.List.{length-append, length-drop}
 use Rattle.std.proofs.lemmas.Option.{slice_get-get_or}
 use Rattle.std.proofs.lemmas.Grind.{drop_more_same}
 use Rattle.pm_rows.specs.Rows.{Rows}
-use Rattle.pm_values.proofs.SettledLaw.{rest_starts, same_ahead}
 use Rattle.pm_base.specs.declared.names.Unit.{Unit}
 use Rattle.pm_values.specs.declared.caches.UnitKind.{UnitKind}
 use Rattle.pm_values.specs.declared.caches.UnitKind.TheVariants.{Entry}
 use Rattle.pm_topology.specs.declared.places.Kind.TheVariants.{Proc}
 use Rattle.pm_topology.specs.UnitMap.{with_value_at}
 use Rattle.pm_values.specs.Caches.{freed_by, is_settled, revalued, moved_at, moved_by, noticed_at, noticed_by, starts_by, unit_value}
+use Rattle.pm_values.specs.Kinds.{rests_at}
 use Rattle.pm_base.specs.BoundedList.{Bounded}
+use Rattle.pm_values.proofs.KindsLaw.{rests_alike}
 use Rattle.pm_values.proofs.MovesLemmas.{length-written, length-moved_at, values_step, moves_step, left_written}
 use Rattle.pm_values.proofs.NoticesLaw.{noticed_step}
 use Rattle.pm_values.proofs.StartsLaw.{starts_fit, starts_step}
+use Rattle.pm_values.proofs.UnderWay.{passed}
 use Rattle.pm_values.specs.declared.starts.Start.{Start}
 use Rattle.pm_procs.specs.declared.procs.Proc.{Proc as Processor}
 use Rattle.pm_notify.specs.declared.notes.Waiting.{Waiting}
 use Rattle.pm_values.proofs.moves.log_units.Goals as goal
 
-pub log_kind-requires-clause-settled : goal.log_kind-requires-clause-settled
-log_kind-requires-clause-settled c =
-    let k = c.loop-k.k in
+-- a group that rests is passed over
+pub loop-k-preserved-then-rests_at : goal.loop-k-preserved-then-rests_at
+loop-k-preserved-then-rests_at c =
     let kinds = c.args.kinds.now in
-    let kind : UnitKind = get_or kinds k (Entry (Proc 0)) in
-    let at : slice_get kinds k ≡ Some kind = slice_get-get_or kinds k (Entry (Proc 0)) c.loop-k-test.true in
+    let k = c.loop-k.k in
     let states = c.args.states.now in
     let ups = c.args.ups.now in
     let used = c.args.used.now in
     let core = c.args.tables.now.now.core in
     let procs = c.procs-procs.result.now.procs in
     let lines = c.resets-resets.result.now in
-    let entry = slice_get c.args.values.now k in
-    λ is.
-    ap (is_settled (unit_value states procs ups lines kind) (freed_by used c.rows-rows.result.now kind)) (same_ahead c.loop-k.values c.args.values.now k c.loop-k.invariant.ahead)
-    ∙ (ap (λ (ps : List Processor). is_settled (unit_value states ps ups lines kind) (freed_by used c.rows-rows.result.now kind) entry) c.procs-procs.ensures.procs
-    ∙ (ap (λ (ls : List Bool). is_settled (unit_value states core.procs ups ls kind) (freed_by used c.rows-rows.result.now kind) entry) c.resets-resets.ensures
-    ∙ (ap (λ (rs : Rows). is_settled (unit_value states core.procs ups core.lines kind) (freed_by used rs kind) entry) c.rows-rows.ensures
-    ∙ c.requires.settled k kind at (sym c.is_resting-resting.ensures ∙ is))))
-
-pub log_kind-requires-clause-still : goal.log_kind-requires-clause-still
-log_kind-requires-clause-still c =
-    let kind : UnitKind = get_or c.args.kinds.now c.loop-k.k (Entry (Proc 0)) in
-    λ is.
-    rest_starts c.args.along.now.downs c.procs-procs.result.now.procs c.args.lines c.args.rests.now kind (slice_get c.loop-k.values c.loop-k.k)
-    (sym c.is_resting-resting.ensures ∙ is)
+    let rows = c.rows-rows.result.now in
+    let here : rests_at c.args.awake.now k ≡ true = sym c.rests_at.ensures ∙ c.if-rests_at.true in
+    passed (unit_value states procs ups lines) (freed_by used rows) c.args.along.now.downs procs kinds c.args.values.now c.args.moved.now c.args.starts.now c.args.notices.now
+    c.loop-k.values c.loop-k.moved c.loop-k.starts c.loop-k.notices k c.past_group-k.result c.past_group-k.ensures.more c.past_group-k.ensures.most
+    (λ j kind from to at.
+    let still = c.requires.settled j kind at (rests_alike c.args.awake.now k j (c.past_group-k.ensures.same j from to) here) in
+    let entry = slice_get c.args.values.now j in (
+      still.0,
+      ap (λ (ps : List Processor). is_settled (unit_value states ps ups lines kind) (freed_by used rows kind) entry) c.procs-procs.ensures.procs
+          ∙ (ap (λ (ls : List Bool). is_settled (unit_value states core.procs ups ls kind) (freed_by used rows kind) entry) c.resets-resets.ensures
+          ∙ (ap (λ (rs : Rows). is_settled (unit_value states core.procs ups core.lines kind) (freed_by used rs kind) entry) c.rows-rows.ensures
+          ∙ still.1)),
+    ))
+    c.loop-k.invariant
 
 pub log_kind-requires-clause-starts : goal.log_kind-requires-clause-starts
 log_kind-requires-clause-starts c =
@@ -60,7 +61,8 @@ log_kind-requires-clause-starts c =
     in
     let both : length (c.args.starts.now.items ++ all) ≡ length c.args.starts.now.items + length all = length-append c.args.starts.now.items all in
     let fits : length (c.args.starts.now.items ++ all) ≤ c.loop-k.starts.room = omega (arith, c.requires.starts, c.loop-k.invariant.free) in
-    starts_fit downs procs kinds k kind c.loop-k.values c.loop-k.starts.items _ c.loop-k.starts.room at (omega arith) c.loop-k.invariant.started fits
+    let within : k < length c.loop-k.values = omega (arith, c.loop-k-test.true, c.loop-k.invariant.places) in
+    starts_fit downs procs kinds k kind c.loop-k.values c.loop-k.starts.items _ c.loop-k.starts.room at within c.loop-k.invariant.started fits
 
 pub loop-k-preserved : goal.loop-k-preserved
 loop-k-preserved c =
@@ -77,12 +79,12 @@ loop-k-preserved c =
     let found : c.log_kind.new.notices.items ≡ c.loop-k.notices.items ++ noticed_at (new kind) (freed kind) (slice_get c.loop-k.values k) =
     ap (λ (s : Bounded Waiting). s.items) c.log_kind.ensures.notices
     in
+    let within : k < length c.loop-k.values = omega (arith, c.loop-k-test.true, c.loop-k.invariant.places) in
     let noticed : c.log_kind.new.notices.items ++ noticed_by new freed (drop (k + 1) kinds) (drop (k + 1) c.loop-k.values) ≡ c.args.notices.now.items ++ noticed_by new freed kinds c.args.values.now =
-    noticed_step new freed kinds k kind c.loop-k.values c.loop-k.notices.items c.log_kind.new.notices.items _ at (omega arith) found c.loop-k.invariant.noticed
+    noticed_step new freed kinds k kind c.loop-k.values c.loop-k.notices.items c.log_kind.new.notices.items _ at within found c.loop-k.invariant.noticed
     in
     let Noticed : List (Unit × ℕ) → Type 0 = λ es. c.log_kind.new.notices.items ++ noticed_by new freed (drop (k + 1) kinds) es ≡ c.args.notices.now.items ++ noticed_by new freed kinds c.args.values.now in
     let places : length c.log_kind.new.values ≡ length c.loop-k.values = ap length written ∙ length-written k (new kind) c.loop-k.values in
-    let within : k < length c.loop-k.values = omega arith in
     let room : c.log_kind.new.moved.room ≡ c.loop-k.moved.room = ap (λ (s : Bounded Unit). s.room) c.log_kind.ensures.moved in
     let more : length c.log_kind.new.moved.items ≤ length c.loop-k.moved.items + 1 = length-moved_at (new kind) _ c.loop-k.moved.items c.log_kind.new.moved.items moved in
     let Values : List (Unit × ℕ) → Type 0 = λ es. take (k + 1) es ++ revalued new (drop (k + 1) kinds) (drop (k + 1) es) ≡ revalued new kinds c.args.values.now in
@@ -96,13 +98,14 @@ loop-k-preserved c =
     in
     let Started : List (Unit × ℕ) → Type 0 = λ es. c.log_kind.new.starts.items ++ starts_by downs procs (drop (k + 1) kinds) es ≡ c.args.starts.now.items ++ starts_by downs procs kinds c.args.values.now in
     record {
+      most = omega (arith, c.loop-k-test.true);
       places = places ∙ c.loop-k.invariant.places;
       ahead = ap (drop (k + 1)) written
           ∙ (left_written k (new kind) c.loop-k.values ∙ drop_more_same c.loop-k.values c.args.values.now k c.loop-k.invariant.ahead);
       room = room ∙ c.loop-k.invariant.room;
-      count = omega (arith, length-drop k kinds, length-drop (k + 1) kinds, c.loop-k-test.true);
+      count = omega (arith, room, more, c.loop-k.invariant.count, length-drop k kinds, length-drop (k + 1) kinds, c.loop-k-test.true);
       written = subst Values (sym written) (values_step new kinds k kind c.loop-k.values _ at within c.loop-k.invariant.written);
-      moved = subst Moved (sym written) (subst Items (sym moved) (moves_step new kinds k kind c.loop-k.values c.loop-k.moved.items _ at within c.loop-k.invariant.moved));
+      moves = subst Moved (sym written) (subst Items (sym moved) (moves_step new kinds k kind c.loop-k.values c.loop-k.moved.items _ at within c.loop-k.invariant.moves));
       free = ap (λ (s : Bounded Start). s.room) c.log_kind.ensures.starts ∙ c.loop-k.invariant.free;
       started = subst Started (sym (ap (drop (k + 1)) written ∙ left_written k (new kind) c.loop-k.values)) started;
       told = ap (λ (s : Bounded Waiting). s.room) c.log_kind.ensures.notices ∙ c.loop-k.invariant.told;

@@ -1,15 +1,16 @@
-use Rattle.std.proofs.Common.{◌≡◌, ◌++◌, ℕ, Bool, true, false, List, length, take, drop, slice_get, refl, sym, ◌∙◌, ap}
-use Rattle.std.specs.Prelude.{unwrap_or}
-use Rattle.pm_state.specs.Values.{placed, chosen, need_of, run_of}
-use Rattle.pm_state.proofs.PlacedLemmas.{length-placed}
+use Rattle.std.proofs.Common.{◌≡◌, ◌++◌, ℕ, Bool, List, length, take, drop, slice_get, refl, subst, sym, ◌∙◌, ap}
+use Rattle.pm_state.specs.Values.{forest, placed, chosen, need_of, run_of}
 use Rattle.pm_values.specs.Caches.{renewed}
+use Rattle.pm_values.specs.declared.caches.UnitKind.{UnitKind}
+use Rattle.pm_values.specs.Kinds.{MayRest}
 use Rattle.pm_values.specs.Touches.{is_among, turned}
-use Rattle.pm_values.proofs.CachesLaw.{written_back, forest_is}
+use Rattle.pm_values.proofs.CachesLaw.{written_back}
+use Rattle.pm_values.proofs.FollowLaw.{followed_is}
 use Rattle.pm_values.proofs.ModesLaw.{chosen_same, needed_same}
 use Rattle.pm_values.proofs.RenewedLaw.{renewed_all}
 use Rattle.pm_values.proofs.caches.Caches.choose_turned.Goals as goal
 
-states_are : (c : goal.After-recompute) → take c.args.self.now.states.len (c.choose_turned.new.states ++ drop (length c.choose_turned.new.states) c.args.self.now.states.items) ≡ placed (chosen c.args.tables.now.now.core) 0 c.args.tables.now.fixed.topology.slaves
+states_are : (c : goal.After-self-3-1) → take c.args.self.now.states.len (c.choose_turned.new.states ++ drop (length c.choose_turned.new.states) c.args.self.now.states.items) ≡ placed (chosen c.args.tables.now.now.core) 0 c.args.tables.now.fixed.topology.slaves
 states_are c =
     let slaves = c.args.tables.now.fixed.topology.slaves in
     let core = c.args.tables.now.now.core in
@@ -21,7 +22,7 @@ states_are c =
     ∙ (ap (renewed test (chosen core) 0 slaves) (c.deref_mut.ensures.value ∙ of_modes.kept.states)
     ∙ renewed_all (chosen core) test (chosen of_modes.before) (chosen_same c.args.modes.now c.args.along.now.modes of_modes.before core of_modes.changes) 0 slaves))
 
-needs_are : (c : goal.After-recompute) → take c.args.self.now.needs.len (c.choose_turned.new.needs ++ drop (length c.choose_turned.new.needs) c.args.self.now.needs.items) ≡ placed (need_of c.args.tables.now.now.core) 0 c.args.tables.now.fixed.topology.slaves
+needs_are : (c : goal.After-self-3-1) → take c.args.self.now.needs.len (c.choose_turned.new.needs ++ drop (length c.choose_turned.new.needs) c.args.self.now.needs.items) ≡ placed (need_of c.args.tables.now.now.core) 0 c.args.tables.now.fixed.topology.slaves
 needs_are c =
     let slaves = c.args.tables.now.fixed.topology.slaves in
     let core = c.args.tables.now.now.core in
@@ -33,30 +34,44 @@ needs_are c =
     ∙ (ap (renewed test (need_of core) 0 slaves) (c.deref_mut-2.ensures.value ∙ of_modes.kept.needs)
     ∙ renewed_all (need_of core) test (need_of of_modes.before) (needed_same c.args.modes.now c.args.along.now.modes of_modes.before core of_modes.changes) 0 slaves))
 
-runs_are : (c : goal.After-recompute) → take c.args.self.now.runs.len (c.log_runs.new.runs ++ drop (length c.log_runs.new.runs) c.args.self.now.runs.items) ≡ placed (run_of c.args.tables.now.now.core) 0 c.args.tables.now.fixed.topology.procs
+runs_are : (c : goal.After-self-3-1) → take c.args.self.now.runs.len (c.follow_runs.new.runs ++ drop (length c.follow_runs.new.runs) c.args.self.now.runs.items) ≡ placed (run_of c.args.tables.now.now.core) 0 c.args.tables.now.fixed.topology.procs
 runs_are c =
-    let places : length c.log_runs.new.runs ≡ c.args.self.now.runs.len =
-    ap length c.log_runs.ensures ∙ (length-placed (run_of c.args.tables.now.now.core) 0 c.args.tables.now.fixed.topology.procs
-    ∙ (sym c.requires.places.runs ∙ (ap length (sym c.deref_mut-4.ensures.value) ∙ c.deref_mut-4.ensures.len)))
+    let places : length c.follow_runs.new.runs ≡ c.args.self.now.runs.len = c.follow_runs.auto.runs ∙ c.deref_mut-3.ensures.len in
+    written_back c.follow_runs.new.runs c.args.self.now.runs.items c.args.self.now.runs.len places ∙ c.follow_runs.ensures.runs
+
+followed : (c : goal.After-self-3-1) → c.follow_runs.new.power ≡ forest c.args.tables.now.fixed c.args.tables.now.now.core
+followed c =
+    let slaves = c.args.tables.now.fixed.topology.slaves in
+    let core = c.args.tables.now.now.core in
+    let of_modes = c.requires.of_modes in
+    let kept = of_modes.kept in
+    let test : ℕ → Bool = is_among (turned c.args.modes.now c.args.along.now.modes) core.rows.entries in
+    let needs : c.choose_turned.new.needs ≡ placed (need_of core) 0 slaves =
+    c.choose_turned.ensures.needs
+    ∙ (ap (renewed test (need_of core) 0 slaves) (c.deref_mut-2.ensures.value ∙ kept.needs)
+    ∙ renewed_all (need_of core) test (need_of of_modes.before) (needed_same c.args.modes.now c.args.along.now.modes of_modes.before core of_modes.changes) 0 slaves)
     in
-    written_back c.log_runs.new.runs c.args.self.now.runs.items c.args.self.now.runs.len places ∙ c.log_runs.ensures
+    followed_is c.args.tables.now.fixed of_modes.before core c.args.self.now.power c.choose_turned.new.power c.follow_runs.new.power
+    c.deref_mut-2.result.now c.choose_turned.new.needs c.deref_mut-3.result.now c.follow_runs.new.runs
+    kept.power (c.deref_mut-2.ensures.value ∙ kept.needs) (c.deref_mut-3.ensures.value ∙ kept.runs) c.choose_turned.ensures.power c.follow_runs.ensures.power
+    needs c.follow_runs.ensures.runs
 
 pub returns-clause-chosen : goal.returns-clause-chosen
 returns-clause-chosen c = record {
   states = states_are c;
   needs = needs_are c;
   runs = runs_are c;
-  power = c.recompute.ensures
-      ∙ forest_is c.args.tables.now.fixed c.args.tables.now.now.core c.args.self.now.power c.deref.result.now c.deref-2.result.now
-      (c.deref.ensures.value ∙ needs_are c) (c.deref-2.ensures.value ∙ runs_are c) c.requires.places.powers c.requires.places.children;
-  kinds = refl;
+  power = followed c;
+  kinds = c.choose_turned.ensures.kinds;
   used = refl;
   values = refl;
 }
 
+pub returns-clause-calm : goal.returns-clause-calm
+returns-clause-calm c =
+    let P : List UnitKind → Type 0 = λ ks. MayRest ks (length ks) c.choose_turned.new.kinds.awake in
+    subst P (sym c.choose_turned.ensures.kinds) c.choose_turned.ensures.calm
+
 pub returns-clause-rests : goal.returns-clause-rests
-returns-clause-rests c = λ s is.
-    let old = c.args.self.now.rests in
-    let places : length c.choose_turned.new.rests ≡ old.len = c.choose_turned.ensures.places ∙ c.deref_mut-3.ensures.len in
-    let same = written_back c.choose_turned.new.rests old.items old.len places in
-    c.choose_turned.ensures.rests s (ap (λ (rests : List Bool). unwrap_or (slice_get rests s) false) (sym same) ∙ is)
+returns-clause-rests c = λ k s there is.
+    c.choose_turned.ensures.rests k s (ap (λ (ks : List UnitKind). slice_get ks k) (sym c.choose_turned.ensures.kinds) ∙ there) is

@@ -1,12 +1,50 @@
-use Rattle.pm_values.proofs.CachesLaw.{chosen_room}
+use Rattle.std.proofs.Common.{◌≡◌, ◌++◌, ℕ, Bool, length, take, drop, sym, ◌∙◌, ap}
+use Rattle.pm_state.specs.Values.{placed}
+use Rattle.pm_values.specs.Caches.{renewed, use_of}
+use Rattle.pm_values.specs.Touches.{is_among, turned}
+use Rattle.pm_values.proofs.CachesLaw.{chosen_room, written_back}
 use Rattle.pm_values.proofs.ModesLaw.{modes_settled}
+use Rattle.pm_values.proofs.RenewedLaw.{renewed_all}
 use Rattle.pm_values.proofs.caches.Caches.follow_modes.Goals as goal
 
-pub log_changes-requires-clause-room : goal.log_changes-requires-clause-room
-log_changes-requires-clause-room c =
+pub log_values-requires-clause-room : goal.log_values-requires-clause-room
+log_values-requires-clause-room c =
     chosen_room c.args.tables.now c.args.self.now c.choose_turned.new.self c.args.moved.now c.args.starts.now c.args.notices.now c.requires.room c.choose_turned.ensures.chosen
 
-pub log_changes-requires-clause-settled : goal.log_changes-requires-clause-settled
-log_changes-requires-clause-settled c =
+pub log_values-requires-clause-settled : goal.log_values-requires-clause-settled
+log_values-requires-clause-settled c =
     modes_settled c.args.modes.now c.args.tables.now c.args.along.now c.args.self.now c.choose_turned.new.self c.requires.of_modes
-    c.choose_turned.ensures.chosen c.choose_turned.ensures.rests
+    c.choose_turned.ensures.chosen c.choose_turned.ensures.calm c.choose_turned.ensures.rests
+
+pub log_turned_uses-requires : goal.log_turned_uses-requires
+log_turned_uses-requires c =
+    ap length c.deref_mut.ensures.value
+    ∙ (ap (λ v. length v.items) c.log_values.ensures.written.used ∙ (ap length c.choose_turned.ensures.chosen.used ∙ c.requires.room.places.used))
+
+-- whether each slave is used is written, where a master has a row on it whose mode turned
+used_is : (c : goal.After-self-1) → take c.log_values.new.self.used.len (c.log_turned_uses.new.used ++ drop (length c.log_turned_uses.new.used) c.log_values.new.self.used.items) ≡ placed (use_of c.args.tables.now.now.core) 0 c.args.tables.now.fixed.topology.slaves
+used_is c =
+    let slaves = c.args.tables.now.fixed.topology.slaves in
+    let core = c.args.tables.now.now.core in
+    let of_modes = c.requires.of_modes in
+    let test : ℕ → Bool = is_among (turned c.args.modes.now c.args.along.now.modes) core.rows.entries in
+    let places : length c.log_turned_uses.new.used ≡ c.log_values.new.self.used.len = c.log_turned_uses.auto.used ∙ c.deref_mut.ensures.len in
+    written_back c.log_turned_uses.new.used c.log_values.new.self.used.items c.log_values.new.self.used.len places
+    ∙ (c.log_turned_uses.ensures
+    ∙ (ap (renewed test (use_of core) 0 slaves)
+    (c.deref_mut.ensures.value ∙ (ap (λ v. v.items) c.log_values.ensures.written.used ∙ (c.choose_turned.ensures.chosen.used ∙ of_modes.kept.used)))
+    ∙ renewed_all (use_of core) test (use_of of_modes.before) (λ s slave clear. sym (of_modes.changes.used s clear)) 0 slaves))
+
+pub returns-clause-kept : goal.returns-clause-kept
+returns-clause-kept c =
+    let written = c.log_values.ensures.written in
+    let chosen_by = c.choose_turned.ensures.chosen in
+    record {
+      kinds = ap (λ v. v.items) written.kinds ∙ (chosen_by.kinds ∙ c.requires.of_modes.kept.kinds);
+      states = ap (λ v. v.items) written.states ∙ chosen_by.states;
+      needs = ap (λ v. v.items) written.needs ∙ chosen_by.needs;
+      runs = ap (λ v. v.items) written.runs ∙ chosen_by.runs;
+      used = used_is c;
+      power = written.power ∙ chosen_by.power;
+      values = written.values;
+    }

@@ -1,7 +1,8 @@
-use Rattle.std.proofs.Common.{◌≡◌, Bool, false, List, length, ◌∙◌, sym, ap}
-use Rattle.pm_values.specs.Caches.{is_resting}
-use Rattle.pm_values.proofs.CachesLaw.{written_back}
-use Rattle.pm_values.proofs.ModesLaw.{none_rest}
+use Rattle.std.proofs.Common.{◌≡◌, ◌++◌, true, false, List, ◌∙◌, sym, ap}
+use Rattle.pm_base.specs.BoundedList.{Bounded}
+use Rattle.pm_base.specs.declared.names.Unit.{Unit}
+use Rattle.pm_values.specs.declared.caches.UnitKind.{UnitKind}
+use Rattle.pm_values.specs.Caches.{freed_by, moved_by, noticed_by, starts_by, value_by}
 use Rattle.pm_values.proofs.caches.Caches.log_all.Goals as goal
 
 pub log_changes-requires-clause-room : goal.log_changes-requires-clause-room
@@ -9,7 +10,7 @@ log_changes-requires-clause-room c =
     let room = c.requires.room in
     record {
       places = record {
-        kinds = room.places.kinds;
+        kinds = c.wake_all.ensures.items ∙ room.places.kinds;
         states = room.places.states;
         needs = room.places.needs;
         runs = room.places.runs;
@@ -32,16 +33,22 @@ log_changes-requires-clause-chosen c = record {
   power = c.requires.chosen.power;
 }
 
+-- no unit rests
 pub log_changes-requires-clause-settled : goal.log_changes-requires-clause-settled
 log_changes-requires-clause-settled c = λ k kind at is.
-    let old = c.args.self.now.rests in
-    let places : length c.wake.new.rests ≡ old.len = c.wake.auto.rests ∙ c.deref_mut.ensures.len in
-    let same = written_back c.wake.new.rests old.items old.len places in
-    let none = none_rest (length c.deref_mut.result.now) kind in
-    let no = ap (λ (rests : List Bool). is_resting false rests kind) (sym (same ∙ c.wake.ensures)) ∙ is in
-    cc
+    let no : false ≡ true = sym (c.wake_all.ensures.awake k) ∙ is in
+    (cc, cc)
 
 pub returns-clause-found : goal.returns-clause-found
 returns-clause-found c =
+    let book = c.args.tables.now in
+    let old = c.args.self.now in
     let found = c.log_changes.ensures.found in
-    record { moved = found.moved; starts = found.starts; notices = found.notices; few = found.few }
+    let same = c.wake_all.ensures.items in
+    let moved_to : List UnitKind → Bounded Unit = λ ks. record c.args.moved.now { items = c.args.moved.now.items ++ moved_by (value_by book.fixed book.now.core) ks old.values } in
+    record {
+      moved = found.moved ∙ ap moved_to same;
+      starts = found.starts ∙ ap (λ ks. record c.args.starts.now { items = starts_by c.args.along.now.downs book.now.core.procs ks old.values }) same;
+      notices = found.notices ∙ ap (λ ks. record c.args.notices.now { items = noticed_by (value_by book.fixed book.now.core) (freed_by old.used.items book.now.core.rows) ks old.values }) same;
+      few = found.few;
+    }
