@@ -4,6 +4,7 @@ pub mod CarryLemmas
 pub mod CountLemmas
 pub mod ExplainedLaw
 pub mod FailingLemmas
+pub mod FoundLemmas
 pub mod GapLemmas
 pub mod IdleLemmas
 pub mod LeftLemmas
@@ -30,5 +31,5 @@ pub mod TakesLemmas
 pub mod TurnsLemmas
 pub mod UnmarkedLemmas
 pub mod UsedLemmas
-pub mod UsersLemmas
+pub mod UsesLemmas
 pub mod VisitsLemmas

@@ -6,13 +6,14 @@ use Rattle.std.proofs.lemmas.List.{length-map}
 use Rattle.std.proofs.lemmas.Option.{same_Some, slice_get_cases, slice_get_within}
 use Rattle.pm_base.proofs.Searches.{position-first}
 use Rattle.pm_base.specs.declared.names.Unit.{Unit}
-use Rattle.pm_topology.specs.UnitMap.{TablePlaceLaws, all_at, place_of, set_entry, units_in, with_value, with_value_at}
+use Rattle.pm_topology.specs.declared.topology.Topology.{Topology}
+use Rattle.pm_topology.specs.UnitMap.{TablePlaceLaws, all_at, mapped, place_of, set_entry, units_in, with_value, with_value_at}
 use Rattle.pm_topology.specs.Units.{UnitLaws, rises, same_unit}
 use Rattle.pm_topology.proofs.UnitMapLaw.{set_nowhere}
 use Rattle.pm_apply.proofs.Below.{ChipLaws}
 use Rattle.pm_apply.specs.declared.kept.KeptValue.{KeptValue}
 use Rattle.pm_apply.specs.Places.{has_place}
-use Rattle.pm_apply.specs.Record.{Kept, idle, keep, kept_value, lags_in, mark, marked}
+use Rattle.pm_apply.specs.Record.{Kept, idle, keep, kept_of, lags_in, mark, marked, supplied}
 use Rattle.pm_apply.specs.Visits.{LagsNotAt, LagsWithin, Marks, Remakes, StandsElsewhere, with_mark}
 use Rattle.pm_apply.proofs.MarkingLemmas.{marks_one}
 use Rattle.pm_apply.proofs.MarksLemmas.{mark_stays}
@@ -36,12 +37,12 @@ lags_not kept places k lags none within =
     ]
 
 -- at first nothing lags
-pub none_listed : (units : List Unit) → LagsWithin [] (all_at idle units)
-none_listed [] k e here lag = cc
-none_listed (u ∷ units) zero e here lag =
-    let same : (u, idle) ≡ e = cc in
+pub none_listed : (t : Topology) (units : List Unit) → LagsWithin [] (mapped (supplied t) (all_at idle units))
+none_listed t [] k e here lag = cc
+none_listed t (u ∷ units) zero e here lag =
+    let same : (u, supplied t u idle) ≡ e = cc in
     absurd (both_ways e.1.lags (ap (λ (e : Unit × KeptValue). e.1.lags) (sym same)) lag)
-none_listed (u ∷ units) (suc k) e here lag = none_listed units k e here lag
+none_listed t (u ∷ units) (suc k) e here lag = none_listed t units k e here lag
 
 -- ---- a unit is marked
 
@@ -54,7 +55,7 @@ module _ (places : TablePlaceLaws KeptValue) where
   pub lags_marked : (u : Unit) (old : Kept) (place : ℕ) (listed now : List ℕ) → rises (units_in old) ≡ true → place_of old u ≡ Some place → LagsWithin listed old
       → ((k : ℕ) → has_place now k ≡ ((place == k) || has_place listed k)) → LagsWithin now (with_mark u old)
   lags_marked u old place listed now rising at lags has k e here lag =
-      let v : KeptValue = record { value = kept_value old u; lags = true } in
+      let v : KeptValue = record (kept_of old u) { lags = true } in
       let made : Option (Unit × KeptValue) = option_map (λ e. (e.0, v)) (slice_get old k) in
       let by_place : with_value_at place v old ≡ with_mark u old = places.by_unit u v old place rising at in
       let found : (if place == k then made else slice_get old k) ≡ Some e = sym (places.set place v old k) ∙ (ap (λ (kept : Kept). slice_get kept k) by_place ∙ here) in
@@ -71,7 +72,7 @@ set_length laws u v old = same_length (with_value u v old) old (laws.table.set_u
 -- a unit that isn't there isn't marked
 pub marks_nowhere : ChipLaws → (u : Unit) (old : Kept) → rises (units_in old) ≡ true → place_of old u ≡ None → Marks (u ∷ []) old old
 marks_nowhere laws u old rising none =
-    subst (Marks (u ∷ []) old) (sym (set_nowhere u (record { value = kept_value old u; lags = true }) old rising none)) (marks_one laws u old rising)
+    subst (Marks (u ∷ []) old) (sym (set_nowhere u (record (kept_of old u) { lags = true }) old rising none)) (marks_one laws u old rising)
 
 -- ---- a value is kept
 
@@ -94,7 +95,7 @@ lags_before u now (x ∷ old) same (suc k) e here lag = lags_before u now old (�
 pub lags_keep : UnitLaws → (u : Unit) (v : ℕ) (old : Kept) (listed : List ℕ) → rises (units_in old) ≡ true → LagsWithin listed old → LagsWithin listed (keep u v old)
 lags_keep laws u v old listed rising lags k e here lag =
     let was =
-    lags_before u (record { value = v; lags = lags_in old u }) old
+    lags_before u (record (kept_of old u) { value = v }) old
     (λ k e here is. ap (lags_in old) (sym (laws.same e.0 u is)) ∙ ap (λ (k : KeptValue). k.lags) (kept_at laws old k e rising here))
     k e here lag
     in

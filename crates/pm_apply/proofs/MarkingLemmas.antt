@@ -1,5 +1,5 @@
 -- Units are marked: nothing but their marks changes.
-use Rattle.std.proofs.Common.{◌≡◌, ℕ, ◌+◌, ◌==◌, Bool, true, false, not, ◌&&◌, if◌then◌else◌, Option, Some, List, [], ◌∷◌, ◌++◌, take, slice_get, refl, sym, ap, subst, ◌∙◌, ◌⊎◌, inl, inr, suc, arith}
+use Rattle.std.proofs.Common.{◌≡◌, ℕ, ◌+◌, Bool, true, false, ◌&&◌, if◌then◌else◌, Option, Some, List, [], ◌∷◌, ◌++◌, take, slice_get, refl, sym, ap, subst, ◌∙◌, ◌⊎◌, inl, inr, suc, arith}
 use Rattle.std.specs.Prelude.{is_some, unwrap_or}
 use Rattle.std.proofs.lemmas.Bool.{both_ways, or_cases}
 use Rattle.std.proofs.lemmas.List.{take_more}
@@ -14,22 +14,22 @@ use Rattle.pm_topology.specs.Units.{has_in, has_unit, rises, same_unit, units_of
 use Rattle.pm_apply.proofs.Below.{ChipLaws}
 use Rattle.pm_apply.specs.declared.kept.KeptValue.{KeptValue}
 use Rattle.pm_apply.specs.Carried.{DifferencesAreMarked}
-use Rattle.pm_apply.specs.Record.{Kept, IsRecordOf, idle, kept_value, lags_in, mark, marked}
+use Rattle.pm_apply.specs.Record.{Kept, IsRecordOf, idle, kept_of, kept_value, lags_in, mark, marked, supply_in}
 use Rattle.pm_apply.specs.Visits.{IsReady, Marks, with_mark, pulsed}
-use Rattle.pm_apply.proofs.RecordLemmas.{kept_value-marked, units_in-marked}
+use Rattle.pm_apply.proofs.RecordLemmas.{kept_value-marked, supply_in-marked, units_in-marked}
 use Rattle.pm_apply.proofs.VisitsLemmas.{kept_at}
 
 -- ---- one unit
 
 -- a mark is made anew from the value, which stays
-marked_entry : (values : Unit → ℕ) (u : Unit) (now : KeptValue) (e : Unit × KeptValue) → (same_unit e.0 u ≡ true → e.1.value ≡ now.value) → remade (mark values) (set_entry u now e) ≡ remade (mark values) e
+marked_entry : (values : Unit → ℕ) (u : Unit) (now : KeptValue) (e : Unit × KeptValue) → (same_unit e.0 u ≡ true → mark values e.0 now ≡ mark values e.0 e.1) → remade (mark values) (set_entry u now e) ≡ remade (mark values) e
 marked_entry values u now e same = at (same_unit e.0 u) refl
   where
     at : (is : Bool) → same_unit e.0 u ≡ is → remade (mark values) (if is then (e.0, now) else e) ≡ remade (mark values) e
-    at true is = ap (λ v. (e.0, record { value = v; lags = not (v == values e.0) })) (sym (same is))
+    at true is = ap (λ (k : KeptValue). (e.0, k)) (same is)
     at false is = refl
 
-marked_set : (values : Unit → ℕ) (u : Unit) (now : KeptValue) (kept : Kept) → ((k : ℕ) (e : Unit × KeptValue) → slice_get kept k ≡ Some e → same_unit e.0 u ≡ true → e.1.value ≡ now.value) → marked values (with_value u now kept) ≡ marked values kept
+marked_set : (values : Unit → ℕ) (u : Unit) (now : KeptValue) (kept : Kept) → ((k : ℕ) (e : Unit × KeptValue) → slice_get kept k ≡ Some e → same_unit e.0 u ≡ true → mark values e.0 now ≡ mark values e.0 e.1) → marked values (with_value u now kept) ≡ marked values kept
 marked_set values u now [] same = refl
 marked_set values u now (e ∷ kept) same =
     let first = marked_entry values u now e (same 0 e refl) in
@@ -39,19 +39,19 @@ marked_set values u now (e ∷ kept) same =
 module _ (laws : ChipLaws) (u : Unit) (kept : Kept) (rising : rises (units_in kept) ≡ true) where
   with_mark_alike : (values : Unit → ℕ) → marked values (with_mark u kept) ≡ marked values kept
   with_mark_alike values =
-      marked_set values u (record { value = kept_value kept u; lags = true }) kept
-      (λ k e here is. ap (λ (k : KeptValue). k.value) (sym (kept_at laws.units kept k e rising here)) ∙ ap (kept_value kept) (laws.units.same e.0 u is))
+      marked_set values u (record (kept_of kept u) { lags = true }) kept
+      (λ k e here is. ap (λ (k : KeptValue). mark values e.0 (record k { lags = true })) (ap (kept_of kept) (sym (laws.units.same e.0 u is)) ∙ kept_at laws.units kept k e rising here))
 
   lags_then : (x : Unit) (same has : Bool) → same_unit u x ≡ same → is_some (value_of kept u) ≡ has
       → (lags_in kept x ≡ true) ⊎ ((same ≡ true) × (has ≡ true))
-      → (unwrap_or (if same && has then Some (record { value = kept_value kept u; lags = true }) else value_of kept x) idle).lags ≡ true
+      → (unwrap_or (if same && has then Some (record (kept_of kept u) { lags = true }) else value_of kept x) idle).lags ≡ true
   lags_then x true true is there why = refl
   lags_then x true false is there why = elim why [ inl lags ↦ lags | inr off ↦ let gone : false ≡ true = off.1 in cc ]
   lags_then x false has is there why = elim why [ inl lags ↦ lags | inr off ↦ let other : false ≡ true = off.0 in cc ]
 
   lags_in-with_mark : (x : Unit) → (lags_in kept x ≡ true) ⊎ ((same_unit u x ≡ true) × (is_some (value_of kept u) ≡ true)) → lags_in (with_mark u kept) x ≡ true
   lags_in-with_mark x why =
-      ap (λ (found : Option KeptValue). (unwrap_or found idle).lags) (laws.table.set u (record { value = kept_value kept u; lags = true }) kept x)
+      ap (λ (found : Option KeptValue). (unwrap_or found idle).lags) (laws.table.set u (record (kept_of kept u) { lags = true }) kept x)
       ∙ lags_then x (same_unit u x) (is_some (value_of kept u)) refl refl why
 
   only : (x : Unit) → has_in (u ∷ []) x ≡ true → same_unit u x ≡ true
@@ -82,6 +82,11 @@ module _ (laws : ChipLaws) where
   same_values units before after marks x =
       sym (kept_value-marked laws (λ u. 0) after x) ∙ ap (λ kept. kept_value kept x) (marks.alike (λ u. 0)) ∙ kept_value-marked laws (λ u. 0) before x
 
+  -- and their supplies
+  pub same_supplies : (units : List Unit) (before after : Kept) → Marks units before after → (x : Unit) → supply_in after x ≡ supply_in before x
+  same_supplies units before after marks x =
+      sym (supply_in-marked laws (λ u. 0) after x) ∙ ap (λ kept. supply_in kept x) (marks.alike (λ u. 0)) ∙ supply_in-marked laws (λ u. 0) before x
+
   pub marks_trans : (first second : List Unit) (before middle after : Kept) → Marks first before middle → Marks second middle after → Marks (first ++ second) before after
   marks_trans first second before middle after one two = record {
     alike = λ values. two.alike values ∙ one.alike values;
@@ -105,6 +110,7 @@ module _ (laws : ChipLaws) where
   pub record_marked : (t : Topology) (units : List Unit) (before after : Kept) → IsRecordOf t before → Marks units before after → IsRecordOf t after
   record_marked t units before after record_of marks = record {
     units = same_units units before after marks ∙ record_of.units;
+    supplies = λ x has. same_supplies units before after marks x ∙ record_of.supplies x has;
     up_or_down = λ w p here.
         let same = same_values units before after marks (Node p.node) in
         let up = record_of.up_or_down w p here in

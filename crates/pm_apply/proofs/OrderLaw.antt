@@ -22,8 +22,8 @@ use Rattle.pm_topology.specs.Units.{units_of}
 use Rattle.pm_apply.proofs.Below.{ChipLaws}
 use Rattle.pm_apply.specs.declared.turns.Turn.{Turn}
 use Rattle.pm_apply.specs.declared.turns.Turn.TheVariants.{PowerOn, Pulse, Apply, PowerOff}
-use Rattle.pm_apply.specs.Record.{Kept, IsRecordOf, kept_value}
-use Rattle.pm_apply.specs.Plan.{after_answer, command, plan, due, is_fed, power_value, is_place, is_power}
+use Rattle.pm_apply.specs.Record.{is_place, IsRecordOf, Kept, kept_value}
+use Rattle.pm_apply.specs.Plan.{after_answer, command, plan, due, is_fed, power_value, is_power}
 use Rattle.pm_apply.specs.Order.{IsOrderly, IsOrdered}
 use Rattle.pm_apply.specs.Part.{order_of, orders_of}
 use Rattle.pm_apply.proofs.PlanLemmas.{Along, along_plan}

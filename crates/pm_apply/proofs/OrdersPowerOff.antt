@@ -17,8 +17,8 @@ use Rattle.pm_topology.specs.UnitMap.{units_in}
 use Rattle.pm_topology.specs.Units.{has_in, units_of}
 use Rattle.pm_apply.proofs.Below.{ChipLaws}
 use Rattle.pm_apply.specs.declared.turns.Turn.TheVariants.{PowerOff}
-use Rattle.pm_apply.specs.Record.{Kept, kept_value, IsRecordOf}
-use Rattle.pm_apply.specs.Plan.{due, done_as, after_answer, is_place, is_power, is_used}
+use Rattle.pm_apply.specs.Record.{is_place, IsRecordOf, Kept, kept_value}
+use Rattle.pm_apply.specs.Plan.{due, done_as, after_answer, is_power, is_used}
 use Rattle.pm_apply.specs.Order.{FailedOn}
 use Rattle.pm_apply.proofs.PlanLeads.{Leads, leads_none, leads_turn}
 use Rattle.pm_apply.proofs.RecordLemmas.{kept_by, kept_stays, was_refused}

@@ -6,14 +6,14 @@ use Rattle.std.specs.Option.{option_map}
 use Rattle.pm_base.specs.declared.names.Unit.{Unit}
 use Rattle.pm_base.specs.declared.names.Command.{Command}
 use Rattle.pm_base.proofs.Booleans.{both}
-use Rattle.pm_topology.specs.UnitMap.{units_in, value_of}
+use Rattle.pm_topology.specs.UnitMap.{units_in, value_of, with_value}
 use Rattle.pm_topology.specs.Units.{has_in, same_unit}
 use Rattle.pm_device.specs.Act.{value_by, values_after}
 use Rattle.pm_device.specs.Chains.{values_after-same}
 use Rattle.pm_core.specs.declared.outbox.Done.{Done}
 use Rattle.pm_apply.proofs.Below.{ChipLaws}
 use Rattle.pm_apply.specs.declared.kept.KeptValue.{KeptValue}
-use Rattle.pm_apply.specs.Record.{Kept, idle, keep, kept_value, lags_in, mark, marked}
+use Rattle.pm_apply.specs.Record.{Kept, idle, keep, kept_of, kept_value, mark, marked, supply_in}
 use Rattle.pm_apply.specs.Plan.{after_answer}
 use Rattle.pm_apply.specs.Part.{order_of, orders_of}
 
@@ -31,7 +31,7 @@ pub kept_value-keep : ChipLaws → (u : Unit) (v : ℕ) (kept : Kept) (x : Unit)
     → has_in (units_in kept) u ≡ true
     → kept_value (keep u v kept) x ≡ cond (same_unit u x) v (kept_value kept x)
 kept_value-keep laws u v kept x has =
-    let now : KeptValue = record { value = v; lags = lags_in kept u } in
+    let now : KeptValue = record (kept_of kept u) { value = v } in
     ap (λ (found : Option KeptValue). (unwrap_or found idle).value) (laws.table.set u now kept x)
     ∙ taken_at (same_unit u x) (is_some (value_of kept u)) now (value_of kept x) (laws.table.there kept u ∙ has)
 
@@ -41,19 +41,37 @@ kept_same laws u v kept has =
 
 kept_other : ChipLaws → (u : Unit) (v : ℕ) (kept : Kept) (x : Unit) → same_unit u x ≡ false → kept_value (keep u v kept) x ≡ kept_value kept x
 kept_other laws u v kept x other =
-    let now : KeptValue = record { value = v; lags = lags_in kept u } in
+    let now : KeptValue = record (kept_of kept u) { value = v } in
     ap (λ (found : Option KeptValue). (unwrap_or found idle).value) (laws.table.set u now kept x)
     ∙ ap (λ same. (unwrap_or (cond (same && is_some (value_of kept u)) (Some now) (value_of kept x)) idle).value) other
 
 -- ---- the units of the record stay
 
 pub units_in-after_answer : ChipLaws → (c : Command) (ok : Bool) (kept : Kept) → units_in (after_answer c ok kept) ≡ units_in kept
-units_in-after_answer laws c true kept = laws.table.set_units c.unit (record { value = c.value; lags = lags_in kept c.unit }) kept
+units_in-after_answer laws c true kept = laws.table.set_units c.unit (record (kept_of kept c.unit) { value = c.value }) kept
 units_in-after_answer laws c false kept = refl
 
 pub has_cell_of : (units : List Unit) (kept : Kept) (x : Unit)
     → units_in kept ≡ units → has_in units x ≡ true → has_in (units_in kept) x ≡ true
 has_cell_of units kept x is has = ap (λ units. has_in units x) is ∙ has
+
+-- ---- the supplies of the record stay
+
+supply_at : (same has : Bool) (now : KeptValue) (before : Option KeptValue) → (same ≡ true → now.supply ≡ (unwrap_or before idle).supply)
+    → (unwrap_or (cond (same && has) (Some now) before) idle).supply ≡ (unwrap_or before idle).supply
+supply_at true true now before is = is refl
+supply_at true false now before is = refl
+supply_at false has now before is = refl
+
+-- where a unit gets an entry with its own supply
+pub supply_in-set : ChipLaws → (u : Unit) (now : KeptValue) (kept : Kept) (x : Unit) → now.supply ≡ supply_in kept u → supply_in (with_value u now kept) x ≡ supply_in kept x
+supply_in-set laws u now kept x same =
+    ap (λ (found : Option KeptValue). (unwrap_or found idle).supply) (laws.table.set u now kept x)
+    ∙ supply_at (same_unit u x) (is_some (value_of kept u)) now (value_of kept x) (λ is. same ∙ ap (supply_in kept) (laws.units.same u x is))
+
+pub supply_in-after_answer : ChipLaws → (c : Command) (ok : Bool) (kept : Kept) (x : Unit) → supply_in (after_answer c ok kept) x ≡ supply_in kept x
+supply_in-after_answer laws c true kept x = supply_in-set laws c.unit (record (kept_of kept c.unit) { value = c.value }) kept x refl
+supply_in-after_answer laws c false kept x = refl
 
 -- ---- the device follows
 
@@ -68,6 +86,11 @@ kept_after laws c false kept x has = refl
 abbrev pub recorded : Kept → List Done → Kept
 recorded kept [] = kept
 recorded kept (d ∷ done) = recorded (after_answer d.command d.ok kept) done
+
+pub supply_in-recorded : ChipLaws → (done : List Done) (kept : Kept) (x : Unit) → supply_in (recorded kept done) x ≡ supply_in kept x
+supply_in-recorded laws [] kept x = refl
+supply_in-recorded laws (d ∷ done) kept x =
+    supply_in-recorded laws done (after_answer d.command d.ok kept) x ∙ supply_in-after_answer laws d.command d.ok kept x
 
 -- each of these commands is on one of these units
 abbrev pub are_on : List Unit → List Done → Bool
@@ -92,6 +115,14 @@ kept_value-marked laws values kept x =
     ap (λ (found : Option KeptValue). (unwrap_or found idle).value) (laws.table.made (mark values) kept x) ∙ at (value_of kept x)
   where
     at : (found : Option KeptValue) → (unwrap_or (option_map (mark values x) found) idle).value ≡ (unwrap_or found idle).value
+    at None = refl
+    at (Some kept) = refl
+
+pub supply_in-marked : ChipLaws → (values : Unit → ℕ) (kept : Kept) (x : Unit) → supply_in (marked values kept) x ≡ supply_in kept x
+supply_in-marked laws values kept x =
+    ap (λ (found : Option KeptValue). (unwrap_or found idle).supply) (laws.table.made (mark values) kept x) ∙ at (value_of kept x)
+  where
+    at : (found : Option KeptValue) → (unwrap_or (option_map (mark values x) found) idle).supply ≡ (unwrap_or found idle).supply
     at None = refl
     at (Some kept) = refl
 

@@ -120,10 +120,10 @@ each_stays values (e ∷ kept) stays =
 
 lags_in-keep : ChipLaws → (u : Unit) (v : ℕ) (kept : Kept) (x : Unit) → lags_in (keep u v kept) x ≡ lags_in kept x
 lags_in-keep laws u v kept x =
-    let now : KeptValue = record { value = v; lags = lags_in kept u } in
+    let now : KeptValue = record (kept_of kept u) { value = v } in
     ap (λ (found : Option KeptValue). (unwrap_or found idle).lags) (laws.table.set u now kept x) ∙ at (same_unit u x) (is_some (value_of kept u)) refl
   where
-    at : (same has : Bool) → same_unit u x ≡ same → (unwrap_or (if same && has then Some (record { value = v; lags = lags_in kept u }) else value_of kept x) idle).lags ≡ lags_in kept x
+    at : (same has : Bool) → same_unit u x ≡ same → (unwrap_or (if same && has then Some (record (kept_of kept u) { value = v }) else value_of kept x) idle).lags ≡ lags_in kept x
     at true true is = ap (lags_in kept) (laws.units.same u x is)
     at true false is = refl
     at false has is = refl
@@ -134,11 +134,11 @@ lags_in-after_answer laws c false kept x = refl
 
 kept_gone : ChipLaws → (c : Command) (kept : Kept) (x : Unit) → has_in (units_in kept) c.unit ≡ false → kept_value (keep c.unit c.value kept) x ≡ kept_value kept x
 kept_gone laws c kept x gone =
-    let now : KeptValue = record { value = c.value; lags = lags_in kept c.unit } in
+    let now : KeptValue = record (kept_of kept c.unit) { value = c.value } in
     ap (λ (found : Option KeptValue). (unwrap_or found idle).value) (laws.table.set c.unit now kept x)
     ∙ at (same_unit c.unit x) (is_some (value_of kept c.unit)) (laws.table.there kept c.unit ∙ gone)
   where
-    at : (same has : Bool) → has ≡ false → (unwrap_or (if same && has then Some (record { value = c.value; lags = lags_in kept c.unit }) else value_of kept x) idle).value ≡ kept_value kept x
+    at : (same has : Bool) → has ≡ false → (unwrap_or (if same && has then Some (record (kept_of kept c.unit) { value = c.value }) else value_of kept x) idle).value ≡ kept_value kept x
     at true true is = cc
     at true false is = refl
     at false has is = refl

@@ -14,10 +14,9 @@ use Rattle.pm_topology.specs.Places.{kind_of}
 use Rattle.pm_topology.specs.Units.{needs_power, parent_of_unit, same_unit}
 use Rattle.pm_core.specs.declared.outbox.Done.{Done}
 use Rattle.pm_topology.specs.Units.{units_of}
-use Rattle.pm_apply.specs.declared.kept.KeptValue.{KeptValue}
 use Rattle.pm_apply.specs.declared.turns.Turn.{Turn}
 use Rattle.pm_apply.specs.declared.turns.Turn.TheVariants.{PowerOn, Pulse, Apply, PowerOff}
-use Rattle.pm_apply.specs.Record.{Kept, keep, kept_value}
+use Rattle.pm_apply.specs.Record.{Kept, is_place, keep, kept_value}
 
 -- ---- the order
 
@@ -57,9 +56,6 @@ power_value t kept w = option_map_or (λ (p : PowerDef). kept_value kept (Node p
 abbrev pub is_fed : Topology → Kept → Option ℕ → Bool
 is_fed t kept parent = option_map_or (λ w. not (power_value t kept w == 0)) parent true
 
-abbrev pub is_place : ℕ → Option ℕ → Bool
-is_place w place = option_map_or (λ v. v == w) place false
-
 -- a unit stands directly below the power node at a place, and needs power at this value
 abbrev pub uses : Topology → ℕ → Unit → ℕ → Bool
 uses t w unit value = is_place w (parent_of_unit t unit) && needs_power t unit value
@@ -67,10 +63,6 @@ uses t w unit value = is_place w (parent_of_unit t unit) && needs_power t unit v
 -- by the record some unit directly below the power node at a place needs power
 abbrev pub is_used : Topology → Kept → ℕ → Bool
 is_used t kept w = list_any (λ u. uses t w u (kept_value kept u)) (units_of t)
-
--- the unit at a place of the record is one that does
-abbrev pub uses_at : Topology → Kept → ℕ → ℕ → Bool
-uses_at t kept w k = option_map_or (λ (e : Unit × KeptValue). uses t w e.0 e.1.value) (slice_get kept k) false
 
 abbrev pub is_power_kind : Kind → Bool
 is_power_kind (Power w) = true

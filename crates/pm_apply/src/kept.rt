@@ -1,31 +1,35 @@
 //! The record: the value that a device last took for each unit.
 
-ghost use Rattle.std.specs.Prelude.{◌≡◌, ℕ, ◌<◌, ◌≤◌, [], ◌∷◌, true, false, IfOk, length, slice_get, Some};
+ghost use Rattle.std.specs.Prelude.{◌≡◌, ℕ, ◌<◌, ◌≤◌, ◌==◌, [], ◌∷◌, true, false, not, IfOk, count_by, length, slice_get, Some};
 ghost use Rattle.pm_base.specs.declared.names.Unit.{Unit as Part};
-ghost use Rattle.pm_topology.specs.UnitMap.{units_in};
+ghost use Rattle.std.specs.List.{list_any};
+ghost use Rattle.pm_topology.specs.UnitMap.{place_of, units_in, values_in};
 ghost use Rattle.pm_topology.specs.Units.{rises, units_of};
 ghost use Rattle.pm_state.specs.Values.{value};
 ghost use Rattle.pm_apply.specs.Places.{has_place};
 ghost use Rattle.pm_apply.specs.Plan.{after_answer};
-ghost use Rattle.pm_apply.specs.Record.{IsAtZero, IsRecordOf, at_zero, idle, keep, kept_of, kept_value, lags_in, mark, marked};
-ghost use Rattle.pm_apply.specs.Visits.{LagsNotAt, LagsWithin, Marks, Remakes, StandsElsewhere, with_mark, pulsed};
+ghost use Rattle.pm_apply.specs.Record.{CountsUses, IsAtZero, IsRecordOf, at_zero, idle, uses_power, keep, kept_of, kept_value, lags_in, mark, marked};
+ghost use Rattle.pm_apply.specs.Visits.{LagsNotAt, LagsWithin, lags_as, Marks, Remakes, StandsElsewhere, with_mark, pulsed};
 
 use crate::laws::at_zero_is_a_record;
 use crate::places::Places;
+use crate::supplies::{Supply, give_supplies, no_supply};
+use crate::use_counts::UseCounts;
 use pm_base::{Command, LineId, NoMemory, Unit};
 use pm_core::Book;
 use pm_topology::{
-    Topology, UnitMap, kinds_are_exact, unit_map_places, unit_maps, units_stand_in_order,
+    Topology, UnitMap, kinds_are_exact, same_unit, unit_map_places, unit_maps, units_stand_in_order,
 };
 use std::alloc::Global;
 use std::marker::Model;
 use std::mem::swap;
 
-/// The value that the device last took for a unit, and whether that differs from the book's.
+/// The value that the device last took for a unit, whether that differs from the book's, and the supply of the unit.
 #[derive(Clone, Copy, Debug, PartialEq, Eq)]
 pub struct KeptValue {
     pub value: u32,
     pub lags: bool,
+    pub supply: Supply,
 }
 
 /// The value that a device last took for each unit. Contracts see the list of the units.
@@ -36,23 +40,29 @@ pub struct Kept {
     marked: Places,
     /// Room for the places of those that stay so after a step.
     spare: Places,
+    /// How many units use each power node.
+    uses: UseCounts,
 }
 
 impl Model for Kept {
     ghost use Rattle.std.specs.Prelude.{List};
     ghost use Rattle.pm_base.specs.declared.names.Unit.{Unit};
     ghost use Rattle.pm_apply.specs.declared.kept.KeptValue.{KeptValue};
+    ghost use Rattle.pm_apply.specs.Record.{CountsUses};
     ghost use Rattle.pm_apply.specs.Visits.{ListsMarks};
 
     ghost Value = { List (Unit × KeptValue) };
 
     ghost view = { λ kept. kept.values };
 
-    ghost invariant = { λ kept. ListsMarks kept.values kept.marked kept.spare };
+    ghost invariant = { λ kept. record {
+      marks : ListsMarks kept.values kept.marked kept.spare;
+      uses : CountsUses kept.values kept.uses;
+    } };
 }
 
 impl Kept {
-    /// The record of a device that took nothing yet: each unit of the chip stands at 0, and none lags.
+    /// The record of a device that took nothing yet: each unit of the chip stands at 0 with its supply, and none lags.
     ///
     /// # Errors
     ///
@@ -63,14 +73,17 @@ impl Kept {
         ensures idle { IfOk result IsAtZero }
     {
         at_zero_is_a_record();
-        let values = UnitMap::load(alloc, t, idle())?;
+        let mut values = UnitMap::load(alloc, t, idle())?;
+        give_supplies(&mut values, t);
         let end = values.len();
         let marked = Places::load(alloc, end)?;
         let spare = Places::load(alloc, end)?;
+        let uses = UseCounts::load(alloc, &values)?;
         Ok(Kept {
             values,
             marked,
             spare,
+            uses,
         })
     }
 
@@ -86,7 +99,9 @@ impl Kept {
     pub fn lags(&self, unit: Unit) -> bool
         ensures { result ≡ lags_in self.now unit }
     {
-        kept_of(&self.values, unit).lags
+        units_stand_in_order();
+        let _units = self.values.len();
+        one_lags(self.marked.as_slice(), &self.values, unit)
     }
 
     /// The place of the first unit from this one on that is marked, and the number of units where there is none.
@@ -106,18 +121,13 @@ impl Kept {
         !self.marked.is_empty()
     }
 
-    /// The places of the units that are marked, and perhaps of others.
-    pub(crate) fn marked(&self) -> &[usize]
-        ensures { LagsWithin result.now self.now }
+    /// Whether some unit uses the power node at a place: it stands directly below it, and needs power at its kept value.
+    /// Their number is kept.
+    pub(crate) fn is_used(&self, place: usize) -> bool
+        requires { place < 64 }
+        ensures { result ≡ not (count_by (uses_power place) (values_in self.now) == 0) }
     {
-        self.marked.as_slice()
-    }
-
-    /// The unit at a place, with what is kept of it.
-    pub(crate) fn entry(&self, place: usize) -> Option<(Unit, KeptValue)>
-        ensures { result ≡ slice_get self.now place }
-    {
-        self.values.entry(place)
+        self.uses.has_some(place)
     }
 
     /// Whether the unit at a place lags, and true past the last one.
@@ -173,7 +183,7 @@ impl Kept {
         let Some(place) = self.values.place(unit) else {
             return;
         };
-        set_mark(&mut self.values, unit);
+        set_mark(&mut self.values, unit, place);
         self.marked.insert(place);
     }
 
@@ -187,7 +197,7 @@ impl Kept {
         if !ok {
             return;
         }
-        keep(&mut self.values, command);
+        keep(&mut self.values, &mut self.uses, command);
     }
 
     /// Marks exactly the units whose value isn't the book's. Each unit that isn't marked has that value, and isn't
@@ -212,13 +222,14 @@ impl Kept {
     }
 }
 
-/// A unit that stands at 0 and doesn't lag.
+/// A unit that stands at 0, doesn't lag and has no supply.
 fn idle() -> KeptValue
     ensures { result ≡ idle }
 {
     KeptValue {
         value: 0,
         lags: false,
+        supply: no_supply(),
     }
 }
 
@@ -230,28 +241,77 @@ fn kept_of(values: &UnitMap<KeptValue>, unit: Unit) -> KeptValue
     values.get(unit).unwrap_or(idle())
 }
 
-/// Keeps the value of a command for its unit. Nothing changes where the unit isn't there.
-fn keep(values: &mut UnitMap<KeptValue>, command: Command)
-    ensures entries { values.new ≡ keep command.unit command.value values.old }
-    ensures rising { rises (units_in values.old) ≡ true }
+/// Whether one of the entries at these places is that of a unit, and lags.
+fn one_lags(places: &[usize], values: &UnitMap<KeptValue>, unit: Unit) -> bool
+    ensures { result ≡ list_any (lags_as values.now unit) places.now }
 {
-    let kept = kept_of(values, command.unit);
-    values.set(
-        command.unit,
-        KeptValue {
-            value: command.value,
-            ..kept
-        },
-    );
+    places.iter().any(|place| lags_as(*place, values, unit))
 }
 
-/// Marks a unit. Nothing changes where the unit isn't there.
-fn set_mark(values: &mut UnitMap<KeptValue>, unit: Unit)
+/// Whether the entry at a place is.
+fn lags_as(place: usize, values: &UnitMap<KeptValue>, unit: Unit) -> bool
+    ensures { result ≡ lags_as values.now unit place }
+{
+    match values.entry(place) {
+        Some((other, kept)) => kept.lags && same_unit(other, unit),
+        None => false,
+    }
+}
+
+/// Keeps the value of a command for its unit, and the counts of uses. Nothing changes where the unit isn't there.
+fn keep(values: &mut UnitMap<KeptValue>, uses: &mut UseCounts, command: Command)
+    requires { CountsUses values.old uses.old }
+    ensures entries { values.new ≡ keep command.unit command.value values.old }
+    ensures uses { CountsUses values.new uses.new }
+    ensures rising { rises (units_in values.old) ≡ true }
+{
+    let Some(place) = values.place(command.unit) else {
+        return;
+    };
+    keep_at(values, uses, command, place);
+}
+
+/// Keeps the value of a command at the place of its unit, and the counts of uses: the unit is counted out at the value
+/// before, and in at the one that the device took.
+fn keep_at(values: &mut UnitMap<KeptValue>, uses: &mut UseCounts, command: Command, place: usize)
+    requires place { place_of values.old command.unit ≡ Some place }
+    requires uses { CountsUses values.old uses.old }
+    ensures entries { values.new ≡ keep command.unit command.value values.old }
+    ensures uses { CountsUses values.new uses.new }
+{
+    units_stand_in_order();
+    unit_map_places::<KeptValue>();
+    let _units = values.len();
+    let Some(found) = values.entry(place) else {
+        return;
+    };
+    let kept = KeptValue {
+        value: command.value,
+        ..found.1
+    };
+    values.set_at(place, kept);
+    uses.change(found.1, kept);
+}
+
+/// Marks the unit at a place, which is this one.
+fn set_mark(values: &mut UnitMap<KeptValue>, unit: Unit, place: usize)
+    requires { place_of values.old unit ≡ Some place }
     ensures entries { values.new ≡ with_mark unit values.old }
     ensures rising { rises (units_in values.old) ≡ true }
 {
-    let kept = kept_of(values, unit);
-    values.set(unit, KeptValue { lags: true, ..kept });
+    units_stand_in_order();
+    unit_map_places::<KeptValue>();
+    let _units = values.len();
+    let Some(found) = values.entry(place) else {
+        return;
+    };
+    values.set_at(
+        place,
+        KeptValue {
+            lags: true,
+            ..found.1
+        },
+    );
 }
 
 /// Of the units at these places marks exactly those whose value isn't the book's, and lists their places. Each other

@@ -8,7 +8,9 @@ mod failing;
 mod kept;
 mod laws;
 mod places;
+mod supplies;
 mod turns;
+mod use_counts;
 
 pub use carrying::Carrying;
 pub use commands::{carry, carry_all};
@@ -16,4 +18,5 @@ pub use kept::{Kept, KeptValue};
 pub use laws::{
     a_part_without_refusal, at_zero_is_a_record, each_part_is_safe, marks_suffice, orders_join,
 };
+pub use supplies::Supply;
 pub use turns::Turn;

@@ -1,7 +1,6 @@
 //! The turns of a step: each may issue one command.
 
 ghost use Rattle.std.specs.Prelude.{◌≡◌, ℕ, ◌<◌, ◌≤◌, ◌==◌, ◌&&◌, ◌||◌, false, not, length, option_to_list, slice_get, Some};
-ghost use Rattle.std.specs.List.{list_any};
 ghost use Rattle.pm_base.specs.declared.names.Unit.TheVariants.{Node};
 ghost use Rattle.pm_topology.specs.WellFormed.{IsWellFormed};
 ghost use Rattle.pm_topology.specs.UnitMap.{units_in};
@@ -9,9 +8,9 @@ ghost use Rattle.pm_topology.specs.Places.{parent_at};
 ghost use Rattle.pm_topology.specs.Units.{kind_needs_power, needs_power, parent_of_unit, units_of};
 ghost use Rattle.pm_state.specs.Fed.{IsFed};
 ghost use Rattle.pm_state.specs.Values.{value};
-ghost use Rattle.pm_apply.specs.Plan.{due, is_fed, is_place, is_power, is_power_kind, is_used, power_off, power_value, power_on, apply, pulse, pulse_before, pulse_turn, unit_turns, uses, uses_at, where_due};
-ghost use Rattle.pm_apply.specs.Record.{kept_value};
-ghost use Rattle.pm_apply.specs.Visits.{IsIdleAt, StandsElsewhere, power_lags};
+ghost use Rattle.pm_apply.specs.Plan.{due, is_fed, is_power, is_power_kind, is_used, power_off, power_value, power_on, apply, pulse, pulse_before, pulse_turn, unit_turns, where_due};
+ghost use Rattle.pm_apply.specs.Record.{HasSupplies, kept_value};
+ghost use Rattle.pm_apply.specs.Visits.{IsIdleAt, power_lags};
 
 use crate::kept::{Kept, KeptValue};
 use pm_base::{Command, LineId, Unit};
@@ -168,7 +167,7 @@ fn pulse_turn(pulse: Option<LineId>, unit: Unit) -> Option<Turn>
 /// The command of a turn, if there is one: from the book's values and the record.
 pub(crate) fn due(turn: Turn, book: &Book, kept: &Kept) -> Option<Command>
     requires units { units_in kept.now ≡ units_of book.now.fixed.topology }
-    requires stands { StandsElsewhere (λ u. value u book.now) kept.now }
+    requires supplies { HasSupplies book.now.fixed.topology kept.now }
     ensures { result ≡ due book.now.fixed.topology (λ u. value u book.now) kept.now turn }
 {
     match turn {
@@ -276,7 +275,7 @@ fn takes_by(kind: Kind, unit: Unit, value: u32, t: &Topology, kept: &Kept) -> bo
 
 fn power_off(place: usize, book: &Book, kept: &Kept) -> Option<Command>
     requires units { units_in kept.now ≡ units_of book.now.fixed.topology }
-    requires stands { StandsElsewhere (λ u. value u book.now) kept.now }
+    requires supplies { HasSupplies book.now.fixed.topology kept.now }
     ensures { result ≡ power_off book.now.fixed.topology (λ u. value u book.now) kept.now place
         (slice_get book.now.fixed.topology.powers place) }
 {
@@ -293,7 +292,7 @@ fn power_off(place: usize, book: &Book, kept: &Kept) -> Option<Command>
 fn goes_down(power: &PowerDef, place: usize, book: &Book, kept: &Kept) -> bool
     requires there { slice_get book.now.fixed.topology.powers place ≡ Some power.now }
     requires units { units_in kept.now ≡ units_of book.now.fixed.topology }
-    requires stands { StandsElsewhere (λ u. value u book.now) kept.now }
+    requires supplies { HasSupplies book.now.fixed.topology kept.now }
     ensures { result ≡ ((value (Node power.now.node) book.now == 0) && ((kept_value kept.now (Node power.now.node) == 1)
         && not (is_used book.now.fixed.topology kept.now place))) }
 {
@@ -301,66 +300,22 @@ fn goes_down(power: &PowerDef, place: usize, book: &Book, kept: &Kept) -> bool
     if book.value(unit) != 0 || kept.value(unit) != 1 {
         return false;
     }
-    !is_used(power, place, book, kept)
+    !is_used(place, book, kept)
 }
 
-/// Whether some unit directly below the power node at a place, which is down in the book, needs power by the record.
-/// None does by the book then, so one that does by the record is marked: no other is looked at.
-fn is_used(power: &PowerDef, place: usize, book: &Book, kept: &Kept) -> bool
-    requires there { slice_get book.now.fixed.topology.powers place ≡ Some power.now }
-    requires down { value (Node power.now.node) book.now ≡ 0 }
+/// Whether some unit directly below the power node at a place needs power by the record: whether their number, which is
+/// kept, isn't 0.
+fn is_used(place: usize, book: &Book, kept: &Kept) -> bool
+    requires there { place < length book.now.fixed.topology.powers }
     requires units { units_in kept.now ≡ units_of book.now.fixed.topology }
-    requires stands { StandsElsewhere (λ u. value u book.now) kept.now }
+    requires supplies { HasSupplies book.now.fixed.topology kept.now }
     ensures { result ≡ is_used book.now.fixed.topology kept.now place }
 {
     units_stand_in_order();
     kinds_are_exact();
     unit_maps::<KeptValue>();
     book.stays_sound();
-    one_uses(kept.marked(), book.topology(), kept, place)
-}
-
-/// Whether one of the units at these places stands directly below the power node and needs power by the record.
-fn one_uses(places: &[usize], t: &Topology, kept: &Kept, place: usize) -> bool
-    ensures { result ≡ list_any (uses_at t.now kept.now place) places.now }
-{
-    places.iter().any(|k| uses_at(*k, t, kept, place))
-}
-
-/// Whether the unit at a place of the record does.
-fn uses_at(k: usize, t: &Topology, kept: &Kept, place: usize) -> bool
-    ensures { result ≡ uses_at t.now kept.now place k }
-{
-    match kept.entry(k) {
-        Some((unit, kept)) => uses(unit, kept.value, t, place),
-        None => false,
-    }
-}
-
-/// Whether a unit at this value does.
-fn uses(unit: Unit, value: u32, t: &Topology, place: usize) -> bool
-    ensures { result ≡ uses t.now place unit value }
-{
-    match unit {
-        Unit::Node(node) => uses_by(t.kind(node), value, t, place),
-        Unit::Line(_) => uses_by(Kind::Unknown, value, t, place),
-    }
-}
-
-/// The same by the kind of the unit: a reset line is none of the nodes.
-fn uses_by(kind: Kind, value: u32, t: &Topology, place: usize) -> bool
-    ensures { result ≡ (is_place place (parent_at t.now kind) && kind_needs_power t.now kind value) }
-{
-    is_place(place, t.parent_by(kind)) && kind_needs_power(t, kind, value)
-}
-
-fn is_place(place: usize, parent: Option<usize>) -> bool
-    ensures { result ≡ is_place place parent }
-{
-    match parent {
-        Some(other) => other == place,
-        None => false,
-    }
+    kept.is_used(place)
 }
 
 // ---- power nodes

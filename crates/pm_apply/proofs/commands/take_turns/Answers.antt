@@ -1,4 +1,4 @@
-use Rattle.std.proofs.Common.{◌≡◌, ℕ, Bool, Option, [], length, sym, ap, subst, arith}
+use Rattle.std.proofs.Common.{◌≡◌, ◌∙◌, ℕ, Bool, Option, [], length, sym, ap, subst, arith}
 use Rattle.pm_base.specs.declared.names.LineId.{LineId}
 use Rattle.pm_base.specs.declared.names.Unit.{Unit}
 use Rattle.pm_topology.specs.Units.{units_of}
@@ -7,7 +7,7 @@ use Rattle.pm_device.specs.Act.{Order}
 use Rattle.pm_apply.specs.Left.{Answers, IsFollowed, Passes, Waits, turns_left}
 use Rattle.pm_apply.proofs.Below.{ChipLaws}
 use Rattle.pm_apply.proofs.CountLemmas.{most_of_step}
-use Rattle.pm_apply.proofs.LeftLemmas.{Begins-fewer, Passes-fewer, way_answered, way_end, way_open, way_passes, way_room}
+use Rattle.pm_apply.proofs.LeftLemmas.{Begins-fewer, Passes-fewer, way_answered, way_end, way_open, way_passes, way_room, way_supplies}
 use Rattle.pm_apply.proofs.TakesLemmas.{KeepsRest-trans}
 use Rattle.pm_apply.proofs.commands.take_turns.Goals as goal
 
@@ -22,7 +22,13 @@ next_command-requires g c =
     (record { are = c.requires.«record».units; ready = c.requires.ready })
     in
     let P : Option LineId → Type 0 = λ p. IsFollowed t values p c.commands.kept in
-    subst P (sym c.commands.invariant.rest.pulse) (record { units = opened.are; ready = opened.ready })
+    subst P (sym c.commands.invariant.rest.pulse) (record {
+      units = opened.are;
+      supplies = λ x has.
+          way_supplies g.D.Device.Does t values pulse c.args.kept.now c.args.out.now.done.items c.args.dev.now laws c.commands.left c.commands.kept c.commands.out.done.items c.commands.dev c.commands.invariant.way x
+          ∙ c.requires.«record».supplies x has;
+      ready = opened.ready;
+    })
 
 pub command_done-requires : goal.command_done-requires
 command_done-requires g c =

@@ -12,4 +12,4 @@ returns c =
     let none = c.is_empty.ensures (not-false c.is_empty.result no) in
     let P : Kept → Type 0 = λ kept. (k : ℕ) → k < length kept → LagsNotAt k kept in
     subst P c.self.view_is
-    (λ k within. lags_not c.self.inside.values c.self.inside.marked.items k c.self.invariant.lags (ap (λ (places : List ℕ). has_place places k) none) within)
+    (λ k within. lags_not c.self.inside.values c.self.inside.marked.items k c.self.invariant.marks.lags (ap (λ (places : List ℕ). has_place places k) none) within)

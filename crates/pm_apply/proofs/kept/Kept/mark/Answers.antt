@@ -1,9 +1,13 @@
-use Rattle.std.proofs.Common.{◌≡◌, true, subst}
-use Rattle.pm_topology.specs.UnitMap.{units_in}
+use Rattle.std.proofs.Common.{◌≡◌, ℕ, true, length, ap, sym, subst, ◌∙◌}
+use Rattle.std.proofs.lemmas.List.{length-map}
+use Rattle.pm_base.specs.BoundedList.{Bounded}
+use Rattle.pm_base.specs.declared.names.Unit.{Unit}
+use Rattle.pm_topology.specs.UnitMap.{remade, units_in}
 use Rattle.pm_topology.specs.Units.{rises}
 use Rattle.pm_state.specs.Values.{value}
-use Rattle.pm_apply.specs.Record.{Kept}
+use Rattle.pm_apply.specs.Record.{CountsUses, Kept, mark}
 use Rattle.pm_apply.proofs.UnmarkedLemmas.{marks_stay}
+use Rattle.pm_apply.proofs.UsesLemmas.{uses_marked}
 use Rattle.pm_apply.proofs.kept.Kept.mark.Goals as goal
 
 pub returns-then-not-has_marks : goal.returns-then-not-has_marks
@@ -11,3 +15,19 @@ returns-then-not-has_marks c =
     let P : Kept → Type 0 = λ kept. rises (units_in kept) ≡ true in
     marks_stay c.units_stand_in_order.ensures (λ u. value u c.args.book.now) c.args.self.now (subst P c.self.view_is c.len-units.ensures.rising) c.requires
     (c.has_marks.ensures c.if-not-has_marks.true)
+
+pub invariant_of-self : goal.invariant_of-self
+invariant_of-self c =
+    let values : Unit → ℕ = λ u. value u c.args.book.now in
+    let old = c.self.inside.values in
+    let long : length c.mark_all.new.values ≡ length old = ap (λ (kept : Kept). length kept) c.mark_all.ensures.marked ∙ length-map old (remade (mark values)) in
+    let P : Kept → Type 0 = λ kept. CountsUses kept c.self.inside.uses in
+    record {
+      marks = record {
+        lags = c.mark_all.ensures.lags;
+        room = c.mark_all.ensures.room
+            ∙ (ap (λ (p : Bounded ℕ). p.room) c.clear.ensures ∙ (ap (λ (p : Bounded ℕ). p.room) c.swap.ensures.x_after ∙ (c.self.invariant.marks.other ∙ sym long)));
+        other = ap (λ (p : Bounded ℕ). p.room) c.swap.ensures.y_after ∙ (c.self.invariant.marks.room ∙ sym long);
+      };
+      uses = subst P (sym c.mark_all.ensures.marked) (uses_marked values old c.self.inside.uses c.self.invariant.uses);
+    }

@@ -9,4 +9,4 @@ returns-clause-idle c =
     λ k after before.
     let P : Kept → Type 0 = λ kept. LagsNotAt k kept in
     subst P c.self.view_is
-    (lags_not c.self.inside.values c.self.inside.marked.items k c.self.invariant.lags (c.next.ensures.none k after before) (omega (arith, before, c.next.ensures.end, c.self.invariant.room)))
+    (lags_not c.self.inside.values c.self.inside.marked.items k c.self.invariant.marks.lags (c.next.ensures.none k after before) (omega (arith, before, c.next.ensures.end, c.self.invariant.marks.room)))
