@@ -1,8 +1,10 @@
 -- What setting, breaking and mending a unit changes, and what stays.
-use Rattle.std.proofs.Common.{◌≡◌, ℕ, ◌==◌, ◌||◌, Bool, true, false, cond, List, [], ◌∷◌, ◌++◌, Some, refl, arith, ap, sym, ◌∙◌, nat_lt, unwrap_or}
-use Rattle.std.specs.List.{list_any, list_all}
+use Rattle.std.proofs.Common.{◌≡◌, ℕ, ◌+◌, ◌≤◌, ◌==◌, ◌||◌, ◌&&◌, Bool, true, false, not, cond, List, [], ◌∷◌, ◌++◌, length, slice_get, Option, Some, None, is_some, suc, zero, refl, arith, ap, sym, ◌∙◌, nat_lt, unwrap_or}
+use Rattle.std.specs.List.{list_any, list_all, position_or_len}
+use Rattle.std.specs.Option.{option_map}
 use Rattle.std.proofs.lemmas.Bool.{eqb-true}
 use Rattle.std.proofs.lemmas.Bool.Decides.{nat_tests}
+use Rattle.std.proofs.lemmas.Option.{same_Some}
 use Rattle.std.proofs.lemmas.List.Folds.{list_all-append}
 use Rattle.std.proofs.lemmas.Grind.{flat_map-append}
 use Rattle.pm_base.proofs.Booleans.{both, pair_of, none_of}
@@ -11,10 +13,11 @@ use Rattle.pm_base.specs.declared.names.Unit.TheVariants.{Node, Line}
 use Rattle.pm_base.specs.declared.names.NodeId.{NodeId}
 use Rattle.pm_topology.specs.Units.{same_unit, is_before}
 use Rattle.pm_topology.specs.Units as units
-use Rattle.pm_topology.specs.UnitMap.{Sets, all_at, units_in, value_of}
+use Rattle.pm_topology.specs.UnitMap.{Sets, all_at, place_of, units_in, value_of, with_value}
+use Rattle.pm_topology.proofs.UnitMapLaw.{sets_by, there-set, value_of-set}
 use Rattle.pm_device.specs.declared.cells.Cell.{Cell}
 use Rattle.pm_device.specs.Device.{is_broken, rises, rigged}
-use Rattle.pm_device.specs.Cells.{idle, cell_of, is_there, is_broken_cell, broken_number, broken_of}
+use Rattle.pm_device.specs.Cells.{idle, cell_of, is_there, is_broken_cell, broken_number, broken_of, set_value}
 use Rattle.pm_device.proofs.Rising.{rigged-between}
 
 -- ---- the broken nodes rise
@@ -147,6 +150,73 @@ broken_now n cell old new rising set none = at (is_there old (Node n)) refl
     at : (b : Bool) → is_there old (Node n) ≡ b → broken_of new ≡ cond b (rigged n.0 cell.broken (broken_of old)) (broken_of old)
     at true there = broken_rigged n cell old new rising (set there)
     at false absent = ap broken_of (none absent)
+
+-- ---- a unit is found by its place
+
+-- the value at the place of a unit is its value, and past the last one there is none
+value_at : {T : Type 0} (entries : List (Unit × T)) (unit : Unit)
+    → option_map (λ e. e.1) (slice_get entries (position_or_len (λ e. same_unit e.0 unit) entries)) ≡ value_of entries unit
+value_at [] unit = refl
+value_at {T} (e ∷ entries) unit = at (same_unit e.0 unit) (value_at entries unit)
+  where
+    at : (b : Bool)
+        → option_map (λ (e : Unit × T). e.1) (slice_get entries (position_or_len (λ e. same_unit e.0 unit) entries)) ≡ value_of entries unit
+        → option_map (λ (e : Unit × T). e.1) (slice_get (e ∷ entries) (cond (not b) (1 + position_or_len (λ e. same_unit e.0 unit) entries) 0))
+        ≡ cond b (Some e.1) (value_of entries unit)
+    at true later = refl
+    at false later =
+        let next : 1 + position_or_len (λ (e : Unit × T). same_unit e.0 unit) entries ≡ suc (position_or_len (λ (e : Unit × T). same_unit e.0 unit) entries) = omega arith in
+        rw next later
+
+pub found_at : {T : Type 0} (entries : List (Unit × T)) (unit : Unit) (place : ℕ) (found : Option (Unit × T))
+    → place_of entries unit ≡ Some place → found ≡ slice_get entries place → value_of entries unit ≡ option_map (λ e. e.1) found
+found_at {T} entries unit place found here is =
+    let at : place ≡ position_or_len (λ (e : Unit × T). same_unit e.0 unit) entries = grind (arith, nat_tests) in
+    sym (value_at entries unit) ∙ ap (λ k. option_map (λ (e : Unit × T). e.1) (slice_get entries k)) (sym at) ∙ ap (option_map (λ (e : Unit × T). e.1)) (sym is)
+
+pub placed_nowhere : {T : Type 0} (entries : List (Unit × T)) (unit : Unit) → place_of entries unit ≡ None → is_there entries unit ≡ false
+placed_nowhere {T} entries unit none =
+    let out : length entries ≤ position_or_len (λ (e : Unit × T). same_unit e.0 unit) entries = grind (arith, nat_tests) in
+    ap is_some (sym (value_at entries unit)) ∙ ap (λ o. is_some (option_map (λ (e : Unit × T). e.1) o)) (past entries _ out)
+  where
+    past : (entries : List (Unit × T)) (k : ℕ) → length entries ≤ k → slice_get entries k ≡ None
+    past [] k out = refl
+    past (e ∷ entries) zero out = absurd (omega arith)
+    past (e ∷ entries) (suc k) out = past entries k (omega arith)
+
+-- whether a command is carried out, by whether its unit is there, and is broken
+pub answer_by : (there broken a b : Bool) → there ≡ a → broken ≡ b → not (not a || b) ≡ not (not there || broken)
+answer_by there broken a b is so = ap (λ t. not (not t || b)) (sym is) ∙ ap (λ s. not (not there || s)) (sym so)
+
+-- a unit that is there was set to a value
+module _ (unit : Unit) (cell : Cell) (value : ℕ) (old new : List (Unit × Cell))
+    (there : value_of old unit ≡ Some cell) (is : new ≡ with_value unit (record { value = value; broken = cell.broken }) old) where
+  pub value_set : new ≡ set_value unit value old
+  value_set = is ∙ ap (λ (c : Option Cell). with_value unit (record { value = value; broken = (unwrap_or c idle).broken }) old) (sym there)
+
+  pub values_set : (other : Unit) → (cell_of new other).value ≡ cond (same_unit unit other) value (cell_of old other).value
+  values_set other =
+      ap (λ (c : Option Cell). (unwrap_or c idle).value) (value_of-set unit (record { value = value; broken = cell.broken }) old new other is)
+      ∙ ap (λ (b : Bool). (unwrap_or (cond (same_unit unit other && b) (Some (record { value = value; broken = cell.broken })) (value_of old other)) idle).value) (ap is_some there)
+      ∙ at (same_unit unit other)
+    where
+      at : (b : Bool) → (unwrap_or (cond (b && true) (Some (record { value = value; broken = cell.broken })) (value_of old other)) idle).value
+          ≡ cond b value (cell_of old other).value
+      at true = refl
+      at false = refl
+
+  pub units_stay : (other : Unit) → is_there new other ≡ is_there old other
+  units_stay other = there-set unit (record { value = value; broken = cell.broken }) old new other is
+
+  pub broken_stay : units.rises (units_in old) ≡ true → broken_of new ≡ broken_of old
+  broken_stay rising =
+      let set = sets_by unit (record { value = value; broken = cell.broken }) old new is rising (ap is_some there) in
+      let same : set.before ≡ cell = same_Some set.before cell (sym set.found ∙ there) in
+      ap broken_of set.is
+      ∙ broken_of-append set.front ((unit, record { value = value; broken = cell.broken }) ∷ set.back)
+      ∙ ap (λ (c : Cell). broken_of set.front ++ (broken_number unit c.broken ++ broken_of set.back)) (sym same)
+      ∙ sym (broken_of-append set.front ((unit, set.before) ∷ set.back))
+      ∙ ap broken_of (sym set.was)
 
 -- at first none is broken
 pub none_broken : (us : List Unit) → broken_of (all_at idle us) ≡ []

@@ -73,11 +73,10 @@ impl ModelDevice {
         ensures listed { does_fail self.old command.unit ≡ fails (moment_of self.old) command.unit }
         ensures rising { rises (broken_of self.old.cells) ≡ true }
     {
-        if does_fail(&self.cells, command.unit) {
+        if !cells::set_value(&mut self.cells, command.unit, command.value) {
             self.faults = self.faults.saturating_add(1);
             return Err(Failed);
         }
-        cells::set_value(&mut self.cells, command.unit, command.value);
         Ok(())
     }
 
@@ -137,15 +136,4 @@ impl Device for ModelDevice {
         self.log.push_fit(t);
         Ok(())
     }
-}
-
-/// Whether a command on this unit fails.
-fn does_fail(cells: &UnitMap<Cell>, unit: Unit) -> bool
-    ensures answer { result ≡ (not (is_there cells.now unit) || is_broken_cell cells.now unit) }
-    ensures works { result ≡ false → is_there cells.now unit ≡ true }
-    ensures listed { is_broken_cell cells.now unit ≡ is_broken (broken_of cells.now) unit }
-    ensures rising { rises (broken_of cells.now) ≡ true }
-{
-    let broken = cells::is_broken(cells, unit);
-    !cells::is_there(cells, unit) || broken
 }

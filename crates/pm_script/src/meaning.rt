@@ -6,7 +6,7 @@ ghost use Rattle.pm_script.specs.Forms.{row_of};
 ghost use Rattle.pm_script.specs.Meaning.{form_meaning, meaning, words_meaning};
 
 use crate::forms::{LineForm, event_of, form_of};
-use crate::words::LineWords;
+use crate::words::{LineWords, Places, first_places};
 use pm_base::{Event, TOO_LONG, is_plain, without_return};
 
 /// Why a line of a script has no meaning. Where a line has several faults, the first of `Long`,
@@ -39,10 +39,13 @@ pub fn parse_line(line: &[u8]) -> Result<Event, LineFault>
     if line.len() >= TOO_LONG {
         return Err(LineFault::Long);
     }
-    if !is_plain(without_return(line)) {
+    let text = without_return(line);
+    if !is_plain(text) {
         return Err(LineFault::NotAscii);
     }
-    parse_words(&LineWords::of(line))
+    let mut places = Places::new();
+    first_places(text, &mut places);
+    parse_words(&LineWords::of(line, &places))
 }
 
 /// What a line with these words means. Its first word says which form it has.

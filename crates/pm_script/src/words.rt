@@ -1,17 +1,16 @@
 //! The words of a line, found in one pass.
 
-ghost use Rattle.std.specs.Prelude.{◌≡◌, ◌↔◌, ◌<◌, ◌≤◌, ◌-◌, drop, length, slice_get, take, option_copied, option_map, IsTrue, None};
+ghost use Rattle.std.specs.Prelude.{◌≡◌, ◌↔◌, ◌<◌, ◌≤◌, ◌-◌, [], drop, length, slice_get, take, option_copied, option_map, IsTrue, None};
 ghost use Rattle.pm_base.specs.Words.{is_blank, words, words_from, word_texts};
 ghost use Rattle.pm_script.specs.Forms.{arguments_of};
 
 use crate::forms::{Argument, Width, argument_of};
 use arrayvec::ArrayVec;
-use pm_base::without_return;
 use pm_base::words::is_blank;
 use std::marker::Model;
 
 /// The places of words: the first of each, and the place after its end.
-type Places = ArrayVec<(usize, usize), 9>;
+pub(crate) type Places = ArrayVec<(usize, usize), 9>;
 
 /// The arguments of a line. No form has more than seven.
 pub(crate) type Arguments = ArrayVec<Argument, 7>;
@@ -21,7 +20,7 @@ pub(crate) type Arguments = ArrayVec<Argument, 7>;
 #[derive(Drop)]
 pub(crate) struct LineWords<'a> {
     line: &'a [u8],
-    places: Places,
+    places: &'a Places,
 }
 
 impl<'a> Model for LineWords<'a> {
@@ -32,18 +31,16 @@ impl<'a> Model for LineWords<'a> {
 
     ghost view = { λ found. found.line.now };
 
-    ghost invariant = { λ found. found.places.items ≡ take 9 (words found.line.now) };
+    ghost invariant = { λ found. found.places.now.items ≡ take 9 (words found.line.now) };
 }
 
 impl<'a> LineWords<'a> {
-    /// Finds the words of a line.
-    pub fn of(line: &'a [u8]) -> LineWords<'a>
+    /// A line with the places of its first nine words.
+    pub fn of(line: &'a [u8], places: &'a Places) -> LineWords<'a>
+        requires { places.now.items ≡ take 9 (words line.now) }
         ensures { result ≡ line.now }
     {
-        LineWords {
-            line,
-            places: first_places(without_return(line)),
-        }
+        LineWords { line, places }
     }
 
     /// Whether `least` to `most` words follow the first word.
@@ -90,21 +87,21 @@ impl<'a> LineWords<'a> {
     }
 }
 
-/// The places of the first nine words of a text.
-fn first_places(text: &[u8]) -> Places
-    ensures { result.items ≡ take 9 (words_from None 0 text.now) }
+/// Finds the places of the first nine words of a text.
+pub(crate) fn first_places(text: &[u8], places: &mut Places)
+    requires { places.old.items ≡ [] }
+    ensures { places.new.items ≡ take 9 (words_from None 0 text.now) }
 {
-    let mut places = Places::new();
     let mut start = None;
     'bytes: for (at, &byte) in text.iter().enumerate() {
         match start {
             None if is_blank(byte) => {}
-            None if byte == b'#' => return places,
+            None if byte == b'#' => return,
             None => start = Some(at),
             Some(first) if is_blank(byte) => {
                 places.push((first, at));
                 if places.is_full() {
-                    return places;
+                    return;
                 }
                 start = None;
             }
@@ -114,5 +111,4 @@ fn first_places(text: &[u8]) -> Places
     if let Some(first) = start {
         places.push((first, text.len()));
     }
-    places
 }

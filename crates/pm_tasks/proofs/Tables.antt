@@ -135,6 +135,15 @@ module _ {X : Type 0} (f : X → Timed) (before now next limit : ℕ) (slots : L
       let far : length all ≤ next = rw (length-map slots (option_map f)) past in
       sym (ap (λ (t : Timetable). t.left) passed) ∙ ap (due_from before now next) (drop_all next all far)
 
+  -- where no call is left, all keys are passed over
+  pub ended_left : (end : ℕ) → length slots ≤ end → due_from before now end (drop end all) ≡ []
+  ended_left end past =
+      let far : length all ≤ end = rw (length-map slots (option_map f)) past in
+      ap (due_from before now end) (drop_all end all far)
+
+  pub ended_slots : (end : ℕ) → Left → length slots ≤ end → settled before now end all ≡ settled before now next all
+  ended_slots end none past = settled_already before now end all (ended_left end past) ∙ sym (settled_already before now next all none)
+
   -- a task that is called
   pub taken_one : (from word : ℕ) (task later : X) → seen before now next limit all ≡ seen before now from limit all
       → get_or slots next None ≡ Some task

@@ -27,7 +27,7 @@ pub struct TasksOf<H: Drop> {
     /// The time, and what it was before it moved last.
     time: u64,
     before: u64,
-    /// The least key that wasn't looked at since then.
+    /// The least key that wasn't looked at since then. Once `take` has found that no call is left it is past all keys.
     next: usize,
     ghost within: { slab_len tasks ≤ limit },
     ghost room: { limit ≤ tasks.capacity },
@@ -193,7 +193,11 @@ impl<H: Handler> TasksOf<H> {
         ensures time { IfSome result (λ fired. IfSome (last_call H.Handler self.new fired.key)
             (λ time. time ≡ fired.at)) }
     {
-        let key = self.first_due()?;
+        let Some(key) = self.first_due() else {
+            // Nothing is due until the time moves again.
+            self.next = self.tasks.capacity();
+            return None;
+        };
         let at = self.time;
         let task = self.tasks.get_mut(key)?;
         let word = task.fire(at);
