@@ -1,12 +1,2 @@
-pub mod AskedLaw
-pub mod AwakeLaw
-pub mod EndedLaw
 pub mod PassLaw
-pub mod QuietLaw
 pub mod Refused
-pub mod RestartLaw
-pub mod SoundSteps
-pub mod StepLaw
-pub mod StillLaw
-pub mod TouchedLaw
-pub mod ModesLaw

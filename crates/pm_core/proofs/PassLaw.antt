@@ -20,7 +20,7 @@ use Rattle.pm_state.specs.Values.{value}
 use Rattle.pm_core.specs.declared.outbox.Outbox.{Outbox}
 use Rattle.pm_core.specs.Outbox.{Holds, IsEmpty}
 use Rattle.pm_core.specs.Step.{effect, modes_in, notices, opening, outputs}
-use Rattle.pm_core.proofs.Refused.{no_news, none_end, pass_stays}
+use Rattle.pm_step.proofs.Refused.{no_news, none_end, pass_stays}
 
 none_differ : (values : Unit → ℕ) (us : List Unit) → filter (λ u. not (values u == values u)) us ≡ []
 none_differ values [] = refl

@@ -1,3 +1,4 @@
+pub mod Begun
 pub mod Outbox
 pub mod Step
 pub mod Usage

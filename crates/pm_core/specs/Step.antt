@@ -1,162 +1,29 @@
--- The step: what an event does to the book, and what it puts out.
-use Rattle.std.specs.Prelude.{ℕ, Bool, true, false, not, ◌&&◌, ◌||◌, List, [], ◌∷◌, Option, Some, None, option_and_then, if◌then◌else◌}
-use Rattle.std.specs.List.{list_any}
-use Rattle.pm_base.specs.declared.names.LineId.{LineId}
+-- What a step puts out, and how the sender of a message is answered; beside what an event does to the book.
+use Rattle.std.specs.Prelude.{true, [], ◌∷◌, Option, Some, None}
 use Rattle.pm_base.specs.declared.names.NodeId.{NodeId}
-use Rattle.pm_base.specs.declared.names.Mode.{Mode}
-use Rattle.pm_base.specs.declared.names.Mode.TheVariants.{Off, Asleep, Suspending}
 use Rattle.pm_base.specs.declared.events.Event.{Event}
-use Rattle.pm_base.specs.declared.events.Event.TheVariants.{Ipi, Boot, Wfi, Irq, Gic, Tick}
 use Rattle.pm_ipi.specs.declared.calls.Call.{Call}
 use Rattle.pm_ipi.specs.declared.calls.AckKind.{AckKind}
 use Rattle.pm_ipi.specs.declared.calls.AckKind.TheVariants.{No, Blocking, NonBlocking}
 use Rattle.pm_ipi.specs.declared.responses.Response.{Response}
-use Rattle.pm_ipi.specs.Calls.{call_of, ack_of, node_of}
-use Rattle.pm_notify.specs.declared.notes.Waiting.{Waiting}
-use Rattle.pm_procs.specs.Modes.{is_awake, same_mode}
-use Rattle.pm_procs.specs.Procs.{wakes, mode_at}
-use Rattle.pm_topology.specs.declared.places.Kind.{Kind}
-use Rattle.pm_topology.specs.declared.places.Kind.TheVariants.{Proc}
-use Rattle.pm_topology.specs.Places.{kind_of}
+use Rattle.pm_ipi.specs.Calls.{ack_of, node_of}
+use Rattle.pm_procs.specs.Modes.{is_awake}
 use Rattle.pm_core.specs.declared.replies.Answer.{Answer}
 use Rattle.pm_core.specs.declared.replies.Answer.TheVariants.{Silent, Drop, Reply, Ack}
 use Rattle.pm_tell.specs.declared.served.Served.{Served}
-use Rattle.pm_tell.specs.declared.ended.Ended.{Ended}
-use Rattle.pm_calls.specs.declared.verdict.Asked.{Asked}
-use Rattle.pm_calls.specs.declared.verdict.Say.{Say}
 use Rattle.pm_calls.specs.declared.verdict.Verdict.{Verdict}
 use Rattle.pm_calls.specs.declared.verdict.Verdict.TheVariants.{Dropped, Refused, Accepted}
-use Rattle.pm_tell.specs.Callbacks.{News, callbacks, late_replies}
-use Rattle.pm_tell.specs.Ended.{ended_from}
-use Rattle.pm_values.specs.declared.touches.Touched.{Touched}
-use Rattle.pm_values.specs.declared.touches.Touched.TheVariants.{All, Modes, Nothing, Rows}
-use Rattle.pm_values.specs.Turns.{turns_along}
-use Rattle.pm_calls.specs.Events.{boot, wait, interrupt, raised}
-use Rattle.pm_calls.specs.Shapes.{Shape, Other_suspend, Own_abort, Own_arming, Own_notifier, Own_row, Own_suspend}
-use Rattle.pm_calls.specs.calls.{called, only_reads, shape_of}
-use Rattle.pm_state.specs.Members.{mode_of_master}
-use Rattle.pm_values.specs.Notifications.{notifications}
+use Rattle.pm_tell.specs.Callbacks.{callbacks, late_replies}
 use Rattle.pm_core.specs.Outbox.{Outputs}
-use Rattle.pm_state.specs.Prims.{Prim}
-use Rattle.pm_tell.specs.Served.{pulse_in, says_in}
-use Rattle.pm_state.specs.Stages.{after_stages, path_from}
+use Rattle.pm_state.specs.Stages.{after_stages}
 use Rattle.pm_values.specs.Starts.{starts, was_down}
-use Rattle.pm_state.specs.State.{State, in_force}
-use Rattle.pm_state.specs.Talk.{Talk, talked}
-use Rattle.pm_tell.specs.Opening.{forgets_from, talk_of}
+use Rattle.pm_state.specs.State.{State}
 use Rattle.pm_state.specs.Units.{moved}
-use Rattle.pm_state.specs.Values.{master_place, slave_place, value, point}
-use Rattle.pm_calls.specs.Verdict.{Called, asked_by, aborted_by, is_refusal, renews_all, response_of, stages_of, verdict_of}
+use Rattle.pm_state.specs.Values.{value, point}
+use Rattle.pm_calls.specs.Verdict.{response_of}
 use Rattle.pm_state.specs.Nodes.{master_mode}
-use Rattle.pm_tell.specs.Telling.{notes_after, tellings}
-
--- only a master that is active or suspending may call, and only while the book isn't halted
-abbrev pub may_call : ℕ → State → Bool
-may_call m book = not book.now.core.halted && is_awake (mode_of_master book.fixed book.now.core m)
-
-abbrev pub call_at : Call → State → ℕ → Option Called
-call_at call book m = if may_call m book then Some (called m call book) else None
-
--- the call of a message: none if its sender is no configured master, or is asleep or off, or if the book is halted
-abbrev pub call_in : NodeId → Call → State → Option Called
-call_in master call book = option_and_then (call_at call book) (master_place master book)
-
--- the verdict on a message, by its call
-abbrev pub verdict : Option Called → Verdict
-verdict None = Dropped
-verdict (Some call) = verdict_of call
-
--- and the stages of the step
-abbrev pub message_stages : Option Called → List (List Prim)
-message_stages None = []
-message_stages (Some call) = stages_of call
-
--- the event is a message
-abbrev pub is_ipi : Event → Bool
-is_ipi (Ipi master message) = true
-is_ipi _ = false
-
--- these stages, and none while the book is halted
-abbrev pub unless_halted : State → List (List Prim) → List (List Prim)
-unless_halted book stages = if book.now.core.halted then [] else stages
-
--- the stages of a step: none for a message that is dropped or refused, or that only tells words, and for any other
--- event
-abbrev pub stages : Event → State → List (List Prim)
-stages (Ipi master message) book = message_stages (call_in master (call_of message) book)
-stages (Boot proc address) book = unless_halted book (boot proc address book)
-stages (Wfi proc) book = unless_halted book (wait proc book)
-stages (Irq slave) book = unless_halted book (raised slave book)
-stages (Gic proc) book = unless_halted book (interrupt proc book)
-stages _ book = []
-
--- the books along a step
-abbrev pub path : Event → State → List State
-path event book = path_from (stages event book) book
-
--- a message with the verdict on it; any other event is none
-abbrev pub served : Event → State → Option Served
-served (Ipi master message) book =
-    Some (record { master = master; call = call_of message; verdict = verdict (call_in master (call_of message) book) })
-served _ book = None
-
--- what the masters are told by a message
-abbrev pub says : Event → State → Option Say
-says event book = says_in (served event book)
-
--- the master that is asked to suspend by it
-abbrev pub asks : Event → State → Option Asked
-asks event book = asked_by (says event book)
-
--- whether all is restarted by it
-abbrev pub renews : Event → State → Bool
-renews event book = renews_all (says event book)
-
--- the reset line that it pulses
-abbrev pub pulse : Event → State → Option LineId
-pulse event book = pulse_in (served event book)
-
--- the time that passes with an event: none while the book is halted
-abbrev pub time_of : Event → State → Option ℕ
-time_of (Tick count) book = if book.now.core.halted then None else Some count
-time_of _ book = None
-
--- the requests that were pending before a step and end in it, in object order of the masters that were asked
-abbrev pub ended : Event → State → List Ended
-ended event book =
-    ended_from (turns_along book (path event book)) (aborted_by (says event book)) (time_of event book) 0
-    book.now.talk.pending
-
--- the notifiers of masters that became off along a step are gone, and so is what waits for them
-abbrev pub forgets : Event → State → List Talk
-forgets event book = forgets_from (turns_along book (path event book)) 0 (in_force book).masters
-
--- what a step does before any master is told of it
-abbrev pub opening : Event → State → List Talk
-opening event book =
-    talk_of (says event book) (forgets event book) (time_of event book) (ended event book)
-
--- what happened to nodes in a step
-abbrev pub notices : Event → State → List Waiting
-notices event book = notifications book (after_stages (stages event book) book)
-
--- what a step has to tell
-abbrev pub news : Event → State → News
-news event book = record { asked = asks event book; ended = ended event book; notices = notices event book }
-
--- the modes of the masters in a book
-abbrev pub modes_in : State → ℕ → Mode
-modes_in book m = mode_of_master book.fixed book.now.core m
-
--- all that is told in a step
-abbrev pub talk : Event → State → List Talk
-talk event book =
-    tellings (news event book) (modes_in book) (opening event book) (served event book)
-    (after_stages (stages event book) book)
-
--- the book after an event: after its stages, and then what is told
-abbrev pub effect : Event → State → State
-effect event book = talked (talk event book) (after_stages (stages event book) book)
+use Rattle.pm_tell.specs.Telling.{notes_after}
+pub use Rattle.pm_step.specs.Step.{may_call, call_at, call_in, verdict, message_stages, is_ipi, unless_halted, stages, path, served, says, asks, renews, pulse, time_of, ended, forgets, opening, notices, news, modes_in, talk, effect, is_refused, is_action, may_change, keeps_values, row_node, touched_at, row_place, touched_in, touched_by, touched, is_proc_in, leaves_values, touched_unless}
 
 -- how a response reaches the caller, by the acknowledge kind of the call, in the book after it: the callback is
 -- written where the caller is active or suspending then
@@ -210,76 +77,3 @@ outputs_at_load book = record {
   callbacks = [];
   answer = Silent;
 }
-
--- a message that is dropped, or whose status isn't 0
-abbrev pub is_refused : Event → State → Bool
-is_refused (Ipi master message) book = is_refusal (verdict (call_in master (call_of message) book))
-is_refused _ book = false
-
--- an event that is no message and may have stages: any but that time passes, that a node of the device fails or works
--- again, and that nothing happens
-abbrev pub is_action : Event → Bool
-is_action (Boot proc address) = true
-is_action (Wfi proc) = true
-is_action (Irq slave) = true
-is_action (Gic proc) = true
-is_action _ = false
-
--- an event may have stages, by the verdict on its message: one that is dropped or refused, or that only reads, has none
-abbrev pub may_change : Event → Option Served → Bool
-may_change event None = is_action event
-may_change event (Some served) = not (is_refusal served.verdict || only_reads served.call)
-
--- a call of this shape changes no value: the caller is told of a node, another master is asked to suspend, or a
--- processor of the caller that is active starts to suspend, or goes on in place of suspending
-abbrev pub keeps_values : Shape → Bool
-keeps_values (Own_notifier node event enable) = true
-keeps_values (Other_suspend node ack latency state) = true
-keeps_values (Own_suspend node address) = true
-keeps_values (Own_abort node reason) = true
-keeps_values _ = false
-
--- the node of the slave on which a call of this shape changes the caller's row; then it changes nothing else of the book
-abbrev pub row_node : Shape → Option NodeId
-row_node (Own_row node by call) = Some node
-row_node (Own_arming target source enable) = Some source
-row_node _ = None
-
--- what is touched where the rows on the slave at this place change, and nothing else, if there is a place
-abbrev pub touched_at : Option ℕ → Touched
-touched_at None = All
-touched_at (Some s) = Rows s
-
-abbrev pub row_place : Call → State → Option ℕ
-row_place call book = option_and_then (λ node. slave_place node book) (row_node (shape_of call))
-
--- what a call touches that may have stages
-abbrev pub touched_in : Call → State → Touched
-touched_in call book = if keeps_values (shape_of call) then Nothing else touched_at (row_place call book)
-
-abbrev pub touched_by : Option Served → State → Touched
-touched_by None book = Modes
-touched_by (Some served) book = touched_in served.call book
-
--- what of a book an event may touch, by the verdict on its message: nothing that changes a value, the rows on one
--- slave, modes of processors with the rows of the masters whose mode turns, or anything
-abbrev pub touched : Event → Option Served → State → Touched
-touched event served book = if may_change event served then touched_by served book else Nothing
-
--- a node of this kind is a processor in this mode
-abbrev pub is_proc_in : Mode → Kind → State → Bool
-is_proc_in mode (Proc p) book = same_mode (mode_at p book.now.core.procs) mode
-is_proc_in mode _ book = false
-
--- an event changes no value, as is told by the book before it: it starts a processor that isn't off, one that isn't
--- suspending waits, an interrupt comes to one that isn't asleep, or a slave's while none is asleep or suspending
-abbrev pub leaves_values : Event → State → Bool
-leaves_values (Boot proc address) book = not (is_proc_in Off (kind_of book.fixed.topology proc) book)
-leaves_values (Wfi proc) book = not (is_proc_in Suspending (kind_of book.fixed.topology proc) book)
-leaves_values (Gic proc) book = not (is_proc_in Asleep (kind_of book.fixed.topology proc) book)
-leaves_values (Irq slave) book = not (list_any wakes book.now.core.procs)
-leaves_values _ book = false
-
--- what of a book an event may touch, where it is told by the book before whether it changes no value
-abbrev pub touched_unless : Bool → Event → Option Served → State → Touched
-touched_unless still event served book = if still then Nothing else touched event served book

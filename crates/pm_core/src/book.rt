@@ -1,9 +1,10 @@
 //! The book of requirements: its load, its step and what is read of it.
 
-ghost use Rattle.std.specs.Prelude.{◌≡◌, ◌<◌, IsTrue, IfOk, IfErr, Some, is_some, length, slice_get};
+ghost use Rattle.std.specs.Prelude.{◌≡◌, ◌<◌, IsTrue, IfOk, IfErr, Ok, Some, is_some, length, slice_get};
 ghost use Rattle.pm_topology.specs.WellFormed.{IsWellFormed};
 ghost use Rattle.pm_state.specs.Fed.{IsFed};
 ghost use Rattle.pm_state.specs.Load.{load_of};
+ghost use Rattle.pm_core.specs.Begun.{IsBegun};
 ghost use Rattle.pm_core.specs.Outbox.{HasRoom, HasRoomFor, Holds, IsEmpty, KeepsRoom};
 ghost use Rattle.pm_perms.specs.Permits.{may_use};
 ghost use Rattle.pm_core.specs.Step.{effect, outputs, outputs_at_load, is_refused};
@@ -14,13 +15,13 @@ ghost use Rattle.pm_state.specs.Units.{units};
 ghost use Rattle.pm_state.specs.Values.{point, shown, value};
 ghost use Rattle.pm_state.specs.Nodes.{master_mode, mode, row};
 
-use crate::laws::books_stay_sound;
+use crate::answers::answer;
 use crate::outbox::Outbox;
-use crate::step::{advance, answer, leaves_values, time_of, touched_unless};
 use pm_base::{Event, Mode, NoMemory, NodeId, Unit};
 use pm_object::Object;
 use pm_rows::Row;
 use pm_state::Tables;
+use pm_step::{advance, books_stay_sound, leaves_values, time_of, touched_unless};
 use pm_tell::{Telling, pulse_in, tell};
 use pm_topology::{Topology, kinds_are_exact, units_stand_in_order};
 use pm_values::{Caches, point, value, values_meet};
@@ -87,9 +88,9 @@ impl Book {
         values_meet();
         out.clear();
         let tables = Tables::load(alloc, object, topology)?;
-        let mut caches = Caches::load(alloc, &tables)?;
-        let procs = tables.topology().procs.len();
-        let mut telling = Telling::load(alloc, caches.units(), tables.masters(), procs)?;
+        let kept = kept_of(alloc, &tables);
+        let (tables, kept) = with(tables, kept)?;
+        let (mut caches, mut telling) = kept;
         caches.update(
             &tables,
             &telling.along,
@@ -113,7 +114,7 @@ impl Book {
     /// on in place of suspending or aborts, or where its time is over. No other event changes the book. The
     /// outbox, which was loaded for the book's topology and masters, then holds what this step puts out, in the
     /// room that it had. No memory is taken.
-    #[tactic(auto, using(crate::proofs::Refused::refused_stays))]
+    #[tactic(auto, using(pm_step::proofs::Refused::refused_stays))]
     pub fn step(&mut self, event: &Event, out: &mut Outbox)
         requires room { HasRoomFor self.old out.old }
         ensures book { self.new ≡ effect event.now self.old }
@@ -280,5 +281,25 @@ impl Book {
         let master = self.tables.master_place(master)?;
         let slave = self.tables.slave_place(slave)?;
         Some(self.tables.rows().usage(master, slave))
+    }
+}
+
+/// What is kept of the values of tables, before anything is found, and what is logged of a step.
+fn kept_of(alloc: Global, tables: &Tables) -> Result<(Caches, Telling), NoMemory>
+    ensures { IfOk result (λ kept. IsBegun tables.now kept.0 kept.1) }
+{
+    let caches = Caches::load(alloc, tables)?;
+    let procs = tables.topology().procs.len();
+    let telling = Telling::load(alloc, caches.units(), tables.masters(), procs);
+    with(caches, telling)
+}
+
+/// Both, if the second is there. Else the first is dropped: here its type is any.
+fn with<T: Drop, U, E>(first: T, second: Result<U, E>) -> Result<(T, U), E>
+    ensures { IfOk result (λ both. (both.0 ≡ first) × (second ≡ Ok both.1)) }
+{
+    match second {
+        Ok(second) => Ok((first, second)),
+        Err(error) => Err(error),
     }
 }

@@ -3,18 +3,17 @@
 //! (UG1200, power management API).
 #![tactic(auto)]
 
+mod answers;
 mod book;
 #[cfg(test)]
 mod fields;
-mod laws;
 mod outbox;
 mod replies;
-mod step;
 
 pub use book::Book;
-pub use laws::books_stay_sound;
 pub use outbox::{Done, Outbox};
 pub use pm_state::members_are_owned;
+pub use pm_step::books_stay_sound;
 pub use pm_tell::{Callback, Late};
 pub use pm_values::{Start, values_are_fed, values_meet};
 pub use replies::Answer;

@@ -24,17 +24,17 @@ use Rattle.pm_state.specs.Units.{units, moved}
 use Rattle.pm_state.specs.Values.{value}
 use Rattle.pm_calls.specs.Verdict.{aborted_by}
 use Rattle.pm_values.proofs.CachesLaw.{kept_places, kept_talked}
-use Rattle.pm_core.proofs.EndedLaw.{IsTold, stages_talk, step_told}
+use Rattle.pm_step.proofs.EndedLaw.{IsTold, stages_talk, step_told}
 use Rattle.pm_values.proofs.NoticesLaw.{notices_are}
-use Rattle.pm_core.proofs.Refused.{pass_stays, refused_stays}
+use Rattle.pm_step.proofs.Refused.{pass_stays, refused_stays}
 use Rattle.pm_core.proofs.PassLaw.{pass_puts}
 use Rattle.pm_base.specs.declared.events.Event.{Event}
 use Rattle.pm_core.specs.Outbox.{Holds}
-use Rattle.pm_core.proofs.TouchedLaw.{unless_touches}
+use Rattle.pm_step.proofs.TouchedLaw.{unless_touches}
 use Rattle.pm_values.specs.declared.touches.Touched.{Touched}
 use Rattle.pm_values.specs.Touches.{IsTouched}
-use Rattle.pm_core.proofs.SoundSteps.{kept_by}
-use Rattle.pm_core.proofs.StepLaw.{step_moves, step_starts}
+use Rattle.pm_step.proofs.SoundSteps.{kept_by}
+use Rattle.pm_step.proofs.StepLaw.{step_moves, step_starts}
 use Rattle.pm_core.proofs.book.Book.step.Goals as goal
 
 pub follow-requires-clause-room : goal.follow-requires-clause-room

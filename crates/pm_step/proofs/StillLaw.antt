@@ -23,8 +23,8 @@ use Rattle.pm_calls.specs.Views.{is_asked, proc_view_at}
 use Rattle.pm_calls.specs.calls.{called}
 use Rattle.pm_calls.specs.calls.AbortSuspend.{abort_checks, abort_suspend, goes_on}
 use Rattle.pm_calls.specs.calls.SelfSuspend.{self_suspend, self_suspend_checks, to_suspend}
-use Rattle.pm_core.specs.Step.{call_at, keeps_values, may_call, message_stages}
-use Rattle.pm_core.proofs.AwakeLaw.{LeavesValues, flat, foreign_leaves, idle_leaves, none_leaves, put_leaves}
+use Rattle.pm_step.specs.Step.{call_at, keeps_values, may_call, message_stages}
+use Rattle.pm_step.proofs.AwakeLaw.{LeavesValues, flat, foreign_leaves, idle_leaves, none_leaves, put_leaves}
 
 by_cause : (book : State) (cause : Cause) (stages : List (List Prim)) → LeavesValues book stages → LeavesValues book (stages_by cause stages)
 by_cause book (Stands Fits) stages leaves = leaves

@@ -9,7 +9,7 @@ ghost use Rattle.pm_topology.specs.declared.topology.Topology.{Topology};
 ghost use Rattle.pm_state.specs.Load.{load_of};
 ghost use Rattle.pm_state.specs.Sound.{IsSound};
 ghost use Rattle.pm_state.specs.State.{State, in_force};
-ghost use Rattle.pm_core.specs.Step.{effect, renews};
+ghost use Rattle.pm_step.specs.Step.{effect, renews};
 ghost use Rattle.pm_state.specs.Nodes.{row};
 
 use pm_notify::notes_stand_in_order;

@@ -24,9 +24,9 @@ use Rattle.pm_state.specs.Sound.{AreNotes, IsSound}
 use Rattle.pm_state.specs.Stages.{after_stage, after_stages, follow, follow_at, follow_from, follow_to}
 use Rattle.pm_state.specs.State.{Fixed, CoreHalf, TalkHalf, State, in_force}
 use Rattle.pm_calls.specs.calls.{called}
-use Rattle.pm_core.specs.Step.{call_in, effect, call_at, may_call, message_stages, modes_in, news, path, renews, served, verdict}
+use Rattle.pm_step.specs.Step.{call_in, effect, call_at, may_call, message_stages, modes_in, news, path, renews, served, verdict}
 use Rattle.pm_tell.specs.Telling.{tellings}
-use Rattle.pm_core.specs.Step as step
+use Rattle.pm_step.specs.Step as step
 use Rattle.pm_state.specs.Talk.{Talk, talked, talks}
 use Rattle.pm_tell.specs.Opening.{ends, forgets_from, talk_of}
 use Rattle.pm_state.specs.Values.{master_place}

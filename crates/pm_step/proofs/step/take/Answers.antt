@@ -1,8 +1,8 @@
 use Rattle.std.proofs.Common.{sym}
-use Rattle.pm_core.specs.Step.{stages}
+use Rattle.pm_step.specs.Step.{stages}
 use Rattle.pm_values.proofs.AlongLaw.{once_trailed}
-use Rattle.pm_core.proofs.StepLaw.{no_message, none_served, stages_once}
-use Rattle.pm_core.proofs.step.take.Goals as goal
+use Rattle.pm_step.proofs.StepLaw.{no_message, none_served, stages_once}
+use Rattle.pm_step.proofs.step.take.Goals as goal
 
 pub returns : goal.returns
 returns c =

@@ -24,7 +24,7 @@ use Rattle.pm_state.specs.Stages.{after_stages}
 use Rattle.pm_state.specs.State.{State, in_force}
 use Rattle.pm_calls.proofs.CallsSound.{called_keeps}
 use Rattle.pm_calls.specs.calls.{called}
-use Rattle.pm_core.specs.Step.{effect, call_at, may_call, message_stages, stages, talk}
+use Rattle.pm_step.specs.Step.{effect, call_at, may_call, message_stages, stages, talk}
 use Rattle.pm_state.specs.Values.{master_place}
 use Rattle.pm_base.proofs.Booleans.{both}
 use Rattle.pm_state.proofs.LoadLaw.{ModeLaws}
@@ -32,7 +32,7 @@ use Rattle.pm_state.proofs.RowLaws.{RowLaws}
 use Rattle.pm_state.proofs.MasterNotesLaw.{talk_notes}
 use Rattle.pm_state.proofs.ScopeSound.{KeepLaws}
 use Rattle.pm_state.proofs.PendingLaw.{RequestLaws, talk_keeps}
-use Rattle.pm_core.proofs.AskedLaw.{talk_named}
+use Rattle.pm_step.proofs.AskedLaw.{talk_named}
 use Rattle.pm_state.proofs.StageLaw.{put, stage_keeps}
 use Rattle.pm_calls.proofs.WakeSound.{raised_keeps, interrupt_keeps}
 

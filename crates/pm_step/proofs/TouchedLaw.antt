@@ -39,12 +39,12 @@ use Rattle.pm_values.specs.Along.{IsTrail, Trail, modes_of}
 use Rattle.pm_values.specs.Caches.{AreKept}
 use Rattle.pm_values.specs.Starts.{was_down}
 use Rattle.pm_values.specs.Touches.{ChangesModes, ChangesRows, IsOfModes, IsStill, IsTouched, with_core}
-use Rattle.pm_core.specs.Step.{call_at, is_action, keeps_values, leaves_values, may_call, may_change, message_stages, path, row_node, served, stages, touched, touched_at, touched_by, touched_unless}
-use Rattle.pm_core.proofs.AwakeLaw.{LeavesValues, none_leaves, same_twice}
-use Rattle.pm_core.proofs.ModesLaw.{event_turns}
-use Rattle.pm_core.proofs.QuietLaw.{event_leaves}
-use Rattle.pm_core.proofs.Refused.{none_staged}
-use Rattle.pm_core.proofs.StillLaw.{message_stays, shape_leaves}
+use Rattle.pm_step.specs.Step.{call_at, is_action, keeps_values, leaves_values, may_call, may_change, message_stages, path, row_node, served, stages, touched, touched_at, touched_by, touched_unless}
+use Rattle.pm_step.proofs.AwakeLaw.{LeavesValues, none_leaves, same_twice}
+use Rattle.pm_step.proofs.ModesLaw.{event_turns}
+use Rattle.pm_step.proofs.QuietLaw.{event_leaves}
+use Rattle.pm_step.proofs.Refused.{none_staged}
+use Rattle.pm_step.proofs.StillLaw.{message_stays, shape_leaves}
 
 -- what is found passes the test
 found_passes : {X : Type 0} (p : X → Bool) (x : X) (xs : List X) (found : X) (here : Bool) → p x ≡ here → cond here (Some x) (find p xs) ≡ Some found → (find p xs ≡ Some found → p found ≡ true) → p found ≡ true

@@ -1,13 +1,13 @@
 use Rattle.std.proofs.Common.{◌≡◌, length, sym, ◌∙◌, ap, subst, arith}
 use Rattle.pm_base.specs.BoundedList.{Bounded}
 use Rattle.pm_notify.specs.declared.notes.Waiting.{Waiting}
-use Rattle.pm_core.specs.Step.{path}
+use Rattle.pm_step.specs.Step.{path}
 use Rattle.pm_state.specs.State.{Fixed, State, in_force}
 use Rattle.pm_state.specs.Units.{units}
 use Rattle.pm_values.specs.Along.{HasPlaces as HasTrail, Trail, mode_beside}
 use Rattle.pm_state.proofs.PlacedLemmas.{length-placed}
 use Rattle.pm_values.proofs.AlongLaw.{completed, trailed_places}
-use Rattle.pm_core.proofs.step.advance.Goals as goal
+use Rattle.pm_step.proofs.step.advance.Goals as goal
 
 -- the places of the trail stay while it is logged
 pub log-requires : goal.log-requires

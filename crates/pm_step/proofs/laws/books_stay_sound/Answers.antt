@@ -2,9 +2,9 @@ use Rattle.pm_notify.specs.Laws.{OrderLaws}
 use Rattle.pm_state.proofs.LoadLaw.{ModeLaws}
 use Rattle.pm_state.proofs.PendingLaw.{RequestLaws}
 use Rattle.pm_state.proofs.RowLaws.{RowLaws}
-use Rattle.pm_core.proofs.RestartLaw.{restart_loads}
-use Rattle.pm_core.proofs.SoundSteps.{effect_sound}
-use Rattle.pm_core.proofs.laws.books_stay_sound.Goals as goal
+use Rattle.pm_step.proofs.RestartLaw.{restart_loads}
+use Rattle.pm_step.proofs.SoundSteps.{effect_sound}
+use Rattle.pm_step.proofs.laws.books_stay_sound.Goals as goal
 
 pub returns : goal.returns
 returns c =

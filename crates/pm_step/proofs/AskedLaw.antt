@@ -33,9 +33,9 @@ use Rattle.pm_state.specs.Members.{mode_of_master}
 use Rattle.pm_state.specs.State.{Fixed, State, in_force}
 use Rattle.pm_state.specs.Stages.{after_stages}
 use Rattle.pm_calls.specs.calls.{called}
-use Rattle.pm_core.specs.Step.{call_at, may_call, modes_in, news, opening, path, says, served, stages, talk, time_of, verdict}
+use Rattle.pm_step.specs.Step.{call_at, may_call, modes_in, news, opening, path, says, served, stages, talk, time_of, verdict}
 use Rattle.pm_tell.specs.Telling.{notes_after}
-use Rattle.pm_core.specs.Step as step
+use Rattle.pm_step.specs.Step as step
 use Rattle.pm_state.specs.Talk.{Talk, Forget, take_of, wait_of}
 use Rattle.pm_tell.specs.Opening.{ends, forget_at, forgets_from, lower_by, renew_by, say_by}
 use Rattle.pm_state.specs.Values.{master_place}

@@ -1,10 +1,10 @@
 use Rattle.std.proofs.Common.{Some, None, if◌then◌else◌, sym, ◌∙◌, ap}
 use Rattle.std.specs.Prelude.{option_and_then}
 use Rattle.pm_calls.specs.calls.{called}
-use Rattle.pm_core.specs.Step.{call_in, call_at, message_stages}
+use Rattle.pm_step.specs.Step.{call_in, call_at, message_stages}
 use Rattle.pm_values.proofs.AlongLaw.{still_trailed}
-use Rattle.pm_core.proofs.StepLaw.{nowhere}
-use Rattle.pm_core.proofs.step.receive.Goals as goal
+use Rattle.pm_step.proofs.StepLaw.{nowhere}
+use Rattle.pm_step.proofs.step.receive.Goals as goal
 
 pub returns-in_default-clause-along : goal.returns-in_default-clause-along
 returns-in_default-clause-along c =

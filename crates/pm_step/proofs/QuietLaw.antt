@@ -19,8 +19,8 @@ use Rattle.pm_state.specs.Prims.{Prim}
 use Rattle.pm_state.specs.Sound.{IsSound}
 use Rattle.pm_state.specs.State.{State}
 use Rattle.pm_calls.specs.Events.{boot_at, boot_by, booted, interrupt_at, interrupt_by, raised_at, wait_at, wait_by, waits, woken_at, woken_by, woken_from, woken_in}
-use Rattle.pm_core.specs.Step.{is_proc_in, leaves_values, stages}
-use Rattle.pm_core.proofs.AwakeLaw.{LeavesValues, flat, idle_leaves, none_leaves, put_leaves}
+use Rattle.pm_step.specs.Step.{is_proc_in, leaves_values, stages}
+use Rattle.pm_step.proofs.AwakeLaw.{LeavesValues, flat, idle_leaves, none_leaves, put_leaves}
 
 unless_leaves : (halted : Bool) (book : State) (stages : List (List Prim)) → LeavesValues book stages → LeavesValues book (if halted then [] else stages)
 unless_leaves true book stages leaves = none_leaves book

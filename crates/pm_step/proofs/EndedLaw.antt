@@ -22,7 +22,7 @@ use Rattle.pm_values.specs.Along.{Trail, IsTrail, mode_logged, modes_of, turns_l
 use Rattle.pm_state.specs.Prims.{Prim, applies, changed}
 use Rattle.pm_state.specs.Stages.{after_stage, after_stages, follow, last_of, path_from}
 use Rattle.pm_state.specs.State.{Fixed, Now, State, in_force}
-use Rattle.pm_core.specs.Step.{effect, ended, forgets, modes_in, news, notices, opening, path, says, served, stages, talk, time_of}
+use Rattle.pm_step.specs.Step.{effect, ended, forgets, modes_in, news, notices, opening, path, says, served, stages, talk, time_of}
 use Rattle.pm_tell.specs.Telling.{notes_after, tellings, news_in, opening_in, turns_in}
 use Rattle.pm_state.specs.Talk.{Talk, talked}
 use Rattle.pm_tell.specs.Opening.{forget_at, forgets_from, talk_of}

@@ -2,27 +2,25 @@
 
 ghost use Rattle.std.specs.Prelude.{◌≡◌, false, length};
 ghost use Rattle.pm_topology.specs.Places.{kind_of};
-ghost use Rattle.pm_ipi.specs.Calls.{ack_of, node_of};
 ghost use Rattle.pm_calls.specs.calls.{only_reads, shape_of};
 ghost use Rattle.pm_values.specs.Caches.{AreKept};
 ghost use Rattle.pm_state.specs.Stages.{after_stages, path_from};
-ghost use Rattle.pm_core.specs.Step.{acknowledged, answer_by, answer_of, call_in, is_action, is_proc_in, keeps_values, leaves_values, may_call, may_change, is_ipi, message_stages, path, row_node, row_place, served, stages, time_of, touched, touched_at, touched_in, touched_unless, verdict};
+ghost use Rattle.pm_step.specs.Step.{call_in, is_action, is_proc_in, keeps_values, leaves_values, may_call, may_change, is_ipi, message_stages, path, row_node, row_place, served, stages, time_of, touched, touched_at, touched_in, touched_unless, verdict};
 ghost use Rattle.pm_state.specs.State.{in_force};
 ghost use Rattle.pm_tell.specs.Telling.{HasPlaces};
 ghost use Rattle.pm_values.specs.Along.{Completes, IsTrail, modes_of, trail_from};
 
-use crate::replies::Answer;
 use pm_base::{Event, Mode, NodeId};
 use pm_calls::{Verdict, boot, interrupt, raise, serve, wait};
-use pm_ipi::{AckKind, Call, Response, decode_call};
+use pm_ipi::{Call, decode_call};
 use pm_procs::{is_awake, same_mode};
 use pm_state::Tables;
 use pm_tell::{Served, Telling};
 use pm_topology::Kind;
-use pm_values::{Along, Caches, Touched, point};
+use pm_values::{Along, Caches, Touched};
 
 /// The time that passes with an event: none while the book is halted.
-pub(crate) fn time_of(tables: &Tables, event: &Event) -> Option<u32>
+pub fn time_of(tables: &Tables, event: &Event) -> Option<u32>
     ensures { result ≡ time_of event.now tables.now }
 {
     match event {
@@ -39,7 +37,7 @@ pub(crate) fn time_of(tables: &Tables, event: &Event) -> Option<u32>
 
 /// One event: the book after its stages, the verdict on a message, and what is logged of the step until the masters are
 /// told of it: their modes before it, and what became of those along it.
-pub(crate) fn advance(
+pub fn advance(
     tables: &mut Tables,
     caches: &Caches,
     event: &Event,
@@ -170,7 +168,7 @@ fn may_change(event: &Event, served: Option<Served>) -> bool
 /// just as before. A boot loader starts no other than one that is off, none sleeps but one that is suspending, and
 /// none is woken but one that is asleep, or goes on in place of suspending. The interrupt of a slave wakes none where
 /// none is asleep or suspending.
-pub(crate) fn leaves_values(tables: &Tables, event: &Event) -> bool
+pub fn leaves_values(tables: &Tables, event: &Event) -> bool
     ensures { result ≡ leaves_values event.now tables.now }
 {
     match event {
@@ -193,7 +191,7 @@ fn is_proc_in(tables: &Tables, node: NodeId, mode: Mode) -> bool
 }
 
 /// What of a book an event may touch, where it is told by the book before whether it changes no value.
-pub(crate) fn touched_unless(
+pub fn touched_unless(
     still: bool,
     tables: &Tables,
     event: &Event,
@@ -276,53 +274,5 @@ fn row_node(call: &Call) -> Option<NodeId>
         | Call::SetMaxLatency { node, .. } => Some(*node),
         Call::SetWakeupSource { source, .. } => Some(*source),
         _ => None,
-    }
-}
-
-/// What the sender of a message gets by the verdict on it, in the book after it.
-pub(crate) fn answer(tables: &Tables, caches: &Caches, served: Option<Served>) -> Answer
-    requires { AreKept tables.now caches.now }
-    ensures { result ≡ answer_by served tables.now }
-{
-    match served {
-        None => Answer::Silent,
-        Some(served) => answer_to(tables, caches, &served),
-    }
-}
-
-fn answer_to(tables: &Tables, caches: &Caches, served: &Served) -> Answer
-    requires { AreKept tables.now caches.now }
-    ensures { result ≡ answer_of served.now.verdict served.now.master served.now.call tables.now }
-{
-    let master = served.master;
-    if matches!(served.verdict, Verdict::Dropped) {
-        return Answer::Drop { master };
-    }
-    match served.verdict.response() {
-        Some(response) => acknowledge(tables, caches, master, &served.call, response),
-        None => Answer::Silent,
-    }
-}
-
-fn acknowledge(
-    tables: &Tables,
-    caches: &Caches,
-    master: NodeId,
-    call: &Call,
-    response: Response,
-) -> Answer
-    requires { AreKept tables.now caches.now }
-    ensures { result ≡ acknowledged (ack_of call.now) master (node_of call.now) response tables.now }
-{
-    match call.ack() {
-        AckKind::No => Answer::Silent,
-        AckKind::Blocking => Answer::Reply { master, response },
-        AckKind::NonBlocking => Answer::Ack {
-            master,
-            node: call.node(),
-            status: response.status,
-            point: point(tables, caches, call.node()),
-            shown: is_awake(tables.master_mode(master)),
-        },
     }
 }

@@ -25,7 +25,7 @@ use Rattle.pm_state.specs.Prims.{Prim}
 use Rattle.pm_state.specs.Stages.{after_stages}
 use Rattle.pm_values.specs.Starts.{starts, was_down}
 use Rattle.pm_state.specs.State.{State}
-use Rattle.pm_core.specs.Step.{is_ipi, stages, path, effect, served}
+use Rattle.pm_step.specs.Step.{is_ipi, stages, path, effect, served}
 use Rattle.pm_state.specs.Units.{units, moved}
 use Rattle.pm_state.specs.Values.{value}
 use Rattle.pm_values.proofs.CachesLaw.{moves_are}

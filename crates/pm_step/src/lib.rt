@@ -1,0 +1,9 @@
+//! What one event does to the tables of a book: its stages, the verdict on a message, what of the values it may touch, and that
+//! a sound book stays sound (UG1200, power management API).
+#![tactic(auto)]
+
+mod laws;
+mod step;
+
+pub use laws::books_stay_sound;
+pub use step::{advance, leaves_values, time_of, touched_unless};
