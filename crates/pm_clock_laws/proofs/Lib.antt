@@ -1,0 +1,4 @@
+pub mod BesideLemmas
+pub mod ColumnLemmas
+pub mod LinesLemmas
+pub mod RunsLemmas

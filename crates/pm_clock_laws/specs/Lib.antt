@@ -1,0 +1,4 @@
+pub mod Column
+pub mod Reach
+pub mod Same
+pub mod Worlds

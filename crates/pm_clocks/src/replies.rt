@@ -1,0 +1,35 @@
+//! The calls on clocks to which a book replies, and the response in place of the book's.
+
+ghost use Rattle.std.specs.Prelude.{◌≡◌};
+ghost use Rattle.pm_clocks.specs.Clocked.{made, with_response};
+
+use pm_base::{Event, NodeId};
+use pm_clock_tree::{ClockCall, decode_clock_call};
+use pm_core::Answer;
+use pm_ipi::Response;
+
+/// The call on a clock that an event makes, with its sender, if the book replies to it.
+pub(crate) fn made(event: &Event, answer: Answer) -> Option<(NodeId, ClockCall)>
+    ensures { result ≡ made event.now answer }
+{
+    match event {
+        Event::Ipi { master, message } => match answer {
+            Answer::Reply { .. } => {
+                let call = decode_clock_call(message)?;
+                Some((*master, call))
+            }
+            _ => None,
+        },
+        _ => None,
+    }
+}
+
+/// A response in place of the one of a reply. Any other answer stays.
+pub(crate) fn with_response(response: Response, answer: Answer) -> Answer
+    ensures { result ≡ with_response response answer }
+{
+    match answer {
+        Answer::Reply { master, .. } => Answer::Reply { master, response },
+        other => other,
+    }
+}
