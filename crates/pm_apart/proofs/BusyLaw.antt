@@ -12,7 +12,7 @@ use Rattle.pm_ipi.specs.declared.responses.Response.{Response}
 use Rattle.pm_topology.specs.declared.topology.Topology.{Topology}
 use Rattle.pm_psci.specs.Answers.{answered}
 use Rattle.pm_split.specs.Split.{Note, call, called_note, noted_answer}
-use Rattle.pm_split.specs.Split.Note.{Busy, Called, NoTask, Fired}
+use Rattle.pm_split.specs.Split.Note.{Busy, Called, Clock, NoTask, Fired}
 use Rattle.pm_board.specs.Board.{Standing}
 use Rattle.pm_run.specs.Run.{Line as ScriptLine, Setup, run}
 use Rattle.pm_laws.specs.Quiet.{quiet}
@@ -24,7 +24,7 @@ use Rattle.pm_trace.specs.Line.{numbers}
 use Rattle.pm_trace.specs.Notes.{note_words}
 use Rattle.pm_trace.specs.Step.{command_name, step_words}
 use Rattle.pm_drive.specs.Drive.{Driven, Given, drive_line, driven, give, until}
-use Rattle.pm_drive.specs.Heard.{heard_by}
+use Rattle.pm_drive.specs.Heard.{heard_in}
 use Rattle.pm_drive.specs.Text.{notes_of, reply_after}
 use Rattle.pm_apart.specs.Lines.{given_lines, note_lines, numbered, step_lines}
 use Rattle.pm_apart.specs.Telling.{tells_busy}
@@ -59,6 +59,7 @@ module _ (m : NodeId) where
   notes_found n [] = refl
   notes_found n (Called proc code ∷ notes) = notes_found n notes
   notes_found n (NoTask key ∷ notes) = notes_found n notes
+  notes_found n (Clock number from to ∷ notes) = notes_found n notes
   notes_found n (Fired key at told ∷ notes) = notes_found n notes
   notes_found n (Busy master ∷ notes) = at (master.0 == m.0) (notes_found n notes)
     where
@@ -94,20 +95,21 @@ module _ (m : NodeId) where
       ∙ (notes_found n (notes_of x)
       ∙ ap (map (busy_line n)) (none_called line.notes line.after.book.fixed.topology line.event (reply_after None x.cores))))
 
-  -- nor does a board change them
+  -- nor does a board or a clock change them
   busy_is_deaf : IsDeaf (tells_busy m)
   busy_is_deaf = record {
     replies = λ n master response. no_line n (told.Reply master response);
     answers = λ n proc code. refl;
     refusals = λ n key. refl;
     calls = λ n key at word. refl;
+    clocks = λ n number from to. refl;
   }
 
 pub busy_apart : (c : Setup) (m : NodeId) (events : List Event) → AreWorldsAlike c m events
     → (board other : Standing) (answers others : List (List Bool)) (cut : Option ℕ)
-    → filter (tells_busy m) (step_lines 0 (heard_by board (until cut (driven c answers events))))
-    ≡ filter (tells_busy m) (step_lines 0 (heard_by other (until cut (driven c others (quiet m events)))))
+    → filter (tells_busy m) (step_lines 0 (heard_in c board (until cut (driven c answers events))))
+    ≡ filter (tells_busy m) (step_lines 0 (heard_in c other (until cut (driven c others (quiet m events)))))
 busy_apart c m events alike board other answers others cut =
-    boards_alike (tells_busy m) (busy_is_deaf m) board other (until cut (driven c answers events)) (until cut (driven c others (quiet m events)))
+    boards_alike (tells_busy m) (busy_is_deaf m) c board other (until cut (driven c answers events)) (until cut (driven c others (quiet m events)))
     (runs_found (tells_busy m) (busy_lines m) (line_busy m) c m events answers others cut
     (both_map (IsLineAlike c m) (IsFound (tells_busy m) (busy_lines m)) (λ x y same n. ap (map (busy_line m n)) same.busy) (run c events) (run c (quiet m events)) alike))

@@ -15,4 +15,5 @@ pub mod TasksLaw
 pub mod TellingLaw
 pub mod TextsLaw
 pub mod TurnFacts
+pub mod TurnsLaw
 pub mod WholeLaw

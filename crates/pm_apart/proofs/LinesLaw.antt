@@ -1,6 +1,6 @@
 -- The lines about a unit beyond the reach of a master are those of the run without its messages.
 use Rattle.std.proofs.Common.{◌≡◌, ℕ, ◌+◌, Bool, List, [], ◌∷◌, ◌++◌, Option, None, refl, ap, sym, ◌∙◌}
-use Rattle.std.specs.Prelude.{filter, map}
+use Rattle.std.specs.Prelude.{filter, flat_map, map}
 use Rattle.pm_base.specs.declared.events.Event.{Event}
 use Rattle.pm_base.specs.declared.names.NodeId.{NodeId}
 use Rattle.pm_base.specs.declared.names.Unit.{Unit}
@@ -8,6 +8,8 @@ use Rattle.pm_object.specs.Grammar.{IsObject}
 use Rattle.pm_topology.specs.WellFormed.{IsWellFormed}
 use Rattle.pm_state.specs.Load.{load_of}
 use Rattle.pm_state.specs.State.{State}
+use Rattle.pm_state.specs.Units.{units}
+use Rattle.pm_clock_tree.specs.Tree.{Tree}
 use Rattle.pm_board.specs.Board.{Standing}
 use Rattle.pm_run.specs.Run.{Line, Setup, run}
 use Rattle.pm_laws.specs.Quiet.{quiet}
@@ -16,15 +18,16 @@ use Rattle.pm_apply.specs.Record.{at_zero}
 use Rattle.pm_trace.specs.declared.step.StepLine.TheVariants as told
 use Rattle.pm_trace.specs.Step.{step_words}
 use Rattle.pm_drive.specs.Drive.{Driven, drive, driven, last_book, last_kept, until}
-use Rattle.pm_drive.specs.Heard.{heard_by}
+use Rattle.pm_drive.specs.Clocks.{first_tree, last_tree}
+use Rattle.pm_drive.specs.Heard.{heard_in}
 use Rattle.pm_drive.proofs.DroveLaw.{lines-driven, until-drive}
 use Rattle.pm_apart.specs.Apart.{AreDrivenAlike, IsDrivenAlike, IsOutOfReach, StaysApart, StepsStayApart}
-use Rattle.pm_apart.specs.Lines.{closing_line_of, commands_on, is_about, numbered, run_lines, set_lines, step_lines, table_lines}
+use Rattle.pm_apart.specs.Lines.{clock_lines, closing_line_of, commands_on, is_about, numbered, run_lines, set_lines, step_lines, table_lines}
 use Rattle.pm_apart.proofs.Cuts.{until_both}
 use Rattle.pm_apart.proofs.FilterLemmas.{parts_alike}
 use Rattle.pm_apart.proofs.HeardLaw.{about_is_deaf, boards_alike}
 use Rattle.pm_apart.proofs.RunsLaw.{ReachLaws, runs_alike}
-use Rattle.pm_apart.proofs.TablesLaw.{line_same, table_same}
+use Rattle.pm_apart.proofs.TablesLaw.{clocks_apart, line_same, table_same}
 use Rattle.pm_apart.proofs.TextsLaw.{lines_about}
 
 -- where the same commands are given step by step, their lines are the same
@@ -64,14 +67,24 @@ module _ (laws : ReachLaws) (c : Setup) (m : NodeId) (events : List Event) (u : 
 
   -- so with any two boards
   pub steps_apart : (board other : Standing) (cut : Option ℕ)
-      → filter (is_about u) (step_lines 0 (heard_by board (until cut loud))) ≡ filter (is_about u) (step_lines 0 (heard_by other (until cut still)))
-  steps_apart board other cut = boards_alike (is_about u) (about_is_deaf u) board other (until cut loud) (until cut still) (book_steps_apart cut)
+      → filter (is_about u) (step_lines 0 (heard_in c board (until cut loud))) ≡ filter (is_about u) (step_lines 0 (heard_in c other (until cut still)))
+  steps_apart board other cut = boards_alike (is_about u) (about_is_deaf u) c board other (until cut loud) (until cut still) (book_steps_apart cut)
+
+  -- of the closing tables
+  tables_apart : filter (is_about u) (table_lines c loud) ≡ filter (is_about u) (table_lines c still)
+  tables_apart =
+      let first : Tree = last_tree (first_tree c) loud in
+      let second : Tree = last_tree (first_tree c) still in
+      parts_alike (is_about u) (flat_map (closing_line_of c loud) (units (book loud))) (clock_lines first)
+      (flat_map (closing_line_of c still) (units (book still))) (clock_lines second)
+      (table_same laws c m u object chip beyond (book loud) (book still) (kept loud) (kept still) (runs_alike laws c m u object chip beyond events).end)
+      (clocks_apart u first ∙ sym (clocks_apart u second))
 
   pub run_apart : (board other : Standing) → filter (is_about u) (run_lines c board [] events) ≡ filter (is_about u) (run_lines c other [] (quiet m events))
   run_apart board other =
-      parts_alike (is_about u) (step_lines 0 (heard_by board loud)) (table_lines c loud) (step_lines 0 (heard_by other still)) (table_lines c still)
+      parts_alike (is_about u) (step_lines 0 (heard_in c board loud)) (table_lines c loud) (step_lines 0 (heard_in c other still)) (table_lines c still)
       (steps_apart board other None)
-      (table_same laws c m u object chip beyond (book loud) (book still) (kept loud) (kept still) (runs_alike laws c m u object chip beyond events).end)
+      tables_apart
 
 -- ---- a device that reported no failure
 
@@ -93,10 +106,10 @@ unfailing_run c answers events cut is =
 pub run_by : (c : Setup) (answers : List (List Bool)) (events : List Event) → FollowsUntil c answers events None
     → StaysApart c [] events → StaysApart c answers events
 run_by c answers events is apart board other m unit beyond =
-    ap (λ xs. filter (is_about unit) (step_lines 0 (heard_by board xs) ++ table_lines c xs)) (unfailing_run c answers events None is)
+    ap (λ xs. filter (is_about unit) (step_lines 0 (heard_in c board xs) ++ table_lines c xs)) (unfailing_run c answers events None is)
     ∙ apart board other m unit beyond
 
 pub steps_by : (c : Setup) (answers : List (List Bool)) (events : List Event) (cut : Option ℕ) → FollowsUntil c answers events cut
     → StepsStayApart c [] events cut → StepsStayApart c answers events cut
 steps_by c answers events cut is apart board other m unit beyond =
-    ap (λ xs. filter (is_about unit) (step_lines 0 (heard_by board xs))) (unfailing_run c answers events cut is) ∙ apart board other m unit beyond
+    ap (λ xs. filter (is_about unit) (step_lines 0 (heard_in c board xs))) (unfailing_run c answers events cut is) ∙ apart board other m unit beyond

@@ -6,7 +6,7 @@ use Rattle.pm_base.specs.declared.names.Unit.{Unit}
 use Rattle.pm_topology.specs.UnitMap.{TableLaws, units_in, value_of}
 use Rattle.pm_topology.specs.Units.{UnitLaws, has_in, same_unit}
 use Rattle.pm_apply.specs.declared.kept.KeptValue.{KeptValue}
-use Rattle.pm_apply.specs.Record.{Kept, idle, keep, kept_value, lags_in, mark, marked}
+use Rattle.pm_apply.specs.Record.{Kept, idle, keep, kept_of, kept_value, mark, marked}
 
 -- what is known of the units of a chip, and of a record as a table of them
 pub record ChipLaws : Type 0 where
@@ -16,7 +16,7 @@ pub record ChipLaws : Type 0 where
 -- ---- a command that succeeded
 
 abbrev now : Unit → ℕ → Kept → KeptValue
-now u v kept = record { value = v; lags = lags_in kept u }
+now u v kept = record (kept_of kept u) { value = v }
 
 -- the units of the record stay
 pub units_stay : ChipLaws → (u : Unit) (v : ℕ) (kept : Kept) (x : Unit) → has_in (units_in kept) x ≡ true → has_in (units_in (keep u v kept)) x ≡ true

@@ -16,6 +16,9 @@ use Rattle.pm_procs.specs.Procs.{mode_at}
 use Rattle.pm_state.specs.State.{Fixed, State}
 use Rattle.pm_state.specs.Units.{units}
 use Rattle.pm_state.specs.Values.{point, point_at, shown, value, value_at}
+use Rattle.pm_clock_tree.specs.declared.clock_tree.ClockEnd.{ClockEnd}
+use Rattle.pm_clock_tree.specs.Told.{ends}
+use Rattle.pm_clock_tree.specs.Tree.{Tree}
 use Rattle.pm_run.specs.Run.{IsBookOf, Setup}
 use Rattle.pm_laws.specs.Border.{unit_beyond}
 use Rattle.pm_laws.specs.ReachBorder.{border_of}
@@ -27,9 +30,10 @@ use Rattle.pm_trace.specs.declared.line.Word.TheVariants as word
 use Rattle.pm_trace.specs.Closing.{kind_name, unit_name}
 use Rattle.pm_trace.specs.Line.{numbers}
 use Rattle.pm_apart.specs.Apart.{IsOutOfReach}
-use Rattle.pm_apart.specs.Lines.{closing_line, end_line, is_about}
+use Rattle.pm_apart.specs.Lines.{clock_lines, closing_line, end_line, end_words, is_about}
 use Rattle.pm_apart.proofs.FilterLemmas.{left_out, made_alike}
 use Rattle.pm_apart.proofs.RunsLaw.{ReachLaws, StandAlike, value_beyond}
+use Rattle.pm_apart.proofs.TextsLaw.{none_made}
 
 -- ---- lines of other units
 
@@ -58,6 +62,14 @@ other_line t x u book kept other = at ((book == 0) && (kept == 0))
     at : (idle : Bool) → filter (is_about u) (if idle then [] else (word.Name (codes "end") ∷ (unit_name t x ++ numbers (book ∷ kept ∷ []))) ∷ []) ≡ []
     at true = refl
     at false = left_out (is_about u) (word.Name (codes "end") ∷ (unit_name t x ++ numbers (book ∷ kept ∷ []))) [] (end_about t x u (numbers (book ∷ kept ∷ [])) ∙ other)
+
+-- the closing line of a clock is about no unit
+clock_apart : (u : Unit) (end : ClockEnd) → is_about u (end_words end) ≡ false
+clock_apart (Node node) end = refl
+clock_apart (Line line) end = refl
+
+pub clocks_apart : (u : Unit) (tree : Tree) → filter (is_about u) (clock_lines tree) ≡ []
+clocks_apart u tree = none_made (is_about u) end_words (clock_apart u) (ends tree)
 
 -- ---- two runs that stand alike
 

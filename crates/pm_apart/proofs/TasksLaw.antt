@@ -18,9 +18,11 @@ use Rattle.pm_psci.specs.Answers.{answered}
 use Rattle.pm_tasks.specs.declared.tasks.Fired.{Fired as FiredTask}
 use Rattle.pm_tasks.specs.Timetable.{Timetable}
 use Rattle.pm_board.specs.Board.{Standing, begun, board_after, is_done, settled}
+use Rattle.pm_clock_tree.specs.declared.clock_tree.ClockChange.{ClockChange}
+use Rattle.pm_clock_tree.specs.Tree.{Tree}
 use Rattle.pm_split.specs.Boxes.{Boxes, box_of}
 use Rattle.pm_split.specs.Split.{Note, call, called_note, noted_answer, post, split_of}
-use Rattle.pm_split.specs.Split.Note.{Busy, Called, NoTask, Fired}
+use Rattle.pm_split.specs.Split.Note.{Busy, Called, Clock, NoTask, Fired}
 use Rattle.pm_run.specs.Run.{Line as ScriptLine, Setup, Stand, line_of, lines_of, loaded, run}
 use Rattle.pm_laws.specs.Both.{Both}
 use Rattle.pm_laws.specs.Quiet.{quiet, quiet_event}
@@ -32,7 +34,8 @@ use Rattle.pm_trace.specs.declared.step.StepLine.TheVariants as told
 use Rattle.pm_trace.specs.Line.{numbers}
 use Rattle.pm_trace.specs.Step.{command_name, step_words}
 use Rattle.pm_drive.specs.Drive.{Driven, Given, answers_after, drive, drive_line, driven, until}
-use Rattle.pm_drive.specs.Heard.{heard_by, heard_cores, heard_line}
+use Rattle.pm_drive.specs.Clocks.{clock_note, clock_notes, clocked_by, clocked_line, first_tree, tree_along, turned}
+use Rattle.pm_drive.specs.Heard.{heard_by, heard_cores, heard_in, heard_line}
 use Rattle.pm_drive.specs.Tasks.{fired_note, key_notes, refusal_notes, task_notes}
 use Rattle.pm_drive.specs.Text.{notes_of, reply_after}
 use Rattle.pm_drive.proofs.DroveLaw.{until-drive}
@@ -45,12 +48,13 @@ use Rattle.pm_apart.proofs.TextsLaw.{none_given}
 
 -- ---- which notes tell of tasks
 
--- a note of a full box, and one of a task
-abbrev IsBusy : Note → Type 0
-IsBusy (Busy master) = ⊤
-IsBusy _ = ⊥
+-- a note of a full box or of a clock, and one of a task
+abbrev IsOther : Note → Type 0
+IsOther (Busy master) = ⊤
+IsOther (Clock number from to) = ⊤
+IsOther _ = ⊥
 
-abbrev IsOfTask : Note → Type 0
+abbrev pub IsOfTask : Note → Type 0
 IsOfTask (NoTask key) = ⊤
 IsOfTask (Fired key at word) = ⊤
 IsOfTask _ = ⊥
@@ -73,24 +77,32 @@ refused_are event true = tt
 refused_are event false = keyed_are event
 
 -- what is told of tasks are such notes
-tasks_are : (event : Event) (t : Timetable) → Each IsOfTask (task_notes event t)
+pub tasks_are : (event : Event) (t : Timetable) → Each IsOfTask (task_notes event t)
 tasks_are event t =
     let fired : List FiredTask = (begun event (settled t)).left in
     each_joined IsOfTask (refusal_notes event t) (map fired_note fired) (refused_are event (is_done event t)) (fired_are fired)
 
--- a line has no other notes of its own than of full boxes
-abbrev OwnNotes : ScriptLine → Type 0
-OwnNotes line = Each IsBusy line.notes
+-- what is told of clocks are notes of clocks
+turned_are : (changes : List ClockChange) → Each IsOther (map clock_note changes)
+turned_are [] = tt
+turned_are (change ∷ changes) = (tt, turned_are changes)
 
-by_box : (master : NodeId) (empty : Bool) → Each IsBusy (if empty then [] else Busy master ∷ [])
+clocks_are : (tree : Tree) (given : List Given) → Each IsOther (clock_notes tree given)
+clocks_are tree given = turned_are (turned tree (tree_along given tree))
+
+-- a line has no other notes of its own than of full boxes, and of clocks
+abbrev OwnNotes : ScriptLine → Type 0
+OwnNotes line = Each IsOther line.notes
+
+by_box : (master : NodeId) (empty : Bool) → Each IsOther (if empty then [] else Busy master ∷ [])
 by_box master true = tt
 by_box master false = (tt, tt)
 
-posts_are : (at : Option ℕ) (master : NodeId) (message : Message) (boxes : Boxes) → Each IsBusy (post at master message boxes).notes
+posts_are : (at : Option ℕ) (master : NodeId) (message : Message) (boxes : Boxes) → Each IsOther (post at master message boxes).notes
 posts_are (Some m) master message boxes = by_box master (is_empty m boxes)
 posts_are None master message boxes = tt
 
-splits_are : (object : Object) (t : Topology) (event : Event) (boxes : Boxes) → Each IsBusy (split_of object t event boxes).notes
+splits_are : (object : Object) (t : Topology) (event : Event) (boxes : Boxes) → Each IsOther (split_of object t event boxes).notes
 splits_are object t (Post master message) boxes = posts_are (box_of object master) master message boxes
 splits_are object t event boxes = tt
 
@@ -119,12 +131,13 @@ no_line n (told.Call callback) = refl
 
 module _ (n : ℕ) where
   -- of notes those of tasks do
-  none_busy : (notes : List Note) → Each IsBusy notes → filter tells_task (note_lines n notes) ≡ []
-  none_busy [] are = refl
-  none_busy (Busy master ∷ notes) are = none_busy notes are.1
-  none_busy (Called proc code ∷ notes) are = absurd are.0
-  none_busy (NoTask key ∷ notes) are = absurd are.0
-  none_busy (Fired key at word ∷ notes) are = absurd are.0
+  none_other : (notes : List Note) → Each IsOther notes → filter tells_task (note_lines n notes) ≡ []
+  none_other [] are = refl
+  none_other (Busy master ∷ notes) are = none_other notes are.1
+  none_other (Called proc code ∷ notes) are = absurd are.0
+  none_other (NoTask key ∷ notes) are = absurd are.0
+  none_other (Clock number from to ∷ notes) are = none_other notes are.1
+  none_other (Fired key at word ∷ notes) are = absurd are.0
 
   all_found : (notes : List Note) → Each IsOfTask notes → filter tells_task (note_lines n notes) ≡ note_lines n notes
   all_found [] are = refl
@@ -132,6 +145,7 @@ module _ (n : ℕ) where
   all_found (Fired key at word ∷ notes) are = ap (λ lines. noted_line n (Fired key at word) ∷ lines) (all_found notes are.1)
   all_found (Busy master ∷ notes) are = absurd are.0
   all_found (Called proc code ∷ notes) are = absurd are.0
+  all_found (Clock number from to ∷ notes) are = absurd are.0
 
   none_answered : (proc : NodeId) (code : Option ℤ) → filter tells_task (note_lines n (noted_answer proc code)) ≡ []
   none_answered proc None = refl
@@ -156,7 +170,7 @@ module _ (n : ℕ) where
       ∙ (none_after tells_task (noted_line n) (x.line.notes ++ tasks) (called_note t event reply) (none_called t event reply)
       ∙ (ap (filter tells_task) (map-append (noted_line n) x.line.notes tasks)
       ∙ (filter-append tells_task (note_lines n x.line.notes) (note_lines n tasks)
-      ∙ (ap (λ lines. lines ++ filter tells_task (note_lines n tasks)) (none_busy x.line.notes own)
+      ∙ (ap (λ lines. lines ++ filter tells_task (note_lines n tasks)) (none_other x.line.notes own)
       ∙ all_found tasks (tasks_are event board.tasks))))))
 
 -- what script lines tell of tasks that stand so, the first of which has this number
@@ -164,23 +178,27 @@ abbrev told_of_tasks : ℕ → Timetable → List ScriptLine → List (List Word
 told_of_tasks n t [] = []
 told_of_tasks n t (line ∷ lines) = note_lines n (task_notes line.event t) ++ told_of_tasks (n + 1) (settled (begun line.event (settled t))) lines
 
-lines_found : (n : ℕ) (board : Standing) (lines : List ScriptLine) (kept : Kept) (answers : List (List Bool)) → Each OwnNotes lines
-    → filter tells_task (step_lines n (heard_by board (drive kept answers lines))) ≡ told_of_tasks n board.tasks lines
-lines_found n board [] kept answers own = refl
-lines_found n board (line ∷ lines) kept answers own =
+lines_found : (n : ℕ) (board : Standing) (tree : Tree) (lines : List ScriptLine) (kept : Kept) (answers : List (List Bool)) → Each OwnNotes lines
+    → filter tells_task (step_lines n (heard_by board (clocked_by tree (drive kept answers lines)))) ≡ told_of_tasks n board.tasks lines
+lines_found n board tree [] kept answers own = refl
+lines_found n board tree (line ∷ lines) kept answers own =
     let x : Driven = drive_line kept answers line in
     let after : Standing = board_after line.event board in
-    let later : List Driven = drive x.kept (answers_after line.cores answers) lines in
+    let next : Tree = tree_along x.cores tree in
+    let later : List Driven = clocked_by next (drive x.kept (answers_after line.cores answers) lines) in
     let here : List (List Word) = note_lines n (task_notes line.event board.tasks) in
-    filter-append tells_task (driven_lines n (heard_line board x)) (step_lines (n + 1) (heard_by after later))
-    ∙ (ap (λ found. found ++ filter tells_task (step_lines (n + 1) (heard_by after later))) (line_found n board x own.0)
-    ∙ ap (λ found. here ++ found) (lines_found (n + 1) after lines x.kept (answers_after line.cores answers) own.1))
+    let others : OwnNotes (clocked_line tree x).line =
+    each_joined IsOther line.notes (clock_notes tree x.cores) own.0 (clocks_are tree x.cores)
+    in
+    filter-append tells_task (driven_lines n (heard_line board (clocked_line tree x))) (step_lines (n + 1) (heard_by after later))
+    ∙ (ap (λ found. found ++ filter tells_task (step_lines (n + 1) (heard_by after later))) (line_found n board (clocked_line tree x) others)
+    ∙ ap (λ found. here ++ found) (lines_found (n + 1) after next lines x.kept (answers_after line.cores answers) own.1))
 
 run_found : (c : Setup) (board : Standing) (answers : List (List Bool)) (events : List Event) (cut : Option ℕ)
-    → filter tells_task (step_lines 0 (heard_by board (until cut (driven c answers events)))) ≡ told_of_tasks 0 board.tasks (until cut (run c events))
+    → filter tells_task (step_lines 0 (heard_in c board (until cut (driven c answers events)))) ≡ told_of_tasks 0 board.tasks (until cut (run c events))
 run_found c board answers events cut =
-    ap (λ xs. filter tells_task (step_lines 0 (heard_by board xs))) (until-drive cut (run c events) (at_zero c.topology) answers)
-    ∙ lines_found 0 board (until cut (run c events)) (at_zero c.topology) answers (until_each OwnNotes cut (run c events) (runs_are c events))
+    ap (λ xs. filter tells_task (step_lines 0 (heard_in c board xs))) (until-drive cut (run c events) (at_zero c.topology) answers)
+    ∙ lines_found 0 board (first_tree c) (until cut (run c events)) (at_zero c.topology) answers (until_each OwnNotes cut (run c events) (runs_are c events))
 
 -- ---- in two runs
 
@@ -232,8 +250,8 @@ told_alike n t (x ∷ xs) (y ∷ ys) both =
 
 pub tasks_apart : (c : Setup) (m : NodeId) (events : List Event) (board other : Standing) → board.tasks ≡ other.tasks
     → (answers others : List (List Bool)) (cut : Option ℕ)
-    → filter tells_task (step_lines 0 (heard_by board (until cut (driven c answers events))))
-    ≡ filter tells_task (step_lines 0 (heard_by other (until cut (driven c others (quiet m events)))))
+    → filter tells_task (step_lines 0 (heard_in c board (until cut (driven c answers events))))
+    ≡ filter tells_task (step_lines 0 (heard_in c other (until cut (driven c others (quiet m events)))))
 tasks_apart c m events board other same answers others cut =
     run_found c board answers events cut
     ∙ (ap (λ t. told_of_tasks 0 t (until cut (run c events))) same

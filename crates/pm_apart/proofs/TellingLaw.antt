@@ -21,7 +21,7 @@ use Rattle.pm_core.specs.declared.replies.Answer.{Answer}
 use Rattle.pm_core.specs.declared.replies.Answer.TheVariants.{Silent, Drop, Reply, Ack}
 use Rattle.pm_state.specs.Values.{value}
 use Rattle.pm_split.specs.Split.{Note}
-use Rattle.pm_split.specs.Split.Note.{Busy, Called, NoTask, Fired}
+use Rattle.pm_split.specs.Split.Note.{Busy, Called, Clock, NoTask, Fired}
 use Rattle.pm_board.specs.Board.{Standing}
 use Rattle.pm_run.specs.Run.{Core, Line as ScriptLine, Setup, run}
 use Rattle.pm_laws.specs.Answers.{is_dropped}
@@ -35,6 +35,7 @@ use Rattle.pm_laws.specs.Values.{is_beyond}
 use Rattle.pm_laws.specs.Worlds.{AreWorldsAlike, IsLineAlike}
 use Rattle.pm_apply.specs.Failing.{falls_short, told_answer}
 use Rattle.pm_apply.specs.Part.{Kept, Part, part_of}
+use Rattle.pm_clock_laws.specs.Worlds.{AreClocksAlike}
 use Rattle.pm_trace.specs.declared.line.Word.{Word}
 use Rattle.pm_trace.specs.declared.step.StepLine.{StepLine}
 use Rattle.pm_trace.specs.declared.step.StepLine.TheVariants as told
@@ -42,7 +43,7 @@ use Rattle.pm_trace.specs.Line.{numbers}
 use Rattle.pm_trace.specs.Notes.{note_words}
 use Rattle.pm_trace.specs.Step.{acknowledgement, answer_line, command_name, late_line, notices_of, told_lines, step_words}
 use Rattle.pm_drive.specs.Drive.{Given, drive_line, driven, first_answers, give, later_answers, until}
-use Rattle.pm_drive.specs.Heard.{heard_by}
+use Rattle.pm_drive.specs.Heard.{heard_in}
 use Rattle.pm_drive.specs.Text.{notes_of}
 use Rattle.pm_drive.specs.Drove.{IsTold}
 use Rattle.pm_apart.specs.Lines.{given_lines, note_lines, numbered, step_lines}
@@ -54,6 +55,7 @@ use Rattle.pm_apart.proofs.FilterLemmas.{filter_made, kept_in, left_out}
 use Rattle.pm_apart.proofs.FoundLemmas.{IsFound, LineFinds, runs_found}
 use Rattle.pm_apart.proofs.HeardLaw.{IsDeaf, boards_alike}
 use Rattle.pm_apart.proofs.TasksLaw.{tasks_apart}
+use Rattle.pm_apart.proofs.TurnsLaw.{turns_apart}
 use Rattle.pm_apart.proofs.TextsLaw.{made_twice, none_made}
 
 -- ---- lines that a test finds
@@ -202,10 +204,12 @@ module _ (c : Setup) (m : NodeId) (events : List Event) (alike : AreWorldsAlike 
   no_note Starts n (Busy master) = refl
   no_note Starts n (Called proc code) = refl
   no_note Starts n (NoTask key) = refl
+  no_note Starts n (Clock number from to) = refl
   no_note Starts n (Fired key at told) = refl
   no_note _ n (Busy master) = refl
   no_note _ n (Called proc code) = refl
   no_note _ n (NoTask key) = refl
+  no_note _ n (Clock number from to) = refl
   no_note _ n (Fired key at told) = refl
 
   -- of the lines of a core step the test finds those that tell of it
@@ -362,34 +366,36 @@ module _ (c : Setup) (m : NodeId) (events : List Event) (alike : AreWorldsAlike 
 
   -- ---- all of them
 
-  -- none of them finds what a board changes
+  -- none of them finds what a board or a clock changes
   is_deaf : (what : Tells) → IsDeaf (tells what)
   is_deaf what = record {
     replies = λ n master response. of_line what n (told.Reply master response) ∙ no_reply what master response;
     answers = λ n proc code. no_note what n (Called proc code);
     refusals = λ n key. no_note what n (NoTask key);
     calls = λ n key at word. no_note what n (Fired key at word);
+    clocks = λ n number from to. no_note what n (Clock number from to);
   }
 
   -- so it is in two runs, whatever boards they begin with
   found_apart : {X : Type 0} (what : Tells) (f : Core → List X) (G : List X → List StepLine) → G [] ≡ [] → ((xs ys : List X) → G (xs ++ ys) ≡ G xs ++ G ys)
       → ((x y : ScriptLine) → IsLineAlike c m x y → flat_map f x.cores ≡ flat_map f y.cores) → Finds (tells what) (λ core. G (f core)) (no_note what)
       → (board other : Standing) (answers others : List (List Bool)) (cut : Option ℕ)
-      → filter (tells what) (step_lines 0 (heard_by board (until cut (driven c answers events))))
-      ≡ filter (tells what) (step_lines 0 (heard_by other (until cut (driven c others (quiet m events)))))
+      → filter (tells what) (step_lines 0 (heard_in c board (until cut (driven c answers events))))
+      ≡ filter (tells what) (step_lines 0 (heard_in c other (until cut (driven c others (quiet m events)))))
   found_apart what f G none parts same finds board other answers others cut =
       let found : ℕ → ScriptLine → List (List Word) = lines_found (tells what) (λ core. G (f core)) (no_note what) in
-      boards_alike (tells what) (is_deaf what) board other (until cut (driven c answers events)) (until cut (driven c others (quiet m events)))
+      boards_alike (tells what) (is_deaf what) c board other (until cut (driven c answers events)) (until cut (driven c others (quiet m events)))
       (runs_found (tells what) found (line_found (tells what) (λ core. G (f core)) (no_note what) finds) c m events answers others cut
       (both_map (IsLineAlike c m) (IsFound (tells what) found)
       (λ x y alike n. ap (map (line_of n)) (made_flat f G none parts x.cores ∙ (ap G (same x y alike) ∙ sym (made_flat f G none parts y.cores))))
       (run c events) (run c (quiet m events)) alike))
 
-  pub telling_apart : TellsApart c events m
-  telling_apart = record {
+  pub telling_apart : AreClocksAlike c m events → TellsApart c events m
+  telling_apart clocks = record {
     starts = found_apart Starts (starts_in c.object c.topology border) (map told.Start) refl (map-append told.Start) (λ x y same. same.starts) starts_found;
     drops = found_apart Drops_sent (drops_in c.object border m) as_drops refl (flat_map-append dropped_line) (λ x y same. same.drops) drops_found;
     callbacks = found_apart Calls (callbacks_in c.object border) as_callbacks refl callbacks_join (λ x y same. same.callbacks) callbacks_found;
     busy = busy_apart c m events alike;
     tasks = tasks_apart c m events;
+    clocks = λ number beyond. turns_apart number c m events clocks beyond;
   }

@@ -15,8 +15,11 @@ use Rattle.pm_core.specs.declared.replies.Answer.TheVariants.{Silent, Drop, Repl
 use Rattle.pm_state.specs.Load.{load_of}
 use Rattle.pm_state.specs.State.{State}
 use Rattle.pm_state.specs.Units.{units}
+use Rattle.pm_clock_tree.specs.declared.clock_tree.ClockEnd.{ClockEnd}
+use Rattle.pm_clock_tree.specs.Told.{ends}
+use Rattle.pm_clock_tree.specs.Tree.{Tree}
 use Rattle.pm_split.specs.Split.{Note}
-use Rattle.pm_split.specs.Split.Note.{Busy, Called, NoTask, Fired}
+use Rattle.pm_split.specs.Split.Note.{Busy, Called, Clock, NoTask, Fired}
 use Rattle.pm_board.specs.Board.{Standing}
 use Rattle.pm_run.specs.Run.{Setup}
 use Rattle.pm_apply.specs.Part.{Kept}
@@ -31,9 +34,10 @@ use Rattle.pm_trace.specs.Line.{line_text, numbers}
 use Rattle.pm_trace.specs.Notes.{note_line, note_words, notes_text}
 use Rattle.pm_trace.specs.Step.{Notices, answer_line, command_name, core_text, late_line, notices_of, numbered_line, output_words, told_lines, step_words}
 use Rattle.pm_drive.specs.Drive.{Driven, Given, driven, last_book, last_kept}
-use Rattle.pm_drive.specs.Heard.{heard_by}
+use Rattle.pm_drive.specs.Clocks.{end_line, ends_text, first_tree, last_tree, table_text}
+use Rattle.pm_drive.specs.Heard.{heard_in}
 use Rattle.pm_drive.specs.Text.{driven_text, given_text, notes_of, run_text, texts}
-use Rattle.pm_apart.specs.Lines.{closing_line, commands_of, commands_on, driven_lines, given_lines, is_about, is_on, note_lines, numbered, run_lines, set_lines, step_lines, table_lines}
+use Rattle.pm_apart.specs.Lines.{clock_lines, closing_line, commands_of, commands_on, driven_lines, end_words, given_lines, is_about, is_on, note_lines, numbered, run_lines, set_lines, step_lines, table_lines}
 use Rattle.pm_apart.proofs.FilterLemmas.{filter_made, left_out, none_of_both}
 
 -- ---- the text
@@ -90,16 +94,27 @@ table_is book kept (unit ∷ units) =
     (table_is book kept units)
     ∙ sym (text_append (closing_line book kept unit) (flat_map (closing_line book kept) units))
 
+-- the closing lines of the clocks that run
+ends_are : (ends : List ClockEnd) → flat_map end_line ends ≡ text_of (map end_words ends)
+ends_are [] = refl
+ends_are (end ∷ ends) = ap (λ text. end_line end ++ text) (ends_are ends)
+
 pub run_is : (c : Setup) (board : Standing) (answers : List (List Bool)) (events : List Event)
     → run_text c board answers events ≡ text_of (run_lines c board answers events)
 run_is c board answers events =
     let xs : List Driven = driven c answers events in
-    let ys : List Driven = heard_by board xs in
+    let ys : List Driven = heard_in c board xs in
     let book : State = last_book (load_of c.object c.topology) xs in
     let kept : Kept = last_kept (at_zero c.topology) xs in
-    concat-append (texts 0 ys) (closing_text book kept ∷ [])
-    ∙ (ap (λ text. concat (texts 0 ys) ++ text) (append-nil (closing_text book kept))
-    ∙ (joined (concat (texts 0 ys)) (closing_text book kept) (text_of (step_lines 0 ys)) (text_of (table_lines c xs)) (steps_are 0 ys) (table_is book kept (units book))
+    let tree : Tree = last_tree (first_tree c) xs in
+    let own : List (List Word) = flat_map (closing_line book kept) (units book) in
+    let table : table_text book kept tree ≡ text_of (table_lines c xs) =
+    joined (closing_text book kept) (ends_text tree) (text_of own) (text_of (clock_lines tree)) (table_is book kept (units book)) (ends_are (ends tree))
+    ∙ sym (text_append own (clock_lines tree))
+    in
+    concat-append (texts 0 ys) (table_text book kept tree ∷ [])
+    ∙ (ap (λ text. concat (texts 0 ys) ++ text) (append-nil (table_text book kept tree))
+    ∙ (joined (concat (texts 0 ys)) (table_text book kept tree) (text_of (step_lines 0 ys)) (text_of (table_lines c xs)) (steps_are 0 ys) table
     ∙ sym (text_append (step_lines 0 ys) (table_lines c xs))))
 
 -- ---- the lines about a unit
@@ -204,7 +219,9 @@ module _ (u : Unit) (n : ℕ) where
   note_apart (Node node) (Called proc code) = refl
   note_apart (Line line) (Called proc code) = refl
   note_apart (Node node) (NoTask key) = refl
+  note_apart (Node node) (Clock number from to) = refl
   note_apart (Line line) (NoTask key) = refl
+  note_apart (Line line) (Clock number from to) = refl
   note_apart (Node node) (Fired key at told) = refl
   note_apart (Line line) (Fired key at told) = refl
 

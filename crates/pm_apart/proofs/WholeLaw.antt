@@ -13,6 +13,7 @@ use Rattle.pm_topology.specs.declared.topology.Topology.{Topology}
 use Rattle.pm_topology.specs.Units.{UnitLaws, has_in, has_unit, is_before, rises, same_unit, units_of}
 use Rattle.pm_state.specs.Load.{load_of}
 use Rattle.pm_state.specs.State.{Fixed, State}
+use Rattle.pm_clock_tree.specs.Tree.{Tree}
 use Rattle.pm_board.specs.Board.{Standing}
 use Rattle.pm_run.specs.Run.{IsBookOf, Line as ScriptLine, Setup, Stand, loaded, line_0, line_of, lines_of}
 use Rattle.pm_apply.specs.Part.{Kept}
@@ -23,11 +24,12 @@ use Rattle.pm_trace.specs.Closing.{unit_name}
 use Rattle.pm_state.specs.Values.{shown}
 use Rattle.pm_trace.specs.Line.{numbers}
 use Rattle.pm_drive.specs.Drive.{Driven, answers_after, drive, drive_line, driven, last_book, last_kept}
-use Rattle.pm_drive.specs.Heard.{heard_by}
-use Rattle.pm_apart.specs.Lines.{closing_line, closing_line_of, is_about, run_lines, set_lines, step_lines, table_lines}
+use Rattle.pm_drive.specs.Clocks.{first_tree, last_tree}
+use Rattle.pm_drive.specs.Heard.{heard_in}
+use Rattle.pm_apart.specs.Lines.{clock_lines, closing_line, closing_line_of, is_about, run_lines, set_lines, step_lines, table_lines}
 use Rattle.pm_apart.proofs.FilterLemmas.{kept_in, none_of_both}
 use Rattle.pm_apart.proofs.HeardLaw.{about_is_deaf, heard_alike}
-use Rattle.pm_apart.proofs.TablesLaw.{end_about, other_line}
+use Rattle.pm_apart.proofs.TablesLaw.{clocks_apart, end_about, other_line}
 use Rattle.pm_apart.proofs.TextsLaw.{lines_about}
 
 -- ---- one unit among those that rise
@@ -108,13 +110,20 @@ module _ (units : UnitLaws) (c : Setup) (load : IsBookOf c (loaded c).book) (aft
       ≡ set_lines u 0 (driven c answers events) ++ closing_line_of c (driven c answers events) u
   whole_about board answers events u has =
       let xs : List Driven = driven c answers events in
-      let ys : List Driven = heard_by board xs in
+      let ys : List Driven = heard_in c board xs in
       let book : State = last_book (load_of c.object c.topology) xs in
       let kept : Kept = last_kept (at_zero c.topology) xs in
       let is : IsBookOf c book =
       last_is events (loaded c) (drive_line (at_zero c.topology) answers (line_0 c)).kept (answers_after (line_0 c).cores answers) load
       in
       let there : has_unit book.fixed.topology u ≡ true = ap (λ (f : Fixed). has_unit f.topology u) is.fixed ∙ has in
+      let tree : Tree = last_tree (first_tree c) xs in
+      let own : List (List Word) = flat_map (closing_line book kept) (units_of book.fixed.topology) in
+      let table : filter (is_about u) (table_lines c xs) ≡ closing_line book kept u =
+      filter-append (is_about u) own (clock_lines tree)
+      ∙ (ap (λ lines. filter (is_about u) own ++ lines) (clocks_apart u tree)
+      ∙ (append-nil (filter (is_about u) own) ∙ table_about units book kept u there))
+      in
       filter-append (is_about u) (step_lines 0 ys) (table_lines c xs)
-      ∙ (ap (λ lines. lines ++ filter (is_about u) (table_lines c xs)) (heard_alike (is_about u) (about_is_deaf u) board 0 xs ∙ lines_about u 0 xs)
-      ∙ ap (λ lines. set_lines u 0 xs ++ lines) (table_about units book kept u there))
+      ∙ (ap (λ lines. lines ++ filter (is_about u) (table_lines c xs)) (heard_alike (is_about u) (about_is_deaf u) c board xs ∙ lines_about u 0 xs)
+      ∙ ap (λ lines. set_lines u 0 xs ++ lines) table)

@@ -9,6 +9,9 @@ use Rattle.pm_topology.specs.declared.topology.Topology.{Topology}
 use Rattle.pm_topology.specs.Units.{same_unit}
 use Rattle.pm_core.specs.declared.outbox.Done.{Done}
 use Rattle.pm_state.specs.Load.{load_of}
+use Rattle.pm_clock_tree.specs.declared.clock_tree.ClockEnd.{ClockEnd}
+use Rattle.pm_clock_tree.specs.Told.{ends}
+use Rattle.pm_clock_tree.specs.Tree.{Tree}
 use Rattle.pm_state.specs.State.{State}
 use Rattle.pm_state.specs.Units.{units}
 use Rattle.pm_split.specs.Split.{Note}
@@ -25,7 +28,8 @@ use Rattle.pm_trace.specs.Line.{numbers}
 use Rattle.pm_trace.specs.Notes.{note_words}
 use Rattle.pm_trace.specs.Step.{notices_of, output_words, step_words}
 use Rattle.pm_drive.specs.Drive.{Driven, Given, driven, last_book, last_kept}
-use Rattle.pm_drive.specs.Heard.{heard_by}
+use Rattle.pm_drive.specs.Clocks.{first_tree, last_tree}
+use Rattle.pm_drive.specs.Heard.{heard_in}
 use Rattle.pm_drive.specs.Text.{notes_of}
 
 -- ---- the lines of a run
@@ -65,13 +69,23 @@ closing_line book kept unit = end_line book.fixed.topology unit (shown unit book
 abbrev pub closing_line_of : Setup → List Driven → Unit → List (List Word)
 closing_line_of c xs unit = closing_line (last_book (load_of c.object c.topology) xs) (last_kept (at_zero c.topology) xs) unit
 
--- the lines of the closing table after some steps of a run
+-- the closing line of a clock that runs
+abbrev pub end_words : ClockEnd → List Word
+end_words end = word.Name (codes "end") ∷ word.Name (codes "clock") ∷ numbers (end.clock ∷ end.divider ∷ end.index ∷ [])
+
+-- those of all clocks that run
+abbrev pub clock_lines : Tree → List (List Word)
+clock_lines tree = map end_words (ends tree)
+
+-- the lines of the closing table after some steps of a run: those of the units, and then those of the clocks
 abbrev pub table_lines : Setup → List Driven → List (List Word)
-table_lines c xs = flat_map (closing_line_of c xs) (units (last_book (load_of c.object c.topology) xs))
+table_lines c xs =
+    flat_map (closing_line_of c xs) (units (last_book (load_of c.object c.topology) xs))
+    ++ clock_lines (last_tree (first_tree c) xs)
 
 -- all lines of a run that begins with a board, over a device with these answers
 abbrev pub run_lines : Setup → Standing → List (List Bool) → List Event → List (List Word)
-run_lines c board answers events = step_lines 0 (heard_by board (driven c answers events)) ++ table_lines c (driven c answers events)
+run_lines c board answers events = step_lines 0 (heard_in c board (driven c answers events)) ++ table_lines c (driven c answers events)
 
 -- ---- the lines about a unit
 

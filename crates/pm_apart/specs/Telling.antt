@@ -1,6 +1,6 @@
 -- The lines of a run, besides those of commands, that tell of what is beyond the reach of a master: which processors start, which
--- messages of other masters are dropped, and which masters are asked to suspend or notified of a node; and the lines that tell other
--- masters that their boxes are full, and those of timed tasks. A reply and an acknowledgement have no words that say whether they are
+-- messages of other masters are dropped, which masters are asked to suspend or notified of a node, and which clocks begin or cease to
+-- run; and the lines that tell other masters that their boxes are full, and those of timed tasks. A reply and an acknowledgement have no words that say whether they are
 -- an answer or come later, so of these the relation of core steps speaks.
 use Rattle.std.specs.Prelude.{◌≡◌, ℕ, ◌==◌, Bool, false, not, ◌&&◌, ◌||◌, codes, List, [], ◌∷◌, filter, Option}
 use Rattle.pm_base.specs.declared.events.Event.{Event}
@@ -14,10 +14,12 @@ use Rattle.pm_laws.specs.Hidden.{is_within}
 use Rattle.pm_laws.specs.Quiet.{quiet}
 use Rattle.pm_laws.specs.ReachBorder.{border_of, place_of}
 use Rattle.pm_laws.specs.Values.{is_beyond}
+use Rattle.pm_clock_laws.specs.Reach.{IsClockBeyond}
+use Rattle.pm_clock_laws.specs.Worlds.{fixed_of}
 use Rattle.pm_trace.specs.declared.line.Word.{Word}
 use Rattle.pm_trace.specs.declared.line.Word.TheVariants as word
 use Rattle.pm_drive.specs.Drive.{driven, until}
-use Rattle.pm_drive.specs.Heard.{heard_by}
+use Rattle.pm_drive.specs.Heard.{heard_in}
 use Rattle.pm_apart.specs.Lines.{is_name, step_lines}
 
 -- a number that passes this test, with the words after it
@@ -73,23 +75,31 @@ tells_task line = is_of (codes "task") line || is_of (codes "notask") line
 abbrev pub tells_busy : NodeId → List Word → Bool
 tells_busy m line = is_told (codes "busy") (λ master others. not (master == m.0)) line
 
+-- the clock with this number began or ceased to run
+abbrev pub tells_clock : ℕ → List Word → Bool
+tells_clock number line = is_told (codes "clock") (λ clock others. clock == number) line
+
 -- whatever a device answers in the two runs: of the lines of a run, up to that within whose text it breaks off, if it does, those
 -- that tell of what is beyond the reach of a master are those of the run without the messages of the master, and so are those that
--- tell other masters that their boxes are full, whatever boards the two begin with. What is told of timed tasks is the same where
--- those of the two boards stand the same
+-- tell other masters that their boxes are full, and those of each clock beyond, whatever boards the two begin with. What is told of
+-- timed tasks is the same where those of the two boards stand the same
 pub record TellsApart (c : Setup) (events : List Event) (m : NodeId) : Type 0 where
   pub starts : (board other : Standing) (answers others : List (List Bool)) (cut : Option ℕ)
-      → filter (tells_start c (border_of c.object c.topology m)) (step_lines 0 (heard_by board (until cut (driven c answers events))))
-      ≡ filter (tells_start c (border_of c.object c.topology m)) (step_lines 0 (heard_by other (until cut (driven c others (quiet m events)))))
+      → filter (tells_start c (border_of c.object c.topology m)) (step_lines 0 (heard_in c board (until cut (driven c answers events))))
+      ≡ filter (tells_start c (border_of c.object c.topology m)) (step_lines 0 (heard_in c other (until cut (driven c others (quiet m events)))))
   pub drops : (board other : Standing) (answers others : List (List Bool)) (cut : Option ℕ)
-      → filter (tells_drop c (border_of c.object c.topology m) m) (step_lines 0 (heard_by board (until cut (driven c answers events))))
-      ≡ filter (tells_drop c (border_of c.object c.topology m) m) (step_lines 0 (heard_by other (until cut (driven c others (quiet m events)))))
+      → filter (tells_drop c (border_of c.object c.topology m) m) (step_lines 0 (heard_in c board (until cut (driven c answers events))))
+      ≡ filter (tells_drop c (border_of c.object c.topology m) m) (step_lines 0 (heard_in c other (until cut (driven c others (quiet m events)))))
   pub callbacks : (board other : Standing) (answers others : List (List Bool)) (cut : Option ℕ)
-      → filter (tells_call c (border_of c.object c.topology m)) (step_lines 0 (heard_by board (until cut (driven c answers events))))
-      ≡ filter (tells_call c (border_of c.object c.topology m)) (step_lines 0 (heard_by other (until cut (driven c others (quiet m events)))))
+      → filter (tells_call c (border_of c.object c.topology m)) (step_lines 0 (heard_in c board (until cut (driven c answers events))))
+      ≡ filter (tells_call c (border_of c.object c.topology m)) (step_lines 0 (heard_in c other (until cut (driven c others (quiet m events)))))
   pub busy : (board other : Standing) (answers others : List (List Bool)) (cut : Option ℕ)
-      → filter (tells_busy m) (step_lines 0 (heard_by board (until cut (driven c answers events))))
-      ≡ filter (tells_busy m) (step_lines 0 (heard_by other (until cut (driven c others (quiet m events)))))
+      → filter (tells_busy m) (step_lines 0 (heard_in c board (until cut (driven c answers events))))
+      ≡ filter (tells_busy m) (step_lines 0 (heard_in c other (until cut (driven c others (quiet m events)))))
   pub tasks : (board other : Standing) → board.tasks ≡ other.tasks → (answers others : List (List Bool)) (cut : Option ℕ)
-      → filter tells_task (step_lines 0 (heard_by board (until cut (driven c answers events))))
-      ≡ filter tells_task (step_lines 0 (heard_by other (until cut (driven c others (quiet m events)))))
+      → filter tells_task (step_lines 0 (heard_in c board (until cut (driven c answers events))))
+      ≡ filter tells_task (step_lines 0 (heard_in c other (until cut (driven c others (quiet m events)))))
+  pub clocks : (number : ℕ) → IsClockBeyond (fixed_of c) (border_of c.object c.topology m) number
+      → (board other : Standing) (answers others : List (List Bool)) (cut : Option ℕ)
+      → filter (tells_clock number) (step_lines 0 (heard_in c board (until cut (driven c answers events))))
+      ≡ filter (tells_clock number) (step_lines 0 (heard_in c other (until cut (driven c others (quiet m events)))))

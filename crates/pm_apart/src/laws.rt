@@ -19,6 +19,7 @@ ghost use Rattle.pm_apart.specs.Apart.{AreDrivenAlike, IsOutOfReach, KeepsApart,
 ghost use Rattle.pm_apart.specs.Lines.{closing_line_of, is_about, run_lines, set_lines, step_lines};
 
 use pm_apply::{KeptValue, a_part_without_refusal, at_zero_is_a_record, each_part_is_safe};
+use pm_clock_laws::clocks_keep_apart;
 use pm_device::Device;
 use pm_laws::{reach_is_closed, reach_keeps_apart, values_agree};
 use pm_run::books_of_a_run;
@@ -92,8 +93,8 @@ pub fn driven_lines_stay_apart<D: Device>()
 /// A device that was driven through a run keeps apart what is beyond the reach of each master: the text is that of its
 /// lines, of which those about a unit beyond are those of the run without the messages of the master, where the device
 /// reported no failure. Whatever it refused, beyond the reach the books of the run are as in that one, and so are the lines
-/// of starts, drops and callbacks, those of the full boxes of other masters, and those of timed tasks. The same of the
-/// script lines of the run alone, up to where the text breaks off.
+/// of starts, drops and callbacks, those of clocks, those of the full boxes of other masters, and those of timed tasks. The
+/// same of the script lines of the run alone, up to where the text breaks off.
 pub fn driven_runs_keep_apart<D: Device>()
     ensures run { (c : Setup) (events : List Event) (answers : List (List Bool)) (old new : D)
         → IsObject c.object → IsWellFormed c.topology
@@ -107,4 +108,5 @@ pub fn driven_runs_keep_apart<D: Device>()
     texts_are_lines();
     driven_lines_stay_apart::<D>();
     reach_keeps_apart();
+    clocks_keep_apart();
 }

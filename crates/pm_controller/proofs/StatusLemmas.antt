@@ -23,8 +23,8 @@ use Rattle.pm_controller.specs.Status.{Tells, required_in, status_at, status_of,
 -- a node of this kind stands at this place among the slaves
 slave_where : (proc slave power : Option ℕ) (s : ℕ) → kind_at proc slave power ≡ Slave s → slave ≡ Some s
 slave_where (Some p) slave power s is = cc
-slave_where None (Some k) power s is = cc
-slave_where None None (Some w) s is = cc
+slave_where None slave (Some w) s is = cc
+slave_where None (Some k) None s is = cc
 slave_where None None None s is = cc
 
 -- what a row requires, with its pair or without

@@ -149,7 +149,11 @@ module _ (book : State) (pulse : Option LineId) where
   followed_now laws kept done c way =
       let first : IsOpen values pulse (units_of t) way.begun = record { are = way.followed.units; ready = way.followed.ready } in
       let now = left.way_open NoDevice t values pulse way.begun [] tt laws (units_of t) c kept done tt (as_way kept done c way) first in
-      record { units = now.are; ready = now.ready }
+      record {
+        units = now.are;
+        supplies = λ x has. left.way_supplies NoDevice t values pulse way.begun [] tt laws c kept done tt (as_way kept done c way) x ∙ way.followed.supplies x has;
+        ready = now.ready;
+      }
 
   -- there is room for the command that waits
   pub room_now : (kept : Kept) (done : List Done) (c : Carrying) (room : ℕ) (command : Command) → most_of t values (turns_of t pulse) ≤ room

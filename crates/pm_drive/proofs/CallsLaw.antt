@@ -14,15 +14,19 @@ use Rattle.pm_ipi.specs.Mail.{is_empty}
 use Rattle.pm_tasks.specs.declared.tasks.Fired.{Fired}
 use Rattle.pm_tasks.specs.Timetable.{Timed, Timetable, advanced, can_start, is_stored, passing, planned, slot, ticked}
 use Rattle.pm_board.specs.Board.{Standing, begun, board_after, settled}
+use Rattle.pm_clock_tree.specs.declared.clock_tree.ClockChange.{ClockChange}
+use Rattle.pm_clock_tree.specs.Tree.{Tree}
 use Rattle.pm_split.specs.Split.{Note, post}
 use Rattle.pm_split.specs.Boxes.{box_of}
 use Rattle.pm_run.specs.Run.{Line, Setup, Stand, line_of, lines_of, loaded, run, split}
 use Rattle.pm_apply.specs.Part.{Kept}
 use Rattle.pm_apply.specs.Record.{at_zero}
 use Rattle.pm_drive.specs.Drive.{Driven, answers_after, drive, drive_line, driven, until}
-use Rattle.pm_drive.specs.Heard.{heard_by, heard_line, last_board}
+use Rattle.pm_drive.specs.Clocks.{clock_note, clock_notes, clocked, clocked_by, first_tree, tree_along, turned}
+use Rattle.pm_drive.specs.Heard.{heard_by, heard_in, heard_line, last_board}
 use Rattle.pm_drive.specs.Tasks.{fired_note, task_notes}
 use Rattle.pm_drive.specs.Calls.{CallsAreTold, EachTellsWhatIsDue, TellsWhatIsDue, calls_in, calls_told, count_of, is_due_in, is_of}
+use Rattle.pm_drive.proofs.ClocksLaw.{board_clocked}
 use Rattle.pm_drive.proofs.CallsLemmas.{Counts, answers_from, join_counts, once_at, rising_from, same_counts, slot_at, tick_counts, time_from}
 
 -- ---- the calls that notes tell
@@ -34,6 +38,7 @@ calls_append (Note.Fired key at word ∷ first) later =
 calls_append (Note.Busy master ∷ first) later = calls_append first later
 calls_append (Note.Called proc code ∷ first) later = calls_append first later
 calls_append (Note.NoTask key ∷ first) later = calls_append first later
+calls_append (Note.Clock number from to ∷ first) later = calls_append first later
 
 calls_back : (calls : List Fired) → calls_in (map fired_note calls) ≡ calls
 calls_back [] = refl
@@ -216,8 +221,25 @@ until_each : (cut : Option ℕ) (xs : List Driven) → Each TellsNone xs → Eac
 until_each None xs none = none
 until_each (Some k) xs none = front_each (k + 1) xs none
 
+-- with clocks they tell none of themselves either
+none_turned : (turns : List ClockChange) → calls_in (map clock_note turns) ≡ []
+none_turned [] = refl
+none_turned (turn ∷ turns) = none_turned turns
+
+clocked_quiet : (tree : Tree) (xs : List Driven) → Each TellsNone xs → Each TellsNone (clocked_by tree xs)
+clocked_quiet tree [] none = tt
+clocked_quiet tree (x ∷ xs) none = (
+  calls_append x.line.notes (clock_notes tree x.cores)
+      ∙ (ap (λ (calls : List Fired). calls ++ calls_in (clock_notes tree x.cores)) none.0 ∙ none_turned (turned tree (tree_along x.cores tree))),
+  clocked_quiet (tree_along x.cores tree) xs none.1,
+)
+
 pub calls_told_in_run : (c : Setup) (board : Standing) (events : List Event) (answers : List (List Bool)) (cut : Option ℕ)
-    → CallsAreTold (heard_by board (until cut (driven c answers events))) board (last_board board (until cut (driven c answers events))).tasks
+    → CallsAreTold (heard_in c board (until cut (driven c answers events))) board (last_board board (until cut (driven c answers events))).tasks
 calls_told_in_run c board events answers cut =
-    told_by_lines board (until cut (driven c answers events))
-    (until_each cut (driven c answers events) (drive_quiet (at_zero c.topology) answers (run c events) (refl, lines_quiet c events (loaded c))))
+    let xs : List Driven = until cut (driven c answers events) in
+    let quiet : Each TellsNone xs =
+    until_each cut (driven c answers events) (drive_quiet (at_zero c.topology) answers (run c events) (refl, lines_quiet c events (loaded c)))
+    in
+    subst (λ (left : Standing). CallsAreTold (heard_in c board xs) board left.tasks) (board_clocked (first_tree c) xs board)
+    (told_by_lines board (clocked c xs) (clocked_quiet (first_tree c) xs quiet))

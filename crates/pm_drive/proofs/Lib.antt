@@ -4,6 +4,8 @@ pub mod LoweredLaw
 pub mod MetLemmas
 pub mod ToldLemmas
 pub mod BoardsLaw
+pub mod ClocksLaw
+pub mod FollowedLaw
 pub mod CallsLemmas
 pub mod CallsLaw
 pub mod UnsaidLaw

@@ -17,6 +17,8 @@ use Rattle.pm_device.specs.Act.{Act}
 use Rattle.pm_state.specs.Load.{load_of}
 use Rattle.pm_state.specs.State.{State}
 use Rattle.pm_core.specs.Step.{effect, outputs}
+use Rattle.pm_clock_tree.specs.declared.clock_tree.ClockChange.{ClockChange}
+use Rattle.pm_clock_tree.specs.Tree.{Tree}
 use Rattle.pm_split.specs.Split.{Note, Split, call}
 use Rattle.pm_tasks.specs.Timetable.{Timetable}
 use Rattle.pm_board.specs.Board.{Standing, board_after, settled}
@@ -24,12 +26,12 @@ use Rattle.pm_run.specs.Run.{Core, Line, Setup, Stand, book_after, core_of, core
 use Rattle.pm_apply.specs.Part.{Kept, orders_of, part_of}
 use Rattle.pm_apply.specs.Record.{at_zero}
 use Rattle.pm_trace.specs.declared.line.Word.{Word}
-use Rattle.pm_trace.specs.Closing.{closing_text}
 use Rattle.pm_trace.specs.Notes.{note_words}
 use Rattle.pm_drive.specs.Drive.{Driven, Given, acts, acts_of, answers_after, drive, drive_line, driven, first_answers, give, kept_after, last_book, last_kept, later_answers, orders_in_cores, rigs}
+use Rattle.pm_drive.specs.Clocks.{clock_note, clock_notes, clocked_by, clocked_core, clocked_cores, first_tree, last_tree, table_text, tree_after_core, tree_along, turned}
 use Rattle.pm_drive.specs.Heard.{heard_by, heard_core, heard_cores, last_board}
 use Rattle.pm_drive.specs.Tasks.{task_notes}
-use Rattle.pm_drive.specs.Lowered.{HaveSameSteps, given_in, lowered_script, told_by, told_in}
+use Rattle.pm_drive.specs.Lowered.{HaveSameSteps, but_clocks, given_in, lowered_script, told_but_clocks, told_by, told_in}
 
 -- where a run stands after these core events, which leave the boxes
 abbrev stand_after : List Event → Stand → Stand
@@ -47,6 +49,11 @@ line_by event stand s = record {
 -- what the device is given in a core step
 abbrev orders : Given → List Act
 orders g = orders_of g.part.commands
+
+-- notes of clocks are left out
+none_of_clocks : (turns : List ClockChange) (notes : List Note) → but_clocks (map clock_note turns ++ notes) ≡ but_clocks notes
+none_of_clocks [] notes = refl
+none_of_clocks (turn ∷ turns) notes = none_of_clocks turns notes
 
 -- a board of which no call of a task is left
 abbrev calm : Standing → Standing
@@ -66,12 +73,15 @@ is_calm [] board = refl
 is_calm (event ∷ events) board = stays_calm events board
 
 -- from this book and these kept values driven lines have these core steps, and then go on as others from others. So they do
--- where they find a board, which is left so after these core steps
+-- where they find a board, which is left so after these core steps, and so they do with the clocks, but for what is told of clocks
 record GoOn (book : State) (kept : Kept) (xs : List Driven) (given : List Given) (next : State) (more : Kept) (ys : List Driven) (left : Standing → Standing) : Type 0 where
   steps : given_in xs ≡ given ++ given_in ys
   told : told_in xs ≡ flat_map told_by given ++ told_in ys
   heard : (board : Standing) → told_in (heard_by board xs) ≡ flat_map told_by (heard_cores board.modules given) ++ told_in (heard_by (left board) ys)
   board : (board : Standing) → last_board board xs ≡ last_board (left board) ys
+  clocked : (board : Standing) (tree : Tree) → told_but_clocks (heard_by board (clocked_by tree xs))
+      ≡ flat_map told_by (heard_cores board.modules (clocked_cores tree given)) ++ told_but_clocks (heard_by (left board) (clocked_by (tree_along given tree) ys))
+  tree : (tree : Tree) → last_tree tree xs ≡ last_tree (tree_along given tree) ys
   done : acts xs ≡ orders_in_cores given ++ acts ys
   last : last_book book xs ≡ last_book next ys
   holds : last_kept kept xs ≡ last_kept more ys
@@ -113,7 +123,17 @@ module _ (c : Setup) where
       (drive (kept_after kept (give kept answers (cores_of es stand.book))) (answers_after (cores_of es stand.book) answers) (lines_of c rest (stand_after es stand)))
       (calm_after es)
   plain_lines [] plain rest stand kept answers =
-      record { steps = refl; told = refl; heard = λ board. refl; board = λ board. refl; done = refl; last = refl; holds = refl }
+      record {
+        steps = refl;
+        told = refl;
+        heard = λ board. refl;
+        board = λ board. refl;
+        clocked = λ board tree. refl;
+        tree = λ tree. refl;
+        done = refl;
+        last = refl;
+        holds = refl;
+      }
   plain_lines (e ∷ es) plain rest stand kept answers =
       let g : Given = record { core = core_of e stand.book; part = part_of kept (first_answers answers) (effect e stand.book) (outputs e stand.book) } in
       let given : List Given = give kept answers (cores_of (e ∷ es) stand.book) in
@@ -138,6 +158,20 @@ module _ (c : Setup) where
             ∙ (ap (λ (more : List (List Word)). told ++ more) (later.heard (calm board))
             ∙ sym (append_assoc told rest_told (told_in (heard_by (calm_after es (calm board)) tail))))));
         board = λ board. ap (λ (after : Standing). last_board after xs) (plain.0.calms board) ∙ later.board (calm board);
+        clocked = λ board tree.
+            let next_tree : Tree = tree_after_core g.core tree in
+            let told : List (List Word) = told_by (heard_core board.modules (clocked_core tree g)) in
+            let rest_told : List (List Word) = flat_map told_by (heard_cores board.modules (clocked_cores next_tree gs)) in
+            let notes : List Note = clock_notes tree (g ∷ []) in
+            let more : Standing → List (List Word) = λ after. told_but_clocks (heard_by after (clocked_by next_tree xs)) in
+            let end : List (List Word) = told_but_clocks (heard_by (calm_after es (calm board)) (clocked_by (tree_along gs next_tree) tail)) in
+            ap (λ (fired : List Note). ((told ++ []) ++ map note_words (but_clocks (notes ++ fired))) ++ more (board_after e board)) (plain.0.no_note board.tasks)
+            ∙ (ap (λ (left : List Note). ((told ++ []) ++ map note_words left) ++ more (board_after e board)) (none_of_clocks (turned tree next_tree) [])
+            ∙ (ap (λ (after : Standing). ((told ++ []) ++ []) ++ more after) (plain.0.calms board)
+            ∙ (ap (λ (first : List (List Word)). first ++ more (calm board)) (append-nil (told ++ []) ∙ append-nil told)
+            ∙ (ap (λ (later : List (List Word)). told ++ later) (later.clocked (calm board) next_tree)
+            ∙ sym (append_assoc told rest_told end)))));
+        tree = λ tree. later.tree (tree_after_core g.core tree);
         done =
             ap (λ first. (first ++ orders_in_cores (g ∷ [])) ++ acts xs) plain.0.no_act
             ∙ (ap (λ first. first ++ acts xs) (append-nil (orders g))
@@ -150,7 +184,17 @@ module _ (c : Setup) where
   all_lines : (events : List Event) (stand : Stand) (kept : Kept) (answers : List (List Bool))
       → GoOn stand.book kept (drive kept answers (lines_of c events stand)) [] stand.book kept (drive kept answers (lines_of c (lowered_script c.topology events) stand)) (λ board. board)
   all_lines [] stand kept answers =
-      record { steps = refl; told = refl; heard = λ board. refl; board = λ board. refl; done = refl; last = refl; holds = refl }
+      record {
+        steps = refl;
+        told = refl;
+        heard = λ board. refl;
+        board = λ board. refl;
+        clocked = λ board tree. refl;
+        tree = λ tree. refl;
+        done = refl;
+        last = refl;
+        holds = refl;
+      }
   all_lines (Smc proc function args ∷ events) stand kept answers =
       let smc : psci.Smc = call proc function args in
       let sent_events : List Event = if is_some (refusal c.topology smc) then [] else sent c.topology smc (function_of smc) in
@@ -175,6 +219,15 @@ module _ (c : Setup) where
         board = λ board.
             later.board (calm board)
             ∙ (ap (λ (after : Standing). last_board after ys) (sym (is_calm sent_events board)) ∙ sym (lower.board board));
+        clocked = λ board tree.
+            let next_tree : Tree = tree_along given tree in
+            let told : List (List Word) = flat_map told_by (heard_cores board.modules (clocked_cores tree given)) in
+            ap (λ (left : List Note). (told ++ map note_words left) ++ told_but_clocks (heard_by (calm board) (clocked_by next_tree xs))) (none_of_clocks (turned tree next_tree) [])
+            ∙ (ap (λ (first : List (List Word)). first ++ told_but_clocks (heard_by (calm board) (clocked_by next_tree xs))) (append-nil told)
+            ∙ (ap (λ (more : List (List Word)). told ++ more) (later.clocked (calm board) next_tree)
+            ∙ (ap (λ (after : Standing). told ++ told_but_clocks (heard_by after (clocked_by next_tree ys))) (sym (is_calm sent_events board))
+            ∙ sym (lower.clocked board tree))));
+        tree = λ tree. later.tree (tree_along given tree) ∙ sym (lower.tree tree);
         done = ap (λ more. orders_in_cores given ++ more) later.done ∙ sym lower.done;
         last = later.last ∙ sym lower.last;
         holds = later.holds ∙ sym lower.holds;
@@ -190,6 +243,11 @@ module _ (c : Setup) where
             ap (λ more. (flat_map told_by (heard_cores board.modules x.cores) ++ map note_words (line.notes ++ task_notes event board.tasks)) ++ more)
             (later.heard (board_after event board));
         board = λ board. later.board (board_after event board);
+        clocked = λ board tree.
+            let notes : List Note = (line.notes ++ clock_notes tree x.cores) ++ task_notes event board.tasks in
+            ap (λ more. (flat_map told_by (heard_cores board.modules (clocked_cores tree x.cores)) ++ map note_words (but_clocks notes)) ++ more)
+            (later.clocked (board_after event board) (tree_along x.cores tree));
+        tree = λ tree. later.tree (tree_along x.cores tree);
         done = ap (λ more. acts_of x ++ more) later.done;
         last = later.last;
         holds = later.holds;
@@ -208,9 +266,16 @@ module _ (c : Setup) where
         told = ap (λ more. (flat_map told_by x.cores ++ map note_words x.line.notes) ++ more) later.told;
         heard = λ board.
             ap (λ more. (flat_map told_by (heard_cores board.modules x.cores) ++ []) ++ more) (later.heard (board_after Pass board));
+        clocked = λ board.
+            let tree : Tree = first_tree c in
+            let notes : List Note = clock_notes tree x.cores ++ [] in
+            ap (λ more. (flat_map told_by (heard_cores board.modules (clocked_cores tree x.cores)) ++ map note_words (but_clocks notes)) ++ more)
+            (later.clocked (board_after Pass board) (tree_along x.cores tree));
         board = λ board. later.board (board_after Pass board);
+        tree = later.tree (tree_along x.cores (first_tree c));
         done = ap (λ more. acts_of x ++ more) later.done;
         closing =
-            ap (λ book. closing_text book (last_kept start xs)) later.last
-            ∙ ap (closing_text (last_book load ys)) later.holds;
+            ap (λ book. table_text book (last_kept start xs) (last_tree (first_tree c) xs)) later.last
+            ∙ (ap (λ kept. table_text (last_book load ys) kept (last_tree (first_tree c) xs)) later.holds
+            ∙ ap (table_text (last_book load ys) (last_kept start ys)) (later.tree (tree_along x.cores (first_tree c))));
       }

@@ -1,5 +1,6 @@
 -- What is told of driven lines where a board brings modules and tasks: the lines as they are, but that a module's response
--- stands in place of the book's reply to a message of its word, and that a line's notes are followed by those of tasks.
+-- stands in place of the book's reply to a message of its word, and that a line's notes are followed by those of tasks. In a run
+-- they are first told with the clocks of the book.
 use Rattle.std.specs.Prelude.{List, [], ◌∷◌, ◌++◌, map, unwrap_or}
 use Rattle.pm_base.specs.declared.events.Event.{Event}
 use Rattle.pm_base.specs.declared.events.Event.TheVariants.{Ipi}
@@ -7,6 +8,8 @@ use Rattle.pm_core.specs.declared.replies.Answer.{Answer}
 use Rattle.pm_core.specs.declared.replies.Answer.TheVariants.{Reply}
 use Rattle.pm_modules.specs.Ranges.{Ranged, said_by}
 use Rattle.pm_board.specs.Board.{Standing, board_after}
+use Rattle.pm_run.specs.Run.{Setup}
+use Rattle.pm_drive.specs.Clocks.{clocked}
 use Rattle.pm_drive.specs.Drive.{Driven, Given}
 use Rattle.pm_drive.specs.Tasks.{task_notes}
 
@@ -40,3 +43,8 @@ heard_by board (x ∷ xs) = heard_line board x ∷ heard_by (board_after x.line.
 abbrev pub last_board : Standing → List Driven → Standing
 last_board board [] = board
 last_board board (x ∷ xs) = last_board (board_after x.line.event board) xs
+
+-- driven lines of a run that begins with a board, from its load on: with the clocks of the book, and with what the board brings.
+-- The API words of the clocks are none of modules, and the notes of clocks stand before those of tasks
+abbrev pub heard_in : Setup → Standing → List Driven → List Driven
+heard_in c board xs = heard_by board (clocked c xs)

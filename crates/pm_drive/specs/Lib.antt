@@ -1,5 +1,6 @@
 pub mod Drive
 pub mod Drove
+pub mod Clocks
 pub mod Lowered
 pub mod PowerCalls
 pub mod Text
@@ -7,3 +8,4 @@ pub mod Tasks
 pub mod Heard
 pub mod Boards
 pub mod Calls
+pub mod Followed

@@ -10,11 +10,11 @@ use Rattle.pm_split.specs.Split.{Note, called_note}
 use Rattle.pm_board.specs.Board.{Standing}
 use Rattle.pm_run.specs.Run.{Setup}
 use Rattle.pm_apply.specs.Record.{at_zero}
-use Rattle.pm_trace.specs.Closing.{closing_text}
 use Rattle.pm_trace.specs.Notes.{notes_text}
 use Rattle.pm_trace.specs.Step.{core_text}
 use Rattle.pm_drive.specs.Drive.{Driven, Given, driven, last_book, last_kept}
-use Rattle.pm_drive.specs.Heard.{heard_by}
+use Rattle.pm_drive.specs.Clocks.{first_tree, last_tree, table_text}
+use Rattle.pm_drive.specs.Heard.{heard_in}
 
 -- what is written of core steps, numbered by their line
 abbrev pub given_text : ℕ → List Given → List ℕ
@@ -44,8 +44,9 @@ texts n (x ∷ xs) = driven_text n x ∷ texts (n + 1) xs
 
 -- the closing table after some lines of a run
 abbrev pub closing_after : Setup → List Driven → List ℕ
-closing_after c xs = closing_text (last_book (load_of c.object c.topology) xs) (last_kept (at_zero c.topology) xs)
+closing_after c xs =
+    table_text (last_book (load_of c.object c.topology) xs) (last_kept (at_zero c.topology) xs) (last_tree (first_tree c) xs)
 
 -- the whole text of a run that begins with a board: that of line 0 and of each line, and the closing table
 abbrev pub run_text : Setup → Standing → List (List Bool) → List Event → List ℕ
-run_text c board answers events = concat (texts 0 (heard_by board (driven c answers events)) ++ closing_after c (driven c answers events) ∷ [])
+run_text c board answers events = concat (texts 0 (heard_in c board (driven c answers events)) ++ closing_after c (driven c answers events) ∷ [])

@@ -7,15 +7,18 @@ ghost use Rattle.pm_topology.specs.WellFormed.{IsWellFormed};
 ghost use Rattle.pm_device.specs.Act.{Chain};
 ghost use Rattle.pm_run.specs.Run.{Setup};
 ghost use Rattle.pm_board.specs.Board.{Standing};
-ghost use Rattle.pm_drive.specs.Boards.{LeavesRun};
+ghost use Rattle.pm_clock_tree.specs.Tree.{Tree};
+ghost use Rattle.pm_drive.specs.Boards.{ClocksLeaveRun, LeavesRun};
 ghost use Rattle.pm_drive.specs.Calls.{CallsAreTold};
 ghost use Rattle.pm_drive.specs.Drive.{Driven, acts, driven, until};
 ghost use Rattle.pm_drive.specs.Drove.{Drove};
-ghost use Rattle.pm_drive.specs.Heard.{heard_by, last_board};
+ghost use Rattle.pm_drive.specs.Followed.{ClocksStand};
+ghost use Rattle.pm_drive.specs.Heard.{heard_in, last_board};
 ghost use Rattle.pm_drive.specs.Lowered.{HaveSameSteps, lowered_script};
 ghost use Rattle.pm_drive.specs.PowerCalls.{EachCallIsItsEvents};
 
 use pm_apply::{a_part_without_refusal, at_zero_is_a_record, each_part_is_safe, orders_join};
+use pm_clock_tree::{clocks_run_by_their_parents, clocks_stand_after_steps};
 use pm_device::{Device, acts_append, chain_shows, none_is_refused};
 use pm_run::books_of_a_run;
 use pm_topology::kinds_are_exact;
@@ -63,11 +66,26 @@ pub fn boards_leave_runs()
     ensures { (board : Standing) (xs : List Driven) → LeavesRun board xs }
 {}
 
+/// Whatever clocks driven lines find, what is told of them changes, and nothing else.
+pub fn clocks_leave_runs()
+    ensures { (tree : Tree) (xs : List Driven) → ClocksLeaveRun tree xs }
+{}
+
+/// At the load of a run and after each of its core steps no master that is off enables a clock, each enables only clocks
+/// whose slaves it may use by the object in force, and a clock runs exactly where it is a root whose slave is in a state
+/// other than 0, or a master enables it and the parent that is chosen for it runs.
+pub fn clocks_are_followed()
+    ensures { (c : Setup) (events : List Event) (answers : List (List Bool)) → ClocksStand c (driven c answers events) }
+{
+    clocks_stand_after_steps();
+    clocks_run_by_their_parents();
+}
+
 /// Each line of a run tells exactly the calls of the tasks that are due in it: each such task once, by rising key, at the
 /// time after the line, with the answer of its handler. A task that is stored before and after some lines was called once
 /// for each call that they tell of it.
 pub fn calls_are_told()
     ensures { (c : Setup) (board : Standing) (events : List Event) (answers : List (List Bool)) (cut : Option ℕ)
-        → CallsAreTold (heard_by board (until cut (driven c answers events))) board
+        → CallsAreTold (heard_in c board (until cut (driven c answers events))) board
         (last_board board (until cut (driven c answers events))).tasks }
 {}

@@ -5,7 +5,7 @@ mod laws;
 mod rigs;
 
 pub use laws::{
-    boards_leave_runs, calls_are_told, driven_follows, power_calls_are_their_events,
-    scripts_are_lowered,
+    boards_leave_runs, calls_are_told, clocks_are_followed, clocks_leave_runs, driven_follows,
+    power_calls_are_their_events, scripts_are_lowered,
 };
 pub use rigs::rig;

@@ -39,8 +39,8 @@ stops_unseen border false target within = stop_unseen border target within
 
 proc_first : (proc slave power : Option ℕ) (p : ℕ) → kind_at proc slave power ≡ Proc p → proc ≡ Some p
 proc_first (Some k) slave power p is = let same : k ≡ p = cc in ap Some same
-proc_first None (Some k) power p is = cc
-proc_first None None (Some k) p is = cc
+proc_first None slave (Some k) p is = cc
+proc_first None (Some k) None p is = cc
 proc_first None None None p is = cc
 
 -- the owner of a processor is that of its number

@@ -7,7 +7,7 @@ use Rattle.pm_ipi.specs.Mail.{emptied}
 use Rattle.pm_state.specs.State.{State}
 use Rattle.pm_split.specs.Boxes.{Boxes, box_of}
 use Rattle.pm_split.specs.Split.{Note}
-use Rattle.pm_split.specs.Split.Note.{Busy, Called, NoTask, Fired}
+use Rattle.pm_split.specs.Split.Note.{Busy, Called, Clock, NoTask, Fired}
 use Rattle.pm_run.specs.Run.{Core, Line, Setup, loaded, lines_of, run}
 use Rattle.pm_laws.specs.Agree.{Agree}
 use Rattle.pm_laws.specs.Beside.{AreBeside}
@@ -34,6 +34,7 @@ abbrev pub busy_of : NodeId → Note → List NodeId
 busy_of m (Busy master) = if master.0 == m.0 then [] else master ∷ []
 busy_of m (Called proc code) = []
 busy_of m (NoTask key) = []
+busy_of m (Clock number from to) = []
 busy_of m (Fired key at told) = []
 
 abbrev pub busy_others : NodeId → List Note → List NodeId

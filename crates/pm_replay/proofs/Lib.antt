@@ -1,3 +1,4 @@
+pub mod ClocksLemmas
 pub mod CoresLemmas
 pub mod DriveLemmas
 pub mod LeavesLemmas

@@ -29,12 +29,14 @@ use Rattle.pm_reader.specs.declared.follow.LinesEnd as reader
 use Rattle.pm_script.specs.Script.{Script}
 use Rattle.pm_replay.specs.declared.lines.Player.{Player}
 use Rattle.pm_drive.specs.Drive.{Driven, acts, acts_of, last_book, last_kept, orders_in_cores, rigs, until}
+use Rattle.pm_clock_tree.specs.Tree.{Tree}
+use Rattle.pm_drive.specs.Clocks.{clocked_by, clocked_line, last_tree, tree_along}
 use Rattle.pm_drive.specs.Heard.{heard_by, heard_line, last_board}
 use Rattle.pm_drive.specs.Text.{driven_text, given_text, notes_of, texts}
 use Rattle.pm_trace.specs.Notes.{notes_text}
 use Rattle.pm_replay.specs.Controls.{Controls, stand_in}
 use Rattle.pm_replay.specs.Plays.{Plays}
-use Rattle.pm_replay.specs.Within.{RanLine, RanLines, Went, WritesOn, driven_from}
+use Rattle.pm_replay.specs.Within.{AreTold, RanLine, RanLines, Went, WritesOn, driven_from, heard_from}
 use Rattle.pm_replay.proofs.CoresLemmas.{on-both}
 use Rattle.pm_replay.proofs.DriveLemmas.{driven_line, driven_next, until-cons}
 use Rattle.pm_replay.proofs.LeavesLemmas.{Leaves-before, Leaves-cons, behind}
@@ -64,20 +66,21 @@ module _ {O D : Type 0} (o : Sink.Ghosts O) (d : Device.Ghosts D) where
   -- lines of these events were run to their end, and the run and the board stand after them
   record RanAll (c : Setup) (n : ℕ) (events : List Event) (now then : Controls) (old new : O) (from to : D) (board is : Standing) : Type 0 where
     pub answers : List (List Bool)
-    pub went : Went o d (texts n (heard_by board (driven_from c now answers events))) (driven_from c now answers events) None old new from to
+    pub went : Went o d (texts n (heard_from c board now answers events)) (driven_from c now answers events) None old new from to
     pub book : then.book ≡ last_book now.book (driven_from c now answers events)
     pub kept : then.kept ≡ last_kept now.kept (driven_from c now answers events)
+    pub tree : then.clocks.tree ≡ last_tree now.clocks.tree (driven_from c now answers events)
     pub tasks_left : is ≡ last_board board (driven_from c now answers events)
 
   -- lines of these events were run up to one within which the sink broke off
   record RanSome (c : Setup) (n : ℕ) (events : List Event) (now : Controls) (old new : O) (from to : D) (board is : Standing) : Type 0 where
     pub answers : List (List Bool)
     pub place : ℕ
-    pub went : Went o d (texts n (heard_by board (driven_from c now answers events))) (driven_from c now answers events) (Some place) old new from to
+    pub went : Went o d (texts n (heard_from c board now answers events)) (driven_from c now answers events) (Some place) old new from to
     pub tasks_left : is ≡ last_board board (until (Some place) (driven_from c now answers events))
 
   RanAll-none : (c : Setup) (n : ℕ) (now : Controls) (old : O) (from : D) (board : Standing) → RanAll c n [] now now old old from from board board
-  RanAll-none c n now old from board = record { answers = []; went = Went-nil old from; book = refl; kept = refl; tasks_left = refl }
+  RanAll-none c n now old from board = record { answers = []; went = Went-nil old from; book = refl; kept = refl; tree = refl; tasks_left = refl }
 
   module _ (c : Setup) (n : ℕ) (event : Event) (now then : Controls) (old new : O) (from to : D) (board is : Standing) (result : Result ⊤ Failed) (ran : RanLine o d c n event now then old new from to board is result) where
     -- all that was done to the device in a line
@@ -86,10 +89,10 @@ module _ {O D : Type 0} (o : Sink.Ghosts O) (d : Device.Ghosts D) where
         Chain-append d.Does (rigs event) (orders_in_cores (driven_line c event now ran.cores.answers).cores) from ran.between to ran.rigged ran.cores.given
 
     -- all that was written of it
-    line_written : WritesOn o (driven_text n (heard_line board (driven_line c event now ran.cores.answers))) (Ok tt) result old new
+    line_written : WritesOn o (driven_text n (heard_line board (clocked_line now.clocks.tree (driven_line c event now ran.cores.answers)))) (Ok tt) result old new
     line_written =
         let x : Driven = driven_line c event now ran.cores.answers in
-        let y : Driven = heard_line board x in
+        let y : Driven = heard_line board (clocked_line now.clocks.tree x) in
         let chip : then.book.fixed.topology ≡ y.line.after.book.fixed.topology = ap (λ (b : State). b.fixed.topology) ran.cores.after in
         let P : Topology → Type 0 = λ t. WritesOn o (notes_text n (y.line.notes ++ called_note t event ran.told)) ran.far result ran.via new in
         let Q : Option Response → Type 0 = λ told. WritesOn o (notes_text n (y.line.notes ++ called_note y.line.after.book.fixed.topology event told)) ran.far result ran.via new in
@@ -109,13 +112,15 @@ module _ {O D : Type 0} (o : Sink.Ghosts O) (d : Device.Ghosts D) where
     next : (later : List (List Bool)) → driven_from c now (ran.cores.answers ++ later) (event ∷ events) ≡ driven_line c event now ran.cores.answers ∷ driven_from c mid later events
     next later = driven_next c event events now mid ran.cores.answers later ran.cores.fits ran.cores.after ran.boxes ran.cores.keeps
 
-    went_next : (later : List (List Bool)) (cut : Option ℕ) → Went o d (texts (n + 1) (heard_by mid_board (driven_from c mid later events))) (driven_from c mid later events) cut via new between to → Went o d (texts n (heard_by board (driven_from c now (ran.cores.answers ++ later) (event ∷ events)))) (driven_from c now (ran.cores.answers ++ later) (event ∷ events)) (behind 1 cut) old new from to
+    went_next : (later : List (List Bool)) (cut : Option ℕ) → Went o d (texts (n + 1) (heard_from c mid_board mid later events)) (driven_from c mid later events) cut via new between to → Went o d (texts n (heard_from c board now (ran.cores.answers ++ later) (event ∷ events))) (driven_from c now (ran.cores.answers ++ later) (event ∷ events)) (behind 1 cut) old new from to
     went_next later cut went =
         let x : Driven = driven_line c event now ran.cores.answers in
         let ys : List Driven = driven_from c mid later events in
-        let rest = subst (λ (b : Standing). Went o d (texts (n + 1) (heard_by b ys)) ys cut via new between to) ran.tasks_left went in
-        subst (λ (xs : List Driven). Went o d (texts n (heard_by board xs)) xs (behind 1 cut) old new from to) (sym (next later))
-        (Went-cons (driven_text n (heard_line board x)) x (texts (n + 1) (heard_by (board_after event board) ys)) ys cut old via new from between to (line_written c n event now mid old via from between board mid_board (Ok tt) ran) (line_given c n event now mid old via from between board mid_board (Ok tt) ran) rest)
+        let tree : Tree = now.clocks.tree in
+        let turned = subst (λ (t : Tree). Went o d (texts (n + 1) (heard_by mid_board (clocked_by t ys))) ys cut via new between to) ran.cores.turned went in
+        let rest = subst (λ (b : Standing). Went o d (texts (n + 1) (heard_by b (clocked_by (tree_along x.cores tree) ys))) ys cut via new between to) ran.tasks_left turned in
+        subst (λ (xs : List Driven). Went o d (texts n (heard_by board (clocked_by tree xs))) xs (behind 1 cut) old new from to) (sym (next later))
+        (Went-cons (driven_text n (heard_line board (clocked_line tree x))) x (texts (n + 1) (heard_by (board_after event board) (clocked_by (tree_along x.cores tree) ys))) ys cut old via new from between to (line_written c n event now mid old via from between board mid_board (Ok tt) ran) (line_given c n event now mid old via from between board mid_board (Ok tt) ran) rest)
 
     -- the board after the lines up to a cut
     board_next : (later : List (List Bool)) (cut : Option ℕ) → is ≡ last_board mid_board (until cut (driven_from c mid later events)) → is ≡ last_board board (until (behind 1 cut) (driven_from c now (ran.cores.answers ++ later) (event ∷ events)))
@@ -133,6 +138,7 @@ module _ {O D : Type 0} (o : Sink.Ghosts O) (d : Device.Ghosts D) where
       went = went_next rest.answers None rest.went;
       book = rest.book ∙ ap (λ b. last_book b (driven_from c mid rest.answers events)) ran.cores.after ∙ sym (ap (λ xs. last_book now.book xs) (next rest.answers));
       kept = rest.kept ∙ ap (λ k. last_kept k (driven_from c mid rest.answers events)) ran.cores.keeps ∙ sym (ap (λ xs. last_kept now.kept xs) (next rest.answers));
+      tree = rest.tree ∙ ap (λ t. last_tree t (driven_from c mid rest.answers events)) ran.cores.turned ∙ sym (ap (λ xs. last_tree now.clocks.tree xs) (next rest.answers));
       tasks_left = board_next rest.answers None rest.tasks_left;
     }
 
@@ -153,8 +159,8 @@ module _ {O D : Type 0} (o : Sink.Ghosts O) (d : Device.Ghosts D) where
       record {
         answers = ran.cores.answers ++ [];
         place = 0;
-        went = subst (λ (xs : List Driven). Went o d (texts n (heard_by board xs)) xs (Some 0) old new from to) (sym next)
-            (Went-broken (driven_text n (heard_line board x)) x (texts (n + 1) (heard_by (board_after event board) ys)) ys old new from to (line_written c n event now then old new from to board is (Err failed) ran) (line_given c n event now then old new from to board is (Err failed) ran));
+        went = subst (λ (xs : List Driven). Went o d (texts n (heard_by board (clocked_by now.clocks.tree xs))) xs (Some 0) old new from to) (sym next)
+            (Went-broken (driven_text n (heard_line board (clocked_line now.clocks.tree x))) x (texts (n + 1) (heard_by (board_after event board) (clocked_by (tree_along x.cores now.clocks.tree) ys))) ys old new from to (line_written c n event now then old new from to board is (Err failed) ran) (line_given c n event now then old new from to board is (Err failed) ran));
         tasks_left = ran.tasks_left ∙ sym (ap (λ (xs : List Driven). last_board board (until (Some 0) xs)) next);
       }
 
@@ -165,18 +171,20 @@ module _ {O D : Type 0} (o : Sink.Ghosts O) (d : Device.Ghosts D) where
     abbrev pub board_of : Player O D H T → Standing
     board_of player = standing r h player.modules.now player.tasks.now
 
-    ran_through : (c : Setup) (n : ℕ) (events : List Event) (old new : Player O D H T) → setup_of old.controller.now.book ≡ c → GoesThrough (Plays o d r h) n events old new → RanAll c n events old.controller.now new.controller.now old.out.now new.out.now old.dev.now new.dev.now (board_of old) (board_of new)
-    ran_through c n [] old new is same = subst (λ (p : Player O D H T). RanAll c n [] old.controller.now p.controller.now old.out.now p.out.now old.dev.now p.dev.now (board_of old) (board_of p)) same (RanAll-none c n old.controller.now old.out.now old.dev.now (board_of old))
-    ran_through c n (event ∷ events) old new is (mid, one, rest) =
-        let next = setup_next c n event old.controller.now mid.controller.now old.out.now mid.out.now old.dev.now mid.dev.now (board_of old) (board_of mid) (Ok tt) (one.ran c is) is in
-        RanAll-next c n event events old.controller.now mid.controller.now old.out.now mid.out.now new.out.now old.dev.now mid.dev.now new.dev.now (board_of old) (board_of mid) (board_of new) (one.ran c is) new.controller.now (ran_through c (n + 1) events mid new next rest)
+    ran_through : (c : Setup) (n : ℕ) (events : List Event) (old new : Player O D H T) → setup_of old.controller.now.book ≡ c → AreTold old.controller.now.clocks → GoesThrough (Plays o d r h) n events old new → RanAll c n events old.controller.now new.controller.now old.out.now new.out.now old.dev.now new.dev.now (board_of old) (board_of new)
+    ran_through c n [] old new is told same = subst (λ (p : Player O D H T). RanAll c n [] old.controller.now p.controller.now old.out.now p.out.now old.dev.now p.dev.now (board_of old) (board_of p)) same (RanAll-none c n old.controller.now old.out.now old.dev.now (board_of old))
+    ran_through c n (event ∷ events) old new is told (mid, one, rest) =
+        let ran = one.ran c is told in
+        let next = setup_next c n event old.controller.now mid.controller.now old.out.now mid.out.now old.dev.now mid.dev.now (board_of old) (board_of mid) (Ok tt) ran is in
+        RanAll-next c n event events old.controller.now mid.controller.now old.out.now mid.out.now new.out.now old.dev.now mid.dev.now new.dev.now (board_of old) (board_of mid) (board_of new) ran new.controller.now (ran_through c (n + 1) events mid new next ran.clocks_told rest)
 
-    ran_within : (c : Setup) (n : ℕ) (events : List Event) (old new : Player O D H T) → setup_of old.controller.now.book ≡ c → FailsWithin (Plays o d r h) n events old new → RanSome c n events old.controller.now old.out.now new.out.now old.dev.now new.dev.now (board_of old) (board_of new)
-    ran_within c n [] old new is none = absurd none
-    ran_within c n (event ∷ events) old new is (inl (failed, one)) = RanSome-first c n event events old.controller.now new.controller.now old.out.now new.out.now old.dev.now new.dev.now (board_of old) (board_of new) failed (one.ran c is)
-    ran_within c n (event ∷ events) old new is (inr (mid, one, rest)) =
-        let next = setup_next c n event old.controller.now mid.controller.now old.out.now mid.out.now old.dev.now mid.dev.now (board_of old) (board_of mid) (Ok tt) (one.ran c is) is in
-        RanSome-next c n event events old.controller.now mid.controller.now old.out.now mid.out.now new.out.now old.dev.now mid.dev.now new.dev.now (board_of old) (board_of mid) (board_of new) (one.ran c is) (ran_within c (n + 1) events mid new next rest)
+    ran_within : (c : Setup) (n : ℕ) (events : List Event) (old new : Player O D H T) → setup_of old.controller.now.book ≡ c → AreTold old.controller.now.clocks → FailsWithin (Plays o d r h) n events old new → RanSome c n events old.controller.now old.out.now new.out.now old.dev.now new.dev.now (board_of old) (board_of new)
+    ran_within c n [] old new is told none = absurd none
+    ran_within c n (event ∷ events) old new is told (inl (failed, one)) = RanSome-first c n event events old.controller.now new.controller.now old.out.now new.out.now old.dev.now new.dev.now (board_of old) (board_of new) failed (one.ran c is told)
+    ran_within c n (event ∷ events) old new is told (inr (mid, one, rest)) =
+        let ran = one.ran c is told in
+        let next = setup_next c n event old.controller.now mid.controller.now old.out.now mid.out.now old.dev.now mid.dev.now (board_of old) (board_of mid) (Ok tt) ran is in
+        RanSome-next c n event events old.controller.now mid.controller.now old.out.now mid.out.now new.out.now old.dev.now mid.dev.now new.dev.now (board_of old) (board_of mid) (board_of new) ran (ran_within c (n + 1) events mid new next ran.clocks_told rest)
 
     -- a player holds what it held
     pub record HoldsSame (old new : Player O D H T) : Type 0 where
@@ -204,18 +212,18 @@ module _ {O D : Type 0} (o : Sink.Ghosts O) (d : Device.Ghosts D) where
     holds_same n s old new (Err (stops.Bad m cause)) did = same_through n s.events old new did.0
     holds_same n s old new (Err stops.Broken) did = same_within n s.events old new did
 
-    lines_ran : (c : Setup) (n : ℕ) (s : Script) (old new : Player O D H T) (result : Result reader.LinesEnd LineStop) → setup_of old.controller.now.book ≡ c → Followed (Plays o d r h) n s old new result → RanLines o d c n s old.controller.now new.controller.now old.out.now new.out.now old.dev.now new.dev.now (board_of old) (board_of new) result
-    lines_ran c n s old new (Ok end) is did =
-        let ran = ran_through c n s.events old new is did.0 in
-        record { answers = ran.answers; cut = None; went = ran.went; tasks_left = ran.tasks_left; ends = (refl, did.1, ran.book, ran.kept) }
-    lines_ran c n s old new (Err (stops.Bad m cause)) is did =
-        let ran = ran_through c n s.events old new is did.0 in
+    lines_ran : (c : Setup) (n : ℕ) (s : Script) (old new : Player O D H T) (result : Result reader.LinesEnd LineStop) → setup_of old.controller.now.book ≡ c → AreTold old.controller.now.clocks → Followed (Plays o d r h) n s old new result → RanLines o d c n s old.controller.now new.controller.now old.out.now new.out.now old.dev.now new.dev.now (board_of old) (board_of new) result
+    lines_ran c n s old new (Ok end) is told did =
+        let ran = ran_through c n s.events old new is told did.0 in
+        record { answers = ran.answers; cut = None; went = ran.went; tasks_left = ran.tasks_left; ends = (refl, did.1, ran.book, ran.kept, ran.tree) }
+    lines_ran c n s old new (Err (stops.Bad m cause)) is told did =
+        let ran = ran_through c n s.events old new is told did.0 in
         record { answers = ran.answers; cut = None; went = ran.went; tasks_left = ran.tasks_left; ends = (refl, did.1, did.2) }
-    lines_ran c n s old new (Err stops.Broken) is did =
-        let ran = ran_within c n s.events old new is did in
+    lines_ran c n s old new (Err stops.Broken) is told did =
+        let ran = ran_within c n s.events old new is told did in
         record { answers = ran.answers; cut = Some ran.place; went = ran.went; tasks_left = ran.tasks_left; ends = (ran.place, refl) }
 
-    pub ran_lines : (c : Setup) (n : ℕ) (s : Script) (old new : Player O D H T) (result : Result reader.LinesEnd LineStop) → setup_of old.controller.now.book ≡ c → Followed (Plays o d r h) n s old new result → RanLines o d c n s old.controller.now new.controller.now old.out.now new.out.now old.dev.now new.dev.now (board_of old) (standing r h old.modules.now new.tasks.now) result
-    ran_lines c n s old new result is did =
+    pub ran_lines : (c : Setup) (n : ℕ) (s : Script) (old new : Player O D H T) (result : Result reader.LinesEnd LineStop) → setup_of old.controller.now.book ≡ c → AreTold old.controller.now.clocks → Followed (Plays o d r h) n s old new result → RanLines o d c n s old.controller.now new.controller.now old.out.now new.out.now old.dev.now new.dev.now (board_of old) (standing r h old.modules.now new.tasks.now) result
+    ran_lines c n s old new result is told did =
         subst (λ (modules : ModulesOf H). RanLines o d c n s old.controller.now new.controller.now old.out.now new.out.now old.dev.now new.dev.now (board_of old) (standing r h modules new.tasks.now) result)
-        (holds_same n s old new result did).modules (lines_ran c n s old new result is did)
+        (holds_same n s old new result did).modules (lines_ran c n s old new result is told did)

@@ -20,7 +20,7 @@ use Rattle.pm_trace.specs.Scripts.{IsScriptOf, at_end, script_fault}
 use Rattle.pm_trace.proofs.ScriptsLemmas as scripts
 use Rattle.pm_drive.specs.Drive.{acts, driven, until}
 use Rattle.pm_drive.specs.Drove.{Drove}
-use Rattle.pm_drive.specs.Heard.{heard_by, last_board}
+use Rattle.pm_drive.specs.Heard.{heard_in, last_board}
 use Rattle.pm_drive.specs.Text.{closing_after, texts}
 use Rattle.pm_replay.specs.Replay.{Touched, replay_report}
 use Rattle.pm_replay.specs.Replayed.{IsRun, Replayed}
@@ -55,7 +55,7 @@ module _ {I O D : Type 0} (i : Inputs.Ghosts I) (o : Sink.Ghosts O) (d : Device.
             let held = scripts.held_whole i o script_itself (replay_report c board) (of_script c board) name w.inputs w'.inputs w.sink w'.sink result (IsScriptOf i name w.inputs w'.inputs result) (λ job asked. asked) (Touched d c board is w.device w'.device) did s same seen done in
             let read : IsHeldWhole (i.state w.inputs) name s.events = held.1 in
             let steps = driven c did.answers s.events in
-            let told : List (List ℕ) = texts 0 (heard_by board steps) in
+            let told : List (List ℕ) = texts 0 (heard_in c board steps) in
             let all : (replay_report c board s did.answers).body ≡ told ++ closing_after c steps ∷ [] =
             ap (λ (stop : Stop). told ++ at_end stop (closing_after c steps)) held.0
             in

@@ -1,6 +1,6 @@
 -- What comes after the lines of a script, and step 0 before them.
-use Rattle.std.proofs.Common.{◌≡◌, ℕ, ◌+◌, ◌<◌, ◌≤◌, Bool, true, List, [], ◌∷◌, ◌++◌, length, Option, Some, None, Result, Ok, Err, if◌then◌else◌, suc, refl, sym, ◌∙◌, ap, subst, arith, take_all}
-use Rattle.std.specs.Prelude.{IfOk, nat_lt}
+use Rattle.std.proofs.Common.{◌≡◌, ℕ, ◌+◌, ◌<◌, ◌≤◌, Bool, true, false, List, [], ◌∷◌, ◌++◌, length, Option, Some, None, Result, Ok, Err, if◌then◌else◌, suc, refl, sym, ◌∙◌, ap, subst, arith, take_all}
+use Rattle.std.specs.Prelude.{◌&&◌, IfOk, flat_map, is_some, map, nat_lt, not}
 use Rattle.std.specs.List.{concat}
 use Rattle.std.proofs.lemmas.Bool.Decides.{nat_tests}
 use Rattle.std.proofs.lemmas.List.{append_assoc, append-nil, length-append}
@@ -24,7 +24,15 @@ use Rattle.pm_device.specs.Chains.{Chain-append}
 use Rattle.pm_board.specs.Board.{Standing, board_after}
 use Rattle.pm_state.specs.Load.{load_of}
 use Rattle.pm_core.specs.Outbox.{Holds}
+use Rattle.pm_clock_tree.specs.declared.clock_tree.ClockChange.{ClockChange}
+use Rattle.pm_clock_tree.specs.declared.table.ClockDef.{ClockDef}
+use Rattle.pm_clock_tree.specs.Followed.{followed}
+use Rattle.pm_clock_tree.specs.Table.{clocks, place_of}
+use Rattle.pm_clock_tree.specs.Told.{Clocked, change, change_at, listed, same as alike}
+use Rattle.pm_clock_tree.specs.Tree.{Tree, running, runs}
+use Rattle.pm_clocks.specs.Clocked.{tree_of, view_of}
 use Rattle.pm_split.specs.Boxes.{Boxes}
+use Rattle.pm_split.specs.Split.{Note}
 use Rattle.pm_run.specs.Run.{Setup, core_0, line_0, lines_of, loaded as at_load, setup, setup_of}
 use Rattle.pm_state.specs.State.{State}
 use Rattle.pm_core.specs.Step.{outputs_at_load}
@@ -33,19 +41,20 @@ use Rattle.pm_apply.specs.Record.{at_zero}
 use Rattle.pm_reader.specs.declared.follow.LineStop.TheVariants as stops
 use Rattle.pm_script.specs.declared.meaning.LineFault.{LineFault}
 use Rattle.pm_script.specs.Script.{Script, Stop, stop_of}
-use Rattle.pm_trace.specs.Closing.{closing_text}
 use Rattle.pm_trace.specs.declared.faults.Fault.{Fault}
 use Rattle.pm_trace.specs.declared.faults.Fault.TheVariants.{Line}
 use Rattle.pm_trace.specs.Faults.{exit_after}
 use Rattle.pm_trace.specs.Report.{Report, Reports, exit_of, fault_lines, pieces, refusal}
 use Rattle.pm_trace.specs.Step.{Notices, core_text, notices_in, notices_of, step_text}
-use Rattle.pm_drive.specs.Drive.{Driven, acts, acts_of, drive, driven, last_book, last_kept, until}
-use Rattle.pm_drive.specs.Heard.{heard_by, last_board}
-use Rattle.pm_drive.specs.Text.{texts}
+use Rattle.pm_drive.specs.Drive.{Driven, Given, acts, acts_of, drive, driven, last_book, last_kept, until}
+use Rattle.pm_drive.specs.Clocks.{clock_note, clock_notes, clocked_by, first_tree, last_tree, table_text, tree_along, turned}
+use Rattle.pm_drive.specs.Heard.{heard_by, heard_in, last_board}
+use Rattle.pm_drive.specs.Text.{closing_after, texts}
+use Rattle.pm_trace.specs.Notes.{notes_text}
 use Rattle.pm_trace.specs.Scripts.{at_end, fault_at}
 use Rattle.pm_replay.specs.Replay.{replay_report}
-use Rattle.pm_replay.specs.Controls.{Controls}
-use Rattle.pm_replay.specs.Within.{IsLoaded, RanLines, RanRest, RanScript, Started, Went, closing_report, driven_from, report_from}
+use Rattle.pm_replay.specs.Controls.{AreOf, Controls}
+use Rattle.pm_replay.specs.Within.{IsLoaded, RanLines, RanRest, RanScript, Started, Went, closing_report, driven_from, heard_from, report_from, table_from}
 use Rattle.pm_replay.proofs.DriveLemmas.{until-cons}
 use Rattle.pm_replay.proofs.LeavesLemmas.{Leaves-append, Leaves-before, behind}
 
@@ -79,6 +88,13 @@ length-heard : (n : ℕ) (board : Standing) (xs : List Driven) → length (texts
 length-heard n board [] = refl
 length-heard n board (x ∷ xs) = ap suc (length-heard (n + 1) (board_after x.line.event board) xs)
 
+length-clocked : (tree : Tree) (xs : List Driven) → length (clocked_by tree xs) ≡ length xs
+length-clocked tree [] = refl
+length-clocked tree (x ∷ xs) = ap suc (length-clocked (tree_along x.cores tree) xs)
+
+length-told : (n : ℕ) (board : Standing) (tree : Tree) (xs : List Driven) → length (texts n (heard_by board (clocked_by tree xs))) ≡ length xs
+length-told n board tree xs = length-heard n board (clocked_by tree xs) ∙ length-clocked tree xs
+
 pub until-past : {X : Type 0} (m : ℕ) (cut : Option ℕ) (xs : List X) → length xs ≤ m → until (behind m cut) xs ≡ xs
 until-past m None xs long = refl
 until-past m (Some k) xs long = take_all (m + k + 1) xs (omega arith)
@@ -91,32 +107,56 @@ fault-anywhere m n reason.Failure = refl
 fault-anywhere m n reason.Unbegun = refl
 
 -- the book of an object at load, a device that took nothing yet, and what the load puts out
-is_loaded : (c : Controls) (object : Object) (topology : Topology) → c.book ≡ load_of object topology → c.kept ≡ at_zero topology → c.boxes ≡ (at_load (setup object topology)).boxes → Holds (outputs_at_load c.book) c.outbox → IsLoaded c
-is_loaded c object topology book kept boxes out = record {
+is_loaded : (c : Controls) (object : Object) (topology : Topology) → c.book ≡ load_of object topology → c.kept ≡ at_zero topology → c.boxes ≡ (at_load (setup object topology)).boxes → Holds (outputs_at_load c.book) c.outbox → AreOf c.book c.clocks → IsLoaded c
+is_loaded c object topology book kept boxes out clocks = record {
   book = subst (λ (b : State). b ≡ load_of b.fixed.object b.fixed.topology) (sym book) refl;
   kept = kept ∙ ap (λ (b : State). at_zero b.fixed.topology) (sym book);
   boxes = boxes ∙ ap (λ (b : State). (at_load (setup_of b)).boxes) (sym book);
+  clocks = clocks;
   out = out;
 }
 
-pub loaded_by : (object : Object) (topology : Topology) (result : Result Controls NoMemory) → IfOk result (λ c. c.book ≡ load_of object topology) → IfOk result (λ c. c.kept ≡ at_zero topology) → IfOk result (λ c. c.boxes ≡ (at_load (setup object topology)).boxes) → IfOk result (λ c. Holds (outputs_at_load c.book) c.outbox) → IfOk result IsLoaded
-loaded_by object topology (Ok c) book kept boxes out = is_loaded c object topology book kept boxes out
-loaded_by object topology (Err error) book kept boxes out = tt
+pub loaded_by : (object : Object) (topology : Topology) (result : Result Controls NoMemory) → IfOk result (λ c. c.book ≡ load_of object topology) → IfOk result (λ c. c.kept ≡ at_zero topology) → IfOk result (λ c. c.boxes ≡ (at_load (setup object topology)).boxes) → IfOk result (λ c. Holds (outputs_at_load c.book) c.outbox) → IfOk result (λ c. AreOf c.book c.clocks) → IfOk result IsLoaded
+loaded_by object topology (Ok c) book kept boxes out clocks = is_loaded c object topology book kept boxes out clocks
+loaded_by object topology (Err error) book kept boxes out clocks = tt
 
 pub setup_by : (object : Object) (topology : Topology) (result : Result Controls NoMemory) → IfOk result (λ c. c.book ≡ load_of object topology) → IfOk result (λ c. setup_of c.book ≡ setup object topology)
 setup_by object topology (Ok c) book = ap setup_of book
 setup_by object topology (Err error) book = tt
 
+-- the tree at load is that of the book
+tree_at_load : (now : Controls) → IsLoaded now → now.clocks.tree ≡ first_tree (setup_of now.book)
+tree_at_load now loaded = ap (λ (it : Clocked). it.tree) loaded.clocks.are ∙ ap (λ (b : State). tree_of b) loaded.book
+
+-- where the tree is as it was told of, no clock has begun or ceased to run
+unchanged : (on there : Bool) (number : ℕ) → (if there && not (alike on on) then Some (change number on on) else None) ≡ None
+unchanged on false number = refl
+unchanged true true number = refl
+unchanged false true number = refl
+
+none_turned : (tree : Tree) → turned tree tree ≡ []
+none_turned tree = by clocks
+  where
+    it : Clocked
+    it = record { tree = tree; told = running tree }
+
+    by : (defs : List ClockDef) → flat_map (λ (def : ClockDef). listed (change_at def.number it)) defs ≡ []
+    by [] = refl
+    by (def ∷ defs) =
+        ap (λ (turn : Option ClockChange). listed turn ++ flat_map (λ (def : ClockDef). listed (change_at def.number it)) defs)
+        (unchanged (runs def.number tree) (is_some (place_of def.number)) def.number)
+        ∙ by defs
+
 module _ {O D : Type 0} (o : Sink.Ghosts O) (d : Device.Ghosts D) where
   -- lines were all carried out or one is bad, and after a report was written
-  rest_by : (c : Setup) (n : ℕ) (s : Script) (now : Controls) (old mid new : O) (from to : D) (board is : Standing) (exit : Exit) (answers : List (List Bool)) (cut : Option ℕ) (r : Report) → Went o d (texts n (heard_by board (driven_from c now answers s.events))) (driven_from c now answers s.events) cut old mid from to → cut ≡ None → is ≡ last_board board (until cut (driven_from c now answers s.events)) → Reports o r mid new exit → report_from c board n now s answers ≡ report_after (texts n (heard_by board (driven_from c now answers s.events))) r → RanRest o d c n s now old new from to board is exit
+  rest_by : (c : Setup) (n : ℕ) (s : Script) (now : Controls) (old mid new : O) (from to : D) (board is : Standing) (exit : Exit) (answers : List (List Bool)) (cut : Option ℕ) (r : Report) → Went o d (texts n (heard_from c board now answers s.events)) (driven_from c now answers s.events) cut old mid from to → cut ≡ None → is ≡ last_board board (until cut (driven_from c now answers s.events)) → Reports o r mid new exit → report_from c board n now s answers ≡ report_after (texts n (heard_from c board now answers s.events)) r → RanRest o d c n s now old new from to board is exit
   rest_by c n s now old mid new from to board is exit answers cut r went whole left reports same =
       let xs : List Driven = driven_from c now answers s.events in
-      let done : List (List ℕ) = texts n (heard_by board xs) in
+      let done : List (List ℕ) = texts n (heard_by board (clocked_by now.clocks.tree xs)) in
       let wrote : Wrote o.observable (concat done) (o.state old) (o.state mid) = subst (λ (cut : Option ℕ). Leaves o done cut old mid) whole went.left in
       let given : Chain d.Does (acts xs) from to = subst (λ (cut : Option ℕ). Chain d.Does (acts (until cut xs)) from to) whole went.given in
       let after : is ≡ last_board board xs = subst (λ (cut : Option ℕ). is ≡ last_board board (until cut xs)) whole left in
-      let long : length xs ≤ length done = omega (arith, length-heard n board xs) in
+      let long : length xs ≤ length done = omega (arith, length-told n board now.clocks.tree xs) in
       record {
         answers = answers;
         cut = behind (length done) reports.cut;
@@ -129,29 +169,31 @@ module _ {O D : Type 0} (o : Sink.Ghosts O) (d : Device.Ghosts D) where
       }
 
   -- lines were carried out, and what comes after them was written
-  pub RanRest-closed : (c : Setup) (n : ℕ) (s : Script) (r : StopReason) (now after : Controls) (old mid new : O) (from to : D) (board is : Standing) (exit : Exit) (count : ℕ) → RanLines o d c n s now after old mid from to board is (Ok (record { count = count; stop = r })) → Reports o (closing_report (stop_of r) after.book after.kept) mid new exit → RanRest o d c n s now old new from to board is exit
+  pub RanRest-closed : (c : Setup) (n : ℕ) (s : Script) (r : StopReason) (now after : Controls) (old mid new : O) (from to : D) (board is : Standing) (exit : Exit) (count : ℕ) → RanLines o d c n s now after old mid from to board is (Ok (record { count = count; stop = r })) → Reports o (closing_report (stop_of r) after.book after.kept after.clocks.tree) mid new exit → RanRest o d c n s now old new from to board is exit
   RanRest-closed c n s r now after old mid new from to board is exit count ran reports =
       let xs : List Driven = driven_from c now ran.answers s.events in
-      let done : List (List ℕ) = texts n (heard_by board xs) in
+      let done : List (List ℕ) = texts n (heard_by board (clocked_by now.clocks.tree xs)) in
       let number : ℕ = n + length s.events in
       let whole = ran.ends.0 in
       let stop : s.stop ≡ stop_of r = ran.ends.1 in
       let book : after.book ≡ last_book now.book xs = ran.ends.2 in
       let kept : after.kept ≡ last_kept now.kept xs = ran.ends.3 in
-      let same : report_from c board n now s ran.answers ≡ report_after done (closing_report (stop_of r) after.book after.kept) =
-      ap (λ (stop : Stop). record { body = done ++ at_end stop (closing_text (last_book now.book xs) (last_kept now.kept xs)); fault = fault_at number stop }) stop
-      ∙ ap (λ (b : State). record { body = done ++ at_end (stop_of r) (closing_text b (last_kept now.kept xs)); fault = fault_at number (stop_of r) }) (sym book)
-      ∙ ap (λ (k : Kept). record { body = done ++ at_end (stop_of r) (closing_text after.book k); fault = fault_at number (stop_of r) }) (sym kept)
-      ∙ ap (λ (f : Option Fault). record { body = done ++ at_end (stop_of r) (closing_text after.book after.kept); fault = f }) (fault-anywhere number 0 r)
+      let tree : after.clocks.tree ≡ last_tree now.clocks.tree xs = ran.ends.4 in
+      let same : report_from c board n now s ran.answers ≡ report_after done (closing_report (stop_of r) after.book after.kept after.clocks.tree) =
+      ap (λ (stop : Stop). record { body = done ++ at_end stop (table_from now xs); fault = fault_at number stop }) stop
+      ∙ ap (λ (b : State). record { body = done ++ at_end (stop_of r) (table_text b (last_kept now.kept xs) (last_tree now.clocks.tree xs)); fault = fault_at number (stop_of r) }) (sym book)
+      ∙ ap (λ (k : Kept). record { body = done ++ at_end (stop_of r) (table_text after.book k (last_tree now.clocks.tree xs)); fault = fault_at number (stop_of r) }) (sym kept)
+      ∙ ap (λ (t : Tree). record { body = done ++ at_end (stop_of r) (table_text after.book after.kept t); fault = fault_at number (stop_of r) }) (sym tree)
+      ∙ ap (λ (f : Option Fault). record { body = done ++ at_end (stop_of r) (table_text after.book after.kept after.clocks.tree); fault = f }) (fault-anywhere number 0 r)
       in
-      rest_by c n s now old mid new from to board is exit ran.answers ran.cut (closing_report (stop_of r) after.book after.kept) ran.went whole ran.tasks_left reports same
+      rest_by c n s now old mid new from to board is exit ran.answers ran.cut (closing_report (stop_of r) after.book after.kept after.clocks.tree) ran.went whole ran.tasks_left reports same
 
   -- a line has no meaning, and the line of that fault was written
   pub RanRest-bad : (c : Setup) (n m : ℕ) (cause : LineFault) (s : Script) (now after : Controls) (old mid new : O) (from to : D) (board is : Standing) (exit : Exit) → RanLines o d c n s now after old mid from to board is (Err (stops.Bad m cause)) → Reports o (refusal (Line m cause)) mid new exit → RanRest o d c n s now old new from to board is exit
   RanRest-bad c n m cause s now after old mid new from to board is exit ran reports =
       let xs : List Driven = driven_from c now ran.answers s.events in
-      let done : List (List ℕ) = texts n (heard_by board xs) in
-      let table : List ℕ = closing_text (last_book now.book xs) (last_kept now.kept xs) in
+      let done : List (List ℕ) = texts n (heard_by board (clocked_by now.clocks.tree xs)) in
+      let table : List ℕ = table_from now xs in
       let same : report_from c board n now s ran.answers ≡ report_after done (refusal (Line m cause)) =
       ap (λ (stop : Stop). record { body = done ++ at_end stop table; fault = fault_at (n + length s.events) stop }) ran.ends.1
       ∙ ap (λ (number : ℕ). record { body = done ++ []; fault = Some (Line number cause) }) (sym ran.ends.2)
@@ -162,10 +204,10 @@ module _ {O D : Type 0} (o : Sink.Ghosts O) (d : Device.Ghosts D) where
   pub RanRest-broken : (c : Setup) (n : ℕ) (s : Script) (now after : Controls) (old new : O) (from to : D) (board is : Standing) → RanLines o d c n s now after old new from to board is (Err stops.Broken) → RanRest o d c n s now old new from to board is WriteFault
   RanRest-broken c n s now after old new from to board is ran =
       let xs : List Driven = driven_from c now ran.answers s.events in
-      let done : List (List ℕ) = texts n (heard_by board xs) in
+      let done : List (List ℕ) = texts n (heard_by board (clocked_by now.clocks.tree xs)) in
       let r : Report = report_from c board n now s ran.answers in
       let k : ℕ = ran.ends.0 in
-      let tail : List (List ℕ) = at_end s.stop (closing_text (last_book now.book xs) (last_kept now.kept xs)) in
+      let tail : List (List ℕ) = at_end s.stop (table_from now xs) in
       let breaks : BreaksIn o k done old new = subst (λ (cut : Option ℕ). Leaves o done cut old new) ran.ends.1 ran.went.left in
       let within : k < length done = slice_get_within done k breaks.piece breaks.is in
       record {
@@ -204,17 +246,37 @@ module _ {O D : Type 0} (o : Sink.Ghosts O) (d : Device.Ghosts D) where
       ∙ ap (λ (b : Boxes). first_step c Q ∷ drive after.kept later (lines_of c events (record { book = after.book; boxes = b }))) (sym loaded.boxes ∙ sym started.boxes)
 
   -- the report of a script is that of its lines behind the text of step 0, which says nothing of modules and tasks
+  -- at the load nothing is left to drop, and no clock begins or ceases to run in step 0
+  load_stands : (now : Controls) → IsLoaded now → followed (view_of (load_of now.book.fixed.object now.book.fixed.topology)) (first_tree (setup_of now.book)) ≡ first_tree (setup_of now.book)
+  load_stands now loaded =
+      let c : Setup = setup_of now.book in
+      let T : State → Tree → Type 0 = λ b t. followed (view_of b) t ≡ t in
+      subst (λ (b : State). T b (first_tree c)) loaded.book (subst (T now.book) (tree_at_load now loaded) loaded.clocks.over.stands)
+
   report_first : (now after : Controls) (s : Script) (later : List (List Bool)) (board : Standing) (from to : D) → IsLoaded now → Started o d now after from to → replay_report (setup_of now.book) board s (answers_in after.outbox ∷ later) ≡ report_after (step_text 0 after.outbox.done.items (notices_in after.outbox) after.outbox.answer ∷ []) (report_from (setup_of now.book) (board_after Pass board) 1 after s later)
   report_first now after s later board from to loaded started =
       let c : Setup = setup_of now.book in
       let load : State = load_of c.object c.topology in
       let Q : Part = part_in after.kept after.outbox in
+      let g : Given = record { core = core_0 c; part = Q } in
       let ys : List Driven = driven_from (setup_of now.book) after later s.events in
-      let told : List (List ℕ) = texts 1 (heard_by (board_after Pass board) ys) in
-      ap (λ (xs : List Driven). record { body = texts 0 (heard_by board xs) ++ at_end s.stop (closing_text (last_book load xs) (last_kept (at_zero c.topology) xs)); fault = fault_at (1 + length s.events) s.stop }) (driven_first now after s.events later from to loaded started)
-      ∙ ap (λ (text : List ℕ). record { body = text ∷ (told ++ at_end s.stop (closing_text (last_book load ys) (last_kept after.kept ys))); fault = fault_at (1 + length s.events) s.stop }) (append-nil (core_text 0 (outputs_at_load load) Q ++ []) ∙ append-nil (core_text 0 (outputs_at_load load) Q))
-      ∙ ap (λ (b : State). record { body = core_text 0 (outputs_at_load load) Q ∷ (told ++ at_end s.stop (closing_text (last_book b ys) (last_kept after.kept ys))); fault = fault_at (1 + length s.events) s.stop }) (sym loaded.book ∙ sym started.book)
-      ∙ ap (λ (notices : Notices). record { body = step_text 0 Q.commands notices Q.answer ∷ (told ++ at_end s.stop (closing_text (last_book after.book ys) (last_kept after.kept ys))); fault = fault_at (1 + length s.events) s.stop }) (ap (λ (b : State). notices_of (outputs_at_load b)) (sym loaded.book) ∙ sym started.notices)
+      let tree : Tree = first_tree c in
+      let next : Tree = tree_along (g ∷ []) tree in
+      let next_is : next ≡ tree = load_stands now loaded in
+      let number : ℕ = 1 + length s.events in
+      let text : List Note → List ℕ = λ turns. (core_text 0 (outputs_at_load load) Q ++ []) ++ notes_text 0 ((turns ++ []) ++ []) in
+      let told : Tree → List (List ℕ) = λ t. texts 1 (heard_by (board_after Pass board) (clocked_by t ys)) in
+      let table : State → Tree → List ℕ = λ b t. table_text (last_book b ys) (last_kept after.kept ys) (last_tree t ys) in
+      let whole : List Note → Tree → Report = λ turns t. record { body = text turns ∷ (told t ++ at_end s.stop (table load t)); fault = fault_at number s.stop } in
+      let none : clock_notes tree (g ∷ []) ≡ [] = ap (λ (t : Tree). map clock_note (turned tree t)) next_is ∙ ap (map clock_note) (none_turned tree) in
+      let here : next ≡ after.clocks.tree = next_is ∙ sym (ap (λ (it : Clocked). it.tree) started.clocks ∙ tree_at_load now loaded) in
+      let at : Tree = after.clocks.tree in
+      ap (λ (xs : List Driven). record { body = texts 0 (heard_in c board xs) ++ at_end s.stop (closing_after c xs); fault = fault_at number s.stop }) (driven_first now after s.events later from to loaded started)
+      ∙ ap (λ (turns : List Note). whole turns next) none
+      ∙ ap (whole []) here
+      ∙ ap (λ (text : List ℕ). record { body = text ∷ (told at ++ at_end s.stop (table load at)); fault = fault_at number s.stop }) (append-nil (core_text 0 (outputs_at_load load) Q ++ []) ∙ append-nil (core_text 0 (outputs_at_load load) Q))
+      ∙ ap (λ (b : State). record { body = core_text 0 (outputs_at_load load) Q ∷ (told at ++ at_end s.stop (table b at)); fault = fault_at number s.stop }) (sym loaded.book ∙ sym started.book)
+      ∙ ap (λ (notices : Notices). record { body = step_text 0 Q.commands notices Q.answer ∷ (told at ++ at_end s.stop (table after.book at)); fault = fault_at number s.stop }) (ap (λ (b : State). notices_of (outputs_at_load b)) (sym loaded.book) ∙ sym started.notices)
 
   acts_first : (now after : Controls) → acts_of (first_step (setup_of now.book) (part_in after.kept after.outbox)) ≡ orders_in after.outbox
   acts_first now after = append-nil (orders_in after.outbox)

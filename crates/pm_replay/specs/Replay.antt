@@ -9,14 +9,14 @@ use Rattle.pm_trace.specs.Report.{Report}
 use Rattle.pm_trace.specs.Scripts.{at_end, fault_at}
 use Rattle.pm_drive.specs.Drive.{driven, until}
 use Rattle.pm_drive.specs.Drove.{Drove}
-use Rattle.pm_drive.specs.Heard.{heard_by, last_board}
+use Rattle.pm_drive.specs.Heard.{heard_in, last_board}
 use Rattle.pm_drive.specs.Text.{closing_after, texts}
 
 -- what is written of the run of a script that begins with a board, under the device's answers: the closing table where it
 -- came to its end
 abbrev pub replay_report : Setup → Standing → Script → List (List Bool) → Report
 replay_report c board s answers = record {
-  body = texts 0 (heard_by board (driven c answers s.events)) ++ at_end s.stop (closing_after c (driven c answers s.events));
+  body = texts 0 (heard_in c board (driven c answers s.events)) ++ at_end s.stop (closing_after c (driven c answers s.events));
   fault = fault_at (1 + length s.events) s.stop;
 }
 

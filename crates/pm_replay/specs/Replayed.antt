@@ -19,7 +19,8 @@ use Rattle.pm_drive.specs.Drove.{Drove}
 use Rattle.pm_drive.specs.Lowered.{HaveSameSteps, lowered_script}
 use Rattle.pm_drive.specs.PowerCalls.{EachCallIsItsEvents}
 use Rattle.pm_drive.specs.Calls.{CallsAreTold}
-use Rattle.pm_drive.specs.Heard.{heard_by, last_board}
+use Rattle.pm_drive.specs.Followed.{ClocksStand}
+use Rattle.pm_drive.specs.Heard.{heard_in, last_board}
 use Rattle.pm_drive.specs.Text.{run_text}
 use Rattle.pm_apart.specs.Apart.{KeepsApart, StepsKeepApart}
 use Rattle.pm_replay.specs.Replay.{Touched, replay_report}
@@ -72,4 +73,11 @@ pub record LowersCalls (c : Setup) : Type 0 where
 abbrev pub TellsCalls : Setup → Standing → Type 0
 TellsCalls c board =
     (events : List Event) (answers : List (List Bool)) (cut : Option ℕ)
-    → CallsAreTold (heard_by board (until cut (driven c answers events))) board (last_board board (until cut (driven c answers events))).tasks
+    → CallsAreTold (heard_in c board (until cut (driven c answers events))) board (last_board board (until cut (driven c answers events))).tasks
+
+-- in each run, at its load and after each core step: the clock tree is the one before with the call on a clock that was made in the
+-- step, if it wasn't refused, and without the enables of masters that are off or may not use the clock's slave by the object in
+-- force; a root runs where its slave is in a state other than 0, and any other clock where a master enables it and the parent that is
+-- chosen for it runs
+abbrev pub ClocksFollow : Setup → Type 0
+ClocksFollow c = (events : List Event) (answers : List (List Bool)) → ClocksStand c (driven c answers events)

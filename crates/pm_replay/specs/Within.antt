@@ -12,6 +12,9 @@ use Rattle.pm_device.specs.Act.{Chain}
 use Rattle.pm_board.specs.Board.{Standing, board_after}
 use Rattle.pm_modules.specs.Ranges.{Ranged}
 use Rattle.pm_state.specs.Load.{load_of}
+use Rattle.pm_clock_tree.specs.Told.{Clocked}
+use Rattle.pm_clock_tree.specs.Tree.{Tree, running}
+use Rattle.pm_clocks.specs.Clocked.{tree_after}
 use Rattle.pm_core.specs.Outbox.{Holds}
 use Rattle.pm_ipi.specs.declared.responses.Response.{Response}
 use Rattle.pm_split.specs.Split.{called_note}
@@ -25,16 +28,16 @@ use Rattle.pm_reader.specs.declared.follow.LineStop.TheVariants as stops
 use Rattle.pm_reader.specs.declared.follow.LinesEnd as reader
 use Rattle.pm_script.specs.Script.{Script, Stop, stop_of}
 use Rattle.pm_script.specs.Script.Stop.{Bad}
-use Rattle.pm_trace.specs.Closing.{closing_text}
 use Rattle.pm_trace.specs.Report.{Report, exit_of, pieces}
 use Rattle.pm_trace.specs.Notes.{notes_text}
 use Rattle.pm_trace.specs.Step.{notices_in, notices_of, step_text}
 use Rattle.pm_trace.specs.Scripts.{at_end, fault_at}
-use Rattle.pm_drive.specs.Drive.{Driven, acts, drive, driven, give, kept_after, last_book, last_kept, orders_in_cores, rigs, until}
+use Rattle.pm_drive.specs.Drive.{Driven, Given, acts, drive, driven, give, kept_after, last_book, last_kept, orders_in_cores, rigs, until}
+use Rattle.pm_drive.specs.Clocks.{clock_notes, clocked_by, clocked_cores, clocked_part, last_tree, table_text, tree_along}
 use Rattle.pm_drive.specs.Heard.{heard, heard_by, heard_cores, last_board}
 use Rattle.pm_drive.specs.Tasks.{task_notes}
 use Rattle.pm_drive.specs.Text.{given_text, reply_after, texts}
-use Rattle.pm_replay.specs.Controls.{Controls, stand_in}
+use Rattle.pm_replay.specs.Controls.{AreOf, Controls, stand_in}
 use Rattle.pm_replay.specs.Replay.{replay_report}
 
 -- all is as at load, before the device is given anything
@@ -42,21 +45,37 @@ pub record IsLoaded (c : Controls) : Type 0 where
   pub book : c.book ≡ load_of c.book.fixed.object c.book.fixed.topology
   pub kept : c.kept ≡ at_zero c.book.fixed.topology
   pub boxes : c.boxes ≡ (loaded (setup_of c.book)).boxes
+  pub clocks : AreOf c.book c.clocks
   pub out : Holds (outputs_at_load c.book) c.outbox
+
+-- what is told of clocks is as they are: between lines
+abbrev pub AreTold : Clocked → Type 0
+AreTold clocks = clocks.told ≡ running clocks.tree
 
 -- the events of lines, driven from where a run stands
 abbrev pub driven_from : Setup → Controls → List (List Bool) → List Event → List Driven
 driven_from c now answers events = drive now.kept answers (lines_of c events (stand_in now))
 
 -- what is written after the last line of a script that came to its end or could not be read on
-abbrev pub closing_report : Stop → State → Kept → Report
-closing_report stop book kept = record { body = at_end stop (closing_text book kept); fault = fault_at 0 stop }
+abbrev pub closing_report : Stop → State → Kept → Tree → Report
+closing_report stop book kept tree = record { body = at_end stop (table_text book kept tree); fault = fault_at 0 stop }
+
+-- the core steps of a line from where a run stands
+abbrev pub given_from : Setup → Event → Controls → List (List Bool) → List Given
+given_from c event now answers = give now.kept answers (cores_of (split c event (stand_in now)).events now.book)
+
+-- what is told of lines from where a run stands, the first of which finds a board so
+abbrev pub heard_from : Setup → Standing → Controls → List (List Bool) → List Event → List Driven
+heard_from c board now answers events = heard_by board (clocked_by now.clocks.tree (driven_from c now answers events))
+
+-- the closing table after these lines
+abbrev pub table_from : Controls → List Driven → List ℕ
+table_from now xs = table_text (last_book now.book xs) (last_kept now.kept xs) (last_tree now.clocks.tree xs)
 
 -- what is written of lines, the first of which has number n and finds a board so, and after them
 abbrev pub report_from : Setup → Standing → ℕ → Controls → Script → List (List Bool) → Report
 report_from c board n now s answers = record {
-  body = texts n (heard_by board (driven_from c now answers s.events))
-      ++ at_end s.stop (closing_text (last_book now.book (driven_from c now answers s.events)) (last_kept now.kept (driven_from c now answers s.events)));
+  body = texts n (heard_from c board now answers s.events) ++ at_end s.stop (table_from now (driven_from c now answers s.events));
   fault = fault_at (n + length s.events) s.stop;
 }
 
@@ -64,6 +83,7 @@ report_from c board n now s answers = record {
 abbrev pub LinesEnd : ℕ → Script → Controls → List Driven → Option ℕ → Controls → Result reader.LinesEnd LineStop → Type 0
 LinesEnd n s now xs cut then (Ok end) =
     (cut ≡ None) × (s.stop ≡ stop_of end.stop) × (then.book ≡ last_book now.book xs) × (then.kept ≡ last_kept now.kept xs)
+    × (then.clocks.tree ≡ last_tree now.clocks.tree xs)
 LinesEnd n s now xs cut then (Err (stops.Bad m cause)) = (cut ≡ None) × (s.stop ≡ Bad cause) × (m ≡ n + length s.events)
 LinesEnd n s now xs cut then (Err stops.Broken) = (k : ℕ) × (cut ≡ Some k)
 
@@ -84,31 +104,34 @@ module _ {O D : Type 0} (o : Sink.Ghosts O) (d : Device.Ghosts D) where
     pub left : Leaves o all cut old new
     pub given : Chain d.Does (acts (until cut xs)) from to
 
-  -- a core event was carried out from a book and what is kept, the device was made to follow it, and its text was written, by
-  -- how the writing of the line stood before
-  pub record RanCore (n : ℕ) (event : Event) (book : State) (kept : Kept) (then : Controls) (modules : List Ranged)
+  -- a core event was carried out from a book, what is kept and a clock tree, the device was made to follow it, and its text was written,
+  -- by how the writing of the line stood before
+  pub record RanCore (n : ℕ) (event : Event) (book : State) (kept : Kept) (tree : Tree) (then : Controls) (modules : List Ranged)
       (so_far result : Result ⊤ Failed) (old new : O) (from to : D) : Type 0 where
     pub after : then.book ≡ effect event book
-    pub part : part_in then.kept then.outbox ≡ part_of kept (answers_in then.outbox) then.book (outputs event book)
+    pub part : part_in then.kept then.outbox
+        ≡ clocked_part event then.book tree (part_of kept (answers_in then.outbox) then.book (outputs event book))
+    pub turned : then.clocks.tree ≡ tree_after event (outputs event book).answer then.book tree
     pub notices : notices_in then.outbox ≡ notices_of (outputs event book)
     pub given : Chain d.Does (orders_in then.outbox) from to
     pub writes : WritesOn o (step_text n then.outbox.done.items (notices_in then.outbox) (heard modules event then.outbox.answer)) so_far result old new
 
   -- the same of core events one after another, whatever becomes of their text, from the last reply that was told before
   -- them to the last one that is told
-  pub record RanCores (n : ℕ) (events : List Event) (book : State) (kept : Kept) (then : Controls) (modules : List Ranged)
+  pub record RanCores (n : ℕ) (events : List Event) (book : State) (kept : Kept) (tree : Tree) (then : Controls) (modules : List Ranged)
       (reply told : Option Response) (so_far result : Result ⊤ Failed) (old new : O) (from to : D) : Type 0 where
     pub answers : List (List Bool)
     pub fits : length answers ≡ length events
     pub after : then.book ≡ book_after events book
     pub keeps : then.kept ≡ kept_after kept (give kept answers (cores_of events book))
     pub given : Chain d.Does (orders_in_cores (give kept answers (cores_of events book))) from to
-    pub replied : told ≡ reply_after reply (heard_cores modules (give kept answers (cores_of events book)))
-    pub writes : WritesOn o (given_text n (heard_cores modules (give kept answers (cores_of events book)))) so_far result old new
+    pub turned : then.clocks.tree ≡ tree_along (give kept answers (cores_of events book)) tree
+    pub replied : told ≡ reply_after reply (heard_cores modules (clocked_cores tree (give kept answers (cores_of events book))))
+    pub writes : WritesOn o (given_text n (heard_cores modules (clocked_cores tree (give kept answers (cores_of events book))))) so_far result old new
 
   -- a line was carried out to its end: first a node was broken or mended, if it asks for that, and then its core events
-  -- followed. Its text was written as far as the sink took it, with the notes of tasks and the answer to its power
-  -- call, by the last reply that was told, and the board is as the line leaves it
+  -- followed. Its text was written as far as the sink took it, with the notes of clocks and of tasks and the answer to its power
+  -- call, by the last reply that was told, and the clocks and the board are as the line leaves them
   pub record RanLine (c : Setup) (n : ℕ) (event : Event) (now then : Controls) (old new : O) (from to : D)
       (board is : Standing) (result : Result ⊤ Failed) : Type 0 where
     pub between : D
@@ -116,11 +139,13 @@ module _ {O D : Type 0} (o : Sink.Ghosts O) (d : Device.Ghosts D) where
     pub far : Result ⊤ Failed
     pub via : O
     pub told : Option Response
-    pub cores : RanCores n (split c event (stand_in now)).events now.book now.kept then board.modules None told (Ok tt) far old via
-        between to
+    pub cores : RanCores n (split c event (stand_in now)).events now.book now.kept now.clocks.tree then board.modules None told (Ok tt)
+        far old via between to
+    pub clocks_told : AreTold then.clocks
     pub boxes : then.boxes ≡ (split c event (stand_in now)).boxes
     pub notes : WritesOn o
-        (notes_text n (((split c event (stand_in now)).notes ++ task_notes event board.tasks)
+        (notes_text n ((((split c event (stand_in now)).notes
+        ++ clock_notes now.clocks.tree (given_from c event now cores.answers)) ++ task_notes event board.tasks)
         ++ called_note then.book.fixed.topology event told))
         far result via new
     pub tasks_left : is ≡ board_after event board
@@ -129,6 +154,7 @@ module _ {O D : Type 0} (o : Sink.Ghosts O) (d : Device.Ghosts D) where
   pub record Started (now then : Controls) (from to : D) : Type 0 where
     pub book : then.book ≡ now.book
     pub boxes : then.boxes ≡ now.boxes
+    pub clocks : then.clocks ≡ now.clocks
     pub part : part_in then.kept then.outbox ≡ part_of now.kept (answers_in then.outbox) now.book (outputs_at_load now.book)
     pub notices : notices_in then.outbox ≡ notices_of (outputs_at_load now.book)
     pub given : Chain d.Does (orders_in then.outbox) from to
@@ -138,7 +164,7 @@ module _ {O D : Type 0} (o : Sink.Ghosts O) (d : Device.Ghosts D) where
       (board is : Standing) (result : Result reader.LinesEnd LineStop) : Type 0 where
     pub answers : List (List Bool)
     pub cut : Option ℕ
-    pub went : Went (texts n (heard_by board (driven_from c now answers s.events))) (driven_from c now answers s.events) cut old new from to
+    pub went : Went (texts n (heard_from c board now answers s.events)) (driven_from c now answers s.events) cut old new from to
     pub ends : LinesEnd n s now (driven_from c now answers s.events) cut then result
     pub tasks_left : is ≡ last_board board (until cut (driven_from c now answers s.events))
 

@@ -1,12 +1,14 @@
-//! A runner, and the values that its device last took.
+//! A runner, the clocks of its book, and the values that its device last took.
 
-ghost use Rattle.std.specs.Prelude.{◌≡◌, ◌∷◌, [], None, true, IfOk, MatchOption};
+ghost use Rattle.std.specs.Prelude.{◌≡◌, ◌∷◌, [], None, Ok, true, IfOk, MatchOption};
 ghost use Rattle.pm_device.specs.Act.{Chain};
 ghost use Rattle.pm_topology.specs.WellFormed.{IsWellFormed};
 ghost use Rattle.pm_state.specs.Load.{load_of};
 ghost use Rattle.pm_state.specs.Values.{value};
 ghost use Rattle.pm_core.specs.Outbox.{Holds, outputs_in};
 ghost use Rattle.pm_core.specs.Step.{effect, outputs, outputs_at_load};
+ghost use Rattle.pm_clock_tree.specs.Told.{told};
+ghost use Rattle.pm_clocks.specs.Clocked.{HasStepped};
 ghost use Rattle.pm_apply.specs.Part.{answers_in, orders_in, part_in, part_of};
 ghost use Rattle.pm_apply.specs.Carried.{AreMarked, DifferencesAreMarked};
 ghost use Rattle.pm_apply.specs.Record.{IsRecordOf, at_zero};
@@ -14,10 +16,11 @@ ghost use Rattle.pm_split.specs.Left.{boxes_left, events_left};
 ghost use Rattle.pm_split.specs.Split.{noted_busy};
 ghost use Rattle.pm_run.specs.Run.{loaded, setup, setup_of, split};
 ghost use Rattle.pm_trace.specs.Step.{notices_in, notices_of};
-ghost use Rattle.pm_replay.specs.Controls.{stand_in};
+ghost use Rattle.pm_replay.specs.Controls.{AreOf, Follow, HasGoneOn, stand_in};
 
 use pm_apply::{Kept, carry, carry_all, marks_suffice};
 use pm_base::{Event, NoMemory};
+use pm_clocks::Clocks;
 use pm_core::{Book, Outbox};
 use pm_device::Device;
 use pm_object::Object;
@@ -26,12 +29,13 @@ use pm_topology::Topology;
 use std::alloc::Global;
 use std::marker::Model;
 
-/// The book, what its last step put out, the boxes of the masters, and the values that the device last took. Contracts
-/// see these four.
+/// The book, what its last step put out, the boxes of the masters, the clocks, and the values that the device last took.
+/// Contracts see these five. The clocks stand over the book.
 #[derive(Drop)]
 pub struct Controller {
     runner: Runner,
     kept: Kept,
+    clocks: Clocks,
     /// Set once the device was made to follow the book. From then on the record marks each unit that lags.
     follows: bool,
 }
@@ -41,14 +45,21 @@ impl Model for Controller {
     ghost use Rattle.pm_state.specs.Values.{value};
     ghost use Rattle.pm_apply.specs.Carried.{AreMarked};
     ghost use Rattle.pm_apply.specs.Record.{IsRecordOf};
-    ghost use Rattle.pm_replay.specs.Controls.{Controls};
+    ghost use Rattle.pm_replay.specs.Controls.{Controls, IsOver};
 
     ghost Value = { Controls };
 
-    ghost view = { λ c. record { book = c.runner.book; kept = c.kept; outbox = c.runner.outbox; boxes = c.runner.boxes } };
+    ghost view = { λ c. record {
+      book = c.runner.book;
+      kept = c.kept;
+      outbox = c.runner.outbox;
+      boxes = c.runner.boxes;
+      clocks = c.clocks;
+    } };
 
     ghost invariant = { λ c. IsRecordOf c.runner.book.fixed.topology c.kept
-        × (c.follows ≡ true → AreMarked c.runner.book.fixed.topology (λ u. value u c.runner.book) c.kept) };
+        × (c.follows ≡ true → AreMarked c.runner.book.fixed.topology (λ u. value u c.runner.book) c.kept)
+        × IsOver c.runner.book c.clocks.tree };
 }
 
 impl Controller {
@@ -62,13 +73,17 @@ impl Controller {
         ensures book { IfOk result (λ c. c.book ≡ load_of object topology) }
         ensures kept { IfOk result (λ c. c.kept ≡ at_zero topology) }
         ensures boxes { IfOk result (λ c. c.boxes ≡ (loaded (setup object topology)).boxes) }
+        ensures clocks { IfOk result (λ c. AreOf c.book c.clocks) }
         ensures out { IfOk result (λ c. Holds (outputs_at_load c.book) c.outbox) }
     {
         let kept = Kept::load(alloc, &topology)?;
         let runner = Runner::load(alloc, object, topology)?;
+        let clocks = clocks_of(alloc, &runner);
+        let (runner, clocks) = with(runner, clocks)?;
         Ok(Controller {
             runner,
             kept,
+            clocks,
             follows: false,
         })
     }
@@ -93,11 +108,26 @@ impl Controller {
         &self.runner.outbox
     }
 
+    /// The clocks.
+    pub fn clocks(&self) -> &Clocks
+        ensures { result.now ≡ self.now.clocks }
+    {
+        &self.clocks
+    }
+
+    /// All clocks are told of as they are.
+    pub fn tell_clocks(&mut self)
+        ensures { self.new ≡ record self.old { clocks = told self.old.clocks } }
+    {
+        self.clocks.tell();
+    }
+
     /// Step 0: the device is made to follow the book at load.
     pub fn start<D: Device>(&mut self, dev: &mut D)
         requires out { Holds (outputs_at_load self.old.book) self.old.outbox }
         ensures book { self.new.book ≡ self.old.book }
         ensures boxes { self.new.boxes ≡ self.old.boxes }
+        ensures clocks { self.new.clocks ≡ self.old.clocks }
         ensures part { part_in self.new.kept self.new.outbox
             ≡ part_of self.old.kept (answers_in self.new.outbox) self.old.book (outputs_at_load self.old.book) }
         ensures notices { notices_in self.new.outbox ≡ notices_of (outputs_at_load self.old.book) }
@@ -111,6 +141,7 @@ impl Controller {
     pub fn split(&mut self, event: &Event) -> Split
         ensures book { self.new.book ≡ self.old.book }
         ensures kept { self.new.kept ≡ self.old.kept }
+        ensures clocks { self.new.clocks ≡ self.old.clocks }
         ensures events { events_left self.old.book.fixed.object self.old.book.fixed.topology self.new.boxes result.cores
             ≡ (split (setup_of self.old.book) event.now (stand_in self.old)).events }
         ensures boxes { boxes_left self.new.boxes result.cores
@@ -124,6 +155,7 @@ impl Controller {
     pub fn next(&mut self, cores: &mut CoreEvents) -> Option<Event>
         ensures book { self.new.book ≡ self.old.book }
         ensures kept { self.new.kept ≡ self.old.kept }
+        ensures clocks { self.new.clocks ≡ self.old.clocks }
         ensures events { MatchOption result
             ((events_left self.old.book.fixed.object self.old.book.fixed.topology self.old.boxes cores.old ≡ [])
             × (events_left self.old.book.fixed.object self.old.book.fixed.topology self.new.boxes cores.new ≡ []))
@@ -135,20 +167,53 @@ impl Controller {
         self.runner.next(cores)
     }
 
-    /// One core event, and the commands that make the device follow the book.
+    /// One core event, the commands that make the device follow the book, and what it does to the clocks. Where the book
+    /// replies to a call on a clock, the clocks' reply stands in place of it.
     pub fn step<D: Device>(&mut self, event: &Event, dev: &mut D)
         ensures book { self.new.book ≡ effect event.now self.old.book }
         ensures boxes { self.new.boxes ≡ self.old.boxes }
-        ensures part { part_in self.new.kept self.new.outbox
-            ≡ part_of self.old.kept (answers_in self.new.outbox) self.new.book (outputs event.now self.old.book) }
+        ensures goes { HasGoneOn event.now self.old self.new }
         ensures notices { notices_in self.new.outbox ≡ notices_of (outputs event.now self.old.book) }
         ensures given { Chain D.Does (orders_in self.new.outbox) dev.old dev.new }
     {
         marks_suffice();
         self.runner.step(event);
         follow(dev, &mut self.kept, &mut self.runner, self.follows);
+        answer(&mut self.clocks, event, &mut self.runner);
         self.follows = true;
     }
+}
+
+/// The clocks of a book at load.
+///
+/// # Errors
+///
+/// `NoMemory` where there is not enough memory.
+fn clocks_of(alloc: Global, runner: &Runner) -> Result<Clocks, NoMemory>
+    ensures { IfOk result (λ clocks. AreOf runner.now.book clocks) }
+{
+    Clocks::load(alloc, &runner.book)
+}
+
+/// A value and another, where that is there. Else the first is dropped.
+fn with<T: Drop, U, E>(first: T, second: Result<U, E>) -> Result<(T, U), E>
+    ensures { IfOk result (λ both. (both.0 ≡ first) × (second ≡ Ok both.1)) }
+{
+    match second {
+        Ok(second) => Ok((first, second)),
+        Err(error) => Err(error),
+    }
+}
+
+/// The clocks serve the message that the book has just stepped over, if it is a call on a clock and the book replied to
+/// it, and follow the book.
+fn answer(clocks: &mut Clocks, event: &Event, runner: &mut Runner)
+    requires stepped { HasStepped event.now runner.old.outbox.moved.items clocks.old.tree runner.old.book }
+    ensures book { runner.new.book ≡ runner.old.book }
+    ensures boxes { runner.new.boxes ≡ runner.old.boxes }
+    ensures follow { Follow event.now runner.old.book runner.old.outbox runner.new.outbox clocks.old clocks.new }
+{
+    clocks.answer(&runner.book, event, &mut runner.outbox);
 }
 
 /// Makes the device follow the book. Where it isn't known that the record marks each unit that lags, each unit is
@@ -165,6 +230,7 @@ fn follow<D: Device>(dev: &mut D, kept: &mut Kept, runner: &mut Runner, is_marke
     ensures part { part_in kept.new runner.new.outbox
         ≡ part_of kept.old (answers_in runner.new.outbox) runner.old.book (outputs_in runner.old.outbox) }
     ensures given { Chain D.Does (orders_in runner.new.outbox) dev.old dev.new }
+    ensures moved { runner.new.outbox.moved ≡ runner.old.outbox.moved }
     ensures starts { runner.new.outbox.starts ≡ runner.old.outbox.starts }
     ensures late { runner.new.outbox.late ≡ runner.old.outbox.late }
     ensures callbacks { runner.new.outbox.callbacks ≡ runner.old.outbox.callbacks }

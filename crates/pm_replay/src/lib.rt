@@ -1,6 +1,7 @@
 //! A script is run over a book of requirements and a device, line by line, and its text is written.
 #![tactic(auto)]
 
+mod clocks;
 mod controller;
 mod lines;
 mod run;

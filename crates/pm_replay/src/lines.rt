@@ -13,8 +13,9 @@ ghost use Rattle.pm_drive.specs.Heard.{heard};
 ghost use Rattle.pm_drive.specs.Text.{later_reply};
 ghost use Rattle.pm_trace.specs.Notes.{notes_text};
 ghost use Rattle.pm_trace.specs.Step.{notices_in, step_text};
-ghost use Rattle.pm_replay.specs.Within.{RanLine, RanLines, WritesOn};
+ghost use Rattle.pm_replay.specs.Within.{AreTold, RanLine, RanLines, WritesOn};
 
+use crate::clocks::clocks_on;
 use crate::controller::Controller;
 use crate::tasks::tasks_on;
 use crate::writing::{write_busy, write_call, write_step};
@@ -68,7 +69,7 @@ pub(crate) fn run_lines<I: Inputs, O: Sink, D: Device, H: Responder, T: Handler>
     dev: &mut D,
     board: &mut Board<H, T>,
 ) -> Result<LinesEnd, LineStop>
-    ensures ran { (c : Setup) → setup_of controller.old.book ≡ c → OfScript I.observable id (I.state inputs.old)
+    ensures ran { (c : Setup) → setup_of controller.old.book ≡ c → AreTold controller.old.clocks → OfScript I.observable id (I.state inputs.old)
         (λ s. RanLines O.Sink D.Device c 1 s controller.old controller.new out.old out.new dev.old dev.new
         (standing H.Responder T.Handler board.old.modules.now board.old.tasks)
         (standing H.Responder T.Handler board.old.modules.now board.new.tasks) result) }
@@ -87,9 +88,9 @@ pub(crate) fn run_lines<I: Inputs, O: Sink, D: Device, H: Responder, T: Handler>
 }
 
 /// Breaks or mends a node of the device where the line asks for that, carries out the core events of the line to the
-/// last one, and writes the text of each, and then the line's own, those of tasks, and the answer to its power call,
-/// while the sink takes it. Where the book replies to a message whose API word is a module's, the module's response is
-/// told.
+/// last one, and writes the text of each, and then the line's own, those of clocks and of tasks, and the answer to its
+/// power call, while the sink takes it. Where the book replies to a call on a clock, the clocks' reply is told, and where
+/// it replies to a message whose API word is a module's, the module's response.
 fn run_line<O: Sink, D: Device, H: Responder, T: Handler>(
     number: u32,
     event: &Event,
@@ -99,7 +100,7 @@ fn run_line<O: Sink, D: Device, H: Responder, T: Handler>(
     modules: &ModulesOf<H>,
     tasks: &mut TasksOf<T>,
 ) -> Result<(), Failed>
-    ensures { (c : Setup) → setup_of controller.old.book ≡ c
+    ensures { (c : Setup) → setup_of controller.old.book ≡ c → AreTold controller.old.clocks
         → RanLine O.Sink D.Device c number event.now controller.old controller.new out.old out.new dev.old dev.new
         (standing H.Responder T.Handler modules.now tasks.old)
         (standing H.Responder T.Handler modules.now tasks.new) result }
@@ -117,7 +118,8 @@ fn run_line<O: Sink, D: Device, H: Responder, T: Handler>(
         reply = later_reply(reply, &answer);
     }
     let noted = note_on(written, number, parts.busy, out);
-    let fired = tasks_on(noted, number, event, tasks, out);
+    let clocked = clocks_on(noted, number, controller, out);
+    let fired = tasks_on(clocked, number, event, tasks, out);
     let called = call_answer(controller.book().topology(), event, reply);
     call_on(fired, number, called, out)
 }

@@ -13,11 +13,11 @@ ghost use Rattle.pm_reader.specs.Follow.{OfScript};
 ghost use Rattle.pm_topology.specs.WellFormed.{IsWellFormed};
 ghost use Rattle.pm_object.specs.Grammar.{IsObject};
 ghost use Rattle.pm_board.specs.Standing.{standing};
-ghost use Rattle.pm_replay.specs.Within.{IsLoaded, RanRest, RanScript, closing_report};
+ghost use Rattle.pm_replay.specs.Within.{AreTold, IsLoaded, RanRest, RanScript, closing_report};
 ghost use Rattle.pm_trace.specs.Exits.{EndsWith, IsStarved};
 ghost use Rattle.pm_trace.specs.Report.{Reports};
 ghost use Rattle.pm_trace.specs.Scripts.{ReadsBegun, ReadsScript, script_exit, script_named, script_or_fault};
-ghost use Rattle.pm_replay.specs.Replayed.{AnswersHaveCauses, IsRun, LinesServe, LowersCalls, Replayed, RunsKeepApart, TellsCalls};
+ghost use Rattle.pm_replay.specs.Replayed.{AnswersHaveCauses, ClocksFollow, IsRun, LinesServe, LowersCalls, Replayed, RunsKeepApart, TellsCalls};
 ghost use Rattle.pm_run.specs.Run.{Setup, setup, setup_of};
 ghost use Rattle.pm_replay.specs.Safe.{IsSafe};
 ghost use Rattle.pm_base.specs.World.{world};
@@ -30,7 +30,10 @@ use pm_base::{Event, Exit, Failed, Inputs, NoMemory, Sink, StopReason};
 use pm_board::{Board, happen};
 use pm_causes::runs_have_causes;
 use pm_device::Device;
-use pm_drive::{calls_are_told, driven_follows, power_calls_are_their_events, scripts_are_lowered};
+use pm_drive::{
+    calls_are_told, clocks_are_followed, driven_follows, power_calls_are_their_events,
+    scripts_are_lowered,
+};
 use pm_modules::{ModulesOf, Responder};
 use pm_object::Object;
 use pm_reader::LineStop;
@@ -43,10 +46,11 @@ use std::mem::replace;
 
 /// Runs the named script over an object and a device. Step 0 makes the device follow the book at
 /// load. Then each line breaks or mends a node of the device, if it asks for that, is carried out,
-/// with the commands that it causes and the calls of tasks that are due, and is written before the
-/// next one is taken. Then comes the closing table, or the fault line of the answer. Where the book
-/// replies to a message whose API word is a module's, the module's response is written in place of
-/// the book's. Where the script can't be begun, no command is issued and no task is called. After the
+/// with the commands that it causes, the clocks that begin or cease to run and the calls of tasks that
+/// are due, and is written before the next one is taken. Then comes the closing table, or the fault
+/// line of the answer. Where the book replies to a call on a clock, the clocks' reply is written in
+/// place of the book's, and where it replies to a message whose API word is a module's, the module's
+/// response. Where the script can't be begun, no command is issued and no task is called. After the
 /// load nothing takes memory, so want of memory comes before the first command and the first byte of
 /// output.
 ///
@@ -97,6 +101,11 @@ pub fn replay<I: Inputs, O: Sink, D: Device, H: Responder, T: Handler>(
     // Each line of a run tells exactly the calls of tasks that are due in it, and a task that is stored before and after
     // was called as often as the lines tell, modulo 2 ^ 32.
     ensures tasks { TellsCalls (setup object topology) (standing H.Responder T.Handler modules.now tasks.old) }
+    // In each run, at its load and after each core step, the clocks are those that the calls on them so far left, if they
+    // weren't refused, without the enables of masters that are off or may not use the clock's slave any more; a root
+    // runs where its slave is in a state other than 0, and any other clock where a master enables it and the parent that
+    // is chosen for it runs.
+    ensures clocks { ClocksFollow (setup object topology) }
     // On every exit, of any inputs: the script is begun once, and read to its end or to one byte past the limit, or up
     // to a call that failed, or, where the run ends before, up to somewhere. Nothing else is begun or read.
     ensures begun { Meanwhile (I.state inputs.old) (I.state inputs.new) (ReadsScript result (script_named script.now)) }
@@ -121,6 +130,7 @@ pub fn replay<I: Inputs, O: Sink, D: Device, H: Responder, T: Handler>(
     power_calls_are_their_events();
     scripts_are_lowered();
     calls_are_told();
+    clocks_are_followed();
     let mut board = Board {
         modules,
         tasks: replace(tasks, TasksOf::without_room(alloc)),
@@ -227,7 +237,7 @@ fn run_rest<I: Inputs, O: Sink, D: Device, H: Responder, T: Handler>(
     dev: &mut D,
     board: &mut Board<H, T>,
 ) -> Exit
-    ensures ran { (c : Setup) → setup_of controller.old.book ≡ c → OfScript I.observable id (I.state inputs.old)
+    ensures ran { (c : Setup) → setup_of controller.old.book ≡ c → AreTold controller.old.clocks → OfScript I.observable id (I.state inputs.old)
         (λ s. RanRest O.Sink D.Device c 1 s controller.old out.old out.new dev.old dev.new
         (standing H.Responder T.Handler board.old.modules.now board.old.tasks)
         (standing H.Responder T.Handler board.old.modules.now board.new.tasks) result) }
@@ -245,7 +255,8 @@ fn run_rest<I: Inputs, O: Sink, D: Device, H: Responder, T: Handler>(
 /// script can't be read on.
 fn finish<O: Sink>(controller: &Controller, stop: StopReason, out: &mut O) -> Exit
     requires begins { stop ≢ Unbegun }
-    ensures { Reports O.Sink (closing_report (stop_of stop) controller.now.book controller.now.kept) out.old out.new result }
+    ensures { Reports O.Sink (closing_report (stop_of stop) controller.now.book controller.now.kept controller.now.clocks.tree)
+        out.old out.new result }
 {
     match stop {
         StopReason::End => match write_closing(controller, out) {

@@ -1,21 +1,27 @@
 //! The text of a run is written: the lines of a step, and the closing table.
 
-ghost use Rattle.std.specs.Prelude.{◌≡◌, ◌<◌, ◌∷◌, [], Some, length, map, slice_get};
+ghost use Rattle.std.specs.Prelude.{◌≡◌, ◌<◌, ◌∷◌, [], Some, flat_map, length, map, slice_get};
 ghost use Rattle.pm_apply.specs.Part.{part_in};
+ghost use Rattle.pm_clock_tree.specs.Told.{listed};
 ghost use Rattle.pm_state.specs.Units.{units};
 ghost use Rattle.pm_split.specs.Split.{noted_busy, noted_call};
 ghost use Rattle.pm_split.specs.Split.Note.{NoTask};
+ghost use Rattle.pm_drive.specs.Clocks.{clock_note, end_line, ends_text, table_text};
 ghost use Rattle.pm_drive.specs.Tasks.{fired_note};
 ghost use Rattle.pm_trace.specs.Notes.{notes_text};
 ghost use Rattle.pm_trace.specs.Closing.{closing_lines, closing_text};
 ghost use Rattle.pm_trace.specs.Step.{notices_in, step_text};
-ghost use Rattle.pm_replay.specs.Within.{Writes};
+ghost use Rattle.pm_replay.specs.Within.{Writes, WritesOn};
 
 use crate::controller::Controller;
 use pm_base::{Failed, NodeId, Sink, write_all};
+use pm_clocks::{ClockChange, ClockEnd, Clocks, all_clocks};
 use pm_core::{Answer, Outbox};
 use pm_tasks::Fired;
-use pm_trace::{TextLine, busy_line, call_line, closing, entries, entry, no_task_line, task_line};
+use pm_trace::{
+    TextLine, busy_line, call_line, clock_closing, clock_line, closing, entries, entry,
+    no_task_line, task_line,
+};
 
 /// Writes the lines of a step that is answered so.
 pub(crate) fn write_step<O: Sink>(
@@ -75,8 +81,67 @@ pub(crate) fn write_task<O: Sink>(number: u32, fired: Fired, out: &mut O) -> Res
     write_all(out, line.as_slice())
 }
 
-/// Writes the closing table.
+/// Writes the line of a clock that began or ceased to run.
+pub(crate) fn write_clock<O: Sink>(
+    number: u32,
+    change: ClockChange,
+    out: &mut O,
+) -> Result<(), Failed>
+    ensures { Writes O.Sink (notes_text number (clock_note change ∷ [])) out.old out.new result }
+{
+    let mut line = TextLine::new();
+    clock_line(number, change.clock, change.from, change.to, &mut line);
+    write_all(out, line.as_slice())
+}
+
+/// Writes the closing table: the units, and then the clocks that run.
 pub(crate) fn write_closing<O: Sink>(controller: &Controller, out: &mut O) -> Result<(), Failed>
+    ensures { Writes O.Sink (table_text controller.now.book controller.now.kept controller.now.clocks.tree)
+        out.old out.new result }
+{
+    let units = write_units(controller, out);
+    ends_on(units, controller.clocks(), out)
+}
+
+/// Writes the closing lines of clocks that run. A sink that has failed before is given nothing more.
+fn ends_on<O: Sink>(written: Result<(), Failed>, clocks: &Clocks, out: &mut O) -> Result<(), Failed>
+    ensures { WritesOn O.Sink (ends_text clocks.now.tree) written result out.old out.new }
+{
+    let mut so_far = written;
+    for def in all_clocks() {
+        so_far = end_on(so_far, clocks.end(def.number), out);
+    }
+    so_far
+}
+
+/// Writes the closing line of a clock, if it runs. A sink that has failed before is given nothing more.
+fn end_on<O: Sink>(
+    written: Result<(), Failed>,
+    end: Option<ClockEnd>,
+    out: &mut O,
+) -> Result<(), Failed>
+    ensures { WritesOn O.Sink (flat_map end_line (listed end)) written result out.old out.new }
+{
+    match end {
+        None => written,
+        Some(end) => match written {
+            Ok(()) => write_end(end, out),
+            Err(failed) => Err(failed),
+        },
+    }
+}
+
+/// Writes the closing line of a clock that runs.
+fn write_end<O: Sink>(end: ClockEnd, out: &mut O) -> Result<(), Failed>
+    ensures { Writes O.Sink (flat_map end_line (end ∷ [])) out.old out.new result }
+{
+    let mut line = TextLine::new();
+    clock_closing(end.clock, end.divider, end.index, &mut line);
+    write_all(out, line.as_slice())
+}
+
+/// Writes the closing lines of all units.
+fn write_units<O: Sink>(controller: &Controller, out: &mut O) -> Result<(), Failed>
     ensures { Writes O.Sink (closing_text controller.now.book controller.now.kept) out.old out.new result }
 {
     let mut line = TextLine::new();

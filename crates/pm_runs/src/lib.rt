@@ -10,6 +10,8 @@ mod boxes_order;
 #[cfg(test)]
 mod checks;
 #[cfg(test)]
+mod clocks;
+#[cfg(test)]
 mod each_byte;
 #[cfg(test)]
 mod handlers;

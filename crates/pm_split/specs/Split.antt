@@ -1,6 +1,6 @@
 -- What the event of a script line is split into: the core events that the book takes one after another, and what
 -- becomes of the boxes.
-use Rattle.std.specs.Prelude.{ℕ, ℤ, if◌then◌else◌, List, [], ◌∷◌, length, Option, Some, None}
+use Rattle.std.specs.Prelude.{ℕ, ℤ, Bool, if◌then◌else◌, List, [], ◌∷◌, length, Option, Some, None}
 use Rattle.pm_base.specs.declared.events.Event.{Event}
 use Rattle.pm_base.specs.declared.events.Event.TheVariants.{Ipi, Pass, Post, Serve, Smc}
 use Rattle.pm_base.specs.declared.events.Message.{Message}
@@ -16,13 +16,15 @@ use Rattle.pm_split.specs.Boxes.{Boxes, box_of, waiting_in}
 
 -- what a script line itself writes, beside what its core steps put out: the box of this master had a message already;
 -- or what the power call of this processor is answered; or no task could be started or taken out under this key; or the
--- task under this key was called at this time and answered this word. No split says the last three, since they are read
--- from the reply and from the board
+-- task under this key was called at this time and answered this word; or the clock with this number ran so before the
+-- line and runs so after it. No split says the last four, since they are read from the reply, from the board and from
+-- the clocks
 pub data Note : Type 0 where
   Busy : NodeId → Note
   Called : NodeId → ℤ → Note
   NoTask : ℕ → Note
   Fired : ℕ → ℕ → ℕ → Note
+  Clock : ℕ → Bool → Bool → Note
 
 -- the note of a line whose post found a full box
 abbrev pub noted_busy : Option NodeId → List Note

@@ -25,7 +25,7 @@ use Rattle.pm_trace.specs.Faults.{exit_after}
 use Rattle.pm_trace.specs.Report.{Did, Report}
 use Rattle.pm_trace.specs.Scripts.{fault_at}
 use Rattle.pm_replay.specs.Replay.{Touched}
-use Rattle.pm_replay.specs.Replayed.{AnswersHaveCauses, LinesServe, LowersCalls, RunsKeepApart, TellsCalls}
+use Rattle.pm_replay.specs.Replayed.{AnswersHaveCauses, ClocksFollow, LinesServe, LowersCalls, RunsKeepApart, TellsCalls}
 use Rattle.pm_run.specs.Run.{setup}
 use Rattle.pm_base.specs.World.{World}
 use Rattle.pm_top.specs.declared.works.Form.{Form}
@@ -137,6 +137,11 @@ EachLowersCalls = (object : Object) (topology : Topology) → LowersCalls (setup
 -- tasks that are due in it, and a task that is stored before and after was called as often as lines tell it
 abbrev pub EachTellsCalls : Standing → Type 0
 EachTellsCalls board = (object : Object) (topology : Topology) → TellsCalls (setup object topology) board
+
+-- over whichever object and topology: at the load and after each core step the clocks follow the book, and each runs exactly where it is a
+-- root whose slave is in a state other than 0, or a master enables it and the parent that is chosen for it runs
+abbrev pub EachFollowsClocks : Type 0
+EachFollowsClocks = (object : Object) (topology : Topology) → ClocksFollow (setup object topology)
 
 -- ---- what the exits mean
 

@@ -14,7 +14,7 @@ ghost use Rattle.pm_top.specs.declared.works.Work.TheVariants.{Replay};
 ghost use Rattle.pm_top.specs.Fit.{IsSafeRun};
 ghost use Rattle.pm_top.specs.Form.{form, form_of, over, request_of, topology_in};
 ghost use Rattle.pm_top.specs.Reads.{FormReads};
-ghost use Rattle.pm_top.specs.Ran.{Decides, DroveRun, EachEmptiesBoxes, EachHasCauses, EachKeepsApart, EachLowersCalls, EachTellsCalls, InputsMayFail, IsBeforeRun, Ran, RanForm};
+ghost use Rattle.pm_top.specs.Ran.{Decides, DroveRun, EachEmptiesBoxes, EachFollowsClocks, EachHasCauses, EachKeepsApart, EachLowersCalls, EachTellsCalls, InputsMayFail, IsBeforeRun, Ran, RanForm};
 
 use crate::reading::{read_subject, script_word};
 use crate::works::{Request, do_work, form_of, request_of};
@@ -23,7 +23,9 @@ use pm_base::{Exit, Inputs, Sink};
 use pm_board::Board;
 use pm_causes::runs_have_causes;
 use pm_device::Device;
-use pm_drive::{calls_are_told, power_calls_are_their_events, scripts_are_lowered};
+use pm_drive::{
+    calls_are_told, clocks_are_followed, power_calls_are_their_events, scripts_are_lowered,
+};
 use pm_modules::{ModulesOf, Responder};
 use pm_object::one_reading;
 use pm_objtext::one_meaning;
@@ -98,6 +100,11 @@ pub fn pm_main<I: Inputs, O: Sink, D: Device, H: Responder, T: Handler>(
     // Each line of a run of whichever object and topology tells exactly the calls of timed tasks that are due in it,
     // and a task that is stored before and after was called as often as the lines tell it.
     ensures tasks { EachTellsCalls (standing H.Responder T.Handler modules.now tasks.old) }
+    // At the load of a run of whichever object and topology, and after each of its core steps, the clocks are as the
+    // calls left them that weren't refused, without the enables of masters that are off or may not use the clock's slave
+    // by the object in force. A root runs where its slave is in a state other than 0, and any other clock where a master
+    // enables it and the parent that is chosen for it runs.
+    ensures clocks { EachFollowsClocks }
     // On every exit, of any inputs: the names that the words give are begun in the order of the work, each once, and
     // read to the end or to one byte past the limit, or up to where the run ends before that; nothing else is begun or
     // read.
@@ -129,6 +136,7 @@ pub fn pm_main<I: Inputs, O: Sink, D: Device, H: Responder, T: Handler>(
     power_calls_are_their_events();
     scripts_are_lowered();
     calls_are_told();
+    clocks_are_followed();
     one_reading();
     one_meaning();
     run_board(alloc, words, inputs, out, dev, modules, tasks)

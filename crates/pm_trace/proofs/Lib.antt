@@ -1,3 +1,4 @@
+pub mod DigitsLemmas
 pub mod ExitsLemmas
 pub mod LineLemmas
 pub mod ReachLemmas

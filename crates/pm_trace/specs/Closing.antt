@@ -45,3 +45,8 @@ closing_lines book kept = map (unit_text book kept) (units book)
 -- the closing table
 abbrev pub closing_text : State → Kept → List ℕ
 closing_text book kept = concat (closing_lines book kept)
+
+-- the closing line of a clock that runs: its number, its divider and the index of its parent
+abbrev pub clock_end_line : ℕ → ℕ → ℕ → List ℕ
+clock_end_line number divider index =
+    line_text (word.Name (codes "end") ∷ word.Name (codes "clock") ∷ numbers (number ∷ divider ∷ index ∷ []))

@@ -6,7 +6,7 @@ ghost use Rattle.pm_state.specs.Units.{units};
 ghost use Rattle.pm_base.specs.declared.names.Unit.{Unit};
 ghost use Rattle.pm_trace.specs.declared.line.Word.TheVariants as word;
 ghost use Rattle.pm_state.specs.Values.{shown};
-ghost use Rattle.pm_trace.specs.Closing.{unit_line, unit_name, kind_name};
+ghost use Rattle.pm_trace.specs.Closing.{clock_end_line, unit_line, unit_name, kind_name};
 ghost use Rattle.pm_trace.specs.Line.{width};
 
 use crate::line::{TextLine, Word, name, write_line};
@@ -74,4 +74,20 @@ fn kind_name(kind: Kind) -> Word
         Kind::Slave(_) | Kind::Unknown => name(b"slave"),
         Kind::Power(_) => name(b"power"),
     }
+}
+
+/// Leaves in `line` the closing line of a clock that runs: its number, its divider and the index of its parent.
+pub fn clock_closing(number: u32, divider: u32, index: u32, line: &mut TextLine)
+    ensures { line.new.items ≡ clock_end_line number divider index }
+{
+    write_line(
+        line,
+        name(b"end"),
+        &[
+            name(b"clock"),
+            Word::Number(number),
+            Word::Number(divider),
+            Word::Number(index),
+        ],
+    );
 }

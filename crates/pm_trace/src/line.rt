@@ -1,6 +1,6 @@
 //! A line of output, made of words.
 
-ghost use Rattle.std.specs.Prelude.{◌≡◌, ◌+◌, ◌≤◌, ◌++◌, ◌∷◌, length};
+ghost use Rattle.std.specs.Prelude.{◌≡◌, ◌+◌, ◌<◌, ◌≤◌, ◌++◌, ◌∷◌, length, decimal};
 ghost use Rattle.arrayvec.specs.ArrayVec.{array_vec_len};
 ghost use Rattle.pm_trace.specs.declared.line.Word.TheVariants as word;
 ghost use Rattle.pm_trace.specs.Line.{word_text, line_text, width, widths};
@@ -65,6 +65,48 @@ pub fn write_line(line: &mut TextLine, first: Word, rest: &[Word])
 
 /// Puts a word at the end of a line.
 fn push_word(line: &mut TextLine, word: &Word)
+    requires room { array_vec_len line.old + width word.now ≤ 128 }
+    ensures items { line.new.items ≡ line.old.items ++ word_text word.now }
+    ensures len { array_vec_len line.new ≤ array_vec_len line.old + width word.now }
+{
+    match word {
+        Word::Number(n) => push_number(line, *n),
+        _ => push_text_of(line, word),
+    }
+}
+
+/// Puts a number at the end of a line: a short one, as most are, digit by digit.
+#[tactic(auto, using(std::proofs::lemmas::Fmt::decimal_digit))]
+fn push_number(line: &mut TextLine, n: u32)
+    requires room { array_vec_len line.old + 10 ≤ 128 }
+    ensures items { line.new.items ≡ line.old.items ++ decimal n }
+    ensures len { array_vec_len line.new ≤ array_vec_len line.old + 10 }
+{
+    match n {
+        0..=9 => line.push(digit(n)),
+        10..=99 => {
+            line.push(digit(n / 10));
+            line.push(digit(n % 10));
+        }
+        100..=999 => {
+            line.push(digit(n / 100));
+            line.push(digit(n / 10 % 10));
+            line.push(digit(n % 10));
+        }
+        _ => push_text_of(line, &Word::Number(n)),
+    }
+}
+
+/// The byte of a digit.
+fn digit(n: u32) -> u8
+    requires { n < 10 }
+    ensures { result ≡ 48 + n }
+{
+    b'0' + n as u8
+}
+
+/// Puts the text of a word at the end of a line.
+fn push_text_of(line: &mut TextLine, word: &Word)
     requires room { array_vec_len line.old + width word.now ≤ 128 }
     ensures items { line.new.items ≡ line.old.items ++ word_text word.now }
     ensures len { array_vec_len line.new ≤ array_vec_len line.old + width word.now }

@@ -1,8 +1,8 @@
 //! The lines that a script line writes itself.
 
 ghost use Rattle.std.specs.Prelude.{◌≡◌};
-ghost use Rattle.pm_split.specs.Split.Note.{Busy, Called, Fired, NoTask};
-ghost use Rattle.pm_trace.specs.Notes.{note_line};
+ghost use Rattle.pm_split.specs.Split.Note.{Busy, Called, Clock, Fired, NoTask};
+ghost use Rattle.pm_trace.specs.Notes.{bit, note_line};
 
 use crate::line::{TextLine, Word, name, write_line};
 use pm_base::NodeId;
@@ -50,4 +50,27 @@ pub fn task_line(n: u32, key: u64, at: u64, told: u32, line: &mut TextLine)
             Word::Number(told),
         ],
     );
+}
+
+/// Leaves in `line` the line of a clock that began or ceased to run in script line `n`.
+pub fn clock_line(n: u32, number: u32, from: bool, to: bool, line: &mut TextLine)
+    ensures { line.new.items ≡ note_line n (Clock number from to) }
+{
+    write_line(
+        line,
+        Word::Number(n),
+        &[
+            name(b"clock"),
+            Word::Number(number),
+            Word::Number(bit(from)),
+            Word::Number(bit(to)),
+        ],
+    );
+}
+
+/// The number by which it is told whether a clock runs.
+fn bit(on: bool) -> u32
+    ensures { result ≡ bit on }
+{
+    if on { 1 } else { 0 }
 }

@@ -5,7 +5,7 @@ use Rattle.pm_object.specs.Grammar.{IsObject}
 use Rattle.pm_topology.specs.WellFormed.{IsWellFormed}
 use Rattle.pm_run.specs.Run.{Setup}
 use Rattle.pm_drive.specs.Drive.{driven, until}
-use Rattle.pm_drive.specs.Heard.{heard_by}
+use Rattle.pm_drive.specs.Heard.{heard_in}
 use Rattle.pm_apart.specs.Apart.{BooksStayApart}
 use Rattle.pm_apart.proofs.TellingLaw.{telling_apart}
 use Rattle.pm_apart.proofs.laws.driven_runs_keep_apart.Goals as goal
@@ -22,12 +22,12 @@ returns g c =
         lines = λ board. c.texts_are_lines.ensures.run cs board answers events;
         apart = λ none. c.driven_lines_stay_apart.ensures.run cs events answers old new object formed none drove;
         beyond = λ m. beyond cs events m object formed;
-        telling = λ m. telling_apart cs m events (law.alike cs m events object formed);
+        telling = λ m. telling_apart cs m events (law.alike cs m events object formed) (c.clocks_keep_apart.ensures.lines cs m events object formed);
       };
       steps = λ cs events answers cut old new object formed drove. record {
-        lines = λ board. c.texts_are_lines.ensures.steps 0 (heard_by board (until cut (driven cs answers events)));
+        lines = λ board. c.texts_are_lines.ensures.steps 0 (heard_in cs board (until cut (driven cs answers events)));
         apart = λ none. c.driven_lines_stay_apart.ensures.steps cs events answers cut old new object formed none drove;
         beyond = λ m. beyond cs events m object formed;
-        telling = λ m. telling_apart cs m events (law.alike cs m events object formed);
+        telling = λ m. telling_apart cs m events (law.alike cs m events object formed) (c.clocks_keep_apart.ensures.lines cs m events object formed);
       };
     }

@@ -32,6 +32,7 @@ returns g c =
       boxes = λ events. c.boxes_of_a_run.ensures cs events c.requires.object;
       calls = record { line = c.power_calls_are_their_events.ensures cs; script = c.scripts_are_lowered.ensures cs };
       tasks = c.calls_are_told.ensures cs board;
+      clocks = c.clocks_are_followed.ensures cs;
       begun = c.run_named-exit.ensures.begun;
       memory = scripts.did_memory g.I.Inputs g.O.Sink script_itself (replay_report cs board) (of_script cs board) name w.inputs w'.inputs w.sink w'.sink result Asks (λ job asked. asked) Touching ran;
       untouched = replay_untouched g.I.Inputs g.O.Sink g.D.Device cs board left name w w' result ran;

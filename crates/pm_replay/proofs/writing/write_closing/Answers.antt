@@ -1,17 +1,16 @@
-use Rattle.std.proofs.Common.{◌∙◌, sym, ap, Some, List, ℕ}
-use Rattle.std.proofs.lemmas.Result.{err_from_is_err_and}
-use Rattle.pm_base.proofs.SinkLemmas.{BreaksIn-joined, BreaksIn-piece, Wrote-piece}
-use Rattle.pm_trace.specs.Closing.{closing_lines}
+use Rattle.std.proofs.Common.{Ok, ◌++◌, subst}
+use Rattle.pm_clock_tree.specs.Told.{Clocked}
+use Rattle.pm_trace.specs.Closing.{closing_text}
+use Rattle.pm_drive.specs.Clocks.{ends_text}
+use Rattle.pm_replay.specs.Within.{Writes}
+use Rattle.pm_replay.proofs.CoresLemmas.{on-both}
 use Rattle.pm_replay.proofs.writing.write_closing.Goals as goal
 
-pub returns-in_err-write_all : goal.returns-in_err-write_all
-returns-in_err-write_all g c =
-    let all : List (List ℕ) = closing_lines c.args.controller.now.book c.args.controller.now.kept in
-    let first = c.args.out.now in
-    let mid = c.loop-k.out in
-    let last = c.write_all.new.sink in
-    let p = err_from_is_err_and c.from_residual.result c.from_residual.ensures.1 in
-    rw p.1 (BreaksIn-joined g.O.Sink all c.loop-k.k first last (BreaksIn-piece g.O.Sink all c.loop-k.k c.as_slice.result.now first mid last (c.closing_line.ensures ∙ ap (λ (line : List ℕ). Some line) (sym c.as_slice.ensures.value)) c.loop-k.invariant c.in_err-write_all.ensures.short))
-
-pub loop-k-preserved : goal.loop-k-preserved
-loop-k-preserved g c = Wrote-piece g.O.Sink.observable (closing_lines c.args.controller.now.book c.args.controller.now.kept) c.loop-k.k c.as_slice.result.now (g.O.Sink.state c.args.out.now) (g.O.Sink.state c.loop-k.out) (g.O.Sink.state c.write_all.new.sink) (c.closing_line.ensures ∙ ap (λ (line : List ℕ). Some line) (sym c.as_slice.ensures.value)) c.loop-k.invariant c.in_ok-write_all.ensures.written
+pub returns : goal.returns
+returns g c =
+    let book = c.args.controller.now.book in
+    let kept = c.args.controller.now.kept in
+    let P : Clocked → Type 0 = λ it. Writes g.O.Sink (closing_text book kept ++ ends_text it.tree) c.args.out.now c.ends_on.new.out c.ends_on.result in
+    subst P c.clocks.ensures
+    (on-both g.O.Sink (closing_text book kept) (ends_text c.clocks.result.now.tree) (Ok tt) c.write_units-units.result c.ends_on.result
+    c.args.out.now c.write_units-units.new.out c.ends_on.new.out c.write_units-units.ensures c.ends_on.ensures)
