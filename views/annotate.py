@@ -163,6 +163,12 @@ def meaning_of_words(message, words):
         return [f"{'power' if rest[0] == 1 else 'latency'} {words[0]}"]
     if api == 18:
         return ["asserted" if words[0] else "released"]
+    if api == 38:
+        return ["runs" if words[0] else "stopped"]
+    if api == 40:
+        return [f"divided by {words[0]}"]
+    if api == 44:
+        return [f"fed by {names.clock_words(names.CLOCKS[node].parents[words[0]])}"]
     return [] if api in names.CALLS else ["words " + " ".join(map(str, words))]
 
 
@@ -210,6 +216,16 @@ def meaning_of_end(kind, unit, value, kept):
     return f"{names.node_name(unit)} {shown}" + f"; the device has {names.state_name(unit, kept)}" * (not agrees)
 
 
+def meaning_of_clock(clock, _before, runs):
+    return f"{names.clock_words(clock)} {'runs' if runs else 'stops'}"
+
+
+def meaning_of_clock_at_end(clock, divider, index):
+    """A clock that runs, in the closing table."""
+    parent = names.clock_words(names.CLOCKS[clock].parents[index])
+    return f"{names.clock_words(clock)} runs, fed by {parent} and divided by {divider}"
+
+
 def meanings_of_cores(lines, script):
     """What the lines of `replay` mean where each line of the script, which is in numbers, is one core event."""
     split = [line.split() for line in lines]
@@ -237,8 +253,11 @@ def meanings_of_replay(told):
     """What the lines of a replay mean."""
     meanings = meanings_of_cores(told.cores, told.script)
     for line in told.lines:
-        _, kind, number, *words = line.split()
-        if kind == "busy":
+        step, kind, number, *words = line.split()
+        if kind == "clock":
+            clock = [int(number), *map(int, words)]
+            yield meaning_of_clock_at_end(*clock) if step == "end" else meaning_of_clock(*clock)
+        elif kind == "busy":
             yield f"{names.node_name(int(number))}: its box is full"
         elif kind == "smc":
             yield f"{names.node_name(int(number))}: its power call is answered {words[0]}{RETURN_CODES.get(words[0], '')}"

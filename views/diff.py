@@ -66,6 +66,8 @@ def without_messages(content, node):
 def value_name(unit, value):
     if unit.kind == "line":
         return "asserted" if value else "released"
+    if unit.kind == "clock":
+        return "runs" if value else "stopped"
     return names.MODES[value] if permits.is_processor(unit.number) else names.state_name(unit.number, value)
 
 
@@ -182,6 +184,8 @@ def is_own(found, node, subject):
     kind, number = subject
     if kind in ("answer", "call"):
         return number == node
+    if kind == "clock":
+        number = names.CLOCKS[number].node
     return users(found, number) == {node}
 
 
@@ -193,6 +197,8 @@ def title(subject):
     kind, number = subject
     if kind == "line":
         return f"line {names.line_name(number)}"
+    if kind == "clock":
+        return f"clock {names.clock_name(number)}"
     if kind == "node":
         kind = "proc" if permits.is_processor(number) else "power" if permits.is_power(number) else "slave"
     return f"{TITLES.get(kind, kind)} {names.node_name(number)}"

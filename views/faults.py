@@ -31,7 +31,7 @@ TOPOLOGY_LINES = {
 STANDARD_INPUT = "/dev/stdin"
 HELP = "./pmu --help has the forms"
 # The first words that the wrapper takes besides those of the program.
-OTHER_WORDS = ("--prove", "--proved", "--help", "--version", "--names", "--numbers", "--vcd", "--dot", "from-c", "lint", "policy", "diff")
+OTHER_WORDS = ("--prove", "--proved", "--help", "--version", "--names", "--numbers", "--vcd", "--dot", "from-c", "lint", "policy", "diff", "names")
 
 
 class Run:

@@ -28,6 +28,7 @@ VIEWS = {
     "lint": "lint",
     "policy": "policy",
     "diff": "diff",
+    "names": "names",
 }
 
 

@@ -4,10 +4,13 @@ One table, which all views use. A name is written as UG1200 has it, without its 
 name is read, the prefixes of UG1200, of Linux (include/dt-bindings/power/xlnx-zynqmp-power.h,
 include/dt-bindings/reset/xlnx-zynqmp-resets.h) and of TF-A (plat/xilinx/zynqmp/pm_service) may stand before it.
 
-`python3 views/names.py` writes the tables of docs/FORMATS.md.
+`./pmu names` writes them all, and `python3 views/names.py` those that docs/FORMATS.md has.
 """
 
+import textwrap
 from typing import NamedTuple, Optional
+
+from program import BadUse
 
 
 class Node(NamedTuple):
@@ -15,6 +18,12 @@ class Node(NamedTuple):
     name: str
     kind: str  # power, processor, one of STATES, or absent: published, but not in the table of the chip
     parent: Optional[int] = None  # the power node directly above
+
+
+class Clock(NamedTuple):
+    number: int
+    node: int  # the slave that it feeds; of a root the PLL that it comes from
+    parents: tuple  # the clocks that can feed it, by their index; a root has none
 
 
 class Call(NamedTuple):
@@ -119,6 +128,28 @@ _NODES = [
 
 NODES = {row[0]: Node(*row) for row in _NODES}
 
+_CLOCKS = [
+    (0, 50, ()),
+    (1, 51, ()),
+    (2, 52, ()),
+    (3, 53, ()),
+    (4, 54, ()),
+    (5, 33, (4, 3)),
+    (6, 34, (4, 3)),
+    (7, 28, (0, 1, 2)),
+    (8, 39, (4, 3)),
+    (9, 40, (4, 3)),
+    (10, 29, (4, 3)),
+    (11, 55, (2, 1)),
+    (12, 41, (1, 3)),
+    (13, 58, (0, 1)),
+    (14, 24, (5, 4)),
+    (15, 25, (14, 4)),
+]
+
+# The clocks. Each has the name of its node, and no node has two.
+CLOCKS = {row[0]: Clock(*row) for row in _CLOCKS}
+
 # The masters and their processors; a master has the number of a node: 6 is the RPU in lock-step.
 MASTERS = {1: (2, 3, 4, 5), 6: (7,), 7: (7,), 8: (8,)}
 
@@ -161,15 +192,15 @@ _CALLS = [
     (33, "PINCTRL_CONFIG_PARAM_SET", None),
     (34, "IOCTL", None),
     (35, "QUERY_DATA", None),
-    (36, "CLOCK_ENABLE", None),
-    (37, "CLOCK_DISABLE", None),
-    (38, "CLOCK_GETSTATE", None),
-    (39, "CLOCK_SETDIVIDER", None),
-    (40, "CLOCK_GETDIVIDER", None),
+    (36, "CLOCK_ENABLE", ("clock",)),
+    (37, "CLOCK_DISABLE", ("clock",)),
+    (38, "CLOCK_GETSTATE", ("clock",)),
+    (39, "CLOCK_SETDIVIDER", ("clock", "divider")),
+    (40, "CLOCK_GETDIVIDER", ("clock",)),
     (41, "CLOCK_SETRATE", None),
     (42, "CLOCK_GETRATE", None),
-    (43, "CLOCK_SETPARENT", None),
-    (44, "CLOCK_GETPARENT", None),
+    (43, "CLOCK_SETPARENT", ("clock", "parent index")),
+    (44, "CLOCK_GETPARENT", ("clock",)),
     (45, "SECURE_IMAGE", None),
     (46, "FPGA_READ", None),
     (47, "SECURE_AES", None),
@@ -305,6 +336,22 @@ def line_name(number):
     return NODES[number].name if is_line(number) else f"line {number}"
 
 
+def is_root(number):
+    """Whether a clock is a root: it runs where its PLL does, and no call changes it."""
+    return number in CLOCKS and not CLOCKS[number].parents
+
+
+def clock_name(number):
+    """The name of a clock: that of its node."""
+    return NODES[CLOCKS[number].node].name if number in CLOCKS else str(number)
+
+
+def clock_words(number):
+    """A clock in plain words: a root is the name of its PLL."""
+    name = clock_name(number)
+    return name if is_root(number) else f"the clock of {name}" if number in CLOCKS else f"clock {number}"
+
+
 def call_name(number):
     return CALLS[number].name if number in CALLS else f"call {number}"
 
@@ -343,6 +390,8 @@ def word_name(kind, word):
         return NODES[word].name if word in NODES else str(word)
     if kind == "line":
         return line_name(word) if word in RESETS or is_line(word) else str(word)
+    if kind == "clock":
+        return clock_name(word)
     return WORDS.get(kind, {}).get(word, str(word))
 
 
@@ -354,10 +403,12 @@ def _numbers(kind):
         return {name: number for number, name in RESETS.items()}
     if kind == "call":
         return {call.name: call.number for call in CALLS.values()}
+    if kind == "clock":
+        return {clock_name(number): number for number in CLOCKS}
     return {name: number for number, name in WORDS.get(kind, {}).items()}
 
 
-_BY_NAME = {kind: _numbers(kind) for kind in ("node", "reset", "call", *WORDS)}
+_BY_NAME = {kind: _numbers(kind) for kind in ("node", "reset", "call", "clock", *WORDS)}
 
 
 def number_of(kind, name):
@@ -367,8 +418,8 @@ def number_of(kind, name):
             return number_of("reset", name)
         number = number_of("node", name)
         return number if is_line(number) else None
-    numbers, others = _BY_NAME.get(kind, {}), ALIASES.get(kind, {})
-    for prefix in ("", *PREFIXES.get(kind, ())):
+    numbers, others = _BY_NAME.get(kind, {}), ALIASES.get("node" if kind == "clock" else kind, {})
+    for prefix in ("", *PREFIXES.get("node" if kind == "clock" else kind, ())):
         if name.startswith(prefix):
             rest = name[len(prefix) :]
             rest = others.get(rest, rest)
@@ -377,28 +428,44 @@ def number_of(kind, name):
     return None
 
 
-def _columns(rows, count):
-    """Rows of a table in Markdown, with `count` pairs of columns read downwards."""
-    height = -(-len(rows) // count)
-    lines = ["| Number | Name " * count + "|", "|---|---" * count + "|"]
-    for place in range(height):
-        cells = [rows[k] if k < len(rows) else ("", "") for k in range(place, height * count, height)]
-        lines.append("".join(f"| {number} | {name} " for number, name in cells) + "|")
-    return lines
+def lines():
+    """Each name with its kind and its number, and what else is known of it: a line each."""
+    for node in NODES.values():
+        yield f"node {node.number} {node.name}" + ", not in the table of the chip" * (node.kind == "absent")
+    for number in RESETS:
+        yield f"line {number} {line_name(number)}, not in the table of the chip"
+    for kind, table in (("call", CALLS), ("callback", CALLBACKS)):
+        for call in table.values():
+            arguments = ", not served" if call.arguments is None else ": " * bool(call.arguments) + ", ".join(call.arguments)
+            yield f"{kind} {call.number} {call.name}{arguments}"
+    for number, clock in CLOCKS.items():
+        yield f"clock {number} {clock_name(number)}: " + (", ".join(map(clock_name, clock.parents)) or "a root")
+    for kind, table in WORDS.items():
+        for number, name in table.items():
+            yield f"{kind} {number} {name}"
 
 
 def markdown():
-    """The tables of names of docs/FORMATS.md."""
-    nodes = [(node.number, node.name + " (not in the table)" * (node.kind == "absent")) for node in NODES.values()]
-    calls = [(call.number, call.name) for call in (*CALLS.values(), *CALLBACKS.values()) if call.arguments is not None]
-    words = [(kind, "; ".join(f"{number} {name}" for number, name in table.items())) for kind, table in WORDS.items()]
-    lines = ["Nodes:", "", *_columns(nodes, 4)]
-    lines += ["", "Calls that are served, and callbacks:", "", *_columns(calls, 3)]
-    lines += ["", "Words:", "", "| What | Names |", "|---|---|"]
-    lines += [f"| {kind} | {names} |" for kind, names in words]
-    lines += ["", "Published reset lines, none of which is in the table of the chip:", ""]
-    lines += _columns([(number, line_name(number)) for number in RESETS], 3)
-    return "\n".join(lines) + "\n"
+    """The names that docs/FORMATS.md has: the clocks, and the words of arguments, records and statuses."""
+    roots = ", ".join(f"{number} {clock_name(number)}" for number in CLOCKS if is_root(number))
+    others = [number for number in CLOCKS if not is_root(number)]
+    fed = ", ".join(f"{number} {clock_name(number)} ({', '.join(map(clock_name, CLOCKS[number].parents))})" for number in others)
+    clocks = f"The roots are {roots}; the other clocks, with their parents by index, {fed}."
+    words = [f"- {kind}: " + ", ".join(f"{number} {name}" for number, name in table.items()) for kind, table in WORDS.items()]
+    return "\n".join([_wrapped(clocks), "", *map(_wrapped, words)]) + "\n"
+
+
+def _wrapped(text):
+    """A paragraph, or an item of a list, in lines of the documents."""
+    return textwrap.fill(text, 118, subsequent_indent="  " * text.startswith("- "))
+
+
+def main(words):
+    """`names`: each name, on a line of its own."""
+    if words:
+        raise BadUse("names takes no words: search what it writes")
+    print("".join(line + "\n" for line in lines()), end="")
+    return 0
 
 
 if __name__ == "__main__":

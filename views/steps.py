@@ -1,8 +1,9 @@
 """The values of the units after each step of a replay, from what the program writes.
 
-A step's commands say what each slave, power node and reset line becomes. The mode of a processor stands in no line of
-a step: it is asked for, by a message GET_NODE_STATUS after each line of the script, which changes nothing. Where no
-master is awake to ask, the closing table of the script up to that line has it.
+A step's commands say what each slave, power node and reset line becomes, and its lines `clock` which clocks begin or
+cease to run. The mode of a processor stands in no line of a step: it is asked for, by a message GET_NODE_STATUS after
+each line of the script, which changes nothing. Where no master is awake to ask, the closing table of the script up to
+that line has it.
 """
 
 import os
@@ -16,8 +17,8 @@ from program import BadUse, Failed, run_text, write_file
 GET_NODE_STATUS = 3
 SUSPENDING, ASLEEP = 3, 2
 
-# The lines that a script line writes itself, after those of its core events.
-OWN = ("busy", "task", "notask", "smc")
+# The lines that a script line writes itself, after those of its core events; and the clocks of the closing table.
+OWN = ("busy", "clock", "task", "notask", "smc")
 
 # The calls that can change the mode of a processor: SELF_SUSPEND, FORCE_POWERDOWN, ABORT_SUSPEND, REQUEST_WAKEUP,
 # SYSTEM_SHUTDOWN and RESET_ASSERT.
@@ -25,7 +26,7 @@ CHANGING = (7, 8, 9, 10, 12, 17)
 
 
 class Unit(NamedTuple):
-    kind: str  # node or line
+    kind: str  # node, line or clock
     number: int
 
 
@@ -62,13 +63,26 @@ def changes_of(lines, count):
 
 
 def closing_of(lines):
-    """The closing table: the value of each unit in the book, of a processor its mode."""
+    """The closing table: the value of each unit in the book, of a processor its mode, and 1 of each clock that runs."""
     table = {}
     for line in lines:
         step, kind, *words = line.split()
-        if step == "end":
+        if step == "end" and kind == "clock":
+            table[Unit(kind, int(words[0]))] = 1
+        elif step == "end":
             table[Unit("line" if kind == "line" else "node", int(words[0]))] = int(words[1])
     return table
+
+
+def with_clocks(changes, lines):
+    """The changes of each script line, with those of clocks: 1 of one that runs from then on, and 0 of one that stops."""
+    made = [list(step) for step in changes]
+    for line in lines:
+        step, kind, *words = line.split()
+        if step != "end" and kind == "clock":
+            clock, _, runs = map(int, words)
+            made[int(step)].append((Unit(kind, clock), runs))
+    return made
 
 
 def master_masks(lines):
@@ -211,4 +225,4 @@ def steps_of(obj, content, room, name=None):
     told = replay_of(obj, content, room, name)
     changes = changes_of(told.cores, len(told.script))
     changes = with_modes(changes, modes_of(obj, told.script, changes, room))
-    return Steps(told, by_line(told.numbers, changes), closing_of(told.lines))
+    return Steps(told, with_clocks(by_line(told.numbers, changes), told.lines), closing_of(told.lines))

@@ -88,7 +88,7 @@ def unknown(kind, word):
     """What is wrong with a name that its kind doesn't have."""
     if kind == "mask":
         return f"no master line of this text has the mask of {word}"
-    if kind in ("node", "line", "call", "own mask") or kind in names.WORDS:
+    if kind in ("node", "line", "call", "clock", "own mask") or kind in names.WORDS:
         return f"no {SAID.get(kind, kind)} is named {word}"
     return f"the {kind} is a number, not {word}" if kind else f"a number is wanted, not {word}"
 

@@ -1,9 +1,10 @@
 """`--vcd replay OBJ SCRIPT`: the replay as a value change dump (IEEE 1364), for GTKWave.
 
 A unit is a signal by its name: of a slave its state, of a processor its mode, of a power node whether it is up, of a
-reset line whether it is asserted. They lie in the scopes of their power domains. A script line is a unit of time, and
-0 is the load; a line that is pulsed changes twice at one time, and so may any unit in a line `serve`. Two signals are texts, as GTKWave reads them: the line
-of the script, and what is answered in it.
+reset line whether it is asserted, of a clock other than a PLL whether it runs. They lie in the scopes of their power
+domains, and reset lines and clocks in scopes of their own. A script line is a unit of time, and 0 is the load; a line
+that is pulsed changes twice at one time, and so may any unit in a line `serve`. Two signals are texts, as GTKWave reads
+them: the line of the script, and what is answered in it.
 """
 
 import sys
@@ -36,18 +37,19 @@ def code_of(place):
 
 def width_of(unit):
     """How many bits the value of a unit has."""
-    if unit.kind == "line":
+    if unit.kind != "node":
         return 1
     kind = names.NODES[unit.number].kind
     return 2 if kind == "processor" or len(names.STATES.get(kind, ())) > 2 else 1
 
 
 def scopes():
-    """The scopes with their units: each power domain without a parent, with its own, and the reset lines."""
+    """The scopes with their units: each power domain without a parent, with its own, the reset lines and the clocks."""
     nodes = [node for node in names.NODES.values() if names.is_in_table(node.number)]
     for power in (node for node in nodes if node.kind == "power" and node.parent is None):
         yield from scopes_below(power, nodes, ())
     yield ("reset_lines",), [Unit("line", node.number) for node in nodes if names.is_line(node.number)]
+    yield ("clocks",), [Unit("clock", clock) for clock in names.CLOCKS if not names.is_root(clock)]
 
 
 def scopes_below(power, nodes, above):
@@ -60,8 +62,11 @@ def scopes_below(power, nodes, above):
             yield from scopes_below(node, nodes, path)
 
 
+NAMES = {"node": names.node_name, "line": names.line_name, "clock": names.clock_name}
+
+
 def name_of(unit):
-    return names.line_name(unit.number) if unit.kind == "line" else names.node_name(unit.number)
+    return NAMES[unit.kind](unit.number)
 
 
 def value_text(unit, value, code):

@@ -174,6 +174,27 @@ class Names(Case):
             },
         )
 
+    def test_clocks(self):
+        script = "ipi APU CLOCK_ENABLE UART_0\nipi 1 38 5\nipi 1 39 5 4\nipi 1 40 5\nipi 1 43 5 1\nipi 1 44 5\npost 1 36 14\nserve\n"
+        script += "ipi 1 44 14\nboot 7 0\nipi 7 39 5 2\nipi 1 38 15\nipi 1 36 16\nipi 1 37 14\nipi 1 36 14\n"
+        self.check(
+            ["replay", example("clocks.obj"), self.file("clocks.script", script)],
+            {
+                "1 clock 5 0 1": "the clock of UART_0 runs",
+                "2 reply 1 0 1 0 0": "APU: success, runs",
+                "4 reply 1 0 4 0 0": "APU: success, divided by 4",
+                "6 reply 1 0 1 0 0": "APU: success, fed by RPLL",
+                "8 clock 14 0 1": "the clock of TTC_0 runs",
+                "9 reply 1 0 0 0 0": "APU: success, fed by the clock of UART_0",
+                "11 reply 7 2007 1 0 0": "RPU_0: node used by APU",
+                "12 reply 1 0 0 0 0": "APU: success, stopped",
+                "13 reply 1 2003 0 0 0": "APU: invalid node",
+                "14 clock 14 1 0": "the clock of TTC_0 stops",
+                "end clock 5 4 1": "the clock of UART_0 runs, fed by RPLL and divided by 4",
+                "end clock 14 1 0": "the clock of TTC_0 runs, fed by the clock of UART_0 and divided by 1",
+            },
+        )
+
     def test_the_words_of_answers(self):
         script = "ipi 1 1\nipi 1 4 11 3\nipi 1 4 11 1\nipi 1 3 10\nipi 1 3 2\nipi 1 18 33\nboot 7 0\nipi 1 13 28 1 0 2\nipi 7 13 28 1 0 2\n"
         self.check(

@@ -119,6 +119,14 @@ class Text(Case):
         self.assertEqual(shown.splitlines()[0], "with the 0 messages and 2 power calls of APU | without them")
         self.assertEqual(self.rows(self.show(script, "RPU_0")), [])
 
+    def test_clocks(self):
+        script = programs.read_file(example("clocks.script")).decode()
+        rows = self.rows(self.show(script, "RPU_0", example("clocks.obj")))
+        self.assertEqual(rows[:3], ["clock UART_0 - | runs -> stopped", "clock TTC_0 - | runs -> stopped", "answer to APU 2007 node used by RPU_0 | 0 success DENIED"])
+        own = self.show("boot 7 0\nipi 7 36 6\nipi 1 36 14\n", "7", example("clocks.obj")).splitlines()
+        self.assertEqual(own[1:4], ["of others: nothing differs", "of RPU_0 alone:", "step 2: ipi RPU_0 CLOCK_ENABLE UART_1"])
+        self.assertEqual(self.rows("\n".join(own)), ["clock UART_1 stopped -> runs | -"])
+
     def test_nothing_differs(self):
         text = "with the 0 messages of RPU_0 | without them\nof others: nothing differs\nof RPU_0 alone: nothing differs\n"
         self.assertEqual(self.show("ipi 1 21\n\nboot 7 0", "7"), text + "successes that others lose: 0 denied, 0 refused, 0 not heard\n")
@@ -183,7 +191,8 @@ class Comparison(Case):
         status, compared, _ = program("isolate", path, script, str(node))
         self.assertEqual(status, 0)
         wanted = {tuple(line.split()[1:]) for line in compared.decode().splitlines() if line.startswith("differ")}
-        units = {unit for _, unit, _, _ in self.moves(path, first) ^ self.moves(path, second)}
+        # (it doesn't list clocks)
+        units = {unit for _, unit, _, _ in self.moves(path, first) ^ self.moves(path, second) if unit.kind != "clock"}
         found = {(diff.title((unit.kind, unit.number)).split()[0], str(unit.number)) for unit in units}
         self.assertEqual(found, wanted)
         self.kinds |= {kind for kind, _ in found}

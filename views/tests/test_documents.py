@@ -5,7 +5,6 @@ import importlib.util
 import os
 import shlex
 import shutil
-import subprocess
 import sys
 import unittest
 
@@ -59,26 +58,6 @@ class Documents(Case):
                         self.assertEqual(faults, [], "\n".join(faults))
             self.assertGreater(count, 4, document)
             shutil.rmtree(folder)
-
-    def definitions(self, *words):
-        """What docs/count-definitions prints for these words."""
-        command = [sys.executable, os.path.join(TOP, "docs", "count-definitions"), *words]
-        return subprocess.run(command, capture_output=True, text=True, check=True).stdout
-
-    def test_the_list_of_definitions(self):
-        with open(os.path.join(TOP, "docs", "DEFINITIONS.md"), encoding="utf-8") as file:
-            page = file.read()
-        self.assertTrue(page.endswith("\n" + self.definitions("--files")), "docs/count-definitions --files")
-        lower = page.split("is\n\n    pm_base", 1)[1].split("\n\n", 1)[0].split()
-        rows = [row.split("|") for row in page.splitlines() if row.startswith("| `") and row.count("|") == 5]
-        self.assertGreater(len(rows), 8)
-        for row in rows:
-            asked = row[2].strip(" `").split()
-            above, whole = (
-                self.definitions(*asked, *stop).splitlines()[-1].split()[1] for stop in (["--stop", "pm_base", *lower], [])
-            )
-            with self.subTest(row[1]):
-                self.assertEqual([row[3].replace(",", "").strip(), row[4].replace(",", "").strip()], [above, whole])
 
 
 if __name__ == "__main__":

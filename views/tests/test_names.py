@@ -73,6 +73,17 @@ class Chip(unittest.TestCase):
             if chip.get(number + 1, ("", "", ""))[2] == listed:
                 self.assertLess(name, names.NODES[number + 1].name)
 
+    def test_the_clocks_are_those_of_the_chip(self):
+        text = source("pm_clock_tree/src/table.rt")
+        roots = re.search(r"ROOTS: .*?\[(NodeId.*?)\];", text, re.DOTALL).group(1)
+        ours = {clock.number: (clock.node, clock.parents) for clock in names.CLOCKS.values()}
+        chip = {number: (int(node), ()) for number, node in enumerate(re.findall(r"NodeId\((\d+)\)", roots))}
+        parts = re.findall(r"number: (\d+),\s+node: NodeId\((\d+)\),\s+first: (\d+),\s+second: (\d+),\s+third: (None|Some\((\d+)\))", text)
+        for number, node, first, second, _, third in parts:
+            chip[int(number)] = (int(node), tuple(map(int, (first, second, *[third] * (third != "")))))
+        self.assertEqual(ours, chip)
+        self.assertEqual((len(ours), sum(map(names.is_root, ours))), (16, 5))
+
     def test_the_masters_are_those_of_the_chip(self):
         self.assertEqual(names.MASTERS, masters_of_the_chip())
 
@@ -95,9 +106,12 @@ class Interface(unittest.TestCase):
     def test_the_calls_that_are_served_are_those_of_the_program(self):
         rows = source("pm_ipi/specs/Calls.antt")
         found = [(n, name) for name, n in re.findall(r"^row_of \(?(\w+).* = row (\d+) ", rows, re.MULTILINE) if n != "0"]
+        clocks = re.findall(r"^        (\d+) => Some\(ClockAct::", source("pm_clock_tree/src/calls.rt"), re.MULTILINE)
         served = {number: call.name for number, call in names.CALLS.items() if call.arguments is not None}
-        self.assertEqual(served, {int(number): snake(name) for number, name in found})
-        self.assertTrue(served)
+        named = {number: name for number, name in served.items() if str(number) not in clocks}
+        self.assertEqual(named, {int(number): snake(name) for number, name in found})
+        self.assertTrue(named)
+        self.assertEqual([name[:6] for number, name in served.items() if str(number) in clocks], ["CLOCK_"] * 7)
 
     def test_the_callbacks_are_those_of_the_program(self):
         found = re.findall(r"pub const (\w+): u32 = (3\d);", source("pm_ipi/src/callbacks.rt"))
@@ -129,6 +143,8 @@ class Words(unittest.TestCase):
             self.assertEqual(names.number_of("line", names.line_name(number)), number)
         for number, call in names.CALLS.items():
             self.assertEqual(names.number_of("call", call.name), number)
+        for number in names.CLOCKS:
+            self.assertEqual(names.number_of("clock", names.clock_name(number)), number)
         for kind, table in names.WORDS.items():
             for number, name in table.items():
                 self.assertEqual(names.number_of(kind, name), number)
@@ -150,6 +166,9 @@ class Words(unittest.TestCase):
             ("capabilities", "ZYNQMP_PM_CAPABILITY_WAKEUP", 4),
             ("ack", "REQ_ACK_NON_BLOCKING", 3),
             ("shutdown type", "ZYNQMP_PM_SHUTDOWN_TYPE_RESET", 1),
+            ("clock", "PD_UART_0", 5),
+            ("clock", "UART_2", None),
+            ("clock", "GPIO", None),
             ("node", "UART_2", None),
             ("node", "NODE_", None),
         ]:
@@ -162,13 +181,29 @@ class Words(unittest.TestCase):
         self.assertEqual([names.status_words(word) for word in (0, 2002, 7)], ["success", "no access", "status 7"])
 
 
-class Document(Case):
-    def test_the_page_of_formats_has_the_table(self):
-        with open(os.path.join(TOP, "docs", "FORMATS.md"), encoding="utf-8") as file:
-            page = file.read()
-        begin, end = page.find("\nNodes:\n"), page.find("\n## Device commands")
-        self.assertTrue(0 < begin < end)
-        self.assertEqual(page[begin + 1 : end].splitlines(), names.markdown().splitlines())
+class View(Case):
+    def test_each_name_has_a_line(self):
+        lines = self.text("names").splitlines()
+        counts = [len(table) for table in (names.NODES, names.RESETS, names.CALLS, names.CALLBACKS, names.CLOCKS, *names.WORDS.values())]
+        self.assertEqual(len(lines), sum(counts))
+        self.assertEqual(len(lines), len(set(lines)))
+        for line in [
+            "node 33 UART_0",
+            "node 77 PMU, not in the table of the chip",
+            "line 1034 RESET_UART0, not in the table of the chip",
+            "call 2 SET_CONFIGURATION, not served",
+            "call 13 REQUEST_NODE: node, capabilities, qos, ack",
+            "call 21 INIT_FINALIZE",
+            "callback 32 NOTIFY_CB: node, event, operating point",
+            "clock 4 IOPLL: a root",
+            "clock 15 TTC_1: TTC_0, IOPLL",
+            "abort reason 100 WKUP_EVENT",
+            "status 2002 NO_ACCESS",
+        ]:
+            self.assertIn(line, lines)
+
+    def test_words_are_refused(self):
+        self.assertIn("names takes no words", self.refused("names", "node"))
 
 
 if __name__ == "__main__":

@@ -80,6 +80,14 @@ class Steps(Case):
         with open(example("sleep.script"), encoding="ascii") as file:
             self.check(example("laboratory.obj"), file.read())
 
+    def test_the_same_of_the_example_of_the_clocks(self):
+        with open(example("clocks.script"), encoding="ascii") as file:
+            self.check(example("clocks.obj"), file.read())
+
+    def test_clocks_change_once_in_a_line(self):
+        script = "boot 7 0\npost 1 36 5\npost 7 36 6\nserve\npost 1 37 5\npost 7 36 5\nserve\npost 1 36 14\npost 7 37 5\nserve\nsmc 2 0x84000008\n"
+        self.check(example("clocks.obj"), script)
+
     def test_the_lines_of_a_script(self):
         self.assertEqual(steps.script_lines(b""), [])
         self.assertEqual(steps.script_lines(b"a\n\nb"), ["a", "", "b"])

@@ -11,22 +11,32 @@ import picture
 from common import TOP, Case, example, examples, program, view
 
 
+KINDS = ("nodes", "reset_lines", "clocks")
+
+
 def closing_values(lines):
     """The closing table: the value of each unit in the book by its kind and name."""
     found = {}
     for line in lines:
         words = line.split()
-        if words[0] == "end":
-            number = int(words[2])
-            name = names.line_name(number) if words[1] == "line" else names.node_name(number)
-            found[words[1] == "line", name] = int(words[3])
+        if words[:2] == ["end", "clock"]:
+            found["clocks", names.clock_name(int(words[2]))] = 1
+        elif words[:2] == ["end", "line"]:
+            found["reset_lines", names.line_name(int(words[2]))] = int(words[3])
+        elif words[0] == "end":
+            found["nodes", names.node_name(int(words[2]))] = int(words[3])
     return found
+
+
+def kind_of(signal):
+    """The kind of a unit by the scope of its signal."""
+    return signal.scope[0] if signal.scope[0] in ("reset_lines", "clocks") else "nodes"
 
 
 def last_values(dump):
     """The last value of each unit that isn't 0, by its kind and name."""
     units = [signal for signal in dump.signals if signal.width]
-    values = {(signal.scope[0] == "reset_lines", signal.name): signal.changes[-1][1] for signal in units}
+    values = {(kind_of(signal), signal.name): signal.changes[-1][1] for signal in units}
     return {unit: value for unit, value in values.items() if value}
 
 
@@ -36,7 +46,7 @@ class Waveform(Case):
 
     def test_a_dump_gives_the_values_of_the_closing_table(self):
         for script in examples(".script"):
-            obj = example("two-masters.obj" if "status" in script else "laboratory.obj")
+            obj = example("two-masters.obj" if "status" in script else "clocks.obj" if "clocks" in script else "laboratory.obj")
             dump = self.dump(obj, script)
             lines = program("replay", obj, script)[1].decode().splitlines()
             self.assertEqual(last_values(dump), {unit: value for unit, value in closing_values(lines).items() if value})
@@ -101,10 +111,17 @@ class Waveform(Case):
 
     def test_each_unit_of_the_table_is_a_signal(self):
         dump = self.dump(example("two-masters.obj"), self.file("empty", ""))
-        nodes = [signal.name for signal in dump.signals if signal.width and signal.scope[0] != "reset_lines"]
-        lines = [signal.name for signal in dump.signals if signal.scope[0] == "reset_lines"]
-        self.assertEqual(sorted(nodes), sorted(node.name for node in names.NODES.values() if node.kind != "absent"))
-        self.assertEqual((len(nodes), len(lines)), (69, 64))
+        found = {kind: [signal.name for signal in dump.signals if signal.width and kind_of(signal) == kind] for kind in KINDS}
+        self.assertEqual(sorted(found["nodes"]), sorted(node.name for node in names.NODES.values() if node.kind != "absent"))
+        self.assertEqual([len(found[kind]) for kind in KINDS], [69, 64, 11])
+
+    def test_the_clocks_that_run(self):
+        dump = self.dump(example("clocks.obj"), example("clocks.script"))
+        changes = [(0, 0), (5, 1), (15, 0), (16, 1), (17, 0), (19, 1)]
+        self.assertEqual(dump.named("UART_0", ("clocks",)).changes, changes)
+        self.assertEqual(dump.named("TTC_0", ("clocks",)).changes, [(0, 0), (8, 1), *changes[2:]])
+        self.assertEqual(dump.named("UART_1", ("clocks",)).changes, [(0, 0)])
+        self.assertEqual(dump.named("answer").changes[6], (6, "APU: success, runs"))
 
     @unittest.skipUnless(shutil.which("vcd2fst"), "GTKWave isn't installed")
     def test_gtkwave_reads_the_dump(self):
