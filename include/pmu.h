@@ -18,9 +18,10 @@
  *
  * Memory: pmu_open takes the memory of a controller. Each other call with a handle takes a block of a few bytes and
  * gives it back (pmu_text a copy of the text too, pmu_is_beyond a list for each master), and answers PMU_NO_MEMORY
- * if it gets none. Blocks are taken by rattle_alloc, rattle_realloc and rattle_dealloc: liblibc_c.a of the toolchain
- * makes them of malloc, realloc and free, and without a C library they are yours to write: one allocator; a block is
- * aligned to each power of two up to 16 that divides its size. pmu_close frees the block that pmu_open took.
+ * if it gets none. Blocks are taken by rattle_alloc, rattle_realloc and rattle_dealloc: libpmu_memory.a, which is built
+ * beside the library, makes them of malloc, realloc and free, and without a C library they are yours to write: one
+ * allocator; a block is aligned to each power of two up to 16 that divides its size. pmu_close frees the block that
+ * pmu_open took.
  */
 #ifndef PMU_H
 #define PMU_H
@@ -74,7 +75,7 @@ struct pmu {
 uint32_t pmu_open(const uint8_t *object, size_t object_size, struct pmu **handle);
 
 /* Ends a controller: pmu_close(pmu). pmu_end gives back what the handle owns; the block that it points to was taken
- * by rattle_alloc too, so with liblibc_c.a it is freed by `free`. */
+ * by rattle_alloc too, so with libpmu_memory.a it is freed by `free`. */
 void pmu_end(struct pmu pmu);
 #ifndef PMU_NO_LIBC
 #include <stdlib.h>
