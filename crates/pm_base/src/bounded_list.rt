@@ -1,6 +1,6 @@
 //! A list with room that is reserved when it is made.
 
-ghost use Rattle.std.specs.Prelude.{◌≡◌, ◌<◌, ◌++◌, ◌∷◌, [], length, IfOk};
+ghost use Rattle.std.specs.Prelude.{◌≡◌, ◌<◌, ◌++◌, ◌∷◌, [], Some, length, slice_get, IfOk};
 
 use crate::errors::NoMemory;
 use std::alloc::Global;
@@ -8,7 +8,7 @@ use std::marker::Model;
 
 /// A list with room that is reserved when it is made, so that to put something in takes no memory.
 /// Contracts see its items and its room.
-#[derive(Drop)]
+#[derive(Debug, Drop)]
 pub struct BoundedList<T> {
     items: Vec<T>,
     room: usize,
@@ -38,6 +38,21 @@ impl<T> BoundedList<T> {
     {
         let items = Vec::with_capacity(alloc, room).map_err(|_| NoMemory)?;
         Ok(BoundedList { items, room })
+    }
+
+    /// The number of items.
+    pub fn len(&self) -> usize
+        ensures { result ≡ length self.now.items }
+    {
+        self.items.len()
+    }
+
+    /// The item at place `k`, counted from 0.
+    pub fn get(&self, k: usize) -> &T
+        requires { k < length self.now.items }
+        ensures { slice_get self.now.items k ≡ Some result.now }
+    {
+        &self.items[k]
     }
 
     /// The items in order.

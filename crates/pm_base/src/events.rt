@@ -1,6 +1,7 @@
 //! What reaches the power management core from the outside, one event at a time.
 
 use crate::names::NodeId;
+use crate::object_words::Words;
 
 /// The words of a message of a master (UG1200, API calls): the number of the call, then its
 /// arguments. Missing arguments are 0.
@@ -11,7 +12,7 @@ pub struct Message {
 }
 
 /// One event. `Pass` is the event of an empty script line, and does nothing.
-#[derive(Clone, Copy, Debug, PartialEq, Eq)]
+#[derive(Debug, PartialEq, Eq, Drop)]
 pub enum Event {
     /// A master sends a message.
     Ipi {
@@ -61,6 +62,11 @@ pub enum Event {
     /// The timed task under a key is taken out.
     Cancel {
         key: u32,
+    },
+    /// These words are attached at an address, behind those that were attached there before.
+    Attach {
+        address: u32,
+        words: Words,
     },
     /// A node of the device fails from now on.
     Break {

@@ -7,7 +7,7 @@ use Rattle.pm_base.specs.declared.names.Unit.{Unit}
 use Rattle.pm_base.specs.declared.names.Unit.TheVariants.{Node, Line}
 use Rattle.pm_base.specs.declared.events.Message.{Message}
 use Rattle.pm_ipi.specs.declared.calls.Call.{Call}
-use Rattle.pm_ipi.specs.declared.calls.Call.TheVariants.{GetApiVersion, GetNodeStatus, GetOpCharacteristic, RegisterNotifier, RequestSuspend, SelfSuspend, ForcePowerdown, AbortSuspend, RequestWakeup, SetWakeupSource, SystemShutdown, RequestNode, ReleaseNode, SetRequirement, SetMaxLatency, ResetAssert, ResetGetStatus, InitFinalize, Unknown}
+use Rattle.pm_ipi.specs.declared.calls.Call.TheVariants.{GetApiVersion, SetConfiguration, GetNodeStatus, GetOpCharacteristic, RegisterNotifier, RequestSuspend, SelfSuspend, ForcePowerdown, AbortSuspend, RequestWakeup, SetWakeupSource, SystemShutdown, RequestNode, ReleaseNode, SetRequirement, SetMaxLatency, ResetAssert, ResetGetStatus, InitFinalize, Unknown}
 use Rattle.pm_ipi.specs.declared.calls.AckKind.{AckKind}
 use Rattle.pm_ipi.specs.declared.calls.AckKind.TheVariants.{No, Blocking, NonBlocking}
 
@@ -40,6 +40,8 @@ abbrev pub calls_by : Message → List Call
 calls_by message =
     -- GET_API_VERSION: no argument
     GetApiVersion
+    -- SET_CONFIGURATION: the address of the object that is put in force
+    ∷ SetConfiguration (argument message 0)
     -- GET_NODE_STATUS: the node
     ∷ GetNodeStatus (node_word message 0)
     -- GET_OP_CHARACTERISTIC: the node, and which characteristic
@@ -94,6 +96,7 @@ row number names acknowledge = record { number = number; names = names; acknowle
 -- what RESET_ASSERT is answered doesn't depend on the value of its line, so it names none; no call has the number 0
 abbrev pub row_of : Call → Row
 row_of GetApiVersion = row 1 [] None
+row_of (SetConfiguration address) = row 2 [] None
 row_of (GetNodeStatus node) = row 3 (Node node ∷ []) None
 row_of (GetOpCharacteristic node characteristic) = row 4 (Node node ∷ []) None
 row_of (RegisterNotifier node event wake enable) = row 5 (Node node ∷ []) None

@@ -18,6 +18,8 @@ pub enum AckKind {
 #[derive(Clone, Copy, Debug, PartialEq, Eq)]
 pub enum Call {
     GetApiVersion,
+    /// The configuration object that is attached at the address is in force from now on.
+    SetConfiguration(u32),
     GetNodeStatus {
         node: NodeId,
     },
@@ -114,6 +116,7 @@ pub fn decode_call(message: &Message) -> Call
     let node = NodeId(args[0]);
     match message.api {
         1 => Call::GetApiVersion,
+        2 => Call::SetConfiguration(args[0]),
         3 => Call::GetNodeStatus { node },
         4 => Call::GetOpCharacteristic {
             node,

@@ -1,3 +1,4 @@
+pub mod AttachedLemmas
 pub mod Bytes
 pub mod Loop
 pub mod Steps

@@ -1,4 +1,6 @@
 pub mod Answers
+pub mod Attached
 pub mod Bodies
+pub mod Causes
 pub mod Grammar
 pub mod Reading

@@ -9,7 +9,11 @@ use pm_base::NoMemory;
 use std::alloc::Global;
 
 /// Words as bytes, the lowest byte of each first.
-fn bytes_of(alloc: Global, words: &[u32]) -> Result<Vec<u8>, NoMemory>
+///
+/// # Errors
+///
+/// `NoMemory` where there is not enough memory.
+pub fn bytes_of(alloc: Global, words: &[u32]) -> Result<Vec<u8>, NoMemory>
     ensures { IfOk result (λ bytes. bytes.items ≡ little_endian words.now) }
 {
     let mut bytes = Vec::new(alloc);

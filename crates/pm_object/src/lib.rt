@@ -2,6 +2,7 @@
 //! and shut down what (UG1137, configuration object).
 #![tactic(auto)]
 
+pub mod attached;
 mod copying;
 mod decoding;
 mod encoding;
@@ -18,8 +19,9 @@ mod spelling;
 mod unset;
 mod words;
 
+pub use attached::{Attached, Content};
 pub use decoding::decode;
-pub use encoding::encode;
+pub use encoding::{bytes_of, encode};
 pub use laws::{object_sections, one_reading, section_identifiers};
 pub use masters::{is_bad_mask, is_bad_node, is_master_node};
 pub use object::{

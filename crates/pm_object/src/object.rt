@@ -1,6 +1,7 @@
 //! What a configuration object holds, and what can be wrong with one.
 
 ghost use Rattle.std.specs.Prelude.{◌≡◌};
+ghost use Rattle.pm_object.specs.Causes.{cause_number};
 ghost use Rattle.pm_object.specs.declared.object.DecodeError.TheVariants.{Memory};
 
 use pm_base::{List, NoMemory};
@@ -108,6 +109,15 @@ pub enum ObjectCause {
     RepeatedNode = 11,
     /// A word after the last section.
     Trailing = 12,
+}
+
+impl ObjectCause {
+    /// The number of the cause.
+    pub fn number(self) -> u32
+        ensures { result ≡ cause_number self }
+    {
+        self as u32
+    }
 }
 
 /// The first thing that is wrong with an object, and where: a number of words from its front.

@@ -13,25 +13,31 @@ use Rattle.pm_base.specs.declared.prefix.StopReason.TheVariants as reason
 use Rattle.pm_base.specs.Faults.{Rose}
 use Rattle.pm_base.specs.Inputs.{IsStuck, Moment, Took}
 use Rattle.pm_base.specs.Lines.{least_length, lines}
+use Rattle.pm_base.specs.Calls.{Comes}
 use Rattle.pm_base.specs.Prefix.{text_of}
+use Rattle.pm_base.specs.Readings.{Meanwhile}
 use Rattle.pm_base.proofs.LinesLemmas as parts
 use Rattle.pm_script.specs.declared.meaning.LineFault.{LineFault}
 use Rattle.pm_script.specs.declared.meaning.LineFault.TheVariants.{Long}
 use Rattle.pm_script.specs.Meaning.{meaning}
-use Rattle.pm_script.specs.Script.{Script, Stop, before, ending_of, script_from, script_limit, script_lines, stop_of}
+use Rattle.pm_block.specs.declared.block.Piece.{Piece}
+use Rattle.pm_script.specs.Script.{Script, Stop, before, ending_of, over, script_from, script_limit, script_lines, stop_of}
+use Rattle.pm_script.specs.Script.Stop.{Bad}
+use Rattle.pm_reader.specs.Front.{AddsNothing, IsOther}
 use Rattle.pm_reader.specs.declared.follow.LineStop.{LineStop}
 use Rattle.pm_reader.specs.declared.follow.LineStop.TheVariants as stops
 use Rattle.pm_reader.specs.declared.follow.LinesEnd.{LinesEnd}
 use Rattle.pm_reader.specs.declared.reader.Taken.{Taken}
 use Rattle.pm_reader.specs.declared.reader.Taken.TheVariants as taken
-use Rattle.pm_reader.specs.Follow.{Followed, FollowedInput, FollowedOne, Following}
-use Rattle.pm_reader.specs.Reader.{Grows, Held, KnowsEnd, Turn, is_feed, within, within_limit}
+use Rattle.pm_reader.specs.Follow.{Followed, FollowedOne, Following, OfScript}
+use Rattle.pm_reader.specs.Reader.{Grows, HasRead, Held, KnowsEnd, Turn, is_feed, within, within_limit}
 use Rattle.pm_reader.specs.Reader as reader
 use Rattle.pm_reader.proofs.HeldLemmas.{no_feed_at, within_all}
 use Rattle.pm_reader.proofs.ScriptLemmas.{Gives, IsBad, IsOver}
 use Rattle.pm_reader.proofs.ScriptLemmas as scripts
-use Rattle.pm_reader.proofs.TookLemmas.{Took-refl, Took-trans}
-use Rattle.pm_reader.proofs.GoesOn.{GoesOn, goes_on_line, goes_on_read}
+use Rattle.pm_reader.proofs.TookLemmas.{Took-trans}
+use Rattle.pm_reader.specs.Way.{Answered, Way}
+use Rattle.pm_reader.proofs.GoesOn.{goes_on_line, goes_on_read}
 use Rattle.pm_reader.proofs.Future.{Future, FutureAt, future, future_ended, future_fault, future_over}
 
 -- ---- lines by what is held
@@ -70,49 +76,55 @@ none_left ending text none short = scripts.no_line (lines ending text) (parts.no
 
 module _ {F : Type 0} (Follows : Following F) where
   -- a line was followed, and then those after it
-  followed_next : (n : ℕ) (event : Event) (s : Script) (old mid new : F) (result : Result LinesEnd LineStop) → Follows n event old mid (Ok tt) → Followed Follows (n + 1) s mid new result → Followed Follows n (before (Ok event) s) old new result
+  pub followed_next : (n : ℕ) (event : Event) (s : Script) (old mid new : F) (result : Result LinesEnd LineStop) → Follows n event old mid (Ok tt) → Followed Follows (n + 1) s mid new result → Followed Follows n (before (Ok event) s) old new result
   followed_next n event s old mid new (Ok end) one rest = ((mid, one, rest.0), rest.1, omega (arith, rest.2))
   followed_next n event s old mid new (Err (stops.Bad m cause)) one rest = ((mid, one, rest.0), rest.1, omega (arith, rest.2))
   followed_next n event s old mid new (Err stops.Broken) one rest = inr (mid, one, rest)
 
-  -- however the lines that are left are followed, all lines are followed so
-  abbrev pub UnderWay : ℕ → List (List ℕ) → List (List ℕ) → Stop → F → F → Type 0
-  UnderWay n all left stop start now =
+module _ {F : Type 0} (Follows : Following F) (Goal : Script → F → Result LinesEnd LineStop → Type 0) (front : ℕ) (pieces : List Piece) where
+  -- however the lines that are left are followed, that much is true of all lines. Where only those of the front came so far,
+  -- the next one adds nothing to the block
+  abbrev pub UnderWay : ℕ → List (List ℕ) → List (List ℕ) → Stop → F → Type 0
+  UnderWay n all left stop now =
       (then : F) (result : Result LinesEnd LineStop)
+      → (n ≡ front → AddsNothing pieces (script_from left stop).events)
       → Followed Follows (n + 1) (script_from left stop) now then result
-      → Followed Follows 1 (script_from all stop) start then result
+      → Goal (script_from all stop) then result
 
-  next : (n : ℕ) (all left later : List (List ℕ)) (stop : Stop) (start now mid : F) (event : Event) → Gives left event later → Follows (n + 1) event now mid (Ok tt) → UnderWay n all left stop start now → UnderWay (n + 1) all later stop start mid
-  next n all left later stop start now mid event gives one so_far then result rest =
-      so_far then result (subst (λ (s : Script). Followed Follows (n + 1) s now then result) (sym (gives stop)) (followed_next (n + 1) event (script_from later stop) now mid then result one rest))
+  -- no line adds nothing
+  over_adds : (n : ℕ) (s : Script) (why : Stop) → s ≡ over why → n ≡ front → AddsNothing pieces s.events
+  over_adds n s why is first = subst (λ (t : Script). AddsNothing pieces t.events) (sym is) (record { block = refl; passed = refl })
 
-  bad : (n : ℕ) (all left : List (List ℕ)) (stop : Stop) (start now : F) (cause : LineFault) → IsBad left cause → UnderWay n all left stop start now → Followed Follows 1 (script_from all stop) start now (Err (stops.Bad (n + 1) cause))
-  bad n all left stop start now cause is so_far =
-      so_far now (Err (stops.Bad (n + 1) cause)) (subst (λ (s : Script). Followed Follows (n + 1) s now now (Err (stops.Bad (n + 1) cause))) (sym (is stop)) (refl, refl, omega arith))
+  line_adds : (n : ℕ) (s later : Script) (event : Event) → s ≡ before (Ok event) later → (n ≡ front → AddsNothing pieces (event ∷ later.events)) → n ≡ front → AddsNothing pieces s.events
+  line_adds n s later event is other first = subst (λ (t : Script). AddsNothing pieces t.events) (sym is) (other first)
 
-  done : (n : ℕ) (all left : List (List ℕ)) (why : StopReason) (start now : F) → IsOver left → UnderWay n all left (stop_of why) start now → Followed Follows 1 (script_from all (stop_of why)) start now (Ok (record { count = n; stop = why }))
-  done n all left why start now none so_far =
-      so_far now (Ok (record { count = n; stop = why })) (subst (λ (s : Script). Followed Follows (n + 1) s now now (Ok (record { count = n; stop = why }))) (sym (none (stop_of why))) (refl, refl, omega arith))
+  next : (n : ℕ) (all left later : List (List ℕ)) (stop : Stop) (now mid : F) (event : Event) → Gives left event later → (n ≡ front → (others : List Event) → AddsNothing pieces (event ∷ others)) → Follows (n + 1) event now mid (Ok tt) → UnderWay n all left stop now → UnderWay (n + 1) all later stop mid
+  next n all left later stop now mid event gives other one so_far then result adds rest =
+      so_far then result
+      (line_adds n (script_from left stop) (script_from later stop) event (gives stop) (λ first. other first (script_from later stop).events))
+      (subst (λ (s : Script). Followed Follows (n + 1) s now then result) (sym (gives stop)) (followed_next Follows (n + 1) event (script_from later stop) now mid then result one rest))
 
-  broken : (n : ℕ) (all left later : List (List ℕ)) (stop : Stop) (start now then : F) (event : Event) (why : LineStop) → Gives left event later → FollowedOne Follows (n + 1) event now then (Err why) → UnderWay n all left stop start now → Followed Follows 1 (script_from all stop) start then (Err why)
-  broken n all left later stop start now then event (stops.Bad m cause) gives one so_far = absurd one
-  broken n all left later stop start now then event stops.Broken gives one so_far =
-      so_far then (Err stops.Broken) (subst (λ (s : Script). Followed Follows (n + 1) s now then (Err stops.Broken)) (sym (gives stop)) (inl one))
+  bad : (n : ℕ) (all left : List (List ℕ)) (stop : Stop) (now : F) (cause : LineFault) → IsBad left cause → UnderWay n all left stop now → Goal (script_from all stop) now (Err (stops.Bad (n + 1) cause))
+  bad n all left stop now cause is so_far =
+      so_far now (Err (stops.Bad (n + 1) cause)) (over_adds n (script_from left stop) (Bad cause) (is stop)) (subst (λ (s : Script). Followed Follows (n + 1) s now now (Err (stops.Bad (n + 1) cause))) (sym (is stop)) (refl, refl, omega arith))
+
+  done : (n : ℕ) (all left : List (List ℕ)) (why : StopReason) (now : F) → IsOver left → UnderWay n all left (stop_of why) now → Goal (script_from all (stop_of why)) now (Ok (record { count = n; stop = why }))
+  done n all left why now none so_far =
+      so_far now (Ok (record { count = n; stop = why })) (over_adds n (script_from left (stop_of why)) (stop_of why) (none (stop_of why))) (subst (λ (s : Script). Followed Follows (n + 1) s now now (Ok (record { count = n; stop = why }))) (sym (none (stop_of why))) (refl, refl, omega arith))
+
+  broken : (n : ℕ) (all left later : List (List ℕ)) (stop : Stop) (now then : F) (event : Event) (why : LineStop) → Gives left event later → (n ≡ front → (others : List Event) → AddsNothing pieces (event ∷ others)) → FollowedOne Follows (n + 1) event now then (Err why) → UnderWay n all left stop now → Goal (script_from all stop) then (Err why)
+  broken n all left later stop now then event (stops.Bad m cause) gives other one so_far = absurd one
+  broken n all left later stop now then event stops.Broken gives other one so_far =
+      so_far then (Err stops.Broken)
+      (line_adds n (script_from left stop) (script_from later stop) event (gives stop) (λ first. other first (script_from later stop).events))
+      (subst (λ (s : Script). Followed Follows (n + 1) s now then (Err stops.Broken)) (sym (gives stop)) (inl one))
 
   -- so many lines were followed, of all lines, and these are left; or one more of them was taken
-  abbrev pub OnWay : ℕ → F → F → List ℕ → List ℕ → Ending → Type 0
-  OnWay n start now all left ending = (stop : Stop) → UnderWay n (lines ending all) (lines ending left) stop start now
+  abbrev pub OnWay : ℕ → F → List ℕ → List ℕ → Ending → Type 0
+  OnWay n now all left ending = (stop : Stop) → UnderWay n (lines ending all) (lines ending left) stop now
 
-  abbrev pub HasLine : ℕ → List ℕ → F → F → List ℕ → List ℕ → Ending → Type 0
-  HasLine n line start now all later ending = (stop : Stop) → UnderWay n (lines ending all) (line ∷ lines ending later) stop start now
-
--- how far the lines of an input were taken: so many were, and this holds of all lines and those that are held
-pub record Way (S : List ℕ → List ℕ → Ending → Type 0) (shown : Type 0) (id n : ℕ) (first now : Moment) (held : Held) : Type 0 where
-  pub taken : List ℕ
-  pub took : Took shown id taken first now
-  pub credit : held.credit + length taken ≡ script_limit + 1
-  pub goes_on : GoesOn S held taken
-  pub count : n + length held.bytes ≤ length taken
+  abbrev pub HasLine : ℕ → List ℕ → F → List ℕ → List ℕ → Ending → Type 0
+  HasLine n line now all later ending = (stop : Stop) → UnderWay n (lines ending all) (line ∷ lines ending later) stop now
 
 -- more was read
 pub Way-read : (S : List ℕ → List ℕ → Ending → Type 0) (shown : Type 0) (id n : ℕ) (first mid now : Moment) (old held : Held) (got : List ℕ) → Way S shown id n first mid old → Took shown id got mid now → Grows old got held → Way S shown id n first now held
@@ -124,14 +136,14 @@ Way-read S shown id n first mid now old held got way took grows = record {
   count = (let size : length held.bytes ≡ length (old.bytes ++ got) = ap (λ (xs : List ℕ). length xs) grows.bytes in omega (arith, way.count, size, length-append old.bytes got, length-append way.taken got));
 }
 
-fewer : (held new : Held) (line : List ℕ) → reader.Gives held taken.Line line new → length new.bytes < length held.bytes
+pub fewer : (held new : Held) (line : List ℕ) → reader.Gives held taken.Line line new → length new.bytes < length held.bytes
 fewer held new line (inl gave) = gave.fewer
 fewer held new line (inr gave) =
     let none : length new.bytes ≡ 0 = ap (λ (h : Held). length h.bytes) gave.new_is in
     let some : length line ≡ length held.bytes = ap (λ (xs : List ℕ). length xs) gave.line_is in
     omega (arith, none, some, gave.some)
 
-same_credit : (held new : Held) (line : List ℕ) → reader.Gives held taken.Line line new → new.credit ≡ held.credit
+pub same_credit : (held new : Held) (line : List ℕ) → reader.Gives held taken.Line line new → new.credit ≡ held.credit
 same_credit held new line (inl gave) = gave.credit
 same_credit held new line (inr gave) = ap (λ (h : Held). h.credit) gave.new_is
 
@@ -155,37 +167,51 @@ Way-map S T shown id n first now held step way = record {
   count = way.count;
 }
 
-module _ {F : Type 0} (Follows : Following F) (shown : Type 0) (id : ℕ) (first : Moment) (start : F) where
-  pub Way-start : (held : Held) → held ≡ record { bytes = []; credit = script_limit + 1; ended = false } → Way (OnWay Follows 0 start start) shown id 0 first first held
-  Way-start held is = subst (λ (h : Held). Way (OnWay Follows 0 start start) shown id 0 first first h) (sym is) (record {
-    taken = [];
-    took = Took-refl shown id first;
-    credit = omega arith;
-    goes_on = λ more ending on stop then result ends. ends;
-    count = omega arith;
-  })
+-- an answer was given where the lines came so far
+pub answered : (S : List ℕ → List ℕ → Ending → Type 0) (shown : Type 0) (id n : ℕ) (first now later : Moment) (old new : Held) (answer : Taken) (line : List ℕ)
+    → Way S shown id n first now old → Meanwhile first now (Comes id (script_limit + 1) false old.credit old.ended)
+    → Turn shown id now later old new answer line → KnowsEnd shown id new later
+    → (shown → answer ≡ taken.Fault → IsStuck (later.input id)) → (answer ≡ taken.Fault → Rose now.faults later.faults)
+    → Meanwhile now later (HasRead answer id old new) → Answered S shown id n first later answer line new
+answered S shown id n first now later old new answer line way so_far turn knows stuck fault last =
+    let sooner : first.faults ≤ now.faults = way.took.later in
+    record {
+      held = turn.held;
+      way = Way-read S shown id n first now later old turn.held turn.got way turn.took turn.grows;
+      gives = turn.gives;
+      knows = knows;
+      stuck = stuck;
+      fault = λ is. let rose : Rose now.faults later.faults = fault is in omega (arith, sooner, rose);
+      mid = now;
+      asked = old;
+      so_far = so_far;
+      last = last;
+    }
 
-  pub knows_start : (held : Held) → held ≡ record { bytes = []; credit = script_limit + 1; ended = false } → KnowsEnd shown id held first
-  knows_start held is = subst (λ (h : Held). KnowsEnd shown id h first) (sym is) (record { rest = λ seen ended. cc; free = λ seen ended stuck. cc })
-
-  -- a call gave a line
-  pub Way-taken : (n : ℕ) (mid now : Moment) (old new : Held) (line : List ℕ) (at : F) → Way (OnWay Follows n start at) shown id n first mid old → Turn shown id mid now old new taken.Line line → Way (HasLine Follows n line start at) shown id (n + 1) first now new
-  Way-taken n mid now old new line at way turn =
-      Way-line (OnWay Follows n start at) (HasLine Follows n line start at) shown id n first now turn.held new line
-      (λ all left later ending is so_far stop. subst (λ (ls : List (List ℕ)). UnderWay Follows n (lines ending all) ls stop start at) is (so_far stop))
-      (Way-read (OnWay Follows n start at) shown id n first mid now old turn.held turn.got way turn.took turn.grows)
-      turn.gives
+module _ {F : Type 0} (Follows : Following F) (Goal : Script → F → Result LinesEnd LineStop → Type 0) (front : ℕ) (pieces : List Piece) (shown : Type 0) (id : ℕ) (first : Moment) where
+  -- the answer is a line
+  pub Way-taken : (n : ℕ) (now : Moment) (held new : Held) (line : List ℕ) (at : F) → Way (OnWay Follows Goal front pieces n at) shown id n first now held → reader.Gives held taken.Line line new → Way (HasLine Follows Goal front pieces n line at) shown id (n + 1) first now new
+  Way-taken n now held new line at way gives =
+      Way-line (OnWay Follows Goal front pieces n at) (HasLine Follows Goal front pieces n line at) shown id n first now held new line
+      (λ all left later ending is so_far stop. subst (λ (ls : List (List ℕ)). UnderWay Follows Goal front pieces n (lines ending all) ls stop at) is (so_far stop))
+      way gives
 
   -- it was followed
-  pub Way-next : (n : ℕ) (now : Moment) (held : Held) (line : List ℕ) (at then : F) (meant : Result Event LineFault) (event : Event) → meant ≡ meaning line → meant ≡ Ok event → Follows (n + 1) event at then (Ok tt) → Way (HasLine Follows n line start at) shown id (n + 1) first now held → Way (OnWay Follows (n + 1) start then) shown id (n + 1) first now held
-  Way-next n now held line at then meant event means is one way =
-      Way-map (HasLine Follows n line start at) (OnWay Follows (n + 1) start then) shown id (n + 1) first now held
-      (λ all later ending so_far stop. next Follows n (lines ending all) (line ∷ lines ending later) (lines ending later) stop start at then event (scripts.good_line (line ∷ lines ending later) line (lines ending later) meant event refl means is) one (so_far stop))
+  pub Way-next : (n : ℕ) (now : Moment) (held : Held) (line : List ℕ) (at then : F) (meant : Result Event LineFault) (event : Event) → meant ≡ meaning line → meant ≡ Ok event → (n ≡ front → IsOther pieces line) → Follows (n + 1) event at then (Ok tt) → Way (HasLine Follows Goal front pieces n line at) shown id (n + 1) first now held → Way (OnWay Follows Goal front pieces (n + 1) then) shown id (n + 1) first now held
+  Way-next n now held line at then meant event means is other one way =
+      Way-map (HasLine Follows Goal front pieces n line at) (OnWay Follows Goal front pieces (n + 1) then) shown id (n + 1) first now held
+      (λ all later ending so_far stop. next Follows Goal front pieces n (lines ending all) (line ∷ lines ending later) (lines ending later) stop at then event (scripts.good_line (line ∷ lines ending later) line (lines ending later) meant event refl means is) (λ start. other start event (sym means ∙ is)) one (so_far stop))
       way
 
   -- ---- how it ends
 
-  settle : (S : List ℕ → List ℕ → Ending → Type 0) (n : ℕ) (now : Moment) (held : Held) (then : F) (result : Result LinesEnd LineStop) (way : Way S shown id n first now held) (future : Future shown (first.input id) held way.taken) → (S (text_of future.prefix) (within held ++ future.more) (ending_of future.prefix.stop) → Followed Follows 1 (script_from (script_lines future.prefix) (stop_of future.prefix.stop)) start then result) → IfOk result (λ end. end.stop ≡ reason.Unbegun → ⊥) → IfOk result (λ end. end.stop ≡ reason.Failure → Rose first.faults now.faults) → FollowedInput Follows shown id first now start then result
+  -- all lines were followed so, and nothing else was seen
+  pub record Ends (now : Moment) (then : F) (result : Result LinesEnd LineStop) : Type 0 where
+    pub followed : OfScript shown id first (λ s. Goal s then result)
+    pub ends : IfOk result (λ end. end.stop ≡ reason.Unbegun → ⊥)
+    pub fault : IfOk result (λ end. end.stop ≡ reason.Failure → Rose first.faults now.faults)
+
+  settle : (S : List ℕ → List ℕ → Ending → Type 0) (n : ℕ) (now : Moment) (held : Held) (then : F) (result : Result LinesEnd LineStop) (way : Way S shown id n first now held) (future : Future shown (first.input id) held way.taken) → (S (text_of future.prefix) (within held ++ future.more) (ending_of future.prefix.stop) → Goal (script_from (script_lines future.prefix) (stop_of future.prefix.stop)) then result) → IfOk result (λ end. end.stop ≡ reason.Unbegun → ⊥) → IfOk result (λ end. end.stop ≡ reason.Failure → Rose first.faults now.faults) → Ends now then result
   settle S n now held then result way future followed ends fault = record {
     followed = record {
       prefix = future.prefix;
@@ -198,90 +224,86 @@ module _ {F : Type 0} (Follows : Following F) (shown : Type 0) (id : ℕ) (first
   }
 
   -- a line was taken that has no meaning
-  pub ends_bad : (n : ℕ) (now : Moment) (held : Held) (line : List ℕ) (at : F) (meant : Result Event LineFault) (cause : LineFault) → meant ≡ meaning line → meant ≡ Err cause → KnowsEnd shown id held now → Way (HasLine Follows n line start at) shown id (n + 1) first now held → FollowedInput Follows shown id first now start at (Err (stops.Bad (n + 1) cause))
+  pub ends_bad : (n : ℕ) (now : Moment) (held : Held) (line : List ℕ) (at : F) (meant : Result Event LineFault) (cause : LineFault) → meant ≡ meaning line → meant ≡ Err cause → KnowsEnd shown id held now → Way (HasLine Follows Goal front pieces n line at) shown id (n + 1) first now held → Ends now at (Err (stops.Bad (n + 1) cause))
   ends_bad n now held line at meant cause means is knows way =
       let to_come = future shown id first now held way.taken way.took way.credit knows in
       let ending = ending_of to_come.prefix.stop in
       let later = lines ending (within held ++ to_come.more) in
-      settle (HasLine Follows n line start at) (n + 1) now held at (Err (stops.Bad (n + 1) cause)) way to_come
-      (λ so_far. bad Follows n (script_lines to_come.prefix) (line ∷ later) (stop_of to_come.prefix.stop) start at cause (scripts.bad_line (line ∷ later) line later meant cause refl means is) (so_far (stop_of to_come.prefix.stop)))
+      settle (HasLine Follows Goal front pieces n line at) (n + 1) now held at (Err (stops.Bad (n + 1) cause)) way to_come
+      (λ so_far. bad Follows Goal front pieces n (script_lines to_come.prefix) (line ∷ later) (stop_of to_come.prefix.stop) at cause (scripts.bad_line (line ∷ later) line later meant cause refl means is) (so_far (stop_of to_come.prefix.stop)))
       tt tt
 
   -- the follower failed at a line
-  pub ends_broken : (n : ℕ) (now : Moment) (held : Held) (line : List ℕ) (at then : F) (meant : Result Event LineFault) (event : Event) (why : LineStop) → meant ≡ meaning line → meant ≡ Ok event → FollowedOne Follows (n + 1) event at then (Err why) → KnowsEnd shown id held now → Way (HasLine Follows n line start at) shown id (n + 1) first now held → FollowedInput Follows shown id first now start then (Err why)
-  ends_broken n now held line at then meant event why means is one knows way =
+  pub ends_broken : (n : ℕ) (now : Moment) (held : Held) (line : List ℕ) (at then : F) (meant : Result Event LineFault) (event : Event) (why : LineStop) → meant ≡ meaning line → meant ≡ Ok event → (n ≡ front → IsOther pieces line) → FollowedOne Follows (n + 1) event at then (Err why) → KnowsEnd shown id held now → Way (HasLine Follows Goal front pieces n line at) shown id (n + 1) first now held → Ends now then (Err why)
+  ends_broken n now held line at then meant event why means is other one knows way =
       let to_come = future shown id first now held way.taken way.took way.credit knows in
       let ending = ending_of to_come.prefix.stop in
       let later = lines ending (within held ++ to_come.more) in
-      settle (HasLine Follows n line start at) (n + 1) now held then (Err why) way to_come
-      (λ so_far. broken Follows n (script_lines to_come.prefix) (line ∷ later) later (stop_of to_come.prefix.stop) start at then event why (scripts.good_line (line ∷ later) line later meant event refl means is) one (so_far (stop_of to_come.prefix.stop)))
+      settle (HasLine Follows Goal front pieces n line at) (n + 1) now held then (Err why) way to_come
+      (λ so_far. broken Follows Goal front pieces n (script_lines to_come.prefix) (line ∷ later) later (stop_of to_come.prefix.stop) at then event why (scripts.good_line (line ∷ later) line later meant event refl means is) (λ start. other start event (sym means ∙ is)) one (so_far (stop_of to_come.prefix.stop)))
       tt tt
 
-  module _ (n : ℕ) (mid now : Moment) (old new : Held) (line : List ℕ) (at : F) (way : Way (OnWay Follows n start at) shown id n first mid old) where
-    read : (answer : Taken) (turn : Turn shown id mid now old new answer line) → Way (OnWay Follows n start at) shown id n first now turn.held
-    read answer turn = Way-read (OnWay Follows n start at) shown id n first mid now old turn.held turn.got way turn.took turn.grows
-
+  module _ (n : ℕ) (now : Moment) (held new : Held) (line : List ℕ) (at : F) (on : Way (OnWay Follows Goal front pieces n at) shown id n first now held) where
     -- the next line is too long
-    pub ends_long : Turn shown id mid now old new taken.Long line → KnowsEnd shown id new now → FollowedInput Follows shown id first now start at (Err (stops.Bad (n + 1) Long))
-    ends_long turn knows =
-        let held = turn.held in
-        let gives = turn.gives in
-        let on : Way (OnWay Follows n start at) shown id n first now held = read taken.Long turn in
+    pub ends_long : reader.Gives held taken.Long line new → KnowsEnd shown id new now → Ends now at (Err (stops.Bad (n + 1) Long))
+    ends_long gives knows =
         let known : KnowsEnd shown id held now = subst (λ (h : Held). KnowsEnd shown id h now) gives.2 knows in
         let to_come = future shown id first now held on.taken on.took on.credit known in
         let ending = ending_of to_come.prefix.stop in
         let text : List ℕ = within held ++ to_come.more in
         let many : 256 ≤ length text = omega (arith, gives.0, length-append (within held) to_come.more) in
         let none : position is_feed (take 256 text) ≡ None = subst (λ (xs : List ℕ). position is_feed xs ≡ None) (sym (take-append-le 256 (within held) to_come.more gives.0)) gives.1 in
-        settle (OnWay Follows n start at) n now held at (Err (stops.Bad (n + 1) Long)) on to_come
-        (λ so_far. bad Follows n (script_lines to_come.prefix) (lines ending text) (stop_of to_come.prefix.stop) start at Long (long_first ending text many none) (so_far (stop_of to_come.prefix.stop)))
+        settle (OnWay Follows Goal front pieces n at) n now held at (Err (stops.Bad (n + 1) Long)) on to_come
+        (λ so_far. bad Follows Goal front pieces n (script_lines to_come.prefix) (lines ending text) (stop_of to_come.prefix.stop) at Long (long_first ending text many none) (so_far (stop_of to_come.prefix.stop)))
         tt tt
 
     -- no line is left, and the reading ends so
-    done_at : (r why : StopReason) (all left more : List ℕ) → r ≡ why → more ≡ [] → IsOver (lines (ending_of why) left) → OnWay Follows n start at all (left ++ more) (ending_of r) → Followed Follows 1 (script_from (lines (ending_of r) all) (stop_of r)) start at (Ok (record { count = n; stop = why }))
+    done_at : (r why : StopReason) (all left more : List ℕ) → r ≡ why → more ≡ [] → IsOver (lines (ending_of why) left) → OnWay Follows Goal front pieces n at all (left ++ more) (ending_of r) → Goal (script_from (lines (ending_of r) all) (stop_of r)) at (Ok (record { count = n; stop = why }))
     done_at r why all left more is empty none so_far =
         let over_ : IsOver (lines (ending_of r) (left ++ more)) =
         subst (λ (text : List ℕ). IsOver (lines (ending_of r) text)) (sym (ap (λ (t : List ℕ). left ++ t) empty ∙ append-nil left))
         (subst (λ (w : StopReason). IsOver (lines (ending_of w) left)) (sym is) none)
         in
-        subst (λ (w : StopReason). Followed Follows 1 (script_from (lines (ending_of r) all) (stop_of r)) start at (Ok (record { count = n; stop = w }))) is
-        (done Follows n (lines (ending_of r) all) (lines (ending_of r) (left ++ more)) r start at over_ (so_far (stop_of r)))
+        subst (λ (w : StopReason). Goal (script_from (lines (ending_of r) all) (stop_of r)) at (Ok (record { count = n; stop = w }))) is
+        (done Follows Goal front pieces n (lines (ending_of r) all) (lines (ending_of r) (left ++ more)) r at over_ (so_far (stop_of r)))
 
-    ends_done : (why : StopReason) (held : Held) (on : Way (OnWay Follows n start at) shown id n first now held) (last : FutureAt shown (first.input id) held on.taken why) → IsOver (lines (ending_of why) (within held)) → (why ≡ reason.Unbegun → ⊥) → (why ≡ reason.Failure → Rose first.faults now.faults) → FollowedInput Follows shown id first now start at (Ok (record { count = n; stop = why }))
-    ends_done why held on last none begun fault =
-        settle (OnWay Follows n start at) n now held at (Ok (record { count = n; stop = why })) on last.future
+    ends_done : (why : StopReason) (last : FutureAt shown (first.input id) held on.taken why) → IsOver (lines (ending_of why) (within held)) → (why ≡ reason.Unbegun → ⊥) → (why ≡ reason.Failure → Rose first.faults now.faults) → Ends now at (Ok (record { count = n; stop = why }))
+    ends_done why last none begun fault =
+        settle (OnWay Follows Goal front pieces n at) n now held at (Ok (record { count = n; stop = why })) on last.future
         (λ so_far. done_at last.future.prefix.stop why (text_of last.future.prefix) (within held) last.future.more last.stops last.none none so_far)
         begun fault
 
-    pub ends_end : Turn shown id mid now old new taken.End line → KnowsEnd shown id new now → FollowedInput Follows shown id first now start at (Ok (record { count = n; stop = reason.End }))
-    ends_end turn knows =
-        let held = turn.held in
-        let gives = turn.gives in
-        let on : Way (OnWay Follows n start at) shown id n first now held = read taken.End turn in
+    pub ends_end : reader.Gives held taken.End line new → KnowsEnd shown id new now → Ends now at (Ok (record { count = n; stop = reason.End }))
+    ends_end gives knows =
         let known : KnowsEnd shown id held now = subst (λ (h : Held). KnowsEnd shown id h now) gives.3 knows in
         let last = future_ended shown id first now held on.taken on.took on.credit gives.2 gives.1 known in
         let empty : within held ≡ [] = within_all held gives.2 ∙ gives.0 in
-        ends_done reason.End held on last (subst (λ (text : List ℕ). IsOver (lines Whole text)) (sym empty) (none_left Whole [] refl (omega arith))) (λ is. cc) (λ is. cc)
+        ends_done reason.End last (subst (λ (text : List ℕ). IsOver (lines Whole text)) (sym empty) (none_left Whole [] refl (omega arith))) (λ is. cc) (λ is. cc)
 
-    pub ends_over : Turn shown id mid now old new taken.Over line → FollowedInput Follows shown id first now start at (Ok (record { count = n; stop = reason.Limit }))
-    ends_over turn =
-        let held = turn.held in
-        let gives = turn.gives in
-        let on : Way (OnWay Follows n start at) shown id n first now held = read taken.Over turn in
+    pub ends_over : reader.Gives held taken.Over line new → Ends now at (Ok (record { count = n; stop = reason.Limit }))
+    ends_over gives =
         let last = future_over shown id first now held on.taken on.took on.credit gives.0 in
-        ends_done reason.Limit held on last (none_left Cut (within held) gives.1.none gives.1.short) (λ is. cc) (λ is. cc)
+        ends_done reason.Limit last (none_left Cut (within held) gives.1.none gives.1.short) (λ is. cc) (λ is. cc)
 
-    pub ends_fault : Turn shown id mid now old new taken.Fault line → (shown → IsStuck (now.input id)) → Rose mid.faults now.faults → FollowedInput Follows shown id first now start at (Ok (record { count = n; stop = reason.Failure }))
-    ends_fault turn stuck rose =
-        let held = turn.held in
-        let gives = turn.gives in
-        let on : Way (OnWay Follows n start at) shown id n first now held = read taken.Fault turn in
+    pub ends_fault : reader.Gives held taken.Fault line new → (shown → IsStuck (now.input id)) → Rose first.faults now.faults → Ends now at (Ok (record { count = n; stop = reason.Failure }))
+    ends_fault gives stuck rose =
         let last = future_fault shown id first now held on.taken on.took on.credit gives.0 gives.1 stuck in
-        let later : first.faults ≤ mid.faults = way.took.later in
-        ends_done reason.Failure held on last (none_left Cut (within held) gives.2.none gives.2.short) (λ is. cc) (λ is. omega (arith, later, rose))
+        ends_done reason.Failure last (none_left Cut (within held) gives.2.none gives.2.short) (λ is. cc) (λ is. rose)
 
--- what is left and may still be read grows less with each line
+-- what is left and may still be read grows less with each line, and never grows
 pub turn_falls : (shown : Type 0) (id : ℕ) (mid now : Moment) (old new : Held) (line : List ℕ) → Turn shown id mid now old new taken.Line line → new.credit + length new.bytes < old.credit + length old.bytes
 turn_falls shown id mid now old new line turn =
     let size : length turn.held.bytes ≡ length (old.bytes ++ turn.got) = ap (λ (xs : List ℕ). length xs) turn.grows.bytes in
     omega (arith, size, length-append old.bytes turn.got, turn.grows.credit, same_credit turn.held new line turn.gives, fewer turn.held new line turn.gives)
+
+same_left : (held new : Held) (answer : Taken) (line : List ℕ) → reader.Gives held answer line new → new.credit + length new.bytes ≤ held.credit + length held.bytes
+same_left held new taken.Line line gives = omega (arith, same_credit held new line gives, fewer held new line gives)
+same_left held new taken.End line gives = omega (arith, ap (λ (h : Held). h.credit + length h.bytes) gives.3)
+same_left held new taken.Long line gives = omega (arith, ap (λ (h : Held). h.credit + length h.bytes) gives.2)
+same_left held new taken.Over line gives = omega (arith, ap (λ (h : Held). h.credit + length h.bytes) gives.2)
+same_left held new taken.Fault line gives = omega (arith, ap (λ (h : Held). h.credit + length h.bytes) gives.3)
+
+pub turn_stays : (shown : Type 0) (id : ℕ) (mid now : Moment) (old new : Held) (answer : Taken) (line : List ℕ) → Turn shown id mid now old new answer line → new.credit + length new.bytes ≤ old.credit + length old.bytes
+turn_stays shown id mid now old new answer line turn =
+    let size : length turn.held.bytes ≡ length (old.bytes ++ turn.got) = ap (λ (xs : List ℕ). length xs) turn.grows.bytes in
+    omega (arith, size, length-append old.bytes turn.got, turn.grows.credit, same_left turn.held new answer line turn.gives)

@@ -12,7 +12,7 @@ use Rattle.pm_base.specs.declared.prefix.StopReason.{StopReason}
 use Rattle.pm_base.specs.declared.prefix.StopReason.TheVariants as reason
 use Rattle.pm_script.specs.Script.{ending_of, script_limit}
 use Rattle.pm_reader.specs.Reader.{Held, KnowsEnd, within_limit}
-use Rattle.pm_reader.proofs.GoesOn.{MayGoOn}
+use Rattle.pm_reader.specs.Way.{MayGoOn}
 
 -- ---- what is read of bytes up to a limit, or to a failing byte
 

@@ -1,23 +1,16 @@
 -- What holds of all lines of an input and of those that a reader still holds, however the input goes on.
-use Rattle.std.proofs.Common.{◌≡◌, ℕ, zero, suc, ◌+◌, ◌-◌, ◌<◌, ◌==◌, Bool, true, false, cond, IsTrue, Some, None, List, [], ◌∷◌, ◌++◌, length, take, drop, position, refl, sym, ◌∙◌, ap, subst, arith, append_assoc, inl, inr}
+use Rattle.std.proofs.Common.{◌≡◌, ℕ, zero, suc, ◌+◌, ◌-◌, ◌<◌, ◌==◌, Bool, true, false, cond, Some, None, List, [], ◌∷◌, ◌++◌, length, take, drop, position, refl, sym, ◌∙◌, ap, subst, arith, append_assoc, inl, inr}
 use Rattle.std.proofs.lemmas.Bool.Decides.{nat_tests}
 use Rattle.std.proofs.lemmas.List.{length-append, drop-append-le, take-append-le, append-nil}
 use Rattle.std.proofs.lemmas.List.Quantifiers.{position-Some}
 use Rattle.pm_base.specs.Lines.{lines, least_length}
 use Rattle.pm_base.specs.declared.lines.Ending.{Ending}
-use Rattle.pm_base.specs.declared.lines.Ending.TheVariants.{Whole, Cut}
+use Rattle.pm_base.specs.declared.lines.Ending.TheVariants.{Whole}
 use Rattle.pm_base.proofs.LinesLemmas.{line_by_feed, last_line, no_line}
 use Rattle.pm_reader.specs.declared.reader.Taken.TheVariants.{Line}
 use Rattle.pm_reader.specs.Reader.{Held, GaveByFeed, GaveLast, Gives, Grows, is_feed, within, within_limit}
+use Rattle.pm_reader.specs.Way.{GoesOn, MayGoOn}
 use Rattle.pm_reader.proofs.HeldLemmas.{position_front, within_all}
-
--- how the input may still go on: not at all once it ended or the limit was passed
-pub record MayGoOn (held : Held) (more : List ℕ) (ending : Ending) : Type 0 where
-  pub ended : IsTrue held.ended → 0 < held.credit → (more ≡ []) × (ending ≡ Whole)
-  pub over : held.credit ≡ 0 → (more ≡ []) × (ending ≡ Cut)
-
-abbrev pub GoesOn : (List ℕ → List ℕ → Ending → Type 0) → Held → List ℕ → Type 0
-GoesOn R held taken = (more : List ℕ) (ending : Ending) → MayGoOn held more ending → R (within_limit held.credit taken ++ more) (within held ++ more) ending
 
 -- ---- bytes were read
 

@@ -5,4 +5,7 @@ pub mod ReadsLemmas
 pub mod GoesOn
 pub mod Future
 pub mod FollowLemmas
+pub mod FrontLemmas
+pub mod StandsLemmas
 pub mod Named
+pub mod AheadLemmas

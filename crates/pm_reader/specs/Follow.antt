@@ -3,7 +3,7 @@ use Rattle.std.specs.Prelude.{◌≡◌, ◌⊎◌, ℕ, ◌+◌, List, [], ◌�
 use Rattle.pm_base.specs.declared.errors.Failed.{Failed}
 use Rattle.pm_base.specs.declared.events.Event.{Event}
 use Rattle.pm_base.specs.declared.prefix.StopReason.TheVariants.{Failure, Unbegun}
-use Rattle.pm_base.specs.Calls.{Call, GoesUpTo}
+use Rattle.pm_base.specs.Calls.{Call, GoesToFault, GoesUpTo}
 use Rattle.pm_base.specs.Faults.{Rose}
 use Rattle.pm_base.specs.Inputs.{Moment}
 use Rattle.pm_base.specs.Prefix.{Prefix, prefix_before}
@@ -13,6 +13,8 @@ use Rattle.pm_reader.specs.declared.follow.LineStop.TheVariants as stops
 use Rattle.pm_reader.specs.declared.follow.LinesEnd.{LinesEnd}
 use Rattle.pm_script.specs.Script.{Script, script_from, script_limit, script_lines, stop_of}
 use Rattle.pm_script.specs.Script.Stop.{Bad}
+use Rattle.pm_block.specs.Block.{attached_by}
+use Rattle.pm_reader.specs.Front.{Ahead, ran}
 
 -- what a line of a number and an event does: it leads from a follower to a follower, and to an answer
 abbrev pub Following : Type 0 → Type 1
@@ -26,11 +28,17 @@ pub record OfScript (shown : Type 0) (id : ℕ) (before : Moment) (Holds : Scrip
   pub is : shown → (before.input id).place ≡ 0 → prefix ≡ prefix_before script_limit (before.input id).file.fails_at (before.input id).file.bytes
   pub holds : Holds (script_from (script_lines prefix) (stop_of prefix.stop))
 
--- the calls of a reading of the lines of a begun input, by how they end: to its end or to one byte past the limit, up to
--- a read that failed, or up to somewhere, if a line has no meaning or the follower fails
+-- a script was read up to somewhere, or to a read that failed
+abbrev pub IsBrokenOff : ℕ → List Call → Type 0
+IsBrokenOff id calls = GoesUpTo id (script_limit + 1) false calls ⊎ GoesToFault id (script_limit + 1) false calls
+
+-- the calls of a reading of the lines of a begun input, by how they end: to its end or to one byte past the limit, or up
+-- to a read that failed; or up to somewhere, if a line has no meaning; or either, if the follower fails, since what comes
+-- after the block is read before its lines are followed
 abbrev pub ReadsLines : ℕ → Result LinesEnd LineStop → List Call → Type 0
 ReadsLines id (Ok end) calls = LeftReadBy end.stop id (script_limit + 1) calls
-ReadsLines id (Err why) calls = GoesUpTo id (script_limit + 1) false calls
+ReadsLines id (Err (stops.Bad m cause)) calls = GoesUpTo id (script_limit + 1) false calls
+ReadsLines id (Err stops.Broken) calls = IsBrokenOff id calls
 
 module _ {F : Type 0} (Follows : Following F) where
   -- the lines of these events, the first of which has this number, were all followed in this order, and nothing else was done
@@ -45,6 +53,12 @@ module _ {F : Type 0} (Follows : Following F) where
       ((failed : Failed) × Follows n event old new (Err failed))
       ⊎ ((next : F) × Follows n event old next (Ok tt) × FailsWithin (n + 1) events next new)
 
+  -- the lines of these events were followed, or the follower failed within them
+  abbrev pub FollowedFront : List Event → F → F → Result ⊤ LineStop → Type 0
+  FollowedFront events old new (Ok nothing) = GoesThrough 1 events old new
+  FollowedFront events old new (Err (stops.Bad m cause)) = ⊥
+  FollowedFront events old new (Err stops.Broken) = FailsWithin 1 events old new
+
   -- one line was followed, by the answer
   abbrev pub FollowedOne : ℕ → Event → F → F → Result ⊤ LineStop → Type 0
   FollowedOne n event old new (Ok nothing) = Follows n event old new (Ok tt)
@@ -58,8 +72,9 @@ module _ {F : Type 0} (Follows : Following F) where
   Followed n s old new (Err (stops.Bad m cause)) = GoesThrough n s.events old new × (s.stop ≡ Bad cause) × (m ≡ n + length s.events)
   Followed n s old new (Err stops.Broken) = FailsWithin n s.events old new
 
-  -- the lines of a begun input were followed
-  pub record FollowedInput (shown : Type 0) (id : ℕ) (before after : Moment) (old new : F) (result : Result LinesEnd LineStop) : Type 0 where
-    pub followed : OfScript shown id before (λ s. Followed 1 s old new result)
+  -- the lines of an input were followed whose first lines were read ahead: its block attaches just what was to be
+  -- attached, and then nothing happens in its lines
+  pub record FollowedInput (shown : Type 0) (id : ℕ) (ahead : Ahead) (after : Moment) (old new : F) (result : Result LinesEnd LineStop) : Type 0 where
+    pub followed : OfScript shown id ahead.first (λ s. (attached_by s.events ≡ ahead.attached) × Followed 1 (ran s) old new result)
     pub ends : IfOk result (λ end. end.stop ≡ Unbegun → ⊥)
-    pub fault : IfOk result (λ end. end.stop ≡ Failure → Rose before.faults after.faults)
+    pub fault : IfOk result (λ end. end.stop ≡ Failure → Rose ahead.first.faults after.faults)

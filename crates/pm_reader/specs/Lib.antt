@@ -1,3 +1,5 @@
 pub mod Window
 pub mod Reader
+pub mod Way
+pub mod Front
 pub mod Follow

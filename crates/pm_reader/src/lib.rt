@@ -5,5 +5,5 @@ pub mod follow;
 pub mod reader;
 pub mod window;
 
-pub use follow::{Follower, LineStop, LinesEnd, each_line};
+pub use follow::{Follower, Front, LineStop, LinesEnd};
 pub use reader::{LineBuf, LineReader, Taken};

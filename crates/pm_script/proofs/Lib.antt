@@ -2,5 +2,6 @@ pub mod ArgumentsLemmas
 pub mod FormsLemmas
 pub mod MeaningLemmas
 pub mod NamedLemmas
+pub mod ObjectLineLemmas
 pub mod SentencesLemmas
 pub mod WordsLemmas

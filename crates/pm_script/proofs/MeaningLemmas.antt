@@ -25,10 +25,10 @@ miscounted row texts not = by (nat_le row.least (length texts)) (nat_le (length 
     by true false enough few = rw (enough, few) refl
 
 -- the first word says which row
-first_means : (texts : List (List ℕ)) (word : List ℕ) → slice_get texts 0 ≡ Some word → words_meaning texts ≡ found_meaning (row_with word) (drop 1 texts)
+first_means : (texts : List (List ℕ)) (word : List ℕ) → slice_get texts 0 ≡ Some word → words_meaning texts ≡ found_meaning (row_with word) word (drop 1 texts)
 first_means [] word is = cc
-first_means (text ∷ texts) word is = let same : text ≡ word = cc in ap (λ (w : List ℕ). found_meaning (row_with w) texts) same
+first_means (text ∷ texts) word is = let same : text ≡ word = cc in ap (λ (w : List ℕ). found_meaning (row_with w) w texts) same
 
 -- a line with a form means what its form says
-pub row_means : (texts : List (List ℕ)) (word : List ℕ) (row : Option Row) → slice_get texts 0 ≡ Some word → row ≡ row_with word → found_meaning row (drop 1 texts) ≡ words_meaning texts
-row_means texts word row is found = ap (λ (r : Option Row). found_meaning r (drop 1 texts)) found ∙ sym (first_means texts word is)
+pub row_means : (texts : List (List ℕ)) (word : List ℕ) (row : Option Row) → slice_get texts 0 ≡ Some word → row ≡ row_with word → found_meaning row word (drop 1 texts) ≡ words_meaning texts
+row_means texts word row is found = ap (λ (r : Option Row). found_meaning r word (drop 1 texts)) found ∙ sym (first_means texts word is)

@@ -1,5 +1,5 @@
 -- The sentence of each kind of line follows from its row of the table.
-use Rattle.std.proofs.Common.{◌≡◌, ℕ, zero, suc, ◌≤◌, Bool, true, false, ◌&&◌, Option, Some, None, slice_get, List, [], ◌∷◌, length, find, map, option_map, unwrap_or, is_some, ok_or, refl, arith, ◌∙◌, ap, sym, Err, Ok, nat_le, if◌then◌else◌, codes}
+use Rattle.std.proofs.Common.{◌≡◌, ℕ, zero, suc, ◌≤◌, Bool, true, false, ◌&&◌, Option, Some, None, slice_get, List, [], ◌∷◌, ◌++◌, length, find, map, option_map, unwrap_or, is_some, ok_or, refl, arith, ◌∙◌, ap, sym, Err, Ok, nat_le, if◌then◌else◌, codes}
 use Rattle.std.specs.List.{AllByRecursion, list_all, list_any}
 use Rattle.std.specs.Str.{bytes_eq}
 use Rattle.std.proofs.lemmas.Bool.Decides.{nat_tests}
@@ -15,7 +15,8 @@ use Rattle.pm_script.specs.declared.forms.Width.{Width}
 use Rattle.pm_script.specs.declared.forms.Width.TheVariants as widths
 use Rattle.pm_script.specs.declared.meaning.LineFault.TheVariants.{Number, Unknown}
 use Rattle.pm_script.specs.Forms.{Row, address_at, argument_of, arguments_of, call_arguments, event_of, line_forms, address_in, message_of, number_at, row, with_first}
-use Rattle.pm_script.specs.Meaning.{form_meaning, found_meaning, words_meaning}
+use Rattle.pm_script.specs.Meaning.{form_meaning, found_meaning, other_meaning, words_meaning}
+use Rattle.pm_script.specs.ObjectLine.{object_keyword, object_meaning}
 use Rattle.pm_script.specs.Sentences.{IsNoKeyword, address_of_place, address_of_word, arguments_of_words, boot_meaning, boot_event, break_meaning, cancel_meaning, gic_meaning, mend_meaning, ipi_meaning, irq_meaning, is_address, is_number, message_of_words, number_of_place, number_of_word, numbers_meaning, post_meaning, serve_meaning, smc_meaning, task_meaning, tick_meaning, wfi_meaning}
 
 -- the argument of 32 bits that a word is
@@ -177,6 +178,28 @@ no_row word (row ∷ rows) others = by (bytes_eq row.keyword word) refl (no_row 
     by true is later = absurd (others.0 ((bytes_eq-Decides row.keyword word).0 is))
     by false is later = rw is later
 
+-- what holds of each of some words holds of those in front, and of the last one
+front_of : (P : List ℕ → Type 0) (xs ys : List (List ℕ)) → AllByRecursion P (xs ++ ys) → AllByRecursion P xs
+front_of P [] ys all = tt
+front_of P (x ∷ xs) ys all = (all.0, front_of P xs ys all.1)
+
+last_of : (P : List ℕ → Type 0) (xs : List (List ℕ)) (y : List ℕ) → AllByRecursion P (xs ++ y ∷ []) → P y
+last_of P [] y all = all.0
+last_of P (x ∷ xs) y all = last_of P xs y all.1
+
+-- the one line that is no row of the table
+not_object : (word : List ℕ) (words : List (List ℕ)) (same : Bool) → bytes_eq word object_keyword ≡ same → (object_keyword ≡ word → ⊥) → other_meaning word words ≡ Err Unknown
+not_object word words true is other = absurd (other (sym ((bytes_eq-Decides word object_keyword).0 is)))
+not_object word words false is other = rw is refl
+
 -- a first word that is no keyword
 pub none_found : (word : List ℕ) (words : List (List ℕ)) → IsNoKeyword word → words_meaning (word ∷ words) ≡ Err Unknown
-none_found word words others = ap (λ (row : Option Row). found_meaning row words) (not_found (λ (row : Row). bytes_eq row.keyword word) line_forms (no_row word line_forms others))
+none_found word words others =
+    let P : List ℕ → Type 0 = λ keyword. keyword ≡ word → ⊥ in
+    let rows : List (List ℕ) = map (λ (row : Row). row.keyword) line_forms in
+    ap (λ (row : Option Row). found_meaning row word words) (not_found (λ (row : Row). bytes_eq row.keyword word) line_forms (no_row word line_forms (front_of P rows (object_keyword ∷ []) others)))
+    ∙ not_object word words (bytes_eq word object_keyword) refl (last_of P rows object_keyword others)
+
+-- words at an address
+pub attaches : (words : List (List ℕ)) → words_meaning (codes "object" ∷ words) ≡ object_meaning words
+attaches words = refl

@@ -1,5 +1,6 @@
 pub mod Forms
 pub mod Meaning
+pub mod ObjectLine
 pub mod Sentences
 pub mod Script
 pub mod Named

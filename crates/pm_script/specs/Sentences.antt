@@ -113,7 +113,7 @@ mend_meaning words = numbers_meaning 1 1 (λ words. Mend (record { 0 = number_of
 abbrev pub keywords : List (List ℕ)
 keywords =
     codes "ipi" ∷ codes "boot" ∷ codes "wfi" ∷ codes "irq" ∷ codes "gic" ∷ codes "tick" ∷ codes "post" ∷ codes "serve"
-    ∷ codes "smc" ∷ codes "task" ∷ codes "cancel" ∷ codes "break" ∷ codes "mend" ∷ []
+    ∷ codes "smc" ∷ codes "task" ∷ codes "cancel" ∷ codes "break" ∷ codes "mend" ∷ codes "object" ∷ []
 
 -- a word is none of them
 abbrev pub IsNoKeyword : List ℕ → Type 0

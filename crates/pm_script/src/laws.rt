@@ -7,14 +7,15 @@ ghost use Rattle.pm_base.specs.Prefix.{IsUnread, Prefix};
 ghost use Rattle.pm_base.specs.declared.prefix.StopReason.TheVariants.{Unbegun};
 ghost use Rattle.pm_script.specs.declared.meaning.LineFault.TheVariants.{Unknown};
 ghost use Rattle.pm_script.specs.Meaning.{words_meaning};
+ghost use Rattle.pm_script.specs.ObjectLine.{object_meaning};
 ghost use Rattle.pm_script.specs.Sentences.{IsNoKeyword, boot_meaning, break_meaning, cancel_meaning, gic_meaning, ipi_meaning, irq_meaning};
 ghost use Rattle.pm_script.specs.Sentences.{mend_meaning, post_meaning, serve_meaning, smc_meaning, task_meaning, tick_meaning, wfi_meaning};
 ghost use Rattle.pm_script.specs.Named.{IsHeldWhole, IsUnreadable, script_in};
 ghost use Rattle.pm_script.specs.Script.{Script, script_from, script_limit, script_lines, script_of, stop_of};
 ghost use Rattle.pm_script.specs.Script.Stop.{End};
 
-/// What the table of line forms says, kind by kind: a line without a word does nothing, each keyword has its sentence, and
-/// any other first word is unknown.
+/// What the lines mean, kind by kind: a line without a word does nothing, each keyword has its sentence, and any other
+/// first word is unknown.
 pub fn each_kind_has_its_sentence()
     ensures empty { words_meaning [] ≡ Ok Pass }
     ensures ipi { (words : List (List ℕ)) → words_meaning (codes "ipi" ∷ words) ≡ ipi_meaning words }
@@ -28,6 +29,7 @@ pub fn each_kind_has_its_sentence()
     ensures smc { (words : List (List ℕ)) → words_meaning (codes "smc" ∷ words) ≡ smc_meaning words }
     ensures task { (words : List (List ℕ)) → words_meaning (codes "task" ∷ words) ≡ task_meaning words }
     ensures cancel { (words : List (List ℕ)) → words_meaning (codes "cancel" ∷ words) ≡ cancel_meaning words }
+    ensures object { (words : List (List ℕ)) → words_meaning (codes "object" ∷ words) ≡ object_meaning words }
     ensures break_ { (words : List (List ℕ)) → words_meaning (codes "break" ∷ words) ≡ break_meaning words }
     ensures mend { (words : List (List ℕ)) → words_meaning (codes "mend" ∷ words) ≡ mend_meaning words }
     ensures unknown { (word : List ℕ) (words : List (List ℕ)) → IsNoKeyword word → words_meaning (word ∷ words) ≡ Err Unknown }

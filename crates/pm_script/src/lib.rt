@@ -4,6 +4,7 @@
 mod forms;
 pub mod laws;
 pub mod meaning;
+mod object_line;
 pub mod script;
 mod words;
 

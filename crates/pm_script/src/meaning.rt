@@ -3,9 +3,10 @@
 ghost use Rattle.std.specs.Prelude.{◌≡◌, ◌≤◌, drop, length};
 ghost use Rattle.pm_base.specs.Words.{word_texts};
 ghost use Rattle.pm_script.specs.Forms.{row_of};
-ghost use Rattle.pm_script.specs.Meaning.{form_meaning, meaning, words_meaning};
+ghost use Rattle.pm_script.specs.Meaning.{form_meaning, meaning, other_meaning, words_meaning};
 
 use crate::forms::{LineForm, event_of, form_of};
+use crate::object_line::parse_object;
 use crate::words::{LineWords, Places, first_places};
 use pm_base::{Event, TOO_LONG, is_plain, without_return};
 
@@ -31,8 +32,9 @@ pub enum LineFault {
 /// raises its interrupt; in `gic P` there is an interrupt at processor P itself; in `tick N` N units of
 /// time pass; in `post M API` with 0 to 5 arguments master M puts a message into its box; in `serve` the messages in all
 /// boxes are served; in `smc P FUNCTION` with 0 to 3 arguments of 64 bits processor P makes a power call; in
-/// `task KEY INTERVAL` the timed task under KEY is started at INTERVAL; in `cancel KEY` it is taken out; from
-/// `break N` on node N of the device fails; and from `mend N` on it works again.
+/// `task KEY INTERVAL` the timed task under KEY is started at INTERVAL; in `cancel KEY` it is taken out; in
+/// `object ADDRESS` with 0 or more words these words of a configuration object are attached at an address of 32 bits;
+/// from `break N` on node N of the device fails; and from `mend N` on it works again.
 pub fn parse_line(line: &[u8]) -> Result<Event, LineFault>
     ensures { result ≡ meaning line.now }
 {
@@ -50,14 +52,27 @@ pub fn parse_line(line: &[u8]) -> Result<Event, LineFault>
 
 /// What a line with these words means. Its first word says which form it has.
 fn parse_words(words: &LineWords) -> Result<Event, LineFault>
+    requires { length words.now ≤ 255 }
     ensures { result ≡ words_meaning (word_texts words.now) }
 {
     match words.text_at(0) {
         None => Ok(Event::Pass),
         Some(keyword) => match form_of(keyword) {
-            None => Err(LineFault::Unknown),
+            None => parse_other(keyword, words),
             Some(form) => parse_form(form, words),
         },
+    }
+}
+
+/// What a line with these words means, the first of which is no form's.
+fn parse_other(keyword: &[u8], words: &LineWords) -> Result<Event, LineFault>
+    requires { length words.now ≤ 255 }
+    ensures { result ≡ other_meaning keyword.now (drop 1 (word_texts words.now)) }
+{
+    if keyword == b"object".as_slice() {
+        parse_object(words)
+    } else {
+        Err(LineFault::Unknown)
     }
 }
 

@@ -3,10 +3,13 @@
 ghost use Rattle.std.specs.Prelude.{◌≡◌, ◌↔◌, ◌<◌, ◌≤◌, ◌-◌, [], drop, length, slice_get, take, option_copied, option_map, IsTrue, None};
 ghost use Rattle.pm_base.specs.Words.{is_blank, words, words_from, word_texts};
 ghost use Rattle.pm_script.specs.Forms.{arguments_of};
+ghost use Rattle.pm_script.specs.ObjectLine.{numbers_of};
 
 use crate::forms::{Argument, Width, argument_of};
+use crate::object_line::numbers_from;
 use arrayvec::ArrayVec;
 use pm_base::words::is_blank;
+use pm_base::{Words, without_return};
 use std::marker::Model;
 
 /// The places of words: the first of each, and the place after its end.
@@ -84,6 +87,17 @@ impl<'a> LineWords<'a> {
             arguments.push(argument_of(width, text)?);
         }
         Some(arguments)
+    }
+
+    /// The numbers that the words after the first are, if each of them is one that fits 32 bits.
+    pub fn numbers(&self) -> Option<Words>
+        requires { length self.now ≤ 255 }
+        ensures { result ≡ numbers_of (drop 1 (word_texts self.now)) }
+    {
+        match self.place_at(0) {
+            Some((_, end)) => numbers_from(self.line, without_return(self.line), end),
+            None => Some(Words::new()),
+        }
     }
 }
 

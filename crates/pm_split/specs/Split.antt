@@ -2,7 +2,7 @@
 -- becomes of the boxes.
 use Rattle.std.specs.Prelude.{ℕ, ℤ, Bool, if◌then◌else◌, List, [], ◌∷◌, length, Option, Some, None}
 use Rattle.pm_base.specs.declared.events.Event.{Event}
-use Rattle.pm_base.specs.declared.events.Event.TheVariants.{Ipi, Pass, Post, Serve, Smc}
+use Rattle.pm_base.specs.declared.events.Event.TheVariants.{Ipi, Pass, Post, Serve, Smc, Attach}
 use Rattle.pm_base.specs.declared.events.Message.{Message}
 use Rattle.pm_base.specs.declared.names.NodeId.{NodeId}
 use Rattle.pm_ipi.specs.Mail.{all_empty, is_empty, posted}
@@ -12,24 +12,28 @@ use Rattle.pm_ipi.specs.declared.responses.Response.{Response}
 use Rattle.pm_psci.specs.declared.calls.Smc as psci
 use Rattle.pm_psci.specs.Answers.{answered}
 use Rattle.pm_psci.specs.Lowering.{lowered, or_pass}
+use Rattle.pm_split.specs.declared.cores.OwnNote.{OwnNote}
+use Rattle.pm_split.specs.declared.cores.OwnNote.TheVariants as own
 use Rattle.pm_split.specs.Boxes.{Boxes, box_of, waiting_in}
 
 -- what a script line itself writes, beside what its core steps put out: the box of this master had a message already;
 -- or what the power call of this processor is answered; or no task could be started or taken out under this key; or the
 -- task under this key was called at this time and answered this word; or the clock with this number ran so before the
--- line and runs so after it. No split says the last four, since they are read from the reply, from the board and from
--- the clocks
+-- line and runs so after it; or it attaches words at this address, and comes too late. No split says what is answered and
+-- what is told of tasks and of clocks, since that is read from the reply, from the board and from the clocks
 pub data Note : Type 0 where
   Busy : NodeId → Note
   Called : NodeId → ℤ → Note
   NoTask : ℕ → Note
   Fired : ℕ → ℕ → ℕ → Note
   Clock : ℕ → Bool → Bool → Note
+  Late : ℕ → Note
 
--- the note of a line whose post found a full box
-abbrev pub noted_busy : Option NodeId → List Note
-noted_busy None = []
-noted_busy (Some master) = Busy master ∷ []
+-- the note that a line says of itself, if it has one
+abbrev pub noted : Option OwnNote → List Note
+noted None = []
+noted (Some (own.Busy master)) = Busy master ∷ []
+noted (Some (own.Late address)) = Late address ∷ []
 
 -- core events, of which there is always one, the boxes after them, and notes
 pub record Split : Type 0 where
@@ -54,13 +58,15 @@ call proc function args = record { proc = proc; function = function; args = args
 
 -- a message is put into a box; the messages in all boxes are served, each on the book that the one before left, and all
 -- boxes are empty then; a power call is lowered by the chip, whatever the book is; each other event is its own core
--- event
+-- event, and one that attaches words says that it comes too late
 abbrev pub split_of : Object → Topology → Event → Boxes → Split
 split_of object t (Post master message) boxes = post (box_of object master) master message boxes
 split_of object t Serve boxes =
     record { events = or_pass (waiting_in object boxes); boxes = all_empty (length boxes); notes = [] }
 split_of object t (Smc proc function args) boxes =
     record { events = lowered t (call proc function args); boxes = boxes; notes = [] }
+split_of object t (Attach address words) boxes =
+    record { events = Attach address words ∷ []; boxes = boxes; notes = Late address ∷ [] }
 split_of object t event boxes = record { events = event ∷ []; boxes = boxes; notes = [] }
 
 -- the note of the answer to a power call

@@ -13,19 +13,19 @@ use pm_topology::Topology;
 pub fn call_answer(t: &Topology, event: &Event, reply: Option<Response>) -> Option<(NodeId, i32)>
     ensures { noted_call result ≡ called_note t.now event.now reply }
 {
-    match *event {
+    match event {
         Event::Smc {
             proc,
             function,
             args,
         } => {
             let smc = Smc {
-                proc,
-                function,
-                args,
+                proc: *proc,
+                function: *function,
+                args: *args,
             };
             let code = answer(t, &smc, reply.as_ref())?;
-            Some((proc, code))
+            Some((*proc, code))
         }
         _ => None,
     }

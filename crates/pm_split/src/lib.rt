@@ -8,5 +8,5 @@ mod cores;
 mod laws;
 
 pub use calls::call_answer;
-pub use cores::{CoreEvents, Split, split_event};
+pub use cores::{CoreEvents, OwnNote, Source, Split, split_event};
 pub use laws::boxes_are_served;

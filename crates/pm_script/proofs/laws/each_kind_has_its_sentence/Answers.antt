@@ -1,5 +1,5 @@
 use Rattle.std.proofs.Common.{refl}
-use Rattle.pm_script.proofs.SentencesLemmas.{boots, breaks, calls, cancels, interrupts, mends, message, none_found, posts, serves, starts, ticks, waits, wakes}
+use Rattle.pm_script.proofs.SentencesLemmas.{attaches, boots, breaks, calls, cancels, interrupts, mends, message, none_found, posts, serves, starts, ticks, waits, wakes}
 use Rattle.pm_script.proofs.laws.each_kind_has_its_sentence.Goals as goal
 
 pub returns : goal.returns
@@ -16,6 +16,7 @@ returns c = record {
   smc = calls;
   task = starts;
   cancel = cancels;
+  object = attaches;
   break_ = breaks;
   mend = mends;
   unknown = none_found;

@@ -12,4 +12,5 @@ returns-in-Some-form_of c =
 
 pub returns-in-None-form_of : goal.returns-in-None-form_of
 returns-in-None-form_of c =
-    row_means (word_texts c.args.words.now) c.in-Some.keyword.now None (sym c.in-Some.ensures) c.in-None-form_of.ensures.row
+    c.parse_other.ensures
+    ∙ row_means (word_texts c.args.words.now) c.in-Some.keyword.now None (sym c.in-Some.ensures) c.in-None-form_of.ensures.row

@@ -1,0 +1,3 @@
+pub mod BlockLaw
+pub mod BlockLemmas
+pub mod FormedLaw
