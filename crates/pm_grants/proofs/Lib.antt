@@ -1,1 +1,2 @@
 pub mod GrantsLaw
+pub mod SeveralLaw

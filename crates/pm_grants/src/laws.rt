@@ -1,6 +1,7 @@
 //! What is looked up by places is what the object permits.
 
 ghost use Rattle.pm_grants.specs.Laws.{GrantLaws};
+ghost use Rattle.pm_grants.specs.Several.{SeveralGrantLaws};
 
 use pm_topology::kinds_are_exact;
 
@@ -9,4 +10,11 @@ pub fn grants_are_permissions()
     ensures { GrantLaws }
 {
     kinds_are_exact();
+}
+
+/// The same for what at least one of several objects permits, in each of which a master has the same place.
+pub fn some_grants_are_permissions()
+    ensures { SeveralGrantLaws }
+{
+    grants_are_permissions();
 }

@@ -5,4 +5,4 @@ pub mod grants;
 pub mod laws;
 
 pub use grants::{Grants, MasterMasks};
-pub use laws::grants_are_permissions;
+pub use laws::{grants_are_permissions, some_grants_are_permissions};

@@ -1,8 +1,10 @@
 pub mod ClearLemmas
+pub mod ForgetLemmas
 pub mod MasterNotesLemmas
 pub mod NodeLemmas
 pub mod NotifyLaw
 pub mod OrderLemmas
+pub mod QuietLemmas
 pub mod RestartLemmas
 pub mod TakeLemmas
 pub mod WaitingLemmas

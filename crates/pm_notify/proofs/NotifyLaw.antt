@@ -12,6 +12,7 @@ use Rattle.pm_notify.specs.MasterNotes.{asks_about, forgotten, notes_at, nothing
 use Rattle.pm_notify.specs.NodeNotes.{asks, emptied, filled, note_like, with_asked}
 use Rattle.pm_notify.specs.Notes.{same_event, same_kind}
 use Rattle.pm_notify.proofs.MasterNotesLemmas.{master_notes_cleared, master_notes_kept, master_notes_put, notes_forgotten, notes_kept, notes_loaded, notes_put, order_loaded, other_notes, units_kept, units_loaded}
+use Rattle.pm_notify.proofs.ForgetLemmas.{none_asks, same_units, still_waits}
 use Rattle.pm_notify.proofs.RestartLemmas.{all_units, as_loaded}
 use Rattle.pm_notify.proofs.NodeLemmas.{asked_after, emptied_after, filled_after, none_waits, unasked}
 
@@ -46,6 +47,7 @@ module _ (tables : TableLaws NodeNotes) (units : UnitLaws) where
         master_notes_cleared forgotten refl (asks_about o event) false
         (λ notes. ap (asks_in event) (notes_forgotten tables units o notes) ∙ unasked event) m k notify;
     loads = λ t masters k o event. ap (asks_in event) (notes_loaded tables units t masters k o) ∙ unasked event;
+    forgets = none_asks tables;
   }
 
   pub slot_laws : SlotLaws
@@ -68,6 +70,7 @@ module _ (tables : TableLaws NodeNotes) (units : UnitLaws) where
         (λ notes. ap (λ (of_node : NodeNotes). note_like like of_node.slots) (notes_forgotten tables units o notes) ∙ none_waits like) m k notify;
     loads = λ t masters k o like.
         ap (λ (of_node : NodeNotes). note_like like of_node.slots) (notes_loaded tables units t masters k o) ∙ none_waits like;
+    forgets = still_waits tables;
   }
 
   pub order_laws : OrderLaws
@@ -82,6 +85,7 @@ module _ (tables : TableLaws NodeNotes) (units : UnitLaws) where
         units_kept (without_note n note) refl (λ notes. tables.set_units (Node n) (empty note (notes_at n notes)) notes) m k notify;
     clears = λ m notify k. units_kept forgotten refl (λ notes. tables.made_units nothing_more notes) m k notify;
     restarts = all_units tables;
+    forgets = same_units tables;
     as_loaded = as_loaded;
   }
 

@@ -10,7 +10,7 @@ use Rattle.pm_notify.specs.declared.notes.Note.{Note}
 use Rattle.pm_notify.specs.declared.notes.Waiting.{Waiting}
 use Rattle.pm_notify.specs.MasterNotes.{MasterNotes}
 use Rattle.pm_notify.specs.Notes.{is_told_before, same_event, same_kind}
-use Rattle.pm_notify.specs.Notify.{IsInOrder, all_forgotten, asks_of, dropped, first_for, has_slots, loaded, notes_for, note_of, noted, registered, taken, taken_out, waiting_for, without_notes}
+use Rattle.pm_notify.specs.Notify.{IsInOrder, all_forgotten, asks_of, dropped, first_for, has_slots, loaded, none_asked, notes_for, note_of, noted, registered, taken, taken_out, waiting_for, without_notes}
 
 -- the master at place k and the node o are the master at place m and the node n, and these are there
 abbrev pub is_at : ℕ → NodeId → List MasterNotes → ℕ → NodeId → Bool
@@ -36,6 +36,8 @@ pub record NotifierLaws : Type 0 where
   pub clears : (m : ℕ) (notify : List MasterNotes) (k : ℕ) (o : NodeId) (event : NodeEvent)
       → asks_of k o event (without_notes m notify) ≡ (if k == m then false else asks_of k o event notify)
   pub loads : (t : Topology) (masters k : ℕ) (o : NodeId) (event : NodeEvent) → asks_of k o event (loaded t masters) ≡ false
+  -- where all notifiers are dropped, no master asks for anything
+  pub forgets : (notify : List MasterNotes) (k : ℕ) (o : NodeId) (event : NodeEvent) → asks_of k o event (none_asked notify) ≡ false
 
 -- of the slots in which notes wait, one for each master, node and kind
 pub record SlotLaws : Type 0 where
@@ -54,6 +56,9 @@ pub record SlotLaws : Type 0 where
   pub clears : (m : ℕ) (notify : List MasterNotes) (k : ℕ) (o : NodeId) (like : Note)
       → note_of k o like (without_notes m notify) ≡ (if k == m then None else note_of k o like notify)
   pub loads : (t : Topology) (masters k : ℕ) (o : NodeId) (like : Note) → note_of k o like (loaded t masters) ≡ None
+  -- where all notifiers are dropped, what waits stays
+  pub forgets : (notify : List MasterNotes) (k : ℕ) (o : NodeId) (like : Note)
+      → note_of k o like (none_asked notify) ≡ note_of k o like notify
 
 -- of the notes of other masters: they are as they were
 pub record OtherNotesLaws : Type 0 where
@@ -77,6 +82,7 @@ pub record OrderLaws : Type 0 where
       → units_in (notes_for k (dropped m n note notify)) ≡ units_in (notes_for k notify)
   pub clears : (m : ℕ) (notify : List MasterNotes) (k : ℕ) → units_in (notes_for k (without_notes m notify)) ≡ units_in (notes_for k notify)
   pub restarts : (notify : List MasterNotes) (k : ℕ) → units_in (notes_for k (all_forgotten notify)) ≡ units_in (notes_for k notify)
+  pub forgets : (notify : List MasterNotes) (k : ℕ) → units_in (notes_for k (none_asked notify)) ≡ units_in (notes_for k notify)
   -- where all masters forget, all is as at load
   pub as_loaded : (t : Topology) (notify : List MasterNotes)
       → ((m : ℕ) → m < length notify → units_in (notes_for m notify) ≡ units_of t)

@@ -10,7 +10,7 @@ use Rattle.pm_notify.specs.declared.notes.Note.{Note}
 use Rattle.pm_notify.specs.declared.notes.Waiting.{Waiting}
 use Rattle.pm_notify.specs.declared.node_notes.Slots.{Slots}
 use Rattle.pm_notify.specs.declared.node_notes.NodeNotes.{NodeNotes}
-use Rattle.pm_notify.specs.NodeNotes.{asks, emptied, filled, no_notes, notes_in, with_asked}
+use Rattle.pm_notify.specs.NodeNotes.{asks, emptied, filled, no_notes, notes_in, unasked, with_asked}
 
 -- the notes of a master: what it has asked for and what waits for it about each unit, in the order of units
 abbrev pub MasterNotes : Type 0
@@ -72,3 +72,12 @@ nothing_more unit of_node = no_notes
 
 abbrev pub forgotten : MasterNotes → MasterNotes
 forgotten notes = mapped nothing_more notes
+
+-- ---- notifiers that are dropped
+
+-- nothing is asked for about a unit any more, and what waits stays
+abbrev pub only_waiting : Unit → NodeNotes → NodeNotes
+only_waiting unit of_node = unasked of_node
+
+abbrev pub without_notifiers : MasterNotes → MasterNotes
+without_notifiers notes = mapped only_waiting notes

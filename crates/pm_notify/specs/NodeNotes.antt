@@ -64,3 +64,7 @@ notes_in slots =
 -- nothing is asked for and nothing waits
 abbrev pub no_notes : NodeNotes
 no_notes = record { notifiers = no_notifiers; slots = no_slots }
+
+-- nothing is asked for any more, and what waits stays
+abbrev pub unasked : NodeNotes → NodeNotes
+unasked of_node = record of_node { notifiers = no_notifiers }

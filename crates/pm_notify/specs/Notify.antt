@@ -8,7 +8,7 @@ use Rattle.pm_topology.specs.Units.{rises, units_of}
 use Rattle.pm_notify.specs.declared.notes.NodeEvent.{NodeEvent}
 use Rattle.pm_notify.specs.declared.notes.Note.{Note}
 use Rattle.pm_notify.specs.declared.notes.Waiting.{Waiting}
-use Rattle.pm_notify.specs.MasterNotes.{MasterNotes, asks_about, forgotten, notes_at, waiting_in, with_note, with_notifier, without_note}
+use Rattle.pm_notify.specs.MasterNotes.{MasterNotes, asks_about, forgotten, notes_at, waiting_in, with_note, with_notifier, without_note, without_notifiers}
 use Rattle.pm_notify.specs.NodeNotes.{no_notes, note_like}
 
 -- at load no master has asked for anything, and nothing waits
@@ -78,3 +78,9 @@ without_notes m notify = slice_set notify m (forgotten (notes_for m notify))
 -- no master has asked for anything, and nothing waits
 abbrev pub all_forgotten : List MasterNotes → List MasterNotes
 all_forgotten notify = map forgotten notify
+
+-- ---- another object is in force
+
+-- no master has asked for anything any more, and what waits stays
+abbrev pub none_asked : List MasterNotes → List MasterNotes
+none_asked notify = map without_notifiers notify

@@ -1,10 +1,10 @@
 //! What one master has asked for and what waits for it, about each node of a chip.
 
-ghost use Rattle.std.specs.Prelude.{◌≡◌, IfOk, slice_get, true};
+ghost use Rattle.std.specs.Prelude.{◌≡◌, [], IfOk, slice_get, true, false};
 ghost use Rattle.pm_topology.specs.UnitMap.{all_at, units_in};
 ghost use Rattle.pm_topology.specs.Units.{rises, units_of};
 ghost use Rattle.pm_notify.specs.MasterNotes as spec;
-ghost use Rattle.pm_notify.specs.MasterNotes.{asks_about, forgotten, notes_at, waiting_about, waiting_in, with_note, with_notes, with_notifier, without_note};
+ghost use Rattle.pm_notify.specs.MasterNotes.{asks_about, forgotten, notes_at, waiting_about, waiting_in, with_note, with_notes, with_notifier, without_note, without_notifiers};
 ghost use Rattle.pm_notify.specs.NodeNotes.{no_notes};
 
 use crate::node_notes::{NodeNotes, Slots};
@@ -15,20 +15,25 @@ use std::alloc::Global;
 use std::marker::Model;
 
 /// What a master has asked for and what waits for it about each unit of a chip, in the order of units.
-/// About a reset line nothing is ever asked for, and nothing waits.
+/// About a reset line nothing is ever asked for, and nothing waits. Beside it stands whether a note may wait, so that a
+/// master for which none does is seen at once.
 #[derive(Drop)]
 pub struct MasterNotes {
     notes: UnitMap<NodeNotes>,
+    may_wait: bool,
 }
 
 impl Model for MasterNotes {
-    ghost use Rattle.std.specs.Prelude.{List};
+    ghost use Rattle.std.specs.Prelude.{◌≡◌, [], List, false};
     ghost use Rattle.pm_base.specs.declared.names.Unit.{Unit};
     ghost use Rattle.pm_notify.specs.declared.node_notes.NodeNotes.{NodeNotes};
+    ghost use Rattle.pm_notify.specs.MasterNotes.{waiting_in};
 
     ghost Value = { List (Unit × NodeNotes) };
 
     ghost view = { λ master_notes. master_notes.notes };
+
+    ghost invariant = { λ master_notes. (master_notes.may_wait ≡ false → waiting_in master_notes.notes ≡ []) };
 }
 
 impl MasterNotes {
@@ -41,7 +46,10 @@ impl MasterNotes {
         ensures { IfOk result (λ notes. notes ≡ all_at no_notes (units_of t.now)) }
     {
         let notes = UnitMap::load(alloc, t, NodeNotes::none())?;
-        Ok(MasterNotes { notes })
+        Ok(MasterNotes {
+            notes,
+            may_wait: false,
+        })
     }
 
     /// What was asked for and what waits about a node: nothing where the chip doesn't have it.
@@ -58,6 +66,7 @@ impl MasterNotes {
         ensures { self.new ≡ with_notes node notes self.old }
     {
         self.notes.set(Unit::Node(node), notes);
+        self.may_wait = true;
     }
 
     /// Whether an event of a node is asked for.
@@ -109,12 +118,16 @@ impl MasterNotes {
         );
     }
 
-    /// The first note that waits: by the number of its node, and then by its kind.
-    pub fn first(&self) -> Option<Waiting>
-        ensures first { result ≡ slice_get (waiting_in self.now) 0 }
-        ensures rising { rises (units_in self.now) ≡ true }
+    /// The first note that waits: by the number of its node, and then by its kind. No unit is looked at if none was
+    /// found before, and nothing was kept since.
+    pub fn first(&mut self) -> Option<Waiting>
+        ensures first { result ≡ slice_get (waiting_in self.old) 0 }
+        ensures rising { rises (units_in self.old) ≡ true }
+        ensures notes { self.new ≡ self.old }
     {
-        first_in(&self.notes)
+        let first = first_in(&self.notes, self.may_wait);
+        self.may_wait = first.is_some();
+        first
     }
 
     /// Nothing is asked for any more, and nothing waits.
@@ -122,6 +135,15 @@ impl MasterNotes {
         ensures { self.new ≡ forgotten self.old }
     {
         clear_all(&mut self.notes);
+        self.may_wait = false;
+    }
+
+    /// Nothing is asked for any more, and what waits stays.
+    pub fn forget(&mut self)
+        ensures { self.new ≡ without_notifiers self.old }
+    {
+        drop_notifiers(&mut self.notes);
+        self.may_wait = true;
     }
 }
 
@@ -148,12 +170,17 @@ fn first_at(notes: &UnitMap<NodeNotes>, place: usize) -> Option<Waiting>
     }
 }
 
-/// The first note that waits about any unit, in the order of units.
-fn first_in(notes: &UnitMap<NodeNotes>) -> Option<Waiting>
+/// The first note that waits about any unit, in the order of units, if any may.
+fn first_in(notes: &UnitMap<NodeNotes>, may_wait: bool) -> Option<Waiting>
+    requires none { may_wait ≡ false → waiting_in notes.now ≡ [] }
     ensures first { result ≡ slice_get (waiting_in notes.now) 0 }
     ensures rising { rises (units_in notes.now) ≡ true }
 {
-    for place in 0..notes.len() {
+    let units = notes.len();
+    if !may_wait {
+        return None;
+    }
+    for place in 0..units {
         if let Some(waiting) = first_at(notes, place) {
             return Some(waiting);
         }
@@ -168,5 +195,17 @@ fn clear_all(notes: &mut UnitMap<NodeNotes>)
     unit_map_places::<NodeNotes>();
     for place in 0..notes.len() {
         notes.set_at(place, NodeNotes::none());
+    }
+}
+
+/// About each unit nothing is asked for any more, and what waits stays.
+fn drop_notifiers(notes: &mut UnitMap<NodeNotes>)
+    ensures { notes.new ≡ without_notifiers notes.old }
+{
+    unit_map_places::<NodeNotes>();
+    for place in 0..notes.len() {
+        if let Some((_, of_node)) = notes.entry(place) {
+            notes.set_at(place, of_node.unasked());
+        }
     }
 }

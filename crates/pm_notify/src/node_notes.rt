@@ -2,7 +2,7 @@
 
 ghost use Rattle.std.specs.Prelude.{◌≡◌, slice_get};
 ghost use Rattle.pm_notify.specs.NodeNotes as spec;
-ghost use Rattle.pm_notify.specs.NodeNotes.{asks, emptied, filled, no_notes, no_notifiers, no_slots, with_asked};
+ghost use Rattle.pm_notify.specs.NodeNotes.{asks, emptied, filled, no_notes, no_notifiers, no_slots, unasked, with_asked};
 
 use crate::notes::{NodeEvent, Note};
 
@@ -137,6 +137,16 @@ impl NodeNotes {
         NodeNotes {
             notifiers: Notifiers::none(),
             slots: Slots::none(),
+        }
+    }
+
+    /// Nothing is asked for any more, and what waits stays.
+    pub fn unasked(self) -> NodeNotes
+        ensures { result ≡ unasked self }
+    {
+        NodeNotes {
+            notifiers: Notifiers::none(),
+            ..self
         }
     }
 }

@@ -1,8 +1,8 @@
 //! What all masters have asked for and what waits for each of them.
 
 ghost use Rattle.std.specs.Prelude.{◌≡◌, IfOk, map};
-ghost use Rattle.pm_notify.specs.MasterNotes.{forgotten};
-ghost use Rattle.pm_notify.specs.Notify.{IsInOrder, all_forgotten, asks_of, dropped, first_for, loaded, noted, registered, taken_out, without_notes};
+ghost use Rattle.pm_notify.specs.MasterNotes.{forgotten, without_notifiers};
+ghost use Rattle.pm_notify.specs.Notify.{IsInOrder, all_forgotten, asks_of, dropped, first_for, loaded, none_asked, noted, registered, taken_out, without_notes};
 
 use crate::master_notes::MasterNotes;
 use crate::notes::{NodeEvent, Note, Waiting};
@@ -92,13 +92,15 @@ impl Notify {
     }
 
     /// The first note that waits for a master.
-    fn first(&self, m: usize) -> Option<Waiting>
-        ensures first { result ≡ first_for m self.now }
-        ensures order { IsInOrder m self.now }
+    fn first(&mut self, m: usize) -> Option<Waiting>
+        ensures first { result ≡ first_for m self.old }
+        ensures order { IsInOrder m self.old }
+        ensures notes { self.new ≡ self.old }
     {
-        match self.notes.get(m) {
-            Some(notes) => notes.first(),
-            None => None,
+        if m < self.notes.len() {
+            self.notes[m].first()
+        } else {
+            None
         }
     }
 
@@ -116,6 +118,13 @@ impl Notify {
         ensures { self.new ≡ all_forgotten self.old }
     {
         clear_notes(&mut self.notes);
+    }
+
+    /// No master is told of any event of a node any more. What waits in the slots stays.
+    pub fn forget(&mut self)
+        ensures { self.new ≡ none_asked self.old }
+    {
+        forget_notes(&mut self.notes);
     }
 
     /// A master forgets what it asked for, and what waits for it is lost.
@@ -146,5 +155,14 @@ fn clear_notes(notes: &mut [MasterNotes])
 {
     for master_notes in notes.iter_mut() {
         master_notes.clear();
+    }
+}
+
+/// Each of these masters has asked for nothing any more, and what waits for it stays.
+fn forget_notes(notes: &mut [MasterNotes])
+    ensures { notes.new ≡ map without_notifiers notes.old }
+{
+    for master_notes in notes.iter_mut() {
+        master_notes.forget();
     }
 }

@@ -1,128 +1,188 @@
--- A table in which nothing is used counts nothing.
-use Rattle.std.proofs.Common.{◌≡◌, ℕ, zero, suc, ◌+◌, ◌<◌, ◌^◌, Bool, true, false, ◌&&◌, ◌==◌, cond, List, [], ◌∷◌, map, length, replicate, fold, Option, Some, None, refl, sym, ◌∙◌, ap, subst, arith}
-use Rattle.std.specs.Prelude.{slice_get, count_by}
+-- Rows that aren't used count nothing, whatever their pairs are.
+use Rattle.std.proofs.Common.{◌≡◌, ℕ, zero, suc, ◌+◌, ◌<◌, ◌≤◌, ◌^◌, Bool, true, false, ◌&&◌, ◌==◌, if◌then◌else◌, List, [], ◌∷◌, ◌++◌, map, length, replicate, take, drop, fold, Option, Some, None, refl, sym, ◌∙◌, ap, arith}
+use Rattle.std.specs.Prelude.{slice_get, slice_set, count_by}
 use Rattle.std.specs.List.{list_all}
-use Rattle.pm_rows.specs.Kept.{IsKept}
-use Rattle.pm_rows.specs.Spans.{IsIndexed}
-use Rattle.std.proofs.lemmas.List.{length-replicate, get_or-replicate}
+use Rattle.std.proofs.lemmas.List.{append-nil, drop_all, length-append, length-drop, length-replicate, get_or-replicate}
 use Rattle.pm_base.proofs.Counts.{count_by-cons}
 use Rattle.pm_base.specs.declared.names.Mode.{Mode}
-use Rattle.pm_rows.specs.declared.row.RowSeed.{RowSeed}
-use Rattle.pm_rows.specs.declared.row.Row.{Row}
+use Rattle.pm_rows.specs.declared.passes.Pass.TheVariants.{Clear}
 use Rattle.pm_rows.specs.declared.row.Entry.{Entry}
-use Rattle.pm_rows.specs.declared.passes.Pass.TheVariants.{Restart}
-use Rattle.pm_rows.specs.Modes.{loaded_modes}
-use Rattle.pm_rows.specs.Rows.{Rows, loaded_entry, loaded_rows}
-use Rattle.pm_rows.specs.Counted.{Counted, counted, entry_in, on, wants, uses, with_limit, entries_of, blank_row, blank_entry, no_tally, is_narrow_pair, is_narrow_row, is_placed_pair, IsTally, AreTallied}
+use Rattle.pm_rows.specs.declared.row.Pair.{Pair}
+use Rattle.pm_rows.specs.declared.row.Row.{Row}
+use Rattle.pm_rows.specs.declared.row.RowSeed.{RowSeed}
+use Rattle.pm_rows.specs.Counted.{AreTallied, Counted, IsTally, Tally, blank_entry, blank_row, counted, entries_of, entry_in, is_narrow_pair, is_narrow_row, is_placed_pair, is_placed_seed, no_tally, on, uses, wants, with_limit}
+use Rattle.pm_rows.specs.Kept.{IsKept}
 use Rattle.pm_rows.specs.Passes.{passed}
+use Rattle.pm_rows.specs.Rows.{pair_of}
+use Rattle.pm_rows.specs.Spans.{IsIndexed}
+use Rattle.pm_rows.specs.Wanted.{limit_by}
 use Rattle.pm_cells.proofs.Counting.{one_if}
 
 abbrev zeros : ℕ → List ℕ
 zeros n = replicate n 0
 
-pub blank_rows : (seeds : List RowSeed) → entries_of seeds (replicate (length seeds) blank_row) ≡ map blank_entry seeds
-blank_rows [] = refl
-blank_rows (seed ∷ seeds) = ap (λ es. blank_entry seed ∷ es) (blank_rows seeds)
+-- ---- what is counted of rows that aren't used
+
+-- rows that are made so want nothing, and none is used
+pub record AreQuiet {X : Type 0} (modes : List Mode) (f : X → Entry) : Type 0 where
+  pub access : (x : X) → wants 0 (counted modes (f x)) ≡ false
+  pub context : (x : X) → wants 1 (counted modes (f x)) ≡ false
+  pub wakeup : (x : X) → wants 2 (counted modes (f x)) ≡ false
+  pub users : (x : X) → uses (counted modes (f x)) ≡ false
+  pub limits : (x : X) → limit_by (f x) ≡ None
+
+pub blank_quiet : (modes : List Mode) → AreQuiet modes blank_entry
+blank_quiet modes = record { access = λ x. refl; context = λ x. refl; wakeup = λ x. refl; users = λ x. refl; limits = λ x. refl }
+
+pub cleared_quiet : (modes : List Mode) (rows : List Entry) → AreQuiet modes (passed Clear rows)
+cleared_quiet modes rows = record { access = λ x. refl; context = λ x. refl; wakeup = λ x. refl; users = λ x. refl; limits = λ x. refl }
 
 off : (b c : Bool) → c ≡ false → one_if (b && c) ≡ 0
 off true c is = ap one_if is
 off false c is = refl
 
-none_counts : (test : Counted → Bool) (modes : List Mode) → ((seed : RowSeed) → test (counted modes (blank_entry seed)) ≡ false)
-    → (s : ℕ) (seeds : List RowSeed) → count_by (on s test) (map (counted modes) (map blank_entry seeds)) ≡ 0
-none_counts test modes fails s [] = refl
-none_counts test modes fails s (seed ∷ seeds) =
-    let whole : count_by (on s test) (map (counted modes) (map blank_entry (seed ∷ seeds)))
-    ≡ one_if (on s test (counted modes (blank_entry seed))) + count_by (on s test) (map (counted modes) (map blank_entry seeds)) =
-    count_by-cons (on s test) (counted modes (blank_entry seed)) (map (counted modes) (map blank_entry seeds))
-    in
-    let here : one_if (on s test (counted modes (blank_entry seed))) ≡ 0 = off (seed.slave == s) (test (counted modes (blank_entry seed))) (fails seed) in
-    let later = none_counts test modes fails s seeds in
-    omega arith
+module _ {X : Type 0} (modes : List Mode) (f : X → Entry) where
+  abbrev pub made : List X → List Counted
+  made xs = map (counted modes) (map f xs)
 
-tally_none : (test : Counted → Bool) (modes : List Mode) (slaves : ℕ) (seeds : List RowSeed)
-    → ((seed : RowSeed) → test (counted modes (blank_entry seed)) ≡ false)
-    → IsTally test (length (zeros slaves)) (map (counted modes) (map blank_entry seeds)) (zeros slaves)
-tally_none test modes slaves seeds fails = record {
-  places = refl;
-  right = λ s within.
-      let size : length (zeros slaves) ≡ slaves = length-replicate {A = ℕ} slaves 0 in
-      get_or-replicate slaves s 0 0 (omega arith) ∙ sym (none_counts test modes fails s seeds);
-}
+  none_counts : (test : Counted → Bool) → ((x : X) → test (counted modes (f x)) ≡ false) → (s : ℕ) (xs : List X) → count_by (on s test) (made xs) ≡ 0
+  none_counts test fails s [] = refl
+  none_counts test fails s (x ∷ xs) =
+      let whole = count_by-cons (on s test) (counted modes (f x)) (made xs) in
+      let here : one_if (on s test (counted modes (f x))) ≡ 0 = off ((f x).seed.slave == s) (test (counted modes (f x))) (fails x) in
+      let later = none_counts test fails s xs in
+      omega (arith, whole, here, later)
 
-limit_none : (s : ℕ) (modes : List Mode) (seeds : List RowSeed) → fold (with_limit s) None (map entry_in (map (counted modes) (map blank_entry seeds))) ≡ None
-limit_none s modes [] = refl
-limit_none s modes (seed ∷ seeds) =
-    ap (λ l. fold (with_limit s) l (map entry_in (map (counted modes) (map blank_entry seeds)))) (at (seed.slave == s)) ∙ limit_none s modes seeds
-  where
-    at : (b : Bool) → cond {A = Option ℕ} b None None ≡ None
-    at true = refl
-    at false = refl
+  limit_none : ((x : X) → limit_by (f x) ≡ None) → (s : ℕ) (xs : List X) → fold (with_limit s) None (map entry_in (made xs)) ≡ None
+  limit_none none s [] = refl
+  limit_none none s (x ∷ xs) =
+      ap (λ l. fold (with_limit s) l (map entry_in (made xs))) (at ((f x).seed.slave == s)) ∙ limit_none none s xs
+    where
+      at : (b : Bool) → (if b then limit_by (f x) else None) ≡ None
+      at true = none x
+      at false = refl
+
+-- what is counted of some such rows is what is counted of any others
+module _ {X Y : Type 0} (modes : List Mode) (f : X → Entry) (g : Y → Entry) (one : AreQuiet modes f) (two : AreQuiet modes g) (xs : List X) (ys : List Y) where
+  same_tally : (test : Counted → Bool) (slaves : ℕ) (counts : List ℕ) → ((x : X) → test (counted modes (f x)) ≡ false) → ((y : Y) → test (counted modes (g y)) ≡ false)
+      → IsTally test slaves (made modes f xs) counts → IsTally test slaves (made modes g ys) counts
+  same_tally test slaves counts fails others is = record {
+    places = is.places;
+    right = λ s within. is.right s within ∙ (none_counts modes f test fails s xs ∙ sym (none_counts modes g test others s ys));
+  }
+
+  pub retallied : (t : Tally) → AreTallied (made modes f xs) t → AreTallied (made modes g ys) t
+  retallied t is = record {
+    access = same_tally (wants 0) (length t.users) t.access one.access two.access is.access;
+    context = same_tally (wants 1) (length t.users) t.context one.context two.context is.context;
+    wakeup = same_tally (wants 2) (length t.users) t.wakeup one.wakeup two.wakeup is.wakeup;
+    users = same_tally uses (length t.users) t.users one.users two.users is.users;
+    limits = record {
+      places = is.limits.places;
+      right = λ s within. is.limits.right s within ∙ ap Some (limit_none modes f one.limits s xs ∙ sym (limit_none modes g two.limits s ys));
+    };
+  }
 
 get_replicate : {X : Type 0} (n s : ℕ) (x : X) → s < n → slice_get (replicate n x) s ≡ Some x
 get_replicate zero s x within = absurd (omega arith)
 get_replicate (suc n) zero x within = refl
 get_replicate (suc n) (suc s) x within = get_replicate n s x (omega arith)
 
-pub blank_tallied : (modes : List Mode) (slaves : ℕ) (seeds : List RowSeed)
-    → AreTallied (map (counted modes) (map blank_entry seeds)) (no_tally slaves)
-blank_tallied modes slaves seeds = record {
-  access = tally_none (wants 0) modes slaves seeds (λ seed. refl);
-  context = tally_none (wants 1) modes slaves seeds (λ seed. refl);
-  wakeup = tally_none (wants 2) modes slaves seeds (λ seed. refl);
-  users = tally_none uses modes slaves seeds (λ seed. refl);
+-- nothing is counted where there are no rows
+none_tally : (test : Counted → Bool) (slaves : ℕ) → IsTally test (length (zeros slaves)) [] (zeros slaves)
+none_tally test slaves = record {
+  places = refl;
+  right = λ s within.
+      let size : length (zeros slaves) ≡ slaves = length-replicate {A = ℕ} slaves 0 in
+      get_or-replicate slaves s 0 0 (omega (arith, size));
+}
+
+pub none_tallied : (slaves : ℕ) → AreTallied [] (no_tally slaves)
+none_tallied slaves = record {
+  access = none_tally (wants 0) slaves;
+  context = none_tally (wants 1) slaves;
+  wakeup = none_tally (wants 2) slaves;
+  users = none_tally uses slaves;
   limits = record {
     places = length-replicate {A = Option ℕ} slaves None ∙ sym (length-replicate {A = ℕ} slaves 0);
     right = λ s within.
         let size : length (zeros slaves) ≡ slaves = length-replicate {A = ℕ} slaves 0 in
-        get_replicate slaves s None (omega arith) ∙ ap Some (sym (limit_none s modes seeds));
+        get_replicate slaves s None (omega (arith, size));
   };
 }
 
-pub loaded_from_blank : (rows : List Entry) (seeds : List RowSeed) → map (passed Restart rows) (map blank_entry seeds) ≡ map loaded_entry seeds
-loaded_from_blank rows [] = refl
-loaded_from_blank rows (seed ∷ seeds) = ap (λ es. loaded_entry seed ∷ es) (loaded_from_blank rows seeds)
+-- ---- the table
 
-pub blank_is : (seeds pairs : List RowSeed) (rows : List Row) (row : Row) → pairs ≡ seeds → rows ≡ replicate (length seeds) row → row ≡ blank_row
-    → entries_of pairs rows ≡ map blank_entry seeds
-blank_is seeds pairs rows row same all blank =
-    ap (λ ps. entries_of ps rows) same
-    ∙ (ap (entries_of seeds) (all ∙ ap (replicate (length seeds)) blank) ∙ blank_rows seeds)
-
-abbrev pub rows_of : List Entry → List Mode → ℕ → Rows
-rows_of entries known boot = record { entries = entries; known = known; boot = boot }
-
-pub loaded_is : (seeds : List RowSeed) (blank entries : List Entry) (known : List Mode) (masters boot : ℕ)
-    → entries ≡ map (passed Restart blank) blank → blank ≡ map blank_entry seeds → known ≡ loaded_modes masters boot
-    → rows_of entries known boot ≡ loaded_rows masters boot seeds
-loaded_is seeds blank entries known masters boot pass from modes =
-    let all : entries ≡ map loaded_entry seeds = pass ∙ (ap (λ es. map (passed Restart es) es) from ∙ loaded_from_blank (map blank_entry seeds) seeds) in
-    ap (λ es. rows_of es known boot) all ∙ ap (λ ms. rows_of (map loaded_entry seeds) ms boot) modes
+pub blank_rows : (pairs : List Pair) (room : ℕ) → length pairs ≤ room → entries_of pairs (replicate room blank_row) ≡ map blank_entry pairs
+blank_rows [] room few = refl
+blank_rows (pair ∷ pairs) zero few = absurd (omega arith)
+blank_rows (pair ∷ pairs) (suc room) few = ap (λ (es : List Entry). blank_entry pair ∷ es) (blank_rows pairs room (omega arith))
 
 narrow_blank : (n : ℕ) → list_all is_narrow_row (replicate n blank_row) ≡ true
 narrow_blank zero = refl
 narrow_blank (suc n) = narrow_blank n
 
--- a table in which nothing is used is kept
-pub blank_kept : (seeds pairs : List RowSeed) (cells : List Row) (row : Row) (slaves : ℕ) (users : List ℕ) (narrow : Bool) (first past : List ℕ)
-    → pairs ≡ seeds → cells ≡ replicate (length seeds) row → row ≡ blank_row → length seeds < 2 ^ 31
-    → list_all (is_placed_pair slaves) seeds ≡ true → users ≡ replicate slaves 0
-    → narrow ≡ list_all is_narrow_pair seeds → IsIndexed (length seeds) seeds first past
-    → IsKept pairs cells (length users) narrow first past
-blank_kept seeds pairs cells row slaves users narrow first past same all blank few placed none narrow_is index =
-    let size : slaves ≡ length users = sym (ap length none ∙ length-replicate {A = ℕ} slaves 0) in
-    let rows : cells ≡ replicate (length seeds) blank_row = all ∙ ap (replicate (length seeds)) blank in
-    let P : List RowSeed → Type 0 = λ ps. IsKept ps cells (length users) narrow first past in
-    let Q : ℕ → Type 0 = λ n. list_all (is_placed_pair n) seeds ≡ true in
-    subst P (sym same) (record {
-      base = record {
-        places = ap length rows ∙ length-replicate {A = Row} (length seeds) blank_row;
-        placed = subst Q size placed;
-        few = few;
-      };
+pub placed_pairs : (slaves : ℕ) (seeds : List RowSeed) → list_all (is_placed_pair slaves) (map pair_of seeds) ≡ list_all (is_placed_seed slaves) seeds
+placed_pairs slaves [] = refl
+placed_pairs slaves (seed ∷ seeds) = ap (λ all. is_placed_seed slaves seed && all) (placed_pairs slaves seeds)
+
+pub pairs_count : (seeds : List RowSeed) → length (map pair_of seeds) ≡ length seeds
+pairs_count [] = refl
+pairs_count (seed ∷ seeds) = ap suc (pairs_count seeds)
+
+-- a table in whose cells nothing is used is kept
+pub blank_kept : (pairs : List Pair) (room slaves : ℕ) (cells : List Row) (narrow : Bool) (first past : List ℕ)
+    → cells ≡ replicate room blank_row → length pairs ≤ room → room < 2 ^ 31
+    → list_all (is_placed_pair slaves) pairs ≡ true → length first ≡ slaves
+    → narrow ≡ list_all is_narrow_pair pairs → IsIndexed (length pairs) pairs first past
+    → IsKept (record { items = pairs; room = room }) cells slaves narrow first past
+blank_kept pairs room slaves cells narrow first past all fits few placed each narrow_is index =
+    let size : length cells ≡ room = ap length all ∙ length-replicate {A = Row} room blank_row in
+    record {
+      base = record { places = omega (arith, size, fits); placed = placed; few = omega (arith, size, few) };
+      room = sym size;
+      each = each;
       narrow_ones = λ yes. record {
         pairs = sym narrow_is ∙ yes;
-        rows = ap (list_all is_narrow_row) rows ∙ narrow_blank (length seeds);
+        rows = ap (list_all is_narrow_row) all ∙ narrow_blank room;
       };
       spans = index;
-    })
+    }
+
+-- ---- rows that are made blank, and pairs that are put, one after another
+
+blank_suc : (k : ℕ) (xs : List Row) → k < length xs → slice_set (replicate k blank_row ++ drop k xs) k blank_row ≡ replicate (suc k) blank_row ++ drop (suc k) xs
+blank_suc zero [] within = absurd (omega arith)
+blank_suc zero (x ∷ xs) within = refl
+blank_suc (suc k) [] within = absurd (omega arith)
+blank_suc (suc k) (x ∷ xs) within = ap (λ (rows : List Row). blank_row ∷ rows) (blank_suc k xs (omega arith))
+
+pub blank_step : (k : ℕ) (xs ys zs : List Row) (row : Row) → k < length xs → ys ≡ replicate k blank_row ++ drop k xs → zs ≡ slice_set ys k row → row ≡ blank_row
+    → zs ≡ replicate (k + 1) blank_row ++ drop (k + 1) xs
+blank_step k xs ys zs row within so_far written is =
+    let next : suc k ≡ k + 1 = omega arith in
+    written
+    ∙ (ap (λ (rows : List Row). slice_set rows k row) so_far
+    ∙ (ap (slice_set (replicate k blank_row ++ drop k xs) k) is
+    ∙ (blank_suc k xs within ∙ ap (λ n. replicate n blank_row ++ drop n xs) next)))
+
+pub blank_size : (k : ℕ) (xs ys : List Row) → k ≤ length xs → ys ≡ replicate k blank_row ++ drop k xs → length ys ≡ length xs
+blank_size k xs ys within so_far =
+    let whole = ap length so_far ∙ (length-append (replicate k blank_row) (drop k xs) ∙ ap (λ n. n + length (drop k xs)) (length-replicate {A = Row} k blank_row)) in
+    let rest = length-drop k xs in
+    omega (arith, whole, rest)
+
+pub blank_end : (k count : ℕ) (xs ys : List Row) → count ≡ length xs → k ≡ count → ys ≡ replicate k blank_row ++ drop k xs → ys ≡ replicate count blank_row
+blank_end k count xs ys size end so_far =
+    let none : drop k xs ≡ [] = drop_all k xs (omega (arith, size, end)) in
+    so_far
+    ∙ (ap (λ (rows : List Row). replicate k blank_row ++ rows) none
+    ∙ (append-nil (replicate k blank_row) ∙ ap (λ n. replicate n blank_row) end))
+
+pub pairs_step : (seeds : List RowSeed) (k : ℕ) (seed : RowSeed) → slice_get seeds k ≡ Some seed → map pair_of (take k seeds) ++ pair_of seed ∷ [] ≡ map pair_of (take (k + 1) seeds)
+pairs_step seeds k seed at = let next : suc k ≡ k + 1 = omega arith in one seeds k at ∙ ap (λ n. map pair_of (take n seeds)) next
+  where
+    one : (seeds : List RowSeed) (k : ℕ) → slice_get seeds k ≡ Some seed → map pair_of (take k seeds) ++ pair_of seed ∷ [] ≡ map pair_of (take (suc k) seeds)
+    one [] k at = cc
+    one (x ∷ xs) zero at = let is : x ≡ seed = cc in ap (λ (s : RowSeed). pair_of s ∷ []) (sym is)
+    one (x ∷ xs) (suc k) at = ap (λ (ps : List Pair). pair_of x ∷ ps) (one xs k at)

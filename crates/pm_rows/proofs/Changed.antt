@@ -8,7 +8,7 @@ use Rattle.pm_base.specs.declared.names.Mode.{Mode}
 use Rattle.pm_base.specs.declared.names.Mode.TheVariants.{Off, Active, Asleep, Suspending}
 use Rattle.pm_base.proofs.Booleans.{none_of, later_passes}
 use Rattle.pm_base.proofs.Counts.{count_by-cons}
-use Rattle.pm_rows.specs.declared.row.RowSeed.{RowSeed}
+use Rattle.pm_rows.specs.declared.row.Pair.{Pair}
 use Rattle.pm_rows.specs.declared.row.Entry.{Entry}
 use Rattle.pm_rows.specs.declared.row.Row.{Row}
 use Rattle.pm_rows.specs.declared.row.Change.{Change}
@@ -206,7 +206,7 @@ change_alone m s t by entry rows fit =
       | inr elsewhere ↦ inr (λ x. sole_elsewhere m s t by x (is_at m s x) refl elsewhere)
     ]
 
-keeps_at : (permitted : List RowSeed) (rows : Rows) (m s : ℕ) (by : Change) (entry : Entry) → AreOnce permitted
+keeps_at : (permitted : List Pair) (rows : Rows) (m s : ℕ) (by : Change) (entry : Entry) → AreOnce permitted
     → AreSound permitted rows → entry_at m s rows ≡ Some entry → IsFit m s by entry rows
     → AreSound permitted (row_changed m s by rows)
 keeps_at permitted rows m s by entry distinct sound found fit =
@@ -231,7 +231,7 @@ passes_found p [] entry found = cc
 passes_found p (x ∷ xs) entry found = found_passes p x xs entry (p x) refl found (passes_found p xs entry)
 
 -- a change that fits, of a row that is there, keeps the rows sound
-pub change_keeps : (permitted : List RowSeed) (rows : Rows) (m s : ℕ) (by : Change) (entry : Entry) → AreOnce permitted
+pub change_keeps : (permitted : List Pair) (rows : Rows) (m s : ℕ) (by : Change) (entry : Entry) → AreOnce permitted
     → AreSound permitted rows → entry_at m s rows ≡ Some entry → IsFit m s by entry rows
     → AreSound permitted (row_changed entry.seed.master entry.seed.slave by rows)
 change_keeps permitted rows m s by entry distinct sound found fit =

@@ -4,7 +4,7 @@ use Rattle.std.specs.Prelude.{count_by}
 use Rattle.std.proofs.lemmas.Bool.{and_parts, and_from}
 use Rattle.pm_base.specs.declared.names.Mode.{Mode}
 use Rattle.pm_base.specs.declared.names.Mode.TheVariants.{Off, Active, Asleep, Suspending}
-use Rattle.pm_rows.specs.declared.row.RowSeed.{RowSeed}
+use Rattle.pm_rows.specs.declared.row.Pair.{Pair}
 use Rattle.pm_rows.specs.declared.row.Entry.{Entry}
 use Rattle.pm_rows.specs.declared.row.Row.{Row}
 use Rattle.pm_rows.specs.Modes.{mode_in}
@@ -15,7 +15,7 @@ use Rattle.pm_rows.proofs.Lists.{count_kept, each_trivial}
 use Rattle.pm_rows.proofs.Mapped.{RightIn, right_in, right_from, is_right, right_alike, mapped_sound}
 
 -- where no further row becomes used, slaves that can't be shared stay with at most one user
-fewer_used : (permitted : List RowSeed) (rows : Rows) (f : Entry → Entry) → AreSound permitted rows
+fewer_used : (permitted : List Pair) (rows : Rows) (f : Entry → Entry) → AreSound permitted rows
     → ((s : ℕ) (x : Entry) → is_sole_user s (f x) ≡ true → is_sole_user s x ≡ true) → (s : ℕ)
     → count_by (is_sole_user s) (map f rows.entries) ≤ 1
 fewer_used permitted rows f sound fewer s =
@@ -38,7 +38,7 @@ hold_sole : (s : ℕ) (x : Entry) (b : Bool)
 hold_sole s x true = refl
 hold_sole s x false = refl
 
-pub settle_keeps : (permitted : List RowSeed) (rows : Rows) (m : ℕ) → AreSound permitted rows
+pub settle_keeps : (permitted : List Pair) (rows : Rows) (m : ℕ) → AreSound permitted rows
     → AreSound permitted (settled m rows)
 settle_keeps permitted rows m sound =
     mapped_sound permitted rows (λ (x : Entry). Unit {0}) (settled_at m) rows.known sound
@@ -87,7 +87,7 @@ clear_sole s x true is =
     cc
 clear_sole s x false is = is
 
-pub drop_keeps : (permitted : List RowSeed) (rows : Rows) (s : ℕ) → AreSound permitted rows
+pub drop_keeps : (permitted : List Pair) (rows : Rows) (s : ℕ) → AreSound permitted rows
     → AreSound permitted (slave_dropped s rows)
 drop_keeps permitted rows s sound =
     mapped_sound permitted rows (λ (x : Entry). Unit {0}) (dropped_at s) rows.known sound
@@ -96,7 +96,7 @@ drop_keeps permitted rows s sound =
     (λ x here right. clear_right rows.known x (x.seed.slave == s) right)
     (fewer_used permitted rows (dropped_at s) sound (λ t x is. clear_sole t x (x.seed.slave == s) is))
 
-pub clear_keeps : (permitted : List RowSeed) (rows : Rows) → AreSound permitted rows → AreSound permitted (all_cleared rows)
+pub clear_keeps : (permitted : List Pair) (rows : Rows) → AreSound permitted rows → AreSound permitted (all_cleared rows)
 clear_keeps permitted rows sound =
     mapped_sound permitted rows (λ (x : Entry). Unit {0}) cleared_entry rows.known sound
     (λ x. refl)

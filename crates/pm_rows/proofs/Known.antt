@@ -1,17 +1,13 @@
 -- The modes that the rows know, and rows that are as they were at load.
-use Rattle.std.proofs.Common.{◌≡◌, ℕ, ◌<◌, ◌≤◌, Bool, true, false, ◌==◌, if◌then◌else◌, List, Option, map, length, set, replicate, refl, sym, ◌∙◌, ap, inl, inr}
+use Rattle.std.proofs.Common.{◌≡◌, ℕ, ◌<◌, ◌≤◌, Bool, true, false, ◌==◌, if◌then◌else◌, List, Option, length, set, replicate, refl, ◌∙◌, ap, inl, inr}
 use Rattle.std.specs.Prelude.{unwrap_or}
 use Rattle.std.proofs.lemmas.Bool.{eqb-true, cases_lt}
 use Rattle.std.proofs.lemmas.List.{length-set, length-replicate, get_or-replicate}
 use Rattle.std.proofs.lemmas.Option.{unwrap_or-slice_get, slice_get_past}
-use Rattle.std.proofs.lemmas.Simd.{map-map}
 use Rattle.pm_base.specs.declared.names.Mode.{Mode}
 use Rattle.pm_base.specs.declared.names.Mode.TheVariants.{Off, Active}
 use Rattle.pm_base.proofs.Booleans.{differs}
-use Rattle.pm_rows.specs.declared.row.Entry.{Entry}
 use Rattle.pm_rows.specs.Modes.{mode_in, loaded_modes}
-use Rattle.pm_rows.specs.Rows.{Rows, loaded_entry, loaded_rows, restarted}
-use Rattle.pm_rows.specs.Sound.{pair_in}
 use Rattle.pm_rows.proofs.Shifted.{mode_set_same, mode_set_other}
 
 pub count_at_load : (masters boot : ℕ) → length (loaded_modes masters boot) ≡ masters
@@ -39,9 +35,3 @@ mode_at_load masters boot m within =
     let here : boot < length (replicate masters Off) = rw (length-replicate masters Off) within in
     mode_set_at (replicate masters Off) boot m Active here (m == boot) refl
     ∙ ap (λ (mode : Mode). if m == boot then Active else mode) (off_before masters m)
-
--- a restart makes the rows at load of the same pairs
-pub loaded_again : (rows : Rows) → restarted rows ≡ loaded_rows (length rows.known) rows.boot (map pair_in rows.entries)
-loaded_again rows =
-    ap (λ (entries : List Entry). record { entries = entries; known = loaded_modes (length rows.known) rows.boot; boot = rows.boot })
-    (sym (map-map loaded_entry pair_in rows.entries))

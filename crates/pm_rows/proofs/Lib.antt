@@ -3,6 +3,7 @@ pub mod Blank
 pub mod ByCounts
 pub mod Cells
 pub mod Changed
+pub mod Filled
 pub mod Kept
 pub mod Known
 pub mod Lists

@@ -7,7 +7,7 @@ use Rattle.pm_base.specs.declared.names.Mode.{Mode}
 use Rattle.pm_base.specs.declared.names.Mode.TheVariants.{Off, Active, Asleep, Suspending}
 use Rattle.pm_base.specs.declared.names.NodeId.{NodeId}
 use Rattle.pm_base.proofs.Counts.{count_by-cons}
-use Rattle.pm_rows.specs.declared.row.RowSeed.{RowSeed}
+use Rattle.pm_rows.specs.declared.row.Pair.{Pair}
 use Rattle.pm_rows.specs.declared.row.Row.{Row}
 use Rattle.pm_rows.specs.declared.row.Entry.{Entry}
 use Rattle.pm_rows.specs.Modes.{mode_in}
@@ -75,14 +75,14 @@ right_alike modes x hold armed latency is =
       idle = idle_alike (mode_in x.seed.master modes) x.row hold armed latency ∙ parts.idle;
     })
 
-pub right : (permitted : List RowSeed) (rows : Rows) → AreSound permitted rows
+pub right : (permitted : List Pair) (rows : Rows) → AreSound permitted rows
     → list_all (is_right rows.known) rows.entries ≡ true
 right permitted rows sound =
     let mode = all_both (in_mode is_plain_in rows.known) (in_mode is_idle_in rows.known) rows.entries sound.plain sound.idle in
     let fitting = all_both is_able (suits rows.known) rows.entries sound.able mode in
     all_both (is_within (length rows.known)) (is_fitting rows.known) rows.entries sound.within fitting
 
-pub sound_from : (permitted : List RowSeed) (rows : Rows) → map pair_in rows.entries ≡ permitted
+pub sound_from : (permitted : List Pair) (rows : Rows) → map pair_in rows.entries ≡ permitted
     → ((s : ℕ) → count_by (is_sole_user s) rows.entries ≤ 1) → list_all (is_right rows.known) rows.entries ≡ true
     → AreSound permitted rows
 sound_from permitted rows pairs alone all =
@@ -114,12 +114,12 @@ rows_at m s (x ∷ xs) =
     ∙ (ap (λ n. cond (is_at m s x) 1 0 + n) (rows_at m s xs) ∙ sym (count_by-cons (is_pair m s) (pair_in x) (map pair_in xs)))
 
 -- no pair has two rows
-pub once : (m s : ℕ) (permitted : List RowSeed) (rows : Rows) → AreOnce permitted → AreSound permitted rows
+pub once : (m s : ℕ) (permitted : List Pair) (rows : Rows) → AreOnce permitted → AreSound permitted rows
     → count_by (is_at m s) rows.entries ≤ 1
 once m s permitted rows distinct sound = rw (rows_at m s rows.entries, sound.pairs) (distinct m s)
 
 -- rows that keep their pairs, are right afterwards and are used alone afterwards are sound
-pub mapped_sound : (permitted : List RowSeed) (rows : Rows) (P : Entry → Type 0) (f : Entry → Entry) (modes : List Mode)
+pub mapped_sound : (permitted : List Pair) (rows : Rows) (P : Entry → Type 0) (f : Entry → Entry) (modes : List Mode)
     → AreSound permitted rows
     → ((x : Entry) → (f x).seed ≡ x.seed)
     → Each P rows.entries
@@ -150,7 +150,7 @@ own_or_rival : (m t : ℕ) (x y : Entry) → y.seed ≡ x.seed → (b : Bool) �
     → is_sole_user t y ≡ true → (is_at m t x ≡ true) ⊎ (is_rival m t x ≡ true)
 own_or_rival m t x y same true own stays is =
     let parts = and_parts (y.seed.slave == t) (y.row.used && not y.seed.shareable) is in
-    let P : RowSeed → Type 0 = λ seed. (seed.slave == t) ≡ true in
+    let P : Pair → Type 0 = λ seed. (seed.slave == t) ≡ true in
     let here : (x.seed.slave == t) ≡ true = subst P same parts.0 in
     inl (and_from _ _ own here)
 own_or_rival m t x y same false own stays is =

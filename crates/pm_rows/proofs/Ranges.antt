@@ -10,7 +10,7 @@ use Rattle.pm_base.proofs.ListLemmas.{drop_found}
 use Rattle.pm_base.specs.declared.names.Mode.{Mode}
 use Rattle.pm_cells.proofs.Counting.{one_if, get_same, get_other, same_or_not}
 use Rattle.pm_cells.proofs.Midway.{there}
-use Rattle.pm_rows.specs.declared.row.RowSeed.{RowSeed}
+use Rattle.pm_rows.specs.declared.row.Pair.{Pair}
 use Rattle.pm_rows.specs.declared.row.Entry.{Entry}
 use Rattle.pm_rows.specs.declared.wanted.Wanted.{Wanted}
 use Rattle.pm_rows.specs.declared.seeking.Sought.{Sought}
@@ -33,7 +33,7 @@ none_placed zero (suc s) = refl
 none_placed (suc n) zero = refl
 none_placed (suc n) (suc s) = none_placed n s
 
-pub indexed_first : (seeds : List RowSeed) (first past : List ℕ) (slaves some : ℕ) → first ≡ replicate slaves some → past ≡ replicate slaves 0
+pub indexed_first : (seeds : List Pair) (first past : List ℕ) (slaves some : ℕ) → first ≡ replicate slaves some → past ≡ replicate slaves 0
     → IsIndexed 0 seeds first past
 indexed_first seeds first past slaves some one two = record {
   same = ap length one ∙ (length-replicate {A = ℕ} slaves some ∙ sym (ap length two ∙ length-replicate {A = ℕ} slaves 0));
@@ -47,7 +47,7 @@ placed_same xs s place within = ap (λ got. unwrap_or got 0) (get_same xs s plac
 placed_other : (xs : List ℕ) (s t place : ℕ) → s ≢ t → place_of t (slice_set xs s place) ≡ place_of t xs
 placed_other xs s t place other = ap (λ got. unwrap_or got 0) (get_other xs s t place other)
 
-pub indexed_next : (k : ℕ) (seeds : List RowSeed) (first past : List ℕ) (seed : RowSeed) (low : ℕ) (first' past' : List ℕ) (slaves : ℕ)
+pub indexed_next : (k : ℕ) (seeds : List Pair) (first past : List ℕ) (seed : Pair) (low : ℕ) (first' past' : List ℕ) (slaves : ℕ)
     → IsIndexed k seeds first past → slice_get seeds k ≡ Some seed → list_all (is_placed_pair slaves) seeds ≡ true → length first ≡ slaves
     → low ≡ min (place_of seed.slave first) k
     → first' ≡ slice_set first seed.slave low → past' ≡ slice_set past seed.slave (k + 1)
@@ -80,7 +80,7 @@ indexed_next k seeds first past seed low first' past' slaves is at placed size l
     room : seed.slave < length first
     room = (let below : seed.slave < slaves = ltb-true _ _ (passes_at (is_placed_pair slaves) seeds k seed placed at) in omega arith)
 
-    early : (j : ℕ) (other : RowSeed) → j < k + 1 → slice_get seeds j ≡ Some other → seed.slave ≡ other.slave
+    early : (j : ℕ) (other : Pair) → j < k + 1 → slice_get seeds j ≡ Some other → seed.slave ≡ other.slave
         → place_of seed.slave (slice_set first seed.slave low) ≤ j
     early j other below there own =
         let now : place_of seed.slave (slice_set first seed.slave low) ≡ low = placed_same first seed.slave low room in
@@ -93,12 +93,12 @@ indexed_next k seeds first past seed low first' past' slaves is at placed size l
               omega arith
         ]
 
-    earlier : (j : ℕ) (other : RowSeed) → j < k + 1 → slice_get seeds j ≡ Some other → other.slave ≢ seed.slave → j < k
+    earlier : (j : ℕ) (other : Pair) → j < k + 1 → slice_get seeds j ≡ Some other → other.slave ≢ seed.slave → j < k
     earlier j other below there apart = elim (same_or_not j k _ refl) [
       | inl last ↦
           let P : ℕ → Type 0 = λ n. slice_get seeds n ≡ Some other in
           let both : Some seed ≡ Some other = sym at ∙ subst P last there in
-          let alike : other.slave ≡ seed.slave = (let same : seed ≡ other = cc in ap (λ (z : RowSeed). z.slave) (sym same)) in
+          let alike : other.slave ≡ seed.slave = (let same : seed ≡ other = cc in ap (λ (z : Pair). z.slave) (sym same)) in
           absurd (apart alike)
       | inr before ↦ let other_place = before.0 in omega arith
     ]
@@ -259,14 +259,14 @@ has_second true b is = is
 has_second false b is = cc
 
 pub cover_one : (m s : ℕ) (pass : Pass) (a b : ℕ) (entries : List Entry)
-    → ((seed : RowSeed) → touches pass seed ≡ true → (seed.slave == s) ≡ true) → IsSpan s a b entries → IsCover pass a b entries
+    → ((seed : Pair) → touches pass seed ≡ true → (seed.slave == s) ≡ true) → IsSpan s a b entries → IsCover pass a b entries
 cover_one m s pass a b entries own is = record {
   order = is.order;
   within = is.within;
   inside = λ k e at touched. is.inside k e at (eqb-true _ _ (own e.seed touched));
 }
 
-pub own_one : (m s : ℕ) (seed : RowSeed) → ((seed.master == m) && (seed.slave == s)) ≡ true → (seed.slave == s) ≡ true
+pub own_one : (m s : ℕ) (seed : Pair) → ((seed.master == m) && (seed.slave == s)) ≡ true → (seed.slave == s) ≡ true
 own_one m s seed is = has_second (seed.master == m) (seed.slave == s) is
 
 pub cover_all : (pass : Pass) (b : ℕ) (entries : List Entry) → b ≡ length entries → IsCover pass 0 b entries

@@ -10,7 +10,7 @@ use Rattle.pm_base.specs.declared.names.Mode.{Mode}
 use Rattle.pm_base.specs.declared.names.Mode.TheVariants.{Off, Active, Asleep, Suspending}
 use Rattle.pm_base.proofs.Booleans.{first_passes, later_passes, differs}
 use Rattle.pm_base.proofs.Tests.{any-map, list_any-same}
-use Rattle.pm_rows.specs.declared.row.RowSeed.{RowSeed}
+use Rattle.pm_rows.specs.declared.row.Pair.{Pair}
 use Rattle.pm_rows.specs.declared.row.Entry.{Entry}
 use Rattle.pm_rows.specs.declared.row.Row.{Row}
 use Rattle.pm_rows.specs.Modes.{mode_in}
@@ -303,7 +303,7 @@ fewer_at entries m t from to x true is rival sole =
 fewer_at entries m t from to x false is rival sole = sole
 
 -- a change of a master's mode keeps sound rows sound
-pub shift_keeps : (permitted : List RowSeed) (rows : Rows) (m : ℕ) (to : Mode) → AreOnce permitted
+pub shift_keeps : (permitted : List Pair) (rows : Rows) (m : ℕ) (to : Mode) → AreOnce permitted
     → AreSound permitted rows → AreSound permitted (shifted m to rows)
 shift_keeps permitted rows m to distinct sound =
     let from : Mode = mode_of m rows in

@@ -3,7 +3,7 @@ use Rattle.std.proofs.Common.{◌≡◌, ℕ, ◌+◌, ◌<◌, Bool, cond, nat_
 use Rattle.std.specs.Prelude.{count_by, find}
 use Rattle.std.proofs.lemmas.Bool.Decides.{nat_tests}
 use Rattle.pm_base.proofs.Counts.{Split, split, count_by-append, count_by-cons, count_by_none}
-use Rattle.pm_rows.specs.declared.row.RowSeed.{RowSeed}
+use Rattle.pm_rows.specs.declared.row.Pair.{Pair}
 use Rattle.pm_rows.specs.Rows.{Rows, is_at, entry_at}
 use Rattle.pm_rows.specs.Sound.{is_pair, AreSound}
 use Rattle.pm_rows.proofs.Mapped.{rows_at}
@@ -24,7 +24,7 @@ some_counts p xs (Some x) is =
     grind (arith, nat_tests)
 
 -- a pair has a row exactly where it is permitted
-pub there_exactly : (permitted : List RowSeed) (rows : Rows) (m s : ℕ) → AreSound permitted rows
+pub there_exactly : (permitted : List Pair) (rows : Rows) (m s : ℕ) → AreSound permitted rows
     → is_some (entry_at m s rows) ≡ nat_lt 0 (count_by (is_pair m s) permitted)
 there_exactly permitted rows m s sound =
     some_counts (is_at m s) rows.entries (entry_at m s rows) refl

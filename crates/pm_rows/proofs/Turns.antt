@@ -12,11 +12,11 @@ use Rattle.pm_base.proofs.Counts.{count_by-cons}
 use Rattle.pm_base.specs.declared.names.Mode.{Mode}
 use Rattle.pm_base.specs.declared.names.Mode.TheVariants.{Off}
 use Rattle.pm_rows.specs.declared.row.Row.{Row}
-use Rattle.pm_rows.specs.declared.row.RowSeed.{RowSeed}
+use Rattle.pm_rows.specs.declared.row.Pair.{Pair}
 use Rattle.pm_rows.specs.declared.row.Entry.{Entry}
 use Rattle.pm_rows.specs.declared.row.Change.{Change}
 use Rattle.pm_rows.specs.declared.passes.Pass.{Pass}
-use Rattle.pm_rows.specs.declared.passes.Pass.TheVariants.{One, Settle, Shift, DropSlave, Clear, Restart}
+use Rattle.pm_rows.specs.declared.passes.Pass.TheVariants.{One, Settle, Shift, DropSlave, Clear}
 use Rattle.pm_rows.specs.Modes.{mode_in}
 use Rattle.pm_rows.specs.Rows.{is_rival, is_at}
 use Rattle.pm_rows.specs.Shift.{shifted_row, is_taken}
@@ -56,7 +56,6 @@ row_alike (Shift m from to) rows now k x is touched =
     ap (λ t. shifted_row from to t x.row) taken
 row_alike (DropSlave s) rows now k x is touched = refl
 row_alike Clear rows now k x is touched = refl
-row_alike Restart rows now k x is touched = refl
 
 pub passed_touched : (pass : Pass) (rows : List Entry) (x : Entry) → touches pass x.seed ≡ true
     → passed pass rows x ≡ record x { row = row_after pass rows x }
@@ -66,24 +65,23 @@ pub passed_untouched : (pass : Pass) (rows : List Entry) (x : Entry) → touches
 passed_untouched pass rows x is = ap (λ b. if b then record x { row = row_after pass rows x } else x) is
 
 -- the masters of rows that a pass leaves are in the mode that they were in
-mode_untouched : (pass : Pass) (boot : ℕ) (known : List Mode) (x : Entry) → touches pass x.seed ≡ false
-    → mode_in x.seed.master (known_after pass boot known) ≡ mode_in x.seed.master known
-mode_untouched (One m s by) boot known x is = refl
-mode_untouched (Settle m) boot known x is = refl
-mode_untouched (Shift m from to) boot known x is =
+mode_untouched : (pass : Pass) (known : List Mode) (x : Entry) → touches pass x.seed ≡ false
+    → mode_in x.seed.master (known_after pass known) ≡ mode_in x.seed.master known
+mode_untouched (One m s by) known x is = refl
+mode_untouched (Settle m) known x is = refl
+mode_untouched (Shift m from to) known x is =
     let apart : x.seed.master ≢ m = λ e. let yes : (x.seed.master == m) ≡ true = eq-eqb _ _ e in cc in
     unwrap_or-slice_get (slice_set known m to) x.seed.master Off
     ∙ (get_or-set_other known m x.seed.master to Off apart ∙ sym (unwrap_or-slice_get known x.seed.master Off))
-mode_untouched (DropSlave s) boot known x is = refl
-mode_untouched Clear boot known x is = cc
-mode_untouched Restart boot known x is = cc
+mode_untouched (DropSlave s) known x is = refl
+mode_untouched Clear known x is = cc
 
-entries_midway : (pass : Pass) (boot : ℕ) (known : List Mode) (rows : List Entry) (k : ℕ)
-    → map entry_in (midway (done pass boot known rows) (counted known) k rows) ≡ midway (passed pass rows) same k rows
-entries_midway pass boot known rows k = midway_map entry_in (done pass boot known rows) (counted known) rows k
+entries_midway : (pass : Pass) (known : List Mode) (rows : List Entry) (k : ℕ)
+    → map entry_in (midway (done pass known rows) (counted known) k rows) ≡ midway (passed pass rows) same k rows
+entries_midway pass known rows k = midway_map entry_in (done pass known rows) (counted known) rows k
 
-module _ (pass : Pass) (boot : ℕ) (known : List Mode) (rows : List Entry) (start k : ℕ) (table : Table) (steps : ℕ)
-    (is : IsPassing pass boot known rows start k table steps) where
+module _ (pass : Pass) (known : List Mode) (rows : List Entry) (start k : ℕ) (table : Table) (steps : ℕ)
+    (is : IsPassing pass known rows start k table steps) where
   -- the row at the place is the one before the pass
   pub row_here : (x : Entry) → slice_get table.entries k ≡ Some x → k < length rows → slice_get rows k ≡ Some x
   row_here x at within =
@@ -99,40 +97,40 @@ module _ (pass : Pass) (boot : ℕ) (known : List Mode) (rows : List Entry) (sta
   pub ready_here : (x : Entry) → slice_get rows k ≡ Some x → x.seed.slave < length table.tally.users → length rows < 2 ^ 31
       → AreReady (counted_in (mode_in x.seed.master known) x) table.tally
   ready_here x at placed few =
-      tallied_ready (midway (done pass boot known rows) (counted known) k rows) table.tally k (counted known x) is.kept
-      (midway_get (done pass boot known rows) (counted known) rows k x at) placed
-      (let size = midway_len (done pass boot known rows) (counted known) rows k in omega arith)
+      tallied_ready (midway (done pass known rows) (counted known) k rows) table.tally k (counted known x) is.kept
+      (midway_get (done pass known rows) (counted known) rows k x at) placed
+      (let size = midway_len (done pass known rows) (counted known) rows k in omega arith)
 
   permitted_here : (s : ℕ) → permitted_on s table.entries ≡ permitted_on s rows
   permitted_here s =
       ap (permitted_on s) is.changed
       ∙ midway_count (is_on s) (is_on s) (passed pass rows) same
-      (λ x. ap (λ (n : ℕ). n == s) (ap (λ (seed : RowSeed). seed.slave) (passed_seed pass rows x))) (λ x. refl) rows k
+      (λ x. ap (λ (n : ℕ). n == s) (ap (λ (seed : Pair). seed.slave) (passed_seed pass rows x))) (λ x. refl) rows k
 
   -- it is put
   pub put_here : (x : Entry) (to : Mode) (row : Row) (next : Table) (later : ℕ) → slice_get rows k ≡ Some x → touches pass x.seed ≡ true
       → x.seed.slave < length table.tally.users
-      → to ≡ mode_in x.seed.master (known_after pass boot known)
+      → to ≡ mode_in x.seed.master (known_after pass known)
       → row ≡ row_after pass table.entries x
       → next.entries ≡ slice_set table.entries k (record x { row = row })
       → next.tally ≡ moved (counted_in (mode_in x.seed.master known) x) (counted_in to (record x { row = row })) next.entries table.tally
       → later ≤ (steps + 1) + (4 + permitted_on x.seed.slave table.entries)
-      → IsPassing pass boot known rows start (k + 1) next later
+      → IsPassing pass known rows start (k + 1) next later
   put_here x to row next later at touched placed mode row_is entries tally cost =
       let after : record x { row = row } ≡ passed pass rows x =
       ap (λ r. record x { row = r }) (row_is ∙ row_alike pass rows table.entries k x is.changed touched) ∙ sym (passed_touched pass rows x touched)
       in
-      let seen : counted_in to (record x { row = row }) ≡ done pass boot known rows x =
-      ap (λ m. counted_in m (record x { row = row })) mode ∙ ap (counted_in (mode_in x.seed.master (known_after pass boot known))) after
+      let seen : counted_in to (record x { row = row }) ≡ done pass known rows x =
+      ap (λ m. counted_in m (record x { row = row })) mode ∙ ap (counted_in (mode_in x.seed.master (known_after pass known))) after
       in
-      let put = midway_set (done pass boot known rows) (counted known) rows k x at in
-      let P : Tally → Type 0 = λ t. AreTallied (midway (done pass boot known rows) (counted known) (k + 1) rows) t in
+      let put = midway_set (done pass known rows) (counted known) rows k x at in
+      let P : Tally → Type 0 = λ t. AreTallied (midway (done pass known rows) (counted known) (k + 1) rows) t in
       let Q : List Counted → Type 0 = λ cs. AreTallied cs (moved (counted known x) (counted_in to (record x { row = row })) next.entries table.tally) in
-      let here : AreTallied (slice_set (midway (done pass boot known rows) (counted known) k rows) k (counted_in to (record x { row = row })))
+      let here : AreTallied (slice_set (midway (done pass known rows) (counted known) k rows) k (counted_in to (record x { row = row })))
       (moved (counted known x) (counted_in to (record x { row = row })) next.entries table.tally) =
-      tallied_moved (midway (done pass boot known rows) (counted known) k rows) table.tally k (counted known x) (counted_in to (record x { row = row }))
-      next.entries is.kept (midway_get (done pass boot known rows) (counted known) rows k x at) refl placed
-      (entries ∙ ap (λ es. slice_set es k (record x { row = row })) (is.changed ∙ sym (entries_midway pass boot known rows k)))
+      tallied_moved (midway (done pass known rows) (counted known) k rows) table.tally k (counted known x) (counted_in to (record x { row = row }))
+      next.entries is.kept (midway_get (done pass known rows) (counted known) rows k x at) refl placed
+      (entries ∙ ap (λ es. slice_set es k (record x { row = row })) (is.changed ∙ sym (entries_midway pass known rows k)))
       in
       let due : cost_of pass rows x ≡ 5 + permitted_on x.seed.slave rows = ap (λ b. cond b (5 + permitted_on x.seed.slave rows) 0) touched in
       let left : sum_by (cost_of pass rows) (drop k rows) ≡ cost_of pass rows x + sum_by (cost_of pass rows) (drop (k + 1) rows) =
@@ -142,17 +140,17 @@ module _ (pass : Pass) (boot : ℕ) (known : List Mode) (rows : List Entry) (sta
         changed =
             entries ∙ (ap (λ es. slice_set es k (record x { row = row })) is.changed
             ∙ (ap (slice_set (midway (passed pass rows) same k rows) k) after ∙ midway_set (passed pass rows) same rows k x at));
-        kept = subst P (sym tally) (subst Q (ap (slice_set (midway (done pass boot known rows) (counted known) k rows) k) seen ∙ put) here);
+        kept = subst P (sym tally) (subst Q (ap (slice_set (midway (done pass known rows) (counted known) k rows) k) seen ∙ put) here);
         cost = omega (arith, due, left, is.cost, permitted_here x.seed.slave);
       }
 
   -- or it is left
   pub left_here : (x : Entry) → slice_get rows k ≡ Some x → touches pass x.seed ≡ false
-      → IsPassing pass boot known rows start (k + 1) table steps
+      → IsPassing pass known rows start (k + 1) table steps
   left_here x at untouched =
       let stays = passed_untouched pass rows x untouched in
-      let alike : done pass boot known rows x ≡ counted known x =
-      ap (λ m. counted_in m (passed pass rows x)) (mode_untouched pass boot known x untouched) ∙ ap (counted_in (mode_in x.seed.master known)) stays
+      let alike : done pass known rows x ≡ counted known x =
+      ap (λ m. counted_in m (passed pass rows x)) (mode_untouched pass known x untouched) ∙ ap (counted_in (mode_in x.seed.master known)) stays
       in
       let P : List Counted → Type 0 = λ cs. AreTallied cs table.tally in
       let due : cost_of pass rows x ≡ 0 = ap (λ b. cond b (5 + permitted_on x.seed.slave rows) 0) untouched in
@@ -161,22 +159,22 @@ module _ (pass : Pass) (boot : ℕ) (known : List Mode) (rows : List Entry) (sta
       in
       record {
         changed = is.changed ∙ midway_same (passed pass rows) same rows k x at stays;
-        kept = subst P (midway_same (done pass boot known rows) (counted known) rows k x at alike) is.kept;
+        kept = subst P (midway_same (done pass known rows) (counted known) rows k x at alike) is.kept;
         cost = omega (arith, due, left, is.cost);
       }
 
   -- the same, where the pair was read before the row
-  pub put_there : (x : Entry) (seed : RowSeed) (from to : Mode) (row : Row) (next : Table) (later read : ℕ) → slice_get rows k ≡ Some x
+  pub put_there : (x : Entry) (seed : Pair) (from to : Mode) (row : Row) (next : Table) (later read : ℕ) → slice_get rows k ≡ Some x
       → slice_get table.entries k ≡ Some x → option_map (λ (e : Entry). e.seed) (slice_get table.entries k) ≡ Some seed → touches pass seed ≡ true
       → x.seed.slave < length table.tally.users
       → from ≡ mode_in x.seed.master known
-      → to ≡ mode_in x.seed.master (known_after pass boot known)
+      → to ≡ mode_in x.seed.master (known_after pass known)
       → row ≡ row_after pass table.entries x
       → read ≡ steps + 1
       → next.entries ≡ slice_set table.entries k (record x { row = row })
       → next.tally ≡ moved (counted_in from x) (counted_in to (record x { row = row })) next.entries table.tally
       → later ≤ read + (4 + permitted_on x.seed.slave table.entries)
-      → IsPassing pass boot known rows start (k + 1) next later
+      → IsPassing pass known rows start (k + 1) next later
   put_there x seed from to row next later read at here pair touched placed before mode row_is reads entries tally cost =
       let both : Some x.seed ≡ Some seed = ap (option_map (λ (e : Entry). e.seed)) (sym here) ∙ pair in
       let same_pair : x.seed ≡ seed = cc in
@@ -184,8 +182,8 @@ module _ (pass : Pass) (boot : ℕ) (known : List Mode) (rows : List Entry) (sta
       (tally ∙ ap (λ m. moved (counted_in m x) (counted_in to (record x { row = row })) next.entries table.tally) before)
       (omega arith)
 
-  pub left_there : (seed : RowSeed) → k < length rows → option_map (λ (e : Entry). e.seed) (slice_get table.entries k) ≡ Some seed
-      → touches pass seed ≡ false → IsPassing pass boot known rows start (k + 1) table steps
+  pub left_there : (seed : Pair) → k < length rows → option_map (λ (e : Entry). e.seed) (slice_get table.entries k) ≡ Some seed
+      → touches pass seed ≡ false → IsPassing pass known rows start (k + 1) table steps
   left_there seed within pair untouched =
       let found = there rows k within in
       let mid : slice_get table.entries k ≡ Some found.0 = ap (λ es. slice_get es k) is.changed ∙ midway_get (passed pass rows) same rows k found.0 found.1 in
@@ -194,65 +192,65 @@ module _ (pass : Pass) (boot : ℕ) (known : List Mode) (rows : List Entry) (sta
       left_here found.0 found.1 (ap (touches pass) same_pair ∙ untouched)
 
 -- rows that a pass leaves are passed over
-pub skip : (n : ℕ) (pass : Pass) (boot : ℕ) (known : List Mode) (rows : List Entry) (start k : ℕ) (table : Table) (steps : ℕ)
-    → IsPassing pass boot known rows start k table steps → k + n ≤ length rows
+pub skip : (n : ℕ) (pass : Pass) (known : List Mode) (rows : List Entry) (start k : ℕ) (table : Table) (steps : ℕ)
+    → IsPassing pass known rows start k table steps → k + n ≤ length rows
     → ((j : ℕ) (x : Entry) → slice_get rows j ≡ Some x → k ≤ j → j < k + n → touches pass x.seed ≡ false)
-    → IsPassing pass boot known rows start (k + n) table steps
-skip zero pass boot known rows start k table steps is within off =
-    let P : ℕ → Type 0 = λ j. IsPassing pass boot known rows start j table steps in
+    → IsPassing pass known rows start (k + n) table steps
+skip zero pass known rows start k table steps is within off =
+    let P : ℕ → Type 0 = λ j. IsPassing pass known rows start j table steps in
     let same_place : k ≡ k + 0 = omega arith in
     subst P same_place is
-skip (suc n) pass boot known rows start k table steps is within off =
+skip (suc n) pass known rows start k table steps is within off =
     let found = there rows k (omega arith) in
-    let one = left_here pass boot known rows start k table steps is found.0 found.1 (off k found.0 found.1 (omega arith) (omega arith)) in
-    let P : ℕ → Type 0 = λ j. IsPassing pass boot known rows start j table steps in
+    let one = left_here pass known rows start k table steps is found.0 found.1 (off k found.0 found.1 (omega arith) (omega arith)) in
+    let P : ℕ → Type 0 = λ j. IsPassing pass known rows start j table steps in
     let next : k + 1 + n ≡ k + suc n = omega arith in
-    subst P next (skip n pass boot known rows start (k + 1) table steps one (omega arith) (λ j x at past below. off j x at (omega arith) (omega arith)))
+    subst P next (skip n pass known rows start (k + 1) table steps one (omega arith) (λ j x at past below. off j x at (omega arith) (omega arith)))
 
-pub skip_to : (a k : ℕ) (pass : Pass) (boot : ℕ) (known : List Mode) (rows : List Entry) (start : ℕ) (table : Table) (steps : ℕ)
-    → IsPassing pass boot known rows start k table steps → k ≤ a → a ≤ length rows
+pub skip_to : (a k : ℕ) (pass : Pass) (known : List Mode) (rows : List Entry) (start : ℕ) (table : Table) (steps : ℕ)
+    → IsPassing pass known rows start k table steps → k ≤ a → a ≤ length rows
     → ((j : ℕ) (x : Entry) → slice_get rows j ≡ Some x → k ≤ j → j < a → touches pass x.seed ≡ false)
-    → IsPassing pass boot known rows start a table steps
-skip_to a k pass boot known rows start table steps is from within off =
-    let P : ℕ → Type 0 = λ j. IsPassing pass boot known rows start j table steps in
+    → IsPassing pass known rows start a table steps
+skip_to a k pass known rows start table steps is from within off =
+    let P : ℕ → Type 0 = λ j. IsPassing pass known rows start j table steps in
     let there_is : k + (a - k) ≡ a = omega arith in
-    subst P there_is (skip (a - k) pass boot known rows start k table steps is (omega arith) (λ j x at past below. off j x at past (omega arith)))
+    subst P there_is (skip (a - k) pass known rows start k table steps is (omega arith) (λ j x at past below. off j x at past (omega arith)))
 
 -- at the start nothing is done
-pub starts : (pass : Pass) (boot : ℕ) (known : List Mode) (table : Table) (steps : ℕ)
+pub starts : (pass : Pass) (known : List Mode) (table : Table) (steps : ℕ)
     → AreTallied (map (counted known) table.entries) table.tally
-    → IsPassing pass boot known table.entries steps 0 table steps
-starts pass boot known table steps are = record {
+    → IsPassing pass known table.entries steps 0 table steps
+starts pass known table steps are = record {
   changed = sym (map_same same (λ x. refl) table.entries);
   kept = are;
   cost = omega arith;
 }
 
-counted_done : (pass : Pass) (boot : ℕ) (known : List Mode) (rows : List Entry) (xs : List Entry)
-    → map (done pass boot known rows) xs ≡ map (counted (known_after pass boot known)) (map (passed pass rows) xs)
-counted_done pass boot known rows [] = refl
-counted_done pass boot known rows (x ∷ xs) =
-    let master : x.seed.master ≡ (passed pass rows x).seed.master = ap (λ (seed : RowSeed). seed.master) (sym (passed_seed pass rows x)) in
-    let here : done pass boot known rows x ≡ counted (known_after pass boot known) (passed pass rows x) =
-    ap (λ m. counted_in (mode_in m (known_after pass boot known)) (passed pass rows x)) master
+counted_done : (pass : Pass) (known : List Mode) (rows : List Entry) (xs : List Entry)
+    → map (done pass known rows) xs ≡ map (counted (known_after pass known)) (map (passed pass rows) xs)
+counted_done pass known rows [] = refl
+counted_done pass known rows (x ∷ xs) =
+    let master : x.seed.master ≡ (passed pass rows x).seed.master = ap (λ (seed : Pair). seed.master) (sym (passed_seed pass rows x)) in
+    let here : done pass known rows x ≡ counted (known_after pass known) (passed pass rows x) =
+    ap (λ m. counted_in (mode_in m (known_after pass known)) (passed pass rows x)) master
     in
-    let later = counted_done pass boot known rows xs in
+    let later = counted_done pass known rows xs in
     cc
 
 -- at the end all is
-pub record HasPassed (pass : Pass) (boot : ℕ) (known : List Mode) (rows : List Entry) (start : ℕ) (table : Table) (steps : ℕ) : Type 0 where
+pub record HasPassed (pass : Pass) (known : List Mode) (rows : List Entry) (start : ℕ) (table : Table) (steps : ℕ) : Type 0 where
   pub changed : table.entries ≡ map (passed pass rows) rows
-  pub kept : AreTallied (map (counted (known_after pass boot known)) table.entries) table.tally
+  pub kept : AreTallied (map (counted (known_after pass known)) table.entries) table.tally
   pub cost : steps ≤ start + sum_by (cost_of pass rows) rows
 
-pub ends : (pass : Pass) (boot : ℕ) (known : List Mode) (rows : List Entry) (start k : ℕ) (table : Table) (steps : ℕ)
-    → IsPassing pass boot known rows start k table steps → k ≡ length rows → HasPassed pass boot known rows start table steps
-ends pass boot known rows start k table steps is end =
+pub ends : (pass : Pass) (known : List Mode) (rows : List Entry) (start k : ℕ) (table : Table) (steps : ℕ)
+    → IsPassing pass known rows start k table steps → k ≡ length rows → HasPassed pass known rows start table steps
+ends pass known rows start k table steps is end =
     let changed : table.entries ≡ map (passed pass rows) rows = is.changed ∙ midway_end (passed pass rows) same rows k end in
     let P : List Counted → Type 0 = λ cs. AreTallied cs table.tally in
     record {
       changed = changed;
-      kept = subst P (midway_end (done pass boot known rows) (counted known) rows k end ∙ (counted_done pass boot known rows rows ∙ ap (map (counted (known_after pass boot known))) (sym changed))) is.kept;
+      kept = subst P (midway_end (done pass known rows) (counted known) rows k end ∙ (counted_done pass known rows rows ∙ ap (map (counted (known_after pass known))) (sym changed))) is.kept;
       cost = omega (arith, is.cost);
     }
 

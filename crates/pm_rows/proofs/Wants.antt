@@ -7,7 +7,7 @@ use Rattle.pm_base.specs.declared.caps.Caps.{Caps}
 use Rattle.pm_base.specs.declared.names.Mode.{Mode}
 use Rattle.pm_base.specs.declared.names.Mode.TheVariants.{Off, Active, Asleep, Suspending}
 use Rattle.pm_rows.specs.declared.wanted.Wanted.{Wanted}
-use Rattle.pm_rows.specs.declared.row.RowSeed.{RowSeed}
+use Rattle.pm_rows.specs.declared.row.Pair.{Pair}
 use Rattle.pm_rows.specs.declared.row.Entry.{Entry}
 use Rattle.pm_rows.specs.Modes.{mode_in}
 use Rattle.pm_rows.specs.Rows.{Rows, no_caps, has_all}
@@ -20,7 +20,7 @@ abbrev pub WantsOnly : Caps → ℕ → Entry → Type 0
 WantsOnly all s entry = entry.seed.slave ≡ s → (mode : Mode) → IsTrue (has_all all (required_by mode entry))
 
 -- the pairs on the slave at place s have these capabilities
-abbrev pub HasAll : Caps → ℕ → RowSeed → Type 0
+abbrev pub HasAll : Caps → ℕ → Pair → Type 0
 HasAll all s pair = pair.slave ≡ s → pair.all ≡ all
 
 if_has : (all : Caps) (b : Bool) (caps : Caps) → IsTrue (has_all all caps) → IsTrue (has_all all (if b then caps else no_caps))
@@ -73,8 +73,8 @@ rows_able all s modes (x ∷ xs) wanted before each =
     rows_able all s modes xs (with_row s modes wanted x) (with_row_able all modes wanted x s (x.seed.slave == s) refl before each.0) each.1
 
 -- what is wanted of a slave is within its capabilities
-pub wanted_able : (permitted : List RowSeed) (rows : Rows) (s : ℕ) (all : Caps) → AreSound permitted rows
+pub wanted_able : (permitted : List Pair) (rows : Rows) (s : ℕ) (all : Caps) → AreSound permitted rows
     → Each (HasAll all s) permitted → IsTrue (has_all all (wanted_of s rows).caps)
 wanted_able permitted rows s all sound have =
-    let P : List RowSeed → Type 0 = λ pairs. Each (HasAll all s) pairs in
+    let P : List Pair → Type 0 = λ pairs. Each (HasAll all s) pairs in
     rows_able all s rows.known rows.entries nothing_wanted (has_all_nothing all) (rows_want_only all s rows.entries (subst P (sym sound.pairs) have) sound.able)

@@ -1,10 +1,11 @@
 -- What is counted of the rows: for each slave how many rows want each capability, how many use it, and the least latency.
-use Rattle.std.specs.Prelude.{◌≡◌, ℕ, ◌+◌, ◌-◌, ◌<◌, ◌^◌, Bool, true, false, ◌&&◌, ◌==◌, if◌then◌else◌, nat_lt, IsTrue, List, [], ◌∷◌, map, fold, count_by, length, replicate, slice_get, slice_set, slice_index, unwrap_or, Option, Some, None}
+use Rattle.std.specs.Prelude.{◌≡◌, ℕ, ◌+◌, ◌-◌, ◌<◌, ◌≤◌, ◌^◌, Bool, true, false, ◌&&◌, ◌==◌, if◌then◌else◌, nat_lt, IsTrue, List, [], ◌∷◌, map, fold, count_by, length, replicate, slice_get, slice_set, slice_index, unwrap_or, Option, Some, None}
 use Rattle.std.specs.List.{list_all}
 use Rattle.std.specs.Int.{bit_at}
 use Rattle.pm_base.specs.declared.caps.Caps.{Caps}
 use Rattle.pm_base.specs.declared.names.Mode.{Mode}
 use Rattle.pm_rows.specs.declared.wanted.Wanted.{Wanted}
+use Rattle.pm_rows.specs.declared.row.Pair.{Pair}
 use Rattle.pm_rows.specs.declared.row.RowSeed.{RowSeed}
 use Rattle.pm_rows.specs.declared.row.Row.{Row}
 use Rattle.pm_rows.specs.declared.row.Entry.{Entry}
@@ -65,28 +66,33 @@ pub record Tally : Type 0 where
   pub limits : List (Option ℕ)
 
 -- the rows as they stand in cells, each with its pair
-abbrev pub entries_of : List RowSeed → List Row → List Entry
+abbrev pub entries_of : List Pair → List Row → List Entry
 entries_of [] rows = []
 entries_of (seed ∷ seeds) [] = []
 entries_of (seed ∷ seeds) (row ∷ rows) = record { seed = seed; row = row } ∷ entries_of seeds rows
 
--- the rows, and what is counted of them
+-- the rows, what is counted of them, and for how many slaves and how many rows there is room
 pub record Table : Type 0 where
   pub entries : List Entry
   pub tally : Tally
+  pub slaves : ℕ
+  pub room : ℕ
 
 -- the slave of a row is one of so many
 abbrev pub is_placed : ℕ → Entry → Bool
 is_placed slaves entry = nat_lt entry.seed.slave slaves
 
-abbrev pub is_placed_pair : ℕ → RowSeed → Bool
+abbrev pub is_placed_pair : ℕ → Pair → Bool
 is_placed_pair slaves seed = nat_lt seed.slave slaves
 
--- each row has its pair, the slave of each is one of so many, and there are few
-pub record IsTable (seeds : List RowSeed) (cells : List Row) (slaves : ℕ) : Type 0 where
-  pub places : length cells ≡ length seeds
+abbrev pub is_placed_seed : ℕ → RowSeed → Bool
+is_placed_seed slaves seed = nat_lt seed.slave slaves
+
+-- there is a cell for each pair, the slave of each is one of so many, and there are few cells
+pub record IsTable (seeds : List Pair) (cells : List Row) (slaves : ℕ) : Type 0 where
+  pub places : length seeds ≤ length cells
   pub placed : IsTrue (list_all (is_placed_pair slaves) seeds)
-  pub few : length seeds < 2 ^ 31
+  pub few : length cells < 2 ^ 31
 
 -- ---- what is right
 
@@ -162,7 +168,7 @@ wanted_in s t =
 abbrev pub is_narrow : Caps → Bool
 is_narrow caps = nat_lt caps.0 8
 
-abbrev pub is_narrow_pair : RowSeed → Bool
+abbrev pub is_narrow_pair : Pair → Bool
 is_narrow_pair seed = is_narrow seed.all
 
 abbrev pub is_narrow_row : Row → Bool
@@ -172,7 +178,7 @@ abbrev pub is_narrow_entry : Entry → Bool
 is_narrow_entry entry = is_narrow_pair entry.seed && is_narrow_row entry.row
 
 -- no pair and no row has such a capability
-pub record AreNarrow (seeds : List RowSeed) (cells : List Row) : Type 0 where
+pub record AreNarrow (seeds : List Pair) (cells : List Row) : Type 0 where
   pub pairs : IsTrue (list_all is_narrow_pair seeds)
   pub rows : IsTrue (list_all is_narrow_row cells)
 
@@ -181,7 +187,7 @@ pub record AreNarrow (seeds : List RowSeed) (cells : List Row) : Type 0 where
 abbrev pub blank_row : Row
 blank_row = record { used = false; now = no_caps; next = no_caps; preset = no_caps; hold = false; armed = None; latency = None }
 
-abbrev pub blank_entry : RowSeed → Entry
+abbrev pub blank_entry : Pair → Entry
 blank_entry seed = record { seed = seed; row = blank_row }
 
 abbrev pub no_tally : ℕ → Tally

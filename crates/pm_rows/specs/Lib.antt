@@ -1,5 +1,6 @@
 pub mod Cost
 pub mod Counted
+pub mod Filling
 pub mod Kept
 pub mod Modes
 pub mod Passes

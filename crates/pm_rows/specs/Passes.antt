@@ -1,24 +1,22 @@
 -- A pass over all rows: which rows it touches, what it makes of them, and which modes are known afterwards.
-use Rattle.std.specs.Prelude.{ℕ, ◌+◌, Bool, true, false, ◌&&◌, ◌==◌, if◌then◌else◌, List, length, slice_set, cond}
+use Rattle.std.specs.Prelude.{ℕ, ◌+◌, Bool, true, false, ◌&&◌, ◌==◌, if◌then◌else◌, List, slice_set, cond}
 use Rattle.pm_base.specs.declared.names.Mode.{Mode}
-use Rattle.pm_rows.specs.declared.row.RowSeed.{RowSeed}
+use Rattle.pm_rows.specs.declared.row.Pair.{Pair}
 use Rattle.pm_rows.specs.declared.row.Row.{Row}
 use Rattle.pm_rows.specs.declared.row.Entry.{Entry}
 use Rattle.pm_rows.specs.declared.passes.Pass.{Pass}
-use Rattle.pm_rows.specs.declared.passes.Pass.TheVariants.{One, Settle, Shift, DropSlave, Clear, Restart}
-use Rattle.pm_rows.specs.Modes.{loaded_modes}
-use Rattle.pm_rows.specs.Rows.{applied, cleared, loaded}
+use Rattle.pm_rows.specs.declared.passes.Pass.TheVariants.{One, Settle, Shift, DropSlave, Clear}
+use Rattle.pm_rows.specs.Rows.{applied, cleared}
 use Rattle.pm_rows.specs.Shift.{shifted_row, is_taken}
 use Rattle.pm_rows.specs.Counted.{permitted_on}
 
 -- the rows of these pairs change
-abbrev pub touches : Pass → RowSeed → Bool
+abbrev pub touches : Pass → Pair → Bool
 touches (One m s by) seed = (seed.master == m) && (seed.slave == s)
 touches (Settle m) seed = seed.master == m
 touches (Shift m from to) seed = seed.master == m
 touches (DropSlave s) seed = seed.slave == s
 touches Clear seed = true
-touches Restart seed = true
 
 -- what the pass makes of a row, judged on the rows before it
 abbrev pub row_after : Pass → List Entry → Entry → Row
@@ -27,7 +25,6 @@ row_after (Settle m) entries entry = record entry.row { hold = false }
 row_after (Shift m from to) entries entry = shifted_row from to (is_taken entries entry) entry.row
 row_after (DropSlave s) entries entry = cleared entry.row
 row_after Clear entries entry = cleared entry.row
-row_after Restart entries entry = loaded entry.seed
 
 -- each row after the pass
 abbrev pub passed : Pass → List Entry → Entry → Entry
@@ -35,13 +32,12 @@ passed pass entries entry =
     if touches pass entry.seed then record entry { row = row_after pass entries entry } else entry
 
 -- the modes that are known after it
-abbrev pub known_after : Pass → ℕ → List Mode → List Mode
-known_after (One m s by) boot known = known
-known_after (Settle m) boot known = known
-known_after (Shift m from to) boot known = slice_set known m to
-known_after (DropSlave s) boot known = known
-known_after Clear boot known = known
-known_after Restart boot known = loaded_modes (length known) boot
+abbrev pub known_after : Pass → List Mode → List Mode
+known_after (One m s by) known = known
+known_after (Settle m) known = known
+known_after (Shift m from to) known = slice_set known m to
+known_after (DropSlave s) known = known
+known_after Clear known = known
 
 -- what the change of a row costs: it is read, at most four counts change, and the rows on its slave are read
 abbrev pub cost_of : Pass → List Entry → Entry → ℕ

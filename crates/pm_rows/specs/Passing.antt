@@ -13,12 +13,12 @@ abbrev pub same : Entry → Entry
 same entry = entry
 
 -- a row as it is counted after the pass
-abbrev pub done : Pass → ℕ → List Mode → List Entry → Entry → Counted
-done pass boot known entries entry = counted_in (mode_in entry.seed.master (known_after pass boot known)) (passed pass entries entry)
+abbrev pub done : Pass → List Mode → List Entry → Entry → Counted
+done pass known entries entry = counted_in (mode_in entry.seed.master (known_after pass known)) (passed pass entries entry)
 
 -- before place k the rows are as after the pass and counted in the modes then, from there on as before it, and no more was
 -- read and counted than the rows before place k cost
-pub record IsPassing (pass : Pass) (boot : ℕ) (known : List Mode) (rows : List Entry) (start k : ℕ) (table : Table) (steps : ℕ) : Type 0 where
+pub record IsPassing (pass : Pass) (known : List Mode) (rows : List Entry) (start k : ℕ) (table : Table) (steps : ℕ) : Type 0 where
   pub changed : table.entries ≡ midway (passed pass rows) same k rows
-  pub kept : AreTallied (midway (done pass boot known rows) (counted known) k rows) table.tally
+  pub kept : AreTallied (midway (done pass known rows) (counted known) k rows) table.tally
   pub cost : steps + sum_by (cost_of pass rows) (drop k rows) ≤ start + sum_by (cost_of pass rows) rows

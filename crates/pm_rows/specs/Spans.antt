@@ -1,6 +1,6 @@
 -- Between which places the rows of each slave stand.
 use Rattle.std.specs.Prelude.{◌≡◌, ℕ, ◌<◌, ◌≤◌, true, List, length, slice_get, unwrap_or, Some}
-use Rattle.pm_rows.specs.declared.row.RowSeed.{RowSeed}
+use Rattle.pm_rows.specs.declared.row.Pair.{Pair}
 use Rattle.pm_rows.specs.declared.row.Entry.{Entry}
 use Rattle.pm_rows.specs.declared.passes.Pass.{Pass}
 use Rattle.pm_rows.specs.Passes.{touches}
@@ -10,9 +10,9 @@ abbrev pub place_of : ℕ → List ℕ → ℕ
 place_of s places = unwrap_or (slice_get places s) 0
 
 -- each of the pairs before place k stands from the first place of its slave on, and before the place past its last one
-pub record IsIndexed (k : ℕ) (seeds : List RowSeed) (first past : List ℕ) : Type 0 where
+pub record IsIndexed (k : ℕ) (seeds : List Pair) (first past : List ℕ) : Type 0 where
   pub same : length first ≡ length past
-  pub inside : (j : ℕ) (seed : RowSeed) → j < k → slice_get seeds j ≡ Some seed
+  pub inside : (j : ℕ) (seed : Pair) → j < k → slice_get seeds j ≡ Some seed
       → (place_of seed.slave first ≤ j) × (j < place_of seed.slave past)
   pub within : (s : ℕ) → place_of s past ≤ k
 

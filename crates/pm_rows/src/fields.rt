@@ -6,11 +6,12 @@ use std::test::Fail;
 
 /// Takes rows apart by a pattern that names every field and has no rest: what a row is now stands in the
 /// cells and counts alone. The pairs, their places and whether all capabilities were known ones are beside
-/// them, with the modes and the place of the master that is active at load.
+/// them, with the modes and the room.
 fn take_apart(rows: &Rows) {
     let Rows {
         table: Table {
             seeds: _,
+            room: _,
             spans: _,
             narrow: _,
             cells: _,
@@ -21,13 +22,12 @@ fn take_apart(rows: &Rows) {
             limits: _,
         },
         known: _,
-        boot: _,
     } = rows;
 }
 
 #[test]
 fn rows_fields(rt: HostRuntime) -> Result<(), Fail> {
-    let rows = Rows::load(rt.alloc(), 1, 1, 0, &[])?;
+    let rows = Rows::load(rt.alloc(), 1, 1, 0, 0, &[])?;
     take_apart(&rows);
     Ok(())
 }

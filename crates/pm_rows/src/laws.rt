@@ -5,57 +5,55 @@ ghost use Rattle.std.specs.List.{All};
 ghost use Rattle.pm_base.specs.declared.caps.Caps.{Caps};
 ghost use Rattle.pm_base.specs.declared.names.Mode.{Mode};
 ghost use Rattle.pm_base.specs.declared.names.Mode.TheVariants.{Off, Active};
+ghost use Rattle.pm_rows.specs.declared.row.Pair.{Pair};
 ghost use Rattle.pm_rows.specs.declared.row.RowSeed.{RowSeed};
 ghost use Rattle.pm_rows.specs.declared.row.Row.{Row};
 ghost use Rattle.pm_rows.specs.declared.row.Entry.{Entry};
 ghost use Rattle.pm_rows.specs.declared.row.Change.{Change};
 ghost use Rattle.pm_rows.specs.Rows as spec;
-ghost use Rattle.pm_rows.specs.Rows.{has_all, mode_of, entry_at, loaded_rows, restarted, row_changed, settled, slave_dropped, all_cleared};
+ghost use Rattle.pm_rows.specs.Rows.{has_all, mode_of, entry_at, loaded_rows, pair_of, remade, row_changed, settled, slave_dropped, all_cleared};
 ghost use Rattle.pm_rows.specs.Shift.{shifted_row, shift_at, shifted};
-ghost use Rattle.pm_rows.specs.Sound.{AreOnce, AreSound, IsFit, IsLoadable, is_pair, pair_in};
+ghost use Rattle.pm_rows.specs.Sound.{AreOnce, AreRemadeRight, AreSound, IsFit, IsLoadable, is_pair};
 ghost use Rattle.pm_rows.specs.Wanted.{wanted_of};
 
-/// Rows at load are sound, and each operation keeps them so: a change of a row that fits, a change of a
-/// master's mode, dropped holds, and rows that are cleared, on one slave or all; and after a restart they are as at
-/// load. In sound rows a pair has a row exactly where it is permitted, and what is wanted of a slave is
-/// within its capabilities.
+/// Rows at load are sound, and so are rows that are made anew, for whatever pairs. Each operation keeps them so: a change
+/// of a row that fits, a change of a master's mode, dropped holds, and rows that are cleared, on one slave or all. In sound
+/// rows a pair has a row exactly where it is permitted, and what is wanted of a slave is within its capabilities.
 pub fn rows_stay_sound()
-    ensures load { (masters boot : ℕ) (permitted : List RowSeed)
-        → AreOnce permitted → All (IsLoadable masters boot) permitted
-        → AreSound permitted (loaded_rows masters boot permitted) }
-    ensures change { (permitted : List RowSeed) (rows : spec.Rows) (m s : ℕ) (by : Change) (entry : Entry)
+    ensures load { (masters slaves boot room : ℕ) (seeds : List RowSeed)
+        → AreOnce (map pair_of seeds) → All (IsLoadable masters boot) seeds
+        → AreSound (map pair_of seeds) (loaded_rows masters slaves boot room seeds) }
+    ensures remade { (seeds : List RowSeed) (rows : spec.Rows)
+        → AreRemadeRight rows.known seeds → AreSound (map pair_of seeds) (remade seeds rows) }
+    ensures change { (permitted : List Pair) (rows : spec.Rows) (m s : ℕ) (by : Change) (entry : Entry)
         → AreOnce permitted → AreSound permitted rows → entry_at m s rows ≡ Some entry → IsFit m s by entry rows
         → AreSound permitted (row_changed entry.seed.master entry.seed.slave by rows) }
-    ensures shift { (permitted : List RowSeed) (rows : spec.Rows) (m : ℕ) (to : Mode)
+    ensures shift { (permitted : List Pair) (rows : spec.Rows) (m : ℕ) (to : Mode)
         → AreOnce permitted → AreSound permitted rows → AreSound permitted (shifted m to rows) }
-    ensures settle { (permitted : List RowSeed) (rows : spec.Rows) (m : ℕ)
+    ensures settle { (permitted : List Pair) (rows : spec.Rows) (m : ℕ)
         → AreSound permitted rows → AreSound permitted (settled m rows) }
-    ensures drop_slave { (permitted : List RowSeed) (rows : spec.Rows) (s : ℕ)
+    ensures drop_slave { (permitted : List Pair) (rows : spec.Rows) (s : ℕ)
         → AreSound permitted rows → AreSound permitted (slave_dropped s rows) }
-    ensures clear { (permitted : List RowSeed) (rows : spec.Rows)
+    ensures clear { (permitted : List Pair) (rows : spec.Rows)
         → AreSound permitted rows → AreSound permitted (all_cleared rows) }
-    ensures restart { (permitted : List RowSeed) (rows : spec.Rows)
-        → AreOnce permitted → All (IsLoadable (length rows.known) rows.boot) permitted
-        → AreSound permitted rows → AreSound permitted (restarted rows) }
-    ensures there { (permitted : List RowSeed) (rows : spec.Rows) (m s : ℕ) → AreSound permitted rows
+    ensures there { (permitted : List Pair) (rows : spec.Rows) (m s : ℕ) → AreSound permitted rows
         → is_some (entry_at m s rows) ≡ nat_lt 0 (count_by (is_pair m s) permitted) }
-    ensures wanted { (permitted : List RowSeed) (rows : spec.Rows) (s : ℕ) (all : Caps) → AreSound permitted rows
+    ensures wanted { (permitted : List Pair) (rows : spec.Rows) (s : ℕ) (all : Caps) → AreSound permitted rows
         → All (λ pair. pair.slave ≡ s → pair.all ≡ all) permitted → IsTrue (has_all all (wanted_of s rows).caps) }
 {}
 
 /// The modes that the rows know: at load all masters are off but one, a change of a mode is known from
-/// then on and no other mode moves, and after a restart the rows are those at load.
+/// then on and no other mode moves, and rows that are made anew know the modes that were known.
 pub fn rows_know_modes()
-    ensures load { (masters boot m : ℕ) (seeds : List RowSeed) → boot < masters
-        → mode_of m (loaded_rows masters boot seeds) ≡ (if m == boot then Active else Off) }
+    ensures load { (masters slaves boot room m : ℕ) (seeds : List RowSeed) → boot < masters
+        → mode_of m (loaded_rows masters slaves boot room seeds) ≡ (if m == boot then Active else Off) }
     ensures shift { (rows : spec.Rows) (m k : ℕ) (to : Mode) → m < length rows.known
         → mode_of k (shifted m to rows) ≡ (if k == m then to else mode_of k rows) }
-    ensures count { (masters boot : ℕ) (seeds : List RowSeed)
-        → length (loaded_rows masters boot seeds).known ≡ masters }
+    ensures count { (masters slaves boot room : ℕ) (seeds : List RowSeed)
+        → length (loaded_rows masters slaves boot room seeds).known ≡ masters }
     ensures same_count { (rows : spec.Rows) (m : ℕ) (to : Mode)
         → length (shifted m to rows).known ≡ length rows.known }
-    ensures restart { (rows : spec.Rows)
-        → restarted rows ≡ loaded_rows (length rows.known) rows.boot (map pair_in rows.entries) }
+    ensures remade { (rows : spec.Rows) (seeds : List RowSeed) → (remade seeds rows).known ≡ rows.known }
 {}
 
 /// What a shift leaves: the rows of all other masters are as they were, each row keeps its pair, and what

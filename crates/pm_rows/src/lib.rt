@@ -5,6 +5,7 @@
 mod counting;
 #[cfg(test)]
 mod fields;
+mod filling;
 mod laws;
 mod modes;
 mod passes;
@@ -19,6 +20,6 @@ mod table;
 pub mod wanted;
 
 pub use laws::{rows_know_modes, rows_stay_sound, shifts_leave_others};
-pub use row::{Change, Entry, Row, RowSeed};
+pub use row::{Change, Entry, Pair, Row, RowSeed};
 pub use rows::Rows;
 pub use wanted::Wanted;

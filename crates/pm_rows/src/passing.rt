@@ -1,7 +1,7 @@
 //! A pass over all rows, which keeps the counts.
 
 ghost use Rattle.std.specs.Prelude.{◌≡◌, ◌+◌, ◌<◌, ◌≤◌, map, sum_by, slice_set};
-ghost use Rattle.pm_rows.specs.Modes.{mode_in, loaded_modes};
+ghost use Rattle.pm_rows.specs.Modes.{mode_in};
 ghost use Rattle.pm_rows.specs.Shift.{is_taken};
 ghost use Rattle.pm_rows.specs.Counted.{AreTallied, counted};
 ghost use Rattle.pm_rows.specs.Passes.{cost_of, known_after, passed, row_after};
@@ -28,24 +28,12 @@ fn mode_set(known: &[Mode], m: usize, to: Mode, master: usize) -> Mode
     }
 }
 
-/// The mode of a master at load.
-fn mode_at_load(masters: usize, boot: usize, master: usize) -> Mode
-    ensures { result ≡ mode_in master (loaded_modes masters boot) }
-{
-    if master == boot && boot < masters {
-        Mode::Active
-    } else {
-        Mode::Off
-    }
-}
-
 /// The mode of a master after a pass.
-fn mode_after(known: &[Mode], boot: usize, pass: Pass, master: usize) -> Mode
-    ensures { result ≡ mode_in master (known_after pass boot known.now) }
+fn mode_after(known: &[Mode], pass: Pass, master: usize) -> Mode
+    ensures { result ≡ mode_in master (known_after pass known.now) }
 {
     match pass {
         Pass::Shift(m, _, to) => mode_set(known, m, to, master),
-        Pass::Restart => mode_at_load(known.len(), boot, master),
         Pass::One(_, _, _) | Pass::Settle(_) | Pass::DropSlave(_) | Pass::Clear => {
             mode_in(known, master)
         }
@@ -68,7 +56,6 @@ fn row_after(table: &Table, entry: Entry, pass: Pass) -> Row
         Pass::Settle(_) => entry.row.settled(),
         Pass::Shift(_, from, to) => shifted_row(entry.row, from, to, is_taken(table, &entry)),
         Pass::DropSlave(_) | Pass::Clear => entry.row.cleared(),
-        Pass::Restart => Entry::loaded(entry.seed).row,
     }
 }
 
@@ -78,7 +65,7 @@ fn cover(table: &Table, pass: Pass) -> (usize, usize)
 {
     match pass {
         Pass::One(_, slave, _) | Pass::DropSlave(slave) => table.span(slave),
-        Pass::Settle(_) | Pass::Shift(_, _, _) | Pass::Clear | Pass::Restart => (0, table.len()),
+        Pass::Settle(_) | Pass::Shift(_, _, _) | Pass::Clear => (0, table.len()),
     }
 }
 
@@ -87,13 +74,14 @@ fn cover(table: &Table, pass: Pass) -> (usize, usize)
 pub(crate) fn pass_over<L: Ledger>(
     table: &mut Table,
     known: &[Mode],
-    boot: usize,
     pass: Pass,
     steps: &mut Steps<L>,
 )
     requires { AreTallied (map (counted known.now) table.old.entries) table.old.tally }
     ensures rows { table.new.entries ≡ map (passed pass table.old.entries) table.old.entries }
-    ensures counted { AreTallied (map (counted (known_after pass boot known.now)) table.new.entries) table.new.tally }
+    ensures counted { AreTallied (map (counted (known_after pass known.now)) table.new.entries) table.new.tally }
+    ensures slaves { table.new.slaves ≡ table.old.slaves }
+    ensures room { table.new.room ≡ table.old.room }
     ensures cost { steps.new ≤ steps.old + sum_by (cost_of pass table.old.entries) table.old.entries }
 {
     let (first, past) = cover(table, pass);
@@ -103,35 +91,33 @@ pub(crate) fn pass_over<L: Ledger>(
             let entry = table.entry(k, steps);
             let row = row_after(table, entry, pass);
             let from = mode_in(known, entry.seed.master);
-            let to = mode_after(known, boot, pass, entry.seed.master);
+            let to = mode_after(known, pass, entry.seed.master);
             table.put(k, entry, from, row, to, steps);
         }
     }
 }
 
 /// The same with a counter that is thrown away.
-fn pass_uncounted<L: Ledger>(
-    table: &mut Table,
-    known: &[Mode],
-    boot: usize,
-    pass: Pass,
-    blank: Blank,
-)
+fn pass_uncounted<L: Ledger>(table: &mut Table, known: &[Mode], pass: Pass, blank: Blank)
     requires counted { AreTallied (map (counted known.now) table.old.entries) table.old.tally }
     requires name { blank.name ≡ L.name }
     requires parts { blank.parts ≡ L.parts }
     requires some { 0 < blank.parts }
     ensures rows { table.new.entries ≡ map (passed pass table.old.entries) table.old.entries }
-    ensures counted { AreTallied (map (counted (known_after pass boot known.now)) table.new.entries) table.new.tally }
+    ensures counted { AreTallied (map (counted (known_after pass known.now)) table.new.entries) table.new.tally }
+    ensures slaves { table.new.slaves ≡ table.old.slaves }
+    ensures room { table.new.room ≡ table.old.room }
 {
-    pass_over(table, known, boot, pass, &mut Steps::<L>::new(blank));
+    pass_over(table, known, pass, &mut Steps::<L>::new(blank));
 }
 
 /// The same where nothing bounds how many rows are read.
-pub(crate) fn pass_all(table: &mut Table, known: &[Mode], boot: usize, pass: Pass)
+pub(crate) fn pass_all(table: &mut Table, known: &[Mode], pass: Pass)
     requires { AreTallied (map (counted known.now) table.old.entries) table.old.tally }
     ensures rows { table.new.entries ≡ map (passed pass table.old.entries) table.old.entries }
-    ensures counted { AreTallied (map (counted (known_after pass boot known.now)) table.new.entries) table.new.tally }
+    ensures counted { AreTallied (map (counted (known_after pass known.now)) table.new.entries) table.new.tally }
+    ensures slaves { table.new.slaves ≡ table.old.slaves }
+    ensures room { table.new.room ≡ table.old.room }
 {
-    pass_uncounted::<Brand>(table, known, boot, pass, Blank::new(1));
+    pass_uncounted::<Brand>(table, known, pass, Blank::new(1));
 }

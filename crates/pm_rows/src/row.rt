@@ -2,14 +2,24 @@
 
 ghost use Rattle.std.specs.Prelude.{◌≡◌, false};
 ghost use Rattle.pm_rows.specs.Rows as spec;
-ghost use Rattle.pm_rows.specs.Rows.{applied, set_in, is_at, is_of_other, is_rival, is_user};
+ghost use Rattle.pm_rows.specs.Rows.{applied, pair_of, set_in, is_at, is_of_other, is_rival, is_user};
 
 use pm_base::{Caps, Mode, NodeId};
 
 /// A permitted pair: the place of the master in the object, the place of the slave in the table,
-/// whether several masters may use the slave at a time, and the slave's capabilities; and what its row
-/// has at load: the capabilities with which the master starts from off, those with which the slave is
-/// in use from the load on, if it is, and whether it is held.
+/// whether several masters may use the slave at a time, the slave's capabilities, and those with which the
+/// master starts from off.
+#[derive(Clone, Copy, Debug, PartialEq, Eq)]
+pub struct Pair {
+    pub master: usize,
+    pub slave: usize,
+    pub shareable: bool,
+    pub all: Caps,
+    pub preset: Caps,
+}
+
+/// A permitted pair with what its row has at first: the capabilities with which the slave is in use from
+/// then on, if it is, and whether it is held.
 #[derive(Clone, Copy, Debug, PartialEq, Eq)]
 pub struct RowSeed {
     pub master: usize,
@@ -39,7 +49,7 @@ pub struct Row {
 /// A row, and the pair to which it belongs. The pair never changes.
 #[derive(Clone, Copy, Debug, PartialEq, Eq)]
 pub struct Entry {
-    pub seed: RowSeed,
+    pub seed: Pair,
     pub row: Row,
 }
 
@@ -131,14 +141,29 @@ impl Row {
     }
 }
 
+impl RowSeed {
+    /// The pair.
+    pub fn pair(self) -> Pair
+        ensures { result ≡ pair_of self }
+    {
+        Pair {
+            master: self.master,
+            slave: self.slave,
+            shareable: self.shareable,
+            all: self.all,
+            preset: self.preset,
+        }
+    }
+}
+
 impl Entry {
-    /// The row of a pair at load.
+    /// The row of a pair at first.
     pub fn loaded(seed: RowSeed) -> Entry
         ensures { result ≡ spec.loaded_entry seed }
     {
         let caps = seed.start.unwrap_or(Caps(0));
         Entry {
-            seed,
+            seed: seed.pair(),
             row: Row {
                 used: seed.start.is_some(),
                 now: caps,

@@ -1,16 +1,17 @@
 //! The rows of the book: one for each pair of a master and a slave that the object permits.
 
-ghost use Rattle.std.specs.Prelude.{◌≡◌, ◌-◌, ◌<◌, ◌^◌, min, length, slice_get, Some, IfOk};
+ghost use Rattle.std.specs.Prelude.{◌≡◌, ◌-◌, ◌<◌, ◌≤◌, ◌^◌, IsTrue, min, length, slice_get, Some, IfOk};
 ghost use Rattle.std.specs.List.{list_all};
 ghost use Rattle.pm_rows.specs.declared.row.Change.TheVariants.{Request, Release, Set, Limit, Arm};
 ghost use Rattle.pm_rows.specs.Cost.{IsCheap};
-ghost use Rattle.pm_rows.specs.Counted.{is_placed_pair};
+ghost use Rattle.pm_rows.specs.Counted.{is_placed_seed};
 ghost use Rattle.pm_rows.specs.Rows as spec;
-ghost use Rattle.pm_rows.specs.Rows.{mode_of, loaded_rows, restarted, row_changed, settled, slave_dropped, all_cleared, entry_at, row_at, rival_of, users_of, usage_of};
+ghost use Rattle.pm_rows.specs.Rows.{mode_of, loaded_rows, remade, row_changed, settled, slave_dropped, all_cleared, entry_at, row_at, rival_of, users_of, usage_of};
 ghost use Rattle.pm_rows.specs.Shift.{shifted};
 ghost use Rattle.pm_rows.specs.Wanted.{wanted_of};
 
-use crate::modes::{loaded_modes, mode_in, reload_modes, set_mode};
+use crate::filling::fill;
+use crate::modes::{loaded_modes, mode_in, set_mode};
 use crate::passes::Pass;
 use crate::passing::{pass_all, pass_over};
 use crate::row::{Change, Entry, Row, RowSeed};
@@ -24,18 +25,17 @@ use std::sync::ledger::Ledger;
 
 /// Whether the slave of each of these pairs is one of so many.
 fn are_placed(slaves: usize, seeds: &[RowSeed]) -> bool
-    ensures { result ≡ list_all (is_placed_pair slaves) seeds.now }
+    ensures { result ≡ list_all (is_placed_seed slaves) seeds.now }
 {
     seeds.iter().all(|seed| seed.slave < slaves)
 }
 
 /// The rows, each with its pair, and the mode that they know of each master. Contracts see them as the
 /// record of these. What is counted of the rows of each slave is kept with every change.
-#[derive(Debug, Drop)]
+#[derive(Drop)]
 pub struct Rows {
     pub(crate) table: Table,
     pub(crate) known: Vec<Mode>,
-    pub(crate) boot: usize,
 }
 
 impl Model for Rows {
@@ -45,35 +45,37 @@ impl Model for Rows {
 
     ghost Value = { Rows };
 
-    ghost view = { λ rows. record { entries = rows.table.entries; known = rows.known.items; boot = rows.boot } };
+    ghost view = { λ rows. record { entries = rows.table.entries; known = rows.known.items; slaves = rows.table.slaves; room = rows.table.room } };
 
     ghost invariant = { λ rows. AreTallied (map (counted rows.known.items) rows.table.entries) rows.table.tally };
 }
 
 impl Rows {
-    /// A row for each permitted pair, as it is at load. The master at place `boot` is active, and the
-    /// others of these `masters` are off. No later call takes memory.
+    /// A row for each permitted pair, as it is at load, with room for so many pairs. The master at place `boot` is
+    /// active, and the others of these `masters` are off. No later call takes memory.
     ///
     /// # Errors
     ///
     /// `NoMemory` where there is not enough memory, or no room for a pair: its slave isn't one of these
-    /// `slaves`, or there are 2^31 pairs or more.
+    /// `slaves`, there are more pairs than `pairs`, or `pairs` is 2^31 or more.
     pub fn load(
         alloc: Global,
         masters: usize,
         slaves: usize,
         boot: usize,
+        pairs: usize,
         seeds: &[RowSeed],
     ) -> Result<Rows, NoMemory>
-        ensures { IfOk result (λ rows. rows ≡ loaded_rows masters boot seeds.now) }
+        ensures { IfOk result (λ rows. rows ≡ loaded_rows masters slaves boot pairs seeds.now) }
     {
-        if seeds.len() >= 1 << 31 || !are_placed(slaves, seeds) {
+        if pairs >= 1 << 31 || pairs < seeds.len() || !are_placed(slaves, seeds) {
             return Err(NoMemory);
         }
-        let mut table = Table::blank(alloc, slaves, seeds)?;
+        let mut table = Table::blank(alloc, slaves, pairs)?;
+        table.refit(seeds);
         let known = loaded_modes(alloc, masters, boot)?;
-        pass_all(&mut table, &known, boot, Pass::Restart);
-        Ok(Rows { table, known, boot })
+        fill(&mut table, &known, seeds);
+        Ok(Rows { table, known })
     }
 
     /// The mode that the rows know of a master, and off for a master that isn't there.
@@ -81,6 +83,13 @@ impl Rows {
         ensures { result ≡ mode_of master self.now }
     {
         mode_in(&self.known, master)
+    }
+
+    /// The number of masters of which the rows know the mode.
+    pub fn masters(&self) -> usize
+        ensures { result ≡ length self.now.known }
+    {
+        self.known.len()
     }
 
     /// The number of rows.
@@ -134,7 +143,6 @@ impl Rows {
         pass_over(
             &mut self.table,
             &self.known,
-            self.boot,
             Pass::One(master, slave, by),
             steps,
         );
@@ -195,7 +203,6 @@ impl Rows {
         pass_all(
             &mut self.table,
             &self.known,
-            self.boot,
             Pass::One(master, slave, Change::Arm(target)),
         );
     }
@@ -204,12 +211,7 @@ impl Rows {
     pub fn settle(&mut self, master: usize)
         ensures { self.new ≡ settled master self.old }
     {
-        pass_all(
-            &mut self.table,
-            &self.known,
-            self.boot,
-            Pass::Settle(master),
-        );
+        pass_all(&mut self.table, &self.known, Pass::Settle(master));
     }
 
     /// The master's mode is `to` from now on, and its rows change as that change of its mode asks.
@@ -217,12 +219,7 @@ impl Rows {
         ensures { self.new ≡ shifted master to self.old }
     {
         let from = mode_in(&self.known, master);
-        pass_all(
-            &mut self.table,
-            &self.known,
-            self.boot,
-            Pass::Shift(master, from, to),
-        );
+        pass_all(&mut self.table, &self.known, Pass::Shift(master, from, to));
         set_mode(&mut self.known, master, to);
     }
 
@@ -230,27 +227,25 @@ impl Rows {
     pub fn drop_slave(&mut self, slave: usize)
         ensures { self.new ≡ slave_dropped slave self.old }
     {
-        pass_all(
-            &mut self.table,
-            &self.known,
-            self.boot,
-            Pass::DropSlave(slave),
-        );
+        pass_all(&mut self.table, &self.known, Pass::DropSlave(slave));
     }
 
     /// Clears all rows but for their presets.
     pub fn clear(&mut self)
         ensures { self.new ≡ all_cleared self.old }
     {
-        pass_all(&mut self.table, &self.known, self.boot, Pass::Clear);
+        pass_all(&mut self.table, &self.known, Pass::Clear);
     }
 
-    /// Each row, and the mode of each master, is as it was at load.
-    pub fn restart(&mut self)
-        ensures { self.new ≡ restarted self.old }
+    /// All rows are made anew: one for each seed. The modes that are known stay. No memory is taken.
+    pub fn reload(&mut self, seeds: &[RowSeed])
+        requires room { length seeds.now ≤ self.old.room }
+        requires placed { IsTrue (list_all (is_placed_seed self.old.slaves) seeds.now) }
+        ensures { self.new ≡ remade seeds.now self.old }
     {
-        pass_all(&mut self.table, &self.known, self.boot, Pass::Restart);
-        reload_modes(&mut self.known, self.boot);
+        pass_all(&mut self.table, &self.known, Pass::Clear);
+        self.table.refit(seeds);
+        fill(&mut self.table, &self.known, seeds);
     }
 
     /// The requirements in force on a slave.

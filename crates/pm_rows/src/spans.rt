@@ -5,7 +5,7 @@ ghost use Rattle.std.specs.List.{list_all};
 ghost use Rattle.pm_rows.specs.Counted.{is_placed_pair};
 ghost use Rattle.pm_rows.specs.Spans.{IsIndexed};
 
-use crate::row::RowSeed;
+use crate::row::Pair;
 use pm_base::{NoMemory, at_or};
 use std::alloc::Global;
 
@@ -17,7 +17,7 @@ pub(crate) struct Spans {
     pub(crate) past: Vec<usize>,
 }
 
-fn seed_at(seeds: &[RowSeed], k: usize) -> RowSeed
+fn seed_at(seeds: &[Pair], k: usize) -> Pair
     requires { k < length seeds.now }
     ensures { slice_get seeds.now k ≡ Some result }
 {
@@ -40,19 +40,41 @@ fn places(alloc: Global, slaves: usize, place: usize) -> Result<Vec<usize>, NoMe
 }
 
 impl Spans {
-    /// Between which of these pairs those of each slave stand.
-    pub(crate) fn load(alloc: Global, slaves: usize, seeds: &[RowSeed]) -> Result<Spans, NoMemory>
-        requires { IsTrue (list_all (is_placed_pair slaves) seeds.now) }
-        ensures { IfOk result (λ spans. IsIndexed (length seeds.now) seeds.now spans.first.items spans.past.items) }
+    /// No rows of so many slaves.
+    pub(crate) fn load(alloc: Global, slaves: usize) -> Result<Spans, NoMemory>
+        ensures first { IfOk result (λ spans. spans.first.items ≡ replicate slaves 0) }
+        ensures past { IfOk result (λ spans. spans.past.items ≡ replicate slaves 0) }
     {
-        let mut first = places(alloc, slaves, seeds.len())?;
-        let mut past = places(alloc, slaves, 0)?;
-        for k in 0..seeds.len() {
-            let slave = seed_at(seeds, k).slave;
-            let low = at_or(&first, slave, 0).min(k);
-            set_place(&mut first, slave, low);
-            set_place(&mut past, slave, k + 1);
-        }
+        let first = places(alloc, slaves, 0)?;
+        let past = places(alloc, slaves, 0)?;
         Ok(Spans { first, past })
+    }
+
+    /// Between which of these pairs those of each slave stand.
+    pub(crate) fn index(&mut self, pairs: &[Pair])
+        requires placed { IsTrue (list_all (is_placed_pair (length self.old.first.items)) pairs.now) }
+        requires same { length self.old.past.items ≡ length self.old.first.items }
+        ensures index { IsIndexed (length pairs.now) pairs.now self.new.first.items self.new.past.items }
+        ensures each { length self.new.first.items ≡ length self.old.first.items }
+    {
+        index_in(&mut self.first, &mut self.past, pairs);
+    }
+}
+
+/// Between which of these pairs those of each slave stand: the place of the first one, and that past the last one.
+fn index_in(first: &mut [usize], past: &mut [usize], pairs: &[Pair])
+    requires placed { IsTrue (list_all (is_placed_pair (length first.old)) pairs.now) }
+    requires same { length past.old ≡ length first.old }
+    ensures index { IsIndexed (length pairs.now) pairs.now first.new past.new }
+    ensures each { length first.new ≡ length first.old }
+    ensures other { length past.new ≡ length past.old }
+{
+    first.fill(pairs.len());
+    past.fill(0);
+    for k in 0..pairs.len() {
+        let slave = seed_at(pairs, k).slave;
+        let low = at_or(first, slave, 0).min(k);
+        set_place(first, slave, low);
+        set_place(past, slave, k + 1);
     }
 }

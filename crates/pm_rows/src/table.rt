@@ -1,18 +1,19 @@
 //! The rows in cells, with what is counted of them.
 
-ghost use Rattle.std.specs.Prelude.{◌≡◌, ◌+◌, ◌≤◌, ◌<◌, ◌^◌, ◌&&◌, IsTrue, fold, map, length, replicate, slice_get, slice_set, slice_index, Some, IfOk, None};
+ghost use Rattle.std.specs.Prelude.{◌≡◌, ◌+◌, ◌≤◌, ◌<◌, ◌^◌, [], ◌&&◌, IsTrue, fold, map, length, replicate, slice_get, slice_set, slice_index, Some, IfOk, None};
 ghost use Rattle.std.specs.List.{list_all};
 ghost use Rattle.std.specs.Option.{option_map};
-ghost use Rattle.pm_rows.specs.Counted.{AreReady, AreTallied, counted, counted_in, blank_entry, blank_row, is_narrow, is_narrow_pair, is_placed, is_placed_pair, limit_of, no_tally, moved, permitted_on, wanted_in};
+ghost use Rattle.pm_rows.specs.Counted.{AreReady, AreTallied, counted, counted_in, blank_entry, blank_row, is_narrow, is_narrow_pair, is_placed, is_placed_seed, limit_of, no_tally, moved, permitted_on, wanted_in};
+ghost use Rattle.pm_rows.specs.Rows.{pair_of};
 ghost use Rattle.pm_rows.specs.Spans.{IsSpan};
 ghost use Rattle.pm_rows.specs.Wanted.{nothing_wanted, with_row};
 
 use crate::counting::{flag, follow, follow_capability};
 use crate::peek::peek;
-use crate::row::{Entry, Row, RowSeed};
+use crate::row::{Entry, Pair, Row, RowSeed};
 use crate::spans::Spans;
 use crate::wanted::{Wanted, least, with_row};
-use pm_base::{Caps, List, Mode, NoMemory, Steps, at_or};
+use pm_base::{BoundedList, Caps, Mode, NoMemory, Steps, at_or};
 use pm_cells::{Cells, Counts};
 use std::alloc::Global;
 use std::marker::Model;
@@ -21,9 +22,10 @@ use std::sync::ledger::Ledger;
 /// The rows in cells, the pair of each, and for each slave how many rows want each capability, how many are
 /// used, and the least latency. Beside the pairs stands between which places those of each slave are, and
 /// whether no pair and no row had a capability past the three that are counted.
-#[derive(Debug, Drop)]
+#[derive(Drop)]
 pub(crate) struct Table {
-    pub(crate) seeds: List<RowSeed>,
+    pub(crate) seeds: BoundedList<Pair>,
+    pub(crate) room: usize,
     pub(crate) spans: Spans,
     pub(crate) narrow: bool,
     pub(crate) cells: Cells<Row>,
@@ -35,14 +37,14 @@ pub(crate) struct Table {
 }
 
 impl Model for Table {
-    ghost use Rattle.std.specs.Prelude.{length};
+    ghost use Rattle.std.specs.Prelude.{◌≡◌, length};
     ghost use Rattle.pm_rows.specs.Counted.{Table, entries_of};
     ghost use Rattle.pm_rows.specs.Kept.{IsKept};
 
     ghost Value = { Table };
 
     ghost view = { λ table. record {
-      entries = entries_of table.seeds table.cells;
+      entries = entries_of table.seeds.items table.cells;
       tally = record {
         access = table.access;
         context = table.context;
@@ -50,22 +52,41 @@ impl Model for Table {
         users = table.users;
         limits = table.limits;
       };
+      slaves = length table.spans.first.items;
+      room = table.room;
     } };
 
     ghost invariant = { λ table.
         IsKept table.seeds table.cells (length table.users) table.narrow table.spans.first.items
-        table.spans.past.items };
+        table.spans.past.items × (table.room ≡ length table.cells) };
 }
 
-/// A list of these pairs.
-fn copied(alloc: Global, seeds: &[RowSeed]) -> Result<List<RowSeed>, NoMemory>
-    ensures { IfOk result (λ list. list ≡ seeds.now) }
+fn pair_at(pairs: &[Pair], k: usize) -> Pair
+    requires { k < length pairs.now }
+    ensures { slice_get pairs.now k ≡ Some result }
 {
-    let mut list = List::new(alloc);
+    pairs[k]
+}
+
+/// Leaves the pairs of these seeds in a list.
+fn put_pairs(pairs: &mut BoundedList<Pair>, seeds: &[RowSeed])
+    requires { length seeds.now ≤ pairs.old.room }
+    ensures { pairs.new ≡ record pairs.old { items = map pair_of seeds.now } }
+{
+    pairs.clear();
     for seed in seeds {
-        list.push(*seed)?;
+        pairs.push(seed.pair());
     }
-    Ok(list)
+}
+
+/// Leaves in each cell a row that isn't used.
+fn blank_all(cells: &mut Cells<Row>, count: usize)
+    requires { count ≡ length cells.old }
+    ensures { cells.new ≡ replicate count blank_row }
+{
+    for k in 0..count {
+        cells.write(k, blank_row());
+    }
 }
 
 /// Whether a set has no capability past the three that are counted.
@@ -83,10 +104,10 @@ fn stays_narrow(narrow: bool, caps: Caps) -> bool
 }
 
 /// Whether no pair has such a capability.
-fn are_narrow(seeds: &[RowSeed]) -> bool
-    ensures { result ≡ list_all is_narrow_pair seeds.now }
+fn are_narrow(pairs: &[Pair]) -> bool
+    ensures { result ≡ list_all is_narrow_pair pairs.now }
 {
-    seeds.iter().all(|seed| seed.all.0 < 8)
+    pairs.iter().all(|pair| pair.all.0 < 8)
 }
 
 /// A row that is not used.
@@ -105,18 +126,18 @@ fn blank_row() -> Row
 }
 
 impl Table {
-    /// A row for each of these pairs, none of which is used.
-    pub(crate) fn blank(alloc: Global, slaves: usize, seeds: &[RowSeed]) -> Result<Table, NoMemory>
-        requires few { length seeds.now < 2 ^ 31 }
-        requires placed { IsTrue (list_all (is_placed_pair slaves) seeds.now) }
-        ensures rows { IfOk result (λ table. table.entries ≡ map blank_entry seeds.now) }
-        ensures tally { IfOk result (λ table. table.tally ≡ no_tally slaves) }
+    /// No rows, with room for so many.
+    pub(crate) fn blank(alloc: Global, slaves: usize, room: usize) -> Result<Table, NoMemory>
+        requires few { room < 2 ^ 31 }
+        ensures { IfOk result (λ table. table
+            ≡ record { entries = []; tally = no_tally slaves; slaves = slaves; room = room }) }
     {
         Ok(Table {
-            seeds: copied(alloc, seeds)?,
-            spans: Spans::load(alloc, slaves, seeds)?,
-            narrow: are_narrow(seeds),
-            cells: Cells::load(alloc, seeds.len(), blank_row())?,
+            seeds: BoundedList::with_room(alloc, room)?,
+            room,
+            spans: Spans::load(alloc, slaves)?,
+            narrow: true,
+            cells: Cells::load(alloc, room, blank_row())?,
             access: Counts::load(alloc, slaves)?,
             context: Counts::load(alloc, slaves)?,
             wakeup: Counts::load(alloc, slaves)?,
@@ -125,20 +146,33 @@ impl Table {
         })
     }
 
+    /// A row for the pair of each of these seeds, none of which is used, in place of those that are there. What is
+    /// counted stays.
+    pub(crate) fn refit(&mut self, seeds: &[RowSeed])
+        requires room { length seeds.now ≤ self.old.room }
+        requires placed { IsTrue (list_all (is_placed_seed self.old.slaves) seeds.now) }
+        ensures { self.new ≡ record self.old { entries = map blank_entry (map pair_of seeds.now) } }
+    {
+        put_pairs(&mut self.seeds, seeds);
+        blank_all(&mut self.cells, self.room);
+        self.spans.index(self.seeds.as_slice());
+        self.narrow = are_narrow(self.seeds.as_slice());
+    }
+
     /// The number of rows.
     pub(crate) fn len(&self) -> usize
         ensures len { result ≡ length self.now.entries }
         ensures few { length self.now.entries < 2 ^ 31 }
     {
-        self.seeds.len()
+        self.seeds.as_slice().len()
     }
 
     /// The pair of the row at a place.
-    pub(crate) fn seed(&self, k: usize) -> RowSeed
+    pub(crate) fn seed(&self, k: usize) -> Pair
         requires { k < length self.now.entries }
         ensures { option_map (λ (e : Entry). e.seed) (slice_get self.now.entries k) ≡ Some result }
     {
-        *self.seeds.get(k)
+        pair_at(self.seeds.as_slice(), k)
     }
 
     /// The row at a place with its pair. It is read once.
@@ -150,7 +184,7 @@ impl Table {
         ensures steps { steps.new ≡ steps.old + 1 }
     {
         Entry {
-            seed: *self.seeds.get(k),
+            seed: pair_at(self.seeds.as_slice(), k),
             row: self.cells.read(k, steps),
         }
     }
@@ -161,7 +195,7 @@ impl Table {
         ensures { slice_get self.now.entries k ≡ Some result }
     {
         Entry {
-            seed: *self.seeds.get(k),
+            seed: pair_at(self.seeds.as_slice(), k),
             row: peek(&self.cells, k),
         }
     }
@@ -206,6 +240,8 @@ impl Table {
         ensures tally { self.new.tally
             ≡ moved (counted_in from entry) (counted_in to (record entry { row = row }))
             self.new.entries self.old.tally }
+        ensures slaves { self.new.slaves ≡ self.old.slaves }
+        ensures room { self.new.room ≡ self.old.room }
         ensures steps { steps.new ≤ steps.old + (4 + permitted_on entry.seed.slave self.old.entries) }
     {
         let slave = entry.seed.slave;

@@ -23,7 +23,6 @@ enum Call {
     Shift(usize, Mode),
     DropSlave(usize),
     Clear,
-    Restart,
 }
 
 /// A pair with these capabilities at the start of its master, and held or not.
@@ -53,7 +52,7 @@ fn loaded(alloc: Global) -> Result<Rows, NoMemory> {
         pair(2, 1, 1, false),
         pair(2, 0, 3, false),
     ];
-    Rows::load(alloc, 3, 2, 0, &pairs)
+    Rows::load(alloc, 3, 2, 0, pairs.len(), &pairs)
 }
 
 fn carry_out<L: Ledger>(rows: &mut Rows, by: Call, steps: &mut Steps<L>) {
@@ -67,7 +66,6 @@ fn carry_out<L: Ledger>(rows: &mut Rows, by: Call, steps: &mut Steps<L>) {
         Call::Shift(m, to) => rows.shift(m, to),
         Call::DropSlave(s) => rows.drop_slave(s),
         Call::Clear => rows.clear(),
-        Call::Restart => rows.restart(),
     }
 }
 
@@ -81,7 +79,7 @@ pub(crate) fn told(rows: &Rows, slave: usize) -> Told {
 }
 
 /// Calls one after another, and what is told of the two slaves after each.
-static CALLS: [(Call, Told, Told); 22] = [
+static CALLS: [(Call, Told, Told); 21] = [
     (Call::Settle(0), (1, None, 1), (2, None, 1)),
     (Call::Shift(1, Mode::Active), (5, None, 2), (2, None, 1)),
     (Call::Limit(1, 0, 9), (5, Some(9), 2), (2, None, 1)),
@@ -107,7 +105,6 @@ static CALLS: [(Call, Told, Told); 22] = [
     (Call::Request(1, 1, 7), (0, None, 0), (2, None, 1)),
     (Call::Request(2, 1, 8), (0, None, 0), (10, None, 2)),
     (Call::Clear, (0, None, 0), (0, None, 0)),
-    (Call::Restart, (1, None, 1), (7, None, 1)),
 ];
 
 /// The place of the first call after which something else is told.
@@ -141,7 +138,7 @@ fn the_counts_tell_what_the_rows_come_to(rt: HostRuntime) -> Result<(), Fail> {
 
 #[test]
 fn a_pair_past_the_slaves_has_no_room(rt: HostRuntime) -> Result<(), Fail> {
-    let found = Rows::load(rt.alloc(), 1, 1, 0, &[pair(0, 1, 0, false)]);
+    let found = Rows::load(rt.alloc(), 1, 1, 0, 1, &[pair(0, 1, 0, false)]);
     assert!(rt; found.is_err());
     Ok(())
 }
@@ -153,6 +150,7 @@ fn two_rows_of_a_pair_change_together(rt: HostRuntime) -> Result<(), Fail> {
         1,
         1,
         0,
+        2,
         &[pair(0, 0, 1, false), pair(0, 0, 1, false)],
     )?;
     change_twice::<Brand>(&rt, &mut rows, Blank::new(1));

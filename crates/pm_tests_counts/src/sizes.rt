@@ -46,7 +46,7 @@ fn filled(alloc: Global, slaves: usize) -> Result<Rows, NoMemory> {
     for slave in 0..slaves {
         push_slave(&mut pairs, slave)?;
     }
-    Rows::load(alloc, MASTERS, slaves, 0, &pairs)
+    Rows::load(alloc, MASTERS, slaves, 0, pairs.len(), &pairs)
 }
 
 fn is_at(entry: &Entry, master: usize, slave: usize) -> bool

@@ -24,6 +24,8 @@ enum Deed {
     Empty(usize),
     /// A master's notes are cleared.
     Clear(usize),
+    /// All notifiers are dropped at once.
+    Forget,
 }
 
 /// Notifiers: each is on or off by itself, and cleared with its master's.
@@ -89,7 +91,7 @@ static ORDER: [Deed; 22] = [
 ];
 
 /// One slot for each master, node and kind: the last note counts, and no other slot notices.
-static SLOTS: [Deed; 26] = [
+static SLOTS: [Deed; 36] = [
     Deed::Wait(0, 33, Note::Ack { status: 0 }),
     Deed::Wait(0, 33, Note::Ack { status: 2006 }),
     Deed::Wait(2, 33, Note::Ack { status: 19 }),
@@ -118,6 +120,17 @@ static SLOTS: [Deed; 26] = [
     Deed::Clear(1),
     Deed::Empty(1),
     Deed::Takes(2, 33, Note::Change),
+    // all notifiers are dropped at once, and what waits stays
+    Deed::Put(0, 33, CHANGE, true),
+    Deed::Put(2, 11, CHANGE, true),
+    Deed::Wait(2, 11, Note::Ack { status: 0 }),
+    Deed::Wait(2, 33, Note::Change),
+    Deed::Forget,
+    Deed::Asked(0, 33, CHANGE, false),
+    Deed::Asked(2, 11, CHANGE, false),
+    Deed::Takes(2, 11, Note::Ack { status: 0 }),
+    Deed::Takes(2, 33, Note::Change),
+    Deed::Empty(2),
 ];
 
 fn is_taken(taken: Option<Waiting>, node: u32, note: Note) -> bool {
@@ -145,6 +158,10 @@ fn is_right(notify: &mut Notify, deed: &Deed) -> bool {
         Deed::Empty(master) => notify.take(*master).is_none(),
         Deed::Clear(master) => {
             notify.clear(*master);
+            true
+        }
+        Deed::Forget => {
+            notify.forget();
             true
         }
     }

@@ -36,7 +36,7 @@ static BESIDES: [(bool, Option<NodeId>); 4] = [
 /// has ACCESS now, CONTEXT next, and a latency of 9.
 fn prepared(alloc: Global, mode: Mode, used: bool, from: RowSeed) -> Result<Rows, NoMemory> {
     let boot = if mode == Mode::Active { 0 } else { 1 };
-    let mut rows = Rows::load(alloc, 2, 1, boot, &[from])?;
+    let mut rows = Rows::load(alloc, 2, 1, boot, 1, &[from])?;
     rows.shift(0, mode);
     if used {
         change_all::<Brand>(&mut rows, &TO_USED, Blank::new(1));
@@ -229,6 +229,7 @@ fn started(alloc: Global, shareable: bool, order: &[usize]) -> Result<Rows, NoMe
         3,
         1,
         0,
+        2,
         &[seed(1, shareable, 1, false), seed(2, shareable, 4, false)],
     )?;
     for master in order {
@@ -388,8 +389,8 @@ fn modes(rows: &Rows) -> [Mode; 3] {
 }
 
 #[test]
-fn a_restart_makes_the_rows_at_load(rt: HostRuntime) -> Result<(), Fail> {
-    let mut rows = Rows::load(rt.alloc(), 2, 1, 0, &SEEDS)?;
+fn rows_made_anew_are_those_at_load(rt: HostRuntime) -> Result<(), Fail> {
+    let mut rows = Rows::load(rt.alloc(), 2, 1, 0, SEEDS.len(), &SEEDS)?;
     let first = Row {
         hold: true,
         ..row(true, 3, 3, 2)
@@ -412,7 +413,10 @@ fn a_restart_makes_the_rows_at_load(rt: HostRuntime) -> Result<(), Fail> {
     assert_eq!(rt; rows.row(0, 0), Some(row(false, 0, 0, 2)));
     assert_eq!(rt; rows.row(1, 0), Some(row(false, 0, 0, 1)));
     rows.shift(0, Mode::Asleep);
-    rows.restart();
+    rows.shift(1, Mode::Off);
+    rows.shift(0, Mode::Off);
+    rows.shift(0, Mode::Active);
+    rows.reload(&SEEDS);
     assert_eq!(rt;
         (rows.row(0, 0), rows.row(1, 0)),
         (Some(first), Some(row(false, 0, 0, 1)))
@@ -455,7 +459,55 @@ fn change_each<L: Ledger>(rt: &impl Abort, rows: &mut Rows, blank: Blank)
 
 #[test]
 fn a_row_is_changed_by_its_calls(rt: HostRuntime) -> Result<(), Fail> {
-    let mut rows = Rows::load(rt.alloc(), 2, 1, 0, &SEEDS)?;
+    let mut rows = Rows::load(rt.alloc(), 2, 1, 0, SEEDS.len(), &SEEDS)?;
     change_each::<Brand>(&rt, &mut rows, Blank::new(1));
+    Ok(())
+}
+
+/// A pair of the second master, who uses the slave from then on.
+static ANEW_USED: [RowSeed; 1] = [RowSeed {
+    master: 1,
+    slave: 0,
+    shareable: false,
+    all: Caps(7),
+    preset: Caps(4),
+    start: Some(Caps(5)),
+    hold: false,
+}];
+
+/// The same pair, and nobody uses the slave.
+static ANEW: [RowSeed; 1] = [RowSeed {
+    master: 1,
+    slave: 0,
+    shareable: false,
+    all: Caps(7),
+    preset: Caps(4),
+    start: None,
+    hold: false,
+}];
+
+#[test]
+fn rows_are_made_anew_for_other_pairs(rt: HostRuntime) -> Result<(), Fail> {
+    let mut rows = Rows::load(rt.alloc(), 2, 1, 0, 3, &SEEDS)?;
+    rows.shift(1, Mode::Active);
+    rows.shift(1, Mode::Suspending);
+    rows.reload(&ANEW_USED);
+    assert_eq!(rt; rows.len(), 1);
+    assert_eq!(rt;
+        (rows.row(0, 0), rows.row(1, 0)),
+        (None, Some(row(true, 5, 5, 4)))
+    );
+    assert_eq!(rt;
+        (rows.mode(0), rows.mode(1)),
+        (Mode::Active, Mode::Suspending)
+    );
+    assert_eq!(rt; (rows.users(0), rows.wanted(0).caps), (1, Caps(5)));
+    rows.reload(&ANEW);
+    assert_eq!(rt; rows.row(1, 0), Some(row(false, 0, 0, 4)));
+    assert_eq!(rt; (rows.users(0), rows.wanted(0).caps), (0, Caps(0)));
+    rows.reload(&[]);
+    assert_eq!(rt; rows.len(), 0);
+    rows.reload(&SEEDS);
+    assert_eq!(rt; rows.len(), 2);
     Ok(())
 }

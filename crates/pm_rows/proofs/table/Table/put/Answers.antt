@@ -1,4 +1,5 @@
-use Rattle.std.proofs.Common.{◌∙◌, ap, length, arith}
+use Rattle.std.proofs.Common.{◌∙◌, ap, length, arith, sym}
+use Rattle.std.proofs.lemmas.List.{length-set}
 use Rattle.std.proofs.lemmas.Option.{slice_get_within}
 use Rattle.pm_rows.specs.Counted.{is_on, permitted_on, entries_of}
 use Rattle.pm_rows.proofs.Cells.{seen_cell, seen_put, kept_put}
@@ -7,31 +8,35 @@ use Rattle.pm_rows.proofs.table.Table.put.Goals as goal
 
 pub write-requires : goal.write-requires
 write-requires g c =
-    seen_cell c.args.self.now c.self.inside.seeds c.self.inside.cells _ (length c.self.inside.users) c.self.view_is c.self.invariant.base c.args.k
+    seen_cell c.args.self.now c.self.inside.seeds.items c.self.inside.cells _ (length c.self.inside.users) _ _ c.self.view_is c.self.invariant.0.base c.args.k
     (slice_get_within c.args.self.now.entries c.args.k c.args.entry c.requires.here)
 
 pub invariant_of-self : goal.invariant_of-self
-invariant_of-self g c =
-    kept_put c.args.self.now c.self.inside.seeds c.self.inside.cells _ (length c.self.inside.users) c.self.inside.narrow
-    c.self.inside.spans.first.items c.self.inside.spans.past.items c.self.view_is c.self.invariant
-    c.args.k c.args.row c.write.new.self (length c.follow.new.counts) c.stays_narrow-self-inside.result c.write.ensures c.follow.ensures.places c.stays_narrow-self-inside.ensures
+invariant_of-self g c = (
+  kept_put c.args.self.now c.self.inside.seeds c.self.inside.cells _ (length c.self.inside.users) c.self.inside.narrow
+      c.self.inside.spans.first.items c.self.inside.spans.past.items _ _ c.self.view_is c.self.invariant.0
+      c.args.k c.args.row c.write.new.self (length c.follow.new.counts) c.stays_narrow-self-inside.result c.write.ensures c.follow.ensures.places c.stays_narrow-self-inside.ensures,
+  c.self.invariant.1 ∙ sym (ap length c.write.ensures ∙ length-set c.self.inside.cells c.args.k c.args.row),
+)
 
 pub invariant_of-self-2 : goal.invariant_of-self-2
-invariant_of-self-2 g c =
-    kept_put c.args.self.now c.self.inside.seeds c.self.inside.cells _ (length c.self.inside.users) c.self.inside.narrow
-    c.self.inside.spans.first.items c.self.inside.spans.past.items c.self.view_is c.self.invariant
-    c.args.k c.args.row c.write.new.self (length c.follow.new.counts) c.stays_narrow-self-inside.result c.write.ensures c.follow.ensures.places c.stays_narrow-self-inside.ensures
+invariant_of-self-2 g c = (
+  kept_put c.args.self.now c.self.inside.seeds c.self.inside.cells _ (length c.self.inside.users) c.self.inside.narrow
+      c.self.inside.spans.first.items c.self.inside.spans.past.items _ _ c.self.view_is c.self.invariant.0
+      c.args.k c.args.row c.write.new.self (length c.follow.new.counts) c.stays_narrow-self-inside.result c.write.ensures c.follow.ensures.places c.stays_narrow-self-inside.ensures,
+  c.self.invariant.1 ∙ sym (ap length c.write.ensures ∙ length-set c.self.inside.cells c.args.k c.args.row),
+)
 
 pub returns-clause-entries : goal.returns-clause-entries
 returns-clause-entries g c =
     rw c.write.ensures
-    (seen_put c.args.self.now c.self.inside.seeds c.self.inside.cells _ (length c.self.inside.users) c.self.view_is c.self.invariant.base
+    (seen_put c.args.self.now c.self.inside.seeds.items c.self.inside.cells _ (length c.self.inside.users) _ _ c.self.view_is c.self.invariant.0.base
     c.args.k c.args.entry c.args.row c.requires.here)
 
 pub returns-clause-steps : goal.returns-clause-steps
 returns-clause-steps g c =
-    let put = ap (permitted_on c.args.entry.seed.slave) (ap (λ rows. entries_of c.self.inside.seeds rows) c.write.ensures
-    ∙ seen_put c.args.self.now c.self.inside.seeds c.self.inside.cells _ (length c.self.inside.users) c.self.view_is c.self.invariant.base
+    let put = ap (permitted_on c.args.entry.seed.slave) (ap (λ rows. entries_of c.self.inside.seeds.items rows) c.write.ensures
+    ∙ seen_put c.args.self.now c.self.inside.seeds.items c.self.inside.cells _ (length c.self.inside.users) _ _ c.self.view_is c.self.invariant.0.base
     c.args.k c.args.entry c.args.row c.requires.here) in
     let same = count_set (is_on c.args.entry.seed.slave) c.args.self.now.entries c.args.k c.args.entry (record c.args.entry { row = c.args.row }) c.requires.here in
     omega (arith, put, same, c.limit_on-limit.ensures.steps, c.follow_capability.ensures.steps, c.follow_capability-2.ensures.steps, c.follow_capability-3.ensures.steps, c.follow.ensures.steps)

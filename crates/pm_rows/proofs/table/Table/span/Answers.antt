@@ -9,6 +9,6 @@ returns c =
     c.at_or.ensures ∙ ap (λ xs. unwrap_or (slice_get xs c.args.slave) 0) c.deref-2.ensures.value
     in
     seen_span c.args.self.now c.self.inside.seeds c.self.inside.cells _ (length c.self.inside.users) c.self.inside.narrow
-    c.self.inside.spans.first.items c.self.inside.spans.past.items c.self.view_is c.self.invariant c.args.slave c.min.result c.at_or-past.result
+    c.self.inside.spans.first.items c.self.inside.spans.past.items _ _ c.self.view_is c.self.invariant.0 c.args.slave c.min.result c.at_or-past.result
     (omega (arith, c.min.ensures, place))
     (c.at_or-past.ensures ∙ ap (λ xs. unwrap_or (slice_get xs c.args.slave) 0) c.deref.ensures.value)

@@ -1,0 +1,64 @@
+//! Each row is made what its seed says.
+
+ghost use Rattle.std.specs.Prelude.{◌≡◌, ◌<◌, Some, length, map, slice_get};
+ghost use Rattle.pm_rows.specs.Counted.{AreTallied, blank_entry, counted};
+ghost use Rattle.pm_rows.specs.Rows.{loaded_entry, pair_of};
+
+use crate::modes::mode_in;
+use crate::row::{Entry, RowSeed};
+use crate::table::Table;
+use pm_base::{Mode, Steps};
+use std::marker::Brand;
+use std::sync::ledger::{Blank, Ledger};
+
+fn seed_at(seeds: &[RowSeed], k: usize) -> RowSeed
+    requires { k < length seeds.now }
+    ensures { slice_get seeds.now k ≡ Some result }
+{
+    seeds[k]
+}
+
+/// Makes each row what its seed says, and counts it in the mode of its master. None of them is used before.
+fn fill_over<L: Ledger>(table: &mut Table, known: &[Mode], seeds: &[RowSeed], steps: &mut Steps<L>)
+    requires rows { table.old.entries ≡ map blank_entry (map pair_of seeds.now) }
+    requires counted { AreTallied (map (counted known.now) table.old.entries) table.old.tally }
+    ensures rows { table.new.entries ≡ map loaded_entry seeds.now }
+    ensures counted { AreTallied (map (counted known.now) table.new.entries) table.new.tally }
+    ensures slaves { table.new.slaves ≡ table.old.slaves }
+    ensures room { table.new.room ≡ table.old.room }
+{
+    for k in 0..seeds.len() {
+        let seed = seed_at(seeds, k);
+        let entry = table.entry(k, steps);
+        let mode = mode_in(known, entry.seed.master);
+        let loaded = Entry::loaded(seed);
+        table.put(k, entry, mode, loaded.row, mode, steps);
+    }
+}
+
+/// The same with a counter that is thrown away.
+fn fill_uncounted<L: Ledger>(table: &mut Table, known: &[Mode], seeds: &[RowSeed], blank: Blank)
+    requires rows { table.old.entries ≡ map blank_entry (map pair_of seeds.now) }
+    requires counted { AreTallied (map (counted known.now) table.old.entries) table.old.tally }
+    requires name { blank.name ≡ L.name }
+    requires parts { blank.parts ≡ L.parts }
+    requires some { 0 < blank.parts }
+    ensures rows { table.new.entries ≡ map loaded_entry seeds.now }
+    ensures counted { AreTallied (map (counted known.now) table.new.entries) table.new.tally }
+    ensures slaves { table.new.slaves ≡ table.old.slaves }
+    ensures room { table.new.room ≡ table.old.room }
+{
+    fill_over(table, known, seeds, &mut Steps::<L>::new(blank));
+}
+
+/// The same where nothing bounds how many rows are read.
+pub(crate) fn fill(table: &mut Table, known: &[Mode], seeds: &[RowSeed])
+    requires rows { table.old.entries ≡ map blank_entry (map pair_of seeds.now) }
+    requires counted { AreTallied (map (counted known.now) table.old.entries) table.old.tally }
+    ensures rows { table.new.entries ≡ map loaded_entry seeds.now }
+    ensures counted { AreTallied (map (counted known.now) table.new.entries) table.new.tally }
+    ensures slaves { table.new.slaves ≡ table.old.slaves }
+    ensures room { table.new.room ≡ table.old.room }
+{
+    fill_uncounted::<Brand>(table, known, seeds, Blank::new(1));
+}
