@@ -1,11 +1,13 @@
 -- Each call keeps the book sound.
 use Rattle.std.proofs.Common.{◌≡◌, ◌≢◌, ℕ, ◌<◌, Bool, true, false, ◌==◌, if◌then◌else◌, IsTrue, List, [], ◌∷◌, length, is_some, Option, Some, None, refl, sym, subst, inl, inr}
 use Rattle.std.specs.Prelude.{option_map}
+use Rattle.std.specs.List.{AllByRecursion as Each}
 use Rattle.pm_base.specs.declared.caps.Caps.{Caps}
 use Rattle.pm_base.specs.declared.names.Mode.{Mode}
 use Rattle.pm_base.specs.declared.names.Mode.TheVariants.{Off, Active, Asleep, Suspending}
 use Rattle.pm_ipi.specs.declared.calls.Call.{Call}
-use Rattle.pm_ipi.specs.declared.calls.Call.TheVariants.{SelfSuspend, ForcePowerdown, AbortSuspend, RequestWakeup, SetWakeupSource, SystemShutdown, RequestNode, ReleaseNode, SetRequirement, SetMaxLatency, ResetAssert, InitFinalize, Unknown as Other}
+use Rattle.pm_ipi.specs.declared.calls.Call.TheVariants.{SelfSuspend, ForcePowerdown, AbortSuspend, RequestWakeup, SetWakeupSource, SystemShutdown, RequestNode, ReleaseNode, SetRequirement, SetMaxLatency, ResetAssert, InitFinalize, SetConfiguration, Unknown as Other}
+use Rattle.pm_grants.specs.Grants.{permits_configure}
 use Rattle.pm_procs.specs.Modes.{is_awake}
 use Rattle.pm_rows.specs.declared.row.Change.{Change}
 use Rattle.pm_rows.specs.declared.row.Change.TheVariants.{Request, Release, Set, Limit}
@@ -16,14 +18,17 @@ use Rattle.pm_calls.specs.declared.views.ProcView.{ProcView}
 use Rattle.pm_calls.specs.declared.views.RowView.{RowView}
 use Rattle.pm_calls.specs.declared.views.WakeView.{WakeView}
 use Rattle.pm_calls.specs.ResetLines.{line_view}
+use Rattle.pm_state.specs.declared.objects.Found.{Found}
+use Rattle.pm_state.specs.declared.objects.Found.TheVariants.{Nothing, Unreadable, Unusable, Usable}
 use Rattle.pm_state.specs.Members.{mode_of_master}
+use Rattle.pm_state.specs.Objects.{found_at}
 use Rattle.pm_calls.specs.Checks.{AllHold, Fits, InUse}
 use Rattle.pm_state.specs.Prims.{Prim, At_row, Settle, Put_proc}
 use Rattle.pm_calls.specs.ProcCalls.{address_in, is_in, proc_changes, put_at}
 use Rattle.pm_calls.specs.RowCalls.{changes_of, row_changes, can_have, is_in_use}
 use Rattle.pm_state.specs.Sound.{IsSound}
 use Rattle.pm_state.specs.Stages.{after_stage, after_stages}
-use Rattle.pm_state.specs.State.{State, grants_in, in_force}
+use Rattle.pm_state.specs.State.{State, grants_in}
 use Rattle.pm_calls.specs.calls.{called}
 use Rattle.pm_state.specs.Values.{slave_place}
 use Rattle.pm_calls.specs.Verdict.{Called, stages_of}
@@ -38,6 +43,7 @@ use Rattle.pm_calls.specs.calls.RequestNode.{request_checks, request_node, rival
 use Rattle.pm_calls.specs.calls.RequestWakeup.{request_wakeup}
 use Rattle.pm_calls.specs.calls.ResetAssert.{reset_assert}
 use Rattle.pm_calls.specs.calls.SelfSuspend.{self_suspend}
+use Rattle.pm_calls.specs.calls.SetConfiguration.{enforced_by, set_configuration}
 use Rattle.pm_calls.specs.calls.SetMaxLatency.{set_max_latency}
 use Rattle.pm_calls.specs.calls.SetRequirement.{set_requirement, set_requirement_checks}
 use Rattle.pm_calls.specs.calls.SetWakeupSource.{arming, set_wakeup_source, set_wakeup_source_checks}
@@ -50,7 +56,7 @@ use Rattle.pm_state.proofs.ArmedLaw.{MayArm}
 use Rattle.pm_calls.proofs.ArmingLaw.{arming_may}
 use Rattle.pm_calls.proofs.Verdicts.{stages_either}
 use Rattle.pm_state.proofs.RowLaws.{RowLaws}
-use Rattle.pm_state.proofs.ScopeSound.{KeepLaws, clears_free, offs_free, stages_kept}
+use Rattle.pm_state.proofs.ScopeSound.{IsFree, KeepLaws, clears_free, offs_free, stage_kept, stages_kept}
 use Rattle.pm_calls.proofs.ShutdownSound.{all_free, own_free}
 use Rattle.pm_calls.proofs.ShutdownCases.{each_shutdown}
 use Rattle.pm_state.proofs.StageLaw.{row, settle, put, stage_keeps, empty_keeps}
@@ -68,7 +74,7 @@ call_keeps call book sound keeps =
 
 -- the caller may call: it is a configured master, and it is awake
 pub record IsHeard (book : State) (m : ℕ) : Type 0 where
-  pub there : m < length (in_force book).masters
+  pub there : m < length book.fixed.object.masters
   pub awake : IsTrue (is_awake (mode_of_master book.fixed book.now.core m))
 
 -- a change fits a row of the master at place m, and what it arms the row with
@@ -98,7 +104,7 @@ row_call_keeps laws m by call book (Some s) sound does fits =
     let P : List (List Prim) → Type 0 = λ stages. IsSound (after_stages stages book) in
     subst P (sym (does (view_of m s book))) (row_keeps laws m s by book (entry_at m s book.now.core.rows) sound refl (fits s all)))
 
-rival_known : (book : State) (rival : Option ℕ) → option_map (master_node (in_force book).masters) rival ≡ None → rival ≡ None
+rival_known : (book : State) (rival : Option ℕ) → option_map (master_node book.fixed.object.masters) rival ≡ None → rival ≡ None
 rival_known book None is = refl
 rival_known book (Some rival) is = cc
 
@@ -150,6 +156,12 @@ on_keeps : RowLaws → (m : ℕ) (view : ProcView) (suspending : Bool) (book : S
 on_keeps laws m view true book sound = put_keeps laws m view.place Active (address_in view) book sound
 on_keeps laws m view false book sound = empty_keeps laws book sound
 
+enforced_free : (found : Found) → Each IsFree (enforced_by found)
+enforced_free Nothing = tt
+enforced_free (Unreadable fault) = tt
+enforced_free Unusable = tt
+enforced_free (Usable k) = (tt, tt)
+
 -- each call: one that changes nothing has the last line
 pub called_keeps : KeepLaws → (m : ℕ) (call : Call) (book : State) → IsSound book → IsHeard book m → IsSound (after_stages (stages_of (called m call book)) book)
 called_keeps laws m (SelfSuspend node address) book sound heard =
@@ -184,5 +196,9 @@ called_keeps laws m (ResetAssert line action) book sound heard =
     call_keeps (reset_assert line action (line_view m line book)) book sound (λ all. reset_keeps laws.rows m line action book sound all)
 called_keeps laws m InitFinalize book sound heard =
     call_keeps (init_finalize m) book sound (λ all. stage_keeps laws.rows book (Settle m) sound (settle m))
+called_keeps laws m (SetConfiguration address) book sound heard =
+    let found : Found = found_at address book.fixed in
+    call_keeps (set_configuration found (permits_configure (grants_in book) m)) book sound
+    (λ all. stage_kept laws (enforced_by found) book (enforced_free found) sound)
 called_keeps laws m Other book sound heard = sound
 called_keeps laws m call book sound heard = call_keeps (called m call book) book sound (λ all. sound)

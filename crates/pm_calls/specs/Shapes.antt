@@ -8,7 +8,9 @@ use Rattle.pm_calls.specs.declared.characteristics.Characteristics.{Characterist
 use Rattle.pm_calls.specs.declared.views.RowView.{RowView}
 use Rattle.pm_calls.specs.declared.views.StatusView.{StatusView}
 use Rattle.pm_calls.specs.Characteristics.{characteristics}
+use Rattle.pm_grants.specs.Grants.{permits_configure}
 use Rattle.pm_state.specs.Members.{mode_of_master}
+use Rattle.pm_state.specs.Objects.{found_at}
 use Rattle.pm_calls.specs.ResetLines.{line_status, line_view}
 use Rattle.pm_calls.specs.RowCalls.{row_changes}
 use Rattle.pm_state.specs.State.{State, grants_in}
@@ -22,6 +24,7 @@ use Rattle.pm_calls.specs.calls.RequestSuspend.{request_suspend}
 use Rattle.pm_calls.specs.calls.RequestWakeup.{request_wakeup}
 use Rattle.pm_calls.specs.calls.ResetAssert.{reset_assert}
 use Rattle.pm_calls.specs.calls.SelfSuspend.{self_suspend}
+use Rattle.pm_calls.specs.calls.SetConfiguration.{set_configuration}
 use Rattle.pm_calls.specs.calls.SetWakeupSource.{set_wakeup_source}
 use Rattle.pm_calls.specs.calls.SystemShutdown.{system_shutdown}
 
@@ -50,6 +53,8 @@ pub data Shape : Type 0 where
   All_forced : (node : NodeId) (ack : ℕ) → Shape
   All_shut : (shutdown_type subtype : ℕ) → Shape
   All_reset : (line : LineId) (action : ℕ) → Shape
+  -- another object is put in force
+  All_configured : (address : ℕ) → Shape
 
 -- the call with its checks and words alone
 abbrev pub telling : Called → Called
@@ -75,3 +80,4 @@ shaped m (Other_suspend node ack latency state) book = request_suspend m node ac
 shaped m (All_forced node ack) book = force_powerdown (grants_in book) book.fixed m node ack
 shaped m (All_shut shutdown_type subtype) book = system_shutdown (grants_in book) book.fixed m shutdown_type subtype
 shaped m (All_reset line action) book = reset_assert line action (line_view m line book)
+shaped m (All_configured address) book = set_configuration (found_at address book.fixed) (permits_configure (grants_in book) m)

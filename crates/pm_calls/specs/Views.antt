@@ -28,7 +28,7 @@ use Rattle.pm_state.specs.Nodes.{master_node, named_master}
 
 -- the node of the other master that uses a slave which can't be shared
 abbrev pub rival_node : ℕ → ℕ → State → Option NodeId
-rival_node m s book = option_map (master_node (in_force book).masters) (rival_of m s book.now.core.rows)
+rival_node m s book = option_map (master_node book.fixed.object.masters) (rival_of m s book.now.core.rows)
 
 abbrev pub row_view_at : ℕ → Option ℕ → State → RowView
 row_view_at m None book = record { slave = None; entry = None; rival = None }

@@ -13,6 +13,7 @@ pub mod RequestWakeup
 pub mod ResetAssert
 pub mod ResetGetStatus
 pub mod SelfSuspend
+pub mod SetConfiguration
 pub mod SetMaxLatency
 pub mod SetRequirement
 pub mod SetWakeupSource
@@ -21,12 +22,14 @@ use Rattle.std.specs.Prelude.{ℕ, Bool, true, false, None}
 use Rattle.pm_ipi.specs.declared.calls.Call.{Call}
 use Rattle.pm_ipi.specs.declared.calls.Call.TheVariants as call
 use Rattle.pm_rows.specs.declared.row.Change.TheVariants.{Request, Release, Set, Limit}
+use Rattle.pm_grants.specs.Grants.{permits_configure}
 use Rattle.pm_state.specs.Members.{mode_of_master}
+use Rattle.pm_state.specs.Objects.{found_at}
 use Rattle.pm_state.specs.State.{State, grants_in}
 use Rattle.pm_calls.specs.Characteristics.{characteristics}
 use Rattle.pm_calls.specs.Checks.{unchecked}
 use Rattle.pm_calls.specs.ResetLines.{line_view, line_status}
-use Rattle.pm_calls.specs.Shapes.{Shape, Constant, Node_status, Node_figures, Line_value, Own_row, Own_arming, Own_holds, Own_suspend, Own_abort, Own_notifier, Other_wakeup, Other_suspend, All_forced, All_shut, All_reset}
+use Rattle.pm_calls.specs.Shapes.{Shape, Constant, Node_status, Node_figures, Line_value, Own_row, Own_arming, Own_holds, Own_suspend, Own_abort, Own_notifier, Other_wakeup, Other_suspend, All_forced, All_shut, All_reset, All_configured}
 use Rattle.pm_calls.specs.Verdict.{Called, effecting, saying}
 use Rattle.pm_calls.specs.Views.{is_asked, row_view, status_view, suspend_view, proc_view, wake_view, watched}
 use Rattle.pm_calls.specs.calls.AbortSuspend.{abort_suspend}
@@ -43,6 +46,7 @@ use Rattle.pm_calls.specs.calls.RequestWakeup.{request_wakeup}
 use Rattle.pm_calls.specs.calls.ResetAssert.{reset_assert}
 use Rattle.pm_calls.specs.calls.ResetGetStatus.{reset_get_status}
 use Rattle.pm_calls.specs.calls.SelfSuspend.{self_suspend}
+use Rattle.pm_calls.specs.calls.SetConfiguration.{set_configuration}
 use Rattle.pm_calls.specs.calls.SetMaxLatency.{set_max_latency}
 use Rattle.pm_calls.specs.calls.SetRequirement.{set_requirement}
 use Rattle.pm_calls.specs.calls.SetWakeupSource.{set_wakeup_source}
@@ -52,6 +56,7 @@ use Rattle.pm_calls.specs.calls.SystemShutdown.{system_shutdown}
 -- they hold
 abbrev pub called : ℕ → Call → State → Called
 called m call.GetApiVersion book = get_api_version
+called m (call.SetConfiguration address) book = set_configuration (found_at address book.fixed) (permits_configure (grants_in book) m)
 called m (call.GetNodeStatus node) book = get_node_status (status_view m node book)
 called m (call.GetOpCharacteristic node characteristic) book =
     get_op_characteristic characteristic (characteristics node book)
@@ -101,6 +106,7 @@ is_suspending _ = false
 -- each call has a shape
 abbrev pub shape_of : Call → Shape
 shape_of call.GetApiVersion = Constant get_api_version
+shape_of (call.SetConfiguration address) = All_configured address
 shape_of (call.GetNodeStatus node) = Node_status node get_node_status
 shape_of (call.GetOpCharacteristic node characteristic) = Node_figures node (get_op_characteristic characteristic)
 shape_of (call.RegisterNotifier node event wake enable) = Own_notifier node event enable

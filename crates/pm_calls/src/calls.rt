@@ -21,6 +21,7 @@ mod request_wakeup;
 mod reset_assert;
 mod reset_get_status;
 mod self_suspend;
+mod set_configuration;
 mod set_max_latency;
 mod set_requirement;
 mod set_wakeup_source;
@@ -70,6 +71,7 @@ fn serve_once(tables: &mut Tables, caches: &Caches, master: usize, call: Call) -
         return verdict;
     }
     match call {
+        Call::SetConfiguration(address) => set_configuration::serve(tables, master, address),
         Call::RegisterNotifier {
             node,
             event,

@@ -32,13 +32,14 @@ pub struct Notifier {
 }
 
 /// What a call has the masters told: one of them is asked to suspend, the one at a place aborts its
-/// suspend, a notifier is put, or all is restarted.
+/// suspend, a notifier is put, all is restarted, or no master is told of anything any more.
 #[derive(Clone, Copy, Debug, PartialEq, Eq)]
 pub enum Say {
     Ask(Asked),
     Abort(usize),
     Register(Notifier),
     Renew,
+    Unwatch,
 }
 
 /// What an accepted call does besides its changes of the book: the words that it tells its caller, what

@@ -113,7 +113,7 @@ fn rival_node(tables: &Tables, master: usize, slave: usize) -> Option<NodeId>
     ensures { result ≡ Views.rival_node master slave tables.now }
 {
     match tables.rows().rival(master, slave) {
-        Some(rival) => Some(master_node(tables.in_force().masters.as_slice(), rival)),
+        Some(rival) => Some(master_node(tables.object().masters.as_slice(), rival)),
         None => None,
     }
 }

@@ -14,7 +14,7 @@ use Rattle.pm_tell.specs.Callbacks.{called_back, callbacks, callbacks_from, late
 use Rattle.pm_tell.specs.Telling.{notes_after}
 use Rattle.pm_values.specs.Starts.{starts, was_down}
 use Rattle.pm_values.proofs.RestLaw.{none_among, none_start_among}
-use Rattle.pm_state.specs.State.{State, in_force}
+use Rattle.pm_state.specs.State.{State}
 use Rattle.pm_state.specs.Units.{moved, units}
 use Rattle.pm_state.specs.Values.{value}
 use Rattle.pm_core.specs.declared.outbox.Outbox.{Outbox}
@@ -46,7 +46,7 @@ none_called book notes k (master ∷ masters) =
 calls_nobody : (book : State) (notes : List MasterNotes) → callbacks (record { asked = None; ended = []; notices = notices Pass book }) (modes_in book) notes book ≡ []
 calls_nobody book notes =
     ap (λ ns. callbacks (record { asked = None; ended = []; notices = ns }) (modes_in book) notes book) (none_among book (units book))
-    ∙ none_called book notes 0 (in_force book).masters
+    ∙ none_called book notes 0 book.fixed.object.masters
 
 -- so an outbox that is empty holds what it puts out
 pub pass_puts : (book : State) (out : Outbox) → IsEmpty out → Holds (outputs Pass book) out

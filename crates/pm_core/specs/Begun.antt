@@ -2,7 +2,7 @@
 use Rattle.std.specs.Prelude.{◌≡◌, ◌≤◌, length}
 use Rattle.pm_topology.specs.Units.{units_of}
 use Rattle.pm_topology.specs.UnitMap.{all_at}
-use Rattle.pm_state.specs.State.{State, in_force}
+use Rattle.pm_state.specs.State.{State}
 use Rattle.pm_tell.specs.declared.telling.Telling.{Telling}
 use Rattle.pm_values.specs.declared.caches.Caches.{Caches}
 use Rattle.pm_values.specs.Along.{trail_at_load}
@@ -13,7 +13,7 @@ use Rattle.pm_values.specs.Notifications.{notice_count}
 pub record IsBegun (book : State) (caches : Caches) (telling : Telling) : Type 0 where
   pub places : HasPlaces book.fixed.topology caches
   pub zeros : caches.values ≡ all_at 0 (units_of book.fixed.topology)
-  pub modes : length telling.modes.items ≡ length (in_force book).masters
-  pub along : telling.along ≡ trail_at_load (length (in_force book).masters) (length book.fixed.topology.procs)
-  pub ended : length (in_force book).masters ≤ telling.ended.room
+  pub modes : length telling.modes.items ≡ length book.fixed.object.masters
+  pub along : telling.along ≡ trail_at_load (length book.fixed.object.masters) (length book.fixed.topology.procs)
+  pub ended : length book.fixed.object.masters ≤ telling.ended.room
   pub notices : notice_count (length caches.values) ≤ telling.notices.room

@@ -9,7 +9,7 @@ use Rattle.pm_tell.specs.declared.callbacks.Callback.{Callback}
 use Rattle.pm_tell.specs.declared.late.Late.{Late}
 use Rattle.pm_core.specs.declared.outbox.Outbox.{Outbox}
 use Rattle.pm_values.specs.declared.starts.Start.{Start}
-use Rattle.pm_state.specs.State.{State, in_force}
+use Rattle.pm_state.specs.State.{State}
 use Rattle.pm_state.specs.Units.{unit_count}
 use Rattle.pm_tell.specs.Callbacks.{callback_count}
 
@@ -28,7 +28,7 @@ pub record HasRoom (t : Topology) (masters : ℕ) (out : Outbox) : Type 0 where
 
 -- the same for the chip and the masters of a book
 abbrev pub HasRoomFor : State → Outbox → Type 0
-HasRoomFor book out = HasRoom book.fixed.topology (length (in_force book).masters) out
+HasRoomFor book out = HasRoom book.fixed.topology (length book.fixed.object.masters) out
 
 -- an outbox has the room that it had before
 pub record KeepsRoom (before after : Outbox) : Type 0 where

@@ -9,7 +9,7 @@ ghost use Rattle.pm_core.specs.Outbox.{HasRoom, HasRoomFor, Holds, IsEmpty, Keep
 ghost use Rattle.pm_perms.specs.Permits.{may_use};
 ghost use Rattle.pm_core.specs.Step.{effect, outputs, outputs_at_load, is_refused};
 ghost use Rattle.pm_core.specs.Usage.{usage};
-ghost use Rattle.pm_state.specs.State.{in_force};
+ghost use Rattle.pm_state.specs.State.{in_force, objects_of};
 ghost use Rattle.pm_state.specs.Sound.{IsSound, StandsAsWanted, MeetsRequirements};
 ghost use Rattle.pm_state.specs.Units.{units};
 ghost use Rattle.pm_state.specs.Values.{point, shown, value};
@@ -17,8 +17,8 @@ ghost use Rattle.pm_state.specs.Nodes.{master_mode, mode, row};
 
 use crate::answers::answer;
 use crate::outbox::Outbox;
-use pm_base::{Event, Mode, NoMemory, NodeId, Unit};
-use pm_object::Object;
+use pm_base::{Event, List, Mode, NoMemory, NodeId, Unit, with};
+use pm_object::{Attached, Object};
 use pm_rows::Row;
 use pm_state::Tables;
 use pm_step::{advance, books_stay_sound, leaves_values, time_of, touched_unless};
@@ -44,7 +44,7 @@ impl Model for Book {
     ghost use Rattle.std.specs.Prelude.{length};
     ghost use Rattle.pm_values.specs.Caches.{AreKept};
     ghost use Rattle.pm_state.specs.Sound.{IsBook};
-    ghost use Rattle.pm_state.specs.State.{State, in_force};
+    ghost use Rattle.pm_state.specs.State.{State};
     ghost use Rattle.pm_tell.specs.Telling.{HasPlaces};
 
     ghost Value = { State };
@@ -52,12 +52,13 @@ impl Model for Book {
     ghost view = { λ book. book.tables };
 
     ghost invariant = { λ book. IsBook book.tables × AreKept book.tables book.caches
-        × HasPlaces book.tables.fixed.topology (length (in_force book.tables).masters) book.telling };
+        × HasPlaces book.tables.fixed.topology (length book.tables.fixed.object.masters) book.telling };
 }
 
 impl Book {
     /// The book of an object at load: a row for each permitted pair, with what the object preallocates
-    /// for it, and the first processor of the first master is active. The topology passes its check, and
+    /// for it, and the first processor of the first master is active. Beside the object stands what is attached, of
+    /// which a message can put an object in force. The topology passes its check, and
     /// the outbox was loaded for it and for the number of masters of the object. The outbox then holds
     /// the units that aren't 0 at load, and the start of that processor. It has the room that it had,
     /// which is that of the book's chip and masters.
@@ -69,12 +70,13 @@ impl Book {
     pub fn load(
         alloc: Global,
         object: Object,
+        attached: List<Attached>,
         topology: Topology,
         out: &mut Outbox,
     ) -> Result<Book, NoMemory>
         requires formed { IsWellFormed topology }
         requires room { HasRoom topology (length object.masters) out.old }
-        ensures book { IfOk result (λ book. book ≡ load_of object topology) }
+        ensures book { IfOk result (λ book. book ≡ load_of object attached topology) }
         ensures out { IfOk result (λ book. Holds (outputs_at_load book) out.new) }
         ensures nothing { IfErr result (λ _. IsEmpty out.new) }
         ensures room { KeepsRoom out.old out.new }
@@ -87,7 +89,7 @@ impl Book {
         units_stand_in_order();
         values_meet();
         out.clear();
-        let tables = Tables::load(alloc, object, topology)?;
+        let tables = Tables::load(alloc, object, attached, topology)?;
         let kept = kept_of(alloc, &tables);
         let (tables, kept) = with(tables, kept)?;
         let (mut caches, mut telling) = kept;
@@ -163,11 +165,26 @@ impl Book {
         out.answer = answer(&self.tables, &self.caches, served);
     }
 
-    /// The configuration object.
+    /// The configuration object in force.
     pub fn object(&self) -> &Object
-        ensures { result.now ≡ self.now.fixed.object }
+        ensures { result.now ≡ in_force self.now }
     {
         self.tables.in_force()
+    }
+
+    /// The configuration object that was loaded. The masters, their places and their processors are read of it.
+    pub fn loaded(&self) -> &Object
+        ensures { result.now ≡ self.now.fixed.object }
+    {
+        self.tables.object()
+    }
+
+    /// The objects of the run: the loaded one, and each attached one that can be put in force, which has the masters of
+    /// the loaded one.
+    pub fn objects(&self) -> &List<Object>
+        ensures { result.now ≡ objects_of self.now.fixed }
+    {
+        self.tables.objects()
     }
 
     /// The parts of the chip, which have passed their check.
@@ -181,9 +198,9 @@ impl Book {
     /// What holds of every book: its chip has passed its check, the book is sound and meets its requirements, and each
     /// node that needs power in its value stands directly below a power node that is up.
     ///
-    /// That it is sound: exactly the permitted pairs have a row, a slave that can't be shared has one user at most, the
+    /// That it is sound: the object in force is one of the run's, exactly the pairs that it permits have a row, a slave that can't be shared has one user at most, the
     /// rows know the modes of the masters, nothing is scheduled while a master is active, one that is off uses nothing,
-    /// a processor that no configured master has is off, a reset line that no master may reset is released, a row that
+    /// a processor that no configured master has is off, a reset line that no object of the run lets any master reset is released, a row that
     /// is armed names a processor of its own master, the node of a request to suspend names the master on which it is
     /// pending, and each master has notes about each unit of the chip.
     ///
@@ -261,7 +278,7 @@ impl Book {
         self.tables.master_mode(master)
     }
 
-    /// The row of a master on a slave. There is none exactly where the object doesn't permit the
+    /// The row of a master on a slave. There is none exactly where the object in force doesn't permit the
     /// pair: the master isn't configured, the slave isn't in the table, or the mask of the object's
     /// record of the slave lacks the master's bit.
     pub fn row(&self, master: NodeId, slave: NodeId) -> Option<Row>
@@ -292,14 +309,4 @@ fn kept_of(alloc: Global, tables: &Tables) -> Result<(Caches, Telling), NoMemory
     let procs = tables.topology().procs.len();
     let telling = Telling::load(alloc, caches.units(), tables.masters(), procs);
     with(caches, telling)
-}
-
-/// Both, if the second is there. Else the first is dropped: here its type is any.
-fn with<T: Drop, U, E>(first: T, second: Result<U, E>) -> Result<(T, U), E>
-    ensures { IfOk result (λ both. (both.0 ≡ first) × (second ≡ Ok both.1)) }
-{
-    match second {
-        Ok(second) => Ok((first, second)),
-        Err(error) => Err(error),
-    }
 }

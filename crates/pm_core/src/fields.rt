@@ -50,7 +50,7 @@ fn book_fields(rt: HostRuntime) -> Result<(), Fail> {
     let chip = chip(rt.alloc())?;
     let object = empty_object(rt.alloc());
     let mut out = Outbox::load(rt.alloc(), &chip, object.masters.len())?;
-    let book = Book::load(rt.alloc(), object, chip, &mut out)?;
+    let book = Book::load(rt.alloc(), object, List::new(rt.alloc()), chip, &mut out)?;
     take_apart(&book);
     Ok(())
 }

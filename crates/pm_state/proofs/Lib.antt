@@ -1,9 +1,13 @@
+pub mod AnewLaw
 pub mod ArmedLaw
 pub mod Each
 pub mod FollowLemmas
+pub mod KeptLemmas
 pub mod LoadLaw
 pub mod MasterNotesLaw
 pub mod MembersLaw
+pub mod ObjectsLaw
+pub mod OffLemmas
 pub mod PairsLaw
 pub mod PendingLaw
 pub mod Permitted

@@ -1,111 +1,40 @@
--- The book at load is sound.
-use Rattle.std.proofs.Common.{◌≡◌, ◌≢◌, ℕ, ◌+◌, ◌<◌, Bool, true, false, ◌&&◌, ◌==◌, if◌then◌else◌, IsTrue, List, [], ◌∷◌, length, is_some, get_or, slice_get, bit_and, Option, Some, None, refl, zero, suc, sym, ◌∙◌, ap, arith, inl, inr}
-use Rattle.std.specs.Prelude.{slice_set, replicate, IfSome}
-use Rattle.std.specs.Int.{bit_at}
-use Rattle.std.specs.List.{All, AllByRecursion as Each, list_any}
-use Rattle.std.proofs.lemmas.Bool.{cases_eq, eq-eqb, eqb-true}
+-- The book at load is sound, whichever object of the run is in force.
+use Rattle.std.proofs.Common.{◌≡◌, ◌≢◌, ℕ, ◌<◌, true, false, ◌==◌, List, [], ◌∷◌, map, length, get_or, slice_get, Option, Some, None, refl, zero, suc, sym, ◌∙◌, ap, subst, arith, inl, inr}
+use Rattle.std.specs.Prelude.{slice_set, replicate}
+use Rattle.std.specs.List.{list_any}
+use Rattle.std.proofs.lemmas.Bool.{cases_eq, eq-eqb}
 use Rattle.std.proofs.lemmas.List.{get_or-set_other, get_or-set_same, length-set, length-replicate}
-use Rattle.std.proofs.lemmas.List.Elements.{All-from_recursion}
-use Rattle.std.proofs.lemmas.Nat.Bits.{bit_at_and, same_from_bits}
 use Rattle.std.proofs.lemmas.Option.{unwrap_or-slice_get}
-use Rattle.pm_base.specs.declared.caps.Caps.{Caps}
 use Rattle.pm_base.specs.declared.names.Mode.TheVariants.{Off, Active}
 use Rattle.pm_notify.specs.Laws.{OrderLaws}
-use Rattle.pm_object.specs.declared.object.MasterRec.{MasterRec}
 use Rattle.pm_object.specs.declared.object.Object.{Object}
-use Rattle.pm_object.specs.declared.object.PreRec.{PreRec}
-use Rattle.pm_object.specs.declared.object.SlaveRec.{SlaveRec}
-use Rattle.pm_topology.specs.declared.topology.SlaveDef.{SlaveDef}
 use Rattle.pm_topology.specs.declared.topology.Topology.{Topology}
-use Rattle.pm_perms.specs.Permits.{mask_has, slave_record}
 use Rattle.pm_procs.specs.declared.procs.Proc.{Proc}
 use Rattle.pm_procs.specs.Procs.{all_off, all_turned_off, has_member, master_mode_in, members_at, mode_at, off}
 use Rattle.pm_resets.specs.Resets.{all_released, is_asserted}
 use Rattle.pm_rows.specs.Modes.{mode_in, loaded_modes}
-use Rattle.pm_rows.specs.Rows.{has_all}
-use Rattle.pm_rows.specs.Sound.{IsLoadable}
-use Rattle.pm_base.proofs.Bits.{has_none}
+use Rattle.pm_rows.specs.declared.row.Pair.{Pair}
+use Rattle.pm_rows.specs.declared.row.RowSeed.{RowSeed}
+use Rattle.pm_rows.specs.Rows.{pair_of}
+use Rattle.pm_rows.specs.Sound.{AreOnce, AreSound}
 use Rattle.pm_base.proofs.Booleans.{first_passes}
 use Rattle.pm_state.specs.Boot.{active_at_load, boot_master, boot_proc}
-use Rattle.pm_state.specs.Choice.{all_of}
-use Rattle.pm_state.specs.Load.{load_of}
+use Rattle.pm_state.specs.Load.{load_in}
 use Rattle.pm_state.specs.Members.{is_place, members_of, owner_at}
-use Rattle.pm_state.specs.Pairs.{cut_to, has_use_flag, pairs_from, pairs_of, pairs_of_masters, pairs_on, preallocation, preset_by, seed_of, current_by}
+use Rattle.pm_state.specs.declared.pairs.Permitted.{Permitted}
+use Rattle.pm_state.specs.Pairs.{pairs_of, permitted_in, seeds_at_load}
+use Rattle.pm_state.specs.Policies.{most_pairs}
 use Rattle.pm_state.specs.Prims.{procs_with}
 use Rattle.pm_state.specs.Sound.{IsSound}
-use Rattle.pm_state.proofs.Each.{Each-append}
+use Rattle.pm_state.specs.State.{Fixed, object_at, objects_of}
+use Rattle.pm_state.proofs.AnewLaw.{load_pairs, seeds_loadable}
+use Rattle.pm_state.proofs.ObjectsLaw.{masters_same}
 use Rattle.pm_state.proofs.MembersLaw.{Owns, members_owned, one_owner}
 use Rattle.pm_state.proofs.PairsLaw.{pairs_once}
 use Rattle.pm_state.proofs.ArmedLaw.{load_arms}
 use Rattle.pm_state.proofs.MasterNotesLaw.{load_notes}
 use Rattle.pm_state.proofs.PendingLaw.{RequestLaws, none_named}
 use Rattle.pm_state.proofs.RowLaws.{RowLaws}
-
--- ---- the permitted pairs can be loaded
-
-cut_bits : (a w : ℕ) → bit_and a (bit_and w a) ≡ bit_and w a
-cut_bits a w =
-    let each : (i : ℕ) → bit_at (bit_and a (bit_and w a)) i ≡ bit_at (bit_and w a) i = λ i.
-    let whole = bit_at_and a (bit_and w a) i in
-    let part = bit_at_and w a i in
-    omega arith
-    in
-    same_from_bits (bit_and a (bit_and w a)) (bit_and w a) each
-
--- what is cut to a slave's capabilities is within them
-cut_able : (all : Caps) (word : ℕ) → IsTrue (has_all all (cut_to all word))
-cut_able all word = eq-eqb _ _ (cut_bits all.0 word)
-
-preset_able : (all : Caps) (r : Option PreRec) → IsTrue (has_all all (preset_by all r))
-preset_able all None = eq-eqb _ _ (has_none all.0)
-preset_able all (Some r) = cut_able all r.preset
-
-start_if : (all : Caps) (b : Bool) (r : PreRec) → IfSome (if b then Some (cut_to all r.current) else None) (λ caps. IsTrue (has_all all caps))
-start_if all true r = cut_able all r.current
-start_if all false r = tt
-
-start_able : (all : Caps) (active : Bool) (r : Option PreRec) → IfSome (current_by all active r) (λ caps. IsTrue (has_all all caps))
-start_able all active None = tt
-start_able all active (Some r) = start_if all (active && has_use_flag r) r
-
-start_first : (all : Caps) (active : Bool) (r : Option PreRec) → IsTrue (is_some (current_by all active r)) → active ≡ true
-start_first all true r is = refl
-start_first all false None is = cc
-start_first all false (Some r) is = cc
-
-seed_loadable : (object : Object) (masters boot m : ℕ) (master : MasterRec) (s : ℕ) (slave : SlaveDef) (r : SlaveRec) → m < masters → IsLoadable masters boot (seed_of object boot m master s slave r)
-seed_loadable object masters boot m master s slave r within =
-    let first = preallocation object master slave in
-    record {
-      place = within;
-      preset = preset_able (all_of slave.states) first;
-      start = start_able (all_of slave.states) (m == boot) first;
-      first = λ is. eqb-true m boot (start_first (all_of slave.states) (m == boot) first is);
-    }
-
-masters_loadable : (object : Object) (masters boot m s : ℕ) (slave : SlaveDef) (r : SlaveRec) (left : List MasterRec) → m + length left ≡ masters → Each (IsLoadable masters boot) (pairs_of_masters object boot m s slave r left)
-masters_loadable object masters boot m s slave r [] count = tt
-masters_loadable object masters boot m s slave r (x ∷ xs) count =
-    Each-append (IsLoadable masters boot) (if mask_has r.mask x.mask then seed_of object boot m x s slave r ∷ [] else []) (pairs_of_masters object boot (m + 1) s slave r xs)
-    (elim (mask_has r.mask x.mask) as (λ b. Each (IsLoadable masters boot) (if b then seed_of object boot m x s slave r ∷ [] else [])) [
-      | true ↦ (seed_loadable object masters boot m x s slave r (omega (arith, count)), tt)
-      | false ↦ tt
-    ])
-    (masters_loadable object masters boot (m + 1) s slave r xs (omega (arith, count)))
-
-on_loadable : (object : Object) (boot s : ℕ) (slave : SlaveDef) (r : Option SlaveRec) → Each (IsLoadable (length object.masters) boot) (pairs_on object boot s slave r)
-on_loadable object boot s slave None = tt
-on_loadable object boot s slave (Some r) = masters_loadable object (length object.masters) boot 0 s slave r object.masters (omega arith)
-
-from_loadable : (object : Object) (boot s : ℕ) (slaves : List SlaveDef) → Each (IsLoadable (length object.masters) boot) (pairs_from object boot s slaves)
-from_loadable object boot s [] = tt
-from_loadable object boot s (x ∷ xs) =
-    Each-append (IsLoadable (length object.masters) boot) (pairs_on object boot s x (slave_record object x.node)) (pairs_from object boot (s + 1) xs)
-    (on_loadable object boot s x (slave_record object x.node)) (from_loadable object boot (s + 1) xs)
-
-pub pairs_loadable : (object : Object) (t : Topology) → All (IsLoadable (length object.masters) (boot_master object t)) (pairs_of object t)
-pairs_loadable object t =
-    All-from_recursion (IsLoadable (length object.masters) (boot_master object t)) (pairs_of object t) (from_loadable object (boot_master object t) 0 t.slaves)
 
 -- ---- the modes at load
 
@@ -195,24 +124,34 @@ nobody_up object t (Some p) is q nobody =
 none_asserted : (count l : ℕ) → is_asserted l (all_released count) ≡ false
 none_asserted count l = unwrap_or-slice_get (all_released count) l false ∙ get_or-replicate_any false count l
 
--- the book at load
-pub load_sound : RowLaws → ModeLaws → RequestLaws → OrderLaws → (object : Object) (topology : Topology) → IsSound (load_of object topology)
-load_sound rows modes requests orders object topology =
-    let masters : ℕ = length object.masters in
-    let boot = boot_master object topology in
+-- the book at load with one of the run's objects in force
+pub load_sound : RowLaws → ModeLaws → RequestLaws → OrderLaws → (fixed : Fixed) (object : Object) → (k : ℕ) → object_at fixed k ≡ Some object → IsSound (load_in fixed object)
+load_sound rows modes requests orders fixed object k is =
+    let t : Topology = fixed.topology in
+    let masters : ℕ = length fixed.object.masters in
+    let boot : ℕ = boot_master fixed.object t in
+    let seeds : List RowSeed = seeds_at_load boot object t in
+    let all : List Permitted = permitted_in object t in
+    let pairs : map pair_of seeds ≡ pairs_of object t = load_pairs boot all in
+    let Once : List Pair → Type 0 = λ ps. AreOnce ps in
+    let Rows : List Pair → Type 0 = λ ps. AreSound ps (load_in fixed object).now.core.rows in
     record {
-      rows = rows.load masters boot (pairs_of object topology) (λ m s. pairs_once m s object topology) (pairs_loadable object topology);
+      force = record { place = k; there = is };
+      room = record { slaves = refl; room = refl };
+      rows = subst Rows pairs
+          (rows.load masters (length t.slaves) boot (most_pairs t (objects_of fixed)) seeds
+          (subst Once (sym pairs) (λ m s. pairs_once m s object t))
+          (seeds_loadable masters boot object t (masters_same fixed k object is)));
       knows = record {
-        boot = refl;
         each = length-set (replicate masters Off) boot Active ∙ length-replicate masters Off;
-        right = modes_right modes object topology (boot_proc object topology) refl;
+        right = modes_right modes fixed.object t (boot_proc fixed.object t) refl;
       };
       procs = record {
-        each = counted (boot_proc object topology) (length topology.procs);
-        nobodys = nobody_up object topology (boot_proc object topology) refl;
+        each = counted (boot_proc fixed.object t) (length t.procs);
+        nobodys = nobody_up fixed.object t (boot_proc fixed.object t) refl;
       };
-      lines = record { each = length-replicate (length topology.lines) false; nobodys = λ l none. none_asserted (length topology.lines) l };
-      armed = load_arms (record { object = object; topology = topology }) (pairs_of object topology);
-      pending = none_named requests (record { object = object; topology = topology });
-      notes = load_notes orders topology masters;
+      lines = record { each = length-replicate (length t.lines) false; nobodys = λ l none. none_asserted (length t.lines) l };
+      armed = load_arms fixed seeds;
+      pending = none_named requests fixed;
+      notes = load_notes orders t masters;
     }

@@ -2,7 +2,7 @@
 use Rattle.std.proofs.Common.{ℕ, List, [], ◌∷◌, ◌∙◌}
 use Rattle.std.proofs.lemmas.List.{length-map, length-set, length-replicate}
 use Rattle.pm_notify.specs.Laws.{OrderLaws}
-use Rattle.pm_notify.specs.MasterNotes.{forgotten, with_note, with_notifier, without_note}
+use Rattle.pm_notify.specs.MasterNotes.{forgotten, with_note, with_notifier, without_note, without_notifiers}
 use Rattle.pm_notify.specs.NodeNotes.{no_notes}
 use Rattle.pm_notify.specs.Notify.{loaded, notes_for}
 use Rattle.pm_topology.specs.declared.topology.Topology.{Topology}
@@ -10,7 +10,7 @@ use Rattle.pm_topology.specs.UnitMap.{all_at}
 use Rattle.pm_topology.specs.Units.{units_of}
 use Rattle.pm_state.specs.Sound.{AreNotes}
 use Rattle.pm_state.specs.State.{TalkHalf}
-use Rattle.pm_state.specs.Talk.{Talk, Ask, Lower, End, Forget, Notify, Take, Wait, Renew, apply_talk, talks}
+use Rattle.pm_state.specs.Talk.{Talk, Ask, Lower, End, Forget, Notify, Take, Wait, Renew, Unwatch, apply_talk, talks}
 
 change_notes : OrderLaws → (t : Topology) (masters : ℕ) (change : Talk) (half : TalkHalf) → AreNotes t masters half.notes → AreNotes t masters (apply_talk change half).notes
 change_notes laws t masters (Ask m request) half note_changes = note_changes
@@ -35,6 +35,10 @@ change_notes laws t masters (Wait m node note) half note_changes = record {
 change_notes laws t masters Renew half note_changes = record {
   each = length-map half.notes forgotten ∙ note_changes.each;
   units = λ k within. laws.restarts half.notes k ∙ note_changes.units k within;
+}
+change_notes laws t masters Unwatch half note_changes = record {
+  each = length-map half.notes without_notifiers ∙ note_changes.each;
+  units = λ k within. laws.forgets half.notes k ∙ note_changes.units k within;
 }
 
 pub talk_notes : OrderLaws → (t : Topology) (masters : ℕ) (changes : List Talk) (half : TalkHalf) → AreNotes t masters half.notes → AreNotes t masters (talks changes half).notes

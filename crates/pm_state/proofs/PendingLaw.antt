@@ -7,7 +7,7 @@ use Rattle.pm_procs.specs.declared.pending.Pending.{Pending}
 use Rattle.pm_procs.specs.Pending.{all_ended, all_lowered, asked, ended, lowered, none_pending, pending_at}
 use Rattle.pm_state.specs.Sound.{AreNamed}
 use Rattle.pm_state.specs.State.{Fixed, TalkHalf}
-use Rattle.pm_state.specs.Talk.{Talk, Ask, Lower, End, Forget, Notify, Take, Wait, Renew, apply_talk, talks}
+use Rattle.pm_state.specs.Talk.{Talk, Ask, Lower, End, Forget, Notify, Take, Wait, Renew, Unwatch, apply_talk, talks}
 use Rattle.pm_state.specs.Nodes.{named_master}
 
 -- the laws of what is pending on the masters
@@ -49,6 +49,7 @@ NamesTarget fixed (Notify m node event on) = ⊤
 NamesTarget fixed (Take m node note) = ⊤
 NamesTarget fixed (Wait m node note) = ⊤
 NamesTarget fixed Renew = ⊤
+NamesTarget fixed Unwatch = ⊤
 
 pub one_request : {X : Type 0} (x y : X) → Some x ≡ Some y → x ≡ y
 one_request x y is = cc
@@ -114,3 +115,5 @@ talk_keeps laws fixed (Wait m node note ∷ changes) half names named =
     talk_keeps laws fixed changes (apply_talk (Wait m node note) half) names.1 named
 talk_keeps laws fixed (Renew ∷ changes) half names named =
     talk_keeps laws fixed changes (apply_talk Renew half) names.1 (renew_keeps laws fixed half.pending named)
+talk_keeps laws fixed (Unwatch ∷ changes) half names named =
+    talk_keeps laws fixed changes (apply_talk Unwatch half) names.1 named

@@ -15,8 +15,7 @@ use Rattle.pm_rows.specs.declared.row.Entry.{Entry}
 use Rattle.pm_perms.specs.Permits.{mask_has, may_use, may_use_by, slave_record, master_record}
 use Rattle.pm_rows.specs.Sound.{is_pair}
 use Rattle.pm_topology.specs.declared.topology.Topology.{Topology}
-use Rattle.pm_state.specs.Boot.{boot_master}
-use Rattle.pm_state.specs.Pairs.{seed_of, pairs_of_masters, pairs_on, pairs_from, pairs_of}
+use Rattle.pm_state.specs.Pairs.{pair_permitted, pairs_of, permitted_from, permitted_in, permitted_of, permitted_of_masters, permitted_on}
 use Rattle.pm_rows.specs.Rows.{entry_at}
 use Rattle.pm_state.specs.Sound.{IsSound}
 use Rattle.pm_state.specs.State.{State, in_force}
@@ -24,7 +23,9 @@ use Rattle.pm_state.specs.Values.{slave_place, master_place}
 use Rattle.pm_state.specs.Nodes.{row, row_at}
 use Rattle.pm_base.proofs.Counts.{count_by-append}
 use Rattle.pm_state.proofs.RowLaws.{RowLaws}
-use Rattle.pm_state.proofs.PairsLaw.{masters_before, other_master, head_at, pairs_elsewhere, pairs_before}
+use Rattle.pm_rows.proofs.Lists.{count_mapped_same}
+use Rattle.pm_state.proofs.ObjectsLaw.{of_run, place_same}
+use Rattle.pm_state.proofs.PairsLaw.{is_permitted, masters_before, other_master, head_at, pairs_elsewhere, pairs_before}
 
 -- what a search by place and a search by element find
 abbrev FindsAt : {X : Type 0} → (X → Bool) → List X → Option ℕ → Type 0
@@ -45,52 +46,52 @@ finds p xs found is =
     let P : Option ℕ → Type 0 = λ o. FindsAt p xs o in
     subst P is (finds_where p xs (nat_lt (position_or_len p xs) (length xs)) refl)
 
-one_pair : (object : Object) (boot : ℕ) (master : MasterRec) (b : Bool) (k m s place : ℕ) (slave : SlaveDef) (r : SlaveRec) → k ≡ m → place ≡ s → count_by (is_pair m s) (if b then seed_of object boot k master place slave r ∷ [] else []) ≡ cond b 1 0
-one_pair object boot master false k m s place slave r same at = refl
-one_pair object boot master true k m s place slave r same at = rw (eq-eqb k m same, eq-eqb place s at) refl
+one_pair : (object : Object) (master : MasterRec) (b : Bool) (k m s place : ℕ) (slave : SlaveDef) (r : SlaveRec) → k ≡ m → place ≡ s → count_by (is_permitted m s) (if b then permitted_of object k master place slave r ∷ [] else []) ≡ cond b 1 0
+one_pair object master false k m s place slave r same at = refl
+one_pair object master true k m s place slave r same at = rw (eq-eqb k m same, eq-eqb place s at) refl
 
 -- the master at place m has one pair on a slave if it may use it, and else none
-master_pairs : (object : Object) (boot : ℕ) (i m s k : ℕ) (slave : SlaveDef) (r : SlaveRec) (masters : List MasterRec) (master : MasterRec) → m ≡ k + i → slice_get masters i ≡ Some master → count_by (is_pair m s) (pairs_of_masters object boot k s slave r masters) ≡ cond (mask_has r.mask master.mask) 1 0
-master_pairs object boot i m s k slave r [] master at here = cc
-master_pairs object boot zero m s k slave r (x ∷ xs) master at here =
+master_pairs : (object : Object) (i m s k : ℕ) (slave : SlaveDef) (r : SlaveRec) (masters : List MasterRec) (master : MasterRec) → m ≡ k + i → slice_get masters i ≡ Some master → count_by (is_permitted m s) (permitted_of_masters object k s slave r masters) ≡ cond (mask_has r.mask master.mask) 1 0
+master_pairs object i m s k slave r [] master at here = cc
+master_pairs object zero m s k slave r (x ∷ xs) master at here =
     let same : x ≡ master = cc in
-    let later : count_by (is_pair m s) (pairs_of_masters object boot (k + 1) s slave r xs) ≡ 0 = masters_before object boot m s (k + 1) s slave r xs (omega arith) in
-    let head : count_by (is_pair m s) (if mask_has r.mask x.mask then seed_of object boot k x s slave r ∷ [] else []) ≡ cond (mask_has r.mask x.mask) 1 0 = one_pair object boot x (mask_has r.mask x.mask) k m s s slave r (omega arith) refl in
-    let spread = count_by-append (is_pair m s) (if mask_has r.mask x.mask then seed_of object boot k x s slave r ∷ [] else []) (pairs_of_masters object boot (k + 1) s slave r xs) in
-    let whole : count_by (is_pair m s) (pairs_of_masters object boot k s slave r (x ∷ xs)) ≡ cond (mask_has r.mask x.mask) 1 0 = omega arith in
+    let later : count_by (is_permitted m s) (permitted_of_masters object (k + 1) s slave r xs) ≡ 0 = masters_before object m s (k + 1) s slave r xs (omega arith) in
+    let head : count_by (is_permitted m s) (if mask_has r.mask x.mask then permitted_of object k x s slave r ∷ [] else []) ≡ cond (mask_has r.mask x.mask) 1 0 = one_pair object x (mask_has r.mask x.mask) k m s s slave r (omega arith) refl in
+    let spread = count_by-append (is_permitted m s) (if mask_has r.mask x.mask then permitted_of object k x s slave r ∷ [] else []) (permitted_of_masters object (k + 1) s slave r xs) in
+    let whole : count_by (is_permitted m s) (permitted_of_masters object k s slave r (x ∷ xs)) ≡ cond (mask_has r.mask x.mask) 1 0 = omega arith in
     whole ∙ ap (λ (x : MasterRec). cond (mask_has r.mask x.mask) 1 0) same
-master_pairs object boot (suc i) m s k slave r (x ∷ xs) master at here =
-    let later : count_by (is_pair m s) (pairs_of_masters object boot (k + 1) s slave r xs) ≡ cond (mask_has r.mask master.mask) 1 0 = master_pairs object boot i m s (k + 1) slave r xs master (omega arith) here in
-    let head : count_by (is_pair m s) (if mask_has r.mask x.mask then seed_of object boot k x s slave r ∷ [] else []) ≤ cond (is_pair m s (seed_of object boot k x s slave r)) 1 0 = head_at (is_pair m s) (mask_has r.mask x.mask) (seed_of object boot k x s slave r) in
-    let none : cond (is_pair m s (seed_of object boot k x s slave r)) 1 0 ≤ 0 = other_master k m s s (λ same. omega arith) in
-    let spread = count_by-append (is_pair m s) (if mask_has r.mask x.mask then seed_of object boot k x s slave r ∷ [] else []) (pairs_of_masters object boot (k + 1) s slave r xs) in
+master_pairs object (suc i) m s k slave r (x ∷ xs) master at here =
+    let later : count_by (is_permitted m s) (permitted_of_masters object (k + 1) s slave r xs) ≡ cond (mask_has r.mask master.mask) 1 0 = master_pairs object i m s (k + 1) slave r xs master (omega arith) here in
+    let head : count_by (is_permitted m s) (if mask_has r.mask x.mask then permitted_of object k x s slave r ∷ [] else []) ≤ cond (is_permitted m s (permitted_of object k x s slave r)) 1 0 = head_at (is_permitted m s) (mask_has r.mask x.mask) (permitted_of object k x s slave r) in
+    let none : cond (is_permitted m s (permitted_of object k x s slave r)) 1 0 ≤ 0 = other_master k m s s (λ same. omega arith) in
+    let spread = count_by-append (is_permitted m s) (if mask_has r.mask x.mask then permitted_of object k x s slave r ∷ [] else []) (permitted_of_masters object (k + 1) s slave r xs) in
     omega arith
 
 -- the pairs on the slave at a place are those with that slave
-slave_pairs : (object : Object) (boot : ℕ) (i m s k : ℕ) (slaves : List SlaveDef) (slave : SlaveDef) → s ≡ k + i → slice_get slaves i ≡ Some slave → count_by (is_pair m s) (pairs_from object boot k slaves) ≡ count_by (is_pair m s) (pairs_on object boot s slave (slave_record object slave.node))
-slave_pairs object boot i m s k [] slave at here = cc
-slave_pairs object boot zero m s k (x ∷ xs) slave at here =
+slave_pairs : (object : Object) (i m s k : ℕ) (slaves : List SlaveDef) (slave : SlaveDef) → s ≡ k + i → slice_get slaves i ≡ Some slave → count_by (is_permitted m s) (permitted_from object k slaves) ≡ count_by (is_permitted m s) (permitted_on object s slave (slave_record object slave.node))
+slave_pairs object i m s k [] slave at here = cc
+slave_pairs object zero m s k (x ∷ xs) slave at here =
     let same : x ≡ slave = cc in
     let placed : k ≡ s = omega arith in
-    let later : count_by (is_pair m s) (pairs_from object boot (k + 1) xs) ≡ 0 = pairs_before object boot m s (k + 1) xs (omega arith) in
-    let first : count_by (is_pair m s) (pairs_on object boot k x (slave_record object x.node)) ≡ count_by (is_pair m s) (pairs_on object boot s slave (slave_record object slave.node)) =
-    ap (λ (x : SlaveDef). count_by (is_pair m s) (pairs_on object boot k x (slave_record object x.node))) same
-    ∙ ap (λ k. count_by (is_pair m s) (pairs_on object boot k slave (slave_record object slave.node))) placed
+    let later : count_by (is_permitted m s) (permitted_from object (k + 1) xs) ≡ 0 = pairs_before object m s (k + 1) xs (omega arith) in
+    let first : count_by (is_permitted m s) (permitted_on object k x (slave_record object x.node)) ≡ count_by (is_permitted m s) (permitted_on object s slave (slave_record object slave.node)) =
+    ap (λ (x : SlaveDef). count_by (is_permitted m s) (permitted_on object k x (slave_record object x.node))) same
+    ∙ ap (λ k. count_by (is_permitted m s) (permitted_on object k slave (slave_record object slave.node))) placed
     in
-    let spread = count_by-append (is_pair m s) (pairs_on object boot k x (slave_record object x.node)) (pairs_from object boot (k + 1) xs) in
+    let spread = count_by-append (is_permitted m s) (permitted_on object k x (slave_record object x.node)) (permitted_from object (k + 1) xs) in
     omega arith
-slave_pairs object boot (suc i) m s k (x ∷ xs) slave at here =
-    let head : count_by (is_pair m s) (pairs_on object boot k x (slave_record object x.node)) ≡ 0 = pairs_elsewhere object boot m s k x (slave_record object x.node) (λ same. omega arith) in
-    let later : count_by (is_pair m s) (pairs_from object boot (k + 1) xs) ≡ count_by (is_pair m s) (pairs_on object boot s slave (slave_record object slave.node)) = slave_pairs object boot i m s (k + 1) xs slave (omega arith) here in
-    let spread = count_by-append (is_pair m s) (pairs_on object boot k x (slave_record object x.node)) (pairs_from object boot (k + 1) xs) in
+slave_pairs object (suc i) m s k (x ∷ xs) slave at here =
+    let head : count_by (is_permitted m s) (permitted_on object k x (slave_record object x.node)) ≡ 0 = pairs_elsewhere object m s k x (slave_record object x.node) (λ same. omega arith) in
+    let later : count_by (is_permitted m s) (permitted_from object (k + 1) xs) ≡ count_by (is_permitted m s) (permitted_on object s slave (slave_record object slave.node)) = slave_pairs object i m s (k + 1) xs slave (omega arith) here in
+    let spread = count_by-append (is_permitted m s) (permitted_on object k x (slave_record object x.node)) (permitted_from object (k + 1) xs) in
     omega arith
 
 abbrev used_by : MasterRec → Option SlaveRec → Bool
 used_by master r = may_use_by (Some master) r
 
-pairs_with : (object : Object) (boot m s : ℕ) (slave : SlaveDef) (master : MasterRec) (r : Option SlaveRec) → slice_get object.masters m ≡ Some master → count_by (is_pair m s) (pairs_on object boot s slave r) ≡ cond (used_by master r) 1 0
-pairs_with object boot m s slave master None here = refl
-pairs_with object boot m s slave master (Some r) here = master_pairs object boot m m s 0 slave r object.masters master (omega arith) here
+pairs_with : (object : Object) (m s : ℕ) (slave : SlaveDef) (master : MasterRec) (r : Option SlaveRec) → slice_get object.masters m ≡ Some master → count_by (is_permitted m s) (permitted_on object s slave r) ≡ cond (used_by master r) 1 0
+pairs_with object m s slave master None here = refl
+pairs_with object m s slave master (Some r) here = master_pairs object m m s 0 slave r object.masters master (omega arith) here
 
 bit_of : (b : Bool) → nat_lt 0 (cond b 1 0) ≡ b
 bit_of true = refl
@@ -106,8 +107,9 @@ entry_there rows m s book master slave sound here there =
     let object : Object = in_force book in
     let t : Topology = book.fixed.topology in
     let count : count_by (is_pair m s) (pairs_of object t) ≡ cond (used_by master (slave_record object slave.node)) 1 0 =
-    slave_pairs object (boot_master object t) s m s 0 t.slaves slave (omega arith) there
-    ∙ pairs_with object (boot_master object t) m s slave master (slave_record object slave.node) here
+    count_mapped_same (is_pair m s) pair_permitted (permitted_in object t)
+    ∙ slave_pairs object s m s 0 t.slaves slave (omega arith) there
+    ∙ pairs_with object m s slave master (slave_record object slave.node) here
     in
     rows.there (pairs_of object t) book.now.core.rows m s sound.rows
     ∙ (ap (nat_lt 0) count ∙ bit_of (used_by master (slave_record object slave.node)))
@@ -116,7 +118,7 @@ none_used : (b : Bool) → b && false ≡ false
 none_used true = refl
 none_used false = refl
 
-row_there : RowLaws → (master slave : NodeId) (book : State) (m s : Option ℕ) → IsSound book → master_place master book ≡ m → slave_place slave book ≡ s → is_some (row_at m s book) ≡ is_some s && may_use_by (master_record (in_force book) master) (slave_record (in_force book) slave)
+row_there : RowLaws → (master slave : NodeId) (book : State) (m s : Option ℕ) → IsSound book → position (λ (x : MasterRec). x.node == master.0) (in_force book).masters ≡ m → slave_place slave book ≡ s → is_some (row_at m s book) ≡ is_some s && may_use_by (master_record (in_force book) master) (slave_record (in_force book) slave)
 row_there rows master slave book None s sound m_is s_is =
     let none : master_record (in_force book) master ≡ None = finds (λ (x : MasterRec). x.node == master.0) (in_force book).masters None m_is in
     sym (ap (λ o. is_some s && may_use_by o (slave_record (in_force book) slave)) none ∙ none_used (is_some s))
@@ -131,5 +133,11 @@ row_there rows master slave book (Some m) (Some s) sound m_is s_is =
     ∙ (ap (λ n. used_by by.0 (find (λ (r : SlaveRec). r.node == n) object.slaves)) number
     ∙ ap (λ o. may_use_by o (slave_record object slave)) (sym by.2)))
 
+-- a configured master has the same place in the object in force
+in_force_place : (master : NodeId) (book : State) → IsSound book → master_place master book ≡ position (λ (x : MasterRec). x.node == master.0) (in_force book).masters
+in_force_place master book sound =
+    place_same master.0 book.fixed.object.masters (in_force book).masters (of_run book.fixed sound.force.place (in_force book) sound.force.there)
+
 pub row_permitted : RowLaws → (master slave : NodeId) (book : State) → IsSound book → is_some (row master slave book) ≡ may_use (in_force book) book.fixed.topology master slave
-row_permitted rows master slave book sound = row_there rows master slave book (master_place master book) (slave_place slave book) sound refl refl
+row_permitted rows master slave book sound =
+    row_there rows master slave book (master_place master book) (slave_place slave book) sound (sym (in_force_place master book sound)) refl

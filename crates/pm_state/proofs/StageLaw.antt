@@ -15,11 +15,10 @@ use Rattle.pm_rows.specs.declared.row.Change.{Change}
 use Rattle.pm_rows.specs.Modes.{mode_in}
 use Rattle.pm_rows.specs.Rows.{mode_of, entry_at}
 use Rattle.pm_rows.specs.Sound.{IsFit}
-use Rattle.pm_state.specs.Boot.{boot_master}
 use Rattle.pm_state.specs.Members.{mode_of_master, owner_at, owns, is_place}
 use Rattle.pm_state.specs.Pairs.{pairs_of}
 use Rattle.pm_state.specs.Prims.{Prim, At_row, Settle, Put_proc, Shift, applies, changed, proc_put}
-use Rattle.pm_state.specs.Sound.{AreLines, AreNotes, AreNamed, ArmsOwn, HasProcs, HasSoundRows, IsSound}
+use Rattle.pm_state.specs.Sound.{AreLines, AreNotes, AreNamed, ArmsOwn, HasProcs, HasRoomForRows, HasSoundRows, IsOfRun, IsSound}
 use Rattle.pm_state.specs.Stages.{after_stage, follow_at, follow_from, followed}
 use Rattle.pm_state.specs.State.{Fixed, Now, State, in_force}
 use Rattle.pm_state.proofs.ArmedLaw.{MayArm, change_arms, settle_arms, shift_arms}
@@ -29,8 +28,9 @@ use Rattle.pm_state.proofs.RowLaws.{RowLaws}
 
 -- what holds of a book within a stage: all but what the rows know of the modes
 pub record IsWithin (fixed : Fixed) (now : Now) : Type 0 where
+  pub force : IsOfRun (record { fixed = fixed; now = now })
+  pub room : HasRoomForRows (record { fixed = fixed; now = now })
   pub rows : HasSoundRows (record { fixed = fixed; now = now })
-  pub boot : now.core.rows.boot ≡ boot_master fixed.object fixed.topology
   pub each : length now.core.rows.known ≡ length fixed.object.masters
   pub procs : HasProcs (record { fixed = fixed; now = now })
   pub lines : AreLines fixed now.core.lines
@@ -39,7 +39,7 @@ pub record IsWithin (fixed : Fixed) (now : Now) : Type 0 where
   pub notes : AreNotes fixed.topology (length fixed.object.masters) now.talk.notes
 
 pub within : (book : State) → IsSound book → IsWithin book.fixed book.now
-within book sound = record { rows = sound.rows; boot = sound.knows.boot; each = sound.knows.each; procs = sound.procs; lines = sound.lines; armed = sound.armed; pending = sound.pending; notes = sound.notes }
+within book sound = record { force = sound.force; room = sound.room; rows = sound.rows; each = sound.knows.each; procs = sound.procs; lines = sound.lines; armed = sound.armed; pending = sound.pending; notes = sound.notes }
 
 -- ---- the rows follow
 
@@ -73,8 +73,9 @@ follows_by : RowLaws → (fixed : Fixed) (now : Now) (m : ℕ) (to : Mode) (same
 follows_by laws fixed now m to true is there of = record { all = of; knows = same_is (mode_of m now.core.rows) to (sym is) }
 follows_by laws fixed now m to false is there of = record {
   all = record {
-    rows = laws.shift (pairs_of fixed.object fixed.topology) now.core.rows m to (λ m s. pairs_once m s fixed.object fixed.topology) of.rows;
-    boot = of.boot;
+    rows = laws.shift (pairs_of now.force fixed.topology) now.core.rows m to (λ m s. pairs_once m s now.force fixed.topology) of.rows;
+    force = record { place = of.force.place; there = of.force.there };
+    room = record { slaves = of.room.slaves; room = of.room.room };
     each = length-set now.core.rows.known m to ∙ of.each;
     procs = record { each = of.procs.each; nobodys = of.procs.nobodys };
     lines = of.lines;
@@ -112,7 +113,7 @@ knows_more fixed now next m k is before here procs below =
 -- all masters from place m on follow
 follow_keeps : RowLaws → (fixed : Fixed) (m : ℕ) (masters : List MasterRec) (now : Now) → m + length masters ≡ length fixed.object.masters → IsWithin fixed now → KnowsBefore m fixed now → IsSound (record { fixed = fixed; now = applies fixed (follow_from fixed now.core m masters) now })
 follow_keeps laws fixed m [] now count of before =
-    record { rows = of.rows; knows = record { boot = of.boot; each = of.each; right = λ k there. before k (omega (arith, count, there)) }; procs = of.procs; lines = of.lines; armed = of.armed; pending = of.pending; notes = of.notes }
+    record { force = of.force; room = of.room; rows = of.rows; knows = record { each = of.each; right = λ k there. before k (omega (arith, count, there)) }; procs = of.procs; lines = of.lines; armed = of.armed; pending = of.pending; notes = of.notes }
 follow_keeps laws fixed m (x ∷ xs) now count of before =
     let first = follow_at fixed now.core m in
     let next : Now = applies fixed first now in
@@ -131,7 +132,7 @@ follow_keeps laws fixed m (x ∷ xs) now count of before =
 -- what follows a change that keeps the rows and the processors is a sound book
 pub followed_sound : RowLaws → (book : State) → IsWithin book.fixed book.now → IsSound (followed book)
 followed_sound laws book of =
-    follow_keeps laws book.fixed 0 (in_force book).masters book.now (omega arith) of (λ k none. absurd (omega (arith, none)))
+    follow_keeps laws book.fixed 0 book.fixed.object.masters book.now (omega arith) of (λ k none. absurd (omega (arith, none)))
 
 -- ---- the changes of a stage
 
@@ -154,7 +155,8 @@ pub put_keeps : (fixed : Fixed) (now : Now) (m p : ℕ) (mode : Mode) (address :
 put_keeps fixed now m p mode address false is of = of
 put_keeps fixed now m p mode address true is of = record {
   rows = of.rows;
-  boot = of.boot;
+  force = record { place = of.force.place; there = of.force.there };
+  room = record { slaves = of.room.slaves; room = of.room.room };
   each = of.each;
   procs = record {
     each = length-set now.core.procs p (gone mode (record { mode = mode; address = address })) ∙ of.procs.each;
@@ -172,8 +174,9 @@ put_keeps fixed now m p mode address true is of = record {
 pub change_within : RowLaws → (book : State) (prim : Prim) → IsSound book → Fits book prim → IsWithin book.fixed (changed (prim ∷ []) book).now
 change_within laws book _ sound (row m s by entry found fit may) = record {
   armed = change_arms book.fixed entry.seed.master entry.seed.slave by book.now.core.rows.entries may sound.armed;
-  rows = laws.change (pairs_of book.fixed.object book.fixed.topology) book.now.core.rows m s by entry (λ m s. pairs_once m s book.fixed.object book.fixed.topology) sound.rows found fit;
-  boot = sound.knows.boot;
+  rows = laws.change (pairs_of (in_force book) book.fixed.topology) book.now.core.rows m s by entry (λ m s. pairs_once m s (in_force book) book.fixed.topology) sound.rows found fit;
+  force = record { place = sound.force.place; there = sound.force.there };
+  room = record { slaves = sound.room.slaves; room = sound.room.room };
   each = sound.knows.each;
   procs = record { each = sound.procs.each; nobodys = sound.procs.nobodys };
   lines = sound.lines;
@@ -182,8 +185,9 @@ change_within laws book _ sound (row m s by entry found fit may) = record {
 }
 change_within laws book _ sound (settle m) = record {
   armed = settle_arms book.fixed m book.now.core.rows.entries sound.armed;
-  rows = laws.settle (pairs_of book.fixed.object book.fixed.topology) book.now.core.rows m sound.rows;
-  boot = sound.knows.boot;
+  rows = laws.settle (pairs_of (in_force book) book.fixed.topology) book.now.core.rows m sound.rows;
+  force = record { place = sound.force.place; there = sound.force.there };
+  room = record { slaves = sound.room.slaves; room = sound.room.room };
   each = sound.knows.each;
   procs = record { each = sound.procs.each; nobodys = sound.procs.nobodys };
   lines = sound.lines;

@@ -1,10 +1,13 @@
 pub mod Boot
 pub mod Choice
 pub mod Fed
+pub mod Kept
 pub mod Load
 pub mod Members
 pub mod Nodes
+pub mod Objects
 pub mod Pairs
+pub mod Policies
 pub mod Prims
 pub mod Scope
 pub mod Sound

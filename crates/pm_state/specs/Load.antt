@@ -1,6 +1,7 @@
 -- The book at load: a row for each permitted pair, with what the object preallocates for it. The first processor of the
 -- first master is active, and all others are off. All reset lines are released.
-use Rattle.std.specs.Prelude.{false, length}
+use Rattle.std.specs.Prelude.{false, length, List}
+use Rattle.pm_object.specs.declared.attached.Attached.{Attached}
 use Rattle.pm_object.specs.declared.object.Object.{Object}
 use Rattle.pm_topology.specs.declared.topology.Topology.{Topology}
 use Rattle.pm_notify.specs.Notify.{loaded}
@@ -9,24 +10,32 @@ use Rattle.pm_procs.specs.Procs.{all_off}
 use Rattle.pm_resets.specs.Resets.{all_released}
 use Rattle.pm_rows.specs.Rows.{loaded_rows}
 use Rattle.pm_state.specs.Boot.{boot_master, boot_proc}
-use Rattle.pm_state.specs.Pairs.{pairs_of}
+use Rattle.pm_state.specs.Pairs.{seeds_at_load}
+use Rattle.pm_state.specs.Policies.{most_pairs}
 use Rattle.pm_state.specs.Prims.{procs_with}
-use Rattle.pm_state.specs.State.{State}
+use Rattle.pm_state.specs.State.{Fixed, State, objects_of}
 
--- the book at load
-abbrev pub load_of : Object → Topology → State
-load_of object topology = record {
-  fixed = record { object = object; topology = topology };
+-- the book at load with an object in force, which is one of the run's. Who is active then is read of the loaded object
+abbrev pub load_in : Fixed → Object → State
+load_in fixed object = record {
+  fixed = fixed;
   now = record {
+    force = object;
     core = record {
-      rows = loaded_rows (length object.masters) (boot_master object topology) (pairs_of object topology);
-      procs = procs_with (boot_proc object topology) (all_off (length topology.procs));
-      lines = all_released (length topology.lines);
+      rows = loaded_rows (length fixed.object.masters) (length fixed.topology.slaves) (boot_master fixed.object fixed.topology)
+          (most_pairs fixed.topology (objects_of fixed))
+          (seeds_at_load (boot_master fixed.object fixed.topology) object fixed.topology);
+      procs = procs_with (boot_proc fixed.object fixed.topology) (all_off (length fixed.topology.procs));
+      lines = all_released (length fixed.topology.lines);
       halted = false;
     };
     talk = record {
-      pending = none_pending (length object.masters);
-      notes = loaded topology (length object.masters);
+      pending = none_pending (length fixed.object.masters);
+      notes = loaded fixed.topology (length fixed.object.masters);
     };
   };
 }
+
+-- the book at load
+abbrev pub load_of : Object → List Attached → Topology → State
+load_of object attached topology = load_in (record { object = object; topology = topology; attached = attached }) object

@@ -22,16 +22,18 @@ use Rattle.pm_notify.specs.Notify.{notes_for}
 use Rattle.pm_procs.specs.declared.pending.Pending.{Pending}
 use Rattle.pm_procs.specs.Pending.{pending_at}
 use Rattle.pm_procs.specs.Procs.{mode_at}
-use Rattle.pm_grants.specs.Grants.{grants_of, permits_reset}
+use Rattle.pm_grants.specs.declared.grants.Grants.{Grants}
+use Rattle.pm_grants.specs.Grants.{permits_reset}
+use Rattle.pm_grants.specs.Several.{all_grants, some_permits}
 use Rattle.pm_resets.specs.Resets.{is_asserted}
 use Rattle.pm_rows.specs.Rows.{mode_of}
 use Rattle.pm_rows.specs.Sound.{AreSound}
 use Rattle.pm_rows.specs.Wanted.{wanted_of}
 use Rattle.pm_rows.specs.declared.row.Entry.{Entry}
-use Rattle.pm_state.specs.Boot.{boot_master}
 use Rattle.pm_state.specs.Members.{owner_at, owns, mode_of_master}
 use Rattle.pm_state.specs.Pairs.{pairs_of}
-use Rattle.pm_state.specs.State.{Fixed, State, in_force}
+use Rattle.pm_state.specs.Policies.{most_pairs}
+use Rattle.pm_state.specs.State.{Fixed, State, in_force, object_at, objects_of}
 use Rattle.pm_state.specs.Nodes.{named_master}
 
 -- the rows are those of the permitted pairs, a slave that can't be shared has one user at most, each row wants only
@@ -39,11 +41,20 @@ use Rattle.pm_state.specs.Nodes.{named_master}
 abbrev pub HasSoundRows : State → Type 0
 HasSoundRows book = AreSound (pairs_of (in_force book) book.fixed.topology) book.now.core.rows
 
--- the rows know the mode of each master, as its processors give it, and which master is active at load
+-- the object in force is one of the run's
+pub record IsOfRun (book : State) : Type 0 where
+  pub place : ℕ
+  pub there : object_at book.fixed place ≡ Some (in_force book)
+
+-- there is room for the rows of each object of the run, on each slave of the chip
+pub record HasRoomForRows (book : State) : Type 0 where
+  pub slaves : book.now.core.rows.slaves ≡ length book.fixed.topology.slaves
+  pub room : book.now.core.rows.room ≡ most_pairs book.fixed.topology (objects_of book.fixed)
+
+-- the rows know the mode of each master, as its processors give it
 pub record KnowsModes (book : State) : Type 0 where
-  pub boot : book.now.core.rows.boot ≡ boot_master (in_force book) book.fixed.topology
-  pub each : length book.now.core.rows.known ≡ length (in_force book).masters
-  pub right : (m : ℕ) → m < length (in_force book).masters
+  pub each : length book.now.core.rows.known ≡ length book.fixed.object.masters
+  pub right : (m : ℕ) → m < length book.fixed.object.masters
       → mode_of m book.now.core.rows ≡ mode_of_master book.fixed book.now.core m
 
 -- each processor has a mode, and one that no configured master has is off
@@ -83,20 +94,25 @@ pub record AreNotes (t : Topology) (masters : ℕ) (notes : List MasterNotes) : 
   pub units : (m : ℕ) → m < masters → units_in (notes_for m notes) ≡ units_of t
 
 abbrev pub HasNotes : State → Type 0
-HasNotes book = AreNotes book.fixed.topology (length (in_force book).masters) book.now.talk.notes
+HasNotes book = AreNotes book.fixed.topology (length book.fixed.object.masters) book.now.talk.notes
 
--- each reset line is asserted or released, and one that no master may reset is released
+-- some object of the run lets the master at place m reset the line at place l
+abbrev pub may_be_reset : Fixed → ℕ → ℕ → Bool
+may_be_reset fixed m l = some_permits (λ (grants : Grants). permits_reset grants m l) (all_grants (objects_of fixed) fixed.topology)
+
+-- each reset line is asserted or released, and one that no object of the run lets any master reset is released
 pub record AreLines (fixed : Fixed) (lines : List Bool) : Type 0 where
   pub each : length lines ≡ length fixed.topology.lines
-  pub nobodys : (l : ℕ) → ((m : ℕ) → permits_reset (grants_of fixed.object fixed.topology) m l ≡ false)
-      → is_asserted l lines ≡ false
+  pub nobodys : (l : ℕ) → ((m : ℕ) → may_be_reset fixed m l ≡ false) → is_asserted l lines ≡ false
 
 abbrev pub HasLines : State → Type 0
 HasLines book = AreLines book.fixed book.now.core.lines
 
--- the book is sound in its rows, in the modes that they know, in its processors, in its reset lines, in what its rows
--- are armed with, in what is pending, and in the notes of its masters
+-- the book is sound in the object in force, in the room for its rows, in its rows, in the modes that they know, in its
+-- processors, in its reset lines, in what its rows are armed with, in what is pending, and in the notes of its masters
 pub record IsSound (book : State) : Type 0 where
+  pub force : IsOfRun book
+  pub room : HasRoomForRows book
   pub rows : HasSoundRows book
   pub knows : KnowsModes book
   pub procs : HasProcs book

@@ -6,7 +6,7 @@ use Rattle.pm_procs.specs.Modes.{same_mode}
 use Rattle.pm_rows.specs.Rows.{mode_of}
 use Rattle.pm_state.specs.Members.{mode_of_master}
 use Rattle.pm_state.specs.Prims.{Prim, Shift, changed}
-use Rattle.pm_state.specs.State.{Fixed, CoreHalf, State, in_force}
+use Rattle.pm_state.specs.State.{Fixed, CoreHalf, State}
 
 -- the rows of a master shift where the mode that they know isn't the one that its processors give
 abbrev pub follow_to : ℕ → Mode → Mode → List Prim
@@ -23,7 +23,7 @@ follow_from fixed core m (master ∷ masters) = follow_at fixed core m ++ follow
 
 -- the shifts of a book
 abbrev pub follow : State → List Prim
-follow book = follow_from book.fixed book.now.core 0 (in_force book).masters
+follow book = follow_from book.fixed book.now.core 0 book.fixed.object.masters
 
 -- the book after its rows followed
 abbrev pub followed : State → State

@@ -4,7 +4,7 @@ use Rattle.pm_base.specs.declared.names.NodeId.{NodeId}
 use Rattle.pm_notify.specs.declared.notes.NodeEvent.{NodeEvent}
 use Rattle.pm_notify.specs.declared.notes.Note.{Note}
 use Rattle.pm_notify.specs.declared.notes.Waiting.{Waiting}
-use Rattle.pm_notify.specs.Notify.{all_forgotten, dropped, noted, registered, without_notes}
+use Rattle.pm_notify.specs.Notify.{all_forgotten, dropped, none_asked, noted, registered, without_notes}
 use Rattle.pm_procs.specs.declared.pending.Pending.{Pending}
 use Rattle.pm_procs.specs.Pending.{asked, ended, all_ended, all_lowered}
 use Rattle.pm_state.specs.State.{TalkHalf, State}
@@ -26,6 +26,8 @@ pub data Talk : Type 0 where
   Wait : (m : ℕ) (node : NodeId) (note : Note) → Talk
   -- no request is pending any more on any master, no master has asked to be told of anything, and nothing waits
   Renew : Talk
+  -- no master has asked to be told of anything any more; what waits stays
+  Unwatch : Talk
 
 abbrev pub apply_talk : Talk → TalkHalf → TalkHalf
 apply_talk (Ask m request) talk = record talk { pending = asked m request talk.pending }
@@ -35,6 +37,7 @@ apply_talk (Forget m) talk = record talk { notes = without_notes m talk.notes }
 apply_talk (Notify m node event on) talk = record talk { notes = registered m node event on talk.notes }
 apply_talk (Take m node note) talk = record talk { notes = dropped m node note talk.notes }
 apply_talk (Wait m node note) talk = record talk { notes = noted m node note talk.notes }
+apply_talk Unwatch talk = record talk { notes = none_asked talk.notes }
 apply_talk Renew talk = record talk { pending = all_ended talk.pending; notes = all_forgotten talk.notes }
 
 -- one change after another

@@ -6,13 +6,17 @@ mod laws;
 mod load;
 mod members;
 mod nodes;
+mod objects;
 mod pairs;
+mod policies;
 mod scope;
+mod seeds;
 mod stages;
 mod tables;
 mod talk;
 
-pub use laws::{loads_are_sound, members_are_owned};
+pub use laws::{found_objects_are_attached, loads_are_sound, members_are_owned};
 pub use nodes::master_node;
+pub use objects::Found;
 pub use scope::Scope;
 pub use tables::Tables;

@@ -1,15 +1,24 @@
 //! The pairs of a master and a slave that the object permits.
 
-ghost use Rattle.std.specs.Prelude.{◌≡◌, ◌++◌, ◌==◌, OnOk, find};
+ghost use Rattle.std.specs.Prelude.{◌≡◌, ◌++◌, ◌==◌, IfOk, OnOk, find};
 ghost use Rattle.pm_state.specs.Pairs as spec;
-ghost use Rattle.pm_state.specs.Pairs.{first_for, preallocation, pairs_of_masters, pairs_from};
+ghost use Rattle.pm_state.specs.Pairs.{first_for, permitted_in, permitted_of_masters, preallocation};
 
-use pm_base::{Caps, NoMemory};
+use pm_base::{Caps, List, NoMemory};
 use pm_object::{MasterRec, Object, PreGroup, PreRec, SlaveRec};
 use pm_perms::{is_shareable, mask_has, slave_record};
-use pm_rows::RowSeed;
+use pm_rows::Pair;
 use pm_slaves::capabilities;
-use pm_topology::SlaveDef;
+use pm_topology::{SlaveDef, Topology};
+use std::alloc::Global;
+
+/// A permitted pair of a master and a slave, and the capabilities with which the object has it in use, if it does.
+/// That is the same in whatever modes the masters are.
+#[derive(Clone, Copy, Debug, PartialEq, Eq)]
+pub struct Permitted {
+    pub pair: Pair,
+    pub current: Option<Caps>,
+}
 
 /// The first of these preallocations that is for a slave.
 fn first_in(records: &[PreRec], slave: &SlaveDef) -> Option<PreRec>
@@ -62,74 +71,71 @@ fn preset_by(all: Caps, entry: Option<PreRec>) -> Caps
     }
 }
 
-/// The capabilities with which the master that is active at load uses a slave from then on, if it does.
-fn current_by(all: Caps, active: bool, entry: Option<PreRec>) -> Option<Caps>
-    ensures { result ≡ spec.current_by all active entry }
+/// The capabilities with which a preallocation has a slave in use, if it does.
+fn current_by(all: Caps, entry: Option<PreRec>) -> Option<Caps>
+    ensures { result ≡ spec.current_by all entry }
 {
     match entry {
-        Some(entry) if active && entry.flags & 2 == 2 => Some(cut_to(all, entry.current)),
+        Some(entry) if entry.flags & 2 == 2 => Some(cut_to(all, entry.current)),
         _ => None,
     }
 }
 
-fn seed_of(
+fn permitted_of(
     object: &Object,
-    boot: usize,
     m: usize,
     master: &MasterRec,
     s: usize,
     slave: &SlaveDef,
     entry: &SlaveRec,
-) -> RowSeed
-    ensures { result ≡ spec.seed_of object.now boot m master.now s slave.now entry.now }
+) -> Permitted
+    ensures { result ≡ spec.permitted_of object.now m master.now s slave.now entry.now }
 {
     let all = capabilities(slave.states.as_slice());
     let first = preallocation(object, master, slave);
-    RowSeed {
-        master: m,
-        slave: s,
-        shareable: is_shareable(entry),
-        all,
-        preset: preset_by(all, first),
-        start: current_by(all, m == boot, first),
-        hold: m == boot,
+    Permitted {
+        pair: Pair {
+            master: m,
+            slave: s,
+            shareable: is_shareable(entry),
+            all,
+            preset: preset_by(all, first),
+        },
+        current: current_by(all, first),
     }
 }
 
-fn push_pairs_on(
-    pairs: &mut Vec<RowSeed>,
+fn push_permitted_on(
+    pairs: &mut List<Permitted>,
     object: &Object,
-    boot: usize,
     place: usize,
     slave: &SlaveDef,
     entry: &SlaveRec,
 ) -> Result<(), NoMemory>
-    ensures { OnOk result (pairs.new.items
-        ≡ pairs.old.items ++ pairs_of_masters object.now boot 0 place slave.now entry.now object.now.masters) }
+    ensures { OnOk result (pairs.new
+        ≡ pairs.old ++ permitted_of_masters object.now 0 place slave.now entry.now object.now.masters) }
 {
     for (m, master) in object.masters.as_slice().iter().enumerate() {
         if mask_has(entry.mask, master.mask) {
-            let seed = seed_of(object, boot, m, master, place, slave, entry);
-            pairs.push(seed).map_err(|_| NoMemory)?;
+            pairs.push(permitted_of(object, m, master, place, slave, entry))?;
         }
     }
     Ok(())
 }
 
-/// Puts each permitted pair of a master of the object and one of these slaves into `pairs`, slave by
-/// slave.
-pub(crate) fn push_pairs(
-    pairs: &mut Vec<RowSeed>,
+/// The permitted pairs of a master of the object and a slave of the chip, slave by slave.
+pub(crate) fn permitted_in(
+    alloc: Global,
     object: &Object,
-    boot: usize,
-    slaves: &[SlaveDef],
-) -> Result<(), NoMemory>
-    ensures { OnOk result (pairs.new.items ≡ pairs.old.items ++ pairs_from object.now boot 0 slaves.now) }
+    t: &Topology,
+) -> Result<List<Permitted>, NoMemory>
+    ensures { IfOk result (λ pairs. pairs ≡ permitted_in object.now t.now) }
 {
-    for (place, slave) in slaves.iter().enumerate() {
+    let mut pairs = List::new(alloc);
+    for (place, slave) in t.slaves.as_slice().iter().enumerate() {
         if let Some(entry) = slave_record(object, slave.node) {
-            push_pairs_on(pairs, object, boot, place, slave, &entry)?;
+            push_permitted_on(&mut pairs, object, place, slave, &entry)?;
         }
     }
-    Ok(())
+    Ok(pairs)
 }

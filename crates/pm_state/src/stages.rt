@@ -1,18 +1,42 @@
 //! The stages of a step: changes of the book, after which the rows follow the masters whose mode changed.
 
-ghost use Rattle.std.specs.Prelude.{◌≡◌, ◌<◌, ◌∷◌, []};
+ghost use Rattle.std.specs.Prelude.{◌≡◌, ◌<◌, ◌∷◌, [], length, replicate};
+ghost use Rattle.pm_base.specs.declared.names.Mode.TheVariants.{Off};
+ghost use Rattle.pm_rows.specs.Modes.{loaded_modes};
 ghost use Rattle.pm_state.specs.Members.{mode_of_master, owner_at, owns, first_own};
-ghost use Rattle.pm_state.specs.Prims.{changed, At_row, Halt, Put_proc, Reload, Settle, Put_line};
+ghost use Rattle.pm_state.specs.Prims.{changed, At_row, Enforce, Halt, Put_proc, Reload, Settle, Put_line};
 ghost use Rattle.pm_state.specs.Stages.{after_stage, follow_at, followed};
 
-use crate::load::start;
+use crate::load::{active_at_load, start};
 use crate::members::owner_at;
+use crate::seeds::{put_anew, put_at_load};
 use crate::tables::Tables;
 use pm_base::{Mode, Steps};
 use pm_procs::{Proc, same_mode};
-use pm_rows::Change;
+use pm_rows::{Change, Rows};
 use std::marker::Brand;
 use std::sync::ledger::{Blank, Ledger};
+
+/// Each master is off.
+fn put_all_off(rows: &mut Rows)
+    ensures known { rows.new.known ≡ replicate (length rows.old.known) Off }
+    ensures slaves { rows.new.slaves ≡ rows.old.slaves }
+    ensures room { rows.new.room ≡ rows.old.room }
+{
+    for m in 0..rows.masters() {
+        rows.shift(m, Mode::Off);
+    }
+}
+
+/// The rows know the modes of the masters at load, where the one at place `first` is active.
+fn know_load(rows: &mut Rows, first: usize)
+    ensures known { rows.new.known ≡ loaded_modes (length rows.old.known) first }
+    ensures slaves { rows.new.slaves ≡ rows.old.slaves }
+    ensures room { rows.new.room ≡ rows.old.room }
+{
+    put_all_off(rows);
+    rows.shift(first, Mode::Active);
+}
 
 impl Tables {
     /// The place of the configured master that has the processor at a place.
@@ -107,16 +131,48 @@ impl Tables {
         self.halted = true;
     }
 
-    /// The rows, the processors and the reset lines are as at load, and the book isn't halted.
+    /// The rows, the processors and the reset lines are as at load with the object in force, and the book isn't
+    /// halted.
     pub fn reload(&mut self)
         ensures { self.new ≡ changed (Reload ∷ []) self.old }
     {
-        self.rows.restart();
-        self.procs.put_all_off();
         let boot = self.first_proc(0);
+        let first = active_at_load(boot, self.object.masters.len());
+        put_at_load(
+            &mut self.seeds,
+            first,
+            self.policies.get(self.force).pairs.as_slice(),
+        );
+        know_load(&mut self.rows, first);
+        self.rows.reload(self.seeds.as_slice());
+        self.procs.put_all_off();
         start(&mut self.procs, boot);
         self.resets.restart();
         self.halted = false;
+    }
+
+    /// The object at place `k` of the run is in force, and all rows are made anew of it. Nothing changes where there is
+    /// none.
+    pub fn enforce(&mut self, k: usize)
+        ensures { self.new ≡ changed (Enforce k ∷ []) self.old }
+    {
+        if k < self.objects.len() {
+            put_anew(
+                &mut self.seeds,
+                &self.rows,
+                self.policies.get(k).pairs.as_slice(),
+            );
+            self.rows.reload(self.seeds.as_slice());
+            self.force = k;
+        }
+    }
+
+    /// The stage in which the object at place `k` of the run is put in force.
+    pub fn enforce_stage(&mut self, k: usize)
+        ensures { self.new ≡ after_stage (Enforce k ∷ []) self.old }
+    {
+        self.enforce(k);
+        self.follow();
     }
 
     /// The place of the first processor of the master at a place.

@@ -4,26 +4,32 @@ ghost use Rattle.std.specs.Prelude.{◌≡◌, length};
 ghost use Rattle.pm_topology.specs.WellFormed.{IsWellFormed};
 ghost use Rattle.pm_topology.specs.Places.{kind_of};
 ghost use Rattle.pm_procs.specs.Pending.{pending_at};
-ghost use Rattle.pm_state.specs.State.{grants_in, in_force};
+ghost use Rattle.pm_state.specs.State.{grants_in};
 ghost use Rattle.pm_state.specs.Values.{slave_place, master_place};
 
-use pm_base::NodeId;
+use crate::policies::Policy;
+use pm_base::{BoundedList, List, NodeId};
 use pm_grants::Grants;
 use pm_notify::Notify;
-use pm_object::Object;
+use pm_object::{Attached, Object};
 use pm_procs::{Pending, Procs};
 use pm_resets::Resets;
-use pm_rows::Rows;
+use pm_rows::{RowSeed, Rows};
 use pm_topology::{Kind, Topology};
 use std::marker::Model;
 
-/// The object, what it permits, the parts of the chip, a row for each permitted pair of a master and a slave, the
-/// processors, the reset lines, whether the book is halted, and the notes of each master. A change of it owes
-/// nothing to what is kept of the book's values.
+/// The object that was loaded, what is attached, which of the objects of the run is in force, the parts of the chip, a
+/// row for each permitted pair of a master and a slave, the processors, the reset lines, whether the book is halted,
+/// and the notes of each master. Beside these stand the objects of the run, what each of them permits, and room for the
+/// seeds of rows that are made anew. A change of it owes nothing to what is kept of the book's values.
 #[derive(Drop)]
 pub struct Tables {
     pub(crate) object: Object,
-    pub(crate) grants: Grants,
+    pub(crate) attached: List<Attached>,
+    pub(crate) objects: List<Object>,
+    pub(crate) policies: List<Policy>,
+    pub(crate) force: usize,
+    pub(crate) seeds: BoundedList<RowSeed>,
     pub(crate) topology: Topology,
     pub(crate) rows: Rows,
     pub(crate) procs: Procs,
@@ -34,16 +40,17 @@ pub struct Tables {
 
 impl Model for Tables {
     ghost use Rattle.pm_topology.specs.WellFormed.{IsWellFormed};
-    ghost use Rattle.std.specs.Prelude.{◌≡◌};
-    ghost use Rattle.pm_grants.specs.Grants.{grants_of};
+    ghost use Rattle.std.specs.Prelude.{◌≡◌, slice_get, unwrap_or};
+    ghost use Rattle.pm_state.specs.Kept.{KeepsObjects};
     ghost use Rattle.pm_state.specs.Members.{members_of};
     ghost use Rattle.pm_state.specs.State.{State};
 
     ghost Value = { State };
 
     ghost view = { λ tables. record {
-      fixed = record { object = tables.object; topology = tables.topology };
+      fixed = record { object = tables.object; topology = tables.topology; attached = tables.attached };
       now = record {
+        force = unwrap_or (slice_get tables.objects tables.force) tables.object;
         core = record {
           rows = tables.rows;
           procs = tables.procs.procs;
@@ -56,22 +63,16 @@ impl Model for Tables {
 
     ghost invariant = { λ tables. IsWellFormed tables.topology
         × (tables.procs.members ≡ members_of tables.object tables.topology)
-        × (tables.grants ≡ grants_of tables.object tables.topology) };
+        × KeepsObjects tables.object tables.attached tables.topology tables.objects tables.policies tables.force
+        tables.seeds.room tables.rows.slaves tables.rows.room };
 }
 
 impl Tables {
-    /// The configuration object in force.
-    pub fn in_force(&self) -> &Object
-        ensures { result.now ≡ in_force self.now }
-    {
-        &self.object
-    }
-
     /// What the object in force permits on the chip, by places.
     pub fn grants(&self) -> &Grants
         ensures { result.now ≡ grants_in self.now }
     {
-        &self.grants
+        &self.policies.get(self.force).grants
     }
 
     pub fn topology(&self) -> &Topology
@@ -83,7 +84,7 @@ impl Tables {
 
     /// The number of configured masters.
     pub fn masters(&self) -> usize
-        ensures { result ≡ length (in_force self.now).masters }
+        ensures { result ≡ length self.now.fixed.object.masters }
     {
         self.object.masters.len()
     }

@@ -1,7 +1,7 @@
 //! What changes of what is pending on the masters and of their notes, one change at a time.
 
 ghost use Rattle.std.specs.Prelude.{◌≡◌, ◌∷◌, [], option_to_list, map, slice_get};
-ghost use Rattle.pm_state.specs.Talk.{talked, End, Wait, Ask, Forget, Lower, Renew, take_of};
+ghost use Rattle.pm_state.specs.Talk.{talked, End, Wait, Ask, Forget, Lower, Renew, Unwatch, take_of};
 ghost use Rattle.pm_state.specs.Talk as changes;
 ghost use Rattle.pm_notify.specs.MasterNotes.{waiting_in};
 ghost use Rattle.pm_notify.specs.Notify.{IsInOrder, notes_for};
@@ -69,5 +69,12 @@ impl Tables {
     {
         self.procs.end_all();
         self.notify.restart();
+    }
+
+    /// No master has asked to be told of anything any more. What waits stays.
+    pub fn unwatch(&mut self)
+        ensures { self.new ≡ talked (Unwatch ∷ []) self.old }
+    {
+        self.notify.forget();
     }
 }

@@ -21,7 +21,7 @@ use Rattle.pm_values.specs.declared.turns.Turns.{Turns}
 use Rattle.pm_calls.specs.declared.verdict.Asked.{Asked}
 use Rattle.pm_tell.specs.declared.served.Served.{Served}
 use Rattle.pm_calls.specs.declared.verdict.Say.{Say}
-use Rattle.pm_calls.specs.declared.verdict.Say.TheVariants.{Ask as SaysAsk, Abort as SaysAbort, Register as SaysRegister, Renew as SaysRenew}
+use Rattle.pm_calls.specs.declared.verdict.Say.TheVariants.{Ask as SaysAsk, Abort as SaysAbort, Register as SaysRegister, Renew as SaysRenew, Unwatch as SaysUnwatch}
 use Rattle.pm_calls.specs.calls.RegisterNotifier.{notifier_put}
 use Rattle.pm_calls.specs.calls.RequestSuspend.{asked_of, target_asked}
 use Rattle.pm_calls.specs.calls.SystemShutdown.{renewal, restarts_all}
@@ -30,14 +30,14 @@ use Rattle.pm_tell.specs.Callbacks.{News, note_changes_at, note_changes, note_ch
 use Rattle.pm_values.specs.Turns.{turns_along}
 use Rattle.pm_tell.specs.Served.{kept_at, kept_of, own_note}
 use Rattle.pm_state.specs.Members.{mode_of_master}
-use Rattle.pm_state.specs.State.{Fixed, State, in_force}
+use Rattle.pm_state.specs.State.{Fixed, State}
 use Rattle.pm_state.specs.Stages.{after_stages}
 use Rattle.pm_calls.specs.calls.{called}
 use Rattle.pm_step.specs.Step.{call_at, may_call, modes_in, news, opening, path, says, served, stages, talk, time_of, verdict}
 use Rattle.pm_tell.specs.Telling.{notes_after}
 use Rattle.pm_step.specs.Step as step
 use Rattle.pm_state.specs.Talk.{Talk, Forget, take_of, wait_of}
-use Rattle.pm_tell.specs.Opening.{ends, forget_at, forgets_from, lower_by, renew_by, say_by}
+use Rattle.pm_tell.specs.Opening.{ends, forget_at, forgets_from, lower_by, sweep_by, say_by}
 use Rattle.pm_state.specs.Values.{master_place}
 use Rattle.pm_calls.specs.Verdict.{asked_by, response_of, says_of}
 use Rattle.pm_calls.specs.Views.{can_suspend, suspendable, suspendable_at}
@@ -93,6 +93,7 @@ say_names fixed (Some (SaysAsk asked)) names later each = (names asked refl, eac
 say_names fixed (Some (SaysAbort m)) names later each = each
 say_names fixed (Some (SaysRegister put)) names later each = (tt, each)
 say_names fixed (Some SaysRenew) names later each = each
+say_names fixed (Some SaysUnwatch) names later each = each
 
 lower_names : (fixed : Fixed) (count : Option ℕ) (later : List Talk) → Each (NamesTarget fixed) later → Each (NamesTarget fixed) (lower_by count ++ later)
 lower_names fixed None later each = each
@@ -146,20 +147,21 @@ kept_names fixed None after = tt
 kept_names fixed (Some served) after =
     kept_at_names fixed (master_place served.master after) (own_note (response_of served.verdict) (ack_of served.call) (node_of served.call)) after
 
-renew_names : (fixed : Fixed) (says : Option Say) (later : List Talk) → Each (NamesTarget fixed) later → Each (NamesTarget fixed) (renew_by says ++ later)
-renew_names fixed None later each = each
-renew_names fixed (Some (SaysAsk asked)) later each = each
-renew_names fixed (Some (SaysAbort m)) later each = each
-renew_names fixed (Some (SaysRegister put)) later each = each
-renew_names fixed (Some SaysRenew) later each = (tt, each)
+sweep_names : (fixed : Fixed) (says : Option Say) (later : List Talk) → Each (NamesTarget fixed) later → Each (NamesTarget fixed) (sweep_by says ++ later)
+sweep_names fixed None later each = each
+sweep_names fixed (Some (SaysAsk asked)) later each = each
+sweep_names fixed (Some (SaysAbort m)) later each = each
+sweep_names fixed (Some (SaysRegister put)) later each = each
+sweep_names fixed (Some SaysRenew) later each = (tt, each)
+sweep_names fixed (Some SaysUnwatch) later each = (tt, each)
 
 opening_named : (event : Event) (book : State) → Each (NamesTarget book.fixed) (opening event book)
 opening_named event book =
     let fixed : Fixed = book.fixed in
     let rest : List Talk = lower_by (time_of event book) ++ ends (step.ended event book) in
-    renew_names fixed (says event book) (step.forgets event book ++ (say_by (says event book) ++ rest))
+    sweep_names fixed (says event book) (step.forgets event book ++ (say_by (says event book) ++ rest))
     (Each-append (NamesTarget fixed) (step.forgets event book) (say_by (says event book) ++ rest)
-    (forgets_name fixed (turns_along book (path event book)) 0 (in_force book).masters)
+    (forgets_name fixed (turns_along book (path event book)) 0 book.fixed.object.masters)
     (say_names fixed (says event book) (asks_named event book) rest
     (lower_names fixed (time_of event book) (ends (step.ended event book)) (ends_name fixed (step.ended event book)))))
 
@@ -173,5 +175,5 @@ talk_named event book =
     Each-append (NamesTarget fixed) (opening event book) (told ++ kept_of (served event book) after)
     (opening_named event book)
     (Each-append (NamesTarget fixed) told (kept_of (served event book) after)
-    (note_changes_name fixed (news event book) (modes_in book) notes after 0 (in_force after).masters)
+    (note_changes_name fixed (news event book) (modes_in book) notes after 0 after.fixed.object.masters)
     (kept_names fixed (served event book) after))

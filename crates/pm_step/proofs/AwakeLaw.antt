@@ -21,7 +21,7 @@ use Rattle.pm_state.specs.Members.{members_of, mode_of_master, owns}
 use Rattle.pm_state.specs.Prims.{Prim, Put_proc, Shift, applies, apply, changed, proc_put}
 use Rattle.pm_state.specs.Sound.{IsSound}
 use Rattle.pm_state.specs.Stages.{after_stage, after_stages, follow_from, path_from}
-use Rattle.pm_state.specs.State.{CoreHalf, Fixed, Now, State, in_force}
+use Rattle.pm_state.specs.State.{CoreHalf, Fixed, Now, State}
 use Rattle.pm_values.specs.Notifications.{is_used}
 use Rattle.pm_values.specs.Starts.{was_down}
 use Rattle.pm_values.specs.Touches.{KeepsValues}
@@ -297,7 +297,7 @@ stage_leaves prims book sound on =
     let put : CoreHalf = (changed prims book).now.core in
     let after : CoreHalf = (after_stage prims book).now.core in
     let follows : Follows put after =
-    all_follow book.fixed put 0 (in_force book).masters (changed prims book).now
+    all_follow book.fixed put 0 book.fixed.object.masters (changed prims book).now
     (λ m within. master_alike book.fixed before put m on
     ∙ sym (ap (λ rows. flat (mode_of m rows)) on.rows ∙ ap flat (sound.knows.right m (omega (arith, within)))))
     in

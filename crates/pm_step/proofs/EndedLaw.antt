@@ -21,7 +21,7 @@ use Rattle.pm_state.specs.Members.{mode_of_master}
 use Rattle.pm_values.specs.Along.{Trail, IsTrail, mode_logged, modes_of, turns_logged}
 use Rattle.pm_state.specs.Prims.{Prim, applies, changed}
 use Rattle.pm_state.specs.Stages.{after_stage, after_stages, follow, last_of, path_from}
-use Rattle.pm_state.specs.State.{Fixed, Now, State, in_force}
+use Rattle.pm_state.specs.State.{Fixed, Now, State}
 use Rattle.pm_step.specs.Step.{effect, ended, forgets, modes_in, news, notices, opening, path, says, served, stages, talk, time_of}
 use Rattle.pm_tell.specs.Telling.{notes_after, tellings, news_in, opening_in, turns_in}
 use Rattle.pm_state.specs.Talk.{Talk, talked}
@@ -55,7 +55,7 @@ ended_alike f g aborts count m (request ∷ pending) alike =
     ∙ ap (λ later. ended_at (g m) aborts count m request ++ later) (ended_alike f g aborts count (m + 1) pending (λ k below. alike k (omega (arith, below))))
 
 -- the requests that end in a step, by what was logged along it
-pub ended_logged : (event : Event) (old new : State) (along : Trail) → new ≡ after_stages (stages event old) old → IsTrail old (path event old) along → length old.now.talk.pending ≡ length (in_force old).masters
+pub ended_logged : (event : Event) (old new : State) (along : Trail) → new ≡ after_stages (stages event old) old → IsTrail old (path event old) along → length old.now.talk.pending ≡ length old.fixed.object.masters
     → ended_from (λ m. turns_logged m along.turns) (aborted_by (says event old)) (time_of event old) 0 new.now.talk.pending ≡ ended event old
 ended_logged event old new along is trailed each =
     let turns : ℕ → Turns = λ m. turns_logged m along.turns in
@@ -72,9 +72,9 @@ forgets_alike f g m (x ∷ masters) alike =
     ∙ ap (λ later. forget_at (g m) m ++ later) (forgets_alike f g (m + 1) masters (λ k below. alike k (omega (arith, below))))
 
 forgets_logged : (event : Event) (old : State) (along : Trail) → IsTrail old (path event old) along
-    → forgets_from (λ m. turns_logged m along.turns) 0 (in_force old).masters ≡ forgets event old
+    → forgets_from (λ m. turns_logged m along.turns) 0 old.fixed.object.masters ≡ forgets event old
 forgets_logged event old along trailed =
-    forgets_alike (λ m. turns_logged m along.turns) (turns_along old (path event old)) 0 (in_force old).masters
+    forgets_alike (λ m. turns_logged m along.turns) (turns_along old (path event old)) 0 old.fixed.object.masters
     (λ k below. trailed.turns k (omega (arith, below)))
 
 -- ---- what is told in a step
@@ -95,7 +95,7 @@ callbacks_alike news f g notes after k (x ∷ masters) alike =
     ∙ ap (λ later. called_back news k node (g k) (mode_of_master after.fixed after.now.core k) (notes_for k notes) after ++ later)
     (callbacks_alike news f g notes after (k + 1) masters (λ j below. alike j (omega (arith, below))))
 
-was_logged : (book : State) (modes : List Mode) → modes ≡ modes_of book → (k : ℕ) → k < 0 + length (in_force book).masters → mode_logged modes k ≡ modes_in book k
+was_logged : (book : State) (modes : List Mode) → modes ≡ modes_of book → (k : ℕ) → k < 0 + length book.fixed.object.masters → mode_logged modes k ≡ modes_in book k
 was_logged book modes are k below = ap (λ ms. mode_logged ms k) are ∙ mode_is book k (omega (arith, below))
 
 -- what is kept of a step until the masters are told of it
@@ -112,7 +112,7 @@ pub record IsNoted (event : Event) (old mid : State) (of : Option Served) (count
 abbrev news_of : Option Asked → List Ended → List Waiting → News
 news_of asked ended notices = record { asked = asked; ended = ended; notices = notices }
 
-module _ (event : Event) (old mid : State) (of : Option Served) (count : Option ℕ) (telling : Telling) (is : IsNoted event old mid of count telling) (each : length old.now.talk.pending ≡ length (in_force old).masters) where
+module _ (event : Event) (old mid : State) (of : Option Served) (count : Option ℕ) (telling : Telling) (is : IsNoted event old mid of count telling) (each : length old.now.talk.pending ≡ length old.fixed.object.masters) where
   abbrev pub after : State
   after = after_stages (stages event old) old
 
@@ -142,7 +142,7 @@ module _ (event : Event) (old mid : State) (of : Option Served) (count : Option 
   first_is : first_logged ≡ opening event old
   first_is =
       ap (λ (b : State). opening_in telling (says_in of) count b) is.mid_is
-      ∙ (ap (λ x. talk_of (says_in x) (forgets_from (turns_in telling) 0 (in_force old).masters) count telling.ended.items) is.served_is
+      ∙ (ap (λ x. talk_of (says_in x) (forgets_from (turns_in telling) 0 old.fixed.object.masters) count telling.ended.items) is.served_is
       ∙ (ap (λ fs. talk_of (says event old) fs count telling.ended.items) (forgets_logged event old telling.along is.along_is)
       ∙ (ap (λ n. talk_of (says event old) (forgets event old) n telling.ended.items) is.count_is
       ∙ ap (λ es. talk_of (says event old) (forgets event old) (time_of event old) es) ended_is)))
@@ -155,7 +155,7 @@ module _ (event : Event) (old mid : State) (of : Option Served) (count : Option 
       ∙ (ap (λ x. tellings (news event old) (mode_logged modes) (opening event old) x mid) is.served_is
       ∙ (ap (λ (b : State). tellings (news event old) (mode_logged modes) (opening event old) (served event old) b) is.mid_is
       ∙ ap (λ told. opening event old ++ (told ++ kept_of (served event old) after))
-      (master_notes_alike (news event old) (mode_logged modes) (modes_in old) (notes_after (opening event old) after) after 0 (in_force old).masters (was_logged old modes is.modes_are)))))
+      (master_notes_alike (news event old) (mode_logged modes) (modes_in old) (notes_after (opening event old) after) after 0 old.fixed.object.masters (was_logged old modes is.modes_are)))))
 
   pub book_is : (new : State) → new ≡ talked (tellings (news_in telling) (mode_logged modes) first_logged of mid) mid → new ≡ effect event old
   book_is new new_is =
@@ -168,7 +168,7 @@ module _ (event : Event) (old mid : State) (of : Option Served) (count : Option 
       ∙ (ap (λ first. callbacks (news event old) (mode_logged modes) (notes_after first mid) new) first_is
       ∙ (ap (λ b. callbacks (news event old) (mode_logged modes) (notes_after (opening event old) b) new) is.mid_is
       ∙ (ap (λ b. callbacks (news event old) (mode_logged modes) (notes_after (opening event old) after) b) new_is
-      ∙ callbacks_alike (news event old) (mode_logged modes) (modes_in old) (notes_after (opening event old) after) (effect event old) 0 (in_force old).masters (was_logged old modes is.modes_are))))
+      ∙ callbacks_alike (news event old) (mode_logged modes) (modes_in old) (notes_after (opening event old) after) (effect event old) 0 old.fixed.object.masters (was_logged old modes is.modes_are))))
 
 -- the requests that end, the book after a step and the callbacks of it, as they were logged
 pub record IsTold (event : Event) (old mid new : State) (of : Option Served) (count : Option ℕ) (telling : Telling) : Type 0 where
@@ -177,7 +177,7 @@ pub record IsTold (event : Event) (old mid new : State) (of : Option Served) (co
   pub callbacks : callbacks (news_in telling) (mode_logged telling.modes.items) (notes_after (opening_in telling (says_in of) count mid) mid) new
       ≡ callbacks (news event old) (modes_in old) (notes_after (opening event old) (after_stages (stages event old) old)) (effect event old)
 
-pub step_told : (event : Event) (old mid new : State) (of : Option Served) (count : Option ℕ) (telling : Telling) → IsNoted event old mid of count telling → length old.now.talk.pending ≡ length (in_force old).masters
+pub step_told : (event : Event) (old mid new : State) (of : Option Served) (count : Option ℕ) (telling : Telling) → IsNoted event old mid of count telling → length old.now.talk.pending ≡ length old.fixed.object.masters
     → new ≡ talked (tellings (news_in telling) (mode_logged telling.modes.items) (opening_in telling (says_in of) count mid) of mid) mid
     → IsTold event old mid new of count telling
 step_told event old mid new of count telling is each new_is =

@@ -1,6 +1,7 @@
 pub mod AskedLaw
 pub mod AwakeLaw
 pub mod EndedLaw
+pub mod ForceLaw
 pub mod QuietLaw
 pub mod Refused
 pub mod RestartLaw

@@ -3,7 +3,6 @@
 use Rattle.std.proofs.Common.{◌≡◌, ◌≢◌, ℕ, ◌+◌, ◌<◌, ◌==◌, ◌&&◌, ◌||◌, Bool, true, false, not, cond, if◌then◌else◌, List, [], ◌∷◌, ◌++◌, length, map, Option, Some, None, refl, zero, suc, arith, ap, sym, ◌∙◌, inl, inr}
 use Rattle.std.specs.Prelude.{count_by, flat_map, fold, slice_set, slice_get, unwrap_or}
 use Rattle.std.specs.List.{AllByRecursion as Each, list_any}
-use Rattle.std.proofs.lemmas.Bool.{eqb-true}
 use Rattle.pm_base.proofs.Booleans.{neither, unequal}
 use Rattle.pm_base.proofs.Counts.{count_by-cons}
 use Rattle.pm_base.specs.declared.events.Event.{Event}
@@ -16,7 +15,6 @@ use Rattle.pm_topology.specs.declared.places.Kind.{Kind}
 use Rattle.pm_topology.specs.declared.places.Kind.TheVariants.{Proc, Slave}
 use Rattle.pm_topology.specs.Places.{kind_of}
 use Rattle.pm_procs.specs.Modes.{same_mode}
-use Rattle.pm_procs.specs.declared.procs.Proc.{Proc as Processor}
 use Rattle.pm_procs.specs.Procs.{mode_at, proc_at}
 use Rattle.pm_rows.specs.declared.row.Entry.{Entry}
 use Rattle.pm_rows.specs.declared.wanted.Wanted.{Wanted}
@@ -27,8 +25,8 @@ use Rattle.pm_rows.specs.Wanted.{nothing_wanted, wanted_of, with_row}
 use Rattle.pm_state.specs.Members.{mode_of_master, owner_at, owns}
 use Rattle.pm_state.specs.Prims.{Prim, Put_proc, Shift, applies, apply, changed, proc_put}
 use Rattle.pm_state.specs.Sound.{IsSound}
-use Rattle.pm_state.specs.Stages.{after_stage, after_stages, follow, follow_from}
-use Rattle.pm_state.specs.State.{CoreHalf, Fixed, Now, State, in_force}
+use Rattle.pm_state.specs.Stages.{after_stage, after_stages, follow_from}
+use Rattle.pm_state.specs.State.{CoreHalf, Fixed, Now, State}
 use Rattle.pm_calls.specs.Events.{boot_at, boot_by, booted, interrupt_at, interrupt_by, raised_at, wait_at, wait_by, waits, woken_at, woken_by, woken_from, woken_in}
 use Rattle.pm_values.specs.Notifications.{is_used}
 use Rattle.pm_step.specs.Step.{is_action, stages}
@@ -182,18 +180,18 @@ module _ (fixed : Fixed) (core : CoreHalf) where
 -- ---- a stage that puts processors into modes
 
 -- what is logged of a configured master is its mode
-beside_some : (book : State) (m : ℕ) (o : Option MasterRec) → m < length (in_force book).masters → slice_get (in_force book).masters m ≡ o → unwrap_or (option_map (mode_beside book m) o) Off ≡ mode_of_master book.fixed book.now.core m
+beside_some : (book : State) (m : ℕ) (o : Option MasterRec) → m < length book.fixed.object.masters → slice_get book.fixed.object.masters m ≡ o → unwrap_or (option_map (mode_beside book m) o) Off ≡ mode_of_master book.fixed book.now.core m
 beside_some book m None within here =
-    elim ((slice_get_cases (in_force book).masters m).1) [
+    elim ((slice_get_cases book.fixed.object.masters m).1) [
       | inl there ↦ let no : None ≡ Some there.0 = sym here ∙ there.2 in cc
       | inr past ↦ absurd (omega (arith, past.0))
     ]
 beside_some book m (Some master) within here = refl
 
-logged_is : (book : State) (m : ℕ) → m < length (in_force book).masters → mode_logged (modes_of book) m ≡ mode_of_master book.fixed book.now.core m
+logged_is : (book : State) (m : ℕ) → m < length book.fixed.object.masters → mode_logged (modes_of book) m ≡ mode_of_master book.fixed book.now.core m
 logged_is book m within =
-    ap (λ o. unwrap_or o Off) (slice_get-placed (mode_beside book) 0 (in_force book).masters m m (omega arith))
-    ∙ beside_some book m (slice_get (in_force book).masters m) within refl
+    ap (λ o. unwrap_or o Off) (slice_get-placed (mode_beside book) 0 book.fixed.object.masters m m (omega arith))
+    ∙ beside_some book m (slice_get book.fixed.object.masters m) within refl
 
 record Puts (before after : CoreHalf) : Type 0 where
   rows : after.rows ≡ before.rows
@@ -216,7 +214,7 @@ stage_turns prims book sound puts =
     let before : CoreHalf = book.now.core in
     let put : CoreHalf = (changed prims book).now.core in
     let after : CoreHalf = (after_stage prims book).now.core in
-    let masters : List MasterRec = (in_force book).masters in
+    let masters : List MasterRec = book.fixed.object.masters in
     let keeps = follow_keeps fixed put 0 masters (changed prims book).now in
     let next : State = after_stages (prims ∷ []) book in
     let test : ℕ → Bool = turned (modes_of book) (modes_of next) in

@@ -29,7 +29,7 @@ use Rattle.pm_values.specs.Notifications.{notifications}
 use Rattle.pm_calls.specs.Checks.{Cause, Fits, Stands, first_failing}
 use Rattle.pm_state.specs.Prims.{Prim}
 use Rattle.pm_state.specs.Stages.{after_stages, path_from}
-use Rattle.pm_state.specs.State.{State, in_force}
+use Rattle.pm_state.specs.State.{State}
 use Rattle.pm_calls.specs.calls.{called, only_reads}
 use Rattle.pm_values.proofs.RestLaw.{none_among}
 use Rattle.pm_step.specs.Step.{call_in, effect, call_at, may_call, may_change, is_refused, message_stages, modes_in, served, stages, verdict}
@@ -122,12 +122,12 @@ none_kept master call book (Some m) is = kept_if master call book m (may_call m 
 abbrev tells : (book : State) (served : Option Served) (stages : List (List Prim)) (says : Option Say) (ended : List Ended) (notices : List Waiting) → List Talk
 tells book served stages says ended notices =
     tellings (record { asked = asked_by says; ended = ended; notices = notices }) (modes_in book)
-    (talk_of says (forgets_from (turns_along book (path_from stages book)) 0 (in_force book).masters) None ended)
+    (talk_of says (forgets_from (turns_along book (path_from stages book)) 0 book.fixed.object.masters) None ended)
     served (after_stages stages book)
 
 tells_nothing : (book : State) (served : Option Served) (ended : List Ended) (notices : List Waiting) → ended ≡ [] → notices ≡ [] → kept_of served book ≡ [] → tells book served [] None ended notices ≡ []
 tells_nothing book served ended notices none_ended none_noticed kept =
-    let masters : List MasterRec = (in_force book).masters in
+    let masters : List MasterRec = book.fixed.object.masters in
     let forgets : List Talk = forgets_from (turns_along book []) 0 masters in
     ap (λ es. tells book served [] None es notices) none_ended
     ∙ (ap (λ ns. tells book served [] None [] ns) none_noticed

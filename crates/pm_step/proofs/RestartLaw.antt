@@ -15,7 +15,8 @@ use Rattle.pm_procs.specs.Pending.{all_ended, ended, none_pending, pending_at}
 use Rattle.pm_rows.specs.Rows.{mode_of}
 use Rattle.pm_tell.specs.declared.ended.Ended.{Ended}
 use Rattle.pm_state.specs.declared.scope.Scope.TheVariants.{All}
-use Rattle.pm_state.specs.Load.{load_of}
+use Rattle.pm_object.specs.declared.object.Object.{Object}
+use Rattle.pm_state.specs.Load.{load_in}
 use Rattle.pm_state.specs.Members.{mode_of_master}
 use Rattle.pm_calls.specs.Checks.{Cause, Fits, Stands, first_failing}
 use Rattle.pm_state.specs.Prims.{Prim, Shift, changed}
@@ -53,7 +54,7 @@ use Rattle.pm_state.proofs.LoadLaw.{load_sound}
 use Rattle.pm_tell.proofs.RenewLaw.{all_told, forgets_none, kept_none, none_asleep}
 use Rattle.pm_tell.proofs.TalkLemmas.{talks_append}
 use Rattle.pm_state.proofs.PendingLaw.{RequestLaws}
-use Rattle.pm_state.proofs.ScopeSound.{KeepLaws, offs_free, reload_is, stage_kept}
+use Rattle.pm_state.proofs.ScopeSound.{KeepLaws, offs_free, offs_stay, reload_is, stage_force, stage_kept}
 use Rattle.pm_calls.proofs.ShutdownCases.{all_restart}
 use Rattle.pm_state.proofs.StageLaw.{within}
 use Rattle.pm_calls.proofs.Verdicts.{mapped}
@@ -136,27 +137,29 @@ ends_none laws masters (e ∷ es) half none =
 
 -- ---- the book
 
--- the book after the stages of a restart of all
-after_restart : KeepLaws → (book : State) → IsSound book → after_stages (restart_all book.fixed) book ≡ record { fixed = book.fixed; now = record { core = (load_of book.fixed.object book.fixed.topology).now.core; talk = (after_stage (offs book.fixed All) book).now.talk } }
+-- the book after the stages of a restart of all: the object in force stays
+after_restart : KeepLaws → (book : State) → IsSound book → after_stages (restart_all book.fixed) book ≡ record { fixed = book.fixed; now = record { force = in_force book; core = (load_in book.fixed (in_force book)).now.core; talk = (after_stage (offs book.fixed All) book).now.talk } }
 after_restart laws book sound =
     let fixed : Fixed = book.fixed in
     let mid : State = after_stage (offs fixed All) book in
-    let load : State = load_of fixed.object fixed.topology in
-    let with : CoreHalf → State = λ core. record { fixed = fixed; now = record { core = core; talk = mid.now.talk } } in
+    let load : State = load_in fixed mid.now.force in
+    let with : CoreHalf → State = λ core. record { fixed = fixed; now = record { force = mid.now.force; core = core; talk = mid.now.talk } } in
     let still : IsSound mid = stage_kept laws (offs fixed All) book (offs_free fixed All) sound in
-    let loaded : IsSound load = load_sound laws.rows laws.modes laws.requests laws.orders fixed.object fixed.topology in
+    let loaded : IsSound load = load_sound laws.rows laws.modes laws.requests laws.orders fixed mid.now.force still.force.place still.force.there in
     let none : follow (with load.now.core) ≡ [] = follow_none fixed load.now.core 0 fixed.object.masters (λ k below. loaded.knows.right k (omega (arith, below))) in
-    ap (λ core. changed (follow (with core)) (with core)) (reload_is laws.rows laws.modes fixed mid.now (within mid still))
-    ∙ ap (λ prims. changed prims (with load.now.core)) none
+    let stays : mid.now.force ≡ in_force book = stage_force (offs fixed All) book (offs_stay fixed All) in
+    ap (λ core. changed (follow (with core)) (with core)) (reload_is laws.modes fixed mid.now (within mid still))
+    ∙ (ap (λ prims. changed prims (with load.now.core)) none
+    ∙ ap (λ (force : Object). record { fixed = fixed; now = record { force = force; core = (load_in fixed force).now.core; talk = mid.now.talk } }) stays)
 
 -- what is done first: all is as at load, whoever forgets and whatever ends
-told_anew : KeepLaws → (book : State) (turns : ℕ → Turns) (es : List Ended) (half : TalkHalf) → length half.pending ≡ length (in_force book).masters → AreNotes book.fixed.topology (length (in_force book).masters) half.notes
-    → talks (talk_of (Some SaysRenew) (forgets_from turns 0 (in_force book).masters) None es) half ≡ (load_of (in_force book) book.fixed.topology).now.talk
+told_anew : KeepLaws → (book : State) (turns : ℕ → Turns) (es : List Ended) (half : TalkHalf) → length half.pending ≡ length book.fixed.object.masters → AreNotes book.fixed.topology (length book.fixed.object.masters) half.notes
+    → talks (talk_of (Some SaysRenew) (forgets_from turns 0 book.fixed.object.masters) None es) half ≡ (load_in book.fixed (in_force book)).now.talk
 told_anew laws book turns es half each note_changes =
     let t : Topology = book.fixed.topology in
-    let masters : ℕ = length (in_force book).masters in
-    let fresh : TalkHalf = (load_of (in_force book) t).now.talk in
-    let forgets : List Talk = forgets_from turns 0 (in_force book).masters in
+    let masters : ℕ = length book.fixed.object.masters in
+    let fresh : TalkHalf = (load_in book.fixed (in_force book)).now.talk in
+    let forgets : List Talk = forgets_from turns 0 book.fixed.object.masters in
     let none : all_ended half.pending ≡ none_pending masters = laws.requests.renew half.pending ∙ ap none_pending each in
     let empty : all_forgotten half.notes ≡ loaded t masters =
     laws.orders.as_loaded t half.notes (λ m within. note_changes.units m (omega (arith, within, note_changes.each))) ∙ ap (loaded t) note_changes.each
@@ -165,13 +168,14 @@ told_anew laws book turns es half each note_changes =
     ap (λ p. talks (forgets ++ ends es) (both p (all_forgotten half.notes))) none
     ∙ (ap (λ ms. talks (forgets ++ ends es) (both (none_pending masters) ms)) empty
     ∙ (talks_append forgets (ends es) fresh
-    ∙ (ap (talks (ends es)) (forgets_none t masters turns 0 (in_force book).masters fresh refl)
+    ∙ (ap (talks (ends es)) (forgets_none t masters turns 0 book.fixed.object.masters fresh refl)
     ∙ ends_none laws.requests masters es fresh refl)))
 
 -- no master is asleep at load
-load_awake : KeepLaws → (fixed : Fixed) (m : ℕ) → m < length fixed.object.masters → same_mode (mode_of_master fixed (load_of fixed.object fixed.topology).now.core m) Asleep ≡ false
-load_awake laws fixed m within =
-    let loaded : IsSound (load_of fixed.object fixed.topology) = load_sound laws.rows laws.modes laws.requests laws.orders fixed.object fixed.topology in
+load_awake : KeepLaws → (book : State) → IsSound book → (m : ℕ) → m < length book.fixed.object.masters → same_mode (mode_of_master book.fixed (load_in book.fixed (in_force book)).now.core m) Asleep ≡ false
+load_awake laws book sound m within =
+    let fixed : Fixed = book.fixed in
+    let loaded : IsSound (load_in fixed (in_force book)) = load_sound laws.rows laws.modes laws.requests laws.orders fixed (in_force book) sound.force.place sound.force.there in
     ap (λ mode. same_mode mode Asleep) (sym (loaded.knows.right m within))
     ∙ none_asleep (length fixed.object.masters) (boot_master fixed.object fixed.topology) m
 
@@ -179,42 +183,42 @@ nobody : MasterRec
 nobody = record { node = 0; mask = 0; timeout = 0; suspend = 0; wake = 0 }
 
 -- all that is told where the core half is as at load: what is done first alone
-told_all : KeepLaws → (book : State) (news : News) (was : ℕ → Mode) (turns : ℕ → Turns) (es : List Ended) (of : Option Served) (half : TalkHalf) → length half.pending ≡ length (in_force book).masters → AreNotes book.fixed.topology (length (in_force book).masters) half.notes
-    → let at : State = record { fixed = book.fixed; now = record { core = (load_of (in_force book) book.fixed.topology).now.core; talk = half } } in
-    talked (tellings news was (talk_of (Some SaysRenew) (forgets_from turns 0 (in_force book).masters) None es) of at) at ≡ load_of (in_force book) book.fixed.topology
-told_all laws book news was turns es of half each note_changes =
+told_all : KeepLaws → (book : State) → IsSound book → (news : News) (was : ℕ → Mode) (turns : ℕ → Turns) (es : List Ended) (of : Option Served) (half : TalkHalf) → length half.pending ≡ length book.fixed.object.masters → AreNotes book.fixed.topology (length book.fixed.object.masters) half.notes
+    → let at : State = record { fixed = book.fixed; now = record { force = in_force book; core = (load_in book.fixed (in_force book)).now.core; talk = half } } in
+    talked (tellings news was (talk_of (Some SaysRenew) (forgets_from turns 0 book.fixed.object.masters) None es) of at) at ≡ load_in book.fixed (in_force book)
+told_all laws book sound news was turns es of half each note_changes =
     let fixed : Fixed = book.fixed in
     let t : Topology = fixed.topology in
-    let masters : List MasterRec = (in_force book).masters in
-    let load : State = load_of (in_force book) t in
-    let with : TalkHalf → State = λ h. record { fixed = fixed; now = record { core = load.now.core; talk = h } } in
+    let masters : List MasterRec = book.fixed.object.masters in
+    let load : State = load_in book.fixed (in_force book) in
+    let with : TalkHalf → State = λ h. record { fixed = fixed; now = record { force = in_force book; core = load.now.core; talk = h } } in
     let first : List Talk = talk_of (Some SaysRenew) (forgets_from turns 0 masters) None es in
     let anew : talks first half ≡ load.now.talk = told_anew laws book turns es half each note_changes in
     let rest : TalkHalf → List Talk = λ h. note_changes_from news was h.notes (with half) 0 masters ++ kept_of of (with half) in
     let none : rest (talks first half) ≡ [] =
     ap rest anew
-    ∙ (ap (λ ms. ms ++ kept_of of (with half)) (all_told news was t (with half) (length masters) 0 masters (omega arith) (load_awake laws fixed))
+    ∙ (ap (λ ms. ms ++ kept_of of (with half)) (all_told news was t (with half) (length masters) 0 masters (omega arith) (load_awake laws book sound))
     ∙ kept_none of (with half)
-    (λ master m is. load_awake laws fixed m (position-Some (λ (x : MasterRec). x.node == master.0) masters m nobody is).0))
+    (λ master m is. load_awake laws book sound m (position-Some (λ (x : MasterRec). x.node == master.0) masters m nobody is).0))
     in
     ap (λ later. talked (first ++ later) (with half)) none
     ∙ (ap with (talks_append first [] half) ∙ ap with anew)
 
 restarted_message : KeepLaws → (book : State) (call : Option Called) (news : News) (was : ℕ → Mode) (turns : ℕ → Turns) (es : List Ended) (of : Option Served) → IsSound book → Restarts book.fixed call
-    → talked (tellings news was (talk_of (says_of (verdict call)) (forgets_from turns 0 (in_force book).masters) None es) of (after_stages (message_stages call) book)) (after_stages (message_stages call) book)
-    ≡ load_of (in_force book) book.fixed.topology
+    → talked (tellings news was (talk_of (says_of (verdict call)) (forgets_from turns 0 book.fixed.object.masters) None es) of (after_stages (message_stages call) book)) (after_stages (message_stages call) book)
+    ≡ load_in book.fixed (in_force book)
 restarted_message laws book call news was turns es of sound restarts =
     let fixed : Fixed = book.fixed in
     let mid : State = after_stage (offs fixed All) book in
     let still : IsSound mid = stage_kept laws (offs fixed All) book (offs_free fixed All) sound in
-    let fs : List Talk = forgets_from turns 0 (in_force book).masters in
+    let fs : List Talk = forgets_from turns 0 book.fixed.object.masters in
     let tell : List Talk → State → State = λ first b. talked (tellings news was first of b) b in
     ap (λ says. tell (talk_of says fs None es) (after_stages (message_stages call) book)) restarts.says
     ∙ (ap (λ s. tell (talk_of (Some SaysRenew) fs None es) (after_stages s book)) restarts.stages
     ∙ (ap (tell (talk_of (Some SaysRenew) fs None es)) (after_restart laws book sound)
-    ∙ told_all laws book news was turns es of mid.now.talk still.pending.each still.notes))
+    ∙ told_all laws book sound news was turns es of mid.now.talk still.pending.each still.notes))
 
-pub restart_loads : KeepLaws → (event : Event) (book : State) → IsSound book → renews event book ≡ true → effect event book ≡ load_of (in_force book) book.fixed.topology
+pub restart_loads : KeepLaws → (event : Event) (book : State) → IsSound book → renews event book ≡ true → effect event book ≡ load_in book.fixed (in_force book)
 restart_loads laws (Ipi master message) book sound is =
     let event : Event = Ipi master message in
     restarted_message laws book (call_in master (call_of message) book) (news event book) (modes_in book) (turns_along book (path event book)) (step.ended event book) (served event book) sound

@@ -21,7 +21,7 @@ use Rattle.pm_state.specs.Members.{mode_of_master, owner_at}
 use Rattle.pm_state.specs.Prims.{Prim, Put_proc}
 use Rattle.pm_state.specs.Sound.{IsSound, IsBook}
 use Rattle.pm_state.specs.Stages.{after_stages}
-use Rattle.pm_state.specs.State.{State, in_force}
+use Rattle.pm_state.specs.State.{State}
 use Rattle.pm_calls.proofs.CallsSound.{called_keeps}
 use Rattle.pm_calls.specs.calls.{called}
 use Rattle.pm_step.specs.Step.{effect, call_at, may_call, message_stages, stages, talk}
@@ -38,11 +38,11 @@ use Rattle.pm_calls.proofs.WakeSound.{raised_keeps, interrupt_keeps}
 
 -- ---- events
 
-call_keeps_if : KeepLaws → (call : Call) (book : State) (m : ℕ) (heard : Bool) → IsSound book → m < length (in_force book).masters → heard ≡ may_call m book → IsSound (after_stages (message_stages (if heard then Some (called m call book) else None)) book)
+call_keeps_if : KeepLaws → (call : Call) (book : State) (m : ℕ) (heard : Bool) → IsSound book → m < length book.fixed.object.masters → heard ≡ may_call m book → IsSound (after_stages (message_stages (if heard then Some (called m call book) else None)) book)
 call_keeps_if laws call book m true sound there is = called_keeps laws m call book sound (record { there = there; awake = (both (not book.now.core.halted) (is_awake (mode_of_master book.fixed book.now.core m)) (sym is)).1 })
 call_keeps_if laws call book m false sound there is = sound
 
-message_keeps : KeepLaws → (call : Call) (book : State) (place : Option ℕ) → IsSound book → ((m : ℕ) → place ≡ Some m → m < length (in_force book).masters) → IsSound (after_stages (message_stages (option_and_then (call_at call book) place)) book)
+message_keeps : KeepLaws → (call : Call) (book : State) (place : Option ℕ) → IsSound book → ((m : ℕ) → place ≡ Some m → m < length book.fixed.object.masters) → IsSound (after_stages (message_stages (option_and_then (call_at call book) place)) book)
 message_keeps laws call book None sound there = sound
 message_keeps laws call book (Some m) sound there =
     call_keeps_if laws call book m (may_call m book) sound (there m refl) refl
@@ -89,7 +89,7 @@ halted_keeps false stages book sound after = after
 stages_keep : KeepLaws → (event : Event) (book : State) → IsSound book → IsSound (after_stages (stages event book) book)
 stages_keep laws (Ipi master message) book sound =
     message_keeps laws (call_of message) book (master_place master book) sound
-    (λ m is. (position-Some (λ (x : MasterRec). x.node == master.0) (in_force book).masters m (record { node = 0; mask = 0; timeout = 0; suspend = 0; wake = 0 }) is).0)
+    (λ m is. (position-Some (λ (x : MasterRec). x.node == master.0) book.fixed.object.masters m (record { node = 0; mask = 0; timeout = 0; suspend = 0; wake = 0 }) is).0)
 stages_keep laws (Boot proc address) book sound =
     halted_keeps book.now.core.halted (boot proc address book) book sound (boot_keeps laws.rows (kind_of book.fixed.topology proc) address book sound)
 stages_keep laws (Wfi proc) book sound =
@@ -105,13 +105,15 @@ pub effect_sound : RowLaws → ModeLaws → RequestLaws → OrderLaws → (event
 effect_sound laws modes requests orders event book sound =
     let after : IsSound (after_stages (stages event book) book) = stages_keep (record { rows = laws; modes = modes; requests = requests; orders = orders }) event book sound in
     record {
+      force = record { place = after.force.place; there = after.force.there };
+      room = record { slaves = after.room.slaves; room = after.room.room };
       rows = after.rows;
-      knows = record { boot = after.knows.boot; each = after.knows.each; right = after.knows.right };
+      knows = record { each = after.knows.each; right = after.knows.right };
       procs = record { each = after.procs.each; nobodys = after.procs.nobodys };
       lines = after.lines;
       armed = after.armed;
       pending = talk_keeps requests book.fixed (talk event book) (after_stages (stages event book) book).now.talk (talk_named event book) after.pending;
-      notes = talk_notes orders book.fixed.topology (length (in_force book).masters) (talk event book) (after_stages (stages event book) book).now.talk after.notes;
+      notes = talk_notes orders book.fixed.topology (length book.fixed.object.masters) (talk event book) (after_stages (stages event book) book).now.talk after.notes;
     }
 
 -- what holds in every book is kept by each step

@@ -23,7 +23,7 @@ use Rattle.pm_state.specs.Members.{mode_of_master}
 use Rattle.pm_state.specs.Prims.{Prim, At_row, Shift, changed}
 use Rattle.pm_state.specs.Sound.{IsSound}
 use Rattle.pm_state.specs.Stages.{after_stage, after_stages, follow, follow_from, follow_to, path_from}
-use Rattle.pm_state.specs.State.{CoreHalf, Fixed, State, in_force}
+use Rattle.pm_state.specs.State.{CoreHalf, Fixed, State}
 use Rattle.pm_state.specs.Values.{master_place, slave_place}
 use Rattle.pm_calls.specs.Checks.{Cause, Fits, Stands, first_failing}
 use Rattle.pm_calls.specs.RowCalls.{changes_of, row_changes}
@@ -136,7 +136,7 @@ stage_leaves s prims book none changes =
 
 row_leaves : (m s : ℕ) (by : Change) (book : State) (entry : Option Entry) → IsSound book → entry_at m s book.now.core.rows ≡ entry → LeavesOthers s book (changes_of by entry ∷ [])
 row_leaves m s by book None sound found =
-    stage_leaves s [] book (none_follow book.fixed book.now.core 0 (in_force book).masters (λ m within. sound.knows.right m (omega (arith, within))))
+    stage_leaves s [] book (none_follow book.fixed book.now.core 0 book.fixed.object.masters (λ m within. sound.knows.right m (omega (arith, within))))
     (record { procs = refl; lines = refl; wanted = λ k other. refl; used = λ k other. refl })
 row_leaves m s by book (Some entry) sound found =
     let own : entry.seed.slave ≡ s =
@@ -146,7 +146,7 @@ row_leaves m s by book (Some entry) sound found =
     let prims : List Prim = At_row entry.seed.master s by ∷ [] in
     let at_s : P s =
     stage_leaves s prims book
-    (none_follow book.fixed (changed prims book).now.core 0 (in_force book).masters (λ m within. sound.knows.right m (omega (arith, within))))
+    (none_follow book.fixed (changed prims book).now.core 0 book.fixed.object.masters (λ m within. sound.knows.right m (omega (arith, within))))
     (row_changes_rows entry.seed.master s by book)
     in
     subst P (sym own) at_s

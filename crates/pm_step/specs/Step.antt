@@ -1,5 +1,5 @@
 -- The step: what an event does to the book.
-use Rattle.std.specs.Prelude.{ℕ, Bool, true, false, not, ◌&&◌, ◌||◌, List, [], Option, Some, None, option_and_then, if◌then◌else◌}
+use Rattle.std.specs.Prelude.{ℕ, ◌==◌, Bool, true, false, not, ◌&&◌, ◌||◌, List, [], Option, Some, None, option_and_then, if◌then◌else◌}
 use Rattle.std.specs.List.{list_any}
 use Rattle.pm_base.specs.declared.names.LineId.{LineId}
 use Rattle.pm_base.specs.declared.names.NodeId.{NodeId}
@@ -34,11 +34,10 @@ use Rattle.pm_values.specs.Notifications.{notifications}
 use Rattle.pm_state.specs.Prims.{Prim}
 use Rattle.pm_tell.specs.Served.{pulse_in, says_in}
 use Rattle.pm_state.specs.Stages.{after_stages, path_from}
-use Rattle.pm_values.specs.Starts.{starts}
-use Rattle.pm_state.specs.State.{State, in_force}
+use Rattle.pm_state.specs.State.{State}
 use Rattle.pm_state.specs.Talk.{Talk, talked}
 use Rattle.pm_tell.specs.Opening.{forgets_from, talk_of}
-use Rattle.pm_state.specs.Values.{master_place, slave_place, value}
+use Rattle.pm_state.specs.Values.{master_place, slave_place}
 use Rattle.pm_calls.specs.Verdict.{Called, asked_by, aborted_by, is_refusal, renews_all, stages_of, verdict_of}
 use Rattle.pm_tell.specs.Telling.{tellings}
 
@@ -67,6 +66,11 @@ message_stages (Some call) = stages_of call
 abbrev pub is_ipi : Event → Bool
 is_ipi (Ipi master message) = true
 is_ipi _ = false
+
+-- the event is the message of the call that puts an object in force
+abbrev pub configures : Event → Bool
+configures (Ipi master message) = message.api == 2
+configures _ = false
 
 -- these stages, and none while the book is halted
 abbrev pub unless_halted : State → List (List Prim) → List (List Prim)
@@ -121,7 +125,7 @@ ended event book =
 
 -- the notifiers of masters that became off along a step are gone, and so is what waits for them
 abbrev pub forgets : Event → State → List Talk
-forgets event book = forgets_from (turns_along book (path event book)) 0 (in_force book).masters
+forgets event book = forgets_from (turns_along book (path event book)) 0 book.fixed.object.masters
 
 -- what a step does before any master is told of it
 abbrev pub opening : Event → State → List Talk

@@ -5,5 +5,5 @@
 mod laws;
 mod step;
 
-pub use laws::books_stay_sound;
-pub use step::{advance, leaves_values, time_of, touched_unless};
+pub use laws::{books_stay_sound, only_one_call_configures};
+pub use step::{advance, configures, leaves_values, time_of, touched_unless};

@@ -5,8 +5,7 @@ ghost use Rattle.pm_topology.specs.Places.{kind_of};
 ghost use Rattle.pm_calls.specs.calls.{only_reads, shape_of};
 ghost use Rattle.pm_values.specs.Caches.{AreKept};
 ghost use Rattle.pm_state.specs.Stages.{after_stages, path_from};
-ghost use Rattle.pm_step.specs.Step.{call_in, is_action, is_proc_in, keeps_values, leaves_values, may_call, may_change, is_ipi, message_stages, path, row_node, row_place, served, stages, time_of, touched, touched_at, touched_in, touched_unless, verdict};
-ghost use Rattle.pm_state.specs.State.{in_force};
+ghost use Rattle.pm_step.specs.Step.{call_in, configures, is_action, is_proc_in, keeps_values, leaves_values, may_call, may_change, is_ipi, message_stages, path, row_node, row_place, served, stages, time_of, touched, touched_at, touched_in, touched_unless, verdict};
 ghost use Rattle.pm_tell.specs.Telling.{HasPlaces};
 ghost use Rattle.pm_values.specs.Along.{Completes, IsTrail, modes_of, trail_from};
 
@@ -35,6 +34,16 @@ pub fn time_of(tables: &Tables, event: &Event) -> Option<u32>
     }
 }
 
+/// Whether an event is the message of the call SET_CONFIGURATION, which alone puts an object in force.
+pub fn configures(event: &Event) -> bool
+    ensures { result ≡ configures event.now }
+{
+    match event {
+        Event::Ipi { message, .. } => message.api == 2,
+        _ => false,
+    }
+}
+
 /// One event: the book after its stages, the verdict on a message, and what is logged of the step until the masters are
 /// told of it: their modes before it, and what became of those along it.
 pub fn advance(
@@ -44,13 +53,13 @@ pub fn advance(
     telling: &mut Telling,
 ) -> Option<Served>
     requires kept { AreKept tables.old caches.now }
-    requires places { HasPlaces tables.old.fixed.topology (length (in_force tables.old).masters) telling.old }
+    requires places { HasPlaces tables.old.fixed.topology (length tables.old.fixed.object.masters) telling.old }
     ensures book { tables.new ≡ after_stages (stages event.now tables.old) tables.old }
     ensures served { result ≡ served event.now tables.old }
     ensures modes { telling.new.modes.items ≡ modes_of tables.old }
     ensures along { IsTrail tables.old (path event.now tables.old) telling.new.along }
     ensures now { telling.new.along.modes ≡ modes_of tables.new }
-    ensures places { HasPlaces tables.new.fixed.topology (length (in_force tables.new).masters) telling.new }
+    ensures places { HasPlaces tables.new.fixed.topology (length tables.new.fixed.object.masters) telling.new }
     ensures ended { telling.new.ended ≡ telling.old.ended }
     ensures notices { telling.new.notices ≡ telling.old.notices }
 {

@@ -7,6 +7,8 @@ mod anew;
 #[cfg(test)]
 mod asking;
 #[cfg(test)]
+mod configuring;
+#[cfg(test)]
 mod each_node;
 #[cfg(test)]
 mod each_shutdown;

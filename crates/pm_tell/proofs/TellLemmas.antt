@@ -65,7 +65,7 @@ left_step laws k book next w order first is =
 
 pub kept_same : (a b : State) (caches : Caches) → a.fixed ≡ b.fixed → a.now.core ≡ b.now.core → AreKept b caches → AreKept a caches
 kept_same a b caches fixed core kept =
-    let with : Fixed → CoreHalf → State = λ f c. record { fixed = f; now = record { core = c; talk = b.now.talk } } in
+    let with : Fixed → CoreHalf → State = λ f c. record b { fixed = f; now = record b.now { core = c } } in
     let P : Fixed → Type 0 = λ f. AreKept (with f b.now.core) caches in
     let Q : CoreHalf → Type 0 = λ c. AreKept (with a.fixed c) caches in
     let given : AreKept (with a.fixed a.now.core) caches = subst Q (sym core) (subst P (sym fixed) kept) in
@@ -87,7 +87,7 @@ mode_same a b k fixed core =
 -- and so does what it is told
 pub called_same : (news : News) (k : ℕ) (master : NodeId) (was is : Mode) (notes : MasterNotes) (a b : State) → a.fixed ≡ b.fixed → a.now.core ≡ b.now.core → called_back news k master was is notes a ≡ called_back news k master was is notes b
 called_same news k master was is notes a b fixed core =
-    let with : Fixed → CoreHalf → State = λ f c. record { fixed = f; now = record { core = c; talk = b.now.talk } } in
+    let with : Fixed → CoreHalf → State = λ f c. record b { fixed = f; now = record b.now { core = c } } in
     ap (λ (f : Fixed). called_back news k master was is notes (with f a.now.core)) fixed
     ∙ ap (λ (c : CoreHalf). called_back news k master was is notes (with b.fixed c)) core
 
@@ -236,5 +236,5 @@ three_put before first second third a b c whole one two three is =
 -- a callback follows from what is fixed and from the core half
 pub callback_alike : (master : NodeId) (a b : State) (w : Waiting) → a.fixed ≡ b.fixed → a.now.core ≡ b.now.core → callback_of master a w ≡ callback_of master b w
 callback_alike master a b w fixed core =
-    let with : Fixed → CoreHalf → State = λ f c. record { fixed = f; now = record { core = c; talk = b.now.talk } } in
+    let with : Fixed → CoreHalf → State = λ f c. record b { fixed = f; now = record b.now { core = c } } in
     ap (λ (f : Fixed). callback_of master (with f a.now.core) w) fixed ∙ ap (λ (c : CoreHalf). callback_of master (with b.fixed c) w) core

@@ -21,7 +21,7 @@ use Rattle.pm_tell.specs.declared.late.Late.{Late}
 use Rattle.pm_calls.specs.declared.verdict.Asked.{Asked}
 use Rattle.pm_tell.specs.declared.ended.Ended.{Ended}
 use Rattle.pm_state.specs.Members.{mode_of_master}
-use Rattle.pm_state.specs.State.{State, in_force}
+use Rattle.pm_state.specs.State.{State}
 use Rattle.pm_state.specs.Talk.{Talk, take_of, wait_of}
 use Rattle.pm_state.specs.Values.{point}
 use Rattle.pm_state.specs.Nodes.{master_node}
@@ -35,7 +35,7 @@ late_by Blocking master status = record { master = master; status = status } ∷
 late_by NonBlocking master status = []
 
 abbrev pub late_of : State → Ended → List Late
-late_of after ended = late_by ended.request.ack (master_node (in_force after).masters ended.request.by) ended.status
+late_of after ended = late_by ended.request.ack (master_node after.fixed.object.masters ended.request.by) ended.status
 
 -- the late replies, in object order of the targets
 abbrev pub late_replies : List Ended → State → List Late
@@ -167,11 +167,11 @@ note_changes_from news was notes after k (master ∷ masters) =
 
 -- the callbacks of a step, by the modes of the masters before it, by the notes that they find, and by the book after it
 abbrev pub callbacks : News → (ℕ → Mode) → List MasterNotes → State → List Callback
-callbacks news was notes after = callbacks_from news was notes after 0 (in_force after).masters
+callbacks news was notes after = callbacks_from news was notes after 0 after.fixed.object.masters
 
 -- what becomes of those notes
 abbrev pub note_changes : News → (ℕ → Mode) → List MasterNotes → State → List Talk
-note_changes news was notes after = note_changes_from news was notes after 0 (in_force after).masters
+note_changes news was notes after = note_changes_from news was notes after 0 after.fixed.object.masters
 
 -- how many callbacks one master gets in a step at most: what waits about each unit, in three slots; that it is asked
 -- to suspend; how each request ended; and what happened to each node
@@ -184,4 +184,4 @@ callback_count units masters = masters * callbacks_to_one units masters
 
 -- how many callbacks a step of this book makes at most
 abbrev pub callbacks_at_most : State → ℕ
-callbacks_at_most book = callback_count (unit_count book.fixed.topology) (length (in_force book).masters)
+callbacks_at_most book = callback_count (unit_count book.fixed.topology) (length book.fixed.object.masters)

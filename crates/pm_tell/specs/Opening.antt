@@ -5,8 +5,8 @@ use Rattle.pm_procs.specs.Pending.{asked, ended}
 use Rattle.pm_tell.specs.declared.ended.Ended.{Ended}
 use Rattle.pm_values.specs.declared.turns.Turns.{Turns}
 use Rattle.pm_calls.specs.declared.verdict.Say.{Say}
-use Rattle.pm_calls.specs.declared.verdict.Say.TheVariants.{Ask as SaysAsk, Register as SaysRegister, Renew as SaysRenew}
-use Rattle.pm_state.specs.Talk.{Talk, Ask, End, Forget, Lower, Notify, Renew}
+use Rattle.pm_calls.specs.declared.verdict.Say.TheVariants.{Ask as SaysAsk, Register as SaysRegister, Renew as SaysRenew, Unwatch as SaysUnwatch}
+use Rattle.pm_state.specs.Talk.{Talk, Ask, End, Forget, Lower, Notify, Renew, Unwatch}
 
 -- the master at place m forgets, if it became off
 abbrev pub forget_at : Turns → ℕ → List Talk
@@ -26,10 +26,12 @@ lower_by (Some count) = Lower count ∷ []
 abbrev pub ends : List Ended → List Talk
 ends ended = map (λ (e : Ended). End e.target) ended
 
--- what the masters are told is as at load, if all is restarted
-abbrev pub renew_by : Option Say → List Talk
-renew_by (Some SaysRenew) = Renew ∷ []
-renew_by _ = []
+-- what the masters are told is as at load, if all is restarted; and none is told of anything any more, if another object is in
+-- force
+abbrev pub sweep_by : Option Say → List Talk
+sweep_by (Some SaysRenew) = Renew ∷ []
+sweep_by (Some SaysUnwatch) = Unwatch ∷ []
+sweep_by _ = []
 
 -- a master is asked, or a notifier is put
 abbrev pub say_by : Option Say → List Talk
@@ -37,7 +39,7 @@ say_by (Some (SaysAsk asked)) = Ask asked.target asked.request ∷ []
 say_by (Some (SaysRegister put)) = Notify put.master put.node put.event put.on ∷ []
 say_by _ = []
 
--- what a step does before any master is told of it: all is as at load, if all is restarted, masters that became off
--- forget, a notifier is put or a master is asked, time passes, and requests end
+-- what a step does before any master is told of it: all is as at load, if all is restarted, or no notifier is left, if another
+-- object is in force; masters that became off forget, a notifier is put or a master is asked, time passes, and requests end
 abbrev pub talk_of : Option Say → List Talk → Option ℕ → List Ended → List Talk
-talk_of says forgets count ended = renew_by says ++ (forgets ++ (say_by says ++ (lower_by count ++ ends ended)))
+talk_of says forgets count ended = sweep_by says ++ (forgets ++ (say_by says ++ (lower_by count ++ ends ended)))

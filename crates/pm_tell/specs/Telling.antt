@@ -10,7 +10,7 @@ use Rattle.pm_values.specs.Along as along
 use Rattle.pm_values.specs.Along.{mode_logged, turns_logged}
 use Rattle.pm_tell.specs.Callbacks.{News, note_changes}
 use Rattle.pm_values.specs.Notifications.{notice_count}
-use Rattle.pm_state.specs.State.{State, in_force}
+use Rattle.pm_state.specs.State.{State}
 use Rattle.pm_state.specs.Talk.{Talk, talks}
 use Rattle.pm_tell.specs.Opening.{forgets_from, talk_of}
 use Rattle.pm_base.specs.declared.names.Mode.{Mode}
@@ -33,7 +33,7 @@ news_in telling = record { asked = telling.asks; ended = telling.ended.items; no
 -- what is done before any master is told, in the book after the stages
 abbrev pub opening_in : Telling → Option Say → Option ℕ → State → List Talk
 opening_in telling says count after =
-    talk_of says (forgets_from (turns_in telling) 0 (in_force after).masters) count telling.ended.items
+    talk_of says (forgets_from (turns_in telling) 0 after.fixed.object.masters) count telling.ended.items
 
 -- room for the modes of so many masters, for what is logged of them and of the processors, for the end of a request to
 -- each, and for what happens to the units of a chip

@@ -11,7 +11,6 @@ ghost use Rattle.pm_tell.specs.Callbacks as spec;
 ghost use Rattle.pm_state.specs.Members.{mode_of_master};
 ghost use Rattle.pm_values.specs.Notifications.{notice_count};
 ghost use Rattle.pm_state.specs.Sound.{HasNotes};
-ghost use Rattle.pm_state.specs.State.{in_force};
 ghost use Rattle.pm_state.specs.Talk.{take_of, talked};
 ghost use Rattle.pm_tell.specs.Telling.{mode_before, news_in};
 
@@ -122,7 +121,7 @@ pub(crate) fn tell_masters(
 )
     requires kept { AreKept tables.old caches.now }
     requires notes { HasNotes tables.old }
-    requires ended { length telling.now.ended.items ≤ length (in_force tables.old).masters }
+    requires ended { length telling.now.ended.items ≤ length tables.old.fixed.object.masters }
     requires notices { length telling.now.notices.items ≤ notice_count (unit_count tables.old.fixed.topology) }
     requires room { length callbacks.old.items + callbacks_at_most tables.old ≤ callbacks.old.room }
     ensures book { tables.new
@@ -137,7 +136,7 @@ pub(crate) fn tell_masters(
     takes_drain_the_slots();
     units_stand_in_order();
     for k in 0..tables.masters() {
-        let master = master_node(tables.in_force().masters.as_slice(), k);
+        let master = master_node(tables.object().masters.as_slice(), k);
         tell_master(tables, caches, telling, k, master, callbacks);
     }
 }

@@ -40,6 +40,6 @@ pub(crate) fn tell_late(tables: &Tables, ended: &[Ended], late: &mut BoundedList
 fn late_of(tables: &Tables, end: &Ended) -> Option<Late>
     ensures { option_to_list result ≡ spec.late_of tables.now end.now }
 {
-    let asking = master_node(tables.in_force().masters.as_slice(), end.request.by);
+    let asking = master_node(tables.object().masters.as_slice(), end.request.by);
     late_by(end.request.ack, asking, end.status)
 }

@@ -1,8 +1,7 @@
 //! What is done before any master is told of a step.
 
 ghost use Rattle.std.specs.Prelude.{◌≡◌};
-ghost use Rattle.pm_state.specs.State.{in_force};
-ghost use Rattle.pm_tell.specs.Opening.{ends, forget_at, forgets_from, lower_by, renew_by, say_by};
+ghost use Rattle.pm_tell.specs.Opening.{ends, forget_at, forgets_from, lower_by, sweep_by, say_by};
 ghost use Rattle.pm_state.specs.Talk.{talked};
 ghost use Rattle.pm_tell.specs.Telling.{opening_in, turns_in};
 
@@ -11,8 +10,9 @@ use crate::telling::Telling;
 use pm_calls::Say;
 use pm_state::Tables;
 
-/// What is done before any master is told: all is as at load, if all is restarted, masters that became
-/// off forget what they asked for, a notifier is put or a master is asked, time passes, and requests end.
+/// What is done before any master is told: all is as at load, if all is restarted, or no notifier is left, if another
+/// object is in force; masters that became off forget what they asked for, a notifier is put or a master is asked,
+/// time passes, and requests end.
 pub(crate) fn open(tables: &mut Tables, telling: &Telling, says: Option<Say>, count: Option<u32>)
     ensures { tables.new ≡ talked (opening_in telling.now says count tables.old) tables.old }
 {
@@ -23,18 +23,21 @@ pub(crate) fn open(tables: &mut Tables, telling: &Telling, says: Option<Say>, co
     end_requests(tables, telling.ended());
 }
 
-/// What the masters are told is as at load, if all is restarted.
+/// What the masters are told is as at load, if all is restarted; and none is told of anything any more, if another object
+/// is in force.
 fn renew(tables: &mut Tables, says: Option<Say>)
-    ensures { tables.new ≡ talked (renew_by says) tables.old }
+    ensures { tables.new ≡ talked (sweep_by says) tables.old }
 {
-    if let Some(Say::Renew) = says {
-        tables.renew_talk();
+    match says {
+        Some(Say::Renew) => tables.renew_talk(),
+        Some(Say::Unwatch) => tables.unwatch(),
+        Some(Say::Ask(_) | Say::Abort(_) | Say::Register(_)) | None => {}
     }
 }
 
 /// Each master that became off along the step forgets what it asked for, and what waits for it is lost.
 fn forget(tables: &mut Tables, telling: &Telling)
-    ensures { tables.new ≡ talked (forgets_from (turns_in telling.now) 0 (in_force tables.old).masters) tables.old }
+    ensures { tables.new ≡ talked (forgets_from (turns_in telling.now) 0 tables.old.fixed.object.masters) tables.old }
 {
     for m in 0..tables.masters() {
         forget_master(tables, telling, m);
@@ -56,7 +59,7 @@ fn say(tables: &mut Tables, says: Option<Say>)
     match says {
         Some(Say::Ask(asked)) => tables.ask(asked.target, asked.request),
         Some(Say::Register(put)) => { tables.register(put.master, put.node, put.event, put.on) }
-        Some(Say::Abort(_) | Say::Renew) | None => {}
+        Some(Say::Abort(_) | Say::Renew | Say::Unwatch) | None => {}
     }
 }
 

@@ -9,7 +9,6 @@ ghost use Rattle.pm_values.specs.Notifications.{notice_count};
 ghost use Rattle.pm_state.specs.Units.{unit_count};
 ghost use Rattle.pm_state.specs.Sound.{HasNotes};
 ghost use Rattle.pm_tell.specs.Served.{says_in};
-ghost use Rattle.pm_state.specs.State.{in_force};
 ghost use Rattle.pm_tell.specs.Telling.{HasPlaces, mode_before, news_in, notes_after, opening_in, tellings, turns_in};
 ghost use Rattle.pm_state.specs.Talk.{talked};
 ghost use Rattle.pm_calls.specs.Verdict.{aborted_by, asked_by};
@@ -36,11 +35,11 @@ pub fn tell(
     callbacks: &mut BoundedList<Callback>,
 )
     requires kept { AreKept tables.old caches.now }
-    requires each { length tables.old.now.talk.pending ≡ length (in_force tables.old).masters }
+    requires each { length tables.old.now.talk.pending ≡ length tables.old.fixed.object.masters }
     requires notes { HasNotes tables.old }
-    requires places { HasPlaces tables.old.fixed.topology (length (in_force tables.old).masters) telling.old }
+    requires places { HasPlaces tables.old.fixed.topology (length tables.old.fixed.object.masters) telling.old }
     requires few { length telling.old.notices.items ≤ notice_count (unit_count tables.old.fixed.topology) }
-    requires late { length late.old.items + length (in_force tables.old).masters ≤ late.old.room }
+    requires late { length late.old.items + length tables.old.fixed.object.masters ≤ late.old.room }
     requires callbacks { length callbacks.old.items + callbacks_at_most tables.old ≤ callbacks.old.room }
     ensures modes { telling.new.modes ≡ telling.old.modes }
     ensures along { telling.new.along ≡ telling.old.along }
@@ -48,7 +47,7 @@ pub fn tell(
     ensures notices { telling.new.notices ≡ telling.old.notices }
     ensures ended { telling.new.ended.items
         ≡ ended_from (turns_in telling.old) (aborted_by (says_in served)) count 0 tables.old.now.talk.pending }
-    ensures places { HasPlaces tables.old.fixed.topology (length (in_force tables.old).masters) telling.new }
+    ensures places { HasPlaces tables.old.fixed.topology (length tables.old.fixed.object.masters) telling.new }
     ensures book { tables.new ≡ talked (tellings (news_in telling.new) (mode_before telling.new)
         (opening_in telling.new (says_in served) count tables.old) served tables.old) tables.old }
     ensures late { late.new

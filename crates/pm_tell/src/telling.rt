@@ -6,7 +6,6 @@ ghost use Rattle.pm_procs.specs.Pending.{pending_at};
 ghost use Rattle.pm_values.specs.Along.{mode_logged, modes_of, trail_at_load};
 ghost use Rattle.pm_tell.specs.Ended.{ended_at, ended_from};
 ghost use Rattle.pm_values.specs.Notifications.{notice_count};
-ghost use Rattle.pm_state.specs.State.{in_force};
 ghost use Rattle.pm_tell.specs.Telling.{turns_in};
 ghost use Rattle.pm_calls.specs.Verdict.{aborted_by, asked_by};
 
@@ -76,7 +75,7 @@ impl Telling {
 
     /// Logs the mode of each master before the step.
     pub fn log_modes(&mut self, tables: &Tables)
-        requires places { length self.old.modes.items ≡ length (in_force tables.now).masters }
+        requires places { length self.old.modes.items ≡ length tables.now.fixed.object.masters }
         ensures modes { self.new.modes.items ≡ modes_of tables.now }
         ensures along { self.new.along ≡ self.old.along }
         ensures ended { self.new.ended ≡ self.old.ended }
@@ -88,8 +87,8 @@ impl Telling {
     /// Logs the master that is asked, and the requests that end: by what became of the modes along the
     /// step, by the master that aborts its suspend, and by the time that passes.
     pub(crate) fn log_ended(&mut self, tables: &Tables, says: Option<Say>, count: Option<u32>)
-        requires each { length tables.now.now.talk.pending ≡ length (in_force tables.now).masters }
-        requires room { length (in_force tables.now).masters ≤ self.old.ended.room }
+        requires each { length tables.now.now.talk.pending ≡ length tables.now.fixed.object.masters }
+        requires room { length tables.now.fixed.object.masters ≤ self.old.ended.room }
         ensures modes { self.new.modes ≡ self.old.modes }
         ensures along { self.new.along ≡ self.old.along }
         ensures asks { self.new.asks ≡ asked_by says }
@@ -97,7 +96,7 @@ impl Telling {
         ensures ended { self.new.ended ≡ record self.old.ended {
           items = ended_from (turns_in self.old) (aborted_by says) count 0 tables.now.now.talk.pending;
         } }
-        ensures few { length self.new.ended.items ≤ length (in_force tables.now).masters }
+        ensures few { length self.new.ended.items ≤ length tables.now.fixed.object.masters }
     {
         self.asks = asked_by(says);
         self.ended.clear();

@@ -5,9 +5,9 @@ ghost use Rattle.pm_topology.specs.WellFormed.{IsWellFormed};
 ghost use Rattle.pm_core.specs.Outbox.{HasRoomFor};
 
 use crate::events::{Trigger, event_of, message};
-use pm_base::{Event, NoMemory};
+use pm_base::{Event, List, NoMemory};
 use pm_core::{Answer, Book, Outbox};
-use pm_object::{Object, decode};
+use pm_object::{Attached, Content, DecodeError, Object, decode};
 use pm_topology::{Topology, zynqmp};
 use std::alloc::Global;
 use std::test::Fail;
@@ -33,9 +33,55 @@ pub fn desk_with(alloc: Global, object: Object, chip: Topology) -> Result<Box<De
     ensures chip { IfOk result (λ desk. desk.value.book.fixed.topology ≡ chip) }
     ensures fresh { IfOk result (λ desk. desk.value.out.done.items ≡ []) }
 {
+    desk_beside(alloc, object, List::new(alloc), chip)
+}
+
+/// The same where objects are attached.
+pub fn desk_beside(
+    alloc: Global,
+    object: Object,
+    attached: List<Attached>,
+    chip: Topology,
+) -> Result<Box<Desk>, NoMemory>
+    requires formed { IsWellFormed chip }
+    ensures chip { IfOk result (λ desk. desk.value.book.fixed.topology ≡ chip) }
+    ensures fresh { IfOk result (λ desk. desk.value.out.done.items ≡ []) }
+{
     let mut out = Outbox::load(alloc, &chip, object.masters.len())?;
-    let book = Book::load(alloc, object, chip, &mut out)?;
-    Box::new(alloc, Desk { book, out }).map_err(|_| NoMemory)
+    let book = Book::load(alloc, object, attached, chip, &mut out)?;
+    boxed(alloc, Desk { book, out })
+}
+
+/// A value on the heap. It is dropped, where there is not enough memory, at a type that is any.
+fn boxed<T: Drop>(alloc: Global, value: T) -> Result<Box<T>, NoMemory>
+    ensures { IfOk result (λ held. held.value ≡ value) }
+{
+    Box::new(alloc, value).map_err(|_| NoMemory)
+}
+
+/// What these words are at an address.
+fn attached_at(alloc: Global, address: u32, words: &[u32]) -> Result<Attached, Fail> {
+    let bytes = bytes_of(alloc, words)?;
+    let content = match decode(alloc, &bytes) {
+        Ok(object) => Content::Object(object),
+        Err(DecodeError::Bad(fault)) => Content::Bad(fault),
+        Err(DecodeError::Memory(error)) => return Err(error.into()),
+    };
+    Ok(Attached { address, content })
+}
+
+/// The book at load over an object of these words, where words are attached at addresses.
+pub fn desk_attached(
+    alloc: Global,
+    words: &[u32],
+    pieces: &[(u32, &[u32])],
+) -> Result<Box<Desk>, Fail> {
+    let object = decode(alloc, &bytes_of(alloc, words)?)?;
+    let mut attached = List::new(alloc);
+    for (address, words) in pieces {
+        attached.push(attached_at(alloc, *address, words)?)?;
+    }
+    Ok(desk_beside(alloc, object, attached, chip(alloc)?)?)
 }
 
 /// The bytes of words, the lowest byte of each first.

@@ -12,7 +12,7 @@ use Rattle.pm_state.specs.Members.{mode_of_master}
 use Rattle.pm_values.specs.Along.{Trail, Completes, HasPlaces, IsTrail, both_turns, down_after, down_in, down_logged, forgotten, trail_at_load, trail_from, is_down, mode_beside, mode_logged, modes_of, no_turns, trailed, turns_after, turns_logged}
 use Rattle.pm_state.specs.Prims.{Prim}
 use Rattle.pm_state.specs.Stages.{after_stage, after_stages, path_from}
-use Rattle.pm_state.specs.State.{Fixed, State, in_force}
+use Rattle.pm_state.specs.State.{Fixed, State}
 use Rattle.pm_state.specs.Values.{placed}
 use Rattle.pm_state.proofs.PlacedLemmas.{length-placed, slice_get-placed}
 
@@ -30,18 +30,18 @@ at_place f g xs m d same within = elim ((slice_get_cases xs m).1) [
   | inr past ↦ absurd (omega (arith, within, past.0))
 ]
 
-pub mode_is : (book : State) (m : ℕ) → m < length (in_force book).masters → mode_logged (modes_of book) m ≡ mode_of_master book.fixed book.now.core m
+pub mode_is : (book : State) (m : ℕ) → m < length book.fixed.object.masters → mode_logged (modes_of book) m ≡ mode_of_master book.fixed book.now.core m
 mode_is book m within =
-    at_place (mode_beside book) (λ k. mode_of_master book.fixed book.now.core k) (in_force book).masters m Off (λ x. refl) within
+    at_place (mode_beside book) (λ k. mode_of_master book.fixed book.now.core k) book.fixed.object.masters m Off (λ x. refl) within
 
 -- what became of a mode, and whether a processor was down, after one moment more
-turns_are : (book : State) (before : Trail) (m : ℕ) → m < length (in_force book).masters
+turns_are : (book : State) (before : Trail) (m : ℕ) → m < length book.fixed.object.masters
     → turns_logged m (trailed book before).turns
     ≡ both_turns (turns_logged m before.turns) (turns_of (mode_logged before.modes m) (mode_of_master book.fixed book.now.core m ∷ []))
 turns_are book before m within =
     at_place (turns_after before.modes before.turns book)
     (λ k. both_turns (turns_logged k before.turns) (turns_of (mode_logged before.modes k) (mode_of_master book.fixed book.now.core k ∷ [])))
-    (in_force book).masters m no_turns (λ x. refl) within
+    book.fixed.object.masters m no_turns (λ x. refl) within
 
 downs_are : (book : State) (before : Trail) (p : ℕ) → p < length book.fixed.topology.procs
     → down_logged p (trailed book before).downs ≡ (down_logged p before.downs || is_down book p)
@@ -49,10 +49,10 @@ downs_are book before p within =
     at_place (down_after before.downs book) (λ q. down_logged q before.downs || is_down book q) book.fixed.topology.procs p true (λ x. refl) within
 
 -- at the first moment
-first_turns : (book : State) (m : ℕ) → m < length (in_force book).masters → turns_logged m (trail_from book).turns ≡ no_turns
+first_turns : (book : State) (m : ℕ) → m < length book.fixed.object.masters → turns_logged m (trail_from book).turns ≡ no_turns
 first_turns book m within =
-    unwrap_or-slice_get (replicate (length (in_force book).masters) no_turns) m no_turns
-    ∙ get_or-replicate (length (in_force book).masters) m no_turns no_turns within
+    unwrap_or-slice_get (replicate (length book.fixed.object.masters) no_turns) m no_turns
+    ∙ get_or-replicate (length book.fixed.object.masters) m no_turns no_turns within
 
 first_downs : (book : State) (p : ℕ) → p < length book.fixed.topology.procs → down_logged p (trail_from book).downs ≡ is_down book p
 first_downs book p within = at_place (down_in book) (is_down book) book.fixed.topology.procs p true (λ x. refl) within
@@ -76,7 +76,7 @@ last_down false true = refl
 last_down false false = refl
 
 -- from the first moment on, one moment more
-second_turns : (book next : State) (m : ℕ) → next.fixed ≡ book.fixed → m < length (in_force book).masters
+second_turns : (book next : State) (m : ℕ) → next.fixed ≡ book.fixed → m < length book.fixed.object.masters
     → turns_logged m (trailed next (trail_from book)).turns
     ≡ both_turns no_turns (turns_of (mode_of_master book.fixed book.now.core m) (mode_of_master next.fixed next.now.core m ∷ []))
 second_turns book next m fixed within =
@@ -114,24 +114,24 @@ load_places masters procs m p along is count all = record {
   downs = ap (λ (t : Trail). length t.downs) is ∙ (length-replicate procs true ∙ all);
 }
 
-first_places : (book : State) → HasPlaces (length (in_force book).masters) (length book.fixed.topology.procs) (trail_from book)
+first_places : (book : State) → HasPlaces (length book.fixed.object.masters) (length book.fixed.topology.procs) (trail_from book)
 first_places book = record {
-  modes = length-placed (mode_beside book) 0 (in_force book).masters;
-  turns = length-replicate (length (in_force book).masters) no_turns;
+  modes = length-placed (mode_beside book) 0 book.fixed.object.masters;
+  turns = length-replicate (length book.fixed.object.masters) no_turns;
   downs = length-placed (down_in book) 0 book.fixed.topology.procs;
 }
 
 -- and so has a book with the same parts
-pub next_places : (book next : State) (along : Trail) → along ≡ trail_from book → next.fixed ≡ book.fixed → HasPlaces (length (in_force next).masters) (length next.fixed.topology.procs) along
+pub next_places : (book next : State) (along : Trail) → along ≡ trail_from book → next.fixed ≡ book.fixed → HasPlaces (length next.fixed.object.masters) (length next.fixed.topology.procs) along
 next_places book next along first fixed =
     let P : Fixed → Type 0 = λ f. HasPlaces (length f.object.masters) (length f.topology.procs) along in
-    let Q : Trail → Type 0 = λ t. HasPlaces (length (in_force book).masters) (length book.fixed.topology.procs) t in
+    let Q : Trail → Type 0 = λ t. HasPlaces (length book.fixed.object.masters) (length book.fixed.topology.procs) t in
     subst P (sym fixed) (subst Q (sym first) (first_places book))
 
-pub trailed_places : (book : State) (before : Trail) → HasPlaces (length (in_force book).masters) (length book.fixed.topology.procs) (trailed book before)
+pub trailed_places : (book : State) (before : Trail) → HasPlaces (length book.fixed.object.masters) (length book.fixed.topology.procs) (trailed book before)
 trailed_places book before = record {
-  modes = length-placed (mode_beside book) 0 (in_force book).masters;
-  turns = length-placed (turns_after before.modes before.turns book) 0 (in_force book).masters;
+  modes = length-placed (mode_beside book) 0 book.fixed.object.masters;
+  turns = length-placed (turns_after before.modes before.turns book) 0 book.fixed.object.masters;
   downs = length-placed (down_after before.downs book) 0 book.fixed.topology.procs;
 }
 

@@ -10,7 +10,7 @@ use Rattle.pm_values.specs.declared.turns.Turns.{Turns}
 use Rattle.pm_values.specs.Turns.{turns_along, turns_of}
 use Rattle.pm_state.specs.Members.{mode_of_master}
 use Rattle.pm_values.specs.Starts.{was_down}
-use Rattle.pm_state.specs.State.{State, in_force}
+use Rattle.pm_state.specs.State.{State}
 use Rattle.pm_state.specs.Values.{placed}
 
 -- for each master the mode that was logged last, and what became of its mode so far; for each processor whether it was
@@ -49,7 +49,7 @@ mode_beside book m master = mode_of_master book.fixed book.now.core m
 
 -- the modes of the masters of a book, in object order
 abbrev pub modes_of : State → List Mode
-modes_of book = placed (mode_beside book) 0 (in_force book).masters
+modes_of book = placed (mode_beside book) 0 book.fixed.object.masters
 
 -- what became of the mode of the master at place m, by what was logged and its mode in this book
 abbrev pub turns_after : List Mode → List Turns → State → ℕ → MasterRec → Turns
@@ -71,7 +71,7 @@ down_after downs book p proc = down_logged p downs || is_down book p
 abbrev pub trail_from : State → Trail
 trail_from book = record {
   modes = modes_of book;
-  turns = replicate (length (in_force book).masters) no_turns;
+  turns = replicate (length book.fixed.object.masters) no_turns;
   downs = placed (down_in book) 0 book.fixed.topology.procs;
 }
 
@@ -79,7 +79,7 @@ trail_from book = record {
 abbrev pub trailed : State → Trail → Trail
 trailed book before = record {
   modes = modes_of book;
-  turns = placed (turns_after before.modes before.turns book) 0 (in_force book).masters;
+  turns = placed (turns_after before.modes before.turns book) 0 book.fixed.object.masters;
   downs = placed (down_after before.downs book) 0 book.fixed.topology.procs;
 }
 
@@ -97,11 +97,11 @@ pub record HasPlaces (masters procs : ℕ) (trailed : Trail) : Type 0 where
 -- what is logged is what became of the modes along these books, which follow on this one, and which processors were
 -- down in them
 pub record IsTrail (before : State) (books : List State) (trailed : Trail) : Type 0 where
-  pub turns : (m : ℕ) → m < length (in_force before).masters → turns_logged m trailed.turns ≡ turns_along before books m
+  pub turns : (m : ℕ) → m < length before.fixed.object.masters → turns_logged m trailed.turns ≡ turns_along before books m
   pub downs : (p : ℕ) → p < length before.fixed.topology.procs
       → down_logged p trailed.downs ≡ was_down (before ∷ books) p
 
 -- logging this book completes what is logged along these books, which follow on the first one
 pub record Completes (before : State) (books : List State) (last : State) (along : Trail) : Type 0 where
-  pub places : HasPlaces (length (in_force before).masters) (length before.fixed.topology.procs) along
+  pub places : HasPlaces (length before.fixed.object.masters) (length before.fixed.topology.procs) along
   pub trailed : IsTrail before books (trailed last along)

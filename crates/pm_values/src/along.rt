@@ -5,7 +5,6 @@ ghost use Rattle.pm_values.specs.Turns.{turns_of};
 ghost use Rattle.pm_state.specs.Members.{mode_of_master};
 ghost use Rattle.pm_values.specs.Along as spec;
 ghost use Rattle.pm_values.specs.Along.{HasPlaces, both_turns, down_logged, trail_from, forgotten, mode_logged, modes_of, trailed, trail_at_load, turns_logged};
-ghost use Rattle.pm_state.specs.State.{in_force};
 ghost use Rattle.pm_state.specs.Values.{placed};
 
 use crate::turns::{Turns, turns_between};
@@ -50,7 +49,7 @@ impl Along {
 
     /// Logs the first moment of a step.
     pub fn start(&mut self, tables: &Tables)
-        requires { HasPlaces (length (in_force tables.now).masters) (length tables.now.fixed.topology.procs) self.old }
+        requires { HasPlaces (length tables.now.fixed.object.masters) (length tables.now.fixed.topology.procs) self.old }
         ensures { self.new ≡ trail_from tables.now }
     {
         log_modes(tables, &mut self.modes);
@@ -60,7 +59,7 @@ impl Along {
 
     /// Logs one moment more.
     pub fn log(&mut self, tables: &Tables)
-        requires { HasPlaces (length (in_force tables.now).masters) (length tables.now.fixed.topology.procs) self.old }
+        requires { HasPlaces (length tables.now.fixed.object.masters) (length tables.now.fixed.topology.procs) self.old }
         ensures { self.new ≡ trailed tables.now self.old }
     {
         log_turns(tables, &self.modes, &mut self.turns);
@@ -101,7 +100,7 @@ fn forget(turns: &mut [Turns])
 
 /// Writes the mode of each master.
 pub fn log_modes(tables: &Tables, modes: &mut [Mode])
-    requires { length modes.old ≡ length (in_force tables.now).masters }
+    requires { length modes.old ≡ length tables.now.fixed.object.masters }
     ensures { modes.new ≡ modes_of tables.now }
 {
     for m in 0..tables.masters() {
@@ -111,8 +110,8 @@ pub fn log_modes(tables: &Tables, modes: &mut [Mode])
 
 /// Adds what became of the mode of each master since these modes were logged.
 fn log_turns(tables: &Tables, modes: &[Mode], turns: &mut [Turns])
-    requires { length turns.old ≡ length (in_force tables.now).masters }
-    ensures { turns.new ≡ placed (spec.turns_after modes.now turns.old tables.now) 0 (in_force tables.now).masters }
+    requires { length turns.old ≡ length tables.now.fixed.object.masters }
+    ensures { turns.new ≡ placed (spec.turns_after modes.now turns.old tables.now) 0 tables.now.fixed.object.masters }
 {
     for m in 0..tables.masters() {
         turns[m] = turns_after(tables, modes, turns, m);

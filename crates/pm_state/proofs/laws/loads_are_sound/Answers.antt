@@ -9,12 +9,12 @@ pub returns : goal.returns
 returns c =
     let rows : RowLaws = record {
       load = c.rows_stay_sound.ensures.load;
+      remade = c.rows_stay_sound.ensures.remade;
       change = c.rows_stay_sound.ensures.change;
       shift = c.rows_stay_sound.ensures.shift;
       settle = c.rows_stay_sound.ensures.settle;
       drop_slave = c.rows_stay_sound.ensures.drop_slave;
       clear = c.rows_stay_sound.ensures.clear;
-      restart = c.rows_know_modes.ensures.restart;
       there = c.rows_stay_sound.ensures.there;
       armed = c.shifts_leave_others.ensures.kept;
     } in

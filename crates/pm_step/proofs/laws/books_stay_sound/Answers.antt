@@ -1,3 +1,4 @@
+use Rattle.std.proofs.Common.{refl}
 use Rattle.pm_notify.specs.Laws.{OrderLaws}
 use Rattle.pm_state.proofs.LoadLaw.{ModeLaws}
 use Rattle.pm_state.proofs.PendingLaw.{RequestLaws}
@@ -10,12 +11,12 @@ pub returns : goal.returns
 returns c =
     let rows : RowLaws = record {
       load = c.rows_stay_sound.ensures.load;
+      remade = c.rows_stay_sound.ensures.remade;
       change = c.rows_stay_sound.ensures.change;
       shift = c.rows_stay_sound.ensures.shift;
       settle = c.rows_stay_sound.ensures.settle;
       drop_slave = c.rows_stay_sound.ensures.drop_slave;
       clear = c.rows_stay_sound.ensures.clear;
-      restart = c.rows_know_modes.ensures.restart;
       there = c.rows_stay_sound.ensures.there;
       armed = c.shifts_leave_others.ensures.kept;
     } in
@@ -40,7 +41,7 @@ returns c =
     } in
     let orders : OrderLaws = c.notes_stand_in_order.ensures in
     record {
-      load = c.loads_are_sound.ensures.load;
+      load = λ object attached topology. c.loads_are_sound.ensures.load (record { object = object; topology = topology; attached = attached }) object 0 refl;
       step = effect_sound rows modes requests orders;
       permitted = c.loads_are_sound.ensures.permitted;
       restart = restart_loads (record { rows = rows; modes = modes; requests = requests; orders = orders });

@@ -2,7 +2,7 @@ use Rattle.std.proofs.Common.{◌≡◌, length, sym, ◌∙◌, ap, subst, arit
 use Rattle.pm_base.specs.BoundedList.{Bounded}
 use Rattle.pm_notify.specs.declared.notes.Waiting.{Waiting}
 use Rattle.pm_step.specs.Step.{path}
-use Rattle.pm_state.specs.State.{Fixed, State, in_force}
+use Rattle.pm_state.specs.State.{Fixed, State}
 use Rattle.pm_state.specs.Units.{units}
 use Rattle.pm_values.specs.Along.{HasPlaces as HasTrail, Trail, mode_beside}
 use Rattle.pm_state.proofs.PlacedLemmas.{length-placed}
@@ -24,11 +24,11 @@ pub returns-clause-places : goal.returns-clause-places
 returns-clause-places c =
     let old = c.args.tables.now in
     let mid = c.take-served.new.tables in
-    let count : length (in_force mid).masters ≡ length (in_force old).masters = ap (λ (b : State). length (in_force b).masters) c.take-served.ensures.book in
+    let count : length mid.fixed.object.masters ≡ length old.fixed.object.masters = ap (λ (b : State). length b.fixed.object.masters) c.take-served.ensures.book in
     let all : length (units mid) ≡ length (units old) = ap (λ (b : State). length (units b)) c.take-served.ensures.book in
-    let Q : Trail → Type 0 = λ n. HasTrail (length (in_force mid).masters) (length mid.fixed.topology.procs) n in
+    let Q : Trail → Type 0 = λ n. HasTrail (length mid.fixed.object.masters) (length mid.fixed.topology.procs) n in
     record {
-      modes = ap length c.log_modes.ensures.modes ∙ (length-placed (mode_beside old) 0 (in_force old).masters ∙ sym count);
+      modes = ap length c.log_modes.ensures.modes ∙ (length-placed (mode_beside old) 0 old.fixed.object.masters ∙ sym count);
       along = subst Q (sym c.log.ensures) (trailed_places mid c.take-served.new.along);
       ended = omega (arith, count, c.requires.places.ended, ap (λ (l : Bounded _). l.room) c.log_modes.ensures.ended);
       notices = omega (arith, all, c.requires.places.notices, ap (λ (l : Bounded Waiting). l.room) c.log_modes.ensures.notices);

@@ -66,7 +66,7 @@ loop-k-preserved c =
     in
     let master : c.master_node-master.result ≡ master_node masters k =
     c.master_node-master.ensures
-    ∙ (ap (λ ms. master_node ms k) (c.as_slice.ensures ∙ ap (λ (o : Object). o.masters) c.in_force.ensures)
+    ∙ (ap (λ ms. master_node ms k) (c.as_slice.ensures ∙ ap (λ (o : Object). o.masters) c.object.ensures)
     ∙ ap (λ (f : Fixed). master_node f.object.masters k) fixed)
     in
     let called : c.tell_master.new.callbacks.items ≡ c.loop-k.callbacks.items ++ called_back news k (master_node masters k) (was k) mode_is (notes_for k notes) start =

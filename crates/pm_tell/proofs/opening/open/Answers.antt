@@ -1,6 +1,6 @@
 use Rattle.std.proofs.Common.{◌∙◌, ap}
-use Rattle.pm_state.specs.State.{State, in_force}
-use Rattle.pm_tell.specs.Opening.{ends, forgets_from, lower_by, renew_by, say_by}
+use Rattle.pm_state.specs.State.{State}
+use Rattle.pm_tell.specs.Opening.{ends, forgets_from, lower_by, sweep_by, say_by}
 use Rattle.pm_state.specs.Talk.{talked}
 use Rattle.pm_tell.specs.Telling.{turns_in}
 use Rattle.pm_tell.proofs.TalkLemmas.{opens}
@@ -10,10 +10,10 @@ pub returns : goal.returns
 returns c =
     let book = c.args.tables.now in
     let telling = c.args.telling.now in
-    opens (renew_by c.args.says) (forgets_from (turns_in telling) 0 (in_force book).masters) (say_by c.args.says) (lower_by c.args.count) (ends telling.ended.items)
+    opens (sweep_by c.args.says) (forgets_from (turns_in telling) 0 book.fixed.object.masters) (say_by c.args.says) (lower_by c.args.count) (ends telling.ended.items)
     book c.renew.new.tables c.forget.new.tables c.say.new.tables c.pass_time.new.tables c.end_requests.new.tables
     c.renew.ensures
-    (c.forget.ensures ∙ ap (λ (b : State). talked (forgets_from (turns_in telling) 0 (in_force b).masters) c.renew.new.tables) c.renew.ensures)
+    (c.forget.ensures ∙ ap (λ (b : State). talked (forgets_from (turns_in telling) 0 b.fixed.object.masters) c.renew.new.tables) c.renew.ensures)
     c.say.ensures
     c.pass_time.ensures
     (c.end_requests.ensures ∙ ap (λ es. talked (ends es) c.pass_time.new.tables) c.ended.ensures)

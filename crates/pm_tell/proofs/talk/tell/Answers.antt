@@ -5,7 +5,7 @@ use Rattle.pm_values.specs.Caches.{AreKept}
 use Rattle.pm_tell.specs.Callbacks.{callbacks, note_changes}
 use Rattle.pm_tell.specs.Served.{kept_of, says_in}
 use Rattle.pm_state.specs.Sound.{AreNotes}
-use Rattle.pm_state.specs.State.{State, in_force}
+use Rattle.pm_state.specs.State.{State}
 use Rattle.pm_tell.specs.Telling.{notes_after, tellings, news_in, opening_in}
 use Rattle.pm_state.specs.Talk.{talked}
 use Rattle.pm_values.specs.Along.{mode_logged}
@@ -23,8 +23,8 @@ tell_masters-requires-clause-kept c =
 pub tell_masters-requires-clause-notes : goal.tell_masters-requires-clause-notes
 tell_masters-requires-clause-notes c =
     let old = c.args.tables.now in
-    let P : State → Type 0 = λ b. AreNotes b.fixed.topology (length (in_force b).masters) b.now.talk.notes in
-    subst P (sym c.open.ensures) (talk_notes c.notes_stand_in_order.ensures old.fixed.topology (length (in_force old).masters) (opening_in c.log_ended.new.self c.says_in-says.result c.args.count old) old.now.talk c.requires.notes)
+    let P : State → Type 0 = λ b. AreNotes b.fixed.topology (length b.fixed.object.masters) b.now.talk.notes in
+    subst P (sym c.open.ensures) (talk_notes c.notes_stand_in_order.ensures old.fixed.topology (length old.fixed.object.masters) (opening_in c.log_ended.new.self c.says_in-says.result c.args.count old) old.now.talk c.requires.notes)
 
 pub returns-clause-book : goal.returns-clause-book
 returns-clause-book c =
@@ -40,7 +40,7 @@ returns-clause-book c =
     let told : c.tell_masters.new.tables ≡ talked (note_changes news was (notes_after first old) old) c.open.new.tables =
     c.tell_masters.ensures.book
     ∙ (ap (λ (b : State). talked (note_changes news was b.now.talk.notes b) c.open.new.tables) opened
-    ∙ ap (λ ms. talked ms c.open.new.tables) (note_changes_told news was (notes_after first old) first old 0 (in_force old).masters))
+    ∙ ap (λ ms. talked ms c.open.new.tables) (note_changes_told news was (notes_after first old) first old 0 old.fixed.object.masters))
     in
     let both = then_told first (note_changes news was (notes_after first old) old) old c.open.new.tables c.tell_masters.new.tables opened told in
     let kept : c.keep_own.new.tables ≡ talked (kept_of served old) c.tell_masters.new.tables =
@@ -67,6 +67,6 @@ returns-clause-callbacks c =
     let all = tellings news was first served old in
     c.tell_masters.ensures.callbacks
     ∙ (ap (λ (b : State). put (callbacks news was b.now.talk.notes b)) opened
-    ∙ (ap put (callbacks_told news was (notes_after first old) first old 0 (in_force old).masters)
-    ∙ (ap put (sym (callbacks_told news was (notes_after first old) all old 0 (in_force old).masters))
+    ∙ (ap put (callbacks_told news was (notes_after first old) first old 0 old.fixed.object.masters)
+    ∙ (ap put (sym (callbacks_told news was (notes_after first old) all old 0 old.fixed.object.masters))
     ∙ ap (λ (b : State). put (callbacks news was (notes_after first old) b)) (sym (returns-clause-book c)))))

@@ -1,7 +1,6 @@
 use Rattle.std.proofs.Common.{◌<◌, length, ◌∙◌, inl, inr, arith}
 use Rattle.std.proofs.lemmas.List.{length-set}
 use Rattle.std.proofs.lemmas.Option.{slice_get_cases}
-use Rattle.pm_state.specs.State.{in_force}
 use Rattle.pm_values.specs.Along.{mode_beside}
 use Rattle.pm_state.proofs.PlacedLemmas.{placed_step}
 use Rattle.pm_values.proofs.along.log_modes.Goals as goal
@@ -9,7 +8,7 @@ use Rattle.pm_values.proofs.along.log_modes.Goals as goal
 pub loop-m-preserved : goal.loop-m-preserved
 loop-m-preserved c =
     let book = c.args.tables.now in
-    let masters = (in_force book).masters in
+    let masters = book.fixed.object.masters in
     let m = c.loop-m.m in
     let within : m < length masters = omega (arith, c.masters-m-end.ensures, c.loop-m-test.true) in
     record {

@@ -4,14 +4,13 @@ use Rattle.std.proofs.lemmas.Option.{slice_get_cases}
 use Rattle.pm_values.specs.Turns.{turns_of}
 use Rattle.pm_state.specs.Members.{mode_of_master}
 use Rattle.pm_values.specs.Along.{both_turns, mode_logged, no_turns, turns_after, turns_logged}
-use Rattle.pm_state.specs.State.{in_force}
 use Rattle.pm_state.proofs.PlacedLemmas.{placed_step, rest_after, same_at}
 use Rattle.pm_values.proofs.along.log_turns.Goals as goal
 
 pub loop-m-preserved : goal.loop-m-preserved
 loop-m-preserved c =
     let book = c.args.tables.now in
-    let masters = (in_force book).masters in
+    let masters = book.fixed.object.masters in
     let modes = c.args.modes.now in
     let turns = c.args.turns.now in
     let m = c.loop-m.m in

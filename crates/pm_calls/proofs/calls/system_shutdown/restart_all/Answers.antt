@@ -24,3 +24,11 @@ returns-clause-along c =
     twice_trailed first later book c.follow.new.self c.follow-2.new.self c.log.new.self mid
     (c.log.ensures ∙ ap (trailed c.follow.new.self) c.requires)
     (c.follow-2.ensures ∙ (ap followed c.reload.ensures ∙ ap (λ (b : State). followed (changed later b)) mid))
+
+pub returns-clause-book : goal.returns-clause-book
+returns-clause-book c =
+    let book = c.args.tables.now in
+    let first = offs book.fixed All in
+    let later : List Prim = Reload ∷ [] in
+    let mid : c.follow.new.self ≡ after_stage first book = c.follow.ensures ∙ ap followed c.take_off.ensures in
+    c.follow-2.ensures ∙ (ap followed c.reload.ensures ∙ ap (λ (b : State). followed (changed later b)) mid)

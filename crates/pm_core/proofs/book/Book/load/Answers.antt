@@ -10,7 +10,7 @@ use Rattle.pm_values.specs.declared.caches.Caches.{Caches}
 use Rattle.pm_values.specs.Caches.{moved_by, value_by}
 use Rattle.pm_base.specs.BoundedList.{Bounded}
 use Rattle.pm_state.specs.Sound.{IsSound}
-use Rattle.pm_state.specs.State.{State, in_force}
+use Rattle.pm_state.specs.State.{State}
 use Rattle.pm_tell.specs.declared.telling.Telling.{Telling}
 use Rattle.pm_values.specs.declared.starts.Start.{Start}
 use Rattle.pm_values.proofs.AlongLaw.{load_places}

@@ -15,7 +15,7 @@ use Rattle.pm_tell.specs.declared.late.Late.{Late}
 use Rattle.pm_values.specs.declared.starts.Start.{Start}
 use Rattle.pm_state.specs.Stages.{after_stages}
 use Rattle.pm_values.specs.Starts.{starts, was_down}
-use Rattle.pm_state.specs.State.{State, in_force}
+use Rattle.pm_state.specs.State.{State}
 use Rattle.pm_core.specs.Step.{effect, ended, served, modes_in, news, opening, outputs, path, pulse, stages, answer_by, answer_to}
 use Rattle.pm_tell.specs.Telling.{notes_after, tellings, HasPlaces, news_in, opening_in}
 use Rattle.pm_tell.specs.Ended.{ended_from}
@@ -74,13 +74,13 @@ tell-requires-clause-each c =
     ap (λ (b : State). length b.now.talk.pending) c.advance-served.ensures.book
     ∙ (ap (λ t. length t.pending) (stages_talk (stages c.args.event.now old) old)
     ∙ (c.self.invariant.0.sound.pending.each
-    ∙ sym (ap (λ (b : State). length (in_force b).masters) c.advance-served.ensures.book)))
+    ∙ sym (ap (λ (b : State). length b.fixed.object.masters) c.advance-served.ensures.book)))
 
 pub tell-requires-clause-notes : goal.tell-requires-clause-notes
 tell-requires-clause-notes c =
     let old = c.self.inside.tables in
-    let P : State → Type 0 = λ b. AreNotes b.fixed.topology (length (in_force b).masters) b.now.talk.notes in
-    let Q : _ → Type 0 = λ t. AreNotes old.fixed.topology (length (in_force old).masters) t.notes in
+    let P : State → Type 0 = λ b. AreNotes b.fixed.topology (length b.fixed.object.masters) b.now.talk.notes in
+    let Q : _ → Type 0 = λ t. AreNotes old.fixed.topology (length old.fixed.object.masters) t.notes in
     subst P (sym c.advance-served.ensures.book) (subst Q (sym (stages_talk (stages c.args.event.now old) old)) c.self.invariant.0.sound.notes)
 
 pub tell-requires-clause-few : goal.tell-requires-clause-few
@@ -146,7 +146,7 @@ invariant_of-self c =
     let telling = c.tell.new.telling in
     let changes = tellings (news_in telling) (mode_logged telling.modes.items) (opening_in telling (says_in c.advance-served.result) c.time_of-count.result mid) c.advance-served.result mid in
     let P : State → Type 0 = λ b. AreKept b c.follow.new.self in
-    let Q : State → Type 0 = λ b. HasPlaces b.fixed.topology (length (in_force b).masters) telling in (
+    let Q : State → Type 0 = λ b. HasPlaces b.fixed.topology (length b.fixed.object.masters) telling in (
       kept_by c.books_stay_sound.ensures.step event old new (told c).book c.self.invariant.0,
       subst P (sym c.tell.ensures.book) (kept_talked changes mid c.follow.new.self c.follow.ensures.kept),
       subst Q (sym c.tell.ensures.book) c.tell.ensures.places,

@@ -4,7 +4,6 @@ use Rattle.std.proofs.lemmas.List.{length-replicate}
 use Rattle.pm_base.specs.declared.names.Mode.{Mode}
 use Rattle.pm_values.specs.declared.turns.Turns.{Turns}
 use Rattle.pm_values.specs.Along.{Trail, down_in, mode_beside, modes_of, no_turns}
-use Rattle.pm_state.specs.State.{in_force}
 use Rattle.pm_state.specs.Values.{placed}
 use Rattle.pm_values.proofs.AlongLaw.{all_forgotten}
 use Rattle.pm_values.proofs.CachesLaw.{written_back}
@@ -14,7 +13,7 @@ use Rattle.pm_values.proofs.along.Along.start.Goals as goal
 pub returns : goal.returns
 returns c =
     let book = c.args.tables.now in
-    let masters : ℕ = length (in_force book).masters in
+    let masters : ℕ = length book.fixed.object.masters in
     let procs : ℕ = length book.fixed.topology.procs in
     let was = c.self.inside in
     let modes = c.log_modes.new.modes in
@@ -35,7 +34,7 @@ returns c =
     in
     let modes_are : take was.modes.len (modes ++ drop (length modes) was.modes.items) ≡ modes_of book =
     written_back modes was.modes.items was.modes.len
-    (ap length c.log_modes.ensures ∙ (length-placed (mode_beside book) 0 (in_force book).masters ∙ (sym each_mode ∙ c.deref_mut.ensures.len)))
+    (ap length c.log_modes.ensures ∙ (length-placed (mode_beside book) 0 book.fixed.object.masters ∙ (sym each_mode ∙ c.deref_mut.ensures.len)))
     ∙ c.log_modes.ensures
     in
     let gone : turns ≡ none = c.forget.ensures ∙ all_forgotten masters c.deref_mut-2.result.now each_turn in

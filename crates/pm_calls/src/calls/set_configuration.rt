@@ -1,0 +1,52 @@
+//! PM_SET_CONFIGURATION (UG1200; UG1137, configuration object).
+
+ghost use Rattle.std.specs.Prelude.{◌≡◌, [], ◌∷◌};
+ghost use Rattle.pm_grants.specs.Grants.{permits_configure};
+ghost use Rattle.pm_ipi.specs.Status.{invalid_parameter};
+ghost use Rattle.pm_object.specs.Causes.{cause_number};
+ghost use Rattle.pm_calls.specs.Verdict.{stages_of, verdict_of};
+ghost use Rattle.pm_state.specs.Objects.{found_at};
+ghost use Rattle.pm_state.specs.Stages.{after_stages};
+ghost use Rattle.pm_state.specs.State.{grants_in};
+ghost use Rattle.pm_calls.specs.calls.SetConfiguration.{set_configuration};
+ghost use Rattle.pm_calls.specs.declared.verdict.Verdict.TheVariants as verdict;
+
+use crate::verdict::{Say, Verdict};
+use pm_ipi::Response;
+use pm_ipi::status::{INVALID_PARAMETER, NO_ACCESS};
+use pm_object::ObjectFault;
+use pm_state::{Found, Tables};
+
+/// The object that is attached at the address is in force from now on, and no notifier is left.
+pub fn serve(tables: &mut Tables, master: usize, address: u32) -> Verdict
+    ensures verdict { result ≡ verdict_of
+        (set_configuration (found_at address tables.old.fixed) (permits_configure (grants_in tables.old) master)) }
+    ensures book { tables.new ≡ after_stages
+        (stages_of (set_configuration (found_at address tables.old.fixed) (permits_configure (grants_in tables.old) master)))
+        tables.old }
+{
+    match tables.found(address) {
+        Found::Nothing | Found::Unusable => Verdict::refused(INVALID_PARAMETER),
+        Found::Unreadable(fault) => unreadable(fault),
+        Found::Usable(k) => {
+            if !tables.grants().permits_configure(master) {
+                return Verdict::refused(NO_ACCESS);
+            }
+            tables.enforce_stage(k);
+            Verdict::saying(Say::Unwatch)
+        }
+    }
+}
+
+/// The words at the address are no object: what is wrong with them, and where.
+fn unreadable(fault: ObjectFault) -> Verdict
+    ensures { result ≡ verdict.Refused (record {
+      status = invalid_parameter;
+      words = cause_number fault.cause ∷ fault.offset ∷ 0 ∷ [];
+    }) }
+{
+    Verdict::Refused(Response {
+        status: INVALID_PARAMETER,
+        words: [fault.cause.number(), fault.offset, 0],
+    })
+}
