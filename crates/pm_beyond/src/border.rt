@@ -1,27 +1,28 @@
 //! What is beyond the border of a reach, by the paths that lead from its master.
 
-ghost use Rattle.std.specs.Prelude.{◌≡◌, ◌==◌, ℕ, Bool, IfOk, Option, is_some};
+ghost use Rattle.std.specs.Prelude.{◌≡◌, ◌<◌, ◌==◌, ℕ, Bool, IfOk, IfSome, List, Option, is_some, length};
 ghost use Rattle.std.specs.List.{list_any};
 ghost use Rattle.pm_object.specs.declared.object.Object.{Object};
 ghost use Rattle.pm_topology.specs.declared.topology.Topology.{Topology};
 ghost use Rattle.pm_topology.specs.Places.{line_place};
+ghost use Rattle.pm_perms.specs.Several.{masters_of};
 ghost use Rattle.pm_reach.specs.Brings.{brings};
 ghost use Rattle.pm_laws.specs.Answers.{names_beyond};
 ghost use Rattle.pm_laws.specs.Border.{line_beyond, none_within, unit_beyond};
-ghost use Rattle.pm_laws.specs.ReachBorder.{brings_in, master_beyond, number_beyond, place_of, reaches, unit_border};
+ghost use Rattle.pm_laws.specs.ReachBorder.{brings_in, master_beyond, place_of, reaches, unit_border};
 ghost use Rattle.pm_state.specs.Members.{owner_at};
-ghost use Rattle.pm_beyond.specs.Found.{ArePaths};
+ghost use Rattle.pm_beyond.specs.Found.{ArePaths, number_by};
 
 use pm_base::{LineId, List, NoMemory, NodeId, Unit};
 use pm_ipi::Call;
 use pm_object::Object;
 use pm_perms::owner_of;
 use pm_reach::brings::brings;
+use pm_reach::leads::master_count;
 use pm_reach::routes::{Route, least_routes};
 use pm_reach::{MemberKind, reach_is_decided};
 use pm_topology::{Kind, Topology};
 use std::alloc::Global;
-use std::slice;
 
 /// The place of a configured master.
 pub(crate) fn place_of(object: &Object, m: NodeId) -> Option<usize>
@@ -34,21 +35,22 @@ pub(crate) fn place_of(object: &Object, m: NodeId) -> Option<usize>
         .position(|master| master.node == m.0)
 }
 
-/// The paths that lead from a master: none where it isn't configured.
+/// The paths that lead from the master at a place, by what at least one of the objects permits: none where there is no place.
 ///
 /// # Errors
 ///
 /// `NoMemory` where there is not enough memory.
 pub(crate) fn paths_from(
     alloc: Global,
-    object: &Object,
+    objects: &[Object],
     t: &Topology,
-    m: NodeId,
+    from: Option<usize>,
 ) -> Result<List<Route>, NoMemory>
-    ensures { IfOk result (ArePaths object.now t.now (place_of object.now m)) }
+    requires { IfSome from (λ k. k < length (masters_of objects.now)) }
+    ensures { IfOk result (ArePaths objects.now t.now from) }
 {
-    match place_of(object, m) {
-        Some(from) => least_routes(alloc, slice::from_ref(object), t, from),
+    match from {
+        Some(from) => least_routes(alloc, objects, t, from),
         None => Ok(List::new(alloc)),
     }
 }
@@ -62,8 +64,8 @@ fn end_at(routes: &[Route], place: usize) -> bool
 
 /// Whether a path leads to the master at a place.
 fn reaches(routes: &[Route], place: usize) -> bool
-    ensures { (object : Object) (t : Topology) (from : Option ℕ) → ArePaths object t from routes.now
-        → result ≡ reaches object t from place }
+    ensures { (objects : List Object) (t : Topology) (from : Option ℕ) → ArePaths objects t from routes.now
+        → result ≡ reaches objects t from place }
 {
     reach_is_decided();
     end_at(routes, place)
@@ -83,29 +85,35 @@ fn bring_in(
 }
 
 /// Whether a master within brings in a unit as a member of a kind.
-fn brings_in(object: &Object, t: &Topology, routes: &[Route], kind: MemberKind, unit: Unit) -> bool
-    ensures { (from : Option ℕ) → ArePaths object.now t.now from routes.now
-        → result ≡ brings_in object.now t.now from kind unit }
+fn brings_in(
+    objects: &[Object],
+    t: &Topology,
+    routes: &[Route],
+    kind: MemberKind,
+    unit: Unit,
+) -> bool
+    ensures { (from : Option ℕ) → ArePaths objects.now t.now from routes.now
+        → result ≡ brings_in objects.now t.now from kind unit }
 {
     reach_is_decided();
-    bring_in(slice::from_ref(object), t, routes, kind, unit)
+    bring_in(objects, t, routes, kind, unit)
 }
 
 /// Whether no path ends at the master at a place.
-fn master_beyond(object: &Object, routes: &[Route], place: usize) -> bool
-    ensures { (t : Topology) (from : Option ℕ) → ArePaths object.now t from routes.now
-        → result ≡ master_beyond object.now t from place }
+fn master_beyond(objects: &[Object], routes: &[Route], place: usize) -> bool
+    ensures { (t : Topology) (from : Option ℕ) → ArePaths objects.now t from routes.now
+        → result ≡ master_beyond objects.now t from place }
 {
-    place < object.masters.len() && !reaches(routes, place)
+    place < master_count(objects) && !reaches(routes, place)
 }
 
 /// Whether the master at a place is beyond, or there is none.
-pub(crate) fn none_within(object: &Object, routes: &[Route], place: Option<usize>) -> bool
-    ensures { (t : Topology) (from : Option ℕ) (nodes : ℕ → Bool) → ArePaths object.now t from routes.now
-        → result ≡ none_within (unit_border object.now t from nodes) place }
+pub(crate) fn none_within(objects: &[Object], routes: &[Route], place: Option<usize>) -> bool
+    ensures { (t : Topology) (from : Option ℕ) (nodes : ℕ → Bool) → ArePaths objects.now t from routes.now
+        → result ≡ none_within (unit_border objects.now t from nodes) place }
 {
     match place {
-        Some(m) => master_beyond(object, routes, m),
+        Some(m) => master_beyond(objects, routes, m),
         None => true,
     }
 }
@@ -120,57 +128,81 @@ fn owner_at(object: &Object, t: &Topology, p: usize) -> Option<usize>
     }
 }
 
-/// Whether the unit of a kind and place is beyond, or there is none: a processor is where its owner is.
-fn unit_beyond(object: &Object, t: &Topology, routes: &[Route], kind: Kind) -> bool
-    ensures { (from : Option ℕ) (nodes : ℕ → Bool) → ArePaths object.now t.now from routes.now
-        → result ≡ unit_beyond object.now t.now (unit_border object.now t.now from nodes) kind }
+/// Whether the unit of a kind and place is beyond, or there is none: a processor is where its owner is, by the loaded object.
+fn unit_beyond(
+    loaded: &Object,
+    objects: &[Object],
+    t: &Topology,
+    routes: &[Route],
+    kind: Kind,
+) -> bool
+    ensures { (from : Option ℕ) (nodes : ℕ → Bool) → ArePaths objects.now t.now from routes.now
+        → result ≡ unit_beyond loaded.now t.now (unit_border objects.now t.now from nodes) kind }
 {
     match kind {
-        Kind::Proc(p) => none_within(object, routes, owner_at(object, t, p)),
-        Kind::Slave(s) => slave_beyond(object, t, routes, s),
-        Kind::Power(w) => power_beyond(object, t, routes, w),
+        Kind::Proc(p) => none_within(objects, routes, owner_at(loaded, t, p)),
+        Kind::Slave(s) => slave_beyond(objects, t, routes, s),
+        Kind::Power(w) => power_beyond(objects, t, routes, w),
         Kind::Unknown => true,
     }
 }
 
 /// Whether the slave at a place isn't brought in, or there is none.
-fn slave_beyond(object: &Object, t: &Topology, routes: &[Route], s: usize) -> bool
-    ensures { (from : Option ℕ) (nodes : ℕ → Bool) → ArePaths object.now t.now from routes.now
-        → result ≡ (unit_border object.now t.now from nodes).slave s }
+fn slave_beyond(objects: &[Object], t: &Topology, routes: &[Route], s: usize) -> bool
+    ensures { (from : Option ℕ) (nodes : ℕ → Bool) → ArePaths objects.now t.now from routes.now
+        → result ≡ (unit_border objects.now t.now from nodes).slave s }
 {
     match t.slaves.as_slice().get(s) {
-        Some(slave) => !brings_in(object, t, routes, MemberKind::Slave, Unit::Node(slave.node)),
+        Some(slave) => !brings_in(
+            objects,
+            t,
+            routes,
+            MemberKind::Slave,
+            Unit::Node(slave.node),
+        ),
         None => true,
     }
 }
 
 /// The same of a power node.
-fn power_beyond(object: &Object, t: &Topology, routes: &[Route], w: usize) -> bool
-    ensures { (from : Option ℕ) (nodes : ℕ → Bool) → ArePaths object.now t.now from routes.now
-        → result ≡ (unit_border object.now t.now from nodes).power w }
+fn power_beyond(objects: &[Object], t: &Topology, routes: &[Route], w: usize) -> bool
+    ensures { (from : Option ℕ) (nodes : ℕ → Bool) → ArePaths objects.now t.now from routes.now
+        → result ≡ (unit_border objects.now t.now from nodes).power w }
 {
     match t.powers.as_slice().get(w) {
-        Some(power) => !brings_in(object, t, routes, MemberKind::Power, Unit::Node(power.node)),
+        Some(power) => !brings_in(
+            objects,
+            t,
+            routes,
+            MemberKind::Power,
+            Unit::Node(power.node),
+        ),
         None => true,
     }
 }
 
 /// Whether the unit of a number is beyond, and the configured master of that number too.
-fn node_beyond(object: &Object, t: &Topology, routes: &[Route], node: NodeId) -> bool
-    ensures { (from : Option ℕ) → ArePaths object.now t.now from routes.now
-        → result ≡ number_beyond object.now t.now from node.0 }
+fn node_beyond(
+    loaded: &Object,
+    objects: &[Object],
+    t: &Topology,
+    routes: &[Route],
+    node: NodeId,
+) -> bool
+    ensures { (from : Option ℕ) → ArePaths objects.now t.now from routes.now
+        → result ≡ number_by loaded.now objects.now t.now from node.0 }
 {
-    unit_beyond(object, t, routes, t.kind(node))
-        && none_within(object, routes, place_of(object, node))
+    unit_beyond(loaded, objects, t, routes, t.kind(node))
+        && none_within(objects, routes, place_of(loaded, node))
 }
 
 /// Whether the reset line of a number isn't brought in, or there is none.
-fn line_beyond(object: &Object, t: &Topology, routes: &[Route], line: LineId) -> bool
-    ensures { (from : Option ℕ) (nodes : ℕ → Bool) → ArePaths object.now t.now from routes.now
-        → result ≡ line_beyond (unit_border object.now t.now from nodes) (line_place t.now.lines line.0) }
+fn line_beyond(objects: &[Object], t: &Topology, routes: &[Route], line: LineId) -> bool
+    ensures { (from : Option ℕ) (nodes : ℕ → Bool) → ArePaths objects.now t.now from routes.now
+        → result ≡ line_beyond (unit_border objects.now t.now from nodes) (line_place t.now.lines line.0) }
 {
     match line_place(t, line) {
-        Some(l) => reset_beyond(object, t, routes, l),
+        Some(l) => reset_beyond(objects, t, routes, l),
         None => true,
     }
 }
@@ -186,21 +218,27 @@ fn line_place(t: &Topology, line: LineId) -> Option<usize>
 }
 
 /// Whether the reset line at a place isn't brought in, or there is none.
-fn reset_beyond(object: &Object, t: &Topology, routes: &[Route], l: usize) -> bool
-    ensures { (from : Option ℕ) (nodes : ℕ → Bool) → ArePaths object.now t.now from routes.now
-        → result ≡ (unit_border object.now t.now from nodes).line l }
+fn reset_beyond(objects: &[Object], t: &Topology, routes: &[Route], l: usize) -> bool
+    ensures { (from : Option ℕ) (nodes : ℕ → Bool) → ArePaths objects.now t.now from routes.now
+        → result ≡ (unit_border objects.now t.now from nodes).line l }
 {
     match t.lines.as_slice().get(l) {
-        Some(line) => !brings_in(object, t, routes, MemberKind::Line, Unit::Line(line.line)),
+        Some(line) => !brings_in(objects, t, routes, MemberKind::Line, Unit::Line(line.line)),
         None => true,
     }
 }
 
 /// Whether each node that a call names is beyond, and the reset line whose value it asks for.
-pub(crate) fn names_beyond(object: &Object, t: &Topology, routes: &[Route], call: Call) -> bool
-    ensures { (from : Option ℕ) → ArePaths object.now t.now from routes.now
+pub(crate) fn names_beyond(
+    loaded: &Object,
+    objects: &[Object],
+    t: &Topology,
+    routes: &[Route],
+    call: Call,
+) -> bool
+    ensures { (from : Option ℕ) → ArePaths objects.now t.now from routes.now
         → result ≡ names_beyond t.now
-        (unit_border object.now t.now from (number_beyond object.now t.now from)) call }
+        (unit_border objects.now t.now from (number_by loaded.now objects.now t.now from)) call }
 {
     match call {
         Call::GetNodeStatus { node }
@@ -214,12 +252,14 @@ pub(crate) fn names_beyond(object: &Object, t: &Topology, routes: &[Route], call
         | Call::RequestNode { node, .. }
         | Call::ReleaseNode { node }
         | Call::SetRequirement { node, .. }
-        | Call::SetMaxLatency { node, .. } => node_beyond(object, t, routes, node),
+        | Call::SetMaxLatency { node, .. } => node_beyond(loaded, objects, t, routes, node),
         Call::SetWakeupSource { target, source, .. } => {
-            node_beyond(object, t, routes, target) && node_beyond(object, t, routes, source)
+            node_beyond(loaded, objects, t, routes, target)
+                && node_beyond(loaded, objects, t, routes, source)
         }
-        Call::ResetGetStatus { line } => line_beyond(object, t, routes, line),
+        Call::ResetGetStatus { line } => line_beyond(objects, t, routes, line),
         Call::GetApiVersion
+        | Call::SetConfiguration(_)
         | Call::SystemShutdown { .. }
         | Call::ResetAssert { .. }
         | Call::InitFinalize

@@ -3,7 +3,10 @@
 ghost use Rattle.std.specs.Prelude.{◌≡◌, IfOk};
 ghost use Rattle.pm_base.specs.declared.events.Event.TheVariants.{Ipi};
 ghost use Rattle.pm_laws.specs.Answers.{message_beyond};
-ghost use Rattle.pm_laws.specs.ReachBorder.{border_of};
+ghost use Rattle.pm_laws.specs.ReachBorder.{border_of, place_of, unit_border};
+ghost use Rattle.pm_perms.specs.Several.{masters_of};
+ghost use Rattle.pm_state.specs.State.{Fixed, objects_of};
+ghost use Rattle.pm_beyond.specs.Found.{number_by};
 
 use crate::border::{names_beyond, none_within, paths_from, place_of};
 use pm_base::{Message, NoMemory, NodeId};
@@ -12,26 +15,49 @@ use pm_object::Object;
 use pm_topology::Topology;
 use std::alloc::Global;
 
-/// Whether a message of `sender` is beyond the reach of the master `of`: the sender is beyond, or is no configured master, and
-/// so is each node that the message names, or the reset line whose value it asks for. Such a message is answered the same
-/// whatever messages `of` sends. All is beyond the reach of a master that isn't configured.
+/// The same by the loaded object, which is the first of those that may be in force.
+fn is_beyond_by(
+    alloc: Global,
+    loaded: &Object,
+    objects: &[Object],
+    t: &Topology,
+    of: NodeId,
+    sender: NodeId,
+    message: &Message,
+) -> Result<bool, NoMemory>
+    requires { masters_of objects.now ≡ loaded.now.masters }
+    ensures { IfOk result (λ beyond. beyond ≡ message_beyond loaded.now t.now
+        (unit_border objects.now t.now (place_of loaded.now of)
+        (number_by loaded.now objects.now t.now (place_of loaded.now of))) (Ipi sender message.now)) }
+{
+    let routes = paths_from(alloc, objects, t, place_of(loaded, of))?;
+    let routes = routes.as_slice();
+    let sent = none_within(objects, routes, place_of(loaded, sender));
+    Ok(sent && names_beyond(loaded, objects, t, routes, decode_call(message)))
+}
+
+/// Whether a message of `sender` is beyond the reach of the master `of` by what at least one of the objects of a run permits,
+/// of which the first is the loaded one: the sender is beyond, or is no configured master, and so is each node that the
+/// message names, or the reset line whose value it asks for. Such a message is answered the same whatever messages `of`
+/// sends. All is beyond the reach of a master that isn't configured.
 ///
 /// # Errors
 ///
 /// `NoMemory` where there is not enough memory.
 pub fn is_message_beyond(
     alloc: Global,
-    object: &Object,
+    objects: &[Object],
     t: &Topology,
     of: NodeId,
     sender: NodeId,
     message: &Message,
 ) -> Result<bool, NoMemory>
-    ensures { IfOk result (λ beyond.
-        beyond ≡ message_beyond object.now t.now (border_of object.now t.now of) (Ipi sender message.now)) }
+    ensures { (fixed : Fixed) → objects.now ≡ objects_of fixed → t.now ≡ fixed.topology
+        → IfOk result (λ beyond. beyond
+        ≡ message_beyond fixed.object fixed.topology (border_of fixed of) (Ipi sender message.now)) }
 {
-    let routes = paths_from(alloc, object, t, of)?;
-    let routes = routes.as_slice();
-    let sent = none_within(object, routes, place_of(object, sender));
-    Ok(sent && names_beyond(object, t, routes, decode_call(message)))
+    match objects {
+        [loaded, ..] => is_beyond_by(alloc, loaded, objects, t, of, sender, message),
+        [] => Ok(true),
+    }
 }

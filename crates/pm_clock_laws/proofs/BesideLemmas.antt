@@ -17,7 +17,6 @@ use Rattle.pm_ipi.specs.declared.calls.Call.{Call}
 use Rattle.pm_ipi.specs.declared.calls.Call.TheVariants.{Unknown}
 use Rattle.pm_object.specs.declared.object.MasterRec.{MasterRec}
 use Rattle.pm_object.specs.declared.object.Object.{Object}
-use Rattle.pm_object.specs.Grammar.{IsObject}
 use Rattle.pm_topology.specs.declared.topology.Topology.{Topology}
 use Rattle.pm_topology.specs.Places.{kind_of, slave_place}
 use Rattle.pm_topology.specs.WellFormed.{IsWellFormed}
@@ -26,16 +25,18 @@ use Rattle.pm_procs.specs.Modes.{same_mode}
 use Rattle.pm_state.specs.Members.{mode_of_master}
 use Rattle.pm_state.specs.Nodes.{master_mode, master_mode_at}
 use Rattle.pm_state.specs.Sound.{IsSound}
-use Rattle.pm_state.specs.State.{Fixed, State}
+use Rattle.pm_object.specs.declared.attached.Attached.{Attached}
+use Rattle.pm_state.proofs.ObjectsLaw.{of_run, place_same}
+use Rattle.pm_state.specs.State.{Fixed, State, in_force, object_at}
 use Rattle.pm_state.specs.Values.{master_place, value}
 use Rattle.pm_core.specs.declared.replies.Answer.{Answer}
 use Rattle.pm_core.specs.declared.replies.Answer.TheVariants.{Silent, Drop, Reply, Ack}
 use Rattle.pm_core.specs.Step.{effect, outputs}
 use Rattle.pm_run.specs.Run.{book_after, core_of, cores_of}
-use Rattle.pm_laws.specs.Agree.{Agree}
+use Rattle.pm_laws.specs.Agree.{Agree, IsAmong}
 use Rattle.pm_laws.specs.Answers.{message_beyond, names_beyond}
 use Rattle.pm_laws.specs.Beside.{Beside, IsOwn, none, both as in_both, left, rest}
-use Rattle.pm_laws.specs.Border.{Border, IsBeyond, none_within}
+use Rattle.pm_laws.specs.Border.{AreObjects, Border, IsBeyond, none_within}
 use Rattle.pm_laws.specs.Hidden.{is_within}
 use Rattle.pm_laws.specs.Left.{border_in}
 use Rattle.pm_laws.specs.ReachBorder.{border_of, place_of}
@@ -47,7 +48,7 @@ use Rattle.pm_clock_tree.specs.declared.calls.ClockCall.{ClockCall}
 use Rattle.pm_clock_tree.specs.declared.table.ClockDef.{ClockDef}
 use Rattle.pm_clock_tree.specs.declared.tree.Setting.{Setting}
 use Rattle.pm_clock_tree.specs.Calls.{act_by, act_of, clock_call}
-use Rattle.pm_clock_tree.specs.Followed.{PermitAlike, served_by}
+use Rattle.pm_clock_tree.specs.Followed.{served_by}
 use Rattle.pm_clock_tree.specs.Laws.{RunByTheirParents, StandAfterSteps}
 use Rattle.pm_clock_tree.specs.Served.{changed, changed_at, refused, response, served, with_setting}
 use Rattle.pm_clock_tree.specs.Table.{clocks, place_of as clock_place, roots}
@@ -62,24 +63,24 @@ use Rattle.pm_clock_laws.proofs.RunsLemmas.{HaveSame, responses_alike}
 
 -- what is known of books, of their steps and of clocks
 pub record Below : Type 0 where
-  pub values : (m : NodeId) (a b : State) → IsObject a.fixed.object → IsWellFormed a.fixed.topology
+  pub values : (m : NodeId) (a b : State) → AreObjects a.fixed → IsWellFormed a.fixed.topology
       → Agree (border_in a m) a b → IsValueAlike a.fixed.object a.fixed.topology (border_in a m) a b
-  pub both : (m : NodeId) (event : Event) (a b : State) → IsObject a.fixed.object → IsWellFormed a.fixed.topology
+  pub both : (m : NodeId) (event : Event) (a b : State) → AreObjects a.fixed → IsWellFormed a.fixed.topology
       → IsSound a → IsSound b → Agree (border_in a m) a b
       → Agree (border_in a m) (effect event a) (effect event b)
       × SameTold a.fixed.object a.fixed.topology (border_in a m) (core_of event a) (core_of event b)
   pub left : (m : NodeId) (event : Event) (a b : State) → IsOwn a.fixed.object a.fixed.topology m event
-      → IsObject a.fixed.object → IsWellFormed a.fixed.topology → IsSound a → IsSound b → Agree (border_in a m) a b
+      → AreObjects a.fixed → IsWellFormed a.fixed.topology → IsSound a → IsSound b → Agree (border_in a m) a b
       → Agree (border_in a m) (effect event a) b
       × TellsNothing a.fixed.object a.fixed.topology (border_in a m) (core_of event a)
-  pub rest : (m : NodeId) (a b : State) → IsObject a.fixed.object → IsWellFormed a.fixed.topology
+  pub rest : (m : NodeId) (a b : State) → AreObjects a.fixed → IsWellFormed a.fixed.topology
       → IsSound a → IsSound b → Agree (border_in a m) a b
       → Agree (border_in a m) a (effect Pass b)
       × TellsNothing a.fixed.object a.fixed.topology (border_in a m) (core_of Pass b)
   pub mode : (border : Border) (m : ℕ) (a b : State) → IsBeyond border m → Agree border a b
       → mode_of_master a.fixed a.now.core m ≡ mode_of_master b.fixed b.now.core m
   pub own : (m : NodeId) (book : State)
-      → is_within (border_of book.fixed.object book.fixed.topology m) (master_place m book) ≡ true
+      → is_within (border_of book.fixed m) (master_place m book) ≡ true
   pub sound : (event : Event) (book : State) → IsSound book → IsSound (effect event book)
   pub stand : StandAfterSteps
 
@@ -156,17 +157,21 @@ pub record IsUser (object : Object) (n : NodeId) : Type 0 where
 abbrev pub is_named : NodeId → MasterRec → Bool
 is_named n r = r.node == n.0
 
-user_at : (object : Object) (t : Topology) (n slave : NodeId) → may_use object t n slave ≡ true → IsUser object n
-user_at object t n slave may = by (place_of object n) refl
+-- by an object of the run: it has the masters of the loaded one
+user_at : (fixed : Fixed) (object : Object) → IsAmong fixed object → (n slave : NodeId) → may_use object fixed.topology n slave ≡ true → IsUser fixed.object n
+user_at fixed object among n slave may = by (place_of fixed.object n) refl
   where
     permitted : may_use_by (master_record object n) (slave_record object slave) ≡ true
-    permitted = (both (is_some (slave_place t.slaves slave.0)) (may_use_by (master_record object n) (slave_record object slave)) may).1
+    permitted = (both (is_some (slave_place fixed.topology.slaves slave.0)) (may_use_by (master_record object n) (slave_record object slave)) may).1
 
-    by : (place : Option ℕ) → place_of object n ≡ place → IsUser object n
+    same : place_of fixed.object n ≡ place_of object n
+    same = place_same n.0 fixed.object.masters object.masters (of_run fixed among.place object among.there)
+
+    by : (place : Option ℕ) → place_of fixed.object n ≡ place → IsUser fixed.object n
     by None is =
-        absurd (clash (sym permitted ∙ ap (λ found. may_use_by found (slave_record object slave)) (find-None (is_named n) object.masters is)))
+        absurd (clash (sym permitted ∙ ap (λ found. may_use_by found (slave_record object slave)) (find-None (is_named n) object.masters (sym same ∙ is))))
     by (Some p) is =
-        let first = position-first (is_named n) object.masters p is in
+        let first = position-first (is_named n) fixed.object.masters p is in
         record {
           place = p;
           master = first.element;
@@ -177,15 +182,39 @@ user_at object t n slave may = by (place_of object n) refl
 
 module _ (border : Border) (k : ℕ) (def : ClockDef) (here : slice_get clocks k ≡ Some def) where
   -- a configured master that may use it is beyond
-  user_beyond : (fixed : Fixed) → IsClockBeyond fixed border def.number → (n : NodeId) (user : IsUser fixed.object n)
-      → may_use fixed.object fixed.topology n def.node ≡ true → border.master user.place ≡ true
-  user_beyond fixed beyond n user may = by (border.master user.place) refl
+  user_beyond : (fixed : Fixed) → IsClockBeyond fixed border def.number → (object : Object) → IsAmong fixed object → (n : NodeId) (user : IsUser fixed.object n)
+      → may_use object fixed.topology n def.node ≡ true → border.master user.place ≡ true
+  user_beyond fixed beyond object among n user may = by (border.master user.place) refl
     where
       by : (is : Bool) → border.master user.place ≡ is → is ≡ true
       by true is = refl
       by false is =
-          absurd (beyond (used_within k user.place def user.master here user.is_master is
-          (subst (λ node. may_use fixed.object fixed.topology node def.node ≡ true) (sym user.node) may)))
+          absurd (beyond (used_within k user.place among.place def user.master object here user.is_master is among.there
+          (subst (λ node. may_use object fixed.topology node def.node ≡ true) (sym user.node) may)))
+
+  -- a master may use the slave by the objects in force of both books or of neither: where none is beyond, nobody may
+  permit_alike : (a b : State) → Agree border a b → IsClockBeyond a.fixed border def.number → (n : NodeId)
+      → may_use (in_force a) a.fixed.topology n def.node ≡ may_use (in_force b) b.fixed.topology n def.node
+  permit_alike a b agree beyond n = by border.some refl
+    where
+      some_user : (object : Object) → IsAmong a.fixed object → may_use object a.fixed.topology n def.node ≡ true → border.some ≡ true
+      some_user object among may =
+          let user = user_at a.fixed object among n def.node may in
+          agree.now.some user.place (user_beyond a.fixed beyond object among n user may)
+
+      nobody : (object : Object) → IsAmong a.fixed object → border.some ≡ false → (may : Bool) → may_use object a.fixed.topology n def.node ≡ may → may ≡ false
+      nobody object among out false is = refl
+      nobody object among out true is = absurd (clash (sym (some_user object among is) ∙ out))
+
+      chip : may_use (in_force b) a.fixed.topology n def.node ≡ may_use (in_force b) b.fixed.topology n def.node
+      chip = ap (λ (fixed : Fixed). may_use (in_force b) fixed.topology n def.node) agree.fixed
+
+      by : (some : Bool) → border.some ≡ some → may_use (in_force a) a.fixed.topology n def.node ≡ may_use (in_force b) b.fixed.topology n def.node
+      by true some = ap (λ (object : Object). may_use object a.fixed.topology n def.node) (agree.now.force some) ∙ chip
+      by false out =
+          nobody (in_force a) agree.now.first out (may_use (in_force a) a.fixed.topology n def.node) refl
+          ∙ sym (nobody (in_force b) agree.now.second out (may_use (in_force b) a.fixed.topology n def.node) refl)
+          ∙ chip
 
   -- ---- an enable stays in both books or in neither
 
@@ -199,20 +228,20 @@ module _ (border : Border) (k : ℕ) (def : ClockDef) (here : slice_get clocks k
   stays_alike : Below → (a b : State) → Agree border a b → IsClockBeyond a.fixed border def.number → (n : NodeId)
       → stays (view_of a) def n ≡ stays (view_of b) def n
   stays_alike laws a b agree beyond n =
-      by (may_use a.fixed.object a.fixed.topology n def.node) refl
-      ∙ ap (λ (fixed : Fixed). not (same_mode (master_mode n b) Off) && may_use fixed.object fixed.topology n def.node) agree.fixed
+      by (may_use (in_force a) a.fixed.topology n def.node) refl
+      ∙ ap (λ (may : Bool). not (same_mode (master_mode n b) Off) && may) (permit_alike a b agree beyond n)
     where
-      by : (may : Bool) → may_use a.fixed.object a.fixed.topology n def.node ≡ may
+      by : (may : Bool) → may_use (in_force a) a.fixed.topology n def.node ≡ may
           → (not (same_mode (master_mode n a) Off) && may) ≡ (not (same_mode (master_mode n b) Off) && may)
       by false is = and_false (not (same_mode (master_mode n a) Off)) ∙ sym (and_false (not (same_mode (master_mode n b) Off)))
       by true is =
-          let user = user_at a.fixed.object a.fixed.topology n def.node is in
-          ap (λ mode. not (same_mode mode Off) && true) (mode_alike laws a b n user agree (user_beyond a.fixed beyond n user is))
+          let user = user_at a.fixed (in_force a) agree.now.first n def.node is in
+          ap (λ mode. not (same_mode mode Off) && true) (mode_alike laws a b n user agree (user_beyond a.fixed beyond (in_force a) agree.now.first n user is))
 
   -- ---- a call
 
   -- one on this clock and one on another: the same is left where the same was
-  call_alike : (a b : Seen) (call : Option (NodeId × ClockCall)) (s t : Tree) → PermitAlike a b → column k s ≡ column k t
+  call_alike : (a b : Seen) (call : Option (NodeId × ClockCall)) (s t : Tree) → ((n : NodeId) → a.may_use n def.node ≡ b.may_use n def.node) → column k s ≡ column k t
       → column k (served_by a call s) ≡ column k (served_by b call t)
   call_alike a b None s t permit same = same
   call_alike a b (Some call) s t permit same = by (clock_place call.1.clock) refl
@@ -220,10 +249,10 @@ module _ (border : Border) (k : ℕ) (def : ClockDef) (here : slice_get clocks k
       apart : (clock_place call.1.clock ≡ Some k → ⊥) → column k (served a call.0 call.1 s) ≡ column k (served b call.0 call.1 t)
       apart other = served_other k a call.0 call.1 s other ∙ same ∙ sym (served_other k b call.0 call.1 t other)
 
-      at : (j : ℕ) → clock_place call.1.clock ≡ Some j → (here : Bool) → (j == k) ≡ here
+      at : (j : ℕ) → clock_place call.1.clock ≡ Some j → (own : Bool) → (j == k) ≡ own
           → column k (served a call.0 call.1 s) ≡ column k (served b call.0 call.1 t)
       at j place true is =
-          served_alike k a b call.0 call.1 s t permit (place ∙ ap (λ (n : ℕ). Some n) (eqb-true j k is)) same
+          served_alike k def a b call.0 call.1 s t here (permit call.0) (place ∙ ap (λ (n : ℕ). Some n) (eqb-true j k is)) same
       at j place false is = apart (λ found. clash (sym (equal j k (some_same j k (sym place ∙ found))) ∙ is))
 
       by : (place : Option ℕ) → clock_place call.1.clock ≡ place → column k (served a call.0 call.1 s) ≡ column k (served b call.0 call.1 t)
@@ -313,18 +342,18 @@ module _ (laws : Below) (m : NodeId) (k : ℕ) (def : ClockDef) (here : slice_ge
   -- ---- what is in both runs
 
   -- an event that is no message makes no call
-  made_alike : (event : Event) (x y : Answer) (a b : State) (s t : Tree) → a.fixed ≡ b.fixed
+  made_alike : (event : Event) (x y : Answer) (a b : State) (s t : Tree) → Agree (border_in a m) a b
       → IsClockBeyond a.fixed (border_in a m) def.number
       → (message_beyond a.fixed.object a.fixed.topology (border_in a m) event ≡ true → x ≡ y)
       → column k s ≡ column k t
       → column k (served_by (view_of a) (made event x) s) ≡ column k (served_by (view_of b) (made event y) t)
-  made_alike (Ipi sender message) x y a b s t fixed beyond answers same = by (may_use a.fixed.object a.fixed.topology sender def.node) refl
+  made_alike (Ipi sender message) x y a b s t agree beyond answers same = by (may_use (in_force a) a.fixed.topology sender def.node) refl
     where
-      permit : PermitAlike (view_of a) (view_of b)
-      permit = λ master slave. ap (λ (f : Fixed). may_use f.object f.topology master slave) fixed
+      permit : (n : NodeId) → may_use (in_force a) a.fixed.topology n def.node ≡ may_use (in_force b) b.fixed.topology n def.node
+      permit = permit_alike (border_in a m) k def here a b agree beyond
 
       -- by a master that may use the slave, and so is beyond
-      with_act : (found : Option ClockAct) → act_of message ≡ found → may_use a.fixed.object a.fixed.topology sender def.node ≡ true
+      with_act : (found : Option ClockAct) → act_of message ≡ found → may_use (in_force a) a.fixed.topology sender def.node ≡ true
           → column k (served_by (view_of a) (made (Ipi sender message) x) s) ≡ column k (served_by (view_of b) (made (Ipi sender message) y) t)
       with_act None is may = none_made (view_of a) x s ∙ same ∙ sym (none_made (view_of b) y t)
         where
@@ -336,45 +365,45 @@ module _ (laws : Below) (m : NodeId) (k : ℕ) (def : ClockDef) (here : slice_ge
               (option_map (λ (a : ClockAct). record { clock = slice_index message.args 0; act = a }) found)) tree)) is
           none_made seen (Ack to node status point shown) tree = refl
       with_act (Some found) is may =
-          let user = user_at a.fixed.object a.fixed.topology sender def.node may in
+          let user = user_at a.fixed (in_force a) agree.now.first sender def.node may in
           let is_same : x ≡ y = answers (message_is_beyond a.fixed.object a.fixed.topology (border_in a m) sender message found user.place user.is_place
-          (user_beyond (border_in a m) k def here a.fixed beyond sender user may) is) in
+          (user_beyond (border_in a m) k def here a.fixed beyond (in_force a) agree.now.first sender user may) is) in
           call_alike (border_in a m) k def here (view_of a) (view_of b) (made (Ipi sender message) x) s t permit same
           ∙ ap (λ answer. column k (served_by (view_of b) (made (Ipi sender message) answer) t)) is_same
 
-      by : (may : Bool) → may_use a.fixed.object a.fixed.topology sender def.node ≡ may
+      by : (may : Bool) → may_use (in_force a) a.fixed.topology sender def.node ≡ may
           → column k (served_by (view_of a) (made (Ipi sender message) x) s) ≡ column k (served_by (view_of b) (made (Ipi sender message) y) t)
       by false is =
           barred_made (border_in a m) k def here (view_of a) sender message x s is ∙ same
-          ∙ sym (barred_made (border_in a m) k def here (view_of b) sender message y t (sym (permit sender def.node) ∙ is))
+          ∙ sym (barred_made (border_in a m) k def here (view_of b) sender message y t (sym (permit sender) ∙ is))
       by true is = with_act (act_of message) refl is
-  made_alike _ x y a b s t fixed beyond answers same = same
+  made_alike _ x y a b s t agree beyond answers same = same
 
   -- ---- what is in the loud run alone
 
-  own_barred : (a : State) (master : NodeId) → master.0 ≡ m.0 → IsClockBeyond a.fixed (border_in a m) def.number
-      → may_use a.fixed.object a.fixed.topology master def.node ≡ false
-  own_barred a master same beyond = by (may_use a.fixed.object a.fixed.topology master def.node) refl
+  own_barred : (a : State) (master : NodeId) → IsAmong a.fixed (in_force a) → master.0 ≡ m.0 → IsClockBeyond a.fixed (border_in a m) def.number
+      → may_use (in_force a) a.fixed.topology master def.node ≡ false
+  own_barred a master among same beyond = by (may_use (in_force a) a.fixed.topology master def.node) refl
     where
       is_own : master ≡ m
       is_own = ap (λ (number : ℕ). record { 0 = number }) same
 
-      by : (may : Bool) → may_use a.fixed.object a.fixed.topology master def.node ≡ may → may ≡ false
+      by : (may : Bool) → may_use (in_force a) a.fixed.topology master def.node ≡ may → may ≡ false
       by false is = refl
       by true is =
-          let user = user_at a.fixed.object a.fixed.topology master def.node is in
-          let its = user_beyond (border_in a m) k def here a.fixed beyond master user is in
+          let user = user_at a.fixed (in_force a) among master def.node is in
+          let its = user_beyond (border_in a m) k def here a.fixed beyond (in_force a) among master user is in
           let place : place_of a.fixed.object m ≡ Some user.place =
           ap (λ node. place_of a.fixed.object node) (sym is_own) ∙ user.is_place in
           absurd (clash (sym (laws.own m a) ∙ ap (is_within (border_in a m)) place ∙ ap not its))
 
-  own_made : (event : Event) (answer : Answer) (a : State) (tree : Tree) → IsOwn a.fixed.object a.fixed.topology m event
+  own_made : (event : Event) (answer : Answer) (a : State) (tree : Tree) → IsAmong a.fixed (in_force a) → IsOwn a.fixed.object a.fixed.topology m event
       → IsClockBeyond a.fixed (border_in a m) def.number
       → column k (served_by (view_of a) (made event answer) tree) ≡ column k tree
-  own_made (Ipi master message) answer a tree own beyond =
-      barred_made (border_in a m) k def here (view_of a) master message answer tree (own_barred a master own beyond)
-  own_made (Wfi proc) answer a tree own beyond = refl
-  own_made _ answer a tree own beyond = absurd own
+  own_made (Ipi master message) answer a tree among own beyond =
+      barred_made (border_in a m) k def here (view_of a) master message answer tree (own_barred a master among own beyond)
+  own_made (Wfi proc) answer a tree among own beyond = refl
+  own_made _ answer a tree among own beyond = absurd own
 
 module _ (laws : Below) (m : NodeId) where
   -- ---- a core step
@@ -391,7 +420,7 @@ module _ (laws : Below) (m : NodeId) where
     columns = λ k def here beyond.
         followed_alike k def (view_of a) (view_of b) (served_by (view_of a) (made event x) s) (served_by (view_of b) (made event y) t) here
         (stays_alike (border_in a m) k def here laws a b agree beyond)
-        (made_alike laws m k def here event x y a b s t agree.fixed beyond answers (columns k def here beyond));
+        (made_alike laws m k def here event x y a b s t agree beyond answers (columns k def here beyond));
   }
 
   left_alike : (event : Event) (x : Answer) (a b : State) (s t : Tree) → Agree (border_in a m) a b
@@ -404,7 +433,7 @@ module _ (laws : Below) (m : NodeId) where
     columns = λ k def here beyond.
         followed_alike k def (view_of a) (view_of b) (served_by (view_of a) (made event x) s) t here
         (stays_alike (border_in a m) k def here laws a b agree beyond)
-        (own_made laws m k def here event x a s own beyond ∙ columns k def here beyond)
+        (own_made laws m k def here event x a s agree.now.first own beyond ∙ columns k def here beyond)
         ∙ ap (column k) second.stands;
   }
 
@@ -422,36 +451,36 @@ module _ (laws : Below) (m : NodeId) where
 
   -- ---- core steps beside one another
 
-  cores_along : (object : Object) (t : Topology) (es fs : List Event) → Beside object t m es fs → (a b : State) (s u : Tree)
-      → a.fixed ≡ record { object = object; topology = t } → IsObject a.fixed.object → IsWellFormed a.fixed.topology → IsSound a → IsSound b
+  cores_along : (object : Object) (t : Topology) (attached : List Attached) (es fs : List Event) → Beside object t m es fs → (a b : State) (s u : Tree)
+      → a.fixed ≡ record { object = object; topology = t; attached = attached } → AreObjects a.fixed → IsWellFormed a.fixed.topology → IsSound a → IsSound b
       → Agree (border_in a m) a b → SameClocks a.fixed (border_in a m) a b s u
       → SameClocks a.fixed (border_in a m) (book_after es a) (book_after fs b) (tree_along (cores_of es a) s) (tree_along (cores_of fs b) u)
-  cores_along object t _ _ none a b s u fixed is formed first second agree same = same
-  cores_along object t _ _ (in_both event es fs later) a b s u fixed is formed first second agree same =
+  cores_along object t attached _ _ none a b s u fixed is formed first second agree same = same
+  cores_along object t attached _ _ (in_both event es fs later) a b s u fixed is formed first second agree same =
       let now = laws.both m event a b is formed first second agree in
-      cores_along object t es fs later (effect event a) (effect event b) (tree_after_core (core_of event a) s) (tree_after_core (core_of event b) u)
+      cores_along object t attached es fs later (effect event a) (effect event b) (tree_after_core (core_of event a) s) (tree_after_core (core_of event b) u)
       fixed is formed (laws.sound event a first) (laws.sound event b second) now.0
       (step_alike event (outputs event a).answer (outputs event b).answer (effect event a) (effect event b) s u now.0 now.1.answer
       same.first.places same.second.places same.columns)
-  cores_along object t _ _ (left event es fs own later) a b s u fixed is formed first second agree same =
+  cores_along object t attached _ _ (left event es fs own later) a b s u fixed is formed first second agree same =
       let mine : IsOwn a.fixed.object a.fixed.topology m event = subst (λ (f : Fixed). IsOwn f.object f.topology m event) (sym fixed) own in
       let now = laws.left m event a b mine is formed first second agree in
-      cores_along object t es fs later (effect event a) b (tree_after_core (core_of event a) s) u fixed is formed (laws.sound event a first) second now.0
+      cores_along object t attached es fs later (effect event a) b (tree_after_core (core_of event a) s) u fixed is formed (laws.sound event a first) second now.0
       (left_alike event (outputs event a).answer (effect event a) b s u now.0 mine same.first.places same.second same.columns)
-  cores_along object t _ _ (rest es fs later) a b s u fixed is formed first second agree same =
+  cores_along object t attached _ _ (rest es fs later) a b s u fixed is formed first second agree same =
       let now = laws.rest m a b is formed first second agree in
-      cores_along object t es fs later a (effect Pass b) s (tree_after_core (core_of Pass b) u) fixed is formed first (laws.sound Pass b second) now.0
+      cores_along object t attached es fs later a (effect Pass b) s (tree_after_core (core_of Pass b) u) fixed is formed first (laws.sound Pass b second) now.0
       (rest_alike (outputs Pass b).answer a (effect Pass b) s u now.0 same.first same.second.places same.columns)
 
-  pub cores_alike : (es fs : List Event) (a b : State) (s t : Tree) → IsObject a.fixed.object → IsWellFormed a.fixed.topology → IsSound a → IsSound b
+  pub cores_alike : (es fs : List Event) (a b : State) (s t : Tree) → AreObjects a.fixed → IsWellFormed a.fixed.topology → IsSound a → IsSound b
       → Beside a.fixed.object a.fixed.topology m es fs → Agree (border_in a m) a b → SameClocks a.fixed (border_in a m) a b s t
       → SameClocks a.fixed (border_in a m) (book_after es a) (book_after fs b) (tree_along (cores_of es a) s) (tree_along (cores_of fs b) t)
   cores_alike es fs a b s t object formed first second later agree same =
-      cores_along a.fixed.object a.fixed.topology es fs later a b s t refl object formed first second agree same
+      cores_along a.fixed.object a.fixed.topology a.fixed.attached es fs later a b s t refl object formed first second agree same
 
   -- ---- what is the same then
 
-  root_alike : (a b : State) → IsObject a.fixed.object → IsWellFormed a.fixed.topology → Agree (border_in a m) a b → (node : NodeId)
+  root_alike : (a b : State) → AreObjects a.fixed → IsWellFormed a.fixed.topology → Agree (border_in a m) a b → (node : NodeId)
       → is_beyond a.fixed.object a.fixed.topology (border_in a m) (Node node) ≡ true → is_on a node ≡ is_on b node
   root_alike a b object formed agree node beyond =
       ap (λ value. is_slave (kind_of a.fixed.topology node) && not (value == 0)) (laws.values m a b object formed agree (Node node) beyond)
@@ -462,7 +491,7 @@ module _ (laws : Below) (m : NodeId) where
   at_place f (node ∷ nodes) zero = refl
   at_place f (node ∷ nodes) (suc c) = at_place f nodes c
 
-  pub have_same : (a b : State) (s t : Tree) → IsObject a.fixed.object → IsWellFormed a.fixed.topology → Agree (border_in a m) a b
+  pub have_same : (a b : State) (s t : Tree) → AreObjects a.fixed → IsWellFormed a.fixed.topology → Agree (border_in a m) a b
       → SameClocks a.fixed (border_in a m) a b s t → HaveSame (IsClockBeyond a.fixed (border_in a m)) s t
   have_same a b s t object formed agree same = record {
     roots = λ c beyond.
@@ -488,7 +517,7 @@ module _ (laws : Below) (m : NodeId) where
   -- ---- what a call beyond is answered
 
   pub answers_alike : RunByTheirParents → (sender : NodeId) (message : Message) (call : ClockCall) (a b : State) (s t : Tree)
-      → IsObject a.fixed.object → IsWellFormed a.fixed.topology → IsSound a → IsSound b
+      → AreObjects a.fixed → IsWellFormed a.fixed.topology → IsSound a → IsSound b
       → Agree (border_in a m) a b → SameClocks a.fixed (border_in a m) a b s t
       → clock_call message ≡ Some call → IsClockBeyond a.fixed (border_in a m) call.clock
       → message_beyond a.fixed.object a.fixed.topology (border_in a m) (Ipi sender message) ≡ true
@@ -503,7 +532,9 @@ module _ (laws : Below) (m : NodeId) where
       told =
           responses_alike parents (IsClockBeyond a.fixed (border_in a m)) s t same.first.places same.second.places
           (have_same a b s t object formed agree same) (view_of (effect (Ipi sender message) a)) (view_of (effect (Ipi sender message) b)) sender call
-          (λ master slave. ap (λ (f : Fixed). may_use f.object f.topology master slave) agree.fixed) beyond
+          (λ k def here number. permit_alike (border_in a m) k def here (effect (Ipi sender message) a) (effect (Ipi sender message) b)
+          (laws.both m (Ipi sender message) a b object formed first second agree).0
+          (subst (λ c. IsClockBeyond a.fixed (border_in a m) c) (sym number) beyond) sender) beyond
 
       by : (answer : Answer) → clock_answer (Ipi sender message) answer (effect (Ipi sender message) a) s ≡ clock_answer (Ipi sender message) answer (effect (Ipi sender message) b) t
       by Silent = refl

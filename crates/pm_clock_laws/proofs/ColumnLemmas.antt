@@ -15,7 +15,7 @@ use Rattle.pm_clock_tree.specs.declared.calls.ClockCall.{ClockCall}
 use Rattle.pm_clock_tree.specs.declared.table.ClockDef.{ClockDef}
 use Rattle.pm_clock_tree.specs.declared.tree.Setting.{Setting}
 use Rattle.pm_clock_tree.specs.Calls.{is_change, is_setting}
-use Rattle.pm_clock_tree.specs.Followed.{PermitAlike, emptied, followed, permitted, reviewed, settled_holder}
+use Rattle.pm_clock_tree.specs.Followed.{emptied, followed, permitted, reviewed, settled_holder}
 use Rattle.pm_clock_tree.specs.Served.{changed, changed_at, is_in_range, is_missing, is_rival, may_change, refused, rival, rival_at, served, with_divider, with_enable, with_index, with_setting}
 use Rattle.pm_clock_tree.specs.Table.{clocks, def_of, is_numbered, place_of}
 use Rattle.pm_clock_tree.specs.Tree.{Holder, Seen, Tree}
@@ -234,12 +234,14 @@ rival_alike k master call s t place same =
 abbrev pub may_use_in : Seen → NodeId → Option ClockDef → Bool
 may_use_in seen master found = option_map_or (λ (def : ClockDef). seen.may_use master def.node) found false
 
-pub may_alike : (a b : Seen) (master : NodeId) (call : ClockCall) → PermitAlike a b → may_change a master call ≡ may_change b master call
-may_alike a b master call permit = ap (λ may. not (is_change call.act) || may) (by (def_of call.clock))
-  where
-    by : (found : Option ClockDef) → may_use_in a master found ≡ may_use_in b master found
-    by None = refl
-    by (Some def) = permit master def.node
+-- the master may change a clock in both views where it may use the clock's slave in both
+pub may_alike : (k : ℕ) (def : ClockDef) (a b : Seen) (master : NodeId) (call : ClockCall) → slice_get clocks k ≡ Some def → place_of call.clock ≡ Some k
+    → a.may_use master def.node ≡ b.may_use master def.node → may_change a master call ≡ may_change b master call
+may_alike k def a b master call here place permit =
+    let is : def_of call.clock ≡ Some def = find-Some (is_numbered call.clock) clocks k place ∙ here in
+    ap (λ found. not (is_change call.act) || may_use_in a master found) is
+    ∙ ap (λ may. not (is_change call.act) || may) permit
+    ∙ sym (ap (λ found. not (is_change call.act) || may_use_in b master found) is)
 
 -- the refusal by its four checks
 abbrev pub refused_by : Bool → Bool → Bool → Option NodeId → Option Response
@@ -249,10 +251,11 @@ refused_by missing within may found =
     else if not may then Some (refusal no_access)
     else option_map used_by found
 
-pub refused_alike : (k : ℕ) (a b : Seen) (master : NodeId) (call : ClockCall) (s t : Tree) → PermitAlike a b
+pub refused_alike : (k : ℕ) (def : ClockDef) (a b : Seen) (master : NodeId) (call : ClockCall) (s t : Tree) → slice_get clocks k ≡ Some def
+    → a.may_use master def.node ≡ b.may_use master def.node
     → place_of call.clock ≡ Some k → column k s ≡ column k t → refused a master call s ≡ refused b master call t
-refused_alike k a b master call s t permit place same =
-    ap (λ may. refused_by (is_missing call) (is_in_range call) may (rival master call s)) (may_alike a b master call permit)
+refused_alike k def a b master call s t here permit place same =
+    ap (λ may. refused_by (is_missing call) (is_in_range call) may (rival master call s)) (may_alike k def a b master call here place permit)
     ∙ ap (refused_by (is_missing call) (is_in_range call) (may_change b master call)) (rival_alike k master call s t place same)
 
 -- ---- a call
@@ -266,13 +269,14 @@ changed_alike k master call s t place same =
     ∙ sym (changed_here k master call.act t)
     ∙ sym (ap (λ p. column k (changed_at master call.act p t)) place)
 
-pub served_alike : (k : ℕ) (a b : Seen) (master : NodeId) (call : ClockCall) (s t : Tree) → PermitAlike a b
+pub served_alike : (k : ℕ) (def : ClockDef) (a b : Seen) (master : NodeId) (call : ClockCall) (s t : Tree) → slice_get clocks k ≡ Some def
+    → a.may_use master def.node ≡ b.may_use master def.node
     → place_of call.clock ≡ Some k → column k s ≡ column k t
     → column k (served a master call s) ≡ column k (served b master call t)
-served_alike k a b master call s t permit place same =
+served_alike k def a b master call s t here permit place same =
     by (is_some (refused a master call s))
     ∙ ap (λ (found : Option Response). column k (if is_some found then t else changed_at master call.act (place_of call.clock) t))
-    (refused_alike k a b master call s t permit place same)
+    (refused_alike k def a b master call s t here permit place same)
   where
     by : (refuses : Bool) → column k (if refuses then s else changed_at master call.act (place_of call.clock) s)
         ≡ column k (if refuses then t else changed_at master call.act (place_of call.clock) t)

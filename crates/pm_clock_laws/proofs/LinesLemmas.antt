@@ -2,13 +2,12 @@
 use Rattle.std.proofs.Common.{List, [], ◌∷◌, refl, sym, subst}
 use Rattle.pm_base.specs.declared.events.Event.{Event}
 use Rattle.pm_base.specs.declared.names.NodeId.{NodeId}
-use Rattle.pm_object.specs.Grammar.{IsObject}
 use Rattle.pm_topology.specs.WellFormed.{IsWellFormed, ObeysMasterRules}
 use Rattle.pm_state.specs.State.{Fixed, State}
-use Rattle.pm_run.specs.Run.{IsBookOf, Setup, Stand, book_after, cores_of, line_of, lines_of, loaded, split}
+use Rattle.pm_run.specs.Run.{IsBookOf, Setup, Stand, book_after, cores_of, line_of, lines_of, loaded, split, fixed_of}
 use Rattle.pm_laws.specs.Agree.{Agree}
 use Rattle.pm_laws.specs.Beside.{Beside}
-use Rattle.pm_laws.specs.Border.{Border}
+use Rattle.pm_laws.specs.Border.{AreObjects, Border}
 use Rattle.pm_laws.specs.Both.{Both}
 use Rattle.pm_laws.specs.Quiet.{quiet, quiet_event}
 use Rattle.pm_laws.specs.ReachBorder.{border_of}
@@ -18,7 +17,7 @@ use Rattle.pm_clock_tree.specs.Tree.{Tree}
 use Rattle.pm_clocks.specs.Clocked.{masters_of, tree_of, view_of}
 use Rattle.pm_clock_laws.specs.Reach.{IsClockBeyond}
 use Rattle.pm_clock_laws.specs.Same.{IsTreeOver, SameClocks, tree_along}
-use Rattle.pm_clock_laws.specs.Worlds.{AreClocksAlike, IsClockAlike, fixed_of, turns}
+use Rattle.pm_clock_laws.specs.Worlds.{AreClocksAlike, IsClockAlike, turns}
 use Rattle.pm_clock_laws.proofs.BesideLemmas.{Below, cores_alike, have_same}
 use Rattle.pm_clock_laws.proofs.RunsLemmas.{HaveSame, changes_alike, ends_alike, runs_alike}
 
@@ -30,27 +29,27 @@ pub record RunLaws : Type 0 where
   pub boxes : (c : Setup) (m : NodeId) (event : Event) (a b : Stand) → ObeysMasterRules c.topology
       → AreQuietBoxes c m a.boxes b.boxes
       → AreQuietBoxes c m (split c event a).boxes (split c (quiet_event m event) b).boxes
-  pub after : (c : Setup) (m : NodeId) (es fs : List Event) (a b : State) → IsObject c.object → IsWellFormed c.topology
-      → Beside c.object c.topology m es fs → IsBookOf c a → IsBookOf c b → Agree (border_of c.object c.topology m) a b
-      → Agree (border_of c.object c.topology m) (book_after es a) (book_after fs b)
-  pub worlds : (c : Setup) (m : NodeId) (events : List Event) → IsObject c.object → IsWellFormed c.topology
+  pub after : (c : Setup) (m : NodeId) (es fs : List Event) (a b : State) → AreObjects (fixed_of c) → IsWellFormed c.topology
+      → Beside c.object c.topology m es fs → IsBookOf c a → IsBookOf c b → Agree (border_of (fixed_of c) m) a b
+      → Agree (border_of (fixed_of c) m) (book_after es a) (book_after fs b)
+  pub worlds : (c : Setup) (m : NodeId) (events : List Event) → AreObjects (fixed_of c) → IsWellFormed c.topology
       → AreWorldsBeside c m events
   pub load : (c : Setup) → IsWellFormed c.topology → IsBookOf c (loaded c).book
   pub line : (c : Setup) (event : Event) (stand : Stand) → IsWellFormed c.topology
       → IsBookOf c stand.book → IsBookOf c (line_of c event stand).after.book
 
-module _ (laws : Below) (lines : RunLaws) (parents : RunByTheirParents) (c : Setup) (m : NodeId) (object : IsObject c.object) (chip : IsWellFormed c.topology) where
+module _ (laws : Below) (lines : RunLaws) (parents : RunByTheirParents) (c : Setup) (m : NodeId) (object : AreObjects (fixed_of c)) (chip : IsWellFormed c.topology) where
   abbrev border : Border
-  border = border_of c.object c.topology m
+  border = border_of (fixed_of c) m
 
   -- by the object and the chip of the setup
   cores_at : (es fs : List Event) (a b : State) (s t : Tree) → IsBookOf c a → IsBookOf c b → Beside c.object c.topology m es fs → Agree border a b
       → SameClocks (fixed_of c) border a b s t
       → SameClocks (fixed_of c) border (book_after es a) (book_after fs b) (tree_along (cores_of es a) s) (tree_along (cores_of fs b) t)
   cores_at es fs a b s t first second beside agree same =
-      let P : Fixed → Type 0 = λ fixed. IsObject fixed.object → IsWellFormed fixed.topology → Beside fixed.object fixed.topology m es fs
-      → Agree (border_of fixed.object fixed.topology m) a b → SameClocks fixed (border_of fixed.object fixed.topology m) a b s t
-      → SameClocks fixed (border_of fixed.object fixed.topology m) (book_after es a) (book_after fs b) (tree_along (cores_of es a) s) (tree_along (cores_of fs b) t)
+      let P : Fixed → Type 0 = λ fixed. AreObjects fixed → IsWellFormed fixed.topology → Beside fixed.object fixed.topology m es fs
+      → Agree (border_of fixed m) a b → SameClocks fixed (border_of fixed m) a b s t
+      → SameClocks fixed (border_of fixed m) (book_after es a) (book_after fs b) (tree_along (cores_of es a) s) (tree_along (cores_of fs b) t)
       in
       subst P first.fixed (λ is formed apart alike trees. cores_alike laws m es fs a b s t is formed first.sound second.sound apart alike trees)
       object chip beside agree same
@@ -58,9 +57,9 @@ module _ (laws : Below) (lines : RunLaws) (parents : RunByTheirParents) (c : Set
   same_at : (a b : State) (s t : Tree) → IsBookOf c a → Agree border a b → SameClocks (fixed_of c) border a b s t
       → HaveSame (IsClockBeyond (fixed_of c) border) s t
   same_at a b s t first agree same =
-      let P : Fixed → Type 0 = λ fixed. IsObject fixed.object → IsWellFormed fixed.topology
-      → Agree (border_of fixed.object fixed.topology m) a b → SameClocks fixed (border_of fixed.object fixed.topology m) a b s t
-      → HaveSame (IsClockBeyond fixed (border_of fixed.object fixed.topology m)) s t
+      let P : Fixed → Type 0 = λ fixed. AreObjects fixed → IsWellFormed fixed.topology
+      → Agree (border_of fixed m) a b → SameClocks fixed (border_of fixed m) a b s t
+      → HaveSame (IsClockBeyond fixed (border_of fixed m)) s t
       in
       subst P first.fixed (λ is formed alike trees. have_same laws m a b s t is formed alike trees) object chip agree same
 

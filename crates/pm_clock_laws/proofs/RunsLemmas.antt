@@ -1,9 +1,10 @@
 -- Clocks of two trees run alike where all that they come from is alike.
 use Rattle.std.proofs.Common.{◌≡◌, ℕ, Bool, true, false, [], ◌∷◌, Some, None, Option, refl, ap, ◌∙◌, sym, subst}
-use Rattle.std.specs.Prelude.{◌&&◌, if◌then◌else◌, is_some, not, slice_get, unwrap_or}
+use Rattle.std.specs.Prelude.{◌&&◌, ◌||◌, if◌then◌else◌, is_some, not, slice_get, unwrap_or}
 use Rattle.std.specs.List.{list_any}
 use Rattle.std.specs.Option.{option_and_then, option_map_or}
 use Rattle.std.proofs.lemmas.Bool.{eqb-true}
+use Rattle.pm_base.proofs.ListLemmas.{find-None}
 use Rattle.pm_base.proofs.Searches.{position-first}
 use Rattle.pm_base.proofs.Tests.{any-map}
 use Rattle.pm_base.specs.declared.names.NodeId.{NodeId}
@@ -15,8 +16,7 @@ use Rattle.pm_clock_tree.specs.declared.clock_tree.ClockChange.{ClockChange}
 use Rattle.pm_clock_tree.specs.declared.clock_tree.ClockEnd.{ClockEnd}
 use Rattle.pm_clock_tree.specs.declared.table.ClockDef.{ClockDef}
 use Rattle.pm_clock_tree.specs.declared.tree.Setting.{Setting}
-use Rattle.pm_clock_tree.specs.Calls.{is_setting}
-use Rattle.pm_clock_tree.specs.Followed.{PermitAlike}
+use Rattle.pm_clock_tree.specs.Calls.{is_change, is_setting}
 use Rattle.pm_clock_tree.specs.Laws.{RunByTheirParents}
 use Rattle.pm_clock_tree.specs.Served.{is_in_range, is_missing, may_change, refused, response, rival, rival_at, told_word, word_by}
 use Rattle.pm_clock_tree.specs.Table.{clocks, is_numbered, parent_at, place_of}
@@ -24,7 +24,7 @@ use Rattle.pm_clock_tree.specs.Told.{change, change_at, end_at, same as is_same}
 use Rattle.pm_clock_tree.specs.Tree.{HasAllPlaces, Runs, Seen, Tree, divider, index, is_enabled, running, runs, setting_of}
 use Rattle.pm_clock_tree.specs.Tree.Runs.{root, driven}
 use Rattle.pm_clock_laws.specs.Column.{Column, column, enable_at}
-use Rattle.pm_clock_laws.proofs.ColumnLemmas.{may_alike, refused_alike, refused_by}
+use Rattle.pm_clock_laws.proofs.ColumnLemmas.{may_use_in, refused_alike, refused_by}
 
 -- some of the clocks, with the parents of each of them, chosen or not, of which two trees have the same
 pub record HaveSame (Among : ℕ → Type 0) (s t : Tree) : Type 0 where
@@ -111,23 +111,30 @@ word_alike law Among s t first second same act.Disable c among = refl
 word_alike law Among s t first second same (act.SetDivider divider) c among = refl
 word_alike law Among s t first second same (act.SetParent index) c among = refl
 
-refused_same : (Among : ℕ → Type 0) (s t : Tree) → HaveSame Among s t → (a b : Seen) (master : NodeId) (call : ClockCall) → PermitAlike a b
+-- a master may use the slave of this clock in both views or in neither
+abbrev pub MayAlike : Seen → Seen → NodeId → ℕ → Type 0
+MayAlike a b master c = (k : ℕ) (def : ClockDef) → slice_get clocks k ≡ Some def → def.number ≡ c → a.may_use master def.node ≡ b.may_use master def.node
+
+refused_same : (Among : ℕ → Type 0) (s t : Tree) → HaveSame Among s t → (a b : Seen) (master : NodeId) (call : ClockCall) → MayAlike a b master call.clock
     → Among call.clock → refused a master call s ≡ refused b master call t
 refused_same Among s t same a b master call permit among = by (place_of call.clock) refl
   where
     none : (tree : Tree) → place_of call.clock ≡ None → rival master call tree ≡ (if is_setting call.act then None else None)
     none tree is = ap (λ place. if is_setting call.act then rival_at master place tree.holders else None) is
 
+    no_may : (seen : Seen) → place_of call.clock ≡ None → may_change seen master call ≡ (not (is_change call.act) || false)
+    no_may seen is = ap (λ found. not (is_change call.act) || may_use_in seen master found) (find-None (is_numbered call.clock) clocks is)
+
     by : (place : Option ℕ) → place_of call.clock ≡ place → refused a master call s ≡ refused b master call t
     by None is =
-        ap (λ may. refused_by (is_missing call) (is_in_range call) may (rival master call s)) (may_alike a b master call permit)
+        ap (λ may. refused_by (is_missing call) (is_in_range call) may (rival master call s)) (no_may a is ∙ sym (no_may b is))
         ∙ ap (refused_by (is_missing call) (is_in_range call) (may_change b master call)) (none s is ∙ sym (none t is))
     by (Some k) is =
         let at = numbered_at call.clock k is in
-        refused_alike k a b master call s t permit is (same.columns k at.0 at.1 (subst Among (sym at.2) among))
+        refused_alike k at.0 a b master call s t at.1 (permit k at.0 at.1 at.2) is (same.columns k at.0 at.1 (subst Among (sym at.2) among))
 
 pub responses_alike : RunByTheirParents → (Among : ℕ → Type 0) (s t : Tree) → HasAllPlaces s → HasAllPlaces t → HaveSame Among s t
-    → (a b : Seen) (master : NodeId) (call : ClockCall) → PermitAlike a b → Among call.clock
+    → (a b : Seen) (master : NodeId) (call : ClockCall) → MayAlike a b master call.clock → Among call.clock
     → response a master call s ≡ response b master call t
 responses_alike law Among s t first second same a b master call permit among =
     ap (λ found. unwrap_or found (success (told_word call s ∷ 0 ∷ 0 ∷ []))) (refused_same Among s t same a b master call permit among)

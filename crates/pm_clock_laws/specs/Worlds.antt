@@ -3,7 +3,7 @@ use Rattle.std.specs.Prelude.{◌≡◌, ℕ, List, [], ◌∷◌, Option}
 use Rattle.pm_base.specs.declared.events.Event.{Event}
 use Rattle.pm_base.specs.declared.names.NodeId.{NodeId}
 use Rattle.pm_state.specs.State.{Fixed}
-use Rattle.pm_run.specs.Run.{Line, Setup, loaded, run}
+use Rattle.pm_run.specs.Run.{Line, Setup, loaded, run, fixed_of}
 use Rattle.pm_laws.specs.Border.{Border}
 use Rattle.pm_laws.specs.Both.{Both}
 use Rattle.pm_laws.specs.Quiet.{quiet}
@@ -36,11 +36,8 @@ pub record IsClockAlike (fixed : Fixed) (border : Border) (x y : Turn) : Type 0 
   pub turns : (number : ℕ) → IsClockBeyond fixed border number → turn_of number x ≡ turn_of number y
   pub ends : (number : ℕ) → IsClockBeyond fixed border number → end_at number x.after ≡ end_at number y.after
 
-abbrev pub fixed_of : Setup → Fixed
-fixed_of c = record { object = c.object; topology = c.topology }
-
 -- beyond the reach of the master the clocks of the run of these events are those of the run without its messages, line by line
 abbrev pub AreClocksAlike : Setup → NodeId → List Event → Type 0
 AreClocksAlike c m events =
-    Both (IsClockAlike (fixed_of c) (border_of c.object c.topology m))
+    Both (IsClockAlike (fixed_of c) (border_of (fixed_of c) m))
     (turns (tree_of (loaded c).book) (run c events)) (turns (tree_of (loaded c).book) (run c (quiet m events)))

@@ -1,5 +1,5 @@
--- A step of a book over which the clocks stood: what the object in force permits stays, and a root changes only where its
--- slave moved.
+-- A step of a book over which the clocks stood: what the object in force permits stays unless another is put in force, and
+-- a root changes only where its slave moved.
 use Rattle.std.proofs.Common.{◌≡◌, ℕ, zero, suc, ◌==◌, ◌&&◌, ◌||◌, Bool, true, false, not, List, [], ◌∷◌, map, Option, Some, None, refl, ap, sym, ◌∙◌, subst}
 use Rattle.std.specs.Prelude.{slice_get}
 use Rattle.std.specs.List.{list_any}
@@ -18,11 +18,12 @@ use Rattle.pm_topology.specs.declared.topology.Topology.{Topology}
 use Rattle.pm_topology.specs.FirstFault.{has_power, has_proc, has_slave}
 use Rattle.pm_topology.specs.Places.{IsKind, KindLaws, kind_of}
 use Rattle.pm_topology.specs.Units.{UnitLaws, has_in, has_unit, same_unit, units_of}
+use Rattle.pm_object.specs.declared.object.Object.{Object}
 use Rattle.pm_perms.specs.Permits.{may_use}
 use Rattle.pm_state.specs.State.{Fixed, State, in_force}
 use Rattle.pm_state.specs.Units.{moved}
 use Rattle.pm_state.specs.Values.{value}
-use Rattle.pm_core.specs.Step.{effect}
+use Rattle.pm_core.specs.Step.{configures, effect}
 use Rattle.pm_core.proofs.Refused.{pass_stays}
 use Rattle.pm_clock_tree.specs.declared.calls.ClockCall.{ClockCall}
 use Rattle.pm_clock_tree.specs.Followed.{ArePermitted, PermitAlike, RootsStand, followed, has_source, is_source, served_by}
@@ -125,12 +126,16 @@ module _ (event : Event) (units : List Unit) (tree : Tree) (book : State) (step 
 
   -- ---- permissions
 
-  alike : PermitAlike (view_of step.before) (view_of book)
-  alike = λ master slave. ap (λ (b : State). may_use (in_force b) b.fixed.topology master slave) (sym step.book)
+  alike : in_force (effect event step.before) ≡ in_force step.before → PermitAlike (view_of step.before) (view_of book)
+  alike force = λ master slave.
+      ap (λ (o : Object). may_use o step.before.fixed.topology master slave) (sym force)
+      ∙ ap (λ (b : State). may_use (in_force b) b.fixed.topology master slave) (sym step.book)
 
-  pub are_permitted : StandAfterSteps → ArePermitted (view_of book) tree
-  are_permitted laws =
-      laws.kept (view_of step.before) (view_of book) tree alike (laws.permitted (view_of step.before) tree step.stood)
+  pub are_permitted : StandAfterSteps → ((e : Event) (b : State) → configures e ≡ false → in_force (effect e b) ≡ in_force b)
+      → configures event ≡ false → ArePermitted (view_of book) tree
+  are_permitted laws force others =
+      laws.kept (view_of step.before) (view_of book) tree (alike (force event step.before others))
+      (laws.permitted (view_of step.before) tree step.stood)
 
   -- ---- an event of which nothing comes
 
@@ -138,6 +143,12 @@ module _ (event : Event) (units : List Unit) (tree : Tree) (book : State) (step 
   stays_on_pass is =
       let same : book ≡ step.before = step.book ∙ ap (λ e. effect e step.before) is ∙ pass_stays step.before in
       subst (λ (b : State). StandsOver b tree) (sym same) step.stood
+
+-- ---- an event that doesn't configure
+
+pub not_so : (b : Bool) → not b ≡ true → b ≡ false
+not_so false others = refl
+not_so true others = cc
 
 -- ---- the call that was made
 

@@ -13,7 +13,7 @@ use pm_base::{Event, List, NoMemory, NodeId};
 use pm_clock_tree::{
     ClockChange, ClockEnd, ClockTree, clocks_stand_after_steps, enables_stay_permitted,
 };
-use pm_core::{Answer, Book, Outbox};
+use pm_core::{Answer, Book, Outbox, configures, only_one_call_configures};
 use pm_object::MasterRec;
 use pm_topology::{kinds_are_exact, units_stand_in_order};
 use std::alloc::Global;
@@ -45,7 +45,7 @@ impl Clocks {
         ensures stands { IfOk result (λ clocks. StandsOver book.now clocks.tree) }
     {
         clocks_stand_after_steps();
-        let masters = nodes(alloc, book.object().masters.as_slice())?;
+        let masters = nodes(alloc, book.loaded().masters.as_slice())?;
         let tree = ClockTree::load(alloc, masters.as_slice(), &BookScene { book })?;
         Ok(Clocks { tree })
     }
@@ -57,8 +57,9 @@ impl Clocks {
     /// clock's slave: 2002. The call sets the divider or the parent, and another master enables the clock: 2007, with the
     /// first such master in object order. A refused call changes nothing.
     ///
-    /// Then the enables of masters that are off are dropped, and the roots follow their slaves. After an event of which
-    /// nothing comes no clock is looked at.
+    /// Then the enables of masters that are off are dropped, and after the call that puts an object in force those that the
+    /// object in force doesn't permit; and the roots follow their slaves. After an event of which nothing comes no clock is
+    /// looked at.
     pub fn answer(&mut self, book: &Book, event: &Event, out: &mut Outbox)
         requires stepped { HasStepped event.now out.old.moved.items self.old.tree book.now }
         ensures clocks { self.new ≡ record self.old { tree = tree_after event.now out.old.answer book.now self.old.tree } }
@@ -69,12 +70,14 @@ impl Clocks {
         kinds_are_exact();
         clocks_stand_after_steps();
         enables_stay_permitted();
+        only_one_call_configures();
         if let Event::Pass = event {
             return;
         }
         let scene = BookScene { book };
         out.answer = self.serve(&scene, event, out.answer);
-        self.tree.follow(&scene, out.moved.as_slice(), true);
+        self.tree
+            .follow(&scene, out.moved.as_slice(), !configures(event));
     }
 
     /// Serves the call on a clock that an event makes, if the book replied to it. Answers what is told in place of the

@@ -1,14 +1,15 @@
 -- Agreement beyond a border: of a sound book with itself, turned round, and through a third book.
-use Rattle.std.proofs.Common.{◌≡◌, ℕ, ◌+◌, ◌<◌, Bool, true, false, true≢false, List, [], ◌∷◌, length, map, slice_get, unwrap_or, Option, Some, None, refl, sym, ◌∙◌, ap, subst, arith}
-use Rattle.std.specs.List.{AllByRecursion as Each}
+use Rattle.std.proofs.Common.{◌≡◌, ℕ, zero, suc, ◌+◌, ◌<◌, Bool, true, false, true≢false, List, [], ◌∷◌, length, map, slice_get, unwrap_or, Option, Some, None, refl, sym, ◌∙◌, ap, subst, arith}
+use Rattle.std.specs.List.{All, AllByRecursion as Each}
 use Rattle.std.proofs.lemmas.List.Elements.{recursion_from_All}
 use Rattle.std.proofs.lemmas.Option.{slice_get_within}
-use Rattle.pm_laws.proofs.Common.{Agree, Border, Entry, Fixed, HasNotes, IsBeyond, IsClosed, IsPairClosed, IsSound, IsUserKnown, IsWithin, Now, Object, Off, RowSeed, Same, SameKnown, SameLine, SameMasterNotes, SamePending, SameProc, SameRow, SameRows, SameTalk, State, TalkHalf, Topology, in_force, mode_at, off, owner_at}
+use Rattle.pm_laws.proofs.Common.{Agree, Border, Entry, Fixed, HasNotes, IsBeyond, IsClosed, IsPairClosed, IsSound, IsUserKnown, IsWithin, Now, Object, Off, Pair, Same, SameKnown, SameLine, SameMasterNotes, SamePending, SameProc, SameRow, SameRows, SameTalk, State, TalkHalf, Topology, in_force, mode_at, off, owner_at}
 use Rattle.pm_procs.specs.declared.procs.Proc.{Proc}
 use Rattle.pm_rows.specs.Sound.{pair_in}
-use Rattle.pm_grants.specs.Grants.{permits_reset}
-use Rattle.pm_state.specs.State.{grants_in}
-use Rattle.pm_state.specs.Load.{load_of}
+use Rattle.pm_state.specs.State.{object_at, objects_of}
+use Rattle.pm_state.specs.Load.{load_in}
+use Rattle.pm_state.specs.Sound.{may_be_reset}
+use Rattle.pm_laws.specs.Agree.{ArePairsFit, IsPairFit}
 use Rattle.pm_state.specs.Pairs.{pairs_of}
 use Rattle.pm_notify.specs.MasterNotes.{MasterNotes}
 use Rattle.pm_notify.specs.Notify.{notes_for}
@@ -25,10 +26,10 @@ clash b is not = absurd (true≢false (sym is ∙ not))
 
 row_sym : (border : Border) (x y : Entry) → SameRow border x y → SameRow border y x
 row_sym border x y same =
-    let P : RowSeed → Type 0 = λ seed. border.slave seed.slave ≡ true → IsBeyond border seed.master in
-    let U : RowSeed → Type 0 = λ seed. border.used seed.slave ≡ false → border.master seed.master ≡ false in
-    let Q : RowSeed → Type 0 = λ seed. IsBeyond border seed.master in
-    let S : RowSeed → Type 0 = λ seed. border.slave seed.slave ≡ true in
+    let P : Pair → Type 0 = λ seed. border.slave seed.slave ≡ true → IsBeyond border seed.master in
+    let U : Pair → Type 0 = λ seed. border.used seed.slave ≡ false → border.master seed.master ≡ false in
+    let Q : Pair → Type 0 = λ seed. IsBeyond border seed.master in
+    let S : Pair → Type 0 = λ seed. border.slave seed.slave ≡ true in
     record {
       seed = sym same.seed;
       closed = subst P same.seed same.closed;
@@ -63,7 +64,10 @@ talk_sym border a b same = record {
 pub same_sym : (fixed : Fixed) (border : Border) (a b : Now) → Same fixed border a b → Same fixed border b a
 same_sym fixed border a b same = record {
   some = same.some;
-  boot = sym same.boot;
+  pairs = same.pairs;
+  first = same.second;
+  second = same.first;
+  force = λ is. sym (same.force is);
   halted = λ is. sym (same.halted is);
   rows = rows_sym border border.some a.core.rows.entries b.core.rows.entries same.rows;
   known = BothFrom-sym (SameKnown border) (λ k x y is beyond. sym (is beyond)) 0 a.core.rows.known b.core.rows.known same.known;
@@ -76,8 +80,8 @@ same_sym fixed border a b same = record {
 
 row_trans : (border : Border) (x y z : Entry) → SameRow border x y → SameRow border y z → SameRow border x z
 row_trans border x y z first second =
-    let Q : RowSeed → Type 0 = λ seed. IsBeyond border seed.master in
-    let S : RowSeed → Type 0 = λ seed. border.slave seed.slave ≡ true in
+    let Q : Pair → Type 0 = λ seed. IsBeyond border seed.master in
+    let S : Pair → Type 0 = λ seed. border.slave seed.slave ≡ true in
     record {
       seed = first.seed ∙ second.seed;
       closed = first.closed;
@@ -112,7 +116,10 @@ talk_trans border a b c first second = record {
 pub same_trans : (fixed : Fixed) (border : Border) (a b c : Now) → Same fixed border a b → Same fixed border b c → Same fixed border a c
 same_trans fixed border a b c first second = record {
   some = first.some;
-  boot = first.boot ∙ second.boot;
+  pairs = first.pairs;
+  first = first.first;
+  second = second.second;
+  force = λ is. first.force is ∙ second.force is;
   halted = λ is. first.halted is ∙ second.halted is;
   rows = rows_trans border border.some a.core.rows.entries b.core.rows.entries c.core.rows.entries first.rows second.rows;
   known = BothFrom-trans (SameKnown border) (λ k x y z one two beyond. one beyond ∙ two beyond) 0 a.core.rows.known b.core.rows.known c.core.rows.known first.known second.known;
@@ -123,13 +130,24 @@ same_trans fixed border a b c first second = record {
 
 -- ---- with itself
 
--- what is so of the pair of each row beyond a closed border
-abbrev IsPairFit : Border → RowSeed → Type 0
-IsPairFit border pair = IsPairClosed border pair × IsUserKnown border pair
-
-fit_pairs : (border : Border) (pairs : List RowSeed) → Each (IsPairClosed border) pairs → Each (IsUserKnown border) pairs → Each (IsPairFit border) pairs
+fit_pairs : (border : Border) (pairs : List Pair) → Each (IsPairClosed border) pairs → Each (IsUserKnown border) pairs → Each (IsPairFit border) pairs
 fit_pairs border [] closed known = tt
 fit_pairs border (pair ∷ pairs) closed known = ((closed.0, known.0), fit_pairs border pairs closed.1 known.1)
+
+-- the pairs that objects permit fit the border
+fit_each : (border : Border) (t : Topology) (objects : List Object) → Each (λ (object : Object). All (IsPairClosed border) (pairs_of object t)) objects → Each (λ (object : Object). All (IsUserKnown border) (pairs_of object t)) objects → Each (λ (object : Object). Each (IsPairFit border) (pairs_of object t)) objects
+fit_each border t [] closed known = tt
+fit_each border t (object ∷ objects) closed known =
+    let pairs = pairs_of object t in (
+      fit_pairs border pairs (recursion_from_All (IsPairClosed border) pairs closed.0) (recursion_from_All (IsUserKnown border) pairs known.0),
+      fit_each border t objects closed.1 known.1,
+    )
+
+-- what is so of each of a list is so of the one at a place
+pub each_at : {X : Type 0} (P : X → Type 0) (xs : List X) (k : ℕ) (x : X) → Each P xs → slice_get xs k ≡ Some x → P x
+each_at P [] k x each is = cc
+each_at P (y ∷ ys) zero x each is = let same : y ≡ x = cc in subst P same each.0
+each_at P (y ∷ ys) (suc k) x each is = each_at P ys k x each.1 is
 
 row_self : (border : Border) (x : Entry) → IsPairFit border (pair_in x) → SameRow border x x
 row_self border x fit = record { seed = refl; closed = fit.0; users = fit.1; armed = λ is. refl; hold = λ is. refl; row = λ is. refl }
@@ -156,20 +174,20 @@ proc_self fixed border procs nobodys p x is =
 -- in the notes of each master the units stand in order
 master_notes_order : UnitLaws → (book : State) → HasNotes book → (m : ℕ) (notes : MasterNotes) → slice_get book.now.talk.notes m ≡ Some notes → rises (units_in notes) ≡ true
 master_notes_order units book sound m notes is =
-    let there : m < length (in_force book).masters = subst (λ n. m < n) sound.each (slice_get_within book.now.talk.notes m notes is) in
+    let there : m < length book.fixed.object.masters = subst (λ n. m < n) sound.each (slice_get_within book.now.talk.notes m notes is) in
     let own : notes_for m book.now.talk.notes ≡ notes = ap (λ o. unwrap_or o []) is in
     ap (λ x. rises (units_in x)) (sym own) ∙ (ap rises (sound.units m there) ∙ (units.are book.fixed.topology).rising)
 
-module _ (border : Border) (book : State) (closed : IsClosed book.fixed.object book.fixed.topology border) (sound : IsSound book) where
-  -- where no master is beyond nobody may reset a line beyond
-  unreset : (m l : ℕ) (may : Bool) → permits_reset (grants_in book) m l ≡ may → border.some ≡ false → border.line l ≡ true → may ≡ false
+module _ (border : Border) (book : State) (closed : IsClosed book.fixed border) (sound : IsSound book) where
+  -- where no master is beyond no object of the run lets anybody reset a line beyond
+  unreset : (m l : ℕ) (may : Bool) → may_be_reset book.fixed m l ≡ may → border.some ≡ false → border.line l ≡ true → may ≡ false
   unreset m l false is none beyond = refl
   unreset m l true is none beyond = clash border.some (closed.some m (closed.lines m l is beyond)) none
 
   line_released : (l : ℕ) (x : Bool) → slice_get book.now.core.lines l ≡ Some x → border.some ≡ false → border.line l ≡ true → x ≡ false
   line_released l x is none beyond =
       let Q : Option Bool → Type 0 = λ o. unwrap_or o false ≡ false in
-      subst Q is (sound.lines.nobodys l (λ m. unreset m l (permits_reset (grants_in book) m l) refl none beyond))
+      subst Q is (sound.lines.nobodys l (λ m. unreset m l (may_be_reset book.fixed m l) refl none beyond))
 
   line_self : (l : ℕ) (x : Bool) → slice_get book.now.core.lines l ≡ Some x → SameLine border (0 + l) x x
   line_self l x is =
@@ -181,18 +199,22 @@ module _ (border : Border) (book : State) (closed : IsClosed book.fixed.object b
       })
 
 -- a sound book agrees with itself beyond a closed border
-pub agree_self : UnitLaws → (border : Border) (book : State) → IsClosed book.fixed.object book.fixed.topology border → IsSound book → Agree border book book
+pub agree_self : UnitLaws → (border : Border) (book : State) → IsClosed book.fixed border → IsSound book → Agree border book book
 agree_self units border book closed sound =
-    let pairs = pairs_of book.fixed.object book.fixed.topology in
-    let P : List RowSeed → Type 0 = λ seeds. Each (IsPairFit border) seeds in
+    let pairs : ArePairsFit book.fixed border = fit_each border book.fixed.topology (objects_of book.fixed) closed.users closed.known in
+    let P : List Pair → Type 0 = λ seeds. Each (IsPairFit border) seeds in
     let each : Each (IsPairFit border) (map pair_in book.now.core.rows.entries) =
-    subst P (sym sound.rows.pairs) (fit_pairs border pairs (recursion_from_All (IsPairClosed border) pairs closed.users) (recursion_from_All (IsUserKnown border) pairs closed.known))
+    subst P (sym sound.rows.pairs)
+    (each_at (λ (object : Object). Each (IsPairFit border) (pairs_of object book.fixed.topology)) (objects_of book.fixed) sound.force.place (in_force book) pairs sound.force.there)
     in
     record {
       fixed = refl;
       now = record {
         some = closed.some;
-        boot = refl;
+        pairs = pairs;
+        first = record { place = sound.force.place; there = sound.force.there };
+        second = record { place = sound.force.place; there = sound.force.there };
+        force = λ is. refl;
         halted = λ is. refl;
         rows = rows_self border border.some refl closed.some book.now.core.rows.entries each;
         known = BothFrom-self (SameKnown border) 0 book.now.core.rows.known (λ p x is beyond. refl);
@@ -205,9 +227,9 @@ agree_self units border book closed sound =
       };
     }
 
--- and so does the book at load
-pub load_self : UnitLaws → ((object : Object) (t : Topology) → IsSound (load_of object t)) → (border : Border) (object : Object) (t : Topology) → IsClosed object t border → Agree border (load_of object t) (load_of object t)
-load_self units sound border object t closed = agree_self units border (load_of object t) closed (sound object t)
+-- and so does the book at load, whichever object of the run is in force
+pub load_self : UnitLaws → ((fixed : Fixed) (object : Object) (k : ℕ) → object_at fixed k ≡ Some object → IsSound (load_in fixed object)) → (border : Border) (fixed : Fixed) (object : Object) (k : ℕ) → object_at fixed k ≡ Some object → IsClosed fixed border → Agree border (load_in fixed object) (load_in fixed object)
+load_self units sound border fixed object k is closed = agree_self units border (load_in fixed object) closed (sound fixed object k is)
 
 -- ---- books
 

@@ -1,10 +1,10 @@
 -- What is the same of two lines whose core steps are beside one another: list by list, over the core steps of each.
 use Rattle.std.proofs.Common.{◌≡◌, ◌==◌, Bool, true, false, not, ◌&&◌, if◌then◌else◌, List, [], ◌∷◌, ◌++◌, flat_map, length, refl, ap, sym, ◌∙◌, subst}
-use Rattle.pm_laws.proofs.Common.{Agree, Border, Both, Event, Fixed, Ipi, IsObject, IsWellFormed, NodeId, Pass, State, border_of, none_within, place_of}
+use Rattle.pm_laws.proofs.Common.{Agree, AreObjects, Border, Both, Event, Fixed, Ipi, IsWellFormed, NodeId, Pass, State, border_of, none_within, place_of}
 use Rattle.pm_base.proofs.Booleans.{equal, pair_of, both as both_pass}
 use Rattle.pm_ipi.specs.Calls.{call_of}
 use Rattle.pm_core.specs.declared.replies.Answer.{Answer}
-use Rattle.pm_run.specs.Run.{Core, IsBookOf, Line, Setup, Stand, line_of, lines_of, loaded}
+use Rattle.pm_run.specs.Run.{Core, IsBookOf, Line, Setup, Stand, fixed_of, line_of, lines_of, loaded}
 use Rattle.pm_laws.specs.Answers.{is_dropped, message_beyond, names_beyond, sender_beyond}
 use Rattle.pm_laws.specs.Beside.{AreBeside, IsOwn, no_core, both_cores, left_core, rest_core}
 use Rattle.pm_laws.specs.Quiet.{quiet, quiet_event}
@@ -16,17 +16,17 @@ use Rattle.pm_laws.proofs.BoxesLaw.{load_boxes}
 
 -- what is known of two books that agree, and of the books of a run
 pub record BookLaws : Type 0 where
-  pub values : (m : NodeId) (a b : State) → IsObject a.fixed.object → IsWellFormed a.fixed.topology
-      → Agree (border_of a.fixed.object a.fixed.topology m) a b
-      → IsValueAlike a.fixed.object a.fixed.topology (border_of a.fixed.object a.fixed.topology m) a b
-  pub modes : (m : NodeId) (a b : State) → Agree (border_of a.fixed.object a.fixed.topology m) a b
-      → IsModeAlike a.fixed.object a.fixed.topology (border_of a.fixed.object a.fixed.topology m) a b
+  pub values : (m : NodeId) (a b : State) → AreObjects a.fixed → IsWellFormed a.fixed.topology
+      → Agree (border_of a.fixed m) a b
+      → IsValueAlike a.fixed.object a.fixed.topology (border_of a.fixed m) a b
+  pub modes : (m : NodeId) (a b : State) → Agree (border_of a.fixed m) a b
+      → IsModeAlike a.fixed.object a.fixed.topology (border_of a.fixed m) a b
   pub load : (c : Setup) → IsWellFormed c.topology → IsBookOf c (loaded c).book
-  pub agrees : (c : Setup) (m : NodeId) → IsObject c.object → IsWellFormed c.topology → Agree (border_of c.object c.topology m) (loaded c).book (loaded c).book
+  pub agrees : (c : Setup) (m : NodeId) → AreObjects (fixed_of c) → IsWellFormed c.topology → Agree (border_of (fixed_of c) m) (loaded c).book (loaded c).book
 
 module _ (c : Setup) (m : NodeId) where
   abbrev border : Border
-  border = border_of c.object c.topology m
+  border = border_of (fixed_of c) m
 
   -- ---- a list over core steps
 
@@ -109,15 +109,15 @@ module _ (c : Setup) (m : NodeId) where
 
   -- ---- lines
 
-  line_alike : (books : BookLaws) (object : IsObject c.object) (chip : IsWellFormed c.topology)
+  line_alike : (books : BookLaws) (object : AreObjects (fixed_of c)) (chip : IsWellFormed c.topology)
       (a b : State) (x y : Line) → IsBookOf c x.after.book → IsLineBeside c m a b x y → IsLineAlike c m x y
   line_alike books object chip a b x y is beside =
-      let P : Fixed → Type 0 = λ fixed. IsObject fixed.object → IsWellFormed fixed.topology
-      → Agree (border_of fixed.object fixed.topology m) x.after.book y.after.book
-      → IsValueAlike fixed.object fixed.topology (border_of fixed.object fixed.topology m) x.after.book y.after.book
+      let P : Fixed → Type 0 = λ fixed. AreObjects fixed → IsWellFormed fixed.topology
+      → Agree (border_of fixed m) x.after.book y.after.book
+      → IsValueAlike fixed.object fixed.topology (border_of fixed m) x.after.book y.after.book
       in
-      let Q : Fixed → Type 0 = λ fixed. Agree (border_of fixed.object fixed.topology m) x.after.book y.after.book
-      → IsModeAlike fixed.object fixed.topology (border_of fixed.object fixed.topology m) x.after.book y.after.book
+      let Q : Fixed → Type 0 = λ fixed. Agree (border_of fixed m) x.after.book y.after.book
+      → IsModeAlike fixed.object fixed.topology (border_of fixed m) x.after.book y.after.book
       in
       record {
         books = beside.agree;
@@ -136,7 +136,7 @@ module _ (c : Setup) (m : NodeId) where
         busy = beside.busy;
       }
 
-  module _ (laws : CoreLaws) (books : BookLaws) (object : IsObject c.object) (chip : IsWellFormed c.topology) where
+  module _ (laws : CoreLaws) (books : BookLaws) (object : AreObjects (fixed_of c)) (chip : IsWellFormed c.topology) where
     lines_alike : (events : List Event) (a b : Stand) → IsBookOf c a.book → IsBookOf c b.book → Agree border a.book b.book
         → AreQuietBoxes c m a.boxes b.boxes
         → Both (IsLineAlike c m) (lines_of c events a) (lines_of c (quiet m events) b)

@@ -92,7 +92,7 @@ module _ (laws : BelowLaws) (fixed : Fixed) (border : Border) (a b : Now) (same 
 
   -- ---- answers
 
-  module _ (kinds : KindLaws) (closed : IsClosed fixed.object fixed.topology border) (chip : IsWellFormed fixed.topology) where
+  module _ (kinds : KindLaws) (closed : IsClosed fixed border) (chip : IsWellFormed fixed.topology) where
     -- the same is heard of a message
     heard_same : (message : Message) (place : Option ℕ) → none_within border place ≡ true → names_beyond fixed.topology border (call_of message) ≡ true
         → option_and_then (call_at (call_of message) first) place ≡ option_and_then (call_at (call_of message) second) place
@@ -136,7 +136,7 @@ module _ (laws : BelowLaws) (fixed : Fixed) (border : Border) (a b : Now) (same 
     after_same (Refused response) master call beyond is = answered_same (Some response) master call beyond is
     after_same (Accepted effects) master call beyond is = answered_same (response_of (Accepted effects)) master call beyond is
 
-module _ (laws : BelowLaws) (kinds : KindLaws) (fixed : Fixed) (border : Border) (closed : IsClosed fixed.object fixed.topology border)
+module _ (laws : BelowLaws) (kinds : KindLaws) (fixed : Fixed) (border : Border) (closed : IsClosed fixed border)
     (chip : IsWellFormed fixed.topology) (a b : Now) (same : Same fixed border a b) where
   answers_by : (event : Event) → IsSound (book_of fixed a) → IsSound (book_of fixed b) → message_beyond fixed.object fixed.topology border event ≡ true
       → (outputs event (book_of fixed a)).answer ≡ (outputs event (book_of fixed b)).answer
@@ -161,7 +161,7 @@ drops_agree laws border event a b agree beyond =
     subst P agree.fixed (drops_by laws a.fixed border a.now b.now agree.now event beyond)
 
 pub answers_agree : BelowLaws → KindLaws → (border : Border) (event : Event) (a b : State) → IsWellFormed a.fixed.topology
-    → IsClosed a.fixed.object a.fixed.topology border → IsSound a → IsSound b → Agree border a b
+    → IsClosed a.fixed border → IsSound a → IsSound b → Agree border a b
     → message_beyond a.fixed.object a.fixed.topology border event ≡ true
     → (outputs event a).answer ≡ (outputs event b).answer
 answers_agree laws kinds border event a b chip closed sound_a sound_b agree is =

@@ -1,11 +1,11 @@
 -- Core events that are beside one another have core steps that are: from books that agree beyond the reach of a master on. So it
 -- is line by line of a run and of the run without the messages of the master.
 use Rattle.std.proofs.Common.{List, [], ◌∷◌, refl, subst, sym}
-use Rattle.pm_laws.proofs.Common.{Agree, Border, Event, Fixed, IsObject, IsSound, IsWellFormed, NodeId, Pass, State, border_of, effect}
+use Rattle.pm_laws.proofs.Common.{Agree, AreObjects, Border, Event, Fixed, IsSound, IsWellFormed, NodeId, Pass, State, border_of, effect}
 use Rattle.pm_topology.specs.WellFormed.{ObeysMasterRules}
 use Rattle.pm_split.specs.Boxes.{Boxes}
 use Rattle.pm_split.specs.Split.{split_of}
-use Rattle.pm_run.specs.Run.{IsBookOf, Setup, Stand, book_after, core_of, cores_of, line_of, lines_of, split}
+use Rattle.pm_run.specs.Run.{IsBookOf, Setup, Stand, book_after, core_of, cores_of, fixed_of, line_of, lines_of, split}
 use Rattle.pm_laws.specs.Beside.{AreBeside, Beside, IsOwn, none, both, left, rest, no_core, both_cores, left_core, rest_core}
 use Rattle.pm_laws.specs.Quiet.{quiet, quiet_event}
 use Rattle.pm_laws.specs.Told.{SameTold, TellsNothing}
@@ -14,19 +14,19 @@ use Rattle.pm_laws.proofs.BoxesLaw.{IsSplitBeside, split_beside}
 
 -- the border of the master's reach
 abbrev around : Fixed → NodeId → Border
-around fixed m = border_of fixed.object fixed.topology m
+around fixed m = border_of fixed m
 
 -- what is known of one core step, and of the books of a run
 pub record CoreLaws : Type 0 where
-  pub both : (m : NodeId) (event : Event) (a b : State) → IsObject a.fixed.object → IsWellFormed a.fixed.topology → IsSound a → IsSound b
+  pub both : (m : NodeId) (event : Event) (a b : State) → AreObjects a.fixed → IsWellFormed a.fixed.topology → IsSound a → IsSound b
       → Agree (around a.fixed m) a b
       → Agree (around a.fixed m) (effect event a) (effect event b)
       × SameTold a.fixed.object a.fixed.topology (around a.fixed m) (core_of event a) (core_of event b)
-  pub left : (m : NodeId) (event : Event) (a b : State) → IsOwn a.fixed.object a.fixed.topology m event → IsObject a.fixed.object → IsWellFormed a.fixed.topology
+  pub left : (m : NodeId) (event : Event) (a b : State) → IsOwn a.fixed.object a.fixed.topology m event → AreObjects a.fixed → IsWellFormed a.fixed.topology
       → IsSound a → IsSound b → Agree (around a.fixed m) a b
       → Agree (around a.fixed m) (effect event a) b
       × TellsNothing a.fixed.object a.fixed.topology (around a.fixed m) (core_of event a)
-  pub rest : (m : NodeId) (a b : State) → IsObject a.fixed.object → IsWellFormed a.fixed.topology → IsSound a → IsSound b
+  pub rest : (m : NodeId) (a b : State) → AreObjects a.fixed → IsWellFormed a.fixed.topology → IsSound a → IsSound b
       → Agree (around a.fixed m) a b
       → Agree (around a.fixed m) a (effect Pass b)
       × TellsNothing a.fixed.object a.fixed.topology (around a.fixed m) (core_of Pass b)
@@ -40,16 +40,16 @@ splits_beside c m event a b rules quiet_boxes =
     let P : Boxes → Type 0 = λ boxes. IsSplitBeside c.object c.topology m (split_of c.object c.topology event a.boxes) (split_of c.object c.topology (quiet_event m event) boxes) in
     subst P (sym quiet_boxes) (split_beside c.object c.topology m a.boxes rules event)
 
-module _ (laws : CoreLaws) (c : Setup) (m : NodeId) (object : IsObject c.object) (chip : IsWellFormed c.topology) where
+module _ (laws : CoreLaws) (c : Setup) (m : NodeId) (object : AreObjects (fixed_of c)) (chip : IsWellFormed c.topology) where
   abbrev border : Border
-  border = border_of c.object c.topology m
+  border = border_of (fixed_of c) m
 
   -- ---- one core step, by the object and the chip of the setup
 
   both_at : (event : Event) (a b : State) → IsBookOf c a → IsBookOf c b → Agree border a b
       → Agree border (effect event a) (effect event b) × SameTold c.object c.topology border (core_of event a) (core_of event b)
   both_at event a b first second agree =
-      let P : Fixed → Type 0 = λ fixed. IsObject fixed.object → IsWellFormed fixed.topology → Agree (around fixed m) a b
+      let P : Fixed → Type 0 = λ fixed. AreObjects fixed → IsWellFormed fixed.topology → Agree (around fixed m) a b
       → Agree (around fixed m) (effect event a) (effect event b)
       × SameTold fixed.object fixed.topology (around fixed m) (core_of event a) (core_of event b)
       in
@@ -58,7 +58,7 @@ module _ (laws : CoreLaws) (c : Setup) (m : NodeId) (object : IsObject c.object)
   left_at : (event : Event) (a b : State) → IsOwn c.object c.topology m event → IsBookOf c a → IsBookOf c b → Agree border a b
       → Agree border (effect event a) b × TellsNothing c.object c.topology border (core_of event a)
   left_at event a b own first second agree =
-      let P : Fixed → Type 0 = λ fixed. IsOwn fixed.object fixed.topology m event → IsObject fixed.object → IsWellFormed fixed.topology → Agree (around fixed m) a b
+      let P : Fixed → Type 0 = λ fixed. IsOwn fixed.object fixed.topology m event → AreObjects fixed → IsWellFormed fixed.topology → Agree (around fixed m) a b
       → Agree (around fixed m) (effect event a) b × TellsNothing fixed.object fixed.topology (around fixed m) (core_of event a)
       in
       subst P first.fixed (λ mine is formed same. laws.left m event a b mine is formed first.sound second.sound same) own object chip agree
@@ -66,7 +66,7 @@ module _ (laws : CoreLaws) (c : Setup) (m : NodeId) (object : IsObject c.object)
   rest_at : (a b : State) → IsBookOf c a → IsBookOf c b → Agree border a b
       → Agree border a (effect Pass b) × TellsNothing c.object c.topology border (core_of Pass b)
   rest_at a b first second agree =
-      let P : Fixed → Type 0 = λ fixed. IsObject fixed.object → IsWellFormed fixed.topology → Agree (around fixed m) a b
+      let P : Fixed → Type 0 = λ fixed. AreObjects fixed → IsWellFormed fixed.topology → Agree (around fixed m) a b
       → Agree (around fixed m) a (effect Pass b) × TellsNothing fixed.object fixed.topology (around fixed m) (core_of Pass b)
       in
       subst P first.fixed (λ is formed same. laws.rest m a b is formed first.sound second.sound same) object chip agree

@@ -201,7 +201,7 @@ callbacks_rest xs still k (master ∷ masters) =
 
 -- ---- events
 
-module _ (laws : BelowLaws) (border : Border) (event : Event) (fixed : Fixed) (closed : IsClosed fixed.object fixed.topology border) (formed : IsObject fixed.object) where
+module _ (laws : BelowLaws) (border : Border) (event : Event) (fixed : Fixed) (closed : IsClosed fixed border) (formed : IsObject fixed.object) where
   abbrev Calls : Now → List Callback
   Calls now = callbacks_beyond fixed.object border (outputs event (book_of fixed now)).callbacks
 
@@ -248,7 +248,7 @@ module _ (laws : BelowLaws) (border : Border) (event : Event) (fixed : Fixed) (c
       ∙ sym (hidden a b sound_b sound_a.knows (sym (hidden_fixed fixed border event a b) ∙ is) same)
 
 -- the same callbacks are made in both
-pub callbacks_agree : BelowLaws → (border : Border) (event : Event) (a b : State) → IsObject a.fixed.object → IsClosed a.fixed.object a.fixed.topology border
+pub callbacks_agree : BelowLaws → (border : Border) (event : Event) (a b : State) → IsObject a.fixed.object → IsClosed a.fixed border
     → IsSound a → IsSound b → Agree border a b
     → callbacks_beyond a.fixed.object border (outputs event a).callbacks ≡ callbacks_beyond a.fixed.object border (outputs event b).callbacks
 callbacks_agree laws border event a b formed closed sound_a sound_b agree =
@@ -258,7 +258,7 @@ callbacks_agree laws border event a b formed closed sound_a sound_b agree =
     subst P agree.fixed (λ sound. by_shape laws border event a.fixed closed formed a.now b.now (is_hidden border event a) refl sound_a sound agree.now) sound_b
 
 -- and a hidden event makes none
-pub callbacks_hidden : BelowLaws → (border : Border) (event : Event) (book : State) → IsObject book.fixed.object → IsClosed book.fixed.object book.fixed.topology border
+pub callbacks_hidden : BelowLaws → (border : Border) (event : Event) (book : State) → IsObject book.fixed.object → IsClosed book.fixed border
     → IsSound book → is_hidden border event book ≡ true
     → callbacks_beyond book.fixed.object border (outputs event book).callbacks ≡ []
 callbacks_hidden laws border event book formed closed sound is =

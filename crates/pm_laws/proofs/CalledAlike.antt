@@ -1,8 +1,8 @@
 -- A call of a master beyond that names nothing within comes to the same in two books that agree.
-use Rattle.std.proofs.Common.{◌≡◌, ℕ, ◌+◌, Bool, true, false, not, ◌&&◌, ◌==◌, if◌then◌else◌, position, Option, Some, None, refl, sym, ◌∙◌, ap}
+use Rattle.std.proofs.Common.{◌≡◌, ℕ, ◌+◌, Bool, true, false, not, ◌&&◌, ◌||◌, ◌==◌, if◌then◌else◌, position, Option, Some, None, refl, sym, ◌∙◌, ap}
 use Rattle.std.specs.Prelude.{option_map}
 use Rattle.std.proofs.lemmas.Bool.{eqb-true}
-use Rattle.pm_laws.proofs.Common.{Agree, BelowLaws, Border, Entry, Fixed, IsBeyond, IsClosed, IsWellFormed, Kind, KindLaws, MasterRec, NodeId, Now, Power, RowSeed, Same, SameRow, Slave, State, called, can_wake, changing, is_asked, is_place, is_slave_within, is_within, kind_of, line_beyond, mode_number, mode_of_master, named_master, names_master, none_within, owner_at, point_at, proc_view, row_view, status_view, status_view_at, suspend_view, suspendable, unit_beyond, wake_view_at, wakeable}
+use Rattle.pm_laws.proofs.Common.{Agree, BelowLaws, Border, Entry, Fixed, IsBeyond, IsClosed, IsWellFormed, Kind, KindLaws, MasterRec, NodeId, Now, Power, Pair, Same, SameRow, Slave, State, called, can_wake, changing, is_asked, is_place, is_slave_within, is_within, kind_of, line_beyond, mode_number, mode_of_master, named_master, names_master, none_within, owner_at, point_at, proc_view, row_view, status_view, status_view_at, suspend_view, suspendable, unit_beyond, wake_view_at, wakeable}
 use Rattle.pm_base.proofs.Booleans.{both, equal}
 use Rattle.pm_base.proofs.Searches.{position-first}
 use Rattle.pm_ipi.specs.declared.calls.Call.{Call}
@@ -11,7 +11,14 @@ use Rattle.pm_topology.specs.declared.topology.SlaveDef.{SlaveDef}
 use Rattle.pm_topology.specs.Places.{line_place, slave_place}
 use Rattle.pm_procs.specs.declared.procs.Proc.{Proc as Processor}
 use Rattle.pm_rows.specs.Rows.{is_at, is_of_other, is_used_by, is_used_by_others, entry_at, now_of}
+use Rattle.pm_grants.specs.declared.grants.Grants.{Grants}
+use Rattle.pm_grants.specs.Grants.{permits_configure, permits_wake}
+use Rattle.pm_procs.specs.Procs.{proc_at}
 use Rattle.pm_state.specs.Members.{owns}
+use Rattle.pm_state.specs.Objects.{found_at}
+use Rattle.pm_calls.specs.calls.ForcePowerdown.{force_powerdown}
+use Rattle.pm_calls.specs.calls.SetConfiguration.{set_configuration}
+use Rattle.pm_calls.specs.calls.SystemShutdown.{system_shutdown}
 use Rattle.pm_calls.specs.RowCalls.{row_changes}
 use Rattle.pm_calls.specs.calls.AbortSuspend.{abort_suspend}
 use Rattle.pm_calls.specs.calls.RegisterNotifier.{register_notifier}
@@ -23,11 +30,11 @@ use Rattle.pm_calls.specs.calls.ResetAssert.{reset_assert}
 use Rattle.pm_calls.specs.calls.SelfSuspend.{self_suspend}
 use Rattle.pm_calls.specs.calls.SetWakeupSource.{set_wakeup_source}
 use Rattle.pm_laws.specs.Answers.{all_beyond, names_beyond}
-use Rattle.pm_laws.proofs.CallsAlike.{asked_agrees, book_of, entries_alike, entry_alike, line_same, proc_views_agree, row_views_agree, rows_both, suspend_views_agree, watched_same}
+use Rattle.pm_laws.proofs.CallsAlike.{asked_agrees, book_of, entries_alike, entry_alike, grants_alike, line_same, proc_views_agree, row_views_agree, rows_both, suspend_views_agree, watched_same}
 use Rattle.pm_laws.proofs.FollowLaw.{mode_alike, proc_alike}
 use Rattle.pm_laws.proofs.Places.{Both-any}
 use Rattle.pm_calls.specs.calls.{shape_of}
-use Rattle.pm_calls.specs.Shapes.{Shape, Node_status, Node_figures, Line_value, Own_row, Own_arming, Own_suspend, Own_abort, Own_notifier, Other_wakeup, Other_suspend, All_reset, shaped, telling}
+use Rattle.pm_calls.specs.Shapes.{Shape, Node_status, Node_figures, Line_value, Own_row, Own_arming, Own_suspend, Own_abort, Own_notifier, Other_wakeup, Other_suspend, All_forced, All_shut, All_reset, All_configured, shaped, telling}
 use Rattle.pm_laws.proofs.ShapesLaw.{called_shaped, named_shaped, names_of}
 use Rattle.pm_laws.proofs.ValuesLaw.{kind_alike, line_alike, mode_same}
 
@@ -45,7 +52,7 @@ on_slave border test s x y beyond elsewhere same = at (x.seed.slave == s) refl
   where
     at : (here : Bool) → (x.seed.slave == s) ≡ here → test x ≡ test y
     at true is = ap test (entry_alike border s x y beyond same (eqb-true x.seed.slave s is))
-    at false is = elsewhere x is ∙ sym (elsewhere y (ap (λ (seed : RowSeed). seed.slave == s) (sym same.seed) ∙ is))
+    at false is = elsewhere x is ∙ sym (elsewhere y (ap (λ (seed : Pair). seed.slave == s) (sym same.seed) ∙ is))
 
 own_elsewhere : (m s : ℕ) (z : Entry) → (z.seed.slave == s) ≡ false → (is_at m s z && z.row.used) ≡ false
 own_elsewhere m s z is = ap (λ t. ((z.seed.master == m) && t) && z.row.used) is ∙ never (z.seed.master == m) z.row.used
@@ -55,7 +62,7 @@ others_elsewhere m s z is = ap (λ t. (not (z.seed.master == m) && t) && z.row.u
 
 -- ---- the unit and the master of a node beyond
 
-pub unit_named : (fixed : Fixed) (border : Border) → IsClosed fixed.object fixed.topology border → (node : NodeId) → border.node node.0 ≡ true
+pub unit_named : (fixed : Fixed) (border : Border) → IsClosed fixed border → (node : NodeId) → border.node node.0 ≡ true
     → unit_beyond fixed.object fixed.topology border (kind_of fixed.topology node) ≡ true
 unit_named fixed border closed node is =
     (both (unit_beyond fixed.object fixed.topology border (kind_of fixed.topology node))
@@ -63,7 +70,7 @@ unit_named fixed border closed node is =
 
 -- ---- the operating point of a node beyond
 
-module _ (fixed : Fixed) (border : Border) (closed : IsClosed fixed.object fixed.topology border) (a b : Now) (same : Same fixed border a b) where
+module _ (fixed : Fixed) (border : Border) (closed : IsClosed fixed border) (a b : Now) (same : Same fixed border a b) where
   kind_point : (kind : Kind) → unit_beyond fixed.object fixed.topology border kind ≡ true → point_at kind fixed a.core ≡ point_at kind fixed b.core
   kind_point (Proc p) beyond = ap mode_number (mode_same fixed border a b same p (owner_at fixed.object fixed.topology p) refl beyond)
   kind_point (Slave s) beyond = kind_alike fixed border closed a b same (Slave s) beyond
@@ -74,7 +81,7 @@ module _ (fixed : Fixed) (border : Border) (closed : IsClosed fixed.object fixed
       → point_at (kind_of fixed.topology node) fixed a.core ≡ point_at (kind_of fixed.topology node) fixed b.core
   point_alike node is = kind_point (kind_of fixed.topology node) (unit_named fixed border closed node is)
 
-module _ (laws : BelowLaws) (kinds : KindLaws) (fixed : Fixed) (border : Border) (closed : IsClosed fixed.object fixed.topology border)
+module _ (laws : BelowLaws) (kinds : KindLaws) (fixed : Fixed) (border : Border) (closed : IsClosed fixed border)
     (chip : IsWellFormed fixed.topology) (a b : Now) (same : Same fixed border a b) where
   abbrev first : State
   first = book_of fixed a
@@ -151,6 +158,8 @@ module _ (laws : BelowLaws) (kinds : KindLaws) (fixed : Fixed) (border : Border)
       let own : owns fixed.object fixed.topology k p ≡ true = ap (is_place k) is ∙ equal k k refl in
       ap (λ (proc : Processor). if can_wake m k first then Some (record { owner = k; proc = proc }) else None)
       (proc_alike fixed border k p a b beyond own same)
+      ∙ ap (λ (grants : Grants). if (k == m) || permits_wake grants m k then Some (record { owner = k; proc = proc_at p b.core.procs }) else None)
+      (grants_alike fixed border a b (same.some k beyond) same)
 
   wake_kind : (m : ℕ) (kind : Kind) → unit_beyond fixed.object fixed.topology border kind ≡ true → wake_view_at m kind first ≡ wake_view_at m kind second
   wake_kind m (Proc p) beyond =
@@ -197,11 +206,17 @@ module _ (laws : BelowLaws) (kinds : KindLaws) (fixed : Fixed) (border : Border)
       ap (abort_suspend m reason (is_asked m first)) (own_same m node beyond)
       ∙ ap (λ pending. abort_suspend m reason pending (proc_view m node second)) (asked_agrees border m first second beyond agree)
   shape_same m (Own_notifier node event enable) beyond is =
-      ap (register_notifier m node event enable) (watched_same fixed m (kind_of fixed.topology node) a b)
+      ap (register_notifier m node event enable) (watched_same fixed border m (kind_of fixed.topology node) a b (same.some m beyond) same)
   shape_same m (Other_wakeup node address ack) beyond is =
       ap (request_wakeup address ack) (wake_kind m (kind_of fixed.topology node) (unit_of node is))
   shape_same m (Other_suspend node ack latency state) beyond is = ap (request_suspend m node ack latency state) (suspend_same m node is)
-  shape_same m (All_reset line action) beyond is = ap (reset_assert line action) (line_same fixed m line a b)
+  shape_same m (All_reset line action) beyond is = ap (reset_assert line action) (line_same fixed border m line a b (same.some m beyond) same)
+  shape_same m (All_forced node ack) beyond is =
+      ap (λ (grants : Grants). force_powerdown grants fixed m node ack) (grants_alike fixed border a b (same.some m beyond) same)
+  shape_same m (All_shut shutdown_type subtype) beyond is =
+      ap (λ (grants : Grants). system_shutdown grants fixed m shutdown_type subtype) (grants_alike fixed border a b (same.some m beyond) same)
+  shape_same m (All_configured address) beyond is =
+      ap (λ (grants : Grants). set_configuration (found_at address fixed) (permits_configure grants m)) (grants_alike fixed border a b (same.some m beyond) same)
   shape_same m _ beyond is = refl
 
   pub call_same : (m : ℕ) (call : Call) → IsBeyond border m → names_beyond fixed.topology border call ≡ true → called m call first ≡ called m call second

@@ -3,14 +3,19 @@
 use Rattle.std.proofs.Common.{◌≡◌, ℕ, Bool, true, false, not, ◌&&◌, ◌||◌, ◌==◌, if◌then◌else◌, List, [], ◌∷◌, Option, Some, None, refl, sym, ◌∙◌, ap, subst, inl, inr}
 use Rattle.std.specs.Prelude.{unwrap_or}
 use Rattle.std.proofs.lemmas.Bool.{eqb-true}
-use Rattle.pm_laws.proofs.Common.{Active, AreHidden, At_row, Border, Called, Entry, IsUnseen, Kind, KindLaws, Mode, Prim, Put_proc, Settle, State, Suspending, called, can_wake, changes_within, changing, is_arming, is_asked, is_slave_within, is_within, kind_of, mode_of_master, owner_at, owner_by, proc_at, proc_view, row_view_at, shape_within, stages_by, stages_of, suspend_view, wake_view, wake_view_at, wakeable}
+use Rattle.pm_laws.proofs.Common.{Active, AreHidden, At_row, Border, Called, Enforce, Entry, IsUnseen, Kind, KindLaws, Mode, Prim, Put_proc, Settle, State, Suspending, called, can_wake, changes_within, changing, is_arming, is_asked, is_slave_within, is_within, kind_of, mode_of_master, owner_at, owner_by, proc_at, proc_view, row_view_at, shape_within, stages_by, stages_of, suspend_view, wake_view, wake_view_at, wakeable}
 use Rattle.pm_base.proofs.Booleans.{both, either}
 use Rattle.pm_topology.specs.declared.places.Kind.TheVariants.{Proc}
 use Rattle.pm_procs.specs.declared.procs.Proc.{Proc as Processor}
-use Rattle.pm_grants.specs.Grants.{permits_wake}
+use Rattle.pm_grants.specs.Grants.{permits_configure, permits_wake}
 use Rattle.pm_state.specs.State.{grants_in}
 use Rattle.pm_base.proofs.Counts.{split}
 use Rattle.pm_ipi.specs.declared.calls.Call.{Call}
+use Rattle.pm_ipi.specs.declared.calls.Call.TheVariants.{SetConfiguration}
+use Rattle.pm_state.specs.declared.objects.Found.{Found}
+use Rattle.pm_state.specs.declared.objects.Found.TheVariants.{Nothing, Unreadable, Unusable, Usable}
+use Rattle.pm_state.specs.Objects.{found_at}
+use Rattle.pm_calls.specs.calls.SetConfiguration.{enforced_by}
 use Rattle.pm_rows.specs.declared.row.Change.{Change}
 use Rattle.pm_rows.specs.Rows.{entry_at, is_at}
 use Rattle.pm_calls.specs.declared.views.ProcView.{ProcView}
@@ -26,10 +31,10 @@ use Rattle.pm_calls.specs.calls.RequestWakeup.{request_wakeup, woken_to}
 use Rattle.pm_calls.specs.calls.SelfSuspend.{self_suspend}
 use Rattle.pm_calls.specs.calls.SetWakeupSource.{arming, set_wakeup_source}
 use Rattle.pm_laws.proofs.ResetLaw.{reset_hidden}
-use Rattle.pm_laws.proofs.DownHidden.{force_hidden, shutdown_hidden}
-use Rattle.pm_laws.proofs.HiddenLemmas.{HasClosed, one_hidden, within_by}
+use Rattle.pm_laws.proofs.DownHidden.{call_hides, force_hidden, shutdown_hidden}
+use Rattle.pm_laws.proofs.HiddenLemmas.{HasClosed, by_one, one_hidden, within_by}
 use Rattle.pm_calls.specs.calls.{shape_of}
-use Rattle.pm_calls.specs.Shapes.{Shape, Own_row, Own_arming, Own_holds, Own_suspend, Own_abort, Other_wakeup, Other_suspend, All_forced, All_shut, All_reset, shaped}
+use Rattle.pm_calls.specs.Shapes.{Shape, Own_row, Own_arming, Own_holds, Own_suspend, Own_abort, Other_wakeup, Other_suspend, All_forced, All_shut, All_reset, All_configured, shaped}
 use Rattle.pm_laws.proofs.ShapesLaw.{IsUnarmed, called_shaped, shape_unarmed}
 
 -- a call hides if its changes do
@@ -89,7 +94,7 @@ woken_within : (border : Border) (m k : ℕ) (book : State) → HasClosed border
 woken_within border m k book closed within can =
     elim (either (k == m) (permits_wake (grants_in book) m k) can) [
       | inl same ↦ ap border.master (eqb-true k m same) ∙ within
-      | inr may ↦ within_by (border.master k) (border.master m) (closed.wakes m k may) within
+      | inr may ↦ within_by (border.master k) (border.master m) (closed.closed.wakes m k (by_one book (λ g. permits_wake g m k) closed.force may)) within
     ]
 
 caller_wakes : (border : Border) (m k p : ℕ) (address : Option ℕ) (book : State) (can : Bool) → can_wake m k book ≡ can → HasClosed border book → border.master m ≡ false → IsUnseen border (woken_to address (Some p) (if can then Some (record { owner = k; proc = proc_at p book.now.core.procs }) else None))
@@ -120,6 +125,19 @@ slave_hides border m s by plain within =
     ap (λ b. border.master m && (b || is_arming by)) within
     ∙ (ap (λ b. border.master m && (false || b)) plain ∙ none_seen (border.master m))
 
+-- another object in force is seen where some master is beyond, and then nobody within may put it there
+found_hidden : (border : Border) (m : ℕ) (found : Found) (book : State) → HasClosed border book → border.master m ≡ false → permits_configure (grants_in book) m ≡ true → IsUnseen border (enforced_by found)
+found_hidden border m Nothing book closed within may = refl
+found_hidden border m (Unreadable fault) book closed within may = refl
+found_hidden border m Unusable book closed within may = refl
+found_hidden border m (Usable k) book closed within may =
+    one_hidden border (Enforce k) (within_by border.some (border.master m) (closed.closed.configures m (by_one book (λ g. permits_configure g m) closed.force may)) within)
+
+configuration_hidden : (border : Border) (m address : ℕ) (book : State) → HasClosed border book → border.master m ≡ false → AreHidden border (stages_of (called m (SetConfiguration address) book))
+configuration_hidden border m address book closed within =
+    call_hides border (called m (SetConfiguration address) book)
+    (λ all. (found_hidden border m (found_at address book.fixed) book closed within all.permitted, tt))
+
 caller_shape : KindLaws → (border : Border) (m : ℕ) (shape : Shape) (book : State) → HasClosed border book → border.master m ≡ false → AreHidden border (stages_of (shaped m shape book))
 caller_shape laws border m (Own_row node by call) book closed within =
     let mode : Mode = mode_of_master book.fixed book.now.core m in
@@ -140,6 +158,7 @@ caller_shape laws border m (Other_wakeup node address ack) book closed within =
 caller_shape laws border m (All_forced node ack) book closed within = force_hidden border m ack node book closed within
 caller_shape laws border m (All_shut shutdown_type subtype) book closed within = shutdown_hidden border m shutdown_type subtype book closed within
 caller_shape laws border m (All_reset line action) book closed within = reset_hidden border m line action book closed within
+caller_shape laws border m (All_configured address) book closed within = configuration_hidden border m address book closed within
 caller_shape laws border m shape book closed within = call_hidden border (shaped m shape book) tt
 
 -- a call of a master within

@@ -1,11 +1,11 @@
 -- Nothing is seen of a force and of a shutdown by a master within reach.
 use Rattle.std.proofs.Common.{◌≡◌, ℕ, ◌+◌, Bool, true, false, ◌||◌, ◌==◌, if◌then◌else◌, List, [], ◌∷◌, ◌++◌, slice_get, Option, Some, None, refl, sym, ◌∙◌, ap}
 use Rattle.std.proofs.lemmas.List.Elements.{filter-append}
-use Rattle.pm_laws.proofs.Common.{Active, AreHidden, Border, Called, Clear, Fixed, Halt, HasSome, IsClosed, IsUnseen, Kind, NodeId, Off, Prim, Put_proc, Reload, State, called, kind_of, owner_at, seen, seen_part, stages_by, stages_of}
+use Rattle.pm_laws.proofs.Common.{Active, AreHidden, Border, Called, Clear, Fixed, Halt, HasSome, IsUnseen, Kind, NodeId, Off, Prim, Put_proc, Reload, State, called, kind_of, owner_at, seen, seen_part, stages_by, stages_of}
 use Rattle.pm_topology.specs.declared.topology.ProcDef.{ProcDef}
 use Rattle.pm_topology.specs.declared.topology.SlaveDef.{SlaveDef}
 use Rattle.pm_grants.specs.declared.grants.Grants.{Grants}
-use Rattle.pm_grants.specs.Grants.{grants_of, permits_force, permits_shut}
+use Rattle.pm_grants.specs.Grants.{permits_force, permits_shut}
 use Rattle.pm_state.specs.State.{grants_in}
 use Rattle.pm_state.specs.declared.scope.Scope.{Scope}
 use Rattle.pm_state.specs.declared.scope.Scope.TheVariants.{Under, Own, All}
@@ -16,7 +16,7 @@ use Rattle.pm_calls.specs.calls.SystemShutdown.{all_stages, own_stages, starting
 use Rattle.pm_state.specs.Members.{first_own}
 use Rattle.pm_ipi.specs.declared.calls.Call.TheVariants.{ForcePowerdown, SystemShutdown}
 use Rattle.pm_calls.proofs.Verdicts.{all_hold}
-use Rattle.pm_laws.proofs.HiddenLemmas.{HasClosed, one_hidden, within_by}
+use Rattle.pm_laws.proofs.HiddenLemmas.{HasClosed, by_one, one_hidden, within_by}
 use Rattle.pm_laws.proofs.Places.{StandsFrom, stands_first, stands_from_start, stands_later}
 use Rattle.pm_laws.proofs.PrimFacts.{placed_by}
 
@@ -92,10 +92,10 @@ force_hidden border m ack node book closed within =
     call_hides border call (λ all.
     let may : permits_force (grants_in book) m kind ≡ true = all.permitted in
     let takes_within : TakesWithin border fixed (Under node) = λ q proc here under k own.
-    within_by (border.master k) (border.master m) (closed.forces m k q proc kind here may under own) within
+    within_by (border.master k) (border.master m) (closed.closed.forces m k q proc kind here (by_one book (λ g. permits_force g m kind) closed.force may) under own) within
     in
     let unused : ClearsUnused border fixed node = λ s slave here under.
-    within_by (border.used s) (border.master m) (λ used. let user = closed.used s used in closed.clears m user.0 s slave kind here may under user.2 user.1) within
+    within_by (border.used s) (border.master m) (λ used. let user = closed.closed.used s used in closed.closed.clears m user.0 s slave kind here (by_one book (λ g. permits_force g m kind) closed.force may) under user.2 user.1) within
     in
     (offs_hidden border fixed (Under node) takes_within, (clears_hidden border fixed node unused, tt)))
 
@@ -126,19 +126,20 @@ pub may_shut_down : (grants : Grants) (m shutdown_type subtype : ℕ) → (shutd
 may_shut_down grants m shutdown_type subtype no_scope all = sym (ap (λ b. b || permits_shut grants m subtype) no_scope) ∙ all.permitted
 
 -- so where a master within may shut down more than itself, no master is beyond
-pub none_beyond : (border : Border) (fixed : Fixed) (m subtype : ℕ) → IsClosed fixed.object fixed.topology border → border.master m ≡ false → (subtype == 0) ≡ false → permits_shut (grants_of fixed.object fixed.topology) m subtype ≡ true → border.some ≡ false
-none_beyond border fixed m subtype closed within more may = within_by border.some (border.master m) (closed.shuts m subtype more may) within
+pub none_beyond : (border : Border) (book : State) (m subtype : ℕ) → HasClosed border book → border.master m ≡ false → (subtype == 0) ≡ false → permits_shut (grants_in book) m subtype ≡ true → border.some ≡ false
+none_beyond border book m subtype closed within more may =
+    within_by border.some (border.master m) (closed.closed.shuts m subtype more (by_one book (λ g. permits_shut g m subtype) closed.force may)) within
 
-stages_hidden : (border : Border) (fixed : Fixed) (m shutdown_type subtype : ℕ) (scope own restarts : Bool) → IsClosed fixed.object fixed.topology border → border.master m ≡ false → (shutdown_type == 2) ≡ scope → (subtype == 0) ≡ own → AllHold (system_shutdown_checks (grants_of fixed.object fixed.topology) m shutdown_type subtype)
-    → AreHidden border (if scope then [] else if own then own_stages fixed m restarts else all_stages fixed restarts)
-stages_hidden border fixed m shutdown_type subtype true own restarts closed within is_scope is_own all = tt
-stages_hidden border fixed m shutdown_type subtype false true restarts closed within is_scope is_own all = own_hidden border fixed m restarts within
-stages_hidden border fixed m shutdown_type subtype false false restarts closed within is_scope is_own all =
-    all_hidden border fixed restarts closed.some
-    (none_beyond border fixed m subtype closed within is_own (may_shut_down (grants_of fixed.object fixed.topology) m shutdown_type subtype is_scope all))
+stages_hidden : (border : Border) (book : State) (m shutdown_type subtype : ℕ) (scope own restarts : Bool) → HasClosed border book → border.master m ≡ false → (shutdown_type == 2) ≡ scope → (subtype == 0) ≡ own → AllHold (system_shutdown_checks (grants_in book) m shutdown_type subtype)
+    → AreHidden border (if scope then [] else if own then own_stages book.fixed m restarts else all_stages book.fixed restarts)
+stages_hidden border book m shutdown_type subtype true own restarts closed within is_scope is_own all = tt
+stages_hidden border book m shutdown_type subtype false true restarts closed within is_scope is_own all = own_hidden border book.fixed m restarts within
+stages_hidden border book m shutdown_type subtype false false restarts closed within is_scope is_own all =
+    all_hidden border book.fixed restarts closed.closed.some
+    (none_beyond border book m subtype closed within is_own (may_shut_down (grants_in book) m shutdown_type subtype is_scope all))
 
 pub shutdown_hidden : (border : Border) (m shutdown_type subtype : ℕ) (book : State) → HasClosed border book → border.master m ≡ false → AreHidden border (stages_of (called m (SystemShutdown shutdown_type subtype) book))
 shutdown_hidden border m shutdown_type subtype book closed within =
     let call = system_shutdown (grants_in book) book.fixed m shutdown_type subtype in
     call_hides border call
-    (stages_hidden border book.fixed m shutdown_type subtype (shutdown_type == 2) (subtype == 0) (shutdown_type == 1) closed within refl refl)
+    (stages_hidden border book m shutdown_type subtype (shutdown_type == 2) (subtype == 0) (shutdown_type == 1) closed within refl refl)

@@ -148,7 +148,7 @@ module _ (laws : BelowLaws) (border : Border) where
         down = never laws border k beyond goes_down still now (path event now) agree books;
         on = never laws border k beyond goes_on still now (path event now) agree books;
         aborts = none_aborts border (says event now) (event_within border now event closed is) k beyond;
-        time = no_time border event now (closed.some k beyond) is;
+        time = no_time border event now (closed.closed.some k beyond) is;
       }
 
   -- no request to a master beyond ends in a hidden event

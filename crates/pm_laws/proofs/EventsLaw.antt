@@ -82,7 +82,7 @@ event_hidden laws border (Boot proc address) book closed is =
 event_hidden laws border (Wfi proc) book closed is =
     halted_hidden border book.now.core.halted (wait proc book) (wait_hidden border (kind_of book.fixed.topology proc) book is)
 event_hidden laws border (Irq slave) book closed is =
-    halted_hidden border book.now.core.halted (raised slave book) (raised_hidden border (kind_of book.fixed.topology slave) book closed.some is)
+    halted_hidden border book.now.core.halted (raised slave book) (raised_hidden border (kind_of book.fixed.topology slave) book closed.closed.some is)
 event_hidden laws border (Gic proc) book closed is =
     halted_hidden border book.now.core.halted (interrupt proc book) (interrupt_hidden border (kind_of book.fixed.topology proc) book is)
 event_hidden laws border _ book closed is = tt

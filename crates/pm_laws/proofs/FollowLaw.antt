@@ -2,7 +2,7 @@
 use Rattle.std.proofs.Common.{◌≡◌, ℕ, ◌+◌, ◌<◌, Bool, true, false, ◌==◌, if◌then◌else◌, List, [], ◌∷◌, ◌++◌, length, Option, Some, None, refl, sym, ◌∙◌, ap, subst, arith}
 use Rattle.std.proofs.lemmas.Bool.{eqb-true}
 use Rattle.std.proofs.lemmas.List.Elements.{filter-append}
-use Rattle.pm_laws.proofs.Common.{Agree, BelowLaws, Border, CoreHalf, Fixed, IsBeyond, IsUnseen, KnowsModes, MasterRec, Mode, Now, Off, Prim, Same, SameProc, Shift, State, changed, in_force, is_place, members_at, members_of, mode_among, mode_at, mode_of_master, off, owner_at, proc_at, same_mode, seen, seen_part}
+use Rattle.pm_laws.proofs.Common.{Agree, BelowLaws, Border, CoreHalf, Fixed, IsBeyond, IsUnseen, KnowsModes, MasterRec, Mode, Now, Off, Prim, Same, SameProc, Shift, State, changed, is_place, members_at, members_of, mode_among, mode_at, mode_of_master, off, owner_at, proc_at, same_mode, seen, seen_part}
 use Rattle.pm_base.proofs.Booleans.{equal}
 use Rattle.pm_procs.specs.declared.procs.Proc.{Proc}
 use Rattle.pm_rows.specs.Rows.{mode_of}
@@ -86,7 +86,7 @@ from_rest fixed core m count (master ∷ masters) is knows =
 
 pub follow_rests : (book : State) → KnowsModes book → follow book ≡ []
 follow_rests book knows =
-    from_rest book.fixed book.now.core 0 (length (in_force book).masters) (in_force book).masters (omega arith) knows.right
+    from_rest book.fixed book.now.core 0 (length book.fixed.object.masters) book.fixed.object.masters (omega arith) knows.right
 
 -- ---- stages
 

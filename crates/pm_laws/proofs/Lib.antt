@@ -1,5 +1,6 @@
 pub mod Common
 pub mod AgreeLaw
+pub mod AnewFacts
 pub mod AlikeLaw
 pub mod AnswersLaw
 pub mod BesideLaw

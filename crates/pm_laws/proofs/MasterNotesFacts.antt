@@ -11,7 +11,7 @@ use Rattle.pm_base.proofs.Booleans.{both}
 use Rattle.pm_notify.specs.declared.node_notes.NodeNotes.{NodeNotes}
 use Rattle.pm_notify.specs.declared.notes.NodeEvent.{NodeEvent}
 use Rattle.pm_notify.specs.declared.notes.Note.{Note}
-use Rattle.pm_notify.specs.MasterNotes.{MasterNotes, forgotten, notes_at, nothing_more, with_note, with_notes, with_notifier, without_note}
+use Rattle.pm_notify.specs.MasterNotes.{MasterNotes, forgotten, notes_at, nothing_more, only_waiting, with_note, with_notes, with_notifier, without_note, without_notifiers}
 use Rattle.pm_notify.specs.NodeNotes.{emptied, filled, no_notes, with_asked}
 use Rattle.pm_notify.specs.Notify.{notes_for}
 use Rattle.pm_topology.specs.UnitMap.{remade, set_entry, units_in, value_of}
@@ -165,6 +165,13 @@ forgotten_both border a b same = record {
   order = ap rises (units_kept (remade nothing_more) (λ e. refl) a) ∙ same.order;
   each = Both-map (SameEntry border) (remade nothing_more) (remade nothing_more)
       (λ x y is. record { unit = is.unit; notes = notes_self (is_told border x.0) }) a b same.each;
+}
+
+pub unwatched_both : (border : Border) (a b : MasterNotes) → SameEntries border a b → SameEntries border (without_notifiers a) (without_notifiers b)
+unwatched_both border a b same = record {
+  order = ap rises (units_kept (remade only_waiting) (λ e. refl) a) ∙ same.order;
+  each = Both-map (SameEntry border) (remade only_waiting) (remade only_waiting)
+      (λ x y is. record { unit = is.unit; notes = record { notifiers = refl; slots = is.notes.slots } }) a b same.each;
 }
 
 -- ---- made of one

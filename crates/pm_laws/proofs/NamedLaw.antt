@@ -1,5 +1,5 @@
 -- A node that is beyond names a master beyond, or none.
-use Rattle.std.proofs.Common.{◌≡◌, ℕ, ◌&&◌, ◌==◌, true, slice_get, position, Option, Some, None, refl, ap, sym, ◌∙◌}
+use Rattle.std.proofs.Common.{◌≡◌, ℕ, ◌&&◌, ◌==◌, true, [], slice_get, position, Option, Some, None, refl, ap, sym, ◌∙◌}
 use Rattle.std.specs.Prelude.{option_and_then}
 use Rattle.std.specs.List.{list_any}
 use Rattle.std.proofs.lemmas.Bool.{eqb-true}
@@ -61,5 +61,5 @@ module _ (kinds : KindLaws) (object : Object) (t : Topology) (well : IsWellForme
     named_by None second is other = other
     named_by (Some m) second is other = is
 
-    pub named_beyond : none_within border (named_master (record { object = object; topology = t }) node) ≡ true
+    pub named_beyond : none_within border (named_master (record { object = object; topology = t; attached = [] }) node) ≡ true
     named_beyond = named_by place (owner object t node) parts.1 (owner_beyond (owner object t node) refl)

@@ -93,7 +93,7 @@ module _ (border : Border) where
           (none_beyond border (acknowledged_to k e) (to_within k e (e.request.by == k) node)) same
 
 -- the node of what is pending names the master that is asked
-module _ (fixed : Fixed) (border : Border) (closed : IsClosed fixed.object fixed.topology border) (whole : List (Option Pending)) (named : AreNamed fixed whole)
+module _ (fixed : Fixed) (border : Border) (closed : IsClosed fixed border) (whole : List (Option Pending)) (named : AreNamed fixed whole)
     (book : State) (books : List State) (aborts count : Option ℕ) where
   with_names : (m : ℕ) (request : Pending) (status : Option ℕ) → named_master fixed request.node ≡ Some m → Each (NamesTarget border) (ended_with m request status)
   with_names m request None is = tt
@@ -146,7 +146,7 @@ module _ (border : Border) where
       ap (λ b. (if b then w ∷ [] else []) ++ flat_map (noticed_by x) due) (wanted_alike x y same w w.note)
       ∙ ap (λ later. noticed_by y w ++ later) (noticed_alike x y same due)
 
-module _ (fixed : Fixed) (border : Border) (closed : IsClosed fixed.object fixed.topology border) (some : border.some ≡ true) where
+module _ (fixed : Fixed) (border : Border) (closed : IsClosed fixed border) (some : border.some ≡ true) where
   user_elsewhere : (s : ℕ) (z : Entry) → (z.seed.slave == s) ≡ false → is_user s z ≡ false
   user_elsewhere s z is = ap (λ t. t && z.row.used) is
 

@@ -8,7 +8,7 @@ use Rattle.pm_tell.specs.declared.ended.Ended.{Ended}
 use Rattle.pm_calls.specs.declared.verdict.Say.{Say}
 use Rattle.pm_values.specs.Turns.{goes_off, turns_along}
 use Rattle.pm_state.specs.Talk.{End, Forget, Talk}
-use Rattle.pm_tell.specs.Opening.{ends, forget_at, forgets_from, lower_by, renew_by, say_by, talk_of}
+use Rattle.pm_tell.specs.Opening.{ends, forget_at, forgets_from, lower_by, sweep_by, say_by, talk_of}
 use Rattle.pm_laws.proofs.CallsAlike.{book_of}
 use Rattle.pm_laws.proofs.HiddenLemmas.{HasClosed}
 use Rattle.pm_laws.proofs.EndsLaw.{ended_alike, ended_hidden, never, time_same, time_unseen, turns_alike}
@@ -74,14 +74,14 @@ module _ (border : Border) where
   -- ---- all of it
 
   opening_same : (said other : Option Say) (fs gs : List Talk) (count time : Option ℕ) (es ends_too : List Ended)
-      → talk_part border (renew_by said) ≡ talk_part border (renew_by other)
+      → talk_part border (sweep_by said) ≡ talk_part border (sweep_by other)
       → talk_part border fs ≡ talk_part border gs
       → talk_part border (say_by said) ≡ talk_part border (say_by other)
       → talk_part border (lower_by count) ≡ talk_part border (lower_by time)
       → ends_beyond border es ≡ ends_beyond border ends_too
       → talk_part border (talk_of said fs count es) ≡ talk_part border (talk_of other gs time ends_too)
   opening_same said other fs gs count time es ends_too renewal forgets says passes end =
-      parts_alike (renew_by said) (fs ++ (say_by said ++ (lower_by count ++ ends es))) (renew_by other) (gs ++ (say_by other ++ (lower_by time ++ ends ends_too))) renewal
+      parts_alike (sweep_by said) (fs ++ (say_by said ++ (lower_by count ++ ends es))) (sweep_by other) (gs ++ (say_by other ++ (lower_by time ++ ends ends_too))) renewal
       (parts_alike fs (say_by said ++ (lower_by count ++ ends es)) gs (say_by other ++ (lower_by time ++ ends ends_too)) forgets
       (parts_alike (say_by said) (lower_by count ++ ends es) (say_by other) (lower_by time ++ ends ends_too) says
       (parts_alike (lower_by count) (ends es) (lower_by time) (ends ends_too) passes (ends_seen es ends_too end))))
@@ -112,7 +112,7 @@ module _ (laws : BelowLaws) (border : Border) where
       in
       let said = says_alike laws fixed border a b same event is in
       opening_same border (says event first) (says event second) (forgets event first) (forgets event second) (time_of event first) (time_of event second) (ended event first) (ended event second)
-      (ap (λ x. talk_part border (renew_by x)) said)
+      (ap (λ x. talk_part border (sweep_by x)) said)
       (forgets_alike border first second (path event first) (path event second)
       (λ k beyond. turns_alike laws border k beyond first second (path event first) (path event second) agree books) 0 fixed.object.masters)
       (ap (λ x. talk_part border (say_by x)) said)

@@ -3,19 +3,19 @@ use Rattle.std.proofs.Common.{◌≡◌, ℕ, ◌+◌, Bool, true, false, if◌t
 use Rattle.std.specs.List.{AllByRecursion as Each}
 use Rattle.std.specs.Option.{option_map, option_map_or}
 use Rattle.std.proofs.lemmas.Option.{slice_get-map}
-use Rattle.pm_laws.proofs.Common.{MasterRec, Object, RowSeed, Topology}
+use Rattle.pm_laws.proofs.Common.{MasterRec, Object, Pair, Topology}
 use Rattle.pm_base.proofs.Elements.{AllByRecursion-append}
 use Rattle.pm_object.specs.declared.object.SlaveRec.{SlaveRec}
 use Rattle.pm_topology.specs.declared.topology.SlaveDef.{SlaveDef}
 use Rattle.pm_perms.specs.Permits.{mask_has, slave_record}
 use Rattle.pm_grants.specs.declared.grants.MasterMasks.{MasterMasks}
 use Rattle.pm_grants.specs.Grants.{bit_of, grants_of, mask_at, master_masks, permits_use, slave_mask}
-use Rattle.pm_state.specs.Boot.{boot_master}
-use Rattle.pm_state.specs.Pairs.{pairs_from, pairs_of, pairs_of_masters, pairs_on, seed_of}
+use Rattle.pm_state.specs.declared.pairs.Permitted.{Permitted}
+use Rattle.pm_state.specs.Pairs.{pair_permitted, pairs_of, permitted_from, permitted_in, permitted_of, permitted_of_masters, permitted_on}
 use Rattle.pm_laws.proofs.Places.{StandsFrom, stands_first, stands_from_start, stands_later}
 
 -- the object permits the pair
-pub record IsPermitted (object : Object) (t : Topology) (pair : RowSeed) : Type 0 where
+pub record IsPermitted (object : Object) (t : Topology) (pair : Pair) : Type 0 where
   pub master : MasterRec
   pub configured : slice_get object.masters pair.master ≡ Some master
   pub slave : SlaveDef
@@ -25,18 +25,21 @@ pub record IsPermitted (object : Object) (t : Topology) (pair : RowSeed) : Type 
   pub has : mask_has entry.mask master.mask ≡ true
 
 module _ (object : Object) (t : Topology) where
-  masters_permitted : (boot m s : ℕ) (slave : SlaveDef) (r : SlaveRec) (masters : List MasterRec)
+  abbrev Of : Permitted → Type 0
+  Of p = IsPermitted object t p.pair
+
+  masters_permitted : (m s : ℕ) (slave : SlaveDef) (r : SlaveRec) (masters : List MasterRec)
       → slice_get t.slaves s ≡ Some slave
       → slave_record object slave.node ≡ Some r
       → StandsFrom object.masters m masters
-      → Each (IsPermitted object t) (pairs_of_masters object boot m s slave r masters)
-  masters_permitted boot m s slave r [] at is stands = tt
-  masters_permitted boot m s slave r (master ∷ masters) at is stands =
-      AllByRecursion-append (IsPermitted object t) (if mask_has r.mask master.mask then seed_of object boot m master s slave r ∷ [] else [])
-      (pairs_of_masters object boot (m + 1) s slave r masters) (one (mask_has r.mask master.mask) refl)
-      (masters_permitted boot (m + 1) s slave r masters at is (stands_later object.masters m master masters stands))
+      → Each Of (permitted_of_masters object m s slave r masters)
+  masters_permitted m s slave r [] at is stands = tt
+  masters_permitted m s slave r (master ∷ masters) at is stands =
+      AllByRecursion-append Of (if mask_has r.mask master.mask then permitted_of object m master s slave r ∷ [] else [])
+      (permitted_of_masters object (m + 1) s slave r masters) (one (mask_has r.mask master.mask) refl)
+      (masters_permitted (m + 1) s slave r masters at is (stands_later object.masters m master masters stands))
     where
-      one : (b : Bool) → mask_has r.mask master.mask ≡ b → Each (IsPermitted object t) (if b then seed_of object boot m master s slave r ∷ [] else [])
+      one : (b : Bool) → mask_has r.mask master.mask ≡ b → Each Of (if b then permitted_of object m master s slave r ∷ [] else [])
       one true has = (
         record {
           master = master;
@@ -51,25 +54,29 @@ module _ (object : Object) (t : Topology) where
       )
       one false has = tt
 
-  slave_permitted : (boot s : ℕ) (slave : SlaveDef) (r : Option SlaveRec)
+  slave_permitted : (s : ℕ) (slave : SlaveDef) (r : Option SlaveRec)
       → slice_get t.slaves s ≡ Some slave
       → slave_record object slave.node ≡ r
-      → Each (IsPermitted object t) (pairs_on object boot s slave r)
-  slave_permitted boot s slave None at is = tt
-  slave_permitted boot s slave (Some r) at is = masters_permitted boot 0 s slave r object.masters at is (stands_from_start object.masters)
+      → Each Of (permitted_on object s slave r)
+  slave_permitted s slave None at is = tt
+  slave_permitted s slave (Some r) at is = masters_permitted 0 s slave r object.masters at is (stands_from_start object.masters)
 
-  slaves_permitted : (boot s : ℕ) (slaves : List SlaveDef) → StandsFrom t.slaves s slaves → Each (IsPermitted object t) (pairs_from object boot s slaves)
-  slaves_permitted boot s [] stands = tt
-  slaves_permitted boot s (slave ∷ slaves) stands =
-      AllByRecursion-append (IsPermitted object t) (pairs_on object boot s slave (slave_record object slave.node)) (pairs_from object boot (s + 1) slaves)
-      (slave_permitted boot s slave (slave_record object slave.node) (stands_first t.slaves s slave slaves stands) refl)
-      (slaves_permitted boot (s + 1) slaves (stands_later t.slaves s slave slaves stands))
+  slaves_permitted : (s : ℕ) (slaves : List SlaveDef) → StandsFrom t.slaves s slaves → Each Of (permitted_from object s slaves)
+  slaves_permitted s [] stands = tt
+  slaves_permitted s (slave ∷ slaves) stands =
+      AllByRecursion-append Of (permitted_on object s slave (slave_record object slave.node)) (permitted_from object (s + 1) slaves)
+      (slave_permitted s slave (slave_record object slave.node) (stands_first t.slaves s slave slaves stands) refl)
+      (slaves_permitted (s + 1) slaves (stands_later t.slaves s slave slaves stands))
+
+  map_each : (ps : List Permitted) → Each Of ps → Each (IsPermitted object t) (map pair_permitted ps)
+  map_each [] each = tt
+  map_each (p ∷ ps) each = (each.0, map_each ps each.1)
 
   pub pairs_permitted : Each (IsPermitted object t) (pairs_of object t)
-  pairs_permitted = slaves_permitted (boot_master object t) 0 t.slaves (stands_from_start t.slaves)
+  pairs_permitted = map_each (permitted_in object t) (slaves_permitted 0 t.slaves (stands_from_start t.slaves))
 
   -- so that master may use the slave
-  pub permitted_use : (pair : RowSeed) → IsPermitted object t pair → permits_use (grants_of object t) pair.master pair.slave ≡ true
+  pub permitted_use : (pair : Pair) → IsPermitted object t pair → permits_use (grants_of object t) pair.master pair.slave ≡ true
   permitted_use pair permitted =
       let mask : SlaveDef → ℕ = slave_mask object in
       let of_slave : mask_at (map mask t.slaves) pair.slave ≡ permitted.entry.mask =

@@ -1,22 +1,27 @@
 -- The two facts of each change of a book: seen and made in both it keeps them alike beyond the border, and unseen and made in
 -- one alone it does so too.
 use Rattle.std.proofs.Common.{◌≡◌, ◌==◌, ℕ, ◌+◌, Bool, true, false, if◌then◌else◌, List, [], ◌∷◌, length, map, Option, Some, None, refl, sym, ◌∙◌, ap, subst, arith}
-use Rattle.std.specs.Prelude.{replicate}
+use Rattle.std.specs.Prelude.{replicate, unwrap_or}
 use Rattle.std.proofs.lemmas.Bool.{eqb-true}
 use Rattle.std.proofs.lemmas.List.{length-replicate, length-set}
 use Rattle.pm_base.proofs.Booleans.{equal}
 use Rattle.pm_base.proofs.Tests.{present_from}
-use Rattle.pm_laws.proofs.Common.{Active, At_row, BelowLaws, Border, BothFrom, Clear, Entry, Fixed, Halt, HasSome, IsBeyond, Mode, Now, Off, Prim, Put_line, Put_proc, Reload, Same, SameKnown, SameLine, SameProc, SameRows, Settle, Shift, all_turned_off, apply, gone, is_place, members_at, members_of, owner_at, proc_put, procs_with, seen, turned_off}
+use Rattle.pm_laws.proofs.Common.{Active, At_row, BelowLaws, Border, BothFrom, Clear, Enforce, Entry, Fixed, Halt, HasSome, IsBeyond, Mode, Now, Object, Off, Prim, Put_line, Put_proc, Reload, Same, SameKnown, SameLine, SameProc, SameRows, Settle, Shift, all_turned_off, apply, gone, is_place, members_at, members_of, owner_at, proc_put, procs_with, seen, turned_off}
 use Rattle.pm_procs.specs.declared.procs.Proc.{Proc}
 use Rattle.pm_resets.specs.Resets.{all_released, with_line}
 use Rattle.pm_rows.specs.Modes.{loaded_modes}
-use Rattle.pm_rows.specs.Rows.{change_at, cleared_entry, dropped_at, mode_of, reloaded, settled_at}
+use Rattle.pm_rows.specs.Rows.{change_at, cleared_entry, dropped_at, loaded_entry, mode_of, settled_at}
 use Rattle.pm_rows.specs.Shift.{shift_at}
-use Rattle.pm_state.specs.Boot.{boot_proc}
+use Rattle.pm_state.specs.Boot.{boot_master, boot_proc}
+use Rattle.pm_state.specs.declared.pairs.Permitted.{Permitted}
+use Rattle.pm_state.specs.Pairs.{permitted_in, seed_anew, seed_at_load}
+use Rattle.pm_state.specs.Prims.{enforced}
+use Rattle.pm_state.specs.State.{object_at}
 use Rattle.pm_state.specs.Members.{owns}
 use Rattle.pm_laws.proofs.AgreeLaw.{clash}
+use Rattle.pm_laws.proofs.AnewFacts.{anew_within, load_within, object_fits, rows_alone_new, rows_anew_alike, rows_load_alike}
 use Rattle.pm_laws.proofs.Places.{BothFrom-any, BothFrom-equal, BothFrom-get, BothFrom-length, BothFrom-map, BothFrom-map_left, BothFrom-set, BothFrom-set_left}
-use Rattle.pm_laws.proofs.RowFacts.{rows_alone, rows_changed_alike, rows_changed_unseen, rows_cleared_alike, rows_dropped_alike, rows_dropped_unseen, rows_reloaded_alike, rows_settled_alike, rows_settled_unseen, rows_shifted_alike, rows_shifted_unseen}
+use Rattle.pm_laws.proofs.RowFacts.{rows_alone, rows_changed_alike, rows_changed_unseen, rows_cleared_alike, rows_dropped_alike, rows_dropped_unseen, rows_settled_alike, rows_settled_unseen, rows_shifted_alike, rows_shifted_unseen}
 
 -- ---- new rows, processors and reset lines
 
@@ -29,7 +34,10 @@ made_alike : (fixed : Fixed) (border : Border) (a b : Now) → Same fixed border
     → Same fixed border (remade xs ps ls a) (remade ys qs ms b)
 made_alike fixed border a b same xs ys rows ps qs procs ls ms lines = record {
   some = same.some;
-  boot = same.boot;
+  pairs = same.pairs;
+  first = same.first;
+  second = same.second;
+  force = same.force;
   halted = same.halted;
   rows = rows;
   known = same.known;
@@ -166,6 +174,76 @@ pub known_alike : (fixed : Fixed) (border : Border) (m : ℕ) (a b : Now) → Is
 known_alike fixed border m a b beyond same =
     BothFrom-get (SameKnown border) (λ x y. x ≡ y) 0 m m Off (omega arith) refl (λ x y is. is beyond) a.core.rows.known b.core.rows.known same.known
 
+-- ---- another object in force
+
+-- what changes once this object was put in force, if there is one
+abbrev enforced_by : Fixed → Option Object → Now → Now
+enforced_by fixed o now = record now { force = unwrap_or o now.force; core = enforced fixed o now.core }
+
+-- in both: each master beyond has the same mode, so the same rows are used anew on slaves beyond
+enforced_alike : (fixed : Fixed) (border : Border) (k : ℕ) (a b : Now) (o : Option Object) → object_at fixed k ≡ o → border.some ≡ true → Same fixed border a b → Same fixed border (enforced_by fixed o a) (enforced_by fixed o b)
+enforced_alike fixed border k a b None is some same = record {
+  some = same.some;
+  pairs = same.pairs;
+  first = same.first;
+  second = same.second;
+  force = same.force;
+  halted = same.halted;
+  rows = same.rows;
+  known = same.known;
+  procs = same.procs;
+  lines = same.lines;
+  talk = same.talk;
+}
+enforced_alike fixed border k a b (Some object) is some same =
+    let all : List Permitted = permitted_in object fixed.topology in
+    let fits = object_fits fixed border same.pairs k object is in
+    record {
+      some = same.some;
+      pairs = same.pairs;
+      first = record { place = k; there = is };
+      second = record { place = k; there = is };
+      force = λ some. refl;
+      halted = same.halted;
+      rows = rows_anew_alike border some a.core.rows.known b.core.rows.known (λ m beyond. known_alike fixed border m a b beyond same) all fits;
+      known = same.known;
+      procs = same.procs;
+      lines = same.lines;
+      talk = same.talk;
+    }
+
+-- in one alone, where no master is beyond
+enforced_unseen : (fixed : Fixed) (border : Border) (k : ℕ) (a b : Now) (o : Option Object) → object_at fixed k ≡ o → border.some ≡ false → Same fixed border a b → Same fixed border (enforced_by fixed o a) b
+enforced_unseen fixed border k a b None is none same = record {
+  some = same.some;
+  pairs = same.pairs;
+  first = same.first;
+  second = same.second;
+  force = same.force;
+  halted = same.halted;
+  rows = same.rows;
+  known = same.known;
+  procs = same.procs;
+  lines = same.lines;
+  talk = same.talk;
+}
+enforced_unseen fixed border k a b (Some object) is none same =
+    let all : List Permitted = permitted_in object fixed.topology in
+    record {
+      some = same.some;
+      pairs = same.pairs;
+      first = record { place = k; there = is };
+      second = same.second;
+      force = λ some. clash border.some some none;
+      halted = same.halted;
+      rows = rows_alone_new border none a.core.rows.entries b.core.rows.entries (map loaded_entry (map (seed_anew a.core.rows.known all) all))
+          (anew_within border same.some none a.core.rows.known all all (object_fits fixed border same.pairs k object is)) same.rows;
+      known = same.known;
+      procs = same.procs;
+      lines = same.lines;
+      talk = same.talk;
+    }
+
 -- a change that is seen, made in both, where some master is beyond
 pub prim_alike : BelowLaws → (fixed : Fixed) (border : Border) (prim : Prim) (a b : Now) → border.some ≡ true → seen border prim ≡ true → Same fixed border a b → Same fixed border (apply fixed prim a) (apply fixed prim b)
 prim_alike laws fixed border (At_row m s by) a b some is same =
@@ -184,7 +262,10 @@ prim_alike laws fixed border (Shift m to) a b some is same =
     let P : Mode → Type 0 = λ from. SameRows border border.some (map (shift_at a.core.rows.entries m (mode_of m a.core.rows) to) a.core.rows.entries) (map (shift_at b.core.rows.entries m from to) b.core.rows.entries) in
     record {
       some = same.some;
-      boot = same.boot;
+      pairs = same.pairs;
+      first = same.first;
+      second = same.second;
+      force = same.force;
       halted = same.halted;
       rows = subst P (known_alike fixed border m a b is same) (rows_shifted_alike laws border m (mode_of m a.core.rows) to a.core.rows.entries b.core.rows.entries same.rows);
       known = BothFrom-set (SameKnown border) 0 m m to to (omega arith) (λ beyond. refl) a.core.rows.known b.core.rows.known same.known;
@@ -197,7 +278,10 @@ prim_alike laws fixed border (Clear s) a b some is same =
     (rows_dropped_alike border s a.core.rows.entries b.core.rows.entries same.rows)
 prim_alike laws fixed border Halt a b some is same = record {
   some = same.some;
-  boot = same.boot;
+  pairs = same.pairs;
+  first = same.first;
+  second = same.second;
+  force = same.force;
   halted = λ some. refl;
   rows = rows_cleared_alike border a.core.rows.entries b.core.rows.entries same.rows;
   known = same.known;
@@ -205,19 +289,27 @@ prim_alike laws fixed border Halt a b some is same = record {
   lines = same.lines;
   talk = same.talk;
 }
-prim_alike laws fixed border Reload a b some is same = record {
-  some = same.some;
-  boot = same.boot;
-  halted = λ some. refl;
-  rows = rows_reloaded_alike border a.core.rows.entries b.core.rows.entries same.rows;
-  known = BothFrom-equal (SameKnown border) (λ k x beyond. refl) 0
-      (loaded_modes (length a.core.rows.known) a.core.rows.boot) (loaded_modes (length b.core.rows.known) b.core.rows.boot)
-      (ap (λ n. loaded_modes n a.core.rows.boot) (BothFrom-length (SameKnown border) 0 a.core.rows.known b.core.rows.known same.known)
-      ∙ ap (loaded_modes (length b.core.rows.known)) same.boot);
-  procs = reloads_alike laws fixed border a.core.procs b.core.procs same.procs;
-  lines = lines_loaded_alike border some a.core.lines b.core.lines same.lines;
-  talk = same.talk;
-}
+prim_alike laws fixed border Reload a b some is same =
+    let boot : ℕ = boot_master fixed.object fixed.topology in
+    let all : List Permitted = permitted_in a.force fixed.topology in
+    let fits = object_fits fixed border same.pairs same.first.place a.force same.first.there in
+    let P : Object → Type 0 = λ object. SameRows border border.some (map loaded_entry (map (seed_at_load boot) all)) (map loaded_entry (map (seed_at_load boot) (permitted_in object fixed.topology))) in
+    record {
+      some = same.some;
+      pairs = same.pairs;
+      first = same.first;
+      second = same.second;
+      force = same.force;
+      halted = λ some. refl;
+      rows = subst P (same.force some) (rows_load_alike border some boot all fits);
+      known = BothFrom-equal (SameKnown border) (λ k x beyond. refl) 0
+          (loaded_modes (length a.core.rows.known) boot) (loaded_modes (length b.core.rows.known) boot)
+          (ap (λ n. loaded_modes n boot) (BothFrom-length (SameKnown border) 0 a.core.rows.known b.core.rows.known same.known));
+      procs = reloads_alike laws fixed border a.core.procs b.core.procs same.procs;
+      lines = lines_loaded_alike border some a.core.lines b.core.lines same.lines;
+      talk = same.talk;
+    }
+prim_alike laws fixed border (Enforce k) a b some is same = enforced_alike fixed border k a b (object_at fixed k) refl some same
 
 -- a change that isn't seen, made in one alone
 pub prim_unseen : BelowLaws → (fixed : Fixed) (border : Border) (prim : Prim) (a b : Now) → seen border prim ≡ false → Same fixed border a b → Same fixed border (apply fixed prim a) b
@@ -235,7 +327,10 @@ prim_unseen laws fixed border (Put_line l asserted) a b is same =
     (λ y. record { beyond = λ beyond. clash (border.line l) beyond is; released = λ none beyond. clash (border.line l) beyond is }) a.core.lines b.core.lines same.lines)
 prim_unseen laws fixed border (Shift m to) a b is same = record {
   some = same.some;
-  boot = same.boot;
+  pairs = same.pairs;
+  first = same.first;
+  second = same.second;
+  force = same.force;
   halted = same.halted;
   rows = rows_shifted_unseen border m (mode_of m a.core.rows) to a.core.rows.entries b.core.rows.entries is same.rows;
   known = BothFrom-set_left (SameKnown border) 0 m m to (omega arith) (λ y beyond. clash (border.master m) beyond is) a.core.rows.known b.core.rows.known same.known;
@@ -248,7 +343,10 @@ prim_unseen laws fixed border (Clear s) a b is same =
     (rows_dropped_unseen border s a.core.rows.entries b.core.rows.entries is same.rows)
 prim_unseen laws fixed border Halt a b is same = record {
   some = same.some;
-  boot = same.boot;
+  pairs = same.pairs;
+  first = same.first;
+  second = same.second;
+  force = same.force;
   halted = λ some. clash border.some some is;
   rows = rows_alone border cleared_entry a.core.rows.entries b.core.rows.entries (λ x. refl) is same.rows;
   known = same.known;
@@ -256,16 +354,25 @@ prim_unseen laws fixed border Halt a b is same = record {
   lines = same.lines;
   talk = same.talk;
 }
-prim_unseen laws fixed border Reload a b is same = record {
-  some = same.some;
-  boot = same.boot;
-  halted = λ some. clash border.some some is;
-  rows = rows_alone border reloaded a.core.rows.entries b.core.rows.entries (λ x. refl) is same.rows;
-  known = BothFrom-any (SameKnown border) (λ k x y beyond. clash border.some (same.some k beyond) is) 0
-      (loaded_modes (length a.core.rows.known) a.core.rows.boot) b.core.rows.known
-      (length-set (replicate (length a.core.rows.known) Off) a.core.rows.boot Active ∙ (length-replicate (length a.core.rows.known) Off
-      ∙ BothFrom-length (SameKnown border) 0 a.core.rows.known b.core.rows.known same.known));
-  procs = reloads_unseen laws fixed border same.some is a.core.procs b.core.procs same.procs;
-  lines = lines_loaded_unseen border is 0 a.core.lines b.core.lines same.lines;
-  talk = same.talk;
-}
+prim_unseen laws fixed border Reload a b is same =
+    let boot : ℕ = boot_master fixed.object fixed.topology in
+    let all : List Permitted = permitted_in a.force fixed.topology in
+    let fits = object_fits fixed border same.pairs same.first.place a.force same.first.there in
+    record {
+      some = same.some;
+      pairs = same.pairs;
+      first = same.first;
+      second = same.second;
+      force = same.force;
+      halted = λ some. clash border.some some is;
+      rows = rows_alone_new border is a.core.rows.entries b.core.rows.entries (map loaded_entry (map (seed_at_load boot) all))
+          (load_within border same.some is boot all fits) same.rows;
+      known = BothFrom-any (SameKnown border) (λ k x y beyond. clash border.some (same.some k beyond) is) 0
+          (loaded_modes (length a.core.rows.known) boot) b.core.rows.known
+          (length-set (replicate (length a.core.rows.known) Off) boot Active ∙ (length-replicate (length a.core.rows.known) Off
+          ∙ BothFrom-length (SameKnown border) 0 a.core.rows.known b.core.rows.known same.known));
+      procs = reloads_unseen laws fixed border same.some is a.core.procs b.core.procs same.procs;
+      lines = lines_loaded_unseen border is 0 a.core.lines b.core.lines same.lines;
+      talk = same.talk;
+    }
+prim_unseen laws fixed border (Enforce k) a b is same = enforced_unseen fixed border k a b (object_at fixed k) refl is same

@@ -1,9 +1,9 @@
 -- The border of a reach is that of the reach: no narrower and no wider.
-use Rattle.std.proofs.Common.{◌≡◌, ℕ, ◌<◌, ◌&&◌, Bool, true, false, not, slice_get, length, Option, Some, None, refl, ap, sym, ◌∙◌, subst, ◌↔◌, [], ◌∷◌}
+use Rattle.std.proofs.Common.{◌≡◌, ℕ, ◌<◌, ◌&&◌, Bool, true, false, not, slice_get, length, List, Option, Some, None, refl, ap, sym, ◌∙◌, subst, ◌↔◌, [], ◌∷◌}
 use Rattle.std.specs.Option.{option_map}
 use Rattle.std.proofs.lemmas.Bool.{lt-ltb}
 use Rattle.pm_base.specs.declared.names.LineId.{LineId}
-use Rattle.pm_laws.proofs.Common.{Border, IsAllBeyond, IsBorderOf, Node, NodeId, Object, State, Topology, border_of, brings_in, entry_beyond, is_within, master_beyond, master_place, place_of, reset_beyond}
+use Rattle.pm_laws.proofs.Common.{Border, IsAllBeyond, IsBorderOf, IsBorderOver, Node, NodeId, Object, State, Topology, border_of, brings_in, entry_beyond, is_within, master_beyond, master_place, place_of, reset_beyond}
 use Rattle.pm_base.specs.declared.names.Unit.TheVariants.{Line}
 use Rattle.pm_topology.specs.declared.topology.LineDef.{LineDef}
 use Rattle.pm_topology.specs.declared.topology.PowerDef.{PowerDef}
@@ -14,6 +14,7 @@ use Rattle.pm_reach.specs.declared.members.Why.TheVariants.{Myself}
 use Rattle.pm_reach.specs.Border.{IsIn}
 use Rattle.pm_reach.specs.Paths.{start}
 use Rattle.pm_reach.specs.Reached.{is_reached}
+use Rattle.pm_state.specs.State.{Fixed, objects_of, usable_among}
 use Rattle.pm_laws.proofs.ReachBorderLaw.{edge, place_starts}
 use Rattle.pm_laws.proofs.WithinReach.{ReachLaws, Starts, beyond_parts}
 
@@ -25,76 +26,82 @@ is_beyond : (b : Bool) → b ≡ true → not b ≡ false
 is_beyond true e = refl
 is_beyond false e = cc
 
-module _ (laws : ReachLaws) (object : Object) (t : Topology) (from : ℕ) (starts : from < length object.masters) where
-  abbrev border : Border
-  border = edge object t (Some from)
+module _ (laws : ReachLaws) (object : Object) (others : List Object) (t : Topology) (from : ℕ) (starts : from < length object.masters) where
+  abbrev objects : List Object
+  objects = object ∷ others
 
-  there : (k : ℕ) → k < length object.masters → border.master k ≡ not (is_reached (object ∷ []) t from k)
-  there k within = ap (λ b. b && not (is_reached (object ∷ []) t from k)) (lt-ltb k (length object.masters) within)
+  abbrev border : Border
+  border = edge object others t (Some from)
+
+  there : (k : ℕ) → k < length object.masters → border.master k ≡ not (is_reached objects t from k)
+  there k within = ap (λ b. b && not (is_reached objects t from k)) (lt-ltb k (length object.masters) within)
 
   entry_where : (kind : MemberKind) (got : Option NodeId) (node : NodeId) → got ≡ Some node
-      → (entry_beyond object t (Some from) kind got ≡ false) ↔ IsIn (object ∷ []) t from kind (Node node)
+      → (entry_beyond objects t (Some from) kind got ≡ false) ↔ IsIn objects t from kind (Node node)
   entry_where kind got node is =
-      let same = ap (entry_beyond object t (Some from) kind) is in
-      let test = laws.tests.units (object ∷ []) t from kind (Node node) starts in (
-        λ e. test.0 (not_beyond (brings_in object t (Some from) kind (Node node)) (sym same ∙ e)),
-        λ within. same ∙ is_beyond (brings_in object t (Some from) kind (Node node)) (test.1 within),
+      let same = ap (entry_beyond objects t (Some from) kind) is in
+      let test = laws.tests.units objects t from kind (Node node) starts in (
+        λ e. test.0 (not_beyond (brings_in objects t (Some from) kind (Node node)) (sym same ∙ e)),
+        λ within. same ∙ is_beyond (brings_in objects t (Some from) kind (Node node)) (test.1 within),
       )
 
   line_where : (got : Option LineId) (line : LineId) → got ≡ Some line
-      → (reset_beyond object t (Some from) got ≡ false) ↔ IsIn (object ∷ []) t from members.Line (Line line)
+      → (reset_beyond objects t (Some from) got ≡ false) ↔ IsIn objects t from members.Line (Line line)
   line_where got line is =
-      let same = ap (reset_beyond object t (Some from)) is in
-      let test = laws.tests.units (object ∷ []) t from members.Line (Line line) starts in (
-        λ e. test.0 (not_beyond (brings_in object t (Some from) members.Line (Line line)) (sym same ∙ e)),
-        λ within. same ∙ is_beyond (brings_in object t (Some from) members.Line (Line line)) (test.1 within),
+      let same = ap (reset_beyond objects t (Some from)) is in
+      let test = laws.tests.units objects t from members.Line (Line line) starts in (
+        λ e. test.0 (not_beyond (brings_in objects t (Some from) members.Line (Line line)) (sym same ∙ e)),
+        λ within. same ∙ is_beyond (brings_in objects t (Some from) members.Line (Line line)) (test.1 within),
       )
 
-  pub edge_exact : IsBorderOf object t from border
+  pub edge_exact : IsBorderOver objects t from border
   edge_exact = record {
     master = λ k within. (
-      λ e. (laws.tests.masters (object ∷ []) t from k starts).0 (not_beyond (is_reached (object ∷ []) t from k) (sym (there k within) ∙ e)),
-      λ path. there k within ∙ is_beyond (is_reached (object ∷ []) t from k) ((laws.tests.masters (object ∷ []) t from k starts).1 path),
+      λ e. (laws.tests.masters objects t from k starts).0 (not_beyond (is_reached objects t from k) (sym (there k within) ∙ e)),
+      λ path. there k within ∙ is_beyond (is_reached objects t from k) ((laws.tests.masters objects t from k starts).1 path),
     );
     slave = λ k s is. entry_where members.Slave _ s.node (ap (λ o. option_map (λ (slave : SlaveDef). slave.node) o) is);
     power = λ k p is. entry_where members.Power _ p.node (ap (λ o. option_map (λ (power : PowerDef). power.node) o) is);
     line = λ k l is. line_where _ l.line (ap (λ o. option_map (λ (line : LineDef). line.line) o) is);
-    configured = λ k e. (beyond_parts laws object t (Some from) starts k e).0;
-    some = λ e. let found = (laws.tests.some (object ∷ []) (master_beyond object t (Some from))).0 e in (found.0, found.2);
+    configured = λ k e. (beyond_parts laws objects t (Some from) starts k e).0;
+    some = λ e. let found = (laws.tests.some objects (master_beyond objects t (Some from))).0 e in (found.0, found.2);
   }
 
-pub reach_exact : ReachLaws → (object : Object) (t : Topology) (m : NodeId) (from : ℕ) → place_of object m ≡ Some from → IsBorderOf object t from (border_of object t m)
-reach_exact laws object t m from is =
-    let P : Option ℕ → Type 0 = λ place. IsBorderOf object t from (edge object t place) in
-    subst P (sym is) (edge_exact laws object t from (place_starts object m (Some from) is))
+pub reach_exact : ReachLaws → (fixed : Fixed) (m : NodeId) (from : ℕ) → place_of fixed.object m ≡ Some from → IsBorderOf fixed from (border_of fixed m)
+reach_exact laws fixed m from is =
+    let others : List Object = usable_among fixed.object fixed.attached in
+    let P : Option ℕ → Type 0 = λ place. IsBorderOf fixed from (edge fixed.object others fixed.topology place) in
+    subst P (sym is) (edge_exact laws fixed.object others fixed.topology from (place_starts fixed.object others m (Some from) is))
 
 -- a master that isn't configured reaches nothing
-unreached : (object : Object) (t : Topology) (kind : MemberKind) (got : Option NodeId) → entry_beyond object t None kind got ≡ true
-unreached object t kind None = refl
-unreached object t kind (Some node) = refl
+unreached : (os : List Object) (t : Topology) (kind : MemberKind) (got : Option NodeId) → entry_beyond os t None kind got ≡ true
+unreached os t kind None = refl
+unreached os t kind (Some node) = refl
 
-unset : (object : Object) (t : Topology) (got : Option LineId) → reset_beyond object t None got ≡ true
-unset object t None = refl
-unset object t (Some line) = refl
+unset : (os : List Object) (t : Topology) (got : Option LineId) → reset_beyond os t None got ≡ true
+unset os t None = refl
+unset os t (Some line) = refl
 
-pub all_beyond : (object : Object) (t : Topology) (m : NodeId) → place_of object m ≡ None → IsAllBeyond object (border_of object t m)
-all_beyond object t m is =
-    let P : Option ℕ → Type 0 = λ place. IsAllBeyond object (edge object t place) in
+pub all_beyond : (fixed : Fixed) (m : NodeId) → place_of fixed.object m ≡ None → IsAllBeyond fixed.object (border_of fixed m)
+all_beyond fixed m is =
+    let t : Topology = fixed.topology in
+    let P : Option ℕ → Type 0 = λ place. IsAllBeyond fixed.object (edge fixed.object (usable_among fixed.object fixed.attached) t place) in
     subst P (sym is) (record {
-      masters = λ k within. ap (λ b. b && true) (lt-ltb k (length object.masters) within);
-      slaves = λ s. unreached object t members.Slave (option_map (λ (slave : SlaveDef). slave.node) (slice_get t.slaves s));
-      powers = λ w. unreached object t members.Power (option_map (λ (power : PowerDef). power.node) (slice_get t.powers w));
-      lines = λ l. unset object t (option_map (λ (line : LineDef). line.line) (slice_get t.lines l));
+      masters = λ k within. ap (λ b. b && true) (lt-ltb k (length fixed.object.masters) within);
+      slaves = λ s. unreached (objects_of fixed) t members.Slave (option_map (λ (slave : SlaveDef). slave.node) (slice_get t.slaves s));
+      powers = λ w. unreached (objects_of fixed) t members.Power (option_map (λ (power : PowerDef). power.node) (slice_get t.powers w));
+      lines = λ l. unset (objects_of fixed) t (option_map (λ (line : LineDef). line.line) (slice_get t.lines l));
     })
 
 -- the master itself is within its reach
-own_within : (laws : ReachLaws) (object : Object) (t : Topology) (place : Option ℕ) → Starts object place → is_within (edge object t place) place ≡ true
-own_within laws object t None starts = refl
-own_within laws object t (Some from) starts =
-    let one = (edge_exact laws object t from starts).master from starts in
-    let within : (edge object t (Some from)).master from ≡ false = one.1 (_, Myself, start) in
+own_within : (laws : ReachLaws) (object : Object) (others : List Object) (t : Topology) (place : Option ℕ) → Starts (object ∷ others) place → is_within (edge object others t place) place ≡ true
+own_within laws object others t None starts = refl
+own_within laws object others t (Some from) starts =
+    let one = (edge_exact laws object others t from starts).master from starts in
+    let within : (edge object others t (Some from)).master from ≡ false = one.1 (_, Myself, start) in
     ap not within
 
-pub caller_within : ReachLaws → (m : NodeId) (book : State) → is_within (border_of book.fixed.object book.fixed.topology m) (master_place m book) ≡ true
+pub caller_within : ReachLaws → (m : NodeId) (book : State) → is_within (border_of book.fixed m) (master_place m book) ≡ true
 caller_within laws m book =
-    own_within laws book.fixed.object book.fixed.topology (master_place m book) (place_starts book.fixed.object m (master_place m book) refl)
+    let others : List Object = usable_among book.fixed.object book.fixed.attached in
+    own_within laws book.fixed.object others book.fixed.topology (master_place m book) (place_starts book.fixed.object others m (master_place m book) refl)

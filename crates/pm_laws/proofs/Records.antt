@@ -1,17 +1,20 @@
 -- The masters of a well-formed object by their places and by their numbers. Who is permitted anything stands at a place.
-use Rattle.std.proofs.Common.{◌≡◌, ℕ, ◌<◌, ◌==◌, ◌||◌, Bool, true, false, true≢false, not, zero, suc, List, [], ◌∷◌, length, map, slice_get, position, unwrap_or, Option, Some, None, refl, ap, sym, ◌∙◌, arith}
+use Rattle.std.proofs.Common.{◌≡◌, ℕ, ◌<◌, ◌==◌, ◌||◌, Bool, true, false, true≢false, not, zero, suc, List, [], ◌∷◌, length, map, slice_get, position, unwrap_or, Option, Some, None, refl, ap, sym, ◌∙◌, arith, inl, inr}
 use Rattle.std.specs.Int.Bits.{and_zero_l, and_zero_r}
 use Rattle.std.specs.Option.{option_map, option_map_or}
+use Rattle.std.specs.List.{AllByRecursion as Each}
 use Rattle.std.proofs.lemmas.Bool.{eqb-true}
 use Rattle.std.proofs.lemmas.Option.{slice_get-map, slice_get_within}
-use Rattle.pm_base.proofs.Booleans.{differs, first_passes, later_passes}
+use Rattle.pm_base.proofs.Booleans.{differs, either, first_passes, later_passes}
 use Rattle.pm_base.proofs.Searches.{position-first, position-none}
 use Rattle.pm_topology.specs.WellFormed.{AreDistinct}
-use Rattle.pm_laws.proofs.Common.{IsObject, MasterRec, Object, Topology}
+use Rattle.pm_laws.proofs.Common.{IsObject, MasterRec, NodeId, Object, Topology}
 use Rattle.pm_perms.specs.Permits.{mask_has}
+use Rattle.pm_grants.specs.declared.grants.Grants.{Grants}
 use Rattle.pm_grants.specs.declared.grants.MasterMasks.{MasterMasks}
 use Rattle.pm_grants.specs.Grants.{bit_of, grants_of, is_within_mask, mask_at, master_masks, permits_shut, shut_mask}
 use Rattle.pm_grants.specs.Laws.{GrantLaws, at_place, at_places, master_place}
+use Rattle.pm_grants.specs.Several.{all_grants, some_permits}
 use Rattle.pm_reach.specs.Leads.{node_at}
 
 pub node_is : (o : Object) (place : ℕ) (master : MasterRec) → slice_get o.masters place ≡ Some master → node_at (o ∷ []) place ≡ record { 0 = master.node }
@@ -109,3 +112,46 @@ module _ (o : Object) (t : Topology) where
   placed laws formed m there =
       let entry = entry_there o.masters m there in
       ap (master_place o.masters) (node_is o m entry.0 entry.1) ∙ laws.places o m entry.0 formed entry.1
+
+-- ---- several objects, in which the masters stand where they do in the loaded one
+
+pub record IsOne (object : Object) (others : List Object) (t : Topology) (o : Object) : Type 0 where
+  pub formed : IsObject o
+  pub placed : (node : NodeId) → master_place o.masters node ≡ master_place object.masters node
+  pub gives : (permits : Grants → Bool) → permits (grants_of o t) ≡ true → some_permits permits (all_grants (object ∷ others) t) ≡ true
+
+-- one of these objects permits what some of them does
+pub one_permits : (P : Object → Type 0) (t : Topology) (permits : Grants → Bool) (os : List Object) → Each P os → some_permits permits (all_grants os t) ≡ true
+    → (o : Object) × P o × (permits (grants_of o t) ≡ true)
+one_permits P t permits [] each e = cc
+one_permits P t permits (o ∷ os) each e =
+    elim (either (permits (grants_of o t)) (some_permits permits (all_grants os t)) e) [
+      | inl here ↦ (o, each.0, here)
+      | inr later ↦ one_permits P t permits os each.1 later
+    ]
+
+module _ (object : Object) (others : List Object) (t : Topology) where
+  abbrev Placed : Object → Type 0
+  Placed o = (node : NodeId) → master_place o.masters node ≡ master_place object.masters node
+
+  pub ones : (os : List Object) → ((permits : Grants → Bool) → some_permits permits (all_grants os t) ≡ true → some_permits permits (all_grants (object ∷ others) t) ≡ true)
+      → Each IsObject os → Each Placed os → Each (IsOne object others t) os
+  ones [] among formed placed = tt
+  ones (o ∷ os) among formed placed = (
+    record {
+      formed = formed.0;
+      placed = placed.0;
+      gives = λ permits may. among permits (first_passes (permits (grants_of o t)) (some_permits permits (all_grants os t)) may);
+    },
+    ones os (λ permits may. among permits (later_passes (permits (grants_of o t)) (some_permits permits (all_grants os t)) may)) formed.1 placed.1,
+  )
+
+  -- a master of one of them stands at a place of the loaded one
+  pub placed_in : GrantLaws → (o : Object) → IsOne object others t o → (m : ℕ) → m < length o.masters → m < length object.masters
+  placed_in laws o one m there =
+      let entry = entry_there o.masters m there in
+      let master : MasterRec = entry.0 in
+      let node : NodeId = record { 0 = master.node } in
+      let place : master_place object.masters node ≡ Some m = sym (one.placed node) ∙ laws.places o m master one.formed entry.1 in
+      let first = position-first (λ (x : MasterRec). x.node == master.node) object.masters m place in
+      slice_get_within object.masters m first.element first.here

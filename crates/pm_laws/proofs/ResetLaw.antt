@@ -4,12 +4,12 @@ use Rattle.std.specs.Prelude.{option_and_then}
 use Rattle.std.specs.Option.{option_map_or}
 use Rattle.std.proofs.lemmas.Bool.{eqb-true}
 use Rattle.pm_base.specs.declared.names.LineId.{LineId}
-use Rattle.pm_laws.proofs.Common.{AreHidden, Border, IsClosed, IsUnseen, Kind, NodeId, Object, Off, Prim, Put_line, Put_proc, State, Topology, called, kind_at, kind_of, owner_at, proc_place, seen, seen_part, stages_of}
+use Rattle.pm_laws.proofs.Common.{AreHidden, Border, IsUnseen, Kind, NodeId, Object, Off, Prim, Put_line, Put_proc, State, Topology, called, kind_at, kind_of, owner_at, proc_place, seen, seen_part, stages_of}
 use Rattle.pm_base.proofs.Searches.{position-first}
 use Rattle.pm_ipi.specs.declared.calls.Call.TheVariants.{ResetAssert}
 use Rattle.pm_perms.specs.Owner.{owner}
 use Rattle.pm_grants.specs.Grants.{permits_reset}
-use Rattle.pm_state.specs.State.{grants_in}
+use Rattle.pm_state.specs.State.{grants_in, usable_among}
 use Rattle.pm_reach.specs.Leads.{owns, targets}
 use Rattle.pm_topology.specs.declared.places.Kind.TheVariants.{Proc}
 use Rattle.pm_topology.specs.declared.topology.LineDef.{LineDef}
@@ -19,7 +19,7 @@ use Rattle.pm_calls.specs.ResetLines.{can_reset, owned_by, owned_node, owned_of,
 use Rattle.pm_state.specs.Values.{line_place}
 use Rattle.pm_calls.specs.calls.ResetAssert.{line_put, stopped, stopped_by}
 use Rattle.pm_laws.proofs.DownHidden.{call_hides}
-use Rattle.pm_laws.proofs.HiddenLemmas.{within_by}
+use Rattle.pm_laws.proofs.HiddenLemmas.{HasClosed, by_one, within_by}
 use Rattle.pm_laws.proofs.OwnsLaw.{owner_owns}
 
 -- ---- changes
@@ -51,12 +51,12 @@ owner_of_node object t node p is =
     let same : first.element.node ≡ node = ap id (eqb-true first.element.node.0 node.0 first.passes) in
     ap (λ o. option_and_then (λ (proc : ProcDef). owner object t proc.node) o) first.here ∙ ap (owner object t) same
 
-targets_owner : (object : Object) (t : Topology) (line : LineDef) (node : NodeId) (k : ℕ) → line.target ≡ Some node → owner object t node ≡ Some k → targets (object ∷ []) t line k ≡ true
-targets_owner object t line node k target is =
-    ap (λ o. option_map_or (owns (object ∷ []) t k) o false) target
-    ∙ owner_owns object t node k is
+targets_owner : (object : Object) (others : List Object) (t : Topology) (line : LineDef) (node : NodeId) (k : ℕ) → line.target ≡ Some node → owner object t node ≡ Some k → targets (object ∷ others) t line k ≡ true
+targets_owner object others t line node k target is =
+    ap (λ o. option_map_or (owns (object ∷ others) t k) o false) target
+    ∙ owner_owns object others t node k is
 
-module _ (border : Border) (book : State) (closed : IsClosed book.fixed.object book.fixed.topology border) (m l : ℕ) (line : LineDef)
+module _ (border : Border) (book : State) (closed : HasClosed border book) (m l : ℕ) (line : LineDef)
     (here : slice_get book.fixed.topology.lines l ≡ Some line)
     (may : permits_reset (grants_in book) m l ≡ true)
     (within : border.master m ≡ false) where
@@ -71,7 +71,7 @@ module _ (border : Border) (book : State) (closed : IsClosed book.fixed.object b
       let same : k ≡ x.owner = ap (λ (o : Option OwnedProc). option_map_or (λ (y : OwnedProc). y.owner) o k) is in
       let P : ℕ → Type 0 = λ j. border.master j ≡ false in
       subst P same
-      (within_by (border.master k) (border.master m) (closed.resets m k l line here may (targets_owner book.fixed.object t line node k target owned)) within)
+      (within_by (border.master k) (border.master m) (closed.closed.resets m k l line here (by_one book (λ g. permits_reset g m l) closed.force may) (targets_owner book.fixed.object (usable_among book.fixed.object book.fixed.attached) t line node k target owned)) within)
 
   kind_within : (node : NodeId) (kind : Kind) (x : OwnedProc) → line.target ≡ Some node → kind_of book.fixed.topology node ≡ kind
       → owned_of kind book.fixed ≡ Some x → border.master x.owner ≡ false
@@ -82,7 +82,7 @@ module _ (border : Border) (book : State) (closed : IsClosed book.fixed.object b
   target_within None x target is = cc
   target_within (Some node) x target is = kind_within node (kind_of book.fixed.topology node) x target refl is
 
-module _ (border : Border) (book : State) (closed : IsClosed book.fixed.object book.fixed.topology border) (m l : ℕ)
+module _ (border : Border) (book : State) (closed : HasClosed border book) (m l : ℕ)
     (may : permits_reset (grants_in book) m l ≡ true) (within : border.master m ≡ false) where
   entry_within : (got : Option LineDef) (x : OwnedProc) → slice_get book.fixed.topology.lines l ≡ got → reset_by got book.fixed ≡ Some x → border.master x.owner ≡ false
   entry_within None x here is = cc
@@ -92,17 +92,17 @@ module _ (border : Border) (book : State) (closed : IsClosed book.fixed.object b
   reset_within x is = entry_within (slice_get book.fixed.topology.lines l) x refl is
 
   pub line_within : border.line l ≡ false
-  line_within = within_by (border.line l) (border.master m) (closed.lines m l may) within
+  line_within = within_by (border.line l) (border.master m) (closed.closed.lines m l (by_one book (λ g. permits_reset g m l) closed.force may)) within
 
 -- ---- the call
 
-placed_unseen : (border : Border) (m action : ℕ) (book : State) (place : Option ℕ) → IsClosed book.fixed.object book.fixed.topology border → border.master m ≡ false → can_reset m place book ≡ true → IsUnseen border (line_put place (action == 1) ++ stopped_by action (reset_at place book.fixed))
+placed_unseen : (border : Border) (m action : ℕ) (book : State) (place : Option ℕ) → HasClosed border book → border.master m ≡ false → can_reset m place book ≡ true → IsUnseen border (line_put place (action == 1) ++ stopped_by action (reset_at place book.fixed))
 placed_unseen border m action book None closed within may = stops_unseen border (action == 0) None (λ x is. cc)
 placed_unseen border m action book (Some l) closed within may =
     unseen_more border (Put_line l (action == 1)) (stopped_by action (reset_at (Some l) book.fixed)) (line_within border book closed m l may within)
     (stops_unseen border (action == 0) (reset_at (Some l) book.fixed) (reset_within border book closed m l may within))
 
-pub reset_hidden : (border : Border) (m : ℕ) (line : LineId) (action : ℕ) (book : State) → IsClosed book.fixed.object book.fixed.topology border → border.master m ≡ false → AreHidden border (stages_of (called m (ResetAssert line action) book))
+pub reset_hidden : (border : Border) (m : ℕ) (line : LineId) (action : ℕ) (book : State) → HasClosed border book → border.master m ≡ false → AreHidden border (stages_of (called m (ResetAssert line action) book))
 reset_hidden border m line action book closed within =
     call_hides border (called m (ResetAssert line action) book)
     (λ all. (placed_unseen border m action book (line_place line book.fixed) closed within all.permitted, tt))

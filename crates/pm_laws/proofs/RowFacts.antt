@@ -4,12 +4,12 @@ use Rattle.std.proofs.Common.{◌≡◌, ℕ, Bool, true, false, not, ◌&&◌, 
 use Rattle.std.specs.List.{list_any, AllByRecursion as Each}
 use Rattle.std.proofs.lemmas.Bool.{eqb-true}
 use Rattle.pm_base.specs.declared.caps.Caps.{Caps}
-use Rattle.pm_laws.proofs.Common.{BelowLaws, Border, Both, Entry, IsBeyond, IsWithin, Mode, Off, RowSeed, SameRow, SameRows, is_arming}
+use Rattle.pm_laws.proofs.Common.{BelowLaws, Border, Both, Entry, IsBeyond, IsWithin, Mode, Off, Pair, SameRow, SameRows, is_arming}
 use Rattle.pm_base.proofs.Booleans.{both}
 use Rattle.pm_rows.specs.declared.row.Change.{Change}
 use Rattle.pm_rows.specs.declared.row.Change.TheVariants.{Request, Release, Set, Limit, Arm}
 use Rattle.pm_rows.specs.declared.row.Row.{Row}
-use Rattle.pm_rows.specs.Rows.{applied, cleared, cleared_entry, dropped_at, loaded, reloaded, set_in, is_at, is_rival, change_at, settled_at}
+use Rattle.pm_rows.specs.Rows.{applied, cleared, cleared_entry, dropped_at, set_in, is_at, is_rival, change_at, settled_at}
 use Rattle.pm_rows.specs.Shift.{shifted_row, is_taken, shift_at}
 use Rattle.pm_laws.proofs.AgreeLaw.{clash}
 use Rattle.pm_laws.proofs.Places.{Both-map, Both-map_left, Both-any, Each-map}
@@ -67,7 +67,7 @@ within_traceless border x y r same within = record {
 rows_map : (border : Border) (some : Bool) (f g : Entry → Entry) (a b : List Entry) → ((x : Entry) → (f x).seed ≡ x.seed) → ((x : Entry) → (g x).seed ≡ x.seed) → (Both (SameRow border) a b → (x y : Entry) → SameRow border x y → SameRow border (f x) (g y)) → SameRows border some a b → SameRows border some (map f a) (map g b)
 rows_map border true f g a b pair_f pair_g each same = Both-map (SameRow border) f g (each same) a b same
 rows_map border false f g a b pair_f pair_g each same =
-    let P : RowSeed → Type 0 = λ seed. border.slave seed.slave ≡ false in (
+    let P : Pair → Type 0 = λ seed. border.slave seed.slave ≡ false in (
       Each-map (IsWithin border) f (λ x within. subst P (sym (pair_f x)) within) a same.0,
       Each-map (IsWithin border) g (λ x within. subst P (sym (pair_g x)) within) b same.1,
     )
@@ -75,7 +75,7 @@ rows_map border false f g a b pair_f pair_g each same =
 rows_map_left : (border : Border) (some : Bool) (f : Entry → Entry) (a b : List Entry) → ((x : Entry) → (f x).seed ≡ x.seed) → ((x y : Entry) → SameRow border x y → SameRow border (f x) y) → SameRows border some a b → SameRows border some (map f a) b
 rows_map_left border true f a b pair each same = Both-map_left (SameRow border) f each a b same
 rows_map_left border false f a b pair each same =
-    let P : RowSeed → Type 0 = λ seed. border.slave seed.slave ≡ false in
+    let P : Pair → Type 0 = λ seed. border.slave seed.slave ≡ false in
     (Each-map (IsWithin border) f (λ x within. subst P (sym (pair x)) within) a same.0, same.1)
 
 -- ---- a change of one row
@@ -115,7 +115,7 @@ unarmed (Arm target) a is = cc
 change_alike : (border : Border) (m s : ℕ) (by : Change) (x y : Entry) → SameRow border x y → SameRow border (change_at m s by x) (change_at m s by y)
 change_alike border m s by x y same =
     alike_by border (is_at m s x) (is_at m s y) x y (applied by x.row) (applied by y.row)
-    (ap (λ (seed : RowSeed). (seed.master == m) && (seed.slave == s)) same.seed) same
+    (ap (λ (seed : Pair). (seed.master == m) && (seed.slave == s)) same.seed) same
     (record {
       armed = λ is. applied_armed by x.row y.row (same.armed is);
       hold = λ is. applied_hold by x.row ∙ (same.hold is ∙ sym (applied_hold by y.row));
@@ -170,7 +170,7 @@ unheld row = record row { hold = false }
 settle_alike : (border : Border) (m : ℕ) (x y : Entry) → SameRow border x y → SameRow border (settled_at m x) (settled_at m y)
 settle_alike border m x y same =
     alike_by border (x.seed.master == m) (y.seed.master == m) x y (unheld x.row) (unheld y.row)
-    (ap (λ (seed : RowSeed). seed.master == m) same.seed) same
+    (ap (λ (seed : Pair). seed.master == m) same.seed) same
     (record { armed = same.armed; hold = λ is. refl; row = λ is. ap unheld (same.row is) })
 
 -- nothing is seen where rows of a master within are rewritten
@@ -210,7 +210,7 @@ rival_alike border m s true x y beyond is same =
     cc
 rival_alike border m s false x y beyond is same =
     let seed : x.seed ≡ y.seed = same.seed in
-    let other : (y.seed.slave == s) ≡ false = subst (λ (d : RowSeed). (d.slave == s) ≡ false) seed is in
+    let other : (y.seed.slave == s) ≡ false = subst (λ (d : Pair). (d.slave == s) ≡ false) seed is in
     no_rival m s x is ∙ sym (no_rival m s y other)
 
 taken_alike : (border : Border) (a b : List Entry) (x y : Entry) → Both (SameRow border) a b → SameRow border x y → border.slave x.seed.slave ≡ true → is_taken a x ≡ is_taken b y
@@ -218,12 +218,12 @@ taken_alike border a b x y same here beyond =
     let m : ℕ = x.seed.master in
     let s : ℕ = x.seed.slave in
     Both-any (SameRow border) (is_rival m s) (is_rival m s) (λ u v each. rival_alike border m s (u.seed.slave == s) u v beyond refl each) a b same
-    ∙ ap (λ (seed : RowSeed). list_any (is_rival seed.master seed.slave) b) here.seed
+    ∙ ap (λ (seed : Pair). list_any (is_rival seed.master seed.slave) b) here.seed
 
 shift_alike : BelowLaws → (border : Border) (m : ℕ) (from to : Mode) (a b : List Entry) → Both (SameRow border) a b → (x y : Entry) → SameRow border x y → SameRow border (shift_at a m from to x) (shift_at b m from to y)
 shift_alike laws border m from to a b both x y same =
     alike_by border (x.seed.master == m) (y.seed.master == m) x y (shifted_row from to (is_taken a x) x.row) (shifted_row from to (is_taken b y) y.row)
-    (ap (λ (seed : RowSeed). seed.master == m) same.seed) same
+    (ap (λ (seed : Pair). seed.master == m) same.seed) same
     (record {
       armed = λ is. laws.armed from to (is_taken a x) (is_taken b y) x.row y.row (same.armed is);
       hold = λ is. laws.hold from to (is_taken a x) (is_taken b y) x.row y.row (same.hold is);
@@ -250,7 +250,7 @@ rows_shifted_unseen border m from to a b within same =
 drop_alike : (border : Border) (s : ℕ) (x y : Entry) → SameRow border x y → SameRow border (dropped_at s x) (dropped_at s y)
 drop_alike border s x y same =
     alike_by border (x.seed.slave == s) (y.seed.slave == s) x y (cleared x.row) (cleared y.row)
-    (ap (λ (seed : RowSeed). seed.slave == s) same.seed) same
+    (ap (λ (seed : Pair). seed.slave == s) same.seed) same
     (record { armed = λ is. refl; hold = λ is. refl; row = λ is. ap cleared (same.row is) })
 
 pub rows_dropped_alike : (border : Border) (s : ℕ) (a b : List Entry) → SameRows border border.some a b → SameRows border border.some (map (dropped_at s) a) (map (dropped_at s) b)
@@ -278,28 +278,12 @@ pub rows_cleared_alike : (border : Border) (a b : List Entry) → SameRows borde
 rows_cleared_alike border a b same =
     rows_map border border.some cleared_entry cleared_entry a b (λ x. refl) (λ x. refl) (λ both. clear_alike border) same
 
--- ---- rows that are as at load
-
-reload_alike : (border : Border) (x y : Entry) → SameRow border x y → SameRow border (reloaded x) (reloaded y)
-reload_alike border x y same = record {
-  seed = same.seed;
-  closed = same.closed;
-  users = same.users;
-  armed = λ is. refl;
-  hold = λ is. ap (λ (seed : RowSeed). seed.hold) same.seed;
-  row = λ is. ap loaded same.seed;
-}
-
-pub rows_reloaded_alike : (border : Border) (a b : List Entry) → SameRows border border.some a b → SameRows border border.some (map reloaded a) (map reloaded b)
-rows_reloaded_alike border a b same =
-    rows_map border border.some reloaded reloaded a b (λ x. refl) (λ x. refl) (λ both. reload_alike border) same
-
 -- where no master is beyond, rows may be rewritten in one book alone
 pub rows_alone : (border : Border) (f : Entry → Entry) (a b : List Entry) → ((x : Entry) → (f x).seed ≡ x.seed) → border.some ≡ false → SameRows border border.some a b → SameRows border border.some (map f a) b
 rows_alone border f a b pair none same =
     let P : Bool → Type 0 = λ some. SameRows border some a b in
     let Q : Bool → Type 0 = λ some. SameRows border some (map f a) b in
-    let S : RowSeed → Type 0 = λ seed. border.slave seed.slave ≡ false in
+    let S : Pair → Type 0 = λ seed. border.slave seed.slave ≡ false in
     let within : Each (IsWithin border) a × Each (IsWithin border) b = subst P none same in
     let kept : Each (IsWithin border) (map f a) × Each (IsWithin border) b = (Each-map (IsWithin border) f (λ x is. subst S (sym (pair x)) is) a within.0, within.1) in
     subst Q (sym none) kept

@@ -126,7 +126,7 @@ module _ (fixed : Fixed) (border : Border) (p : ℕ) (beyond : none_within borde
 
 -- ---- events
 
-module _ (laws : BelowLaws) (fixed : Fixed) (border : Border) (closed : IsClosed fixed.object fixed.topology border) where
+module _ (laws : BelowLaws) (fixed : Fixed) (border : Border) (closed : IsClosed fixed border) where
   abbrev Starts : Event → Now → List Start
   Starts event now = starts_beyond fixed.object fixed.topology border (outputs event (book_of fixed now)).starts
 
@@ -137,7 +137,7 @@ module _ (laws : BelowLaws) (fixed : Fixed) (border : Border) (closed : IsClosed
       let first : State = book_of fixed a in
       let second : State = book_of fixed b in
       let agree : Agree border second first = agree_sym border first second (record { fixed = refl; now = same }) in
-      let hidden = event_hidden laws.kinds border event first closed is in
+      let hidden = event_hidden laws.kinds border event first (record { closed = closed; force = same.first }) is in
       let books : Each (Agree border second) (path event first) = path_hidden laws border (stages event first) second first sound.knows hidden agree in
       let after : Agree border second (effect event first) = effect_hidden laws fixed border closed event b a sound_a sound.knows is agree.now in
       let itself : Agree border second second = agree_trans border second first second agree (agree_sym border second first agree) in
@@ -176,7 +176,7 @@ module _ (laws : BelowLaws) (fixed : Fixed) (border : Border) (closed : IsClosed
       ∙ sym (hidden_starts event b a sound_b sound_a (sym (hidden_fixed fixed border event a b) ∙ is) back))
 
 -- the same processors beyond start in both
-pub starts_agree : BelowLaws → (border : Border) (event : Event) (a b : State) → IsClosed a.fixed.object a.fixed.topology border
+pub starts_agree : BelowLaws → (border : Border) (event : Event) (a b : State) → IsClosed a.fixed border
     → IsSound a → IsSound b → Agree border a b
     → starts_beyond a.fixed.object a.fixed.topology border (outputs event a).starts
     ≡ starts_beyond a.fixed.object a.fixed.topology border (outputs event b).starts
@@ -189,7 +189,7 @@ starts_agree laws border event a b closed sound_a sound_b agree =
     (λ sound. event_starts laws a.fixed border closed event a.now b.now (is_hidden border event a) refl sound_a sound agree.now) sound_b
 
 -- a hidden event starts none that a step in which nothing happens doesn't
-pub starts_hidden : BelowLaws → (border : Border) (event : Event) (a b : State) → IsClosed a.fixed.object a.fixed.topology border
+pub starts_hidden : BelowLaws → (border : Border) (event : Event) (a b : State) → IsClosed a.fixed border
     → IsSound a → IsSound b → is_hidden border event a ≡ true → Agree border a b
     → starts_beyond a.fixed.object a.fixed.topology border (outputs event a).starts
     ≡ starts_beyond a.fixed.object a.fixed.topology border (outputs Pass b).starts

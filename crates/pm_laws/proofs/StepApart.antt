@@ -2,7 +2,7 @@
 use Rattle.std.proofs.Common.{◌≡◌, ℕ, ◌==◌, Bool, true, false, not, if◌then◌else◌, option_and_then, position, List, Option, None, Some, refl, ap, sym, ◌∙◌, subst}
 use Rattle.std.specs.List.{list_any}
 use Rattle.std.proofs.lemmas.Bool.{eqb-true}
-use Rattle.pm_laws.proofs.Common.{Agree, BelowLaws, Border, Event, Fixed, Ipi, IsClosed, IsKind, IsObject, IsSound, IsWellFormed, Kind, MasterRec, NodeId, Object, Pass, Power, Slave, State, Topology, Unknown, Wfi, border_of, effect, is_hidden, is_within, kind_of, master_place, none_within, owner_by, place_of}
+use Rattle.pm_laws.proofs.Common.{Agree, AreObjects, BelowLaws, Border, Event, Fixed, Ipi, IsClosed, IsKind, IsObject, IsSound, IsWellFormed, Kind, MasterRec, NodeId, Object, Pass, Power, Slave, State, Topology, Unknown, Wfi, border_of, effect, is_hidden, is_within, kind_of, master_place, none_within, owner_by, place_of}
 use Rattle.pm_base.specs.declared.events.Event.TheVariants.{Post, Smc}
 use Rattle.pm_base.specs.declared.events.Message.{Message}
 use Rattle.pm_base.proofs.Booleans.{both}
@@ -21,8 +21,8 @@ use Rattle.pm_laws.proofs.ToldLaw.{nothing_told, same_told}
 
 -- what is known of the border of a reach
 pub record ReachLaws : Type 0 where
-  pub closed : (object : Object) (t : Topology) (m : NodeId) → IsObject object → IsWellFormed t → IsClosed object t (border_of object t m)
-  pub own : (m : NodeId) (book : State) → is_within (border_of book.fixed.object book.fixed.topology m) (master_place m book) ≡ true
+  pub closed : (fixed : Fixed) (m : NodeId) → AreObjects fixed → IsWellFormed fixed.topology → IsClosed fixed (border_of fixed m)
+  pub own : (m : NodeId) (book : State) → is_within (border_of book.fixed m) (master_place m book) ≡ true
 
 -- ---- an event, or nothing
 
@@ -83,21 +83,21 @@ module _ (reach : ReachLaws) (laws : BelowLaws) (m : NodeId) where
   own_hidden (Wfi proc) a is = owned_hidden a proc (kind_of a.fixed.topology proc) (laws.kinds.is a.fixed.topology proc) is
   own_hidden event a is = absurd is
 
-  module _ (a b : State) (object : IsObject a.fixed.object) (chip : IsWellFormed a.fixed.topology) (sound_a : IsSound a) (sound_b : IsSound b) (agree : Agree (border_in a m) a b) where
+  module _ (a b : State) (object : AreObjects a.fixed) (chip : IsWellFormed a.fixed.topology) (sound_a : IsSound a) (sound_b : IsSound b) (agree : Agree (border_in a m) a b) where
     abbrev edge : Border
     edge = border_in a m
 
-    closed_a : IsClosed a.fixed.object a.fixed.topology edge
-    closed_a = reach.closed a.fixed.object a.fixed.topology m object chip
+    closed_a : IsClosed a.fixed edge
+    closed_a = reach.closed a.fixed m object chip
 
-    closed_b : IsClosed b.fixed.object b.fixed.topology edge
-    closed_b = let P : Fixed → Type 0 = λ fixed. IsClosed fixed.object fixed.topology edge in subst P agree.fixed closed_a
+    closed_b : IsClosed b.fixed edge
+    closed_b = let P : Fixed → Type 0 = λ fixed. IsClosed fixed edge in subst P agree.fixed closed_a
 
     pub both_apart : (event : Event) → Agree edge (effect event a) (effect event b)
         × SameTold a.fixed.object a.fixed.topology edge (core_of event a) (core_of event b)
     both_apart event = (
       steps_agree laws edge event a b closed_a sound_a sound_b agree,
-      same_told laws edge event a b closed_a sound_a sound_b agree object chip,
+      same_told laws edge event a b closed_a sound_a sound_b agree object.0 chip,
     )
 
     pub left_apart : (event : Event) → IsOwn a.fixed.object a.fixed.topology m event → Agree edge (effect event a) b
@@ -105,7 +105,7 @@ module _ (reach : ReachLaws) (laws : BelowLaws) (m : NodeId) where
     left_apart event own =
         let is = own_hidden event a own in (
           step_hidden laws edge event a b closed_a sound_a sound_b is agree,
-          nothing_told laws edge event a closed_a sound_a is object,
+          nothing_told laws edge event a closed_a sound_a is object.0,
         )
 
     -- a book in which nothing happens stays
@@ -115,13 +115,13 @@ module _ (reach : ReachLaws) (laws : BelowLaws) (m : NodeId) where
         let P : Fixed → Type 0 = λ fixed. IsObject fixed.object in
         let Q : Fixed → Type 0 = λ fixed. TellsNothing fixed.object fixed.topology edge (core_of Pass b) in (
           agree_trans edge a b (effect Pass b) agree (agree_sym edge (effect Pass b) b stays),
-          subst Q (sym agree.fixed) (nothing_told laws edge Pass b closed_b sound_b refl (subst P agree.fixed object)),
+          subst Q (sym agree.fixed) (nothing_told laws edge Pass b closed_b sound_b refl (subst P agree.fixed object.0)),
         )
 
 -- ---- an event in the one book, and in the other the same, or nothing where it is a message of the master
 
 -- who tells nothing tells the same, where the master is one of the object, whose message is of nobody beyond
-pub agree_quiet : ReachLaws → BelowLaws → (m : NodeId) (event : Event) (a b : State) → IsObject a.fixed.object → IsWellFormed a.fixed.topology
+pub agree_quiet : ReachLaws → BelowLaws → (m : NodeId) (event : Event) (a b : State) → AreObjects a.fixed → IsWellFormed a.fixed.topology
     → IsSound a → IsSound b → Agree (border_in a m) a b
     → Agree (border_in a m) (effect event a) (effect (quiet_event m event) b)
 agree_quiet reach laws m event a b object chip sound_a sound_b agree =
@@ -129,14 +129,14 @@ agree_quiet reach laws m event a b object chip sound_a sound_b agree =
     (λ one. (both_apart reach laws m a b object chip sound_a sound_b agree one).0)
     (λ message.
     let still : Agree (border_in a m) a (effect Pass b) = (rest_apart reach laws m a b object chip sound_a sound_b agree).0 in
-    let itself : Agree (border_in a m) a a = agree_self laws.units (border_in a m) a (reach.closed a.fixed.object a.fixed.topology m object chip) sound_a in
+    let itself : Agree (border_in a m) a a = agree_self laws.units (border_in a m) a (reach.closed a.fixed m object chip) sound_a in
     agree_trans (border_in a m) (effect (Ipi m message) a) a (effect Pass b)
     (left_apart reach laws m a a object chip sound_a sound_a itself (Ipi m message) refl).0 still)
     (λ message. (both_apart reach laws m a b object chip sound_a sound_b agree Pass).0)
     (λ proc function args. (both_apart reach laws m a b object chip sound_a sound_b agree Pass).0)
     event
 
-pub told_quiet : ReachLaws → BelowLaws → (m : NodeId) (event : Event) (a b : State) → IsObject a.fixed.object → IsWellFormed a.fixed.topology
+pub told_quiet : ReachLaws → BelowLaws → (m : NodeId) (event : Event) (a b : State) → AreObjects a.fixed → IsWellFormed a.fixed.topology
     → list_any (λ (r : MasterRec). r.node == m.0) a.fixed.object.masters ≡ true
     → IsSound a → IsSound b → Agree (border_in a m) a b
     → SameTold a.fixed.object a.fixed.topology (border_in a m) (core_of event a) (core_of (quiet_event m event) b)

@@ -7,7 +7,6 @@ use Rattle.pm_ipi.specs.Calls.{call_of}
 use Rattle.pm_state.specs.Stages.{after_stages}
 use Rattle.pm_laws.proofs.AgreeLaw.{agree_sym, agree_trans, same_sym}
 use Rattle.pm_laws.proofs.CallsAlike.{book_of}
-use Rattle.pm_laws.proofs.HiddenLemmas.{HasClosed}
 use Rattle.pm_laws.proofs.EventsLaw.{event_alike, event_hidden, hidden_fixed, some_beyond}
 use Rattle.pm_laws.proofs.PathLaw.{stages_alike, stages_hidden}
 use Rattle.pm_laws.proofs.TalkFacts.{talked_alike, talked_unseen}
@@ -15,7 +14,7 @@ use Rattle.pm_laws.proofs.TellingsLaw.{talk_alike, talk_hidden}
 
 -- ---- steps
 
-module _ (laws : BelowLaws) (fixed : Fixed) (border : Border) (closed : IsClosed fixed.object fixed.topology border) (event : Event) where
+module _ (laws : BelowLaws) (fixed : Fixed) (border : Border) (closed : IsClosed fixed border) (event : Event) where
   -- a hidden event, beside a book that stays
   pub effect_hidden : (still now : Now) → IsSound (book_of fixed now) → KnowsModes (book_of fixed still) → is_hidden border event (book_of fixed now) ≡ true
       → Same fixed border still now → Agree border (book_of fixed still) (effect event (book_of fixed now))
@@ -24,7 +23,7 @@ module _ (laws : BelowLaws) (fixed : Fixed) (border : Border) (closed : IsClosed
       let second : State = book_of fixed still in
       let after : State = after_stages (stages event first) first in
       let stays : Agree border second after =
-      stages_hidden laws border (stages event first) second first knows (event_hidden laws.kinds border event first closed is) (record { fixed = refl; now = same })
+      stages_hidden laws border (stages event first) second first knows (event_hidden laws.kinds border event first (record { closed = closed; force = same.second }) is) (record { fixed = refl; now = same })
       in
       agree_sym border (effect event first) second
       (talked_unseen border (talk event first) after second closed.some (talk_hidden laws border event fixed closed still now sound knows is same) (agree_sym border second after stays))
@@ -61,13 +60,13 @@ module _ (laws : BelowLaws) (fixed : Fixed) (border : Border) (closed : IsClosed
 -- ---- sound books
 
 -- one event in two books
-pub steps_agree : BelowLaws → (border : Border) (event : Event) (a b : State) → IsClosed a.fixed.object a.fixed.topology border → IsSound a → IsSound b → Agree border a b → Agree border (effect event a) (effect event b)
+pub steps_agree : BelowLaws → (border : Border) (event : Event) (a b : State) → IsClosed a.fixed border → IsSound a → IsSound b → Agree border a b → Agree border (effect event a) (effect event b)
 steps_agree laws border event a b closed sound_a sound_b agree =
     let P : Fixed → Type 0 = λ fixed. IsSound (book_of fixed b.now) → Agree border (effect event a) (effect event (book_of fixed b.now)) in
     subst P agree.fixed
     (λ sound. effects_by laws a.fixed border closed event a.now b.now (is_hidden border event a) refl sound_a sound agree.now) sound_b
 
-pub step_hidden : BelowLaws → (border : Border) (event : Event) (a b : State) → HasClosed border a → IsSound a → IsSound b → is_hidden border event a ≡ true → Agree border a b → Agree border (effect event a) b
+pub step_hidden : BelowLaws → (border : Border) (event : Event) (a b : State) → IsClosed a.fixed border → IsSound a → IsSound b → is_hidden border event a ≡ true → Agree border a b → Agree border (effect event a) b
 step_hidden laws border event a b closed sound_a sound_b is agree =
     let P : Fixed → Type 0 = λ fixed. IsSound (book_of fixed b.now) → Agree border (effect event a) (book_of fixed b.now) in
     subst P agree.fixed

@@ -2,13 +2,13 @@
 -- and made in one alone it does so too. So do lists of changes of which the same part is seen.
 use Rattle.std.proofs.Common.{◌≡◌, ℕ, Bool, true, false, ◌&&◌, if◌then◌else◌, List, [], ◌∷◌, Some, None, unwrap_or, refl, sym, ap, subst, arith}
 use Rattle.std.specs.Prelude.{option_map, slice_set}
-use Rattle.pm_notify.specs.MasterNotes.{MasterNotes, forgotten, with_note, with_notifier, without_note}
+use Rattle.pm_notify.specs.MasterNotes.{MasterNotes, forgotten, with_note, with_notifier, without_note, without_notifiers}
 use Rattle.pm_notify.specs.Notify.{notes_for}
 use Rattle.pm_procs.specs.Pending.{dropped, lowered}
 use Rattle.pm_laws.proofs.Common.{Agree, Border, BothFrom, HasSome, IsBeyond, IsTalkUnseen, SameEntries, SameMasterNotes, SamePending, SameTalk, State, TalkHalf, seen_talk, talk_part}
-use Rattle.pm_state.specs.Talk.{Talk, Ask, Lower, End, Renew, Forget, Notify, Take, Wait, apply_talk, talks, talked}
+use Rattle.pm_state.specs.Talk.{Talk, Ask, Lower, End, Renew, Forget, Notify, Take, Wait, Unwatch, apply_talk, talks, talked}
 use Rattle.pm_laws.proofs.AgreeLaw.{clash, talk_sym, talk_trans}
-use Rattle.pm_laws.proofs.MasterNotesFacts.{forgotten_both, master_notes_same, note_both, note_left, notifier_both, take_both, take_left}
+use Rattle.pm_laws.proofs.MasterNotesFacts.{forgotten_both, master_notes_same, note_both, note_left, notifier_both, take_both, take_left, unwatched_both}
 use Rattle.pm_laws.proofs.Places.{BothFrom-map, BothFrom-map_left, BothFrom-set, BothFrom-set_at, BothFrom-set_left}
 
 -- ---- one change
@@ -61,6 +61,10 @@ told_alike border Renew a b same = record {
   pending = BothFrom-map (SamePending border) dropped dropped (λ k x y is beyond. refl) 0 a.pending b.pending same.pending;
   notes = BothFrom-map (SameMasterNotes border) forgotten forgotten (λ k x y is beyond. forgotten_both border x y (is beyond)) 0 a.notes b.notes same.notes;
 }
+told_alike border Unwatch a b same = record {
+  pending = same.pending;
+  notes = BothFrom-map (SameMasterNotes border) without_notifiers without_notifiers (λ k x y is beyond. unwatched_both border x y (is beyond)) 0 a.notes b.notes same.notes;
+}
 
 -- the second of two, where not both are so and the first is
 second_within : (a b : Bool) → (a && b) ≡ false → a ≡ true → b ≡ false
@@ -105,6 +109,10 @@ told_unseen border Renew a b some is same = record {
       (λ k x y each beyond. clash border.some (some k beyond) is) 0 a.pending b.pending same.pending;
   notes = BothFrom-map_left (SameMasterNotes border) forgotten (λ k x y each beyond. clash border.some (some k beyond) is) 0 a.notes b.notes same.notes;
 }
+told_unseen border Unwatch a b some is same = record {
+  pending = same.pending;
+  notes = BothFrom-map_left (SameMasterNotes border) without_notifiers (λ k x y each beyond. clash border.some (some k beyond) is) 0 a.notes b.notes same.notes;
+}
 
 -- ---- lists of changes
 
@@ -141,7 +149,7 @@ module _ (border : Border) (some : HasSome border) where
 with_talk : (border : Border) (ps qs : List Talk) (a b : State) → Agree border a b → SameTalk border (talks ps a.now.talk) (talks qs b.now.talk) → Agree border (talked ps a) (talked qs b)
 with_talk border ps qs a b agree same = record {
   fixed = agree.fixed;
-  now = record { some = agree.now.some; boot = agree.now.boot; halted = agree.now.halted; rows = agree.now.rows; known = agree.now.known; procs = agree.now.procs; lines = agree.now.lines; talk = same };
+  now = record { some = agree.now.some; pairs = agree.now.pairs; first = agree.now.first; second = agree.now.second; force = agree.now.force; halted = agree.now.halted; rows = agree.now.rows; known = agree.now.known; procs = agree.now.procs; lines = agree.now.lines; talk = same };
 }
 
 pub talked_alike : (border : Border) (ps qs : List Talk) (a b : State) → HasSome border → talk_part border ps ≡ talk_part border qs → Agree border a b → Agree border (talked ps a) (talked qs b)
@@ -153,7 +161,7 @@ talked_unseen border changes a b some is agree =
     let same : SameTalk border (talks changes a.now.talk) b.now.talk = talks_alike border some changes [] a.now.talk b.now.talk is agree.now.talk in
     record {
       fixed = agree.fixed;
-      now = record { some = agree.now.some; boot = agree.now.boot; halted = agree.now.halted; rows = agree.now.rows; known = agree.now.known; procs = agree.now.procs; lines = agree.now.lines; talk = same };
+      now = record { some = agree.now.some; pairs = agree.now.pairs; first = agree.now.first; second = agree.now.second; force = agree.now.force; halted = agree.now.halted; rows = agree.now.rows; known = agree.now.known; procs = agree.now.procs; lines = agree.now.lines; talk = same };
     }
 
 -- one change, in both books and in one alone
@@ -166,5 +174,5 @@ talk_unseen border change a b some is agree =
     let same : SameTalk border (apply_talk change a.now.talk) b.now.talk = told_unseen border change a.now.talk b.now.talk some is agree.now.talk in
     record {
       fixed = agree.fixed;
-      now = record { some = agree.now.some; boot = agree.now.boot; halted = agree.now.halted; rows = agree.now.rows; known = agree.now.known; procs = agree.now.procs; lines = agree.now.lines; talk = same };
+      now = record { some = agree.now.some; pairs = agree.now.pairs; first = agree.now.first; second = agree.now.second; force = agree.now.force; halted = agree.now.halted; rows = agree.now.rows; known = agree.now.known; procs = agree.now.procs; lines = agree.now.lines; talk = same };
     }

@@ -164,7 +164,7 @@ module _ (laws : BelowLaws) (border : Border) where
 abbrev pub later : Event → Fixed → Now → State
 later event fixed now = after_stages (stages event (book_of fixed now)) (book_of fixed now)
 
-module _ (laws : BelowLaws) (border : Border) (event : Event) (fixed : Fixed) (closed : IsClosed fixed.object fixed.topology border) where
+module _ (laws : BelowLaws) (border : Border) (event : Event) (fixed : Fixed) (closed : IsClosed fixed border) where
   -- the requests that end about nodes beyond are to masters beyond
   ended_acks : (now : Now) → IsSound (book_of fixed now) → (k : ℕ)
       → notes_beyond border (flat_map (acknowledged_to k) (ended event (book_of fixed now)))
@@ -229,7 +229,7 @@ module _ (laws : BelowLaws) (border : Border) (event : Event) (fixed : Fixed) (c
       → Same fixed border still (later event fixed now).now
   after_hidden still now knows is same =
       (stages_hidden laws border (stages event (book_of fixed now)) (book_of fixed still) (book_of fixed now) knows
-      (event_hidden laws.kinds border event (book_of fixed now) closed is) (record { fixed = refl; now = same })).now
+      (event_hidden laws.kinds border event (book_of fixed now) (record { closed = closed; force = same.second }) is) (record { fixed = refl; now = same })).now
 
   pub news_hidden : (still now : Now) → border.some ≡ true → IsSound (book_of fixed now) → KnowsModes (book_of fixed still) → is_hidden border event (book_of fixed now) ≡ true
       → Same fixed border still now → NewsAlike border (news event (book_of fixed now)) no_news
@@ -239,9 +239,9 @@ module _ (laws : BelowLaws) (border : Border) (event : Event) (fixed : Fixed) (c
       let before : Same fixed border now still = same_sym fixed border still now same in
       let after : Same fixed border (later event fixed now).now still = same_sym fixed border still (later event fixed now).now (after_hidden still now knows is same) in
       record {
-        asked = none_asked border (says event first) (event_within border first event closed is);
+        asked = none_asked border (says event first) (event_within border first event (record { closed = closed; force = same.second }) is);
         acks = λ k. ended_acks now sound k
-            ∙ ap (λ es. notes_beyond border (flat_map (acknowledged_to k) es)) (ended_hidden laws border event (book_of fixed still) first closed knows is agree);
+            ∙ ap (λ es. notes_beyond border (flat_map (acknowledged_to k) es)) (ended_hidden laws border event (book_of fixed still) first (record { closed = closed; force = same.second }) knows is agree);
         notices = λ x y notes. notices_alike fixed border closed some now still (later event fixed now).now still before after x y notes
             ∙ ap (λ due. notes_beyond border (flat_map (noticed_by y) due)) (notices_rest fixed border closed some still);
       }
@@ -251,7 +251,7 @@ module _ (laws : BelowLaws) (border : Border) (event : Event) (fixed : Fixed) (c
   found_hidden still now knows is same =
       let first : State = book_of fixed now in
       let open_unseen : IsTalkUnseen border (opening event first) =
-      opening_hidden laws border event (book_of fixed still) first closed knows is (record { fixed = refl; now = same })
+      opening_hidden laws border event (book_of fixed still) first (record { closed = closed; force = same.second }) knows is (record { fixed = refl; now = same })
       in
       (talks_alike border closed.some (opening event first) [] (later event fixed now).now.talk still.talk open_unseen
       (same_sym fixed border still (later event fixed now).now (after_hidden still now knows is same)).talk).notes
@@ -266,7 +266,7 @@ module _ (laws : BelowLaws) (border : Border) (event : Event) (fixed : Fixed) (c
       let ended_there : Agree border first (later event fixed now) =
       agree_trans border first second (later event fixed now) (agree_sym border second first agree) (record { fixed = refl; now = after })
       in
-      let open_unseen : IsTalkUnseen border (opening event first) = opening_hidden laws border event second first closed knows is agree in
+      let open_unseen : IsTalkUnseen border (opening event first) = opening_hidden laws border event second first (record { closed = closed; force = same.second }) knows is agree in
       let xs = notes_after (opening event first) (later event fixed now) in
       let note_changes_at = note_changes (news event first) (modes_in first) xs (later event fixed now) in
       let own = kept_of (served event first) (later event fixed now) in

@@ -76,7 +76,7 @@ still_among book (unit ∷ units) =
 -- ---- two books that agree
 
 module _ (laws : BelowLaws) (border : Border) (event : Event) where
-  module _ (a b : State) (closed : IsClosed a.fixed.object a.fixed.topology border) (sound_a : IsSound a) (sound_b : IsSound b) (agree : Agree border a b) where
+  module _ (a b : State) (closed : IsClosed a.fixed border) (sound_a : IsSound a) (sound_b : IsSound b) (agree : Agree border a b) where
     abbrev beyond : Unit → Bool
     beyond = is_beyond a.fixed.object a.fixed.topology border
 
@@ -113,7 +113,7 @@ module _ (laws : BelowLaws) (border : Border) (event : Event) where
 
   -- ---- a hidden event
 
-  module _ (book : State) (closed : IsClosed book.fixed.object book.fixed.topology border) (sound : IsSound book) (is : is_hidden border event book ≡ true) where
+  module _ (book : State) (closed : IsClosed book.fixed border) (sound : IsSound book) (is : is_hidden border event book ≡ true) where
     abbrev seen : Unit → Bool
     seen = is_beyond book.fixed.object book.fixed.topology border
 
@@ -135,12 +135,12 @@ module _ (laws : BelowLaws) (border : Border) (event : Event) where
 
     pub nothing_told : IsObject book.fixed.object → TellsNothing book.fixed.object book.fixed.topology border (core_of event book)
     nothing_told object =
-        let ends = ends_hidden laws border event book closed sound is in
+        let ends = ends_hidden laws border event book (record { closed = closed; force = record { place = sound.force.place; there = sound.force.there } }) sound is in
         record {
           moves = no_moves;
           starts = no_starts;
-          pulse = pulse_hidden border book event closed is;
-          asked = asked_hidden laws border event book closed is;
+          pulse = pulse_hidden border book event (record { closed = closed; force = record { place = sound.force.place; there = sound.force.there } }) is;
+          asked = asked_hidden laws border event book (record { closed = closed; force = record { place = sound.force.place; there = sound.force.there } }) is;
           ends = ends;
           late = ap (λ (es : List Ended). late_replies es (effect event book)) ends;
           callbacks = callbacks_hidden laws border event book object closed sound is;

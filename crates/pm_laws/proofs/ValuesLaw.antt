@@ -76,7 +76,7 @@ module _ (fixed : Fixed) (border : Border) (a b : Now) (same : Same fixed border
 
 -- ---- power nodes and slaves
 
-module _ (fixed : Fixed) (border : Border) (closed : IsClosed fixed.object fixed.topology border) (a b : Now) (same : Same fixed border a b) where
+module _ (fixed : Fixed) (border : Border) (closed : IsClosed fixed border) (a b : Now) (same : Same fixed border a b) where
   slave_wanted : (s : ℕ) → border.slave s ≡ true → wanted_of s a.core.rows ≡ wanted_of s b.core.rows
   slave_wanted s beyond = wanted_beyond border s (book_of fixed a) (book_of fixed b) border.some refl beyond (record { fixed = refl; now = same })
 
@@ -210,7 +210,7 @@ module _ (fixed : Fixed) (border : Border) (closed : IsClosed fixed.object fixed
   unit_alike (Line line) beyond = line_alike (line_place line fixed) beyond
 
 -- a unit beyond has the same value in both
-pub values_alike : (border : Border) (unit : Unit) (a b : State) → IsClosed a.fixed.object a.fixed.topology border
+pub values_alike : (border : Border) (unit : Unit) (a b : State) → IsClosed a.fixed border
     → is_beyond a.fixed.object a.fixed.topology border unit ≡ true
     → Agree border a b → value unit a ≡ value unit b
 values_alike border unit a b closed beyond agree =

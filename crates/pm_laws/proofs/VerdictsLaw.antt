@@ -6,18 +6,19 @@ use Rattle.std.proofs.lemmas.Bool.{eqb-true}
 use Rattle.pm_laws.proofs.Common.{BelowLaws, Border, Called, Event, Fixed, Ipi, IsBeyond, IsTalkUnseen, NodeId, Now, Same, State, Topology, aborted_by, asked_by, asks_beyond, called, can_suspend, changes_within, call_at, may_call, is_hidden, is_place, is_within, line_beyond, master_place, named_master, pulse, pulse_of, says, says_of, shape_within, suspendable, suspendable_at, verdict, verdict_by, verdict_of}
 use Rattle.pm_base.specs.declared.names.LineId.{LineId}
 use Rattle.pm_base.proofs.Booleans.{both, either, neither}
+use Rattle.pm_grants.specs.Grants.{permits_configure, permits_suspend}
 use Rattle.pm_ipi.specs.declared.calls.Call.{Call}
 use Rattle.pm_ipi.specs.Calls.{call_of}
 use Rattle.pm_notify.specs.Notes.{event_of}
 use Rattle.pm_calls.specs.declared.verdict.Effects.{Effects}
 use Rattle.pm_calls.specs.declared.verdict.Say.{Say}
-use Rattle.pm_calls.specs.declared.verdict.Say.TheVariants.{Ask as SaysAsk, Abort as SaysAbort, Register as SaysRegister, Renew as SaysRenew}
+use Rattle.pm_calls.specs.declared.verdict.Say.TheVariants.{Ask as SaysAsk, Abort as SaysAbort, Register as SaysRegister, Renew as SaysRenew, Unwatch as SaysUnwatch}
 use Rattle.pm_calls.specs.declared.verdict.Verdict.{Verdict}
 use Rattle.pm_calls.specs.Checks.{AllHold, Cause, Fits, Stands, first_failing}
 use Rattle.pm_calls.specs.ResetLines.{can_reset}
 use Rattle.pm_state.specs.State.{grants_in}
-use Rattle.pm_state.specs.Talk.{Ask, Notify, Renew, Talk}
-use Rattle.pm_tell.specs.Opening.{renew_by, say_by}
+use Rattle.pm_state.specs.Talk.{Ask, Notify, Renew, Talk, Unwatch}
+use Rattle.pm_tell.specs.Opening.{sweep_by, say_by}
 use Rattle.pm_state.specs.Values.{line_place}
 use Rattle.pm_calls.specs.calls.RegisterNotifier.{notifier_put}
 use Rattle.pm_calls.specs.calls.RequestSuspend.{target_asked}
@@ -26,13 +27,13 @@ use Rattle.pm_calls.specs.calls.SystemShutdown.{renewal, restarts_all}
 use Rattle.pm_calls.proofs.Verdicts.{all_hold, mapped}
 use Rattle.pm_laws.specs.Pulse.{pulse_beyond}
 use Rattle.pm_calls.specs.calls.{shape_of}
-use Rattle.pm_calls.specs.Shapes.{Shape, Node_status, Node_figures, Line_value, Own_row, Own_arming, Own_abort, Own_notifier, Other_wakeup, Other_suspend, All_shut, All_reset, shaped}
+use Rattle.pm_calls.specs.Shapes.{Shape, Node_status, Node_figures, Line_value, Own_row, Own_arming, Own_abort, Own_notifier, Other_wakeup, Other_suspend, All_shut, All_reset, All_configured, shaped}
 use Rattle.pm_laws.proofs.ShapesLaw.{called_shaped, reads_within}
 use Rattle.pm_laws.proofs.CallsAlike.{book_of, called_same, kept}
 use Rattle.pm_laws.proofs.CallsHidden.{turned}
 use Rattle.pm_laws.proofs.DownHidden.{may_shut_down, none_beyond}
 use Rattle.pm_laws.proofs.MayCallLaw.{heard_same}
-use Rattle.pm_laws.proofs.HiddenLemmas.{HasClosed, within_by}
+use Rattle.pm_laws.proofs.HiddenLemmas.{HasClosed, by_one, within_by}
 use Rattle.pm_laws.proofs.ResetLaw.{line_within}
 
 -- ---- what is told within
@@ -44,17 +45,19 @@ SaysWithin border (Some (SaysAsk asked)) = border.master asked.target ≡ false
 SaysWithin border (Some (SaysAbort m)) = border.master m ≡ false
 SaysWithin border (Some (SaysRegister put)) = border.master put.master ≡ false
 SaysWithin border (Some SaysRenew) = border.some ≡ false
+SaysWithin border (Some SaysUnwatch) = border.some ≡ false
 
 one_unseen : (change : Talk) (seen : Bool) → seen ≡ false → (if seen then change ∷ [] else []) ≡ []
 one_unseen change true within = cc
 one_unseen change false within = refl
 
-pub renewal_unseen : (border : Border) (says : Option Say) → SaysWithin border says → IsTalkUnseen border (renew_by says)
+pub renewal_unseen : (border : Border) (says : Option Say) → SaysWithin border says → IsTalkUnseen border (sweep_by says)
 renewal_unseen border None within = refl
 renewal_unseen border (Some (SaysAsk asked)) within = refl
 renewal_unseen border (Some (SaysAbort m)) within = refl
 renewal_unseen border (Some (SaysRegister put)) within = refl
 renewal_unseen border (Some SaysRenew) within = one_unseen Renew border.some within
+renewal_unseen border (Some SaysUnwatch) within = one_unseen Unwatch border.some within
 
 pub say_unseen : (border : Border) (says : Option Say) → SaysWithin border says → IsTalkUnseen border (say_by says)
 say_unseen border None within = refl
@@ -62,6 +65,7 @@ say_unseen border (Some (SaysAsk asked)) within = one_unseen (Ask asked.target a
 say_unseen border (Some (SaysAbort m)) within = refl
 say_unseen border (Some (SaysRegister put)) within = one_unseen (Notify put.master put.node put.event put.on) (border.master put.master) within
 say_unseen border (Some SaysRenew) within = refl
+say_unseen border (Some SaysUnwatch) within = refl
 
 pub none_asked : (border : Border) (says : Option Say) → SaysWithin border says → asks_beyond border (asked_by says) ≡ None
 none_asked border None within = refl
@@ -125,7 +129,7 @@ module _ (border : Border) (book : State) where
   caller_within : (m : ℕ) (shape : Shape) → HasClosed border book → border.master m ≡ false → IsWithin book.fixed.topology border (verdict_of (shaped m shape book))
   caller_within m (Other_suspend node ack latency state) closed within =
       call_within book.fixed.topology border (shaped m (Other_suspend node ack latency state) book)
-      (λ all. (asks_within m ack latency state node (named_master book.fixed node) (λ k named may. within_by (border.master k) (border.master m) (closed.suspends m k may) within), refl))
+      (λ all. (asks_within m ack latency state node (named_master book.fixed node) (λ k named may. within_by (border.master k) (border.master m) (closed.closed.suspends m k (by_one book (λ g. permits_suspend g m k) closed.force may)) within), refl))
   caller_within m (Own_abort node reason) closed within =
       call_within book.fixed.topology border (shaped m (Own_abort node reason) book) (λ all. (within, refl))
   caller_within m (Own_notifier node event enable) closed within =
@@ -136,13 +140,16 @@ module _ (border : Border) (book : State) where
       (λ all. (
         renewal_within (restarts_all shutdown_type subtype)
             (λ restart. let parts = both (shutdown_type == 1) (not (subtype == 0)) restart in
-            none_beyond border book.fixed m subtype closed within (turned (subtype == 0) parts.1)
+            none_beyond border book m subtype closed within (turned (subtype == 0) parts.1)
             (may_shut_down (grants_in book) m shutdown_type subtype (no_scope shutdown_type parts.0) all)),
         refl,
       ))
   caller_within m (All_reset line action) closed within =
       call_within book.fixed.topology border (shaped m (All_reset line action) book)
       (λ all. (tt, placed_pulse m line action (line_place line book.fixed) closed within refl all.node all.permitted))
+  caller_within m (All_configured address) closed within =
+      call_within book.fixed.topology border (shaped m (All_configured address) book)
+      (λ all. (within_by border.some (border.master m) (closed.closed.configures m (by_one book (λ g. permits_configure g m) closed.force all.permitted)) within, refl))
   caller_within m shape closed within = call_within book.fixed.topology border (shaped m shape book) (λ all. (tt, refl))
 
   -- a call that changes a row on a slave within, or wakes or asks a master within

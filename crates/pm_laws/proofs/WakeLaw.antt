@@ -3,7 +3,7 @@ use Rattle.std.proofs.Common.{◌≡◌, ℕ, ◌==◌, Bool, true, false, not, 
 use Rattle.std.specs.Prelude.{flat_map}
 use Rattle.std.specs.List.{list_all}
 use Rattle.std.proofs.lemmas.List.Elements.{filter-append}
-use Rattle.pm_laws.proofs.Common.{Active, AreAlike, AreHidden, ArmsOwn, Border, Both, Entry, Fixed, IsBeyond, IsUnseen, Kind, Mode, NodeId, Now, Off, Put_proc, RowSeed, Same, SameRow, Slave, State, arms_own, is_armed_own, is_own, kind_of, proc_at, seen, seen_part}
+use Rattle.pm_laws.proofs.Common.{Active, AreAlike, AreHidden, ArmsOwn, Border, Both, Entry, Fixed, IsBeyond, IsUnseen, Kind, Mode, NodeId, Now, Off, Put_proc, Pair, Same, SameRow, Slave, State, arms_own, is_armed_own, is_own, kind_of, proc_at, seen, seen_part}
 use Rattle.pm_base.proofs.Booleans.{both}
 use Rattle.pm_procs.specs.declared.procs.Proc.{Proc as Processor}
 use Rattle.pm_topology.specs.declared.places.Kind.TheVariants.{Proc}
@@ -63,10 +63,10 @@ row_alike fixed border s x y a b true beyond row own same =
     let one : woken_by x.seed.master x.row.armed (book_of fixed a) ≡ woken_by x.seed.master x.row.armed (book_of fixed b) = armed_alike fixed border x.seed.master x.row.armed a b own beyond same in
     ap (λ prims. seen_part border (if x.seed.slave == s then prims else [])) one
     ∙ (ap (λ armed. seen_part border (if x.seed.slave == s then woken_by x.seed.master armed (book_of fixed b) else [])) (row.armed beyond)
-    ∙ ap (λ (seed : RowSeed). seen_part border (if seed.slave == s then woken_by seed.master y.row.armed (book_of fixed b) else [])) row.seed)
+    ∙ ap (λ (seed : Pair). seen_part border (if seed.slave == s then woken_by seed.master y.row.armed (book_of fixed b) else [])) row.seed)
 row_alike fixed border s x y a b false within row own same =
     row_unseen border s x (book_of fixed a) within
-    ∙ sym (row_unseen border s y (book_of fixed b) (ap (λ (seed : RowSeed). border.master seed.master) (sym row.seed) ∙ within))
+    ∙ sym (row_unseen border s y (book_of fixed b) (ap (λ (seed : Pair). border.master seed.master) (sym row.seed) ∙ within))
 
 rows_alike : (fixed : Fixed) (border : Border) (s : ℕ) (xs ys : List Entry) (a b : Now) → Both (SameRow border) xs ys → list_all (is_armed_own fixed) xs ≡ true → Same fixed border a b → seen_part border (flat_map (woken_from s (book_of fixed a)) xs) ≡ seen_part border (flat_map (woken_from s (book_of fixed b)) ys)
 rows_alike fixed border s [] [] a b rows own same = refl

@@ -1,7 +1,7 @@
 -- What is wanted of a slave beyond is equal in two books that agree.
 use Rattle.std.proofs.Common.{◌≡◌, ℕ, Bool, true, false, ◌==◌, if◌then◌else◌, List, refl, ◌∙◌, ap}
 use Rattle.std.proofs.lemmas.Bool.{eqb-true}
-use Rattle.pm_laws.proofs.Common.{Agree, Border, Entry, IsBeyond, Mode, RowSeed, SameRow, State}
+use Rattle.pm_laws.proofs.Common.{Agree, Border, Entry, IsBeyond, Mode, Pair, SameRow, State}
 use Rattle.pm_rows.specs.declared.wanted.Wanted.{Wanted}
 use Rattle.pm_rows.specs.Modes.{mode_in}
 use Rattle.pm_rows.specs.Wanted.{both, least, limit_by, nothing_wanted, required_by, wanted_of, with_row}
@@ -26,7 +26,7 @@ wants_alike border s a b wanted x y false is beyond known same = refl
 row_wants_alike : (border : Border) (s : ℕ) (a b : List Mode) → border.slave s ≡ true → ((m : ℕ) → IsBeyond border m → mode_in m a ≡ mode_in m b) → (wanted : Wanted) (x y : Entry) → SameRow border x y → with_row s a wanted x ≡ with_row s b wanted y
 row_wants_alike border s a b beyond known wanted x y same =
     wants_alike border s a b wanted x y (x.seed.slave == s) refl beyond known same
-    ∙ ap (λ (seed : RowSeed). wants (seed.slave == s) (mode_in y.seed.master b) wanted y) same.seed
+    ∙ ap (λ (seed : Pair). wants (seed.slave == s) (mode_in y.seed.master b) wanted y) same.seed
 
 pub wanted_alike : (border : Border) (s : ℕ) (a b : State) → border.some ≡ true → border.slave s ≡ true → Agree border a b → wanted_of s a.now.core.rows ≡ wanted_of s b.now.core.rows
 wanted_alike border s a b some beyond agree =

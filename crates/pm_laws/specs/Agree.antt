@@ -12,8 +12,11 @@ use Rattle.pm_rows.specs.declared.row.Entry.{Entry}
 use Rattle.pm_topology.specs.UnitMap.{units_in}
 use Rattle.pm_topology.specs.Units.{rises}
 use Rattle.pm_state.specs.Members.{owner_at}
-use Rattle.pm_state.specs.State.{Fixed, TalkHalf, Now, State}
-use Rattle.pm_laws.specs.Border.{Border, HasSome, IsBeyond, is_told}
+use Rattle.pm_object.specs.declared.object.Object.{Object}
+use Rattle.pm_rows.specs.declared.row.Pair.{Pair}
+use Rattle.pm_state.specs.Pairs.{pairs_of}
+use Rattle.pm_state.specs.State.{Fixed, TalkHalf, Now, State, object_at, objects_of}
+use Rattle.pm_laws.specs.Border.{Border, HasSome, IsBeyond, IsPairClosed, IsUserKnown, is_told}
 use Rattle.pm_laws.specs.Both.{Both, BothFrom}
 
 -- two rows are those of one pair, whose master is beyond where its slave is, and within where no master beyond may use that
@@ -77,11 +80,29 @@ pub record SameTalk (border : Border) (a b : TalkHalf) : Type 0 where
   pub pending : BothFrom (SamePending border) 0 a.pending b.pending
   pub notes : BothFrom (SameMasterNotes border) 0 a.notes b.notes
 
--- what changes of two books with the same object and chip agrees beyond the border. Where a master is beyond, some is, and
--- then both books are halted or neither
+-- an object is one of the run's
+pub record IsAmong (fixed : Fixed) (object : Object) : Type 0 where
+  pub place : ℕ
+  pub there : object_at fixed place ≡ Some object
+
+-- the master of a permitted pair is beyond where its slave is, and within where no master beyond may use that slave
+abbrev pub IsPairFit : Border → Pair → Type 0
+IsPairFit border pair = IsPairClosed border pair × IsUserKnown border pair
+
+-- so it is of each pair that an object of the run permits
+abbrev pub ArePairsFit : Fixed → Border → Type 0
+ArePairsFit fixed border =
+    Each (λ (object : Object). Each (IsPairFit border) (pairs_of object fixed.topology)) (objects_of fixed)
+
+-- what changes of two books with the same loaded object, attached ones and chip agrees beyond the border. In both an object of
+-- the run is in force, and the pairs that these permit fit the border. Where a master is beyond, some is, and then both books
+-- have the same object in force, and are halted or neither is
 pub record Same (fixed : Fixed) (border : Border) (a b : Now) : Type 0 where
   pub some : HasSome border
-  pub boot : a.core.rows.boot ≡ b.core.rows.boot
+  pub pairs : ArePairsFit fixed border
+  pub first : IsAmong fixed a.force
+  pub second : IsAmong fixed b.force
+  pub force : border.some ≡ true → a.force ≡ b.force
   pub halted : border.some ≡ true → a.core.halted ≡ b.core.halted
   pub rows : SameRows border border.some a.core.rows.entries b.core.rows.entries
   pub known : BothFrom (SameKnown border) 0 a.core.rows.known b.core.rows.known
@@ -89,7 +110,8 @@ pub record Same (fixed : Fixed) (border : Border) (a b : Now) : Type 0 where
   pub lines : BothFrom (SameLine border) 0 a.core.lines b.core.lines
   pub talk : SameTalk border a.talk b.talk
 
--- two books agree beyond the border: they have the same object and the same chip, and what changes of them agrees there
+-- two books agree beyond the border: they have the same loaded object, the same attached ones and the same chip, and what changes
+-- of them agrees there
 pub record Agree (border : Border) (a b : State) : Type 0 where
   pub fixed : a.fixed ≡ b.fixed
   pub now : Same a.fixed border a.now b.now

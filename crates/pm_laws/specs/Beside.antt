@@ -8,7 +8,7 @@ use Rattle.pm_object.specs.declared.object.Object.{Object}
 use Rattle.pm_topology.specs.declared.topology.Topology.{Topology}
 use Rattle.pm_perms.specs.Owner.{owner}
 use Rattle.pm_state.specs.State.{State}
-use Rattle.pm_run.specs.Run.{Core, Setup}
+use Rattle.pm_run.specs.Run.{Core, Setup, fixed_of}
 use Rattle.pm_laws.specs.Agree.{Agree}
 use Rattle.pm_laws.specs.ReachBorder.{border_of, place_of}
 use Rattle.pm_laws.specs.Told.{SameTold, TellsNothing}
@@ -34,16 +34,16 @@ pub data AreBeside (c : Setup) (m : NodeId) : State → State → List Core → 
   no_core : (a b : State) → AreBeside c m a b [] []
   both_cores : (a b : State) (x y : Core) (xs ys : List Core)
       → x.event ≡ y.event → x.before ≡ a → y.before ≡ b
-      → Agree (border_of c.object c.topology m) x.after y.after
-      → SameTold c.object c.topology (border_of c.object c.topology m) x y
+      → Agree (border_of (fixed_of c) m) x.after y.after
+      → SameTold c.object c.topology (border_of (fixed_of c) m) x y
       → AreBeside c m x.after y.after xs ys → AreBeside c m a b (x ∷ xs) (y ∷ ys)
   left_core : (a b : State) (x : Core) (xs ys : List Core)
       → IsOwn c.object c.topology m x.event → x.before ≡ a
-      → Agree (border_of c.object c.topology m) x.after b
-      → TellsNothing c.object c.topology (border_of c.object c.topology m) x
+      → Agree (border_of (fixed_of c) m) x.after b
+      → TellsNothing c.object c.topology (border_of (fixed_of c) m) x
       → AreBeside c m x.after b xs ys → AreBeside c m a b (x ∷ xs) ys
   rest_core : (a b : State) (y : Core) (xs ys : List Core)
       → y.event ≡ Pass → y.before ≡ b
-      → Agree (border_of c.object c.topology m) a y.after
-      → TellsNothing c.object c.topology (border_of c.object c.topology m) y
+      → Agree (border_of (fixed_of c) m) a y.after
+      → TellsNothing c.object c.topology (border_of (fixed_of c) m) y
       → AreBeside c m a y.after xs ys → AreBeside c m a b xs (y ∷ ys)

@@ -1,12 +1,13 @@
 -- What lies beyond the reach of a master. The laws of two worlds hold of every border that is closed.
-use Rattle.std.specs.Prelude.{◌≡◌, ℕ, Bool, true, false, ◌&&◌, ◌==◌, slice_get, position, Option, Some, None, [], ◌∷◌}
-use Rattle.std.specs.List.{All}
+use Rattle.std.specs.Prelude.{◌≡◌, ℕ, Bool, true, false, ◌&&◌, ◌==◌, slice_get, position, Option, Some, None, List, [], ◌∷◌}
+use Rattle.std.specs.List.{All, AllByRecursion as Each}
 use Rattle.pm_base.specs.declared.names.NodeId.{NodeId}
 use Rattle.pm_base.specs.declared.names.Unit.{Unit}
 use Rattle.pm_base.specs.declared.names.Unit.TheVariants.{Node, Line}
+use Rattle.pm_object.specs.Grammar.{IsObject}
 use Rattle.pm_object.specs.declared.object.MasterRec.{MasterRec}
 use Rattle.pm_object.specs.declared.object.Object.{Object}
-use Rattle.pm_rows.specs.declared.row.RowSeed.{RowSeed}
+use Rattle.pm_rows.specs.declared.row.Pair.{Pair}
 use Rattle.pm_topology.specs.declared.places.Kind.{Kind}
 use Rattle.pm_topology.specs.declared.places.Kind.TheVariants.{Proc, Slave, Power, Unknown}
 use Rattle.pm_topology.specs.Places.{kind_of}
@@ -19,8 +20,14 @@ use Rattle.pm_state.specs.Members.{owner_at}
 use Rattle.pm_state.specs.Pairs.{pairs_of}
 use Rattle.pm_state.specs.Nodes.{named_master}
 use Rattle.pm_state.specs.Scope.{is_slave_under, is_under}
-use Rattle.pm_grants.specs.Grants.{grants_of, permits_configure, permits_force, permits_reset, permits_shut, permits_suspend, permits_use, permits_wake}
+use Rattle.pm_state.specs.State.{Fixed, objects_of, usable_among}
+use Rattle.pm_grants.specs.Grants.{permits_configure, permits_force, permits_reset, permits_shut, permits_suspend, permits_use, permits_wake}
+use Rattle.pm_grants.specs.Several.{all_grants, some_permits}
 use Rattle.pm_reach.specs.Leads.{targets}
+
+-- each object of a run is well formed
+abbrev pub AreObjects : Fixed → Type 0
+AreObjects fixed = Each IsObject (objects_of fixed)
 
 -- which masters, slaves, power nodes and reset lines are beyond, by their places; which slaves a master beyond may use; which
 -- nodes are beyond, by their numbers; and whether any master is
@@ -42,11 +49,11 @@ abbrev pub HasSome : Border → Type 0
 HasSome border = (m : ℕ) → IsBeyond border m → border.some ≡ true
 
 -- the master of a permitted pair is beyond where its slave is
-abbrev pub IsPairClosed : Border → RowSeed → Type 0
+abbrev pub IsPairClosed : Border → Pair → Type 0
 IsPairClosed border pair = border.slave pair.slave ≡ true → IsBeyond border pair.master
 
 -- the master of a permitted pair is within where no master beyond may use its slave
-abbrev pub IsUserKnown : Border → RowSeed → Type 0
+abbrev pub IsUserKnown : Border → Pair → Type 0
 IsUserKnown border pair = border.used pair.slave ≡ false → border.master pair.master ≡ false
 
 -- the master at this place is beyond, or there is none
@@ -77,13 +84,14 @@ abbrev pub is_told : Border → Unit → Bool
 is_told border (Node node) = border.node node.0
 is_told border (Line line) = false
 
--- the border is closed: nobody within can change what is beyond
-pub record IsClosed (object : Object) (t : Topology) (border : Border) : Type 0 where
+-- the border is closed: nobody within can change what is beyond, by what the loaded object or one of the others permits.
+-- Each permission may come of another of them; who is who says the loaded one
+pub record IsClosedOver (object : Object) (others : List Object) (t : Topology) (border : Border) : Type 0 where
   -- who may use a slave beyond is beyond
-  pub users : All (IsPairClosed border) (pairs_of object t)
+  pub users : Each (λ (o : Object). All (IsPairClosed border) (pairs_of o t)) (object ∷ others)
   -- a slave is one that masters beyond may use exactly where one of them may
-  pub known : All (IsUserKnown border) (pairs_of object t)
-  pub used : (s : ℕ) → border.used s ≡ true → (k : ℕ) × IsBeyond border k × (permits_use (grants_of object t) k s ≡ true)
+  pub known : Each (λ (o : Object). All (IsUserKnown border) (pairs_of o t)) (object ∷ others)
+  pub used : (s : ℕ) → border.used s ≡ true → (k : ℕ) × IsBeyond border k × (some_permits (λ g. permits_use g k s) (all_grants (object ∷ others) t) ≡ true)
   -- what stands directly below a power node beyond is beyond, or is a processor that no configured master has
   pub slaves : (s : ℕ) (slave : SlaveDef) → slice_get t.slaves s ≡ Some slave
       → border.power slave.parent ≡ true → border.slave s ≡ true
@@ -95,26 +103,30 @@ pub record IsClosed (object : Object) (t : Topology) (border : Border) : Type 0 
   pub nodes : (node : NodeId) → border.node node.0 ≡ node_beyond object t border node
   -- the master that a node beyond names is beyond, or it names none
   pub names : (node : NodeId) → border.node node.0 ≡ true
-      → none_within border (named_master (record { object = object; topology = t }) node) ≡ true
+      → none_within border (named_master (record { object = object; topology = t; attached = [] }) node) ≡ true
   -- who may suspend or wake a master beyond is beyond
-  pub suspends : (m k : ℕ) → permits_suspend (grants_of object t) m k ≡ true → IsBeyond border k → IsBeyond border m
-  pub wakes : (m k : ℕ) → permits_wake (grants_of object t) m k ≡ true → IsBeyond border k → IsBeyond border m
+  pub suspends : (m k : ℕ) → some_permits (λ g. permits_suspend g m k) (all_grants (object ∷ others) t) ≡ true → IsBeyond border k → IsBeyond border m
+  pub wakes : (m k : ℕ) → some_permits (λ g. permits_wake g m k) (all_grants (object ∷ others) t) ≡ true → IsBeyond border k → IsBeyond border m
   -- who may force a processor of a master beyond, or a power node above one, is beyond; and so is who may force a power
   -- node above a slave that a master beyond may use
   pub forces : (m k p : ℕ) (proc : ProcDef) (kind : Kind) → slice_get t.procs p ≡ Some proc
-      → permits_force (grants_of object t) m kind ≡ true → is_under t kind p proc.node ≡ true
+      → some_permits (λ g. permits_force g m kind) (all_grants (object ∷ others) t) ≡ true → is_under t kind p proc.node ≡ true
       → owner_at object t p ≡ Some k → IsBeyond border k → IsBeyond border m
   pub clears : (m k s : ℕ) (slave : SlaveDef) (kind : Kind) → slice_get t.slaves s ≡ Some slave
-      → permits_force (grants_of object t) m kind ≡ true → is_slave_under t kind slave.node ≡ true
-      → permits_use (grants_of object t) k s ≡ true → IsBeyond border k → IsBeyond border m
+      → some_permits (λ g. permits_force g m kind) (all_grants (object ∷ others) t) ≡ true → is_slave_under t kind slave.node ≡ true
+      → some_permits (λ g. permits_use g k s) (all_grants (object ∷ others) t) ≡ true → IsBeyond border k → IsBeyond border m
   -- who may reset a processor of a master beyond is beyond, and who may reset a line beyond
   pub resets : (m k l : ℕ) (line : LineDef) → slice_get t.lines l ≡ Some line
-      → permits_reset (grants_of object t) m l ≡ true
-      → targets (object ∷ []) t line k ≡ true → IsBeyond border k → IsBeyond border m
-  pub lines : (m l : ℕ) → permits_reset (grants_of object t) m l ≡ true → border.line l ≡ true → IsBeyond border m
+      → some_permits (λ g. permits_reset g m l) (all_grants (object ∷ others) t) ≡ true
+      → targets (object ∷ others) t line k ≡ true → IsBeyond border k → IsBeyond border m
+  pub lines : (m l : ℕ) → some_permits (λ g. permits_reset g m l) (all_grants (object ∷ others) t) ≡ true → border.line l ≡ true → IsBeyond border m
   -- where any master is beyond, so is who may shut down more than itself, and who may set the configuration
-  pub shuts : (m subtype : ℕ) → (subtype == 0) ≡ false → permits_shut (grants_of object t) m subtype ≡ true
+  pub shuts : (m subtype : ℕ) → (subtype == 0) ≡ false → some_permits (λ g. permits_shut g m subtype) (all_grants (object ∷ others) t) ≡ true
       → border.some ≡ true → IsBeyond border m
-  pub configures : (m : ℕ) → permits_configure (grants_of object t) m ≡ true → border.some ≡ true → IsBeyond border m
+  pub configures : (m : ℕ) → some_permits (λ g. permits_configure g m) (all_grants (object ∷ others) t) ≡ true → border.some ≡ true → IsBeyond border m
   -- where a master is beyond, some is
   pub some : HasSome border
+
+-- by what the objects of a run permit: the loaded one, and each attached one that can be put in force
+abbrev pub IsClosed : Fixed → Border → Type 0
+IsClosed fixed border = IsClosedOver fixed.object (usable_among fixed.object fixed.attached) fixed.topology border

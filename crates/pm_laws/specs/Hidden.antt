@@ -8,7 +8,7 @@ use Rattle.pm_topology.specs.declared.places.Kind.{Kind}
 use Rattle.pm_topology.specs.declared.places.Kind.TheVariants.{Proc, Slave, Power, Unknown}
 use Rattle.pm_topology.specs.Places.{kind_of}
 use Rattle.pm_state.specs.Members.{owner_at}
-use Rattle.pm_state.specs.State.{State, in_force}
+use Rattle.pm_state.specs.State.{State}
 use Rattle.pm_state.specs.Values.{master_place, slave_place}
 use Rattle.pm_state.specs.Nodes.{named_master}
 use Rattle.pm_laws.specs.Border.{Border}
@@ -27,7 +27,7 @@ is_slave_within border (Some s) = not (border.slave s)
 
 -- the place of the configured master that has the processor of this kind
 abbrev pub owner_by : Kind → State → Option ℕ
-owner_by (Proc p) book = owner_at (in_force book) book.fixed.topology p
+owner_by (Proc p) book = owner_at book.fixed.object book.fixed.topology p
 owner_by (Slave s) book = None
 owner_by (Power w) book = None
 owner_by Unknown book = None

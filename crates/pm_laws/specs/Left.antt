@@ -8,9 +8,9 @@ use Rattle.pm_run.specs.Run.{Core}
 use Rattle.pm_laws.specs.Border.{Border}
 use Rattle.pm_laws.specs.ReachBorder.{border_of}
 
--- the border of the reach of a master by the object and the chip of a book
+-- the border of the reach of a master by the objects of the run and the chip of a book
 abbrev pub border_in : State → NodeId → Border
-border_in book m = border_of book.fixed.object book.fixed.topology m
+border_in book m = border_of book.fixed m
 
 -- the core step of this event between these books, by what an outbox holds
 abbrev pub stepped : Event → State → State → Outbox → Core

@@ -3,7 +3,7 @@ use Rattle.std.specs.Prelude.{◌≡◌, Bool, true, false, ◌&&◌, ◌||◌, 
 use Rattle.std.specs.List.{AllByRecursion as Each}
 use Rattle.pm_rows.specs.declared.row.Change.{Change}
 use Rattle.pm_rows.specs.declared.row.Change.TheVariants.{Request, Release, Set, Limit, Arm}
-use Rattle.pm_state.specs.Prims.{Prim, At_row, Settle, Put_proc, Put_line, Shift, Clear, Halt, Reload}
+use Rattle.pm_state.specs.Prims.{Prim, At_row, Settle, Put_proc, Put_line, Shift, Clear, Halt, Reload, Enforce}
 use Rattle.pm_laws.specs.Border.{Border}
 use Rattle.pm_laws.specs.Both.{Both}
 
@@ -27,6 +27,7 @@ seen border (Shift m mode) = border.master m
 seen border (Clear s) = border.used s
 seen border Halt = border.some
 seen border Reload = border.some
+seen border (Enforce k) = border.some
 
 -- of these changes, those that are seen
 abbrev pub seen_part : Border → List Prim → List Prim

@@ -3,12 +3,12 @@ use Rattle.std.specs.Prelude.{◌≡◌, Bool, ◌&&◌, List, [], filter, Optio
 use Rattle.pm_notify.specs.declared.notes.Waiting.{Waiting}
 use Rattle.pm_tell.specs.declared.ended.Ended.{Ended}
 use Rattle.pm_calls.specs.declared.verdict.Asked.{Asked}
-use Rattle.pm_state.specs.Talk.{Talk, Ask, Lower, End, Forget, Notify, Take, Wait, Renew}
+use Rattle.pm_state.specs.Talk.{Talk, Ask, Lower, End, Forget, Notify, Take, Wait, Renew, Unwatch}
 use Rattle.pm_laws.specs.Border.{Border}
 
--- a request, and its end, are seen where the master that is asked is beyond; and the time that passes, and a restart of all,
--- where some master is. What a master asks to be told, and that it forgets, is seen where it is beyond; and a note that waits for
--- it or is taken out where the node is beyond too
+-- a request, and its end, are seen where the master that is asked is beyond; and the time that passes, a restart of all, and
+-- another object in force, where some master is. What a master asks to be told, and that it forgets, is seen where it is beyond;
+-- and a note that waits for it or is taken out where the node is beyond too
 abbrev pub seen_talk : Border → Talk → Bool
 seen_talk border (Ask m request) = border.master m
 seen_talk border (Lower count) = border.some
@@ -18,6 +18,7 @@ seen_talk border (Notify m node event on) = border.master m
 seen_talk border (Take m node note) = border.master m && border.node node.0
 seen_talk border (Wait m node note) = border.master m && border.node node.0
 seen_talk border Renew = border.some
+seen_talk border Unwatch = border.some
 
 -- of these changes, those that are seen
 abbrev pub talk_part : Border → List Talk → List Talk

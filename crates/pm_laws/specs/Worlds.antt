@@ -7,8 +7,8 @@ use Rattle.pm_ipi.specs.Mail.{emptied}
 use Rattle.pm_state.specs.State.{State}
 use Rattle.pm_split.specs.Boxes.{Boxes, box_of}
 use Rattle.pm_split.specs.Split.{Note}
-use Rattle.pm_split.specs.Split.Note.{Busy, Called, Clock, NoTask, Fired}
-use Rattle.pm_run.specs.Run.{Core, Line, Setup, loaded, lines_of, run}
+use Rattle.pm_split.specs.Split.Note.{Busy, Called, Clock, NoTask, Fired, Late}
+use Rattle.pm_run.specs.Run.{Core, Line, Setup, fixed_of, loaded, lines_of, run}
 use Rattle.pm_laws.specs.Agree.{Agree}
 use Rattle.pm_laws.specs.Beside.{AreBeside}
 use Rattle.pm_laws.specs.Border.{Border}
@@ -36,6 +36,7 @@ busy_of m (Called proc code) = []
 busy_of m (NoTask key) = []
 busy_of m (Clock number from to) = []
 busy_of m (Fired key at told) = []
+busy_of m (Late address) = []
 
 abbrev pub busy_others : NodeId → List Note → List NodeId
 busy_others m notes = flat_map (busy_of m) notes
@@ -44,7 +45,7 @@ busy_others m notes = flat_map (busy_of m) notes
 -- the boxes, and the same other masters are told that theirs are full
 pub record IsLineBeside (c : Setup) (m : NodeId) (a b : State) (x y : Line) : Type 0 where
   pub cores : AreBeside c m a b x.cores y.cores
-  pub agree : Agree (border_of c.object c.topology m) x.after.book y.after.book
+  pub agree : Agree (border_of (fixed_of c) m) x.after.book y.after.book
   pub boxes : AreQuietBoxes c m x.after.boxes y.after.boxes
   pub busy : busy_others m x.notes ≡ busy_others m y.notes
 
@@ -59,7 +60,7 @@ AreLinesBeside c m a b (x ∷ xs) (y ∷ ys) =
 -- the run of these events, and the run without the messages of the master: the load is the same in both, its book agrees with
 -- itself beyond, and its boxes are empty; and the lines after it are beside one another
 pub record AreWorldsBeside (c : Setup) (m : NodeId) (events : List Event) : Type 0 where
-  pub load : Agree (border_of c.object c.topology m) (loaded c).book (loaded c).book
+  pub load : Agree (border_of (fixed_of c) m) (loaded c).book (loaded c).book
   pub boxes : AreQuietBoxes c m (loaded c).boxes (loaded c).boxes
   pub lines : AreLinesBeside c m (loaded c).book (loaded c).book (lines_of c events (loaded c)) (lines_of c (quiet m events) (loaded c))
 
@@ -95,7 +96,7 @@ pub record IsAlikeBeyond (c : Setup) (m : NodeId) (border : Border) (x y : Line)
 
 -- beyond the reach of the master
 abbrev pub IsLineAlike : Setup → NodeId → Line → Line → Type 0
-IsLineAlike c m x y = IsAlikeBeyond c m (border_of c.object c.topology m) x y
+IsLineAlike c m x y = IsAlikeBeyond c m (border_of (fixed_of c) m) x y
 
 -- the two runs are equally long, and line by line so
 abbrev pub AreWorldsAlike : Setup → NodeId → List Event → Type 0

@@ -23,7 +23,7 @@ pub fn answers_agree()
         → sender_beyond a.fixed.object border event ≡ true
         → is_dropped (outputs event a).answer ≡ is_dropped (outputs event b).answer }
     ensures answers { (border : Border) (event : Event) (a b : State) → IsWellFormed a.fixed.topology
-        → IsClosed a.fixed.object a.fixed.topology border → IsSound a → IsSound b → Agree border a b
+        → IsClosed a.fixed border → IsSound a → IsSound b → Agree border a b
         → message_beyond a.fixed.object a.fixed.topology border event ≡ true
         → (outputs event a).answer ≡ (outputs event b).answer }
 {
@@ -35,11 +35,11 @@ pub fn answers_agree()
 /// either.
 pub fn callbacks_agree()
     ensures both { (border : Border) (event : Event) (a b : State) → IsObject a.fixed.object
-        → IsClosed a.fixed.object a.fixed.topology border → IsSound a → IsSound b → Agree border a b
+        → IsClosed a.fixed border → IsSound a → IsSound b → Agree border a b
         → callbacks_beyond a.fixed.object border (outputs event a).callbacks
         ≡ callbacks_beyond a.fixed.object border (outputs event b).callbacks }
     ensures hidden { (border : Border) (event : Event) (book : State) → IsObject book.fixed.object
-        → IsClosed book.fixed.object book.fixed.topology border → IsSound book
+        → IsClosed book.fixed border → IsSound book
         → is_hidden border event book ≡ true → callbacks_beyond book.fixed.object border
         (outputs event book).callbacks ≡ [] }
 {

@@ -16,31 +16,33 @@ ghost use Rattle.pm_topology.specs.declared.places.Kind.TheVariants.{Proc};
 ghost use Rattle.pm_topology.specs.declared.topology.Topology.{Topology};
 ghost use Rattle.pm_topology.specs.WellFormed.{IsWellFormed};
 ghost use Rattle.pm_rows.specs.Wanted.{wanted_of};
-ghost use Rattle.pm_state.specs.Load.{load_of};
+ghost use Rattle.pm_state.specs.Load.{load_in};
 ghost use Rattle.pm_state.specs.Members.{mode_of_master};
 ghost use Rattle.pm_state.specs.Sound.{IsSound, KnowsModes};
 ghost use Rattle.pm_state.specs.Stages.{after_stage, after_stages, follow, path_from};
-ghost use Rattle.pm_state.specs.State.{State};
+ghost use Rattle.pm_state.specs.State.{Fixed, State, object_at};
 ghost use Rattle.pm_core.specs.Step.{asks, effect, ended, outputs, pulse, stages, talk};
 ghost use Rattle.pm_state.specs.Talk.{Talk, talked};
 ghost use Rattle.pm_state.specs.Values.{master_place, slave_place, value};
 ghost use Rattle.pm_calls.specs.Views.{is_asked, proc_view, row_view, suspend_view, wake_view};
 ghost use Rattle.pm_state.specs.Nodes.{named_master};
+ghost use Rattle.pm_grants.specs.Several.{HaveSamePlaces};
 ghost use Rattle.pm_laws.specs.Agree.{Agree};
 ghost use Rattle.pm_laws.specs.Below.{BelowLaws};
-ghost use Rattle.pm_laws.specs.Border.{Border, HasSome, IsBeyond, IsClosed, unit_beyond};
+ghost use Rattle.pm_laws.specs.Border.{AreObjects, Border, HasSome, IsBeyond, IsClosed, IsClosedOver, unit_beyond};
 ghost use Rattle.pm_laws.specs.Both.{Both};
 ghost use Rattle.pm_laws.specs.Hidden.{is_hidden, is_slave_within, is_within, owner_by};
 ghost use Rattle.pm_laws.specs.Pulse.{pulse_beyond};
-ghost use Rattle.pm_laws.specs.ReachBorder.{IsAllBeyond, IsBorderOf, border_of, place_of};
+ghost use Rattle.pm_laws.specs.ReachBorder.{IsAllBeyond, IsBorderOf, border_of, border_over, place_of};
 ghost use Rattle.pm_laws.specs.Seen.{seen, seen_part, IsUnseen, AreAlike, AreHidden};
 ghost use Rattle.pm_laws.specs.SeenTalk.{seen_talk, talk_part, IsTalkUnseen, asks_beyond, ends_beyond};
 ghost use Rattle.pm_laws.specs.Values.{is_beyond, starts_beyond};
 
-use pm_core::{books_stay_sound, members_are_owned};
-use pm_grants::grants_are_permissions;
+use pm_core::members_are_owned;
+use pm_grants::{grants_are_permissions, some_grants_are_permissions};
 use pm_reach::{masters_within, parents_within, reach_is_decided, units_within};
 use pm_rows::shifts_leave_others;
+use pm_state::loads_are_sound;
 use pm_topology::{kinds_are_exact, units_stand_in_order};
 
 /// What the crates below promise of kinds, rows, processors and units.
@@ -56,14 +58,14 @@ pub fn laws_below()
 /// A sound book agrees with itself beyond each closed border, as the book at load does; two books that agree do so either way, and
 /// so do two that agree with a third one.
 pub fn books_agree()
-    ensures itself { (border : Border) (book : State) → IsClosed book.fixed.object book.fixed.topology border
+    ensures itself { (border : Border) (book : State) → IsClosed book.fixed border
         → IsSound book → Agree border book book }
-    ensures load { (border : Border) (object : Object) (t : Topology) → IsClosed object t border
-        → Agree border (load_of object t) (load_of object t) }
+    ensures load { (border : Border) (fixed : Fixed) (object : Object) (k : ℕ) → object_at fixed k ≡ Some object
+        → IsClosed fixed border → Agree border (load_in fixed object) (load_in fixed object) }
     ensures turned { (border : Border) (a b : State) → Agree border a b → Agree border b a }
     ensures through { (border : Border) (a b c : State) → Agree border a b → Agree border b c → Agree border a c }
 {
-    books_stay_sound();
+    loads_are_sound();
     units_stand_in_order();
 }
 
@@ -142,7 +144,7 @@ pub fn paths_agree()
 /// that it asks to suspend; and what is wanted of a slave beyond, where any master is beyond.
 pub fn views_agree()
     ensures row { (border : Border) (m : ℕ) (node : NodeId) (a b : State)
-        → IsClosed a.fixed.object a.fixed.topology border → IsBeyond border m
+        → IsClosed a.fixed border → IsBeyond border m
         → is_slave_within border (slave_place node a) ≡ false
         → Agree border a b → row_view m node a ≡ row_view m node b }
     ensures proc { (border : Border) (m : ℕ) (node : NodeId) (a b : State) → IsBeyond border m
@@ -164,7 +166,7 @@ pub fn views_agree()
 /// A unit beyond has the same value in two books that agree: a slave, a power node, a reset line, a processor of a master
 /// beyond or of nobody; and a processor has the same mode.
 pub fn values_agree()
-    ensures values { (border : Border) (unit : Unit) (a b : State) → IsClosed a.fixed.object a.fixed.topology border
+    ensures values { (border : Border) (unit : Unit) (a b : State) → IsClosed a.fixed border
         → is_beyond a.fixed.object a.fixed.topology border unit ≡ true
         → Agree border a b → value unit a ≡ value unit b }
     ensures modes { (border : Border) (p : ℕ) (a b : State)
@@ -177,15 +179,15 @@ pub fn values_agree()
 /// master within reach are hidden, and so are those of a master that isn't configured.
 pub fn steps_agree()
     ensures both { (border : Border) (event : Event) (a b : State)
-        → IsClosed a.fixed.object a.fixed.topology border → IsSound a → IsSound b
+        → IsClosed a.fixed border → IsSound a → IsSound b
         → Agree border a b → Agree border (effect event a) (effect event b) }
     ensures hidden { (border : Border) (event : Event) (a b : State)
-        → IsClosed a.fixed.object a.fixed.topology border → IsSound a → IsSound b
+        → IsClosed a.fixed border → IsSound a → IsSound b
         → is_hidden border event a ≡ true → Agree border a b → Agree border (effect event a) b }
     ensures messages { (border : Border) (master : NodeId) (message : Message) (book : State)
         → is_within border (master_place master book) ≡ true → is_hidden border (Ipi master message) book ≡ true }
     ensures stages { (border : Border) (event : Event) (book : State)
-        → IsClosed book.fixed.object book.fixed.topology border
+        → IsClosed book.fixed border → IsSound book
         → is_hidden border event book ≡ true → AreHidden border (stages event book) }
 {
     laws_below();
@@ -196,22 +198,22 @@ pub fn steps_agree()
 /// no master beyond is asked, no request to one ends, and nothing is seen of what is told.
 pub fn requests_agree()
     ensures asked { (border : Border) (event : Event) (a b : State)
-        → IsClosed a.fixed.object a.fixed.topology border → Agree border a b
+        → IsClosed a.fixed border → Agree border a b
         → asks_beyond border (asks event a) ≡ asks_beyond border (asks event b) }
     ensures asked_hidden { (border : Border) (event : Event) (book : State)
-        → IsClosed book.fixed.object book.fixed.topology border
+        → IsClosed book.fixed border → IsSound book
         → is_hidden border event book ≡ true → asks_beyond border (asks event book) ≡ None }
     ensures ended { (border : Border) (event : Event) (a b : State)
-        → IsClosed a.fixed.object a.fixed.topology border → IsSound a → IsSound b → Agree border a b
+        → IsClosed a.fixed border → IsSound a → IsSound b → Agree border a b
         → ends_beyond border (ended event a) ≡ ends_beyond border (ended event b) }
     ensures ended_hidden { (border : Border) (event : Event) (book : State)
-        → IsClosed book.fixed.object book.fixed.topology border → IsSound book
+        → IsClosed book.fixed border → IsSound book
         → is_hidden border event book ≡ true → ends_beyond border (ended event book) ≡ [] }
     ensures told { (border : Border) (event : Event) (a b : State)
-        → IsClosed a.fixed.object a.fixed.topology border → IsSound a → IsSound b → Agree border a b
+        → IsClosed a.fixed border → IsSound a → IsSound b → Agree border a b
         → talk_part border (talk event a) ≡ talk_part border (talk event b) }
     ensures told_hidden { (border : Border) (event : Event) (book : State)
-        → IsClosed book.fixed.object book.fixed.topology border → IsSound book
+        → IsClosed book.fixed border → IsSound book
         → is_hidden border event book ≡ true → IsTalkUnseen border (talk event book) }
 {
     laws_below();
@@ -221,11 +223,11 @@ pub fn requests_agree()
 /// both or is hidden; and a hidden event starts none of them that a step in which nothing happens doesn't.
 pub fn starts_agree()
     ensures both { (border : Border) (event : Event) (a b : State)
-        → IsClosed a.fixed.object a.fixed.topology border → IsSound a → IsSound b → Agree border a b
+        → IsClosed a.fixed border → IsSound a → IsSound b → Agree border a b
         → starts_beyond a.fixed.object a.fixed.topology border (outputs event a).starts
         ≡ starts_beyond a.fixed.object a.fixed.topology border (outputs event b).starts }
     ensures hidden { (border : Border) (event : Event) (a b : State)
-        → IsClosed a.fixed.object a.fixed.topology border → IsSound a → IsSound b
+        → IsClosed a.fixed border → IsSound a → IsSound b
         → is_hidden border event a ≡ true → Agree border a b
         → starts_beyond a.fixed.object a.fixed.topology border (outputs event a).starts
         ≡ starts_beyond a.fixed.object a.fixed.topology border (outputs Pass b).starts }
@@ -236,26 +238,29 @@ pub fn starts_agree()
 /// The same reset line beyond is pulsed in two books that agree, and a hidden event pulses none.
 pub fn pulses_agree()
     ensures both { (border : Border) (event : Event) (a b : State)
-        → IsClosed a.fixed.object a.fixed.topology border → Agree border a b
+        → IsClosed a.fixed border → Agree border a b
         → pulse_beyond a.fixed.topology border (pulse event a) ≡ pulse_beyond a.fixed.topology border (pulse event b) }
     ensures hidden { (border : Border) (event : Event) (book : State)
-        → IsClosed book.fixed.object book.fixed.topology border
+        → IsClosed book.fixed border → IsSound book
         → is_hidden border event book ≡ true → pulse_beyond book.fixed.topology border (pulse event book) ≡ None }
 {
     laws_below();
 }
 
-/// Over a well-formed object and a chip that passes its check the border of the reach of a master is closed, and it is
-/// no narrower and no wider than that reach. The master itself is within; where it isn't configured, nothing is.
+/// Over well-formed objects of a run and a chip that passes its check the border of the reach of a master, by what any of
+/// these permits, is closed, and it is no narrower and no wider than that reach. The master itself is within; where it
+/// isn't configured, nothing is.
 pub fn reach_is_closed()
-    ensures closed { (object : Object) (t : Topology) (m : NodeId) → IsObject object → IsWellFormed t
-        → IsClosed object t (border_of object t m) }
-    ensures exact { (object : Object) (t : Topology) (m : NodeId) (from : ℕ) → place_of object m ≡ Some from
-        → IsBorderOf object t from (border_of object t m) }
-    ensures unconfigured { (object : Object) (t : Topology) (m : NodeId) → place_of object m ≡ None
-        → IsAllBeyond object (border_of object t m) }
-    ensures own { (m : NodeId) (book : State)
-        → is_within (border_of book.fixed.object book.fixed.topology m) (master_place m book) ≡ true }
+    ensures closed { (fixed : Fixed) (m : NodeId) → AreObjects fixed → IsWellFormed fixed.topology
+        → IsClosed fixed (border_of fixed m) }
+    ensures closed_over { (object : Object) (others : List Object) (t : Topology) (m : NodeId)
+        → Each IsObject (object ∷ others) → HaveSamePlaces (object ∷ others) → IsWellFormed t
+        → IsClosedOver object others t (border_over object others t m) }
+    ensures exact { (fixed : Fixed) (m : NodeId) (from : ℕ) → place_of fixed.object m ≡ Some from
+        → IsBorderOf fixed from (border_of fixed m) }
+    ensures unconfigured { (fixed : Fixed) (m : NodeId) → place_of fixed.object m ≡ None
+        → IsAllBeyond fixed.object (border_of fixed m) }
+    ensures own { (m : NodeId) (book : State) → is_within (border_of book.fixed m) (master_place m book) ≡ true }
 {
     masters_within();
     units_within();
@@ -263,4 +268,5 @@ pub fn reach_is_closed()
     reach_is_decided();
     kinds_are_exact();
     grants_are_permissions();
+    some_grants_are_permissions();
 }

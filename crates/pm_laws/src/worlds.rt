@@ -3,11 +3,11 @@
 ghost use Rattle.std.specs.List.{list_any};
 ghost use Rattle.std.specs.Prelude.{◌≡◌, ◌==◌, IsTrue};
 ghost use Rattle.pm_base.specs.declared.events.Event.TheVariants.{Pass};
-ghost use Rattle.pm_object.specs.Grammar.{IsObject};
 ghost use Rattle.pm_core.specs.Outbox.{HasRoomFor, Holds, KeepsRoom};
 ghost use Rattle.pm_core.specs.Step.{effect, outputs};
 ghost use Rattle.pm_laws.specs.Agree.{Agree};
 ghost use Rattle.pm_laws.specs.Beside.{IsOwn};
+ghost use Rattle.pm_laws.specs.Border.{AreObjects};
 ghost use Rattle.pm_laws.specs.Left.{border_in, stepped};
 ghost use Rattle.pm_laws.specs.Quiet.{quiet_event};
 ghost use Rattle.pm_laws.specs.Told.{SameTold, TellsNothing};
@@ -17,23 +17,25 @@ use crate::apart::steps_keep_apart;
 use pm_base::{Event, NodeId};
 use pm_core::{Book, Outbox};
 
-/// The event, or nothing where it is a message of the master, sent or put into its box, or a power call, which comes to
-/// messages of master 1.
-pub fn quiet_event(m: NodeId, event: &Event) -> Event
-    ensures { result ≡ quiet_event m event.now }
+/// The event, or `pass`, in which nothing happens, where it is a message of the master, sent or put into its box, or a
+/// power call, which comes to messages of master 1. It is lent, since an event may hold the words of an object.
+pub fn quiet_event<'e>(m: NodeId, event: &'e Event, pass: &'e Event) -> &'e Event
+    requires { pass.now ≡ Pass }
+    ensures { result.now ≡ quiet_event m event.now }
 {
     match event {
         Event::Ipi { master, .. } | Event::Post { master, .. } => {
-            if master.0 == m.0 { Event::Pass } else { *event }
+            if master.0 == m.0 { pass } else { event }
         }
-        Event::Smc { .. } => { if m.0 == 1 { Event::Pass } else { *event } }
-        _ => *event,
+        Event::Smc { .. } => { if m.0 == 1 { pass } else { event } }
+        _ => event,
     }
 }
 
 /// One core event in the one of two books, and in the other the same event, or nothing where it is a message of a master. The
-/// books have one object, which is well formed and has the master, and one chip, and agree beyond the reach of the
-/// master; both outboxes were loaded for them. What is beyond that reach can't tell the two apart. No memory is taken.
+/// books have one loaded object, which has the master, the same attached ones and one chip; each of these objects that can be
+/// in force is well formed. They agree beyond the reach of the master; both outboxes were loaded for them. What is beyond that
+/// reach can't tell the two apart. No memory is taken.
 ///
 /// Beyond it they have the same values and modes, and the same is told: the same units move, the same processors start, at
 /// the same addresses, and the same reset line is pulsed, or none; the same is asked of masters there, the same requests to
@@ -49,7 +51,7 @@ pub fn step_both(
     oa: &mut Outbox,
     ob: &mut Outbox,
 )
-    requires object { IsObject a.old.fixed.object }
+    requires object { AreObjects a.old.fixed }
     requires named { IsTrue (list_any (λ r. r.node == m.0) a.old.fixed.object.masters) }
     requires agree { Agree (border_in a.old m) a.old b.old }
     requires room_a { HasRoomFor a.old oa.old }
@@ -61,7 +63,7 @@ pub fn step_both(
     ensures out_a { Holds (outputs event.now a.old) oa.new }
     ensures out_b { Holds (outputs (quiet_event m event.now) b.old) ob.new }
 
-    // They have one object and one chip as before, and agree beyond the reach.
+    // They have the objects and the chip as before, and agree beyond the reach.
     ensures fixed { a.new.fixed ≡ a.old.fixed }
     ensures agree { Agree (border_in a.old m) a.new b.new }
     // The same beyond the reach.
@@ -77,15 +79,17 @@ pub fn step_both(
     steps_keep_apart();
     a.stays_sound();
     b.stays_sound();
-    let other = quiet_event(m, event);
+    let pass = Event::Pass;
+    let other = quiet_event(m, event, &pass);
     a.step(event, oa);
-    b.step(&other, ob);
+    b.step(other, ob);
 }
 
 /// One core event of a master's own in the one of two books, a message of it or the wait of a processor of it, and
-/// nothing in the other. The books have one object, which is well formed, and one chip, and agree beyond the reach of
-/// the master; both outboxes were loaded for them. What is beyond that reach can't tell the two apart: the books have
-/// the same values and modes there, and neither step tells anything there. No memory is taken.
+/// nothing in the other. The books have one loaded object, the same attached ones and one chip; each of these objects that
+/// can be in force is well formed. They agree beyond the reach of the master; both outboxes were loaded for them. What is
+/// beyond that reach can't tell the two apart: the books have the same values and modes there, and neither step tells
+/// anything there. No memory is taken.
 ///
 /// Each outbox has the room that it had, which is that of the books' chip and masters.
 pub fn step_left(
@@ -96,7 +100,7 @@ pub fn step_left(
     oa: &mut Outbox,
     ob: &mut Outbox,
 )
-    requires object { IsObject a.old.fixed.object }
+    requires object { AreObjects a.old.fixed }
     requires own { IsOwn a.old.fixed.object a.old.fixed.topology m own_event.now }
     requires agree { Agree (border_in a.old m) a.old b.old }
     requires room_a { HasRoomFor a.old oa.old }
@@ -108,7 +112,7 @@ pub fn step_left(
     ensures out_a { Holds (outputs own_event.now a.old) oa.new }
     ensures out_b { Holds (outputs Pass b.old) ob.new }
 
-    // They have one object and one chip as before, and agree beyond the reach.
+    // They have the objects and the chip as before, and agree beyond the reach.
     ensures fixed { a.new.fixed ≡ a.old.fixed }
     ensures agree { Agree (border_in a.old m) a.new b.new }
     // The same beyond the reach, and nothing is told there.

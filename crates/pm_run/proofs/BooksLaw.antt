@@ -3,6 +3,7 @@ use Rattle.std.proofs.Common.{◌<◌, List, [], ◌∷◌, length, refl, sym, s
 use Rattle.std.specs.List.{All, AllByRecursion as Each}
 use Rattle.std.proofs.lemmas.List.Elements.{All-from_recursion, All-nil, All-cons, All-append}
 use Rattle.pm_base.specs.declared.events.Event.{Event}
+use Rattle.pm_object.specs.declared.attached.Attached.{Attached}
 use Rattle.pm_object.specs.declared.object.Object.{Object}
 use Rattle.pm_topology.specs.declared.topology.Topology.{Topology}
 use Rattle.pm_topology.specs.WellFormed.{IsWellFormed}
@@ -16,13 +17,13 @@ use Rattle.pm_run.specs.Run.{Setup, Stand, Line, IsBookOf, HasBooksOf, split, co
 
 -- what keeps the books of a run: the first is sound, each step keeps it so, and a sound one meets its requirements
 pub record BookLaws : Type 0 where
-  pub load : (object : Object) (topology : Topology) → IsSound (load_of object topology)
+  pub load : (object : Object) (attached : List Attached) (topology : Topology) → IsSound (load_of object attached topology)
   pub step : (event : Event) (book : State) → IsSound book → IsSound (effect event book)
   pub met : (book : State) → IsWellFormed book.fixed.topology → IsSound book → MeetsRequirements book (λ u. value u book)
 
 pub load_keeps : BookLaws → (c : Setup) → IsWellFormed c.topology → IsBookOf c (loaded c).book
 load_keeps laws c well =
-    let sound : IsSound (loaded c).book = laws.load c.object c.topology in
+    let sound : IsSound (loaded c).book = laws.load c.object c.attached c.topology in
     record { fixed = refl; sound = sound; met = laws.met (loaded c).book well sound }
 
 pub step_keeps : BookLaws → (c : Setup) (event : Event) (book : State) → IsWellFormed c.topology → IsBookOf c book → IsBookOf c (effect event book)

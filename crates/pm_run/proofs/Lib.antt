@@ -1,2 +1,3 @@
 pub mod BooksLaw
 pub mod ServedLaw
+pub mod FormedLemmas

@@ -4,28 +4,39 @@ use Rattle.std.specs.Prelude.{◌≡◌, List, [], ◌∷◌, flat_map, length}
 use Rattle.pm_base.specs.declared.events.Event.{Event}
 use Rattle.pm_base.specs.declared.events.Event.TheVariants.{Pass}
 use Rattle.pm_ipi.specs.Mail.{all_empty}
+use Rattle.pm_object.specs.declared.attached.Attached.{Attached}
 use Rattle.pm_object.specs.declared.object.Object.{Object}
+use Rattle.pm_block.specs.Block.{attached_by}
 use Rattle.pm_topology.specs.declared.topology.Topology.{Topology}
 use Rattle.pm_state.specs.Load.{load_of}
 use Rattle.pm_core.specs.Outbox.{Outputs}
 use Rattle.pm_state.specs.Sound.{IsSound, MeetsRequirements}
-use Rattle.pm_state.specs.State.{State}
+use Rattle.pm_state.specs.State.{Fixed, State}
 use Rattle.pm_core.specs.Step.{effect, outputs, outputs_at_load}
 use Rattle.pm_state.specs.Values.{value}
 use Rattle.pm_split.specs.Boxes.{Boxes}
 use Rattle.pm_split.specs.Split.{Note, Split, split_of}
 
--- what a run begins with
+-- what a run begins with: the object that is loaded, what is attached, and the chip
 pub record Setup : Type 0 where
   pub object : Object
+  pub attached : List Attached
   pub topology : Topology
 
-abbrev pub setup : Object → Topology → Setup
-setup object topology = record { object = object; topology = topology }
+abbrev pub setup : Object → List Attached → Topology → Setup
+setup object attached topology = record { object = object; attached = attached; topology = topology }
 
--- the object and the chip of a book
+-- what the run of these events begins with: its first lines attach what is attached
+abbrev pub setup_for : Object → Topology → List Event → Setup
+setup_for object topology events = setup object (attached_by events) topology
+
+-- what is fixed in each book of it
+abbrev pub fixed_of : Setup → Fixed
+fixed_of c = record { object = c.object; topology = c.topology; attached = c.attached }
+
+-- the object, what is attached, and the chip of a book
 abbrev pub setup_of : State → Setup
-setup_of book = setup book.fixed.object book.fixed.topology
+setup_of book = setup book.fixed.object book.fixed.attached book.fixed.topology
 
 -- where a run stands between two script lines: the book, and the boxes of the masters
 pub record Stand : Type 0 where
@@ -82,7 +93,7 @@ lines_of c (event ∷ events) stand = line_of c event stand ∷ lines_of c event
 
 -- the load comes before all events, and all boxes are empty then
 abbrev pub loaded : Setup → Stand
-loaded c = record { book = load_of c.object c.topology; boxes = all_empty (length c.object.masters) }
+loaded c = record { book = load_of c.object c.attached c.topology; boxes = all_empty (length c.object.masters) }
 
 -- the load as a core step: nothing happens in it but what the load itself puts out
 abbrev pub core_0 : Setup → Core
@@ -104,10 +115,10 @@ said lines = lines
 abbrev pub cores_in : List Line → List Core
 cores_in lines = flat_map (λ (line : Line). line.cores) lines
 
--- what holds of each book of a run: its object and its chip are those of the setup, it is sound, and its values meet
--- its requirements
+-- what holds of each book of a run: what is fixed in it is that of the setup, it is sound, and its values meet its
+-- requirements
 pub record IsBookOf (c : Setup) (book : State) : Type 0 where
-  pub fixed : book.fixed ≡ record { object = c.object; topology = c.topology }
+  pub fixed : book.fixed ≡ fixed_of c
   pub sound : IsSound book
   pub met : MeetsRequirements book (λ u. value u book)
 

@@ -5,5 +5,5 @@ mod laws;
 mod runner;
 
 pub use laws::{books_of_a_run, boxes_of_a_run};
-pub use pm_split::{CoreEvents, Split, call_answer};
+pub use pm_split::{CoreEvents, OwnNote, Source, Split, call_answer};
 pub use runner::Runner;

@@ -6,15 +6,15 @@ ghost use Rattle.pm_topology.specs.WellFormed.{IsWellFormed};
 ghost use Rattle.pm_state.specs.Load.{load_of};
 ghost use Rattle.pm_core.specs.Outbox.{HasRoomFor, Holds};
 ghost use Rattle.pm_core.specs.Step.{effect, outputs, outputs_at_load};
-ghost use Rattle.pm_split.specs.Left.{boxes_left, events_left};
-ghost use Rattle.pm_split.specs.Split.{noted_busy};
+ghost use Rattle.pm_split.specs.Left.{boxes_left, core_event, events_left};
+ghost use Rattle.pm_split.specs.Split.{noted};
 ghost use Rattle.pm_run.specs.Run.{loaded, setup, setup_of, split, stand_at};
 
-use pm_base::{Event, NoMemory};
+use pm_base::{Event, List, NoMemory};
 use pm_core::{Book, Outbox};
 use pm_ipi::Mail;
-use pm_object::Object;
-use pm_split::{CoreEvents, Split, split_event};
+use pm_object::{Attached, Object};
+use pm_split::{CoreEvents, Source, Split, split_event};
 use pm_topology::Topology;
 use std::alloc::Global;
 
@@ -30,22 +30,27 @@ pub struct Runner {
 }
 
 impl Runner {
-    /// The book of an object at load, what the load puts out, and empty boxes.
+    /// The book of an object at load, with what is attached, what the load puts out, and empty boxes.
     ///
     /// # Errors
     ///
     /// `NoMemory` where there is not enough memory.
-    pub fn load(alloc: Global, object: Object, topology: Topology) -> Result<Runner, NoMemory>
+    pub fn load(
+        alloc: Global,
+        object: Object,
+        attached: List<Attached>,
+        topology: Topology,
+    ) -> Result<Runner, NoMemory>
         requires formed { IsWellFormed topology }
-        ensures book { IfOk result (λ runner. runner.book ≡ load_of object topology) }
+        ensures book { IfOk result (λ runner. runner.book ≡ load_of object attached topology) }
         ensures boxes { IfOk result (λ runner. runner.boxes ≡ all_empty (length object.masters)) }
-        ensures stand { IfOk result (λ runner. stand_at runner.book runner.boxes ≡ loaded (setup object topology)) }
+        ensures stand { IfOk result (λ runner. stand_at runner.book runner.boxes ≡ loaded (setup object attached topology)) }
         ensures out { IfOk result (λ runner. Holds (outputs_at_load runner.book) runner.outbox) }
     {
         let masters = object.masters.len();
         let boxes = Mail::load(alloc, masters)?;
         let mut outbox = Outbox::load(alloc, &topology, masters)?;
-        let book = Book::load(alloc, object, topology, &mut outbox)?;
+        let book = Book::load(alloc, object, attached, topology, &mut outbox)?;
         Ok(Runner {
             book,
             outbox,
@@ -54,37 +59,43 @@ impl Runner {
     }
 
     /// Splits the event of a script line, by the boxes and the chip. Its core events are taken by `next`.
-    pub fn split(&mut self, event: &Event) -> Split
+    pub fn split<'e>(&mut self, event: &'e Event) -> Split<'e>
         ensures book { self.new.book ≡ self.old.book }
         ensures outbox { self.new.outbox ≡ self.old.outbox }
         ensures events { events_left self.old.book.fixed.object self.old.book.fixed.topology self.new.boxes result.cores
             ≡ (split (setup_of self.old.book) event.now (stand_at self.old.book self.old.boxes)).events }
         ensures boxes { boxes_left self.new.boxes result.cores
             ≡ (split (setup_of self.old.book) event.now (stand_at self.old.book self.old.boxes)).boxes }
-        ensures notes { noted_busy result.busy
+        ensures notes { noted result.note
             ≡ (split (setup_of self.old.book) event.now (stand_at self.old.book self.old.boxes)).notes }
     {
         split_event(
-            self.book.object(),
+            self.book.loaded(),
             self.book.topology(),
             &mut self.boxes,
             event,
         )
     }
 
-    /// Takes the next core event of a line off, if there is one. At the end of a line that serves all boxes are empty.
-    pub fn next(&mut self, cores: &mut CoreEvents) -> Option<Event>
+    /// Takes the next core event of a line off, if there is one; one that is made is left in `made`. At the end of a line that
+    /// serves all boxes are empty.
+    pub fn next<'e>(&mut self, cores: &mut CoreEvents<'e>, made: &mut Event) -> Option<Source<'e>>
         ensures book { self.new.book ≡ self.old.book }
         ensures outbox { self.new.outbox ≡ self.old.outbox }
         ensures events { MatchOption result
             ((events_left self.old.book.fixed.object self.old.book.fixed.topology self.old.boxes cores.old ≡ [])
             × (events_left self.old.book.fixed.object self.old.book.fixed.topology self.new.boxes cores.new ≡ []))
-            (λ event. events_left self.old.book.fixed.object self.old.book.fixed.topology self.old.boxes cores.old
-            ≡ event ∷ events_left self.old.book.fixed.object self.old.book.fixed.topology self.new.boxes cores.new) }
+            (λ source. events_left self.old.book.fixed.object self.old.book.fixed.topology self.old.boxes cores.old
+            ≡ core_event source made.new ∷ events_left self.old.book.fixed.object self.old.book.fixed.topology self.new.boxes cores.new) }
         ensures boxes { boxes_left self.new.boxes cores.new ≡ boxes_left self.old.boxes cores.old }
         ensures end { result ≡ None → self.new.boxes ≡ boxes_left self.old.boxes cores.old }
     {
-        cores.next(self.book.object(), self.book.topology(), &mut self.boxes)
+        cores.next(
+            self.book.loaded(),
+            self.book.topology(),
+            &mut self.boxes,
+            made,
+        )
     }
 
     /// One core event.

@@ -1,32 +1,50 @@
 -- Two books of one object agree beyond the reach of a master at load.
-use Rattle.std.proofs.Common.{◌≡◌, ◌==◌, ℕ, IsTrue, Option, Some, None, nat_eq, true, refl, ap, subst, sym}
-use Rattle.std.specs.List.{list_any}
+use Rattle.std.proofs.Common.{◌≡◌, ◌==◌, ◌++◌, ◌∙◌, ℕ, Bool, true, false, IsTrue, List, [], ◌∷◌, map, Option, Some, None, nat_eq, refl, ap, subst, sym}
+use Rattle.std.specs.List.{AllByRecursion as Each, list_any}
+use Rattle.std.specs.Prelude.{if◌then◌else◌, option_to_list}
 use Rattle.std.specs.Option.{option_eq}
 use Rattle.std.proofs.lemmas.Bool.{eqb-true}
 use Rattle.pm_base.specs.declared.names.NodeId.{NodeId}
+use Rattle.pm_object.specs.declared.attached.Attached.{Attached}
 use Rattle.pm_object.specs.declared.object.MasterRec.{MasterRec}
 use Rattle.pm_object.specs.declared.object.Object.{Object}
+use Rattle.pm_object.specs.Attached.{have_same_masters}
 use Rattle.pm_object.specs.Grammar.{IsObject}
 use Rattle.pm_topology.specs.declared.topology.Topology.{Topology}
 use Rattle.pm_state.specs.Load.{load_of}
-use Rattle.pm_state.specs.State.{State}
+use Rattle.pm_state.specs.State.{State, usable_among}
 use Rattle.pm_laws.specs.Agree.{Agree}
+use Rattle.pm_laws.specs.Border.{AreObjects}
 use Rattle.pm_laws.specs.ReachBorder.{border_of}
-use Rattle.pm_sides.specs.Sides.{AreSides}
+use Rattle.pm_sides.specs.Sides.{AreSides, at_4096}
 
 -- the master is one of the object
 abbrev pub IsNamed : NodeId → Object → Type 0
 IsNamed m object = IsTrue (list_any (λ (r : MasterRec). r.node == m.0) object.masters)
 
-pub sides_at_load : (m : NodeId) (object other : Object) (chip : Topology) (loud quiet : State)
-    → IsObject object → IsNamed m object → other ≡ object
-    → Agree (border_of object chip m) (load_of object chip) (load_of object chip)
-    → loud ≡ load_of object chip → quiet ≡ load_of other chip → AreSides m loud quiet
-sides_at_load m object other chip loud quiet is named same agree first second =
-    let P : Object → Type 0 = λ o. AreSides m (load_of object chip) (load_of o chip) in
-    let Q : State → Type 0 = λ b. AreSides m b quiet in
-    let R : State → Type 0 = λ b. AreSides m (load_of object chip) b in
-    subst Q (sym first) (subst R (sym second) (subst P (sym same) (record { object = is; named = named; agree = agree })))
+-- the objects of a run are well formed where the loaded one and those that are attached are
+usable_formed : (object : Object) (others : List Object) → Each IsObject others → Each IsObject (usable_among object (map at_4096 others))
+usable_formed object [] formed = tt
+usable_formed object (other ∷ others) formed = by (have_same_masters object.masters other.masters) (usable_formed object others formed.1)
+  where
+    by : (same : Bool) → Each IsObject (usable_among object (map at_4096 others))
+        → Each IsObject (option_to_list (if same then Some other else None) ++ usable_among object (map at_4096 others))
+    by true later = (formed.0, later)
+    by false later = later
+
+pub objects_formed : (object : Object) (others : List Object) (attached : List Attached) (chip : Topology) → IsObject object → Each IsObject others
+    → attached ≡ map at_4096 others → AreObjects (record { object = object; topology = chip; attached = attached })
+objects_formed object others attached chip is formed made =
+    (is, subst (λ (list : List Attached). Each IsObject (usable_among object list)) (sym made) (usable_formed object others formed))
+
+pub sides_at_load : (m : NodeId) (object other : Object) (attached again : List Attached) (chip : Topology) (loud quiet : State)
+    → AreObjects (record { object = object; topology = chip; attached = attached }) → IsNamed m object → other ≡ object → again ≡ attached
+    → Agree (border_of (record { object = object; topology = chip; attached = attached }) m) (load_of object attached chip) (load_of object attached chip)
+    → loud ≡ load_of object attached chip → quiet ≡ load_of other again chip → AreSides m loud quiet
+sides_at_load m object other attached again chip loud quiet are named same same_attached agree first second =
+    let start : State = load_of object attached chip in
+    let there : quiet ≡ start = second ∙ ap (λ (o : Object). load_of o again chip) same ∙ ap (λ (list : List Attached). load_of object list chip) same_attached in
+    subst (λ (b : State). AreSides m b quiet) (sym first) (subst (λ (b : State). AreSides m start b) (sym there) (record { object = are; named = named; agree = agree }))
 
 -- places that are told to be equal are
 pub same_place : (one other : Option ℕ) → option_eq nat_eq one other ≡ true → one ≡ other

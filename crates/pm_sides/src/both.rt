@@ -1,27 +1,28 @@
 //! Two books side by side, one of them without the messages of a master: what each step of both puts out.
 
-ghost use Rattle.std.specs.List.{list_any};
-ghost use Rattle.std.specs.Prelude.{◌≡◌, ◌==◌, IfOk, IsTrue};
+ghost use Rattle.std.specs.List.{AllByRecursion as Each, list_any};
+ghost use Rattle.std.specs.Prelude.{◌≡◌, ◌==◌, IfOk, IsTrue, map};
 ghost use Rattle.pm_base.specs.declared.events.Event.TheVariants.{Wfi};
 ghost use Rattle.pm_object.specs.Grammar.{IsObject};
 ghost use Rattle.pm_state.specs.Load.{load_of};
 ghost use Rattle.pm_core.specs.Outbox.{HasRoomFor};
 ghost use Rattle.pm_laws.specs.Beside.{IsOwn};
 ghost use Rattle.pm_laws.specs.ReachBorder.{place_of};
-ghost use Rattle.pm_sides.specs.Sides.{AreSides};
+ghost use Rattle.pm_sides.specs.Sides.{AreSides, at_4096};
 ghost use Rattle.pm_sides.specs.Table.{small};
 
-use crate::comparing::object;
+use crate::comparing::{object, object_of};
 use crate::table::small_chip;
-use pm_base::{Event, NoMemory, NodeId, Unit};
+use pm_base::{Event, List, NoMemory, NodeId, Unit};
 use pm_core::{Book, Outbox};
 use pm_laws::{books_agree, reach_is_closed, step_both, step_left};
-use pm_object::{Object, has_key};
+use pm_object::{Attached, Content, Object, has_key};
 use pm_perms::owner_of;
 use pm_script::parse_line;
 use pm_topology::Topology;
 use pm_trace::{TextLine, entries, entry};
 use std::alloc::Global;
+use std::slice;
 use std::test::Fail;
 
 /// A book, and the outbox of its last step.
@@ -32,14 +33,46 @@ pub(crate) struct Desk {
     ghost room: { HasRoomFor book out },
 }
 
-/// The book of an object at load over the small chip, on the heap.
-pub(crate) fn desk_of(alloc: Global, object: Object) -> Result<Box<Desk>, NoMemory>
-    ensures { IfOk result (λ desk. desk.value.book ≡ load_of object small) }
+/// The book of an object at load over the small chip, with what is attached, on the heap.
+pub(crate) fn desk_of(
+    alloc: Global,
+    object: Object,
+    attached: List<Attached>,
+) -> Result<Box<Desk>, NoMemory>
+    ensures { IfOk result (λ desk. desk.value.book ≡ load_of object attached small) }
 {
     let chip = small_chip(alloc)?;
     let mut out = Outbox::load(alloc, &chip, object.masters.len())?;
-    let book = Book::load(alloc, object, chip, &mut out)?;
-    Box::new(alloc, Desk { book, out }).map_err(|_| NoMemory)
+    let book = Book::load(alloc, object, attached, chip, &mut out)?;
+    boxed(alloc, Desk { book, out })
+}
+
+/// A value on the heap. It is dropped, where there is not enough memory, at a type that is any.
+fn boxed<T: Drop>(alloc: Global, value: T) -> Result<Box<T>, NoMemory>
+    ensures { IfOk result (λ held. held.value ≡ value) }
+{
+    Box::new(alloc, value).map_err(|_| NoMemory)
+}
+
+/// These objects, each attached at address 4096.
+fn attached_of(alloc: Global, objects: &[Object]) -> Result<List<Attached>, NoMemory>
+    ensures { IfOk result (λ attached. attached ≡ map at_4096 objects.now) }
+{
+    let mut attached = List::new(alloc);
+    for object in objects {
+        attached.push(attached_one(alloc, object)?)?;
+    }
+    Ok(attached)
+}
+
+/// An equal object in memory of its own, attached at address 4096.
+fn attached_one(alloc: Global, object: &Object) -> Result<Attached, NoMemory>
+    ensures { IfOk result (λ attached. attached ≡ at_4096 object.now) }
+{
+    Ok(Attached {
+        address: 4096,
+        content: Content::Object(object.copy(alloc)?),
+    })
 }
 
 /// The book with all messages, and the one without those of a master.
@@ -53,26 +86,50 @@ struct Sides {
 fn sides_of(alloc: Global, m: NodeId) -> Result<Sides, Fail>
     ensures { IfOk result (λ sides. AreSides m sides.loud.value.book sides.quiet.value.book) }
 {
-    let object = object(alloc)?;
+    sides_with(alloc, object(alloc)?, &[], m)
+}
+
+/// Both books at load over an object in which master 1 may set the configuration, where one is attached in which slave 46
+/// is master 8's.
+fn configured_sides(alloc: Global, m: NodeId) -> Result<Sides, Fail>
+    ensures { IfOk result (λ sides. AreSides m sides.loud.value.book sides.quiet.value.book) }
+{
+    let object = object_of(alloc, CONFIGURED)?;
+    let other = object_of(alloc, EXCHANGED)?;
+    sides_with(alloc, object, slice::from_ref(&other), m)
+}
+
+/// Both books of an object at load, where the number is that of a master of it and others are attached.
+fn sides_with(alloc: Global, object: Object, others: &[Object], m: NodeId) -> Result<Sides, Fail>
+    requires formed { IsObject object }
+    requires others { Each IsObject others.now }
+    ensures { IfOk result (λ sides. AreSides m sides.loud.value.book sides.quiet.value.book) }
+{
     if has_key(object.masters.as_slice(), m.0) {
-        let sides = sides_with(alloc, object, m)?;
+        let sides = sides_over(alloc, object, others, m)?;
         Ok(sides)
     } else {
         Err(Fail::from("no such master"))
     }
 }
 
-/// Both books of an object that has the master, at load.
-fn sides_with(alloc: Global, object: Object, m: NodeId) -> Result<Sides, NoMemory>
+/// Both books of an object that has the master, at load, where others are attached.
+fn sides_over(
+    alloc: Global,
+    object: Object,
+    others: &[Object],
+    m: NodeId,
+) -> Result<Sides, NoMemory>
     requires formed { IsObject object }
+    requires others { Each IsObject others.now }
     requires named { IsTrue (list_any (λ r. r.node == m.0) object.masters) }
     ensures { IfOk result (λ sides. AreSides m sides.loud.value.book sides.quiet.value.book) }
 {
     books_agree();
     reach_is_closed();
     let other = object.copy(alloc)?;
-    let loud = desk_of(alloc, object)?;
-    let quiet = desk_of(alloc, other)?;
+    let loud = desk_of(alloc, object, attached_of(alloc, others)?)?;
+    let quiet = desk_of(alloc, other, attached_of(alloc, others)?)?;
     Ok(Sides { loud, quiet })
 }
 
@@ -111,7 +168,7 @@ fn wait_alone(loud: &mut Desk, quiet: &mut Desk, m: NodeId, proc: NodeId) -> boo
     requires { AreSides m loud.old.book quiet.old.book }
     ensures { AreSides m loud.new.book quiet.new.book }
 {
-    let is_own = owns(loud.book.object(), loud.book.topology(), m, proc);
+    let is_own = owns(loud.book.loaded(), loud.book.topology(), m, proc);
     if is_own {
         step_left(
             &mut loud.book,
@@ -228,7 +285,7 @@ static WATCHED: [Turn; 14] = [
 ];
 
 /// What is beyond the reach of master 8: the power node of its number, too.
-static BEYOND: [u32; 4] = [2, 8, 46, 107];
+const BEYOND: &[u32] = &[2, 8, 46, 107];
 
 /// Whether a node has the same value and operating point in both books.
 fn is_alike(loud: &Book, quiet: &Book, number: u32) -> bool {
@@ -237,9 +294,9 @@ fn is_alike(loud: &Book, quiet: &Book, number: u32) -> bool {
     (loud.value(unit), loud.point(node)) == (quiet.value(unit), quiet.point(node))
 }
 
-/// Whether what is beyond the reach of 8 is alike in both books.
-fn are_alike(loud: &Book, quiet: &Book) -> bool {
-    for number in &BEYOND {
+/// Whether these nodes are alike in both books.
+fn are_alike(loud: &Book, quiet: &Book, nodes: &[u32]) -> bool {
+    for number in nodes {
         if !is_alike(loud, quiet, *number) {
             return false;
         }
@@ -247,13 +304,14 @@ fn are_alike(loud: &Book, quiet: &Book) -> bool {
     true
 }
 
-/// The first line of these of which not that is put out.
+/// The first line of these of which not that is put out, or after which not all that is beyond is alike.
 fn wrong_turn(
     alloc: Global,
     loud: &mut Desk,
     quiet: &mut Desk,
     m: NodeId,
     turns: &[Turn],
+    beyond: &[u32],
 ) -> Result<Option<u32>, Fail>
     requires { AreSides m loud.old.book quiet.old.book }
     ensures { AreSides m loud.new.book quiet.new.book }
@@ -265,7 +323,7 @@ fn wrong_turn(
         let second = text_of(alloc, *number, &quiet.out)?;
         let told = first.as_slice() == of_loud.as_bytes()
             && second.as_slice() == of_quiet.as_bytes();
-        if !told || !are_alike(&loud.book, &quiet.book) {
+        if !told || !are_alike(&loud.book, &quiet.book, beyond) {
             return Ok(Some(*number));
         }
     }
@@ -277,7 +335,7 @@ fn wrong_turn(
 fn compared(alloc: Global, turns: &[Turn]) -> Result<(Option<u32>, bool), Fail> {
     let m = NodeId(8);
     let mut sides = sides_of(alloc, m)?;
-    let wrong = wrong_turn(alloc, &mut sides.loud, &mut sides.quiet, m, turns)?;
+    let wrong = wrong_turn(alloc, &mut sides.loud, &mut sides.quiet, m, turns, BEYOND)?;
     let alike = is_alike(&sides.loud.book, &sides.quiet.book, 108);
     Ok((wrong, alike))
 }
@@ -301,9 +359,16 @@ static SUSPENDED: [Turn; 3] = [
 fn waited(alloc: Global, proc: u32) -> Result<(Option<u32>, bool, bool, bool), Fail> {
     let m = NodeId(8);
     let mut sides = sides_of(alloc, m)?;
-    let wrong = wrong_turn(alloc, &mut sides.loud, &mut sides.quiet, m, &SUSPENDED)?;
+    let wrong = wrong_turn(
+        alloc,
+        &mut sides.loud,
+        &mut sides.quiet,
+        m,
+        &SUSPENDED,
+        BEYOND,
+    )?;
     let waits = wait_alone(&mut sides.loud, &mut sides.quiet, m, NodeId(proc));
-    let beyond = are_alike(&sides.loud.book, &sides.quiet.book);
+    let beyond = are_alike(&sides.loud.book, &sides.quiet.book, BEYOND);
     let alike = is_alike(&sides.loud.book, &sides.quiet.book, proc);
     Ok((wrong, waits, beyond, alike))
 }
@@ -314,5 +379,81 @@ fn the_wait_of_a_processor_stays_within(rt: HostRuntime) -> Result<(), Fail> {
     assert_eq!(rt; own, (None, true, true, false));
     let other = waited(rt.alloc(), 2)?;
     assert_eq!(rt; other, (None, false, true, true));
+    Ok(())
+}
+
+/// Masters 1, which may set the configuration, and 8, and slave 46, which 1 alone may use.
+const CONFIGURED: &[u32] = &[
+    2, 3, 1, 0x101, 2, 1, 0x1, 100, 0, 0, 8, 0x200, 100, 0, 0, 0x102, 1, 46, 0, 0x1, 0x107, 0x1, 0,
+];
+
+/// The same masters, and slave 46, which 8 alone may use.
+const EXCHANGED: &[u32] = &[
+    2, 2, 1, 0x101, 2, 1, 0x1, 100, 0, 0, 8, 0x200, 100, 0, 0, 0x102, 1, 46, 0, 0x200,
+];
+
+/// Master 1, which is beyond the reach of 8, puts the attached object in force: in both books. Slave 46, which 8 may use by
+/// that object, is within the reach of 8 from the load on.
+static ENFORCED: [Turn; 6] = [
+    (1, "boot 108 0", "1 run 108 0\n", "1 run 108 0\n"),
+    (2, "ipi 8 13 46 1 0 2", "2 reply 8 2002 0 0 0\n", ""),
+    (
+        3,
+        "ipi 1 2 4096",
+        "3 reply 1 0 0 0 0\n",
+        "3 reply 1 0 0 0 0\n",
+    ),
+    (4, "ipi 8 13 46 1 0 2", "4 reply 8 0 0 0 0\n", ""),
+    (
+        5,
+        "ipi 1 13 46 1 0 2",
+        "5 reply 1 2002 0 0 0\n",
+        "5 reply 1 2002 0 0 0\n",
+    ),
+    (
+        6,
+        "ipi 1 2 4096",
+        "6 reply 1 2002 0 0 0\n",
+        "6 reply 1 2002 0 0 0\n",
+    ),
+];
+
+/// Without the messages of master 1 no object is put in force. Who may set the configuration reaches each master, so all
+/// that differs is within its reach.
+static HIDDEN: [Turn; 5] = [
+    (1, "boot 108 0", "1 run 108 0\n", "1 run 108 0\n"),
+    (2, "ipi 1 13 46 1 0 2", "2 reply 1 0 0 0 0\n", ""),
+    (3, "ipi 1 2 4096", "3 reply 1 0 0 0 0\n", ""),
+    (
+        4,
+        "ipi 8 13 46 1 0 2",
+        "4 reply 8 0 0 0 0\n",
+        "4 reply 8 2002 0 0 0\n",
+    ),
+    (5, "ipi 1 2 4096", "5 reply 1 2002 0 0 0\n", ""),
+];
+
+/// The first line of these of which not that is put out, or after which not all that is beyond is alike, where this master
+/// is left out; and who uses slave 46 in each book after them, as master 8 is told.
+fn configured(
+    alloc: Global,
+    m: u32,
+    turns: &[Turn],
+    beyond: &[u32],
+) -> Result<(Option<u32>, Option<u32>, Option<u32>), Fail> {
+    let m = NodeId(m);
+    let mut sides = configured_sides(alloc, m)?;
+    let wrong = wrong_turn(alloc, &mut sides.loud, &mut sides.quiet, m, turns, beyond)?;
+    let loud = sides.loud.book.usage(NodeId(8), NodeId(46));
+    let quiet = sides.quiet.book.usage(NodeId(8), NodeId(46));
+    Ok((wrong, loud, quiet))
+}
+
+#[test]
+fn an_object_is_put_in_force_in_both_books_or_in_one(rt: HostRuntime) -> Result<(), Fail> {
+    let both = configured(rt.alloc(), 8, &ENFORCED, &[2, 8, 107])?;
+    assert_eq!(rt; both, (None, Some(1), Some(0)));
+    let one = configured(rt.alloc(), 1, &HIDDEN, &[8, 107])?;
+    assert_eq!(rt; one, (None, Some(1), Some(0)));
     Ok(())
 }

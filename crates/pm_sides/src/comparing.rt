@@ -167,7 +167,7 @@ pub(crate) fn object(alloc: Global) -> Result<Object, Fail>
 }
 
 /// The object of these words.
-fn object_of(alloc: Global, words: &[u32]) -> Result<Object, Fail>
+pub(crate) fn object_of(alloc: Global, words: &[u32]) -> Result<Object, Fail>
     ensures { IfOk result IsObject }
 {
     let mut bytes = Vec::new(alloc);

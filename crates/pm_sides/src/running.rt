@@ -2,7 +2,7 @@
 
 use crate::both::{ASKED, Desk, Turn, desk_of, text_of};
 use crate::comparing::object;
-use pm_base::{Event, NodeId, Unit};
+use pm_base::{Event, List, NodeId, Unit};
 use pm_core::{Book, Outbox};
 use pm_laws::{quiet_event, run};
 use pm_script::parse_line;
@@ -14,21 +14,23 @@ fn events_without(alloc: Global, m: NodeId, turns: &[Turn]) -> Result<Vec<Event>
     let mut events = Vec::new(alloc);
     for (_, line, _, _) in turns {
         let event = parse_line(line.as_bytes())?;
-        events.push(quiet_event(m, &event))?;
+        let pass = Event::Pass;
+        let is_left_out = *quiet_event(m, &event, &pass) == pass;
+        events.push(if is_left_out { Event::Pass } else { event })?;
     }
     Ok(events)
 }
 
 /// The book at load, after a run of these events at once.
 fn run_of(alloc: Global, events: &[Event]) -> Result<Box<Desk>, Fail> {
-    let mut desk = desk_of(alloc, object(alloc)?)?;
+    let mut desk = desk_of(alloc, object(alloc)?, List::new(alloc))?;
     desk.run(events);
     Ok(desk)
 }
 
 /// The book at load, after these events one by one.
 fn steps_of(alloc: Global, events: &[Event]) -> Result<Box<Desk>, Fail> {
-    let mut desk = desk_of(alloc, object(alloc)?)?;
+    let mut desk = desk_of(alloc, object(alloc)?, List::new(alloc))?;
     for event in events {
         desk.step(event);
     }

@@ -3,5 +3,5 @@ use Rattle.pm_beyond.proofs.FoundLaw.{reaches_by}
 use Rattle.pm_beyond.proofs.border.reaches.Goals as goal
 
 pub returns : goal.returns
-returns c = λ object t from are.
-    c.end_at.ensures ∙ reaches_by c.reach_is_decided.ensures object t from c.args.routes.now c.args.place are
+returns c = λ objects t from are.
+    c.end_at.ensures ∙ reaches_by c.reach_is_decided.ensures objects t from c.args.routes.now c.args.place are

@@ -1,3 +1,5 @@
+use Rattle.std.proofs.Common.{refl}
+use Rattle.pm_run.specs.Run.{fixed_of}
 use Rattle.pm_laws.specs.ReachBorder.{border_of}
 use Rattle.pm_laws.proofs.AlikeLaw.{BookLaws, worlds_alike, worlds_beside}
 use Rattle.pm_laws.proofs.BesideLaw.{CoreLaws, agree_after, cores_beside, line_beside, splits_beside}
@@ -17,8 +19,8 @@ returns c =
       modes = c.steps_keep_apart.ensures.modes;
       load = c.books_of_a_run.ensures.load;
       agrees = λ setup m object chip.
-          c.books_agree.ensures.load (border_of setup.object setup.topology m) setup.object setup.topology
-          (c.reach_is_closed.ensures.closed setup.object setup.topology m object chip);
+          c.books_agree.ensures.load (border_of (fixed_of setup) m) (fixed_of setup) setup.object 0 refl
+          (c.reach_is_closed.ensures.closed (fixed_of setup) m object chip);
     } in
     record {
       events = λ setup m event a b rules quiet_boxes. (splits_beside setup m event a b rules quiet_boxes).events;

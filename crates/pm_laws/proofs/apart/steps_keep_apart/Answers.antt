@@ -11,7 +11,7 @@ returns c =
     let reach : ReachLaws = record { closed = c.reach_is_closed.ensures.closed; own = c.reach_is_closed.ensures.own } in
     record {
       values = λ m a b object chip agree unit beyond.
-          values_alike (border_in a m) unit a b (reach.closed a.fixed.object a.fixed.topology m object chip) beyond agree;
+          values_alike (border_in a m) unit a b (reach.closed a.fixed m object chip) beyond agree;
       modes = λ m a b agree proc beyond. mode_alike (border_in a m) proc a b agree beyond;
       both = λ m event a b object chip sound_a sound_b agree. both_apart reach laws m a b object chip sound_a sound_b agree event;
       left = λ m event a b own object chip sound_a sound_b agree. left_apart reach laws m a b object chip sound_a sound_b agree event own;

@@ -4,7 +4,7 @@ use Rattle.pm_laws.proofs.laws.books_agree.Goals as goal
 pub returns : goal.returns
 returns c = record {
   itself = agree_self c.units_stand_in_order.ensures;
-  load = load_self c.units_stand_in_order.ensures c.books_stay_sound.ensures.load;
+  load = load_self c.units_stand_in_order.ensures c.loads_are_sound.ensures.load;
   turned = agree_sym;
   through = agree_trans;
 }

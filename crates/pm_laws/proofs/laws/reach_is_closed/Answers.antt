@@ -1,4 +1,4 @@
-use Rattle.pm_laws.proofs.ReachBorderLaw.{reach_closed}
+use Rattle.pm_laws.proofs.ReachBorderLaw.{reach_closed, reach_closed_over}
 use Rattle.pm_laws.proofs.ReachExact.{all_beyond, caller_within, reach_exact}
 use Rattle.pm_laws.proofs.WithinReach.{ReachLaws}
 use Rattle.pm_laws.proofs.laws.reach_is_closed.Goals as goal
@@ -12,5 +12,6 @@ returns c =
       tests = c.reach_is_decided.ensures;
       kinds = c.kinds_are_exact.ensures;
       grants = c.grants_are_permissions.ensures;
+      several = c.some_grants_are_permissions.ensures;
     } in
-    record { closed = reach_closed laws; exact = reach_exact laws; unconfigured = all_beyond; own = caller_within laws }
+    record { closed = reach_closed laws; closed_over = reach_closed_over laws; exact = reach_exact laws; unconfigured = all_beyond; own = caller_within laws }

@@ -3,7 +3,7 @@ use Rattle.pm_clock_tree.specs.Followed.{ArePermitted, RootsStand, served_by}
 use Rattle.pm_clock_tree.specs.Told.{Clocked}
 use Rattle.pm_clock_tree.specs.Tree.{Tree}
 use Rattle.pm_clocks.specs.Clocked.{made, tree_after, view_of}
-use Rattle.pm_clocks.proofs.StepLemmas.{are_permitted, roots_stand, served_permitted, served_stand, stays_on_pass}
+use Rattle.pm_clocks.proofs.StepLemmas.{are_permitted, not_so, roots_stand, served_permitted, served_stand, stays_on_pass}
 use Rattle.pm_clocks.proofs.clocks.Clocks.answer.Goals as goal
 
 pub returns-in-Pass-clause-clocks : goal.returns-in-Pass-clause-clocks
@@ -24,7 +24,8 @@ follow-requires c =
     record {
       kept = λ yes. subst (λ it. ArePermitted (view_of c.args.book.now) it) (sym is)
           (served_permitted c.enables_stay_permitted.ensures (view_of c.args.book.now) (made c.args.event.now c.args.out.now.answer) tree
-          (are_permitted c.args.event.now c.args.out.now.moved.items tree c.args.book.now c.requires.stepped c.clocks_stand_after_steps.ensures));
+          (are_permitted c.args.event.now c.args.out.now.moved.items tree c.args.book.now c.requires.stepped c.clocks_stand_after_steps.ensures
+          c.only_one_call_configures.ensures.force (sym c.configures.ensures ∙ not_so c.configures.result yes)));
       stand = subst (λ it. RootsStand (view_of c.args.book.now) c.as_slice.result.now it) (sym is)
           (subst (λ units. RootsStand (view_of c.args.book.now) units (served_by (view_of c.args.book.now) (made c.args.event.now c.args.out.now.answer) tree))
           (sym c.as_slice.ensures)
