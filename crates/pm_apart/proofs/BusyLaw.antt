@@ -12,7 +12,7 @@ use Rattle.pm_ipi.specs.declared.responses.Response.{Response}
 use Rattle.pm_topology.specs.declared.topology.Topology.{Topology}
 use Rattle.pm_psci.specs.Answers.{answered}
 use Rattle.pm_split.specs.Split.{Note, call, called_note, noted_answer}
-use Rattle.pm_split.specs.Split.Note.{Busy, Called, Clock, NoTask, Fired}
+use Rattle.pm_split.specs.Split.Note.{Busy, Called, Clock, NoTask, Fired, Late}
 use Rattle.pm_board.specs.Board.{Standing}
 use Rattle.pm_run.specs.Run.{Line as ScriptLine, Setup, run}
 use Rattle.pm_laws.specs.Quiet.{quiet}
@@ -61,6 +61,7 @@ module _ (m : NodeId) where
   notes_found n (NoTask key ∷ notes) = notes_found n notes
   notes_found n (Clock number from to ∷ notes) = notes_found n notes
   notes_found n (Fired key at told ∷ notes) = notes_found n notes
+  notes_found n (Late address ∷ notes) = notes_found n notes
   notes_found n (Busy master ∷ notes) = at (master.0 == m.0) (notes_found n notes)
     where
       later : List (List Word)

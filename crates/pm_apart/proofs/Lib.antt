@@ -7,6 +7,7 @@ pub mod HeardLaw
 pub mod LineCommands
 pub mod LinesLaw
 pub mod NodeCommands
+pub mod OwnNotesLemmas
 pub mod PartsLaw
 pub mod RecordFacts
 pub mod RunsLaw

@@ -4,14 +4,13 @@ use Rattle.std.specs.Prelude.{filter, flat_map, map}
 use Rattle.pm_base.specs.declared.events.Event.{Event}
 use Rattle.pm_base.specs.declared.names.NodeId.{NodeId}
 use Rattle.pm_base.specs.declared.names.Unit.{Unit}
-use Rattle.pm_object.specs.Grammar.{IsObject}
 use Rattle.pm_topology.specs.WellFormed.{IsWellFormed}
 use Rattle.pm_state.specs.Load.{load_of}
 use Rattle.pm_state.specs.State.{State}
 use Rattle.pm_state.specs.Units.{units}
 use Rattle.pm_clock_tree.specs.Tree.{Tree}
 use Rattle.pm_board.specs.Board.{Standing}
-use Rattle.pm_run.specs.Run.{Line, Setup, run}
+use Rattle.pm_run.specs.Run.{Line, Setup, fixed_of, run}
 use Rattle.pm_laws.specs.Quiet.{quiet}
 use Rattle.pm_apply.specs.Part.{Kept}
 use Rattle.pm_apply.specs.Record.{at_zero}
@@ -29,6 +28,7 @@ use Rattle.pm_apart.proofs.HeardLaw.{about_is_deaf, boards_alike}
 use Rattle.pm_apart.proofs.RunsLaw.{ReachLaws, runs_alike}
 use Rattle.pm_apart.proofs.TablesLaw.{clocks_apart, line_same, table_same}
 use Rattle.pm_apart.proofs.TextsLaw.{lines_about}
+use Rattle.pm_laws.specs.Border.{AreObjects}
 
 -- where the same commands are given step by step, their lines are the same
 set_same : (u : Unit) (n : ℕ) (xs ys : List Driven) → AreDrivenAlike u xs ys → set_lines u n xs ≡ set_lines u n ys
@@ -39,7 +39,7 @@ set_same u n (x ∷ xs) (y ∷ ys) alike =
     ap (λ ds. map (λ d. numbered n (step_words (told.Command d))) ds ++ set_lines u (n + 1) xs) alike.0
     ∙ ap (λ lines. map (λ d. numbered n (step_words (told.Command d))) (commands_on u y) ++ lines) (set_same u (n + 1) xs ys alike.1)
 
-module _ (laws : ReachLaws) (c : Setup) (m : NodeId) (events : List Event) (u : Unit) (object : IsObject c.object) (chip : IsWellFormed c.topology)
+module _ (laws : ReachLaws) (c : Setup) (m : NodeId) (events : List Event) (u : Unit) (object : AreObjects (fixed_of c)) (chip : IsWellFormed c.topology)
     (beyond : IsOutOfReach c m u) where
   abbrev loud : List Driven
   loud = driven c [] events
@@ -48,7 +48,7 @@ module _ (laws : ReachLaws) (c : Setup) (m : NodeId) (events : List Event) (u : 
   still = driven c [] (quiet m events)
 
   abbrev book : List Driven → State
-  book xs = last_book (load_of c.object c.topology) xs
+  book xs = last_book (load_of c.object c.attached c.topology) xs
 
   abbrev kept : List Driven → Kept
   kept xs = last_kept (at_zero c.topology) xs

@@ -5,8 +5,6 @@ use Rattle.std.specs.Prelude.{filter}
 use Rattle.pm_base.specs.declared.events.Event.{Event}
 use Rattle.pm_base.specs.declared.names.NodeId.{NodeId}
 use Rattle.pm_base.specs.declared.names.Unit.{Unit}
-use Rattle.pm_object.specs.declared.object.Object.{Object}
-use Rattle.pm_object.specs.Grammar.{IsObject}
 use Rattle.pm_topology.specs.declared.topology.Topology.{Topology}
 use Rattle.pm_topology.specs.declared.places.Kind.TheVariants.{Proc}
 use Rattle.pm_topology.specs.Units.{has_unit}
@@ -16,10 +14,10 @@ use Rattle.pm_state.specs.Load.{load_of}
 use Rattle.pm_state.specs.State.{Fixed, State}
 use Rattle.pm_core.specs.Step.{effect, outputs_at_load}
 use Rattle.pm_state.specs.Values.{value}
-use Rattle.pm_run.specs.Run.{Core, IsBookOf, Line, Setup, loaded, lines_of}
+use Rattle.pm_run.specs.Run.{Core, IsBookOf, Line, Setup, fixed_of, lines_of, loaded}
 use Rattle.pm_laws.specs.Agree.{Agree}
 use Rattle.pm_laws.specs.Beside.{AreBeside, no_core, both_cores, left_core, rest_core}
-use Rattle.pm_laws.specs.Border.{Border, IsClosed, unit_beyond}
+use Rattle.pm_laws.specs.Border.{AreObjects, Border, IsClosed, unit_beyond}
 use Rattle.pm_laws.specs.Quiet.{quiet}
 use Rattle.pm_laws.specs.ReachBorder.{border_of}
 use Rattle.pm_laws.specs.Values.{is_beyond}
@@ -36,9 +34,9 @@ use Rattle.pm_apart.proofs.PartsLaw.{PartLaws, commands_alike, kept_alike, nothi
 
 -- what is known of two runs, and of two books that agree beyond the reach of a master
 pub record ReachLaws : Type 0 where
-  pub beside : (c : Setup) (m : NodeId) (events : List Event) → IsObject c.object → IsWellFormed c.topology → AreWorldsBeside c m events
-  pub closed : (object : Object) (t : Topology) (m : NodeId) → IsObject object → IsWellFormed t → IsClosed object t (border_of object t m)
-  pub values : (border : Border) (unit : Unit) (a b : State) → IsClosed a.fixed.object a.fixed.topology border
+  pub beside : (c : Setup) (m : NodeId) (events : List Event) → AreObjects (fixed_of c) → IsWellFormed c.topology → AreWorldsBeside c m events
+  pub closed : (fixed : Fixed) (m : NodeId) → AreObjects fixed → IsWellFormed fixed.topology → IsClosed fixed (border_of fixed m)
+  pub values : (border : Border) (unit : Unit) (a b : State) → IsClosed a.fixed border
       → is_beyond a.fixed.object a.fixed.topology border unit ≡ true → Agree border a b → value unit a ≡ value unit b
   pub modes : (border : Border) (p : ℕ) (a b : State) → unit_beyond a.fixed.object a.fixed.topology border (Proc p) ≡ true
       → Agree border a b → mode_at p a.now.core.procs ≡ mode_at p b.now.core.procs
@@ -47,10 +45,10 @@ pub record ReachLaws : Type 0 where
   pub zero : (t : Topology) → IsRecordOf t (at_zero t)
   pub part : PartLaws
 
-module _ (laws : ReachLaws) (c : Setup) (m : NodeId) (u : Unit) (object : IsObject c.object) (chip : IsWellFormed c.topology)
+module _ (laws : ReachLaws) (c : Setup) (m : NodeId) (u : Unit) (object : AreObjects (fixed_of c)) (chip : IsWellFormed c.topology)
     (beyond : IsOutOfReach c m u) where
   abbrev border : Border
-  border = border_of c.object c.topology m
+  border = border_of (fixed_of c) m
 
   -- two runs stand alike: their books agree beyond the reach, and the same is kept of the unit, which is the book's value
   pub record StandAlike (a b : State) (first second : Kept) : Type 0 where
@@ -64,8 +62,8 @@ module _ (laws : ReachLaws) (c : Setup) (m : NodeId) (u : Unit) (object : IsObje
 
   pub value_beyond : (a b : State) → IsBookOf c a → Agree border a b → value u a ≡ value u b
   value_beyond a b is_a agree =
-      let P : Fixed → Type 0 = λ fixed. IsClosed fixed.object fixed.topology border → is_beyond fixed.object fixed.topology border u ≡ true → value u a ≡ value u b in
-      subst P is_a.fixed (λ closed is. laws.values border u a b closed is agree) (laws.closed c.object c.topology m object chip) beyond
+      let P : Fixed → Type 0 = λ fixed. IsClosed fixed border → is_beyond fixed.object fixed.topology border u ≡ true → value u a ≡ value u b in
+      subst P is_a.fixed (λ closed is. laws.values border u a b closed is agree) (laws.closed (fixed_of c) m object chip) beyond
 
   -- ---- core steps that are beside one another
 
@@ -173,7 +171,7 @@ module _ (laws : ReachLaws) (c : Setup) (m : NodeId) (u : Unit) (object : IsObje
       (subst (λ ds. EndAlike a b first second (drive_line first [] x ∷ drive mid [] xs) ds) (sym (drive_more second y ys)) whole)
 
   abbrev load : State
-  load = load_of c.object c.topology
+  load = load_of c.object c.attached c.topology
 
   abbrev start : Kept
   start = at_zero c.topology

@@ -4,7 +4,6 @@ use Rattle.std.specs.Prelude.{codes, filter, flat_map}
 use Rattle.pm_base.specs.declared.names.NodeId.{NodeId}
 use Rattle.pm_base.specs.declared.names.Unit.{Unit}
 use Rattle.pm_base.specs.declared.names.Unit.TheVariants.{Node, Line}
-use Rattle.pm_object.specs.Grammar.{IsObject}
 use Rattle.pm_topology.specs.declared.places.Kind.{Kind}
 use Rattle.pm_topology.specs.declared.places.Kind.TheVariants.{Proc, Slave, Power, Unknown}
 use Rattle.pm_topology.specs.declared.topology.Topology.{Topology}
@@ -19,8 +18,8 @@ use Rattle.pm_state.specs.Values.{point, point_at, shown, value, value_at}
 use Rattle.pm_clock_tree.specs.declared.clock_tree.ClockEnd.{ClockEnd}
 use Rattle.pm_clock_tree.specs.Told.{ends}
 use Rattle.pm_clock_tree.specs.Tree.{Tree}
-use Rattle.pm_run.specs.Run.{IsBookOf, Setup}
-use Rattle.pm_laws.specs.Border.{unit_beyond}
+use Rattle.pm_run.specs.Run.{IsBookOf, Setup, fixed_of}
+use Rattle.pm_laws.specs.Border.{AreObjects, unit_beyond}
 use Rattle.pm_laws.specs.ReachBorder.{border_of}
 use Rattle.pm_laws.specs.Values.{is_beyond}
 use Rattle.pm_apply.specs.Part.{Kept}
@@ -73,22 +72,22 @@ clocks_apart u tree = none_made (is_about u) end_words (clock_apart u) (ends tre
 
 -- ---- two runs that stand alike
 
-module _ (laws : ReachLaws) (c : Setup) (m : NodeId) (u : Unit) (object : IsObject c.object) (chip : IsWellFormed c.topology)
+module _ (laws : ReachLaws) (c : Setup) (m : NodeId) (u : Unit) (object : AreObjects (fixed_of c)) (chip : IsWellFormed c.topology)
     (beyond : IsOutOfReach c m u) where
   abbrev Alike : State → State → Kept → Kept → Type 0
   Alike a b first second = StandAlike laws c m u object chip beyond a b first second
 
   abbrev both : Fixed
-  both = record { object = c.object; topology = c.topology }
+  both = fixed_of c
 
   module _ (a b : State) (first second : Kept) (s : Alike a b first second) where
     values_same : value u a ≡ value u b
     values_same = value_beyond laws c m u object chip beyond a b s.is_a s.agree
 
-    modes_same : (p : ℕ) → unit_beyond c.object c.topology (border_of c.object c.topology m) (Proc p) ≡ true → mode_at p a.now.core.procs ≡ mode_at p b.now.core.procs
+    modes_same : (p : ℕ) → unit_beyond c.object c.topology (border_of (fixed_of c) m) (Proc p) ≡ true → mode_at p a.now.core.procs ≡ mode_at p b.now.core.procs
     modes_same p is =
-        let P : Fixed → Type 0 = λ fixed. unit_beyond fixed.object fixed.topology (border_of c.object c.topology m) (Proc p) ≡ true in
-        laws.modes (border_of c.object c.topology m) p a b (subst P (sym s.is_a.fixed) is) s.agree
+        let P : Fixed → Type 0 = λ fixed. unit_beyond fixed.object fixed.topology (border_of (fixed_of c) m) (Proc p) ≡ true in
+        laws.modes (border_of (fixed_of c) m) p a b (subst P (sym s.is_a.fixed) is) s.agree
 
     -- the value and the point of a node, by its kind
     value_by : (node : NodeId) (kind : Kind) → u ≡ Node node → kind_of c.topology node ≡ kind → value_at kind both a.now.core ≡ value_at kind both b.now.core
@@ -100,7 +99,7 @@ module _ (laws : ReachLaws) (c : Setup) (m : NodeId) (u : Unit) (object : IsObje
 
     point_by : (node : NodeId) (kind : Kind) → u ≡ Node node → kind_of c.topology node ≡ kind → point_at kind both a.now.core ≡ point_at kind both b.now.core
     point_by node (Proc p) unit is =
-        let edge = border_of c.object c.topology m in
+        let edge = border_of (fixed_of c) m in
         let here : is_beyond c.object c.topology edge (Node node) ≡ true = ap (is_beyond c.object c.topology edge) (sym unit) ∙ beyond in
         ap mode_number (modes_same p (ap (unit_beyond c.object c.topology edge) (sym is) ∙ here))
     point_by node (Slave k) unit is = value_by node (Slave k) unit is

@@ -11,8 +11,6 @@ use Rattle.pm_base.specs.declared.names.NodeId.{NodeId}
 use Rattle.pm_base.specs.declared.names.Unit.{Unit}
 use Rattle.pm_base.specs.declared.names.Unit.TheVariants.{Node, Line}
 use Rattle.pm_ipi.specs.declared.responses.Response.{Response}
-use Rattle.pm_ipi.specs.Mail.{is_empty}
-use Rattle.pm_object.specs.declared.object.Object.{Object}
 use Rattle.pm_topology.specs.declared.topology.Topology.{Topology}
 use Rattle.pm_psci.specs.Answers.{answered}
 use Rattle.pm_tasks.specs.declared.tasks.Fired.{Fired as FiredTask}
@@ -20,9 +18,8 @@ use Rattle.pm_tasks.specs.Timetable.{Timetable}
 use Rattle.pm_board.specs.Board.{Standing, begun, board_after, is_done, settled}
 use Rattle.pm_clock_tree.specs.declared.clock_tree.ClockChange.{ClockChange}
 use Rattle.pm_clock_tree.specs.Tree.{Tree}
-use Rattle.pm_split.specs.Boxes.{Boxes, box_of}
-use Rattle.pm_split.specs.Split.{Note, call, called_note, noted_answer, post, split_of}
-use Rattle.pm_split.specs.Split.Note.{Busy, Called, Clock, NoTask, Fired}
+use Rattle.pm_split.specs.Split.{Note, call, called_note, noted_answer}
+use Rattle.pm_split.specs.Split.Note.{Busy, Called, Clock, NoTask, Fired, Late}
 use Rattle.pm_run.specs.Run.{Line as ScriptLine, Setup, Stand, line_of, lines_of, loaded, run}
 use Rattle.pm_laws.specs.Both.{Both}
 use Rattle.pm_laws.specs.Quiet.{quiet, quiet_event}
@@ -44,14 +41,16 @@ use Rattle.pm_apart.specs.Telling.{tells_task}
 use Rattle.pm_apart.proofs.Cuts.{until_both, until_each}
 use Rattle.pm_apart.proofs.FilterLemmas.{none_after}
 use Rattle.pm_apart.proofs.HeardLaw.{noted_line}
+use Rattle.pm_apart.proofs.OwnNotesLemmas.{OwnNotes, runs_are as own_notes_are}
 use Rattle.pm_apart.proofs.TextsLaw.{none_given}
 
 -- ---- which notes tell of tasks
 
--- a note of a full box or of a clock, and one of a task
+-- a note that is of no task, and one of a task
 abbrev IsOther : Note → Type 0
 IsOther (Busy master) = ⊤
 IsOther (Clock number from to) = ⊤
+IsOther (Late address) = ⊤
 IsOther _ = ⊥
 
 abbrev pub IsOfTask : Note → Type 0
@@ -90,28 +89,12 @@ turned_are (change ∷ changes) = (tt, turned_are changes)
 clocks_are : (tree : Tree) (given : List Given) → Each IsOther (clock_notes tree given)
 clocks_are tree given = turned_are (turned tree (tree_along given tree))
 
--- a line has no other notes of its own than of full boxes, and of clocks
-abbrev OwnNotes : ScriptLine → Type 0
-OwnNotes line = Each IsOther line.notes
+-- no note of a line's own is of a task
+abbrev HasOthers : ScriptLine → Type 0
+HasOthers line = OwnNotes IsOther line
 
-by_box : (master : NodeId) (empty : Bool) → Each IsOther (if empty then [] else Busy master ∷ [])
-by_box master true = tt
-by_box master false = (tt, tt)
-
-posts_are : (at : Option ℕ) (master : NodeId) (message : Message) (boxes : Boxes) → Each IsOther (post at master message boxes).notes
-posts_are (Some m) master message boxes = by_box master (is_empty m boxes)
-posts_are None master message boxes = tt
-
-splits_are : (object : Object) (t : Topology) (event : Event) (boxes : Boxes) → Each IsOther (split_of object t event boxes).notes
-splits_are object t (Post master message) boxes = posts_are (box_of object master) master message boxes
-splits_are object t event boxes = tt
-
-lines_are : (c : Setup) (events : List Event) (stand : Stand) → Each OwnNotes (lines_of c events stand)
-lines_are c [] stand = tt
-lines_are c (event ∷ events) stand = (splits_are c.object c.topology event stand.boxes, lines_are c events (line_of c event stand).after)
-
-runs_are : (c : Setup) (events : List Event) → Each OwnNotes (run c events)
-runs_are c events = (tt, lines_are c events (loaded c))
+runs_are : (c : Setup) (events : List Event) → Each HasOthers (run c events)
+runs_are c events = own_notes_are IsOther (λ master. tt) (λ address. tt) c events
 
 -- ---- the lines that tell of tasks
 
@@ -137,6 +120,7 @@ module _ (n : ℕ) where
   none_other (Called proc code ∷ notes) are = absurd are.0
   none_other (NoTask key ∷ notes) are = absurd are.0
   none_other (Clock number from to ∷ notes) are = none_other notes are.1
+  none_other (Late address ∷ notes) are = none_other notes are.1
   none_other (Fired key at word ∷ notes) are = absurd are.0
 
   all_found : (notes : List Note) → Each IsOfTask notes → filter tells_task (note_lines n notes) ≡ note_lines n notes
@@ -146,6 +130,7 @@ module _ (n : ℕ) where
   all_found (Busy master ∷ notes) are = absurd are.0
   all_found (Called proc code ∷ notes) are = absurd are.0
   all_found (Clock number from to ∷ notes) are = absurd are.0
+  all_found (Late address ∷ notes) are = absurd are.0
 
   none_answered : (proc : NodeId) (code : Option ℤ) → filter tells_task (note_lines n (noted_answer proc code)) ≡ []
   none_answered proc None = refl
@@ -156,7 +141,7 @@ module _ (n : ℕ) where
   none_called t event reply = refl
 
   -- so those of a line tell what happens to tasks in it
-  line_found : (board : Standing) (x : Driven) → OwnNotes x.line
+  line_found : (board : Standing) (x : Driven) → HasOthers x.line
       → filter tells_task (driven_lines n (heard_line board x)) ≡ note_lines n (task_notes x.line.event board.tasks)
   line_found board x own =
       let t : Topology = x.line.after.book.fixed.topology in
@@ -178,7 +163,7 @@ abbrev told_of_tasks : ℕ → Timetable → List ScriptLine → List (List Word
 told_of_tasks n t [] = []
 told_of_tasks n t (line ∷ lines) = note_lines n (task_notes line.event t) ++ told_of_tasks (n + 1) (settled (begun line.event (settled t))) lines
 
-lines_found : (n : ℕ) (board : Standing) (tree : Tree) (lines : List ScriptLine) (kept : Kept) (answers : List (List Bool)) → Each OwnNotes lines
+lines_found : (n : ℕ) (board : Standing) (tree : Tree) (lines : List ScriptLine) (kept : Kept) (answers : List (List Bool)) → Each HasOthers lines
     → filter tells_task (step_lines n (heard_by board (clocked_by tree (drive kept answers lines)))) ≡ told_of_tasks n board.tasks lines
 lines_found n board tree [] kept answers own = refl
 lines_found n board tree (line ∷ lines) kept answers own =
@@ -187,7 +172,7 @@ lines_found n board tree (line ∷ lines) kept answers own =
     let next : Tree = tree_along x.cores tree in
     let later : List Driven = clocked_by next (drive x.kept (answers_after line.cores answers) lines) in
     let here : List (List Word) = note_lines n (task_notes line.event board.tasks) in
-    let others : OwnNotes (clocked_line tree x).line =
+    let others : HasOthers (clocked_line tree x).line =
     each_joined IsOther line.notes (clock_notes tree x.cores) own.0 (clocks_are tree x.cores)
     in
     filter-append tells_task (driven_lines n (heard_line board (clocked_line tree x))) (step_lines (n + 1) (heard_by after later))
@@ -198,7 +183,7 @@ run_found : (c : Setup) (board : Standing) (answers : List (List Bool)) (events 
     → filter tells_task (step_lines 0 (heard_in c board (until cut (driven c answers events)))) ≡ told_of_tasks 0 board.tasks (until cut (run c events))
 run_found c board answers events cut =
     ap (λ xs. filter tells_task (step_lines 0 (heard_in c board xs))) (until-drive cut (run c events) (at_zero c.topology) answers)
-    ∙ lines_found 0 board (first_tree c) (until cut (run c events)) (at_zero c.topology) answers (until_each OwnNotes cut (run c events) (runs_are c events))
+    ∙ lines_found 0 board (first_tree c) (until cut (run c events)) (at_zero c.topology) answers (until_each HasOthers cut (run c events) (runs_are c events))
 
 -- ---- in two runs
 

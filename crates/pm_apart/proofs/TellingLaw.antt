@@ -15,15 +15,15 @@ use Rattle.pm_ipi.specs.Callbacks.{init_suspend, notify}
 use Rattle.pm_ipi.specs.declared.responses.Response.{Response}
 use Rattle.pm_tell.specs.declared.callbacks.Callback.{Callback}
 use Rattle.pm_core.specs.declared.outbox.Done.{Done}
-use Rattle.pm_tell.specs.declared.late.Late.{Late}
+use Rattle.pm_tell.specs.declared.late.Late.{Late as LateReply}
 use Rattle.pm_values.specs.declared.starts.Start.{Start}
 use Rattle.pm_core.specs.declared.replies.Answer.{Answer}
 use Rattle.pm_core.specs.declared.replies.Answer.TheVariants.{Silent, Drop, Reply, Ack}
 use Rattle.pm_state.specs.Values.{value}
 use Rattle.pm_split.specs.Split.{Note}
-use Rattle.pm_split.specs.Split.Note.{Busy, Called, Clock, NoTask, Fired}
+use Rattle.pm_split.specs.Split.Note.{Busy, Called, Clock, NoTask, Fired, Late}
 use Rattle.pm_board.specs.Board.{Standing}
-use Rattle.pm_run.specs.Run.{Core, Line as ScriptLine, Setup, run}
+use Rattle.pm_run.specs.Run.{Core, Line as ScriptLine, Setup, fixed_of, run}
 use Rattle.pm_laws.specs.Answers.{is_dropped}
 use Rattle.pm_laws.specs.Border.{Border, none_within}
 use Rattle.pm_laws.specs.Callbacks.{is_callback_beyond}
@@ -143,7 +143,7 @@ five_parts p g commands starts late calls answer first second third fourth fifth
 
 module _ (c : Setup) (m : NodeId) (events : List Event) (alike : AreWorldsAlike c m events) where
   abbrev border : Border
-  border = border_of c.object c.topology m
+  border = border_of (fixed_of c) m
 
   -- ---- which lines tell of what
 
@@ -206,11 +206,13 @@ module _ (c : Setup) (m : NodeId) (events : List Event) (alike : AreWorldsAlike 
   no_note Starts n (NoTask key) = refl
   no_note Starts n (Clock number from to) = refl
   no_note Starts n (Fired key at told) = refl
+  no_note Starts n (Late address) = refl
   no_note _ n (Busy master) = refl
   no_note _ n (Called proc code) = refl
   no_note _ n (NoTask key) = refl
   no_note _ n (Clock number from to) = refl
   no_note _ n (Fired key at told) = refl
+  no_note _ n (Late address) = refl
 
   -- of the lines of a core step the test finds those that tell of it
   found_of : (what : Tells) (F : Core → List StepLine) → ((g : Given) → IsTold g → Drops g.core → told_of what g ≡ F g.core)
@@ -226,7 +228,7 @@ module _ (c : Setup) (m : NodeId) (events : List Event) (alike : AreWorldsAlike 
   no_late : (what : Tells) (g : Given) → filter (tells_of what) (map late_line g.core.outputs.late) ≡ []
   no_late what g = none_made (tells_of what) late_line (none_of what) g.core.outputs.late
     where
-      none_of : (what : Tells) (l : Late) → tells_of what (late_line l) ≡ false
+      none_of : (what : Tells) (l : LateReply) → tells_of what (late_line l) ≡ false
       none_of Starts l = refl
       none_of _ l = refl
 

@@ -19,7 +19,7 @@ use Rattle.pm_clock_tree.specs.declared.clock_tree.ClockEnd.{ClockEnd}
 use Rattle.pm_clock_tree.specs.Told.{ends}
 use Rattle.pm_clock_tree.specs.Tree.{Tree}
 use Rattle.pm_split.specs.Split.{Note}
-use Rattle.pm_split.specs.Split.Note.{Busy, Called, Clock, NoTask, Fired}
+use Rattle.pm_split.specs.Split.Note.{Busy, Called, Clock, NoTask, Fired, Late}
 use Rattle.pm_board.specs.Board.{Standing}
 use Rattle.pm_run.specs.Run.{Setup}
 use Rattle.pm_apply.specs.Part.{Kept}
@@ -104,7 +104,7 @@ pub run_is : (c : Setup) (board : Standing) (answers : List (List Bool)) (events
 run_is c board answers events =
     let xs : List Driven = driven c answers events in
     let ys : List Driven = heard_in c board xs in
-    let book : State = last_book (load_of c.object c.topology) xs in
+    let book : State = last_book (load_of c.object c.attached c.topology) xs in
     let kept : Kept = last_kept (at_zero c.topology) xs in
     let tree : Tree = last_tree (first_tree c) xs in
     let own : List (List Word) = flat_map (closing_line book kept) (units book) in
@@ -224,6 +224,8 @@ module _ (u : Unit) (n : ℕ) where
   note_apart (Line line) (Clock number from to) = refl
   note_apart (Node node) (Fired key at told) = refl
   note_apart (Line line) (Fired key at told) = refl
+  note_apart (Node node) (Late address) = refl
+  note_apart (Line line) (Late address) = refl
 
   notes_apart : (notes : List Note) → filter (is_about u) (note_lines n notes) ≡ []
   notes_apart [] = refl

@@ -6,14 +6,11 @@ use Rattle.std.proofs.lemmas.Bool.{eqb-true}
 use Rattle.std.proofs.lemmas.List.{map-append}
 use Rattle.std.proofs.lemmas.List.Elements.{filter-append}
 use Rattle.pm_base.specs.declared.events.Event.{Event}
-use Rattle.pm_base.specs.declared.events.Event.TheVariants.{Post, Smc}
-use Rattle.pm_base.specs.declared.events.Message.{Message}
+use Rattle.pm_base.specs.declared.events.Event.TheVariants.{Smc}
 use Rattle.pm_base.specs.declared.names.NodeId.{NodeId}
 use Rattle.pm_base.specs.declared.names.Unit.{Unit}
 use Rattle.pm_base.specs.declared.names.Unit.TheVariants.{Node, Line}
 use Rattle.pm_ipi.specs.declared.responses.Response.{Response}
-use Rattle.pm_ipi.specs.Mail.{is_empty}
-use Rattle.pm_object.specs.declared.object.Object.{Object}
 use Rattle.pm_topology.specs.declared.topology.Topology.{Topology}
 use Rattle.pm_psci.specs.Answers.{answered}
 use Rattle.pm_board.specs.Board.{Standing, board_after}
@@ -22,16 +19,15 @@ use Rattle.pm_clock_tree.specs.declared.table.ClockDef.{ClockDef}
 use Rattle.pm_clock_tree.specs.Table.{clocks, place_of}
 use Rattle.pm_clock_tree.specs.Told.{Clocked, change, change_at, listed, same as is_same, was_running}
 use Rattle.pm_clock_tree.specs.Tree.{Tree, running, runs}
-use Rattle.pm_split.specs.Boxes.{Boxes, box_of}
-use Rattle.pm_split.specs.Split.{Note, call, called_note, noted_answer, post, split_of}
-use Rattle.pm_split.specs.Split.Note.{Busy, Called, Clock, NoTask, Fired}
-use Rattle.pm_run.specs.Run.{Core, Line as ScriptLine, Setup, Stand, line_of, lines_of, loaded, run}
+use Rattle.pm_split.specs.Split.{Note, call, called_note, noted_answer}
+use Rattle.pm_split.specs.Split.Note.{Busy, Called, Clock, NoTask, Fired, Late}
+use Rattle.pm_run.specs.Run.{Core, Line as ScriptLine, Setup, fixed_of, run}
 use Rattle.pm_laws.specs.Both.{Both}
 use Rattle.pm_laws.specs.Quiet.{quiet}
 use Rattle.pm_laws.specs.ReachBorder.{border_of}
 use Rattle.pm_clock_laws.specs.Reach.{IsClockBeyond}
 use Rattle.pm_clock_laws.specs.Same.{tree_along as along}
-use Rattle.pm_clock_laws.specs.Worlds.{AreClocksAlike, IsClockAlike, Turn, fixed_of, turn_of, turns}
+use Rattle.pm_clock_laws.specs.Worlds.{AreClocksAlike, IsClockAlike, Turn, turn_of, turns}
 use Rattle.pm_apply.specs.Part.{Kept, part_of}
 use Rattle.pm_apply.specs.Record.{at_zero}
 use Rattle.pm_trace.specs.declared.line.Word.{Word}
@@ -50,6 +46,7 @@ use Rattle.pm_apart.specs.Telling.{tells_clock}
 use Rattle.pm_apart.proofs.Cuts.{both_map, until_each}
 use Rattle.pm_apart.proofs.FilterLemmas.{left_out, none_after, parts_alike}
 use Rattle.pm_apart.proofs.HeardLaw.{noted_line}
+use Rattle.pm_apart.proofs.OwnNotesLemmas.{OwnNotes, runs_are as own_notes_are}
 use Rattle.pm_apart.proofs.TasksLaw.{IsOfTask, tasks_are}
 use Rattle.pm_apart.proofs.TextsLaw.{none_given}
 
@@ -75,33 +72,19 @@ until_taken : (R : Turn → Turn → Type 0) (cut : Option ℕ) (s t : Tree) (xs
 until_taken R None s t xs ys both = both
 until_taken R (Some k) s t xs ys both = taken R (k + 1) s t xs ys both
 
--- ---- the notes of a line's own are of full boxes
+-- ---- the notes of a line's own
 
-abbrev IsBusy : Note → Type 0
-IsBusy (Busy master) = ⊤
-IsBusy _ = ⊥
+-- a note of a full box, or of words that come too late
+abbrev IsOwn : Note → Type 0
+IsOwn (Busy master) = ⊤
+IsOwn (Late address) = ⊤
+IsOwn _ = ⊥
 
-abbrev OwnNotes : ScriptLine → Type 0
-OwnNotes line = Each IsBusy line.notes
+abbrev HasOwn : ScriptLine → Type 0
+HasOwn line = OwnNotes IsOwn line
 
-by_box : (master : NodeId) (empty : Bool) → Each IsBusy (if empty then [] else Busy master ∷ [])
-by_box master true = tt
-by_box master false = (tt, tt)
-
-posts_are : (at : Option ℕ) (master : NodeId) (message : Message) (boxes : Boxes) → Each IsBusy (post at master message boxes).notes
-posts_are (Some m) master message boxes = by_box master (is_empty m boxes)
-posts_are None master message boxes = tt
-
-splits_are : (object : Object) (t : Topology) (event : Event) (boxes : Boxes) → Each IsBusy (split_of object t event boxes).notes
-splits_are object t (Post master message) boxes = posts_are (box_of object master) master message boxes
-splits_are object t event boxes = tt
-
-lines_are : (c : Setup) (events : List Event) (stand : Stand) → Each OwnNotes (lines_of c events stand)
-lines_are c [] stand = tt
-lines_are c (event ∷ events) stand = (splits_are c.object c.topology event stand.boxes, lines_are c events (line_of c event stand).after)
-
-runs_are : (c : Setup) (events : List Event) → Each OwnNotes (run c events)
-runs_are c events = (tt, lines_are c events (loaded c))
+runs_are : (c : Setup) (events : List Event) → Each HasOwn (run c events)
+runs_are c events = own_notes_are IsOwn (λ master. tt) (λ address. tt) c events
 
 module _ (number : ℕ) where
   -- ---- which lines tell of the clock
@@ -120,13 +103,14 @@ module _ (number : ℕ) where
   no_line n (told.Call callback) = refl
 
   module _ (n : ℕ) where
-    none_busy : (notes : List Note) → Each IsBusy notes → filter (tells_clock number) (note_lines n notes) ≡ []
-    none_busy [] are = refl
-    none_busy (Busy master ∷ notes) are = none_busy notes are.1
-    none_busy (Called proc code ∷ notes) are = absurd are.0
-    none_busy (NoTask key ∷ notes) are = absurd are.0
-    none_busy (Clock clock from to ∷ notes) are = absurd are.0
-    none_busy (Fired key at word ∷ notes) are = absurd are.0
+    none_own : (notes : List Note) → Each IsOwn notes → filter (tells_clock number) (note_lines n notes) ≡ []
+    none_own [] are = refl
+    none_own (Busy master ∷ notes) are = none_own notes are.1
+    none_own (Called proc code ∷ notes) are = absurd are.0
+    none_own (NoTask key ∷ notes) are = absurd are.0
+    none_own (Clock clock from to ∷ notes) are = absurd are.0
+    none_own (Fired key at word ∷ notes) are = absurd are.0
+    none_own (Late address ∷ notes) are = none_own notes are.1
 
     none_of_tasks : (notes : List Note) → Each IsOfTask notes → filter (tells_clock number) (note_lines n notes) ≡ []
     none_of_tasks [] are = refl
@@ -135,6 +119,7 @@ module _ (number : ℕ) where
     none_of_tasks (Busy master ∷ notes) are = absurd are.0
     none_of_tasks (Called proc code ∷ notes) are = absurd are.0
     none_of_tasks (Clock clock from to ∷ notes) are = absurd are.0
+    none_of_tasks (Late address ∷ notes) are = absurd are.0
 
     none_answered : (proc : NodeId) (code : Option ℤ) → filter (tells_clock number) (note_lines n (noted_answer proc code)) ≡ []
     none_answered proc None = refl
@@ -145,7 +130,7 @@ module _ (number : ℕ) where
     none_called t event reply = refl
 
     -- of the lines of a script line those of the clock are among those of its clocks
-    line_found : (board : Standing) (tree : Tree) (x : Driven) → OwnNotes x.line
+    line_found : (board : Standing) (tree : Tree) (x : Driven) → HasOwn x.line
         → filter (tells_clock number) (driven_lines n (heard_line board (clocked_line tree x))) ≡ filter (tells_clock number) (note_lines n (clock_notes tree x.cores))
     line_found board tree x own =
         let event : Event = x.line.event in
@@ -161,7 +146,7 @@ module _ (number : ℕ) where
         ∙ (none_after (tells_clock number) (noted_line n) (x.line.notes ++ turned) tasks (none_of_tasks tasks (tasks_are event board.tasks))
         ∙ (ap (filter (tells_clock number)) (map-append (noted_line n) x.line.notes turned)
         ∙ (filter-append (tells_clock number) (note_lines n x.line.notes) (note_lines n turned)
-        ∙ ap (λ lines. lines ++ filter (tells_clock number) (note_lines n turned)) (none_busy x.line.notes own))))))
+        ∙ ap (λ lines. lines ++ filter (tells_clock number) (note_lines n turned)) (none_own x.line.notes own))))))
 
     -- ---- the lines of changes
 
@@ -221,7 +206,7 @@ module _ (number : ℕ) where
   TurnAlike x y = turn_of number x ≡ turn_of number y
 
   lines_alike : (n : ℕ) (board other : Standing) (s t : Tree) (xs ys : List ScriptLine) (kept rest : Kept) (answers others : List (List Bool))
-      → Each OwnNotes xs → Each OwnNotes ys → Both TurnAlike (turns s xs) (turns t ys)
+      → Each HasOwn xs → Each HasOwn ys → Both TurnAlike (turns s xs) (turns t ys)
       → filter (tells_clock number) (step_lines n (heard_by board (clocked_by s (drive kept answers xs))))
       ≡ filter (tells_clock number) (step_lines n (heard_by other (clocked_by t (drive rest others ys))))
   lines_alike n board other s t [] [] kept rest answers others own its both = refl
@@ -250,7 +235,7 @@ module _ (number : ℕ) where
       ∙ sym (ap told_y (same_along rest others y.cores t))))
 
   pub turns_apart : (c : Setup) (m : NodeId) (events : List Event) → AreClocksAlike c m events
-      → IsClockBeyond (fixed_of c) (border_of c.object c.topology m) number
+      → IsClockBeyond (fixed_of c) (border_of (fixed_of c) m) number
       → (board other : Standing) (answers others : List (List Bool)) (cut : Option ℕ)
       → filter (tells_clock number) (step_lines 0 (heard_in c board (until cut (driven c answers events))))
       ≡ filter (tells_clock number) (step_lines 0 (heard_in c other (until cut (driven c others (quiet m events)))))
@@ -259,8 +244,8 @@ module _ (number : ℕ) where
       let silent : List ScriptLine = run c (quiet m events) in
       ap (λ xs. filter (tells_clock number) (step_lines 0 (heard_in c board xs))) (until-drive cut lines (at_zero c.topology) answers)
       ∙ (lines_alike 0 board other (first_tree c) (first_tree c) (until cut lines) (until cut silent) (at_zero c.topology) (at_zero c.topology) answers others
-      (until_each OwnNotes cut lines (runs_are c events)) (until_each OwnNotes cut silent (runs_are c (quiet m events)))
+      (until_each HasOwn cut lines (runs_are c events)) (until_each HasOwn cut silent (runs_are c (quiet m events)))
       (until_taken TurnAlike cut (first_tree c) (first_tree c) lines silent
-      (both_map (IsClockAlike (fixed_of c) (border_of c.object c.topology m)) TurnAlike (λ x y same. same.turns number beyond)
+      (both_map (IsClockAlike (fixed_of c) (border_of (fixed_of c) m)) TurnAlike (λ x y same. same.turns number beyond)
       (turns (first_tree c) lines) (turns (first_tree c) silent) alike))
       ∙ sym (ap (λ xs. filter (tells_clock number) (step_lines 0 (heard_in c other xs))) (until-drive cut silent (at_zero c.topology) others)))

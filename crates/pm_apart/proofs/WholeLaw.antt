@@ -111,7 +111,7 @@ module _ (units : UnitLaws) (c : Setup) (load : IsBookOf c (loaded c).book) (aft
   whole_about board answers events u has =
       let xs : List Driven = driven c answers events in
       let ys : List Driven = heard_in c board xs in
-      let book : State = last_book (load_of c.object c.topology) xs in
+      let book : State = last_book (load_of c.object c.attached c.topology) xs in
       let kept : Kept = last_kept (at_zero c.topology) xs in
       let is : IsBookOf c book =
       last_is events (loaded c) (drive_line (at_zero c.topology) answers (line_0 c)).kept (answers_after (line_0 c).cores answers) load

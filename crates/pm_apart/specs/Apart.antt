@@ -7,7 +7,7 @@ use Rattle.pm_base.specs.declared.names.NodeId.{NodeId}
 use Rattle.pm_base.specs.declared.names.Unit.{Unit}
 use Rattle.pm_device.specs.declared.device.Device as Device
 use Rattle.pm_board.specs.Board.{Standing}
-use Rattle.pm_run.specs.Run.{Setup}
+use Rattle.pm_run.specs.Run.{Setup, fixed_of}
 use Rattle.pm_laws.specs.Both.{Both}
 use Rattle.pm_laws.specs.Quiet.{quiet}
 use Rattle.pm_laws.specs.ReachBorder.{border_of}
@@ -31,7 +31,7 @@ AreDrivenAlike unit xs ys = Both (IsDrivenAlike unit) xs ys
 
 -- the unit is beyond the reach of the master
 abbrev pub IsOutOfReach : Setup → NodeId → Unit → Type 0
-IsOutOfReach c m unit = is_beyond c.object c.topology (border_of c.object c.topology m) unit ≡ true
+IsOutOfReach c m unit = is_beyond c.object c.topology (border_of (fixed_of c) m) unit ≡ true
 
 -- for each master and each unit beyond its reach: of all lines of a run those about the unit, which are those of the commands
 -- on it and its closing line, are those of the run without the messages of the master, over a device that never fails. The

@@ -67,7 +67,7 @@ closing_line book kept unit = end_line book.fixed.topology unit (shown unit book
 
 -- the closing line of a unit after some steps of a run
 abbrev pub closing_line_of : Setup → List Driven → Unit → List (List Word)
-closing_line_of c xs unit = closing_line (last_book (load_of c.object c.topology) xs) (last_kept (at_zero c.topology) xs) unit
+closing_line_of c xs unit = closing_line (last_book (load_of c.object c.attached c.topology) xs) (last_kept (at_zero c.topology) xs) unit
 
 -- the closing line of a clock that runs
 abbrev pub end_words : ClockEnd → List Word
@@ -80,7 +80,7 @@ clock_lines tree = map end_words (ends tree)
 -- the lines of the closing table after some steps of a run: those of the units, and then those of the clocks
 abbrev pub table_lines : Setup → List Driven → List (List Word)
 table_lines c xs =
-    flat_map (closing_line_of c xs) (units (last_book (load_of c.object c.topology) xs))
+    flat_map (closing_line_of c xs) (units (last_book (load_of c.object c.attached c.topology) xs))
     ++ clock_lines (last_tree (first_tree c) xs)
 
 -- all lines of a run that begins with a board, over a device with these answers

@@ -5,10 +5,9 @@ ghost use Rattle.std.specs.List.{concat};
 ghost use Rattle.pm_base.specs.declared.events.Event.{Event};
 ghost use Rattle.pm_base.specs.declared.names.NodeId.{NodeId};
 ghost use Rattle.pm_base.specs.declared.names.Unit.{Unit};
-ghost use Rattle.pm_object.specs.Grammar.{IsObject};
 ghost use Rattle.pm_topology.specs.Units.{has_unit};
 ghost use Rattle.pm_topology.specs.WellFormed.{IsWellFormed};
-ghost use Rattle.pm_run.specs.Run.{Setup};
+ghost use Rattle.pm_run.specs.Run.{Setup, fixed_of};
 ghost use Rattle.pm_laws.specs.Quiet.{quiet};
 ghost use Rattle.pm_trace.specs.Line.{line_text};
 ghost use Rattle.pm_drive.specs.Drive.{Driven, driven, until};
@@ -17,6 +16,7 @@ ghost use Rattle.pm_drive.specs.Drove.{Drove, NoFailure};
 ghost use Rattle.pm_drive.specs.Text.{run_text, texts};
 ghost use Rattle.pm_apart.specs.Apart.{AreDrivenAlike, IsOutOfReach, KeepsApart, StaysApart, StepsKeepApart, StepsStayApart};
 ghost use Rattle.pm_apart.specs.Lines.{closing_line_of, is_about, run_lines, set_lines, step_lines};
+ghost use Rattle.pm_laws.specs.Border.{AreObjects};
 
 use pm_apply::{KeptValue, a_part_without_refusal, at_zero_is_a_record, each_part_is_safe};
 use pm_clock_laws::clocks_keep_apart;
@@ -50,16 +50,16 @@ pub fn texts_are_lines()
 /// its closing line is the same; and so of all lines of the run those about the unit, whatever modules and timed tasks the
 /// two runs begin with.
 pub fn lines_stay_apart()
-    ensures commands { (c : Setup) (m : NodeId) (events : List Event) (unit : Unit) → IsObject c.object
+    ensures commands { (c : Setup) (m : NodeId) (events : List Event) (unit : Unit) → AreObjects (fixed_of c)
         → IsWellFormed c.topology
         → IsOutOfReach c m unit → AreDrivenAlike unit (driven c [] events) (driven c [] (quiet m events)) }
-    ensures closing { (c : Setup) (m : NodeId) (events : List Event) (unit : Unit) → IsObject c.object
+    ensures closing { (c : Setup) (m : NodeId) (events : List Event) (unit : Unit) → AreObjects (fixed_of c)
         → IsWellFormed c.topology
         → IsOutOfReach c m unit → closing_line_of c (driven c [] events) unit
         ≡ closing_line_of c (driven c [] (quiet m events)) unit }
-    ensures steps { (c : Setup) (events : List Event) (cut : Option ℕ) → IsObject c.object
+    ensures steps { (c : Setup) (events : List Event) (cut : Option ℕ) → AreObjects (fixed_of c)
         → IsWellFormed c.topology → StepsStayApart c [] events cut }
-    ensures run { (c : Setup) (events : List Event) → IsObject c.object → IsWellFormed c.topology → StaysApart c [] events }
+    ensures run { (c : Setup) (events : List Event) → AreObjects (fixed_of c) → IsWellFormed c.topology → StaysApart c [] events }
 {
     reach_keeps_apart();
     reach_is_closed();
@@ -77,12 +77,12 @@ pub fn lines_stay_apart()
 /// the master.
 pub fn driven_lines_stay_apart<D: Device>()
     ensures steps { (c : Setup) (events : List Event) (answers : List (List Bool)) (cut : Option ℕ) (old new : D)
-        → IsObject c.object → IsWellFormed c.topology
+        → AreObjects (fixed_of c) → IsWellFormed c.topology
         → NoFailure D.Device c.topology (until cut (driven c answers events)) old new
         → Drove D.Device c (until cut (driven c answers events)) old new
         → StepsStayApart c answers events cut }
     ensures run { (c : Setup) (events : List Event) (answers : List (List Bool)) (old new : D)
-        → IsObject c.object → IsWellFormed c.topology
+        → AreObjects (fixed_of c) → IsWellFormed c.topology
         → NoFailure D.Device c.topology (driven c answers events) old new
         → Drove D.Device c (driven c answers events) old new
         → StaysApart c answers events }
@@ -97,11 +97,11 @@ pub fn driven_lines_stay_apart<D: Device>()
 /// same of the script lines of the run alone, up to where the text breaks off.
 pub fn driven_runs_keep_apart<D: Device>()
     ensures run { (c : Setup) (events : List Event) (answers : List (List Bool)) (old new : D)
-        → IsObject c.object → IsWellFormed c.topology
+        → AreObjects (fixed_of c) → IsWellFormed c.topology
         → Drove D.Device c (driven c answers events) old new
         → KeepsApart D.Device c answers events old new }
     ensures steps { (c : Setup) (events : List Event) (answers : List (List Bool)) (cut : Option ℕ) (old new : D)
-        → IsObject c.object → IsWellFormed c.topology
+        → AreObjects (fixed_of c) → IsWellFormed c.topology
         → Drove D.Device c (until cut (driven c answers events)) old new
         → StepsKeepApart D.Device c answers events cut old new }
 {

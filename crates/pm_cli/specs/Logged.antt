@@ -6,8 +6,8 @@ use Rattle.pm_topology.specs.Chip.{chip}
 use Rattle.pm_topology.specs.declared.topology.Topology.{Topology}
 use Rattle.pm_device.specs.Act.{Act, Fit}
 use Rattle.pm_apply.specs.Order.{IsOrdered}
-use Rattle.pm_run.specs.Run.{setup}
-use Rattle.pm_drive.specs.Drive.{acts, driven}
+use Rattle.pm_drive.specs.Scripts.{script_driven}
+use Rattle.pm_drive.specs.Drive.{acts}
 
 -- each act is in an order in which nothing is used without power, and no domain goes down under its users: by the chip,
 -- or, only if the word at a place names the topology, by one to which the device was fitted before all of them
@@ -31,4 +31,4 @@ pub record IsLogOfRun (named : Option ℕ) (log : List Act) : Type 0 where
   pub events : List Event
   pub answers : List (List Bool)
   pub built_in : IfNone named (topology ≡ chip)
-  pub is : log ≡ fits named topology ++ acts (driven (setup object topology) answers events)
+  pub is : log ≡ fits named topology ++ acts (script_driven object topology answers events)

@@ -9,7 +9,7 @@ use Rattle.pm_core.specs.Outbox.{Outputs}
 use Rattle.pm_core.specs.Step.{effect, outputs, outputs_at_load}
 use Rattle.pm_split.specs.Boxes.{Boxes}
 use Rattle.pm_split.specs.Split.{split_of}
-use Rattle.pm_run.specs.Run.{Core, Line, Setup, Stand, core_0, book_after, core_of, cores_of, line_0, line_of, lines_of, loaded}
+use Rattle.pm_run.specs.Run.{Core, Line, Setup, Stand, core_0, book_after, core_of, cores_of, line_0, line_of, lines_of, loaded, setup}
 use Rattle.pm_apply.specs.Part.{Part, part_in, part_of}
 use Rattle.pm_apply.specs.Record.{Kept, at_zero}
 use Rattle.pm_trace.specs.Step.{notices_in, notices_of, step_text}
@@ -103,16 +103,18 @@ module _ (c : Setup) where
       subst (EndAs (end ∷ ends)) (sym (one_step old.kept given answers (line_of c event stand) (lines_of c events after) core one))
       (here, subst P (ap (λ (p : Part). p.kept) here.part) (steps_end events answers end ends after cores.1 next steps.1))
 
-  pub session_ends : (events : List Event) (answers : List (List Bool)) (ends : List Controls) → Each IsCore events → IsSession c events answers ends → EndAs ends (given_in (driven c answers events))
-  session_ends events [] ends cores session = absurd session
-  session_ends events (given ∷ answers) [] cores session = absurd session
-  session_ends events (given ∷ answers) (end ∷ ends) cores session =
-      let first = session.0 in
-      let core : Core = core_0 c in
-      let here : EndsAs end (record { core = core; part = part_of (at_zero c.topology) given core.after core.outputs }) =
-      step_ends (at_zero c.topology) (outputs_at_load first.begun.book) given first.begun end core first.loaded.step first.answered first.over
-      first.loaded.book (ap outputs_at_load first.loaded.book)
-      in
-      let P : Kept → Type 0 = λ kept. EndAs ends (given_from kept answers (lines_of c events (loaded c))) in
-      subst (EndAs (end ∷ ends)) (sym (one_step (at_zero c.topology) given answers (line_0 c) (lines_of c events (loaded c)) core refl))
-      (here, subst P (ap (λ (p : Part). p.kept) here.part) (steps_end events answers end ends (loaded c) cores here.book session.1))
+pub session_ends : (object : Object) (t : Topology) (events : List Event) (answers : List (List Bool)) (ends : List Controls) → Each IsCore events
+    → IsSession object t events answers ends → EndAs ends (given_in (driven (setup object [] t) answers events))
+session_ends object t events [] ends cores session = absurd session
+session_ends object t events (given ∷ answers) [] cores session = absurd session
+session_ends object t events (given ∷ answers) (end ∷ ends) cores session =
+    let c : Setup = setup object [] t in
+    let first = session.0 in
+    let core : Core = core_0 c in
+    let here : EndsAs end (record { core = core; part = part_of (at_zero t) given core.after core.outputs }) =
+    step_ends (at_zero t) (outputs_at_load first.begun.book) given first.begun end core first.loaded.step first.answered first.over
+    first.loaded.book (ap outputs_at_load first.loaded.book)
+    in
+    let P : Kept → Type 0 = λ kept. EndAs ends (given_from kept answers (lines_of c events (loaded c))) in
+    subst (EndAs (end ∷ ends)) (sym (one_step (at_zero t) given answers (line_0 c) (lines_of c events (loaded c)) core refl))
+    (here, subst P (ap (λ (p : Part). p.kept) here.part) (steps_end c events answers end ends (loaded c) cores here.book session.1))

@@ -2,8 +2,9 @@
 use Rattle.std.specs.Prelude.{◌≡◌, ℕ, Bool, List, [], ◌∷◌, None, ⊤}
 use Rattle.pm_base.specs.declared.events.Event.{Event}
 use Rattle.pm_base.specs.declared.events.Event.TheVariants.{Post, Serve, Smc}
+use Rattle.pm_object.specs.declared.object.Object.{Object}
+use Rattle.pm_topology.specs.declared.topology.Topology.{Topology}
 use Rattle.pm_apply.specs.Part.{part_in}
-use Rattle.pm_run.specs.Run.{Setup}
 use Rattle.pm_trace.specs.Step.{core_text, notices_in, notices_of}
 use Rattle.pm_drive.specs.Drive.{Given}
 use Rattle.pm_controller.specs.Controls.{Controls, text_of}
@@ -23,10 +24,10 @@ abbrev pub Answered : List Bool → Controls → Controls → Type 0
 Answered [] old new = old ≡ new
 Answered (ok ∷ answers) old new = (next : Controls) × TakesAnswer ok old next × Answered answers next new
 
--- step 0 begins with the load, its commands are answered so, and none waits then
-pub record IsFirst (c : Setup) (answers : List Bool) (end : Controls) : Type 0 where
+-- step 0 begins with the load of this object over this chip, its commands are answered so, and none waits then
+pub record IsFirst (object : Object) (topology : Topology) (answers : List Bool) (end : Controls) : Type 0 where
   pub begun : Controls
-  pub loaded : IsLoaded c.object c.topology begun
+  pub loaded : IsLoaded object topology begun
   pub answered : Answered answers begun end
   pub over : end.waits ≡ None
 
@@ -44,9 +45,9 @@ AreSteps (event ∷ events) (given ∷ answers) old (end ∷ ends) = IsStep even
 AreSteps _ _ old _ = ⊥
 
 -- a load and then these events, with the answers to the commands of each step
-abbrev pub IsSession : Setup → List Event → List (List Bool) → List Controls → Type 0
-IsSession c events (given ∷ answers) (end ∷ ends) = IsFirst c given end × AreSteps events answers end ends
-IsSession c events _ _ = ⊥
+abbrev pub IsSession : Object → Topology → List Event → List (List Bool) → List Controls → Type 0
+IsSession object topology events (given ∷ answers) (end ∷ ends) = IsFirst object topology given end × AreSteps events answers end ends
+IsSession object topology events _ _ = ⊥
 
 -- ---- beside a driven run
 

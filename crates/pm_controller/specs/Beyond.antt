@@ -1,4 +1,4 @@
--- Which messages are beyond the reach of a master, by the object and the chip of a controller.
+-- Which messages are beyond the reach of a master, by the objects of the run and the chip of a controller.
 use Rattle.std.specs.Prelude.{Bool}
 use Rattle.pm_base.specs.declared.events.Event.TheVariants.{Ipi}
 use Rattle.pm_base.specs.declared.events.Message.{Message}
@@ -11,4 +11,4 @@ use Rattle.pm_controller.specs.Controls.{Controls, chip_of}
 -- names, or the reset line whose value it asks for
 abbrev pub is_beyond : NodeId → NodeId → Message → Controls → Bool
 is_beyond of sender message c =
-    message_beyond c.book.fixed.object (chip_of c) (border_of c.book.fixed.object (chip_of c) of) (Ipi sender message)
+    message_beyond c.book.fixed.object (chip_of c) (border_of c.book.fixed of) (Ipi sender message)

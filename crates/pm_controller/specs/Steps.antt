@@ -23,7 +23,7 @@ pub record StepBegins (kept : Kept) (out : Outputs) (c : Controls) : Type 0 wher
 
 -- the book of an object at load, over a device of which each unit stands at 0: step 0 begins
 pub record IsLoaded (object : Object) (topology : Topology) (c : Controls) : Type 0 where
-  pub book : c.book ≡ load_of object topology
+  pub book : c.book ≡ load_of object [] topology
   pub step : StepBegins (at_zero topology) (outputs_at_load c.book) c
 
 -- the step of an event begins

@@ -18,7 +18,7 @@ ghost use Rattle.pm_controller.specs.Steps.{IsLoaded, IsNext, TakesAnswer, Takes
 
 use crate::status::{NodeStatus, status_of};
 use pm_apply::{Carrying, Kept, KeptValue, each_part_is_safe, marks_suffice};
-use pm_base::{Command, Event, Message, Mode, NoMemory, NodeId, Unit};
+use pm_base::{Command, Event, List, Message, Mode, NoMemory, NodeId, Unit};
 use pm_beyond::is_message_beyond;
 use pm_core::{Book, Outbox};
 use pm_object::Object;
@@ -67,7 +67,7 @@ impl Controller {
         let masters = object.masters.len();
         let mut kept = Kept::load(alloc, &topology)?;
         let mut outbox = Outbox::load(alloc, &topology, masters)?;
-        let book = Book::load(alloc, object, topology, &mut outbox)?;
+        let book = Book::load(alloc, object, List::new(alloc), topology, &mut outbox)?;
         let mut left = Carrying::begin_all(&mut kept, &book, &outbox);
         let waits = find(&mut left, &mut kept, &book, &mut outbox);
         Ok(Controller {
@@ -201,7 +201,7 @@ impl Controller {
     {
         is_message_beyond(
             alloc,
-            self.book.object(),
+            self.book.objects().as_slice(),
             self.book.topology(),
             of,
             sender,

@@ -46,7 +46,7 @@ pub(crate) fn status_of(book: &Book, master: NodeId, node: NodeId) -> Option<Nod
 fn master_place(book: &Book, master: NodeId) -> Option<usize>
     ensures { result ≡ master_place master book.now }
 {
-    book.object()
+    book.loaded()
         .masters
         .as_slice()
         .iter()

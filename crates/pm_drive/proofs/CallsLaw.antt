@@ -39,6 +39,7 @@ calls_append (Note.Busy master ∷ first) later = calls_append first later
 calls_append (Note.Called proc code ∷ first) later = calls_append first later
 calls_append (Note.NoTask key ∷ first) later = calls_append first later
 calls_append (Note.Clock number from to ∷ first) later = calls_append first later
+calls_append (Note.Late address ∷ first) later = calls_append first later
 
 calls_back : (calls : List Fired) → calls_in (map fired_note calls) ≡ calls
 calls_back [] = refl

@@ -126,7 +126,7 @@ module _ {D : Type 0} (d : Device.Ghosts D) (c : Setup) (well : IsWellFormed c.t
         xs = drive first answers lines
 
         abbrev load : State
-        load = load_of c.object c.topology
+        load = load_of c.object c.attached c.topology
 
         all_go : AllGo c load lines
         all_go = (record { cores = (loads, tt); ends = refl }, go)

@@ -87,7 +87,7 @@ module _ (stand : StandAfterSteps) (runs : RunByTheirParents) where
 
   pub clocks_stand : (c : Setup) (xs : List Driven) → ClocksStand c xs
   clocks_stand c xs =
-      let book : State = load_of c.object c.topology in
+      let book : State = load_of c.object c.attached c.topology in
       let places : HasAllPlaces (first_tree c) = places_loaded (masters_of book) (view_of book) in
       record {
         load = record { stands = stand.loaded (masters_of book) (view_of book); places = places; runs = runs (first_tree c) places };

@@ -259,7 +259,7 @@ module _ (c : Setup) where
       let x : Driven = drive_line start answers (line_0 c) in
       let xs : List Driven = driven c answers events in
       let ys : List Driven = driven c answers (lowered_script c.topology events) in
-      let load : State = load_of c.object c.topology in
+      let load : State = load_of c.object c.attached c.topology in
       let later = all_lines events (loaded c) x.kept (answers_after (line_0 c).cores answers) in
       record {
         steps = ap (λ more. x.cores ++ more) later.steps;

@@ -75,7 +75,7 @@ last_tree tree (x ∷ xs) = last_tree (tree_along x.cores tree) xs
 
 -- the tree at load: nobody enables a clock
 abbrev pub first_tree : Setup → Tree
-first_tree c = tree_of (load_of c.object c.topology)
+first_tree c = tree_of (load_of c.object c.attached c.topology)
 
 -- the driven lines of a run, from its load on
 abbrev pub clocked : Setup → List Driven → List Driven

@@ -88,4 +88,4 @@ module _ {D : Type 0} (d : Device.Ghosts D) where
     -- without a failure the lines are those over a device that never fails, and the device follows the book
     pub unfailing : NoFailure c.topology xs old new → xs ≡ drive (at_zero c.topology) [] (map (λ (x : Driven). x.line) xs)
     pub follows : d.values_observable → NoFailure c.topology xs old new →
-        Follows (last_book (load_of c.object c.topology) xs) (d.state new)
+        Follows (last_book (load_of c.object c.attached c.topology) xs) (d.state new)

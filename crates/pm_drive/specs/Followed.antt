@@ -26,5 +26,5 @@ StandAlong tree (g ∷ given) =
 
 -- at the load of a run and after each core step of these lines, from the load on
 pub record ClocksStand (c : Setup) (xs : List Driven) : Type 0 where
-  pub load : IsTreeOf (load_of c.object c.topology) (first_tree c)
+  pub load : IsTreeOf (load_of c.object c.attached c.topology) (first_tree c)
   pub steps : StandAlong (first_tree c) (given_in xs)

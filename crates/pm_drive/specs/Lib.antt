@@ -9,3 +9,4 @@ pub mod Heard
 pub mod Boards
 pub mod Calls
 pub mod Followed
+pub mod Scripts

@@ -45,7 +45,7 @@ texts n (x ∷ xs) = driven_text n x ∷ texts (n + 1) xs
 -- the closing table after some lines of a run
 abbrev pub closing_after : Setup → List Driven → List ℕ
 closing_after c xs =
-    table_text (last_book (load_of c.object c.topology) xs) (last_kept (at_zero c.topology) xs) (last_tree (first_tree c) xs)
+    table_text (last_book (load_of c.object c.attached c.topology) xs) (last_kept (at_zero c.topology) xs) (last_tree (first_tree c) xs)
 
 -- the whole text of a run that begins with a board: that of line 0 and of each line, and the closing table
 abbrev pub run_text : Setup → Standing → List (List Bool) → List Event → List ℕ

@@ -82,7 +82,7 @@ in_back front back kind number has = record {
   number_is = has.number_is;
 }
 
-module _ (object : Object) (t : Topology) (routes : List Route) where
+module _ (object : Object) (others : List Object) (t : Topology) (routes : List Route) where
   -- a master to which one of the paths leads
   place_at : (n k a : ℕ) → k < n → slice_get (range_with_len a n) k ≡ Some (a + k)
   place_at zero k a within = absurd (omega arith)
@@ -91,68 +91,68 @@ module _ (object : Object) (t : Topology) (routes : List Route) where
       let same : a + 1 + k ≡ a + suc k = omega arith in
       place_at n k (a + 1) (omega arith) ∙ ap (λ (j : ℕ). Some j) same
 
-  master_there : (end : ℕ) → end < length object.masters → HasNumber (λ (r : Route). r.end) routes end → HasMember (master_members (object ∷ []) routes) members.Master (node_at (object ∷ []) end).0
+  master_there : (end : ℕ) → end < length object.masters → HasNumber (λ (r : Route). r.end) routes end → HasMember (master_members (object ∷ others) routes) members.Master (node_at (object ∷ others) end).0
   master_there end within at =
       let found = found_at (λ (r : Route). r.end == end) routes at.0 at.1 at.2 (equal at.1.end end at.3) in
-      let member : Member = member_by (object ∷ []) members.Master (node_at (object ∷ []) end).0 found.0.why found.0 in
-      let made : master_member (object ∷ []) routes end ≡ Some member =
-      ap (option_map (λ (r : Route). member_by (object ∷ []) members.Master (node_at (object ∷ []) end).0 r.why r)) found.1
+      let member : Member = member_by (object ∷ others) members.Master (node_at (object ∷ others) end).0 found.0.why found.0 in
+      let made : master_member (object ∷ others) routes end ≡ Some member =
+      ap (option_map (λ (r : Route). member_by (object ∷ others) members.Master (node_at (object ∷ others) end).0 r.why r)) found.1
       in
       let start : 0 + end ≡ end = omega arith in
       let here = place_at (length object.masters) end 0 within ∙ ap (λ (j : ℕ). Some j) start in
-      let there = made_at (master_member (object ∷ []) routes) (range_with_len 0 (length object.masters)) end end member here made in
+      let there = made_at (master_member (object ∷ others) routes) (range_with_len 0 (length object.masters)) end end member here made in
       record { place = there.0; member = member; there = there.1; kind_is = refl; number_is = refl }
 
   -- a unit that the end of one of them brings in
-  unit_there : (kind : MemberKind) (unit : Unit) (routes : List Route) (k : ℕ) (r : Route) (why : Why) → slice_get routes k ≡ Some r → brings (object ∷ []) t kind unit r.end ≡ Some why
-      → (member : Member) × (unit_member (object ∷ []) t kind unit routes ≡ Some member) × (member.kind ≡ kind) × (member.number ≡ unit_number unit)
+  unit_there : (kind : MemberKind) (unit : Unit) (routes : List Route) (k : ℕ) (r : Route) (why : Why) → slice_get routes k ≡ Some r → brings (object ∷ others) t kind unit r.end ≡ Some why
+      → (member : Member) × (unit_member (object ∷ others) t kind unit routes ≡ Some member) × (member.kind ≡ kind) × (member.number ≡ unit_number unit)
   unit_there kind unit [] k r why is brought = cc
-  unit_there kind unit (z ∷ zs) k r why is brought = by (brings (object ∷ []) t kind unit z.end) refl k is (λ j at. unit_there kind unit zs j r why at brought)
+  unit_there kind unit (z ∷ zs) k r why is brought = by (brings (object ∷ others) t kind unit z.end) refl k is (λ j at. unit_there kind unit zs j r why at brought)
     where
-      by : (o : Option Why) → brings (object ∷ []) t kind unit z.end ≡ o → (k : ℕ) → slice_get (z ∷ zs) k ≡ Some r
-          → ((j : ℕ) → slice_get zs j ≡ Some r → (member : Member) × (unit_member (object ∷ []) t kind unit zs ≡ Some member) × (member.kind ≡ kind) × (member.number ≡ unit_number unit))
-          → (member : Member) × (option_or (option_map (λ why. member_by (object ∷ []) kind (unit_number unit) why z) o) (unit_member (object ∷ []) t kind unit zs) ≡ Some member) × (member.kind ≡ kind) × (member.number ≡ unit_number unit)
-      by (Some first) at k is later = (member_by (object ∷ []) kind (unit_number unit) first z, refl, refl, refl)
+      by : (o : Option Why) → brings (object ∷ others) t kind unit z.end ≡ o → (k : ℕ) → slice_get (z ∷ zs) k ≡ Some r
+          → ((j : ℕ) → slice_get zs j ≡ Some r → (member : Member) × (unit_member (object ∷ others) t kind unit zs ≡ Some member) × (member.kind ≡ kind) × (member.number ≡ unit_number unit))
+          → (member : Member) × (option_or (option_map (λ why. member_by (object ∷ others) kind (unit_number unit) why z) o) (unit_member (object ∷ others) t kind unit zs) ≡ Some member) × (member.kind ≡ kind) × (member.number ≡ unit_number unit)
+      by (Some first) at k is later = (member_by (object ∷ others) kind (unit_number unit) first z, refl, refl, refl)
       by None at zero is later =
           let same : z ≡ r = cc in
-          let clash : ◌≡◌ {A = Option Why} None (Some why) = sym at ∙ ap (λ (r : Route). brings (object ∷ []) t kind unit r.end) same ∙ brought in
+          let clash : ◌≡◌ {A = Option Why} None (Some why) = sym at ∙ ap (λ (r : Route). brings (object ∷ others) t kind unit r.end) same ∙ brought in
           cc
       by None at (suc k) is later = later k is
 
-module _ (units : UnitLaws) (object : Object) (t : Topology) (from : ℕ) (routes : List Route) (least : AreLeast (object ∷ []) t from routes) where
+module _ (units : UnitLaws) (object : Object) (others : List Object) (t : Topology) (from : ℕ) (routes : List Route) (least : AreLeast (object ∷ others) t from routes) where
   -- a master of the reach
-  pub master_listed : (k : ℕ) → k < length object.masters → Reaches (object ∷ []) t from k → HasMember (members_of (object ∷ []) t routes) members.Master (node_at (object ∷ []) k).0
+  pub master_listed : (k : ℕ) → k < length object.masters → Reaches (object ∷ others) t from k → HasMember (members_of (object ∷ others) t routes) members.Master (node_at (object ∷ others) k).0
   master_listed k within path =
-      in_front (master_members (object ∷ []) routes) _ members.Master (node_at (object ∷ []) k).0
-      (master_there object t routes k within (least.all path.0 k path.1 path.2))
+      in_front (master_members (object ∷ others) routes) _ members.Master (node_at (object ∷ others) k).0
+      (master_there object others t routes k within (least.all path.0 k path.1 path.2))
 
   -- a unit of the chip that a master of the reach brings in
-  unit_listed : (kind : MemberKind) (unit : Unit) → has_unit t unit ≡ true → IsIn (object ∷ []) t from kind unit → HasMember (unit_members (object ∷ []) t kind routes (units_of t)) kind (unit_number unit)
+  unit_listed : (kind : MemberKind) (unit : Unit) → has_unit t unit ≡ true → IsIn (object ∷ others) t from kind unit → HasMember (unit_members (object ∷ others) t kind routes (units_of t)) kind (unit_number unit)
   unit_listed kind unit there within =
       let path = within.2 in
       let route = least.all path.0 within.0 path.1 path.2 in
-      let brings_it : brings (object ∷ []) t kind unit route.1.end ≡ Some within.1 = ap (λ (n : ℕ). brings (object ∷ []) t kind unit n) route.3 ∙ within.3 in
-      let made = unit_there object t routes kind unit routes route.0 route.1 within.1 route.2 brings_it in
+      let brings_it : brings (object ∷ others) t kind unit route.1.end ≡ Some within.1 = ap (λ (n : ℕ). brings (object ∷ others) t kind unit n) route.3 ∙ within.3 in
+      let made = unit_there object others t routes kind unit routes route.0 route.1 within.1 route.2 brings_it in
       let at = any_at (λ (u : Unit). same_unit u unit) (units_of t) (units.found t unit ∙ there) in
-      let here : unit_member (object ∷ []) t kind at.1 routes ≡ Some made.0 =
-      ap (λ (u : Unit). unit_member (object ∷ []) t kind u routes) (units.same at.1 unit at.3) ∙ made.1
+      let here : unit_member (object ∷ others) t kind at.1 routes ≡ Some made.0 =
+      ap (λ (u : Unit). unit_member (object ∷ others) t kind u routes) (units.same at.1 unit at.3) ∙ made.1
       in
-      let found = made_at (λ (u : Unit). unit_member (object ∷ []) t kind u routes) (units_of t) at.0 at.1 made.0 at.2 here in
+      let found = made_at (λ (u : Unit). unit_member (object ∷ others) t kind u routes) (units_of t) at.0 at.1 made.0 at.2 here in
       record { place = found.0; member = made.0; there = found.1; kind_is = made.2; number_is = made.3 }
 
-  pub slave_listed : (unit : Unit) → has_unit t unit ≡ true → IsIn (object ∷ []) t from members.Slave unit → HasMember (members_of (object ∷ []) t routes) members.Slave (unit_number unit)
+  pub slave_listed : (unit : Unit) → has_unit t unit ≡ true → IsIn (object ∷ others) t from members.Slave unit → HasMember (members_of (object ∷ others) t routes) members.Slave (unit_number unit)
   slave_listed unit there within =
-      in_back (master_members (object ∷ []) routes) _ members.Slave (unit_number unit)
-      (in_front (unit_members (object ∷ []) t members.Slave routes (units_of t)) _ members.Slave (unit_number unit) (unit_listed members.Slave unit there within))
+      in_back (master_members (object ∷ others) routes) _ members.Slave (unit_number unit)
+      (in_front (unit_members (object ∷ others) t members.Slave routes (units_of t)) _ members.Slave (unit_number unit) (unit_listed members.Slave unit there within))
 
-  pub power_listed : (unit : Unit) → has_unit t unit ≡ true → IsIn (object ∷ []) t from members.Power unit → HasMember (members_of (object ∷ []) t routes) members.Power (unit_number unit)
+  pub power_listed : (unit : Unit) → has_unit t unit ≡ true → IsIn (object ∷ others) t from members.Power unit → HasMember (members_of (object ∷ others) t routes) members.Power (unit_number unit)
   power_listed unit there within =
-      in_back (master_members (object ∷ []) routes) _ members.Power (unit_number unit)
-      (in_back (unit_members (object ∷ []) t members.Slave routes (units_of t)) _ members.Power (unit_number unit)
-      (in_front (unit_members (object ∷ []) t members.Power routes (units_of t)) _ members.Power (unit_number unit) (unit_listed members.Power unit there within)))
+      in_back (master_members (object ∷ others) routes) _ members.Power (unit_number unit)
+      (in_back (unit_members (object ∷ others) t members.Slave routes (units_of t)) _ members.Power (unit_number unit)
+      (in_front (unit_members (object ∷ others) t members.Power routes (units_of t)) _ members.Power (unit_number unit) (unit_listed members.Power unit there within)))
 
-  pub line_listed : (unit : Unit) → has_unit t unit ≡ true → IsIn (object ∷ []) t from members.Line unit → HasMember (members_of (object ∷ []) t routes) members.Line (unit_number unit)
+  pub line_listed : (unit : Unit) → has_unit t unit ≡ true → IsIn (object ∷ others) t from members.Line unit → HasMember (members_of (object ∷ others) t routes) members.Line (unit_number unit)
   line_listed unit there within =
-      in_back (master_members (object ∷ []) routes) _ members.Line (unit_number unit)
-      (in_back (unit_members (object ∷ []) t members.Slave routes (units_of t)) _ members.Line (unit_number unit)
-      (in_back (unit_members (object ∷ []) t members.Power routes (units_of t)) _ members.Line (unit_number unit) (unit_listed members.Line unit there within)))
+      in_back (master_members (object ∷ others) routes) _ members.Line (unit_number unit)
+      (in_back (unit_members (object ∷ others) t members.Slave routes (units_of t)) _ members.Line (unit_number unit)
+      (in_back (unit_members (object ∷ others) t members.Power routes (units_of t)) _ members.Line (unit_number unit) (unit_listed members.Line unit there within)))

@@ -9,6 +9,7 @@ use Rattle.pm_base.specs.declared.names.NodeId.{NodeId}
 use Rattle.pm_base.specs.declared.names.Unit.{Unit}
 use Rattle.pm_base.specs.declared.names.Unit.TheVariants.{Node, Line}
 use Rattle.pm_base.proofs.Booleans.{equal, none_of}
+use Rattle.pm_object.specs.declared.attached.Attached.{Attached}
 use Rattle.pm_object.specs.declared.object.Object.{Object}
 use Rattle.pm_topology.specs.declared.places.Kind.{Kind}
 use Rattle.pm_topology.specs.declared.places.Kind.TheVariants.{Proc, Slave, Power, Unknown}
@@ -16,7 +17,6 @@ use Rattle.pm_topology.specs.declared.topology.Topology.{Topology}
 use Rattle.pm_topology.specs.Places.{kind_of, proc_of}
 use Rattle.pm_topology.specs.UnitMap.{TablePlaceLaws, all_at, mapped, remade, units_in}
 use Rattle.pm_topology.specs.Units.{UnitLaws, rises, units_of}
-use Rattle.pm_state.specs.Load.{load_of}
 use Rattle.pm_state.specs.State.{CoreHalf, Fixed, State}
 use Rattle.pm_state.specs.Units.{units}
 use Rattle.pm_state.specs.Values.{point_at, shown, value, value_at}
@@ -211,20 +211,21 @@ module _ (laws : UnitLaws) (places : TablePlaceLaws Bool) (master : NodeId) (eve
 
 -- ---- the load
 
--- both runs begin at load, over one object and one chip
-pub begins : (object : Object) (t : Topology) (object' : Object) (t' : Topology) (a b : Stand) (marks : Marks) → object' ≡ object → t' ≡ t
-    → a ≡ loaded (setup object t) → b ≡ loaded (setup object' t') → marks ≡ all_at false (units_of t) → sides a b marks ≡ begun (setup object t)
-begins object t object' t' a b marks same same' loud quiet first =
-    ap (λ (x : Stand). sides x b marks) loud
-    ∙ ap (λ (x : Stand). sides (loaded (setup object t)) x marks) (quiet ∙ ap (λ (o : Object). loaded (setup o t')) same ∙ ap (λ (x : Topology). loaded (setup object x)) same')
-    ∙ ap (λ (x : Marks). sides (loaded (setup object t)) (loaded (setup object t)) x) first
+-- both runs begin at load, over one object, the same attached ones and one chip
+pub begins : (object : Object) (attached : List Attached) (t : Topology) (a b : Stand) (marks : Marks)
+    → a ≡ loaded (setup object attached t) → b ≡ loaded (setup object attached t) → marks ≡ all_at false (units_of t) → sides a b marks ≡ begun (setup object attached t)
+begins object attached t a b marks loud quiet first =
+    let start : Stand = loaded (setup object attached t) in
+    ap (λ (x : Stand). sides x b marks) loud ∙ ap (λ (x : Stand). sides start x marks) quiet ∙ ap (λ (x : Marks). sides start start x) first
 
-pub load_marked : (object : Object) (t : Topology) (a b : State) (marks : Marks) → a ≡ load_of object t → b ≡ load_of object t → marks ≡ all_at false (units_of t) → AreMarked a b marks
-load_marked object t a b marks loud quiet first =
-    subst (λ (x : State). AreMarked x b marks) (sym loud)
-    (subst (λ (x : State). AreMarked (load_of object t) x marks) (sym quiet)
-    (subst (λ (x : Marks). AreMarked (load_of object t) (load_of object t) x) (sym first) (marked_first (load_of object t))))
+pub load_marked : (object : Object) (attached : List Attached) (t : Topology) (a b : Stand) (marks : Marks)
+    → a ≡ loaded (setup object attached t) → b ≡ loaded (setup object attached t) → marks ≡ all_at false (units_of t) → AreMarked a.book b.book marks
+load_marked object attached t a b marks loud quiet first =
+    let start : Stand = loaded (setup object attached t) in
+    subst (λ (x : Stand). AreMarked x.book b.book marks) (sym loud)
+    (subst (λ (x : Stand). AreMarked start.book x.book marks) (sym quiet)
+    (subst (λ (x : Marks). AreMarked start.book start.book x) (sym first) (marked_first start.book)))
 
-pub load_procs : (object : Object) (t : Topology) (a : State) (us : List Unit) (procs : List ℕ) → a ≡ load_of object t → us ≡ units_of t → procs ≡ proc_places t 0 us → procs ≡ proc_places a.fixed.topology 0 (units a)
-load_procs object t a us procs loud all at =
-    subst (λ (x : State). procs ≡ proc_places x.fixed.topology 0 (units x)) (sym loud) (at ∙ ap (λ (x : List Unit). proc_places t 0 x) all)
+pub load_procs : (object : Object) (attached : List Attached) (t : Topology) (a : Stand) (procs : List ℕ)
+    → a ≡ loaded (setup object attached t) → procs ≡ proc_places t 0 (units_of t) → procs ≡ proc_places a.book.fixed.topology 0 (units a.book)
+load_procs object attached t a procs loud at = subst (λ (x : Stand). procs ≡ proc_places x.book.fixed.topology 0 (units x.book)) (sym loud) at

@@ -80,7 +80,7 @@ line_is : (c : Setup) (e : Event) (a : Stand) → setup_of a.book ≡ c → line
 line_is c e a is = ap (λ (c : Setup). (line_of c e a).after) is
 
 setup_on : (c : Setup) (e : Event) (a : Stand) → setup_of a.book ≡ c → setup_of (line_after e a).book ≡ c
-setup_on c e a is = ap (λ (f : Fixed). setup f.object f.topology) (fixed_on e a) ∙ is
+setup_on c e a is = ap (λ (f : Fixed). setup f.object f.attached f.topology) (fixed_on e a) ∙ is
 
 apart_parts : (c : Setup) (m : NodeId) (es : List Event) (a b : Stand) (u : Unit) → setup_of a.book ≡ c → setup_of b.book ≡ c
     → apart m es a b u false ≡ parts (history u (lines_of c es a)) (history u (lines_of c (quiet m es) b))

@@ -1,5 +1,5 @@
 -- What a comparison of the two runs of a named script did, on every exit, and what Done means.
-use Rattle.std.specs.Prelude.{◌≡◌, ℕ, Bool, List, ◌++◌, Option, Result, Ok, Err, IfOk, ⊤, [], ◌∷◌}
+use Rattle.std.specs.Prelude.{◌≡◌, ℕ, Bool, List, ◌++◌, Option, Result, Ok, Err, IfOk, ⊤}
 use Rattle.pm_base.specs.declared.errors.Exit.{Exit}
 use Rattle.pm_base.specs.declared.events.Event.{Event}
 use Rattle.pm_base.specs.declared.inputs.Inputs as Inputs
@@ -8,7 +8,12 @@ use Rattle.pm_base.specs.declared.sink.Sink as Sink
 use Rattle.pm_base.specs.Inputs.{Holds}
 use Rattle.pm_reach.specs.declared.members.Member.{Member}
 use Rattle.pm_reach.specs.Membership.{IsReach}
-use Rattle.pm_run.specs.Run.{Setup}
+use Rattle.pm_object.specs.declared.object.Object.{Object}
+use Rattle.pm_block.specs.Block.{attached_by, passed}
+use Rattle.pm_topology.specs.declared.topology.Topology.{Topology}
+use Rattle.pm_state.specs.State.{objects_in}
+use Rattle.pm_reader.specs.Front.{ran}
+use Rattle.pm_run.specs.Run.{setup_for}
 use Rattle.pm_script.specs.Named.{IsScript}
 use Rattle.pm_script.specs.Script.{Script}
 use Rattle.pm_trace.specs.declared.faults.Fault.{Fault}
@@ -28,15 +33,16 @@ script_of_job (Ok job) = Ok job.script
 script_of_job (Err fault) = Err fault
 
 -- what is written of it. No device answers
-abbrev pub comparison_report : Setup → NodeId → Comparison → List (List Bool) → Report
-comparison_report c m job answers = isolate_report c m job.members job.script
+abbrev pub comparison_report : Object → Topology → NodeId → Comparison → List (List Bool) → Report
+comparison_report object t m job answers =
+    isolate_report (setup_for object t job.script.events) m job.members (ran job.script)
 
 module _ {I : Type 0} (i : Inputs.Ghosts I) where
   -- the script is the one that is read under the name, unless memory is wanted, and the members are those of the reach of
-  -- the master
-  pub record IsComparisonOf (c : Setup) (m : NodeId) (name : List ℕ) (old new : I) (exit : Exit) (job : Result Comparison Fault) : Type 0 where
+  -- the master, by the loaded object and by each one that the script's first lines attach which can be put in force
+  pub record IsComparisonOf (object : Object) (t : Topology) (m : NodeId) (name : List ℕ) (old new : I) (exit : Exit) (job : Result Comparison Fault) : Type 0 where
     pub script : IsScriptOf i name old new exit (script_of_job job)
-    pub reach : IfOk job (λ job. IsReach (c.object ∷ []) c.topology m job.members)
+    pub reach : IfOk job (λ job. IsReach (objects_in object (attached_by job.script.events)) t m job.members)
 
 -- no device is touched
 abbrev pub TouchesNothing : Result Comparison Fault → List (List Bool) → Option ℕ → Type 0
@@ -44,19 +50,19 @@ TouchesNothing job answers cut = ⊤
 
 module _ {I O : Type 0} (i : Inputs.Ghosts I) (o : Sink.Ghosts O) where
   -- on every exit: what was asked for, and what was written of it
-  abbrev pub Compared : Setup → NodeId → List ℕ → I → I → O → O → Exit → Type 0
-  Compared c m name old new sink sink' exit =
-      Did o (IsComparisonOf i c m name old new exit) (comparison_report c m) TouchesNothing sink sink' exit
+  abbrev pub Compared : Object → Topology → NodeId → List ℕ → I → I → O → O → Exit → Type 0
+  Compared object t m name old new sink sink' exit =
+      Did o (IsComparisonOf i object t m name old new exit) (comparison_report object t m) TouchesNothing sink sink' exit
 
   -- a script was held under the name, and what was written is the reach of the master, a line for each unit whose
   -- transitions differ between the run of that script and the run without the messages of the master, and the number of its
   -- lines. Each such unit is in that reach, or a processor of a master that is
-  pub record IsCompared (c : Setup) (m : NodeId) (name : List ℕ) (old : I) (sink sink' : O) : Type 0 where
+  pub record IsCompared (object : Object) (t : Topology) (m : NodeId) (name : List ℕ) (old : I) (sink sink' : O) : Type 0 where
     pub script_bytes : List ℕ
     pub events : List Event
     pub members : List Member
     pub held : Holds (i.state old) name script_bytes
     pub means : IsScript script_bytes events
-    pub reach : IsReach (c.object ∷ []) c.topology m members
-    pub text : (o.state sink').bytes ≡ (o.state sink).bytes ++ isolate_text c m members events
-    pub listed : AreListed c m members events
+    pub reach : IsReach (objects_in object (attached_by events)) t m members
+    pub text : (o.state sink').bytes ≡ (o.state sink).bytes ++ isolate_text (setup_for object t events) m members (passed events)
+    pub listed : AreListed (setup_for object t events) m members (passed events)

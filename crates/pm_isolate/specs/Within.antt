@@ -6,20 +6,23 @@ use Rattle.pm_base.specs.declared.events.Event.{Event}
 use Rattle.pm_base.specs.declared.names.NodeId.{NodeId}
 use Rattle.pm_base.specs.declared.names.Unit.{Unit}
 use Rattle.pm_base.specs.declared.sink.Sink as Sink
+use Rattle.pm_base.specs.Inputs.{Moment}
 use Rattle.pm_base.specs.Sink.{Wrote}
 use Rattle.pm_base.specs.Writing.{BreaksIn}
+use Rattle.pm_object.specs.declared.object.Object.{Object}
 use Rattle.pm_topology.specs.declared.topology.Topology.{Topology}
 use Rattle.pm_topology.specs.UnitMap.{all_at, mapped}
 use Rattle.pm_topology.specs.Units.{units_of}
 use Rattle.pm_reach.specs.declared.members.Member.{Member}
 use Rattle.pm_reach.specs.Membership.{IsReach}
 use Rattle.pm_run.specs.Run.{Setup, Stand, line_of, loaded, setup_of}
-use Rattle.pm_state.specs.State.{State}
+use Rattle.pm_state.specs.State.{State, objects_in}
 use Rattle.pm_state.specs.Values.{shown}
 use Rattle.pm_laws.specs.Quiet.{quiet_event}
 use Rattle.pm_reader.specs.declared.follow.LineStop.{LineStop}
 use Rattle.pm_reader.specs.declared.follow.LineStop.TheVariants as stops
 use Rattle.pm_reader.specs.declared.follow.LinesEnd as reader
+use Rattle.pm_reader.specs.Front.{Ahead, Attaches}
 use Rattle.pm_script.specs.Script.{Script, Stop, stop_of}
 use Rattle.pm_script.specs.Script.Stop.{Bad}
 use Rattle.pm_trace.specs.Reach.{reach_text}
@@ -73,16 +76,21 @@ abbrev pub after : NodeId → List Event → Sides → Sides
 after m [] w = w
 after m (event ∷ events) w = after m events (stepped m event w)
 
--- the object and the chip of the two books
-abbrev pub setup_in : Sides → Setup
-setup_in w = setup_of w.loud.book
-
--- both books are as at load, and the text of the reach of the master is there
-pub record IsPrepared (c : Setup) (m : NodeId) (p : Prepared) : Type 0 where
+-- a text is that of the reach of a master, where each permission is given by at least one of these objects
+pub record IsReachText (objects : List Object) (t : Topology) (m : NodeId) (text : List ℕ) : Type 0 where
   pub members : List Member
-  pub reach : IsReach (c.object ∷ []) c.topology m members
+  pub reach : IsReach objects t m members
+  pub is : text ≡ reach_text members
+
+-- the front of a script was read ahead, both books are as at load with what it attaches, and the text of the reach of the
+-- master is there, by all objects of the run
+pub record IsPrepared (shown : Type 0) (id : ℕ) (ahead : Ahead) (now : Moment) (c : Setup) (m : NodeId) (p : Prepared) : Type 0 where
+  pub members : List Member
+  pub reach : IsReach (objects_in c.object c.attached) c.topology m members
   pub text : p.reach.items ≡ reach_text members
   pub worlds : p.worlds ≡ begun c
+  pub attached : c.attached ≡ ahead.attached
+  pub front : Attaches shown id ahead now p.front
 
 -- what a watcher does for a line: it steps both books by its event, and watches what it watched
 pub record Watches (n : ℕ) (event : Event) (old new : Watcher) (result : Result ⊤ Failed) : Type 0 where

@@ -5,15 +5,15 @@ ghost use Rattle.pm_topology.specs.WellFormed.{IsWellFormed};
 ghost use Rattle.pm_state.specs.Units.{moved};
 ghost use Rattle.pm_state.specs.Values.{value};
 ghost use Rattle.pm_core.specs.Step.{effect};
-ghost use Rattle.pm_split.specs.Left.{boxes_left, events_left};
+ghost use Rattle.pm_split.specs.Left.{boxes_left, core_event, events_left};
 ghost use Rattle.pm_run.specs.Run.{loaded, setup, setup_of, split, stand_at};
 ghost use Rattle.pm_isolate.specs.Moves.{with_units};
 
 use crate::moves::Moves;
-use pm_base::{Event, NoMemory};
+use pm_base::{Event, List, NoMemory};
 use pm_core::Book;
-use pm_object::Object;
-use pm_run::{CoreEvents, Runner, Split};
+use pm_object::{Attached, Object};
+use pm_run::{CoreEvents, Runner, Source, Split};
 use pm_topology::{Topology, UnitMap};
 use std::alloc::Global;
 use std::marker::Model;
@@ -39,11 +39,16 @@ impl BoxedRun {
     /// # Errors
     ///
     /// `NoMemory` where there is not enough memory.
-    pub fn load(alloc: Global, object: Object, topology: Topology) -> Result<BoxedRun, NoMemory>
+    pub fn load(
+        alloc: Global,
+        object: Object,
+        attached: List<Attached>,
+        topology: Topology,
+    ) -> Result<BoxedRun, NoMemory>
         requires formed { IsWellFormed topology }
-        ensures { IfOk result (λ run. run ≡ loaded (setup object topology)) }
+        ensures { IfOk result (λ run. run ≡ loaded (setup object attached topology)) }
     {
-        let runner = runner_of(alloc, object, topology)?;
+        let runner = runner_of(alloc, object, attached, topology)?;
         Ok(BoxedRun { runner })
     }
 
@@ -54,7 +59,7 @@ impl BoxedRun {
     }
 
     /// Splits the event of a script line. Its core events are taken by `next`.
-    pub fn split(&mut self, event: &Event) -> Split
+    pub fn split<'e>(&mut self, event: &'e Event) -> Split<'e>
         ensures book { self.new.book ≡ self.old.book }
         ensures events { events_left self.old.book.fixed.object self.old.book.fixed.topology self.new.boxes result.cores
             ≡ (split (setup_of self.old.book) event.now self.old).events }
@@ -64,18 +69,18 @@ impl BoxedRun {
         self.runner.split(event)
     }
 
-    /// Takes the next core event of a line off, if there is one.
-    pub fn next(&mut self, cores: &mut CoreEvents) -> Option<Event>
+    /// Takes the next core event of a line off, if there is one; one that is made is left in `made`.
+    pub fn next<'e>(&mut self, cores: &mut CoreEvents<'e>, made: &mut Event) -> Option<Source<'e>>
         ensures book { self.new.book ≡ self.old.book }
         ensures events { MatchOption result
             ((events_left self.old.book.fixed.object self.old.book.fixed.topology self.old.boxes cores.old ≡ [])
             × (events_left self.old.book.fixed.object self.old.book.fixed.topology self.new.boxes cores.new ≡ []))
-            (λ event. events_left self.old.book.fixed.object self.old.book.fixed.topology self.old.boxes cores.old
-            ≡ event ∷ events_left self.old.book.fixed.object self.old.book.fixed.topology self.new.boxes cores.new) }
+            (λ source. events_left self.old.book.fixed.object self.old.book.fixed.topology self.old.boxes cores.old
+            ≡ core_event source made.new ∷ events_left self.old.book.fixed.object self.old.book.fixed.topology self.new.boxes cores.new) }
         ensures boxes { boxes_left self.new.boxes cores.new ≡ boxes_left self.old.boxes cores.old }
         ensures end { result ≡ None → self.new.boxes ≡ boxes_left self.old.boxes cores.old }
     {
-        self.runner.next(cores)
+        self.runner.next(cores, made)
     }
 
     /// One core event. The places of the units whose value it changes are logged.
@@ -91,10 +96,22 @@ impl BoxedRun {
 }
 
 /// The book of an object at load, its outbox and its boxes, on the heap.
-fn runner_of(alloc: Global, object: Object, topology: Topology) -> Result<Box<Runner>, NoMemory>
+fn runner_of(
+    alloc: Global,
+    object: Object,
+    attached: List<Attached>,
+    topology: Topology,
+) -> Result<Box<Runner>, NoMemory>
     requires formed { IsWellFormed topology }
-    ensures { IfOk result (λ runner. stand_at runner.value.book runner.value.boxes ≡ loaded (setup object topology)) }
+    ensures { IfOk result (λ runner. stand_at runner.value.book runner.value.boxes ≡ loaded (setup object attached topology)) }
 {
-    let runner = Runner::load(alloc, object, topology)?;
-    Box::new(alloc, runner).map_err(|_| NoMemory)
+    let runner = Runner::load(alloc, object, attached, topology)?;
+    boxed(alloc, runner)
+}
+
+/// A value on the heap. It is dropped, where there is not enough memory, at a type that is any.
+fn boxed<T: Drop>(alloc: Global, value: T) -> Result<Box<T>, NoMemory>
+    ensures { IfOk result (λ held. held.value ≡ value) }
+{
+    Box::new(alloc, value).map_err(|_| NoMemory)
 }

@@ -1,35 +1,46 @@
 //! The run of a script is compared with the run without the messages of a master.
 
-ghost use Rattle.std.specs.Prelude.{◌≡◌, ◌≢◌, ◌==◌, IfOk, IsTrue};
+ghost use Rattle.std.specs.Prelude.{◌≡◌, ◌≢◌, ◌==◌, ◌⊎◌, List as Sequence, IfErr, IfOk, IsTrue};
 ghost use Rattle.std.specs.List.{list_any};
 ghost use Rattle.pm_base.specs.Faults.{Rose};
 ghost use Rattle.pm_base.specs.Inputs.{MayFail};
 ghost use Rattle.pm_base.specs.Sink.{HasFailed, IsUnfailed};
 ghost use Rattle.pm_base.specs.declared.prefix.StopReason.TheVariants.{Unbegun};
+ghost use Rattle.pm_object.specs.declared.attached.Attached.{Attached};
+ghost use Rattle.pm_block.specs.Block.{attached_by};
 ghost use Rattle.pm_object.specs.Grammar.{IsObject};
+ghost use Rattle.pm_perms.specs.Several.{masters_of};
 ghost use Rattle.pm_topology.specs.WellFormed.{IsWellFormed};
+ghost use Rattle.pm_reach.specs.declared.members.Member.{Member};
+ghost use Rattle.pm_reach.specs.Membership.{IsReach};
+ghost use Rattle.pm_state.specs.State.{objects_in};
 ghost use Rattle.pm_script.specs.Named.{script_in};
 ghost use Rattle.pm_script.specs.Script.{script_limit, stop_of};
 ghost use Rattle.pm_base.specs.Readings.{Meanwhile};
-ghost use Rattle.pm_reader.specs.Follow.{OfScript};
+ghost use Rattle.pm_reader.specs.Follow.{IsBrokenOff, OfScript};
+ghost use Rattle.pm_reader.specs.Front.{Ahead, Attaches, WasReadAhead, ahead_of, ran};
 ghost use Rattle.pm_trace.specs.Exits.{EndsWith, IsStarved};
-ghost use Rattle.pm_trace.specs.Report.{Reports};
+ghost use Rattle.pm_trace.specs.declared.faults.Fault.TheVariants.{Memory};
+ghost use Rattle.pm_trace.specs.Report.{Reports, refusal};
 ghost use Rattle.pm_trace.specs.Scripts.{ReadsBegun, ReadsScript, script_exit, script_named, script_or_fault};
-ghost use Rattle.pm_run.specs.Run.{setup};
+ghost use Rattle.pm_run.specs.Run.{setup, setup_for};
 ghost use Rattle.pm_isolate.specs.Compared.{Compared, IsCompared};
-ghost use Rattle.pm_isolate.specs.Within.{IsPrepared, end_report, report_behind, rest_report, setup_in};
+ghost use Rattle.pm_isolate.specs.Differences.{isolate_report};
+ghost use Rattle.pm_isolate.specs.Within.{IsPrepared, IsReachText, end_report, report_behind, rest_report};
 
 use crate::laws::what_differs_is_reached;
 use crate::lines::run_lines;
 use crate::worlds::Worlds;
 use crate::writing::write_end;
-use pm_base::{Exit, Failed, Inputs, NoMemory, NodeId, Sink, StopReason, write_all};
-use pm_object::Object;
-use pm_reach::reach_by_one;
-use pm_reader::LineStop;
+use pm_base::{Exit, Failed, Inputs, List, NoMemory, NodeId, Sink, StopReason, with, write_all};
+use pm_block::{Block, attached_objects_are_formed};
+use pm_object::{Attached, Object};
+use pm_reach::reach;
+use pm_reader::{Front, LineStop};
 use pm_topology::Topology;
 use pm_trace::{Fault, reach_text, refuse};
 use std::alloc::Global;
+use std::mem::drop;
 
 /// Compares the run of the named script over an object with the run without the messages of the master
 /// `m`, in place of each of which nothing happens. Writes the reach of the master; then each line is run in
@@ -55,13 +66,13 @@ pub fn compare<I: Inputs, O: Sink>(
     // master, the units whose transitions differ in the two runs, and the number of script lines. Each of these
     // units is in that reach, or a processor of a master that is.
     ensures done { I.observable → O.observable → result ≡ Exit.Done
-        → IsCompared I.Inputs O.Sink (setup object topology) m script.now inputs.old out.old out.new }
+        → IsCompared I.Inputs O.Sink object topology m script.now inputs.old out.old out.new }
     // What the input holds decides the exit, unless memory is wanted or the sink fails.
     ensures decided { I.observable
         → EndsWith O.Sink (script_exit (script_or_fault
         (script_in (I.state inputs.old) script.now))) out.old out.new result }
     // On every exit: what was asked for, and what was written of it.
-    ensures ran { Compared I.Inputs O.Sink (setup object topology) m script.now
+    ensures ran { Compared I.Inputs O.Sink object topology m script.now
         inputs.old inputs.new out.old out.new result }
     // On every exit, of any inputs: the script is begun once, and read to its end or to one byte past the limit, or up
     // to a call that failed, or, where the run ends before, up to somewhere. Nothing else is begun or read.
@@ -80,6 +91,7 @@ pub fn compare<I: Inputs, O: Sink>(
     ensures unfailed { result ≡ Exit.Done → IsUnfailed (O.state out.old) (O.state out.new) }
 {
     what_differs_is_reached();
+    attached_objects_are_formed();
     compare_named(alloc, object, topology, m, inputs, script, out)
 }
 
@@ -95,56 +107,106 @@ fn compare_named<I: Inputs, O: Sink>(
 ) -> Exit
     requires formed { IsWellFormed topology }
     requires named { IsTrue (list_any (λ r. r.node == m.0) object.masters) }
-    ensures ran { Compared I.Inputs O.Sink (setup object topology) m script.now
-        inputs.old inputs.new out.old out.new result }
+    ensures ran { Compared I.Inputs O.Sink object topology m script.now inputs.old inputs.new out.old out.new result }
     ensures begun { Meanwhile (I.state inputs.old) (I.state inputs.new) (ReadsScript result (script_named script.now)) }
 {
-    let Ok(mut prepared) = prepare(alloc, object, topology, m) else {
-        return refuse(Fault::Memory, out);
-    };
-    compare_prepared(&mut prepared, m, inputs, script, out)
+    match inputs.begin(script) {
+        Ok(id) => compare_begun(alloc, object, topology, m, inputs, id, out),
+        Err(Failed) => refuse(Fault::Read, out),
+    }
 }
 
-/// The text of a reach, and both books at load.
+/// The text of a reach, both books at load, with what the first lines of the script attach, and the script, whose first
+/// lines were read.
 #[derive(Drop)]
 pub(crate) struct Prepared {
     pub reach: Vec<u8>,
     pub worlds: Worlds,
+    pub front: Front,
 }
 
-/// All that takes memory.
-fn prepare(
+/// Reads the block of an input that was just begun, loads both books with what it attaches, and finds the reach. All
+/// that takes memory.
+fn prepare<I: Inputs>(
     alloc: Global,
     object: Object,
     topology: Topology,
     m: NodeId,
+    inputs: &mut I,
+    id: u32,
 ) -> Result<Prepared, NoMemory>
     requires formed { IsWellFormed topology }
     requires named { IsTrue (list_any (λ r. r.node == m.0) object.masters) }
-    ensures { IfOk result (IsPrepared (setup object topology) m) }
+    ensures prepared { IfOk result (λ found. (attached : Sequence Attached)
+        × IsPrepared I.observable id (ahead_of (I.state inputs.old) attached) (I.state inputs.new)
+        (setup object attached topology) m found) }
+    ensures reads { IfErr result (λ _. Meanwhile (I.state inputs.old) (I.state inputs.new) (IsBrokenOff id)) }
 {
-    let found = reach_by_one(alloc, &object, &topology, m)?;
-    let reach = reach_text(alloc, &found)?;
-    let worlds = Worlds::load(alloc, object, topology)?;
-    Ok(Prepared { reach, worlds })
+    let ahead = read_ahead(alloc, inputs, id);
+    let ((object, topology), (front, attached)) = with((object, topology), ahead)?;
+    let worlds = Worlds::load(alloc, object, attached, topology);
+    let (front, worlds) = with(front, worlds)?;
+    let reach = text_of(alloc, worlds.objects().as_slice(), worlds.topology(), m);
+    let ((front, worlds), reach) = with((front, worlds), reach)?;
+    Ok(Prepared {
+        reach,
+        worlds,
+        front,
+    })
 }
 
-/// Compares the two runs of the named script from the load, where it can be read.
-fn compare_prepared<I: Inputs, O: Sink>(
-    prepared: &mut Prepared,
+/// Reads the first lines of an input that was just begun, those of the block: the front, and what it attaches.
+fn read_ahead<I: Inputs>(
+    alloc: Global,
+    inputs: &mut I,
+    id: u32,
+) -> Result<(Front, List<Attached>), NoMemory>
+    ensures ahead { IfOk result (λ read. Attaches I.observable id (ahead_of (I.state inputs.old) read.1)
+        (I.state inputs.new) read.0) }
+    ensures reads { Meanwhile (I.state inputs.old) (I.state inputs.new) (IsBrokenOff id) }
+{
+    let mut block = Block::new(alloc);
+    let front = Front::read(alloc, inputs, id, &mut block)?;
+    let attached = block.attached(alloc);
+    with(front, attached)
+}
+
+/// The text of the reach of a master.
+fn text_of(alloc: Global, objects: &[Object], t: &Topology, m: NodeId) -> Result<Vec<u8>, NoMemory>
+    requires { IsTrue (list_any (λ r. r.node == m.0) (masters_of objects.now)) }
+    ensures { IfOk result (λ text. IsReachText objects.now t.now m text.items) }
+{
+    let found = reach(alloc, objects, t, m)?;
+    reach_text(alloc, &found)
+}
+
+/// Compares the two runs of the script of an input that was just begun from the load, with what its first lines attach,
+/// unless memory is wanted.
+fn compare_begun<I: Inputs, O: Sink>(
+    alloc: Global,
+    object: Object,
+    topology: Topology,
     m: NodeId,
     inputs: &mut I,
-    script: &str,
+    id: u32,
     out: &mut O,
 ) -> Exit
-    requires { IsPrepared (setup_in prepared.old.worlds) m prepared.old }
-    ensures ran { Compared I.Inputs O.Sink (setup_in prepared.old.worlds) m script.now
-        inputs.old inputs.new out.old out.new result }
-    ensures begun { Meanwhile (I.state inputs.old) (I.state inputs.new) (ReadsScript result (script_named script.now)) }
+    requires formed { IsWellFormed topology }
+    requires named { IsTrue (list_any (λ r. r.node == m.0) object.masters) }
+    ensures ran { Reports O.Sink (refusal Memory) out.old out.new result
+        ⊎ OfScript I.observable id (I.state inputs.old) (λ s. (members : Sequence Member)
+        × IsReach (objects_in object (attached_by s.events)) topology m members
+        × Reports O.Sink (isolate_report (setup_for object topology s.events) m members (ran s)) out.old out.new result) }
+    ensures fault { result ≡ Exit.ReadFault → Rose (I.state inputs.old).faults (I.state inputs.new).faults }
+    ensures reads { Meanwhile (I.state inputs.old) (I.state inputs.new) (ReadsBegun result id) }
 {
-    match inputs.begin(script) {
-        Ok(id) => run(prepared, m, inputs, id, out),
-        Err(Failed) => refuse(Fault::Read, out),
+    match prepare(alloc, object, topology, m, inputs, id) {
+        Ok(mut prepared) => {
+            let exit = run(&mut prepared, m, inputs, id, out);
+            drop(prepared);
+            exit
+        }
+        Err(NoMemory) => refuse(Fault::Memory, out),
     }
 }
 
@@ -156,14 +218,25 @@ fn run<I: Inputs, O: Sink>(
     id: u32,
     out: &mut O,
 ) -> Exit
-    ensures ran { OfScript I.observable id (I.state inputs.old)
-        (λ s. Reports O.Sink (report_behind prepared.old.reach.items
-        (rest_report m s prepared.old.worlds)) out.old out.new result) }
-    ensures fault { result ≡ Exit.ReadFault → Rose (I.state inputs.old).faults (I.state inputs.new).faults }
-    ensures reads { Meanwhile (I.state inputs.old) (I.state inputs.new) (ReadsBegun result id) }
+    requires front { WasReadAhead I.observable id (I.state inputs.old) prepared.old.front }
+    ensures ran { (ahead : Ahead) → Attaches I.observable id ahead (I.state inputs.old) prepared.old.front
+        → OfScript I.observable id ahead.first (λ s. (attached_by s.events ≡ ahead.attached)
+        × Reports O.Sink (report_behind prepared.old.reach.items
+        (rest_report m (ran s) prepared.old.worlds)) out.old out.new result) }
+    ensures fault { (ahead : Ahead) → Attaches I.observable id ahead (I.state inputs.old) prepared.old.front
+        → result ≡ Exit.ReadFault → Rose ahead.first.faults (I.state inputs.new).faults }
+    ensures reads { (ahead : Ahead) → Attaches I.observable id ahead (I.state inputs.old) prepared.old.front
+        → Meanwhile ahead.first (I.state inputs.new) (ReadsBegun result id) }
 {
     match write_all(out, prepared.reach.as_slice()) {
-        Ok(()) => run_rest(&mut prepared.worlds, m, inputs, id, out),
+        Ok(()) => run_rest(
+            &mut prepared.worlds,
+            &mut prepared.front,
+            m,
+            inputs,
+            id,
+            out,
+        ),
         Err(Failed) => Exit::WriteFault,
     }
 }
@@ -171,17 +244,22 @@ fn run<I: Inputs, O: Sink>(
 /// Runs the lines of a script in both books, and writes what comes after them.
 fn run_rest<I: Inputs, O: Sink>(
     worlds: &mut Worlds,
+    front: &mut Front,
     m: NodeId,
     inputs: &mut I,
     id: u32,
     out: &mut O,
 ) -> Exit
-    ensures ran { OfScript I.observable id (I.state inputs.old)
-        (λ s. Reports O.Sink (rest_report m s worlds.old) out.old out.new result) }
-    ensures fault { result ≡ Exit.ReadFault → Rose (I.state inputs.old).faults (I.state inputs.new).faults }
-    ensures reads { Meanwhile (I.state inputs.old) (I.state inputs.new) (ReadsBegun result id) }
+    requires front { WasReadAhead I.observable id (I.state inputs.old) front.old }
+    ensures ran { (ahead : Ahead) → Attaches I.observable id ahead (I.state inputs.old) front.old
+        → OfScript I.observable id ahead.first (λ s. (attached_by s.events ≡ ahead.attached)
+        × Reports O.Sink (rest_report m (ran s) worlds.old) out.old out.new result) }
+    ensures fault { (ahead : Ahead) → Attaches I.observable id ahead (I.state inputs.old) front.old
+        → result ≡ Exit.ReadFault → Rose ahead.first.faults (I.state inputs.new).faults }
+    ensures reads { (ahead : Ahead) → Attaches I.observable id ahead (I.state inputs.old) front.old
+        → Meanwhile ahead.first (I.state inputs.new) (ReadsBegun result id) }
 {
-    match run_lines(worlds, m, inputs, id) {
+    match run_lines(worlds, front, m, inputs, id) {
         Ok(end) => finish(worlds, end.stop, end.count, out),
         Err(LineStop::Bad(number, cause)) => refuse(Fault::Line(number, cause), out),
         Err(LineStop::Broken) => unreachable!(),

@@ -1,14 +1,15 @@
 //! Laws of two runs: what it means that a unit differs, and that what differs is in the reach.
 
-ghost use Rattle.std.specs.Prelude.{◌≡◌, true, false, List, [], ◌∷◌};
+ghost use Rattle.std.specs.Prelude.{◌≡◌, true, false, List};
 ghost use Rattle.pm_base.specs.declared.events.Event.{Event};
 ghost use Rattle.pm_base.specs.declared.names.NodeId.{NodeId};
 ghost use Rattle.pm_base.specs.declared.names.Unit.{Unit};
-ghost use Rattle.pm_object.specs.Grammar.{IsObject};
 ghost use Rattle.pm_topology.specs.WellFormed.{IsWellFormed};
 ghost use Rattle.pm_reach.specs.declared.members.Member.{Member};
 ghost use Rattle.pm_reach.specs.Membership.{IsReach};
-ghost use Rattle.pm_run.specs.Run.{Line, Setup, run};
+ghost use Rattle.pm_state.specs.State.{objects_of};
+ghost use Rattle.pm_run.specs.Run.{Line, Setup, fixed_of, run};
+ghost use Rattle.pm_laws.specs.Border.{AreObjects};
 ghost use Rattle.pm_laws.specs.Quiet.{quiet};
 ghost use Rattle.pm_topology.specs.Units.{has_unit};
 ghost use Rattle.pm_isolate.specs.Listed.{AreListed, IsListed};
@@ -30,14 +31,14 @@ pub fn transitions_are_exact()
 /// the reach of that master, or a processor of a master that is one; and so is each of all that differ.
 pub fn what_differs_is_reached()
     ensures one { (c : Setup) (m : NodeId) (events : List Event) (members : List Member) (unit : Unit)
-        → IsObject c.object → IsWellFormed c.topology
-        → IsReach (c.object ∷ []) c.topology m members
+        → AreObjects (fixed_of c) → IsWellFormed c.topology
+        → IsReach (objects_of (fixed_of c)) c.topology m members
         → has_unit c.topology unit ≡ true
         → differs (run c events) (run c (quiet m events)) unit ≡ true
         → IsListed c.object c.topology members unit }
     ensures all { (c : Setup) (m : NodeId) (events : List Event) (members : List Member)
-        → IsObject c.object → IsWellFormed c.topology
-        → IsReach (c.object ∷ []) c.topology m members
+        → AreObjects (fixed_of c) → IsWellFormed c.topology
+        → IsReach (objects_of (fixed_of c)) c.topology m members
         → AreListed c m members events }
 {
     reach_keeps_apart();

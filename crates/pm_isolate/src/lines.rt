@@ -4,12 +4,14 @@ ghost use Rattle.std.specs.Prelude.{◌≡◌, ◌≢◌, IfOk};
 ghost use Rattle.pm_base.specs.Faults.{Rose};
 ghost use Rattle.pm_base.specs.declared.prefix.StopReason.TheVariants.{Failure, Unbegun};
 ghost use Rattle.pm_base.specs.Readings.{Meanwhile};
+ghost use Rattle.pm_block.specs.Block.{attached_by};
 ghost use Rattle.pm_reader.specs.Follow.{OfScript, ReadsLines};
+ghost use Rattle.pm_reader.specs.Front.{Ahead, Attaches, WasReadAhead, ran};
 ghost use Rattle.pm_isolate.specs.Within.{RanLines};
 
 use crate::worlds::Worlds;
 use pm_base::{Event, Failed, Inputs, NodeId};
-use pm_reader::{Follower, LineStop, LinesEnd, each_line};
+use pm_reader::{Follower, Front, LineStop, LinesEnd};
 
 /// What steps both books by each line of a script, the quiet one without the messages of a master. It
 /// never fails.
@@ -33,16 +35,21 @@ impl<'w> Follower for Watcher<'w> {
 /// Runs the lines of a begun input in both books, up to the first one that has no meaning.
 pub fn run_lines<I: Inputs>(
     worlds: &mut Worlds,
+    front: &mut Front,
     m: NodeId,
     inputs: &mut I,
     id: u32,
 ) -> Result<LinesEnd, LineStop>
-    ensures ran { OfScript I.observable id (I.state inputs.old) (λ s. RanLines m s worlds.old worlds.new result) }
+    requires front { WasReadAhead I.observable id (I.state inputs.old) front.old }
+    ensures ran { (ahead : Ahead) → Attaches I.observable id ahead (I.state inputs.old) front.old
+        → OfScript I.observable id ahead.first
+        (λ s. (attached_by s.events ≡ ahead.attached) × RanLines m (ran s) worlds.old worlds.new result) }
     ensures ends { IfOk result (λ end. end.stop ≢ Unbegun) }
-    ensures fault { IfOk result (λ end. end.stop ≡ Failure
-        → Rose (I.state inputs.old).faults (I.state inputs.new).faults) }
-    ensures reads { Meanwhile (I.state inputs.old) (I.state inputs.new) (ReadsLines id result) }
+    ensures fault { (ahead : Ahead) → Attaches I.observable id ahead (I.state inputs.old) front.old
+        → IfOk result (λ end. end.stop ≡ Failure → Rose ahead.first.faults (I.state inputs.new).faults) }
+    ensures reads { (ahead : Ahead) → Attaches I.observable id ahead (I.state inputs.old) front.old
+        → Meanwhile ahead.first (I.state inputs.new) (ReadsLines id result) }
 {
     let mut watcher = Watcher { worlds, m };
-    each_line(inputs, id, &mut watcher)
+    front.follow(inputs, id, &mut watcher)
 }

@@ -1,17 +1,21 @@
 //! Two runs side by side, one of them without the messages of a master.
 
-ghost use Rattle.std.specs.Prelude.{◌≡◌, ◌<◌, IfOk, Some, length, slice_get};
+ghost use Rattle.std.specs.Prelude.{◌≡◌, ◌<◌, IfOk, Some, false, length, slice_get};
 ghost use Rattle.pm_topology.specs.WellFormed.{IsWellFormed};
-ghost use Rattle.pm_run.specs.Run.{setup};
+ghost use Rattle.pm_topology.specs.UnitMap.{all_at};
+ghost use Rattle.pm_topology.specs.Units.{units_of};
+ghost use Rattle.pm_state.specs.State.{objects_of};
+ghost use Rattle.pm_run.specs.Run.{loaded, setup};
+ghost use Rattle.pm_isolate.specs.Marks.{proc_places};
 ghost use Rattle.pm_isolate.specs.Moves.{line_moves};
 ghost use Rattle.pm_isolate.specs.Within.{begun, line_after, stepped};
 
 use crate::boxed_run::BoxedRun;
 use crate::marks::{log, mark_at, proc_places};
 use crate::moves::Moves;
-use pm_base::{Event, NoMemory, NodeId, Unit};
+use pm_base::{Event, List, NoMemory, NodeId, Unit, with};
 use pm_laws::quiet_event;
-use pm_object::Object;
+use pm_object::{Attached, Object};
 use pm_topology::{Topology, UnitMap, unit_map_places, units_of, units_stand_in_order};
 use std::alloc::Global;
 use std::marker::Model;
@@ -49,24 +53,26 @@ impl Worlds {
     /// # Errors
     ///
     /// `NoMemory` where there is not enough memory.
-    pub fn load(alloc: Global, object: Object, topology: Topology) -> Result<Worlds, NoMemory>
+    pub fn load(
+        alloc: Global,
+        object: Object,
+        attached: List<Attached>,
+        topology: Topology,
+    ) -> Result<Worlds, NoMemory>
         requires formed { IsWellFormed topology }
-        ensures { IfOk result (λ worlds. worlds ≡ begun (setup object topology)) }
+        ensures { IfOk result (λ worlds. worlds ≡ begun (setup object attached topology)) }
     {
-        let units = units_of(alloc, &topology)?;
-        let procs = proc_places(alloc, &topology, units.as_slice())?;
-        let differs = UnitMap::load(alloc, &topology, false)?;
-        let moves = Moves::load(alloc, differs.len())?;
-        let other_object = object.copy(alloc)?;
-        let other_topology = topology.copy(alloc)?;
-        let quiet = BoxedRun::load(alloc, other_object, other_topology)?;
-        let loud = BoxedRun::load(alloc, object, topology)?;
+        let beside = beside_of(alloc, &object, attached.as_slice(), &topology);
+        let (given, (looked, quiet)) = with((object, attached, topology), beside)?;
+        let (object, attached, topology) = given;
+        let loud = BoxedRun::load(alloc, object, attached, topology);
+        let ((looked, quiet), loud) = with((looked, quiet), loud)?;
         Ok(Worlds {
             loud,
             quiet,
-            differs,
-            procs,
-            moves,
+            differs: looked.differs,
+            procs: looked.procs,
+            moves: looked.moves,
         })
     }
 
@@ -77,10 +83,11 @@ impl Worlds {
     {
         units_stand_in_order();
         unit_map_places::<bool>();
-        let heard = quiet_event(m, event);
+        let pass = Event::Pass;
+        let heard = quiet_event(m, event, &pass);
         self.moves.clear();
         step_line(&mut self.loud, event, &self.differs, &mut self.moves);
-        step_line(&mut self.quiet, &heard, &self.differs, &mut self.moves);
+        step_line(&mut self.quiet, heard, &self.differs, &mut self.moves);
         log(
             self.loud.book(),
             self.quiet.book(),
@@ -88,6 +95,13 @@ impl Worlds {
             self.procs.as_slice(),
             &mut self.differs,
         );
+    }
+
+    /// The objects of the run: the loaded one, and each attached one that can be put in force.
+    pub fn objects(&self) -> &List<Object>
+        ensures { result.now ≡ objects_of self.now.loud.book.fixed }
+    {
+        self.loud.book().objects()
     }
 
     /// The chip of both books.
@@ -113,6 +127,82 @@ impl Worlds {
     }
 }
 
+/// What is looked at after a line: whether each unit was found to differ, the places of the processors among the units,
+/// and room for the places of units that move.
+#[derive(Drop)]
+struct Looked {
+    differs: UnitMap<bool>,
+    procs: Vec<usize>,
+    moves: Moves,
+}
+
+/// What stands beside the run with all messages at load: what is looked at, and the quiet run.
+fn beside_of(
+    alloc: Global,
+    object: &Object,
+    attached: &[Attached],
+    t: &Topology,
+) -> Result<(Looked, BoxedRun), NoMemory>
+    requires formed { IsWellFormed t.now }
+    ensures differs { IfOk result (λ beside. beside.0.differs ≡ all_at false (units_of t.now)) }
+    ensures procs { IfOk result (λ beside. beside.0.procs.items ≡ proc_places t.now 0 (units_of t.now)) }
+    ensures quiet { IfOk result (λ beside. beside.1 ≡ loaded (setup object.now attached.now t.now)) }
+{
+    let looked = looked_of(alloc, t)?;
+    let quiet = copy_of(alloc, object, attached, t);
+    with(looked, quiet)
+}
+
+/// What is looked at before the first line: nothing was found to differ.
+fn looked_of(alloc: Global, t: &Topology) -> Result<Looked, NoMemory>
+    ensures differs { IfOk result (λ looked. looked.differs ≡ all_at false (units_of t.now)) }
+    ensures procs { IfOk result (λ looked. looked.procs.items ≡ proc_places t.now 0 (units_of t.now)) }
+{
+    let procs = procs_of(alloc, t)?;
+    let differs = UnitMap::load(alloc, t, false)?;
+    let moves = Moves::load(alloc, differs.len())?;
+    Ok(Looked {
+        differs,
+        procs,
+        moves,
+    })
+}
+
+/// The places of the processors among the units of a chip.
+fn procs_of(alloc: Global, t: &Topology) -> Result<Vec<usize>, NoMemory>
+    ensures { IfOk result (λ procs. procs.items ≡ proc_places t.now 0 (units_of t.now)) }
+{
+    let units = units_of(alloc, t)?;
+    proc_places(alloc, t, units.as_slice())
+}
+
+/// A run at load, of equal ones in memory of their own.
+fn copy_of(
+    alloc: Global,
+    object: &Object,
+    attached: &[Attached],
+    t: &Topology,
+) -> Result<BoxedRun, NoMemory>
+    requires formed { IsWellFormed t.now }
+    ensures { IfOk result (λ run. run ≡ loaded (setup object.now attached.now t.now)) }
+{
+    let attached = copy_attached(alloc, attached)?;
+    let (attached, object) = with(attached, object.copy(alloc))?;
+    let ((attached, object), topology) = with((attached, object), t.copy(alloc))?;
+    BoxedRun::load(alloc, object, attached, topology)
+}
+
+/// Equal ones in memory of their own.
+fn copy_attached(alloc: Global, attached: &[Attached]) -> Result<List<Attached>, NoMemory>
+    ensures { IfOk result (λ copied. copied ≡ attached.now) }
+{
+    let mut copied = List::new(alloc);
+    for one in attached {
+        copied.push(one.copy(alloc)?)?;
+    }
+    Ok(copied)
+}
+
 /// Carries out the core events of a script line, and logs the places of the units that they move.
 fn step_line(runner: &mut BoxedRun, event: &Event, marks: &UnitMap<bool>, moves: &mut Moves)
     ensures stand { runner.new ≡ line_after event.now runner.old }
@@ -120,7 +210,9 @@ fn step_line(runner: &mut BoxedRun, event: &Event, marks: &UnitMap<bool>, moves:
 {
     let parts = runner.split(event);
     let mut left = parts.cores;
-    while let Some(core) = runner.next(&mut left) {
-        runner.step(&core, marks, moves);
+    let mut made = Event::Pass;
+    while let Some(core) = runner.next(&mut left, &mut made) {
+        let taken = core.event(&made);
+        runner.step(taken, marks, moves);
     }
 }

@@ -7,7 +7,6 @@ use Rattle.std.proofs.lemmas.List.{append_assoc, append-nil, length-append}
 use Rattle.std.proofs.lemmas.Option.{slice_get_within}
 use Rattle.pm_base.specs.declared.errors.Exit.{Exit}
 use Rattle.pm_base.specs.declared.errors.Exit.TheVariants.{WriteFault}
-use Rattle.pm_base.specs.declared.errors.NoMemory.{NoMemory}
 use Rattle.pm_base.specs.declared.events.Event.{Event}
 use Rattle.pm_base.specs.declared.events.Event.TheVariants.{Pass}
 use Rattle.pm_base.specs.declared.prefix.StopReason.{StopReason}
@@ -16,6 +15,7 @@ use Rattle.pm_base.specs.declared.sink.Sink as Sink
 use Rattle.pm_base.specs.Sink.{Wrote}
 use Rattle.pm_base.specs.Writing.{BreaksIn, Leaves}
 use Rattle.pm_base.proofs.SinkLemmas.{Wrote-is}
+use Rattle.pm_object.specs.declared.attached.Attached.{Attached}
 use Rattle.pm_object.specs.declared.object.Object.{Object}
 use Rattle.pm_topology.specs.declared.topology.Topology.{Topology}
 use Rattle.pm_device.specs.declared.device.Device as Device
@@ -52,7 +52,7 @@ use Rattle.pm_drive.specs.Heard.{heard_by, heard_in, last_board}
 use Rattle.pm_drive.specs.Text.{closing_after, texts}
 use Rattle.pm_trace.specs.Notes.{notes_text}
 use Rattle.pm_trace.specs.Scripts.{at_end, fault_at}
-use Rattle.pm_replay.specs.Replay.{replay_report}
+use Rattle.pm_replay.specs.Replay.{run_report}
 use Rattle.pm_replay.specs.Controls.{AreOf, Controls}
 use Rattle.pm_replay.specs.Within.{IsLoaded, RanLines, RanRest, RanScript, Started, Went, closing_report, driven_from, heard_from, report_from, table_from}
 use Rattle.pm_replay.proofs.DriveLemmas.{until-cons}
@@ -106,23 +106,35 @@ fault-anywhere m n reason.Limit = refl
 fault-anywhere m n reason.Failure = refl
 fault-anywhere m n reason.Unbegun = refl
 
+-- what holds of a result where it is there
+pub in_ok : {A E : Type 0} (P : A → Type 0) (made : Result A E) (it : A) → made ≡ Ok it → IfOk made P → P it
+in_ok {A} {E} P made it is holds = subst (λ (r : Result A E). IfOk r P) is holds
+
 -- the book of an object at load, a device that took nothing yet, and what the load puts out
-is_loaded : (c : Controls) (object : Object) (topology : Topology) → c.book ≡ load_of object topology → c.kept ≡ at_zero topology → c.boxes ≡ (at_load (setup object topology)).boxes → Holds (outputs_at_load c.book) c.outbox → AreOf c.book c.clocks → IsLoaded c
-is_loaded c object topology book kept boxes out clocks = record {
-  book = subst (λ (b : State). b ≡ load_of b.fixed.object b.fixed.topology) (sym book) refl;
+pub is_loaded : (c : Controls) (object : Object) (attached : List Attached) (topology : Topology) → c.book ≡ load_of object attached topology → c.kept ≡ at_zero topology → c.boxes ≡ (at_load (setup object attached topology)).boxes → Holds (outputs_at_load c.book) c.outbox → AreOf c.book c.clocks → IsLoaded c
+is_loaded c object attached topology book kept boxes out clocks = record {
+  book = subst (λ (b : State). b ≡ load_of b.fixed.object b.fixed.attached b.fixed.topology) (sym book) refl;
   kept = kept ∙ ap (λ (b : State). at_zero b.fixed.topology) (sym book);
   boxes = boxes ∙ ap (λ (b : State). (at_load (setup_of b)).boxes) (sym book);
   clocks = clocks;
   out = out;
 }
 
-pub loaded_by : (object : Object) (topology : Topology) (result : Result Controls NoMemory) → IfOk result (λ c. c.book ≡ load_of object topology) → IfOk result (λ c. c.kept ≡ at_zero topology) → IfOk result (λ c. c.boxes ≡ (at_load (setup object topology)).boxes) → IfOk result (λ c. Holds (outputs_at_load c.book) c.outbox) → IfOk result (λ c. AreOf c.book c.clocks) → IfOk result IsLoaded
-loaded_by object topology (Ok c) book kept boxes out clocks = is_loaded c object topology book kept boxes out clocks
-loaded_by object topology (Err error) book kept boxes out clocks = tt
+pub setup_loaded : (book : State) (object : Object) (attached : List Attached) (topology : Topology) → book ≡ load_of object attached topology → setup_of book ≡ setup object book.fixed.attached topology
+setup_loaded book object attached topology is = subst (λ (b : State). setup_of b ≡ setup object b.fixed.attached topology) (sym is) refl
 
-pub setup_by : (object : Object) (topology : Topology) (result : Result Controls NoMemory) → IfOk result (λ c. c.book ≡ load_of object topology) → IfOk result (λ c. setup_of c.book ≡ setup object topology)
-setup_by object topology (Ok c) book = ap setup_of book
-setup_by object topology (Err error) book = tt
+-- the same where all of it was made
+pub load_made : {E : Type 0} (made : Result Controls E) (now : Controls) (object : Object) (attached : List Attached) (t : Topology) → made ≡ Ok now
+    → IfOk made (λ (c : Controls). c.book ≡ load_of object attached t) → IfOk made (λ (c : Controls). c.kept ≡ at_zero t)
+    → IfOk made (λ (c : Controls). c.boxes ≡ (at_load (setup object attached t)).boxes) → IfOk made (λ (c : Controls). Holds (outputs_at_load c.book) c.outbox)
+    → IfOk made (λ (c : Controls). AreOf c.book c.clocks) → IsLoaded now
+load_made made now object attached t is book kept boxes out clocks =
+    is_loaded now object attached t
+    (in_ok (λ (c : Controls). c.book ≡ load_of object attached t) made now is book)
+    (in_ok (λ (c : Controls). c.kept ≡ at_zero t) made now is kept)
+    (in_ok (λ (c : Controls). c.boxes ≡ (at_load (setup object attached t)).boxes) made now is boxes)
+    (in_ok (λ (c : Controls). Holds (outputs_at_load c.book) c.outbox) made now is out)
+    (in_ok (λ (c : Controls). AreOf c.book c.clocks) made now is clocks)
 
 -- the tree at load is that of the book
 tree_at_load : (now : Controls) → IsLoaded now → now.clocks.tree ≡ first_tree (setup_of now.book)
@@ -233,7 +245,7 @@ module _ {O D : Type 0} (o : Sink.Ghosts O) (d : Device.Ghosts D) where
   driven_first : (now after : Controls) (events : List Event) (later : List (List Bool)) (from to : D) → IsLoaded now → Started o d now after from to → driven (setup_of now.book) (answers_in after.outbox ∷ later) events ≡ first_step (setup_of now.book) (part_in after.kept after.outbox) ∷ driven_from (setup_of now.book) after later events
   driven_first now after events later from to loaded started =
       let c : Setup = setup_of now.book in
-      let load : State = load_of c.object c.topology in
+      let load : State = load_of c.object c.attached c.topology in
       let P : Part = part_of (at_zero c.topology) (answers_in after.outbox) load (outputs_at_load load) in
       let Q : Part = part_in after.kept after.outbox in
       let is : P ≡ Q =
@@ -247,16 +259,16 @@ module _ {O D : Type 0} (o : Sink.Ghosts O) (d : Device.Ghosts D) where
 
   -- the report of a script is that of its lines behind the text of step 0, which says nothing of modules and tasks
   -- at the load nothing is left to drop, and no clock begins or ceases to run in step 0
-  load_stands : (now : Controls) → IsLoaded now → followed (view_of (load_of now.book.fixed.object now.book.fixed.topology)) (first_tree (setup_of now.book)) ≡ first_tree (setup_of now.book)
+  load_stands : (now : Controls) → IsLoaded now → followed (view_of (load_of now.book.fixed.object now.book.fixed.attached now.book.fixed.topology)) (first_tree (setup_of now.book)) ≡ first_tree (setup_of now.book)
   load_stands now loaded =
       let c : Setup = setup_of now.book in
       let T : State → Tree → Type 0 = λ b t. followed (view_of b) t ≡ t in
       subst (λ (b : State). T b (first_tree c)) loaded.book (subst (T now.book) (tree_at_load now loaded) loaded.clocks.over.stands)
 
-  report_first : (now after : Controls) (s : Script) (later : List (List Bool)) (board : Standing) (from to : D) → IsLoaded now → Started o d now after from to → replay_report (setup_of now.book) board s (answers_in after.outbox ∷ later) ≡ report_after (step_text 0 after.outbox.done.items (notices_in after.outbox) after.outbox.answer ∷ []) (report_from (setup_of now.book) (board_after Pass board) 1 after s later)
+  report_first : (now after : Controls) (s : Script) (later : List (List Bool)) (board : Standing) (from to : D) → IsLoaded now → Started o d now after from to → run_report (setup_of now.book) board s (answers_in after.outbox ∷ later) ≡ report_after (step_text 0 after.outbox.done.items (notices_in after.outbox) after.outbox.answer ∷ []) (report_from (setup_of now.book) (board_after Pass board) 1 after s later)
   report_first now after s later board from to loaded started =
       let c : Setup = setup_of now.book in
-      let load : State = load_of c.object c.topology in
+      let load : State = load_of c.object c.attached c.topology in
       let Q : Part = part_in after.kept after.outbox in
       let g : Given = record { core = core_0 c; part = Q } in
       let ys : List Driven = driven_from (setup_of now.book) after later s.events in

@@ -8,7 +8,11 @@ use Rattle.pm_base.specs.Inputs.{Holds}
 use Rattle.pm_base.specs.World.{World}
 use Rattle.pm_device.specs.declared.device.Device as Device
 use Rattle.pm_board.specs.Board.{Standing}
-use Rattle.pm_run.specs.Run.{Setup, cores_in, loaded, run}
+use Rattle.pm_object.specs.declared.attached.Attached.{Attached}
+use Rattle.pm_object.specs.declared.object.Object.{Object}
+use Rattle.pm_block.specs.Block.{passed}
+use Rattle.pm_topology.specs.declared.topology.Topology.{Topology}
+use Rattle.pm_run.specs.Run.{cores_in, loaded, run, setup, setup_for}
 use Rattle.pm_run.specs.Served.{EachServes}
 use Rattle.pm_causes.specs.Caused.{HaveCauses}
 use Rattle.pm_script.specs.Named.{IsScript}
@@ -21,63 +25,73 @@ use Rattle.pm_drive.specs.PowerCalls.{EachCallIsItsEvents}
 use Rattle.pm_drive.specs.Calls.{CallsAreTold}
 use Rattle.pm_drive.specs.Followed.{ClocksStand}
 use Rattle.pm_drive.specs.Heard.{heard_in, last_board}
-use Rattle.pm_drive.specs.Text.{run_text}
+use Rattle.pm_drive.specs.Scripts.{script_driven, script_text}
 use Rattle.pm_apart.specs.Apart.{KeepsApart, StepsKeepApart}
 use Rattle.pm_replay.specs.Replay.{Touched, replay_report}
 
 module _ {I O D : Type 0} (i : Inputs.Ghosts I) (o : Sink.Ghosts O) (d : Device.Ghosts D) where
   -- on every exit: what was asked for, what was written of it, what the device was given, and how the board is left
-  abbrev pub Replayed : Setup → Standing → Standing → List ℕ → World I O D → World I O D → Exit → Type 0
-  Replayed c board is name w w' exit =
-      Did o (IsScriptOf i name w.inputs w'.inputs exit) (replay_report c board) (Touched d c board is w.device w'.device)
+  abbrev pub Replayed : Object → Topology → Standing → Standing → List ℕ → World I O D → World I O D → Exit → Type 0
+  Replayed object t board is name w w' exit =
+      Did o (IsScriptOf i name w.inputs w'.inputs exit) (replay_report object t board)
+      (Touched d object t board is w.device w'.device)
       w.sink w'.sink exit
 
-  -- a script was held under the name, the whole text of its run was written under the device's answers, and the device was
-  -- driven through that run
-  pub record IsRun (c : Setup) (board is : Standing) (name : List ℕ) (w w' : World I O D) : Type 0 where
+  -- a script was held under the name, the whole text of its run, with what its first lines attach, was written under the
+  -- device's answers, and the device was driven through that run
+  pub record IsRun (object : Object) (t : Topology) (board is : Standing) (name : List ℕ) (w w' : World I O D) : Type 0 where
     pub script_bytes : List ℕ
     pub events : List Event
     pub answers : List (List Bool)
     pub held : Holds (i.state w.inputs) name script_bytes
     pub means : IsScript script_bytes events
-    pub text : (o.state w'.sink).bytes ≡ (o.state w.sink).bytes ++ run_text c board answers events
-    pub drove : Drove d c (driven c answers events) w.device w'.device
-    pub tasks_left : is ≡ last_board board (driven c answers events)
+    pub text : (o.state w'.sink).bytes ≡ (o.state w.sink).bytes ++ script_text object t board answers events
+    pub drove : Drove d (setup_for object t events) (script_driven object t answers events) w.device w'.device
+    pub tasks_left : is ≡ last_board board (script_driven object t answers events)
 
 module _ {D : Type 0} (d : Device.Ghosts D) where
   -- whichever run the device was driven through: nothing that a master sends changes what is beyond its reach, in the whole run
   -- and in its lines alone, up to a cut, which are all that there is where a script stops at a fault or the text breaks off
-  pub record RunsKeepApart (c : Setup) (old new : D) : Type 0 where
-    pub run : (answers : List (List Bool)) (events : List Event) → Drove d c (driven c answers events) old new → KeepsApart d c answers events old new
-    pub steps : (answers : List (List Bool)) (events : List Event) (cut : Option ℕ) → Drove d c (until cut (driven c answers events)) old new → StepsKeepApart d c answers events cut old new
+  pub record RunsKeepApart (object : Object) (t : Topology) (old new : D) : Type 0 where
+    pub run : (answers : List (List Bool)) (events : List Event)
+        → Drove d (setup_for object t events) (script_driven object t answers events) old new
+        → KeepsApart d (setup_for object t events) answers (passed events) old new
+    pub steps : (answers : List (List Bool)) (events : List Event) (cut : Option ℕ)
+        → Drove d (setup_for object t events) (until cut (script_driven object t answers events)) old new
+        → StepsKeepApart d (setup_for object t events) answers (passed events) cut old new
 
 -- each answer of each run, before an internal error takes the place of success, has the causes of its own core event in the
 -- book before it
-abbrev pub AnswersHaveCauses : Setup → Type 0
-AnswersHaveCauses c = (events : List Event) → HaveCauses (cores_in (run c events))
+abbrev pub AnswersHaveCauses : Object → Topology → Type 0
+AnswersHaveCauses object t = (events : List Event) → HaveCauses (cores_in (run (setup_for object t events) (passed events)))
 
 -- in each run each line that serves sends the messages in all boxes, each once and by rising mask of their masters, and leaves all
 -- boxes empty
-abbrev pub LinesServe : Setup → Type 0
-LinesServe c = (events : List Event) → EachServes c (loaded c).boxes (run c events)
+abbrev pub LinesServe : Object → Topology → Type 0
+LinesServe object t =
+    (events : List Event)
+    → EachServes (setup_for object t events) (loaded (setup_for object t events)).boxes (run (setup_for object t events) (passed events))
 
 -- the line of a power call is the run of the events that it is lowered to, and a run of a script with power calls is the run
 -- of the script with a line for each of these events in place of the call: the same core steps, commands and lines, but for
 -- the numbers of the lines and the answers to power calls
-pub record LowersCalls (c : Setup) : Type 0 where
-  pub line : EachCallIsItsEvents c
-  pub script : (events : List Event) (answers : List (List Bool)) → HaveSameSteps c (driven c answers events) (driven c answers (lowered_script c.topology events))
+pub record LowersCalls (object : Object) (t : Topology) : Type 0 where
+  pub line : (attached : List Attached) → EachCallIsItsEvents (setup object attached t)
+  pub script : (events : List Event) (answers : List (List Bool))
+      → HaveSameSteps (setup_for object t events) (script_driven object t answers events)
+      (driven (setup_for object t events) answers (lowered_script t (passed events)))
 
 -- in each run that finds a board so, up to whichever cut: each line tells exactly the calls of tasks that are due in it, and a
 -- task that is stored before and after was called as often as they tell, modulo 2 ^ 32
-abbrev pub TellsCalls : Setup → Standing → Type 0
-TellsCalls c board =
+abbrev pub TellsCalls : Object → Topology → Standing → Type 0
+TellsCalls object t board =
     (events : List Event) (answers : List (List Bool)) (cut : Option ℕ)
-    → CallsAreTold (heard_in c board (until cut (driven c answers events))) board (last_board board (until cut (driven c answers events))).tasks
+    → CallsAreTold (heard_in (setup_for object t events) board (until cut (script_driven object t answers events))) board
+    (last_board board (until cut (script_driven object t answers events))).tasks
 
 -- in each run, at its load and after each core step: the clock tree is the one before with the call on a clock that was made in the
 -- step, if it wasn't refused, and without the enables of masters that are off or may not use the clock's slave by the object in
 -- force; a root runs where its slave is in a state other than 0, and any other clock where a master enables it and the parent that is
 -- chosen for it runs
-abbrev pub ClocksFollow : Setup → Type 0
-ClocksFollow c = (events : List Event) (answers : List (List Bool)) → ClocksStand c (driven c answers events)
+abbrev pub ClocksFollow : Object → Topology → Type 0
+ClocksFollow object t = (events : List Event) (answers : List (List Bool)) → ClocksStand (setup_for object t events) (script_driven object t answers events)

@@ -38,11 +38,11 @@ use Rattle.pm_drive.specs.Heard.{heard, heard_by, heard_cores, last_board}
 use Rattle.pm_drive.specs.Tasks.{task_notes}
 use Rattle.pm_drive.specs.Text.{given_text, reply_after, texts}
 use Rattle.pm_replay.specs.Controls.{AreOf, Controls, stand_in}
-use Rattle.pm_replay.specs.Replay.{replay_report}
+use Rattle.pm_replay.specs.Replay.{run_report}
 
 -- all is as at load, before the device is given anything
 pub record IsLoaded (c : Controls) : Type 0 where
-  pub book : c.book ≡ load_of c.book.fixed.object c.book.fixed.topology
+  pub book : c.book ≡ load_of c.book.fixed.object c.book.fixed.attached c.book.fixed.topology
   pub kept : c.kept ≡ at_zero c.book.fixed.topology
   pub boxes : c.boxes ≡ (loaded (setup_of c.book)).boxes
   pub clocks : AreOf c.book c.clocks
@@ -181,6 +181,6 @@ module _ {O D : Type 0} (o : Sink.Ghosts O) (d : Device.Ghosts D) where
   pub record RanScript (c : Setup) (s : Script) (old new : O) (from to : D) (board is : Standing) (exit : Exit) : Type 0 where
     pub answers : List (List Bool)
     pub cut : Option ℕ
-    pub went : Went (pieces (replay_report c board s answers)) (driven c answers s.events) cut old new from to
-    pub ends : exit ≡ exit_of (replay_report c board s answers) cut
+    pub went : Went (pieces (run_report c board s answers)) (driven c answers s.events) cut old new from to
+    pub ends : exit ≡ exit_of (run_report c board s answers) cut
     pub tasks_left : is ≡ last_board board (until cut (driven c answers s.events))

@@ -12,19 +12,19 @@ ghost use Rattle.pm_clocks.specs.Clocked.{HasStepped};
 ghost use Rattle.pm_apply.specs.Part.{answers_in, orders_in, part_in, part_of};
 ghost use Rattle.pm_apply.specs.Carried.{AreMarked, DifferencesAreMarked};
 ghost use Rattle.pm_apply.specs.Record.{IsRecordOf, at_zero};
-ghost use Rattle.pm_split.specs.Left.{boxes_left, events_left};
-ghost use Rattle.pm_split.specs.Split.{noted_busy};
+ghost use Rattle.pm_split.specs.Left.{boxes_left, core_event, events_left};
+ghost use Rattle.pm_split.specs.Split.{noted};
 ghost use Rattle.pm_run.specs.Run.{loaded, setup, setup_of, split};
 ghost use Rattle.pm_trace.specs.Step.{notices_in, notices_of};
 ghost use Rattle.pm_replay.specs.Controls.{AreOf, Follow, HasGoneOn, stand_in};
 
 use pm_apply::{Kept, carry, carry_all, marks_suffice};
-use pm_base::{Event, NoMemory};
+use pm_base::{Event, List, NoMemory, with};
 use pm_clocks::Clocks;
 use pm_core::{Book, Outbox};
 use pm_device::Device;
-use pm_object::Object;
-use pm_run::{CoreEvents, Runner, Split};
+use pm_object::{Attached, Object};
+use pm_run::{CoreEvents, Runner, Source, Split};
 use pm_topology::Topology;
 use std::alloc::Global;
 use std::marker::Model;
@@ -63,21 +63,26 @@ impl Model for Controller {
 }
 
 impl Controller {
-    /// The book of an object at load. The device took nothing yet.
+    /// The book of an object at load, with what is attached. The device took nothing yet.
     ///
     /// # Errors
     ///
     /// `NoMemory` where there is not enough memory.
-    pub fn load(alloc: Global, object: Object, topology: Topology) -> Result<Controller, NoMemory>
+    pub fn load(
+        alloc: Global,
+        object: Object,
+        attached: List<Attached>,
+        topology: Topology,
+    ) -> Result<Controller, NoMemory>
         requires formed { IsWellFormed topology }
-        ensures book { IfOk result (λ c. c.book ≡ load_of object topology) }
+        ensures book { IfOk result (λ c. c.book ≡ load_of object attached topology) }
         ensures kept { IfOk result (λ c. c.kept ≡ at_zero topology) }
-        ensures boxes { IfOk result (λ c. c.boxes ≡ (loaded (setup object topology)).boxes) }
+        ensures boxes { IfOk result (λ c. c.boxes ≡ (loaded (setup object attached topology)).boxes) }
         ensures clocks { IfOk result (λ c. AreOf c.book c.clocks) }
         ensures out { IfOk result (λ c. Holds (outputs_at_load c.book) c.outbox) }
     {
         let kept = Kept::load(alloc, &topology)?;
-        let runner = Runner::load(alloc, object, topology)?;
+        let runner = Runner::load(alloc, object, attached, topology)?;
         let clocks = clocks_of(alloc, &runner);
         let (runner, clocks) = with(runner, clocks)?;
         Ok(Controller {
@@ -138,7 +143,7 @@ impl Controller {
     }
 
     /// Splits the event of a script line. Its core events are taken by `next`.
-    pub fn split(&mut self, event: &Event) -> Split
+    pub fn split<'e>(&mut self, event: &'e Event) -> Split<'e>
         ensures book { self.new.book ≡ self.old.book }
         ensures kept { self.new.kept ≡ self.old.kept }
         ensures clocks { self.new.clocks ≡ self.old.clocks }
@@ -146,25 +151,25 @@ impl Controller {
             ≡ (split (setup_of self.old.book) event.now (stand_in self.old)).events }
         ensures boxes { boxes_left self.new.boxes result.cores
             ≡ (split (setup_of self.old.book) event.now (stand_in self.old)).boxes }
-        ensures notes { noted_busy result.busy ≡ (split (setup_of self.old.book) event.now (stand_in self.old)).notes }
+        ensures notes { noted result.note ≡ (split (setup_of self.old.book) event.now (stand_in self.old)).notes }
     {
         self.runner.split(event)
     }
 
-    /// Takes the next core event of a line off, if there is one.
-    pub fn next(&mut self, cores: &mut CoreEvents) -> Option<Event>
+    /// Takes the next core event of a line off, if there is one; one that is made is left in `made`.
+    pub fn next<'e>(&mut self, cores: &mut CoreEvents<'e>, made: &mut Event) -> Option<Source<'e>>
         ensures book { self.new.book ≡ self.old.book }
         ensures kept { self.new.kept ≡ self.old.kept }
         ensures clocks { self.new.clocks ≡ self.old.clocks }
         ensures events { MatchOption result
             ((events_left self.old.book.fixed.object self.old.book.fixed.topology self.old.boxes cores.old ≡ [])
             × (events_left self.old.book.fixed.object self.old.book.fixed.topology self.new.boxes cores.new ≡ []))
-            (λ event. events_left self.old.book.fixed.object self.old.book.fixed.topology self.old.boxes cores.old
-            ≡ event ∷ events_left self.old.book.fixed.object self.old.book.fixed.topology self.new.boxes cores.new) }
+            (λ source. events_left self.old.book.fixed.object self.old.book.fixed.topology self.old.boxes cores.old
+            ≡ core_event source made.new ∷ events_left self.old.book.fixed.object self.old.book.fixed.topology self.new.boxes cores.new) }
         ensures boxes { boxes_left self.new.boxes cores.new ≡ boxes_left self.old.boxes cores.old }
         ensures end { result ≡ None → self.new.boxes ≡ boxes_left self.old.boxes cores.old }
     {
-        self.runner.next(cores)
+        self.runner.next(cores, made)
     }
 
     /// One core event, the commands that make the device follow the book, and what it does to the clocks. Where the book
@@ -193,16 +198,6 @@ fn clocks_of(alloc: Global, runner: &Runner) -> Result<Clocks, NoMemory>
     ensures { IfOk result (λ clocks. AreOf runner.now.book clocks) }
 {
     Clocks::load(alloc, &runner.book)
-}
-
-/// A value and another, where that is there. Else the first is dropped.
-fn with<T: Drop, U, E>(first: T, second: Result<U, E>) -> Result<(T, U), E>
-    ensures { IfOk result (λ both. (both.0 ≡ first) × (second ≡ Ok both.1)) }
-{
-    match second {
-        Ok(second) => Ok((first, second)),
-        Err(error) => Err(error),
-    }
 }
 
 /// The clocks serve the message that the book has just stepped over, if it is a call on a clock and the book replied to

@@ -1,11 +1,14 @@
 //! The lines of a script are run one after another.
 
-ghost use Rattle.std.specs.Prelude.{◌≡◌, ◌≢◌, IfOk};
+ghost use Rattle.std.specs.Prelude.{◌≡◌, ◌≢◌, ◌∷◌, [], IfOk};
 ghost use Rattle.pm_base.specs.Faults.{Rose};
 ghost use Rattle.pm_base.specs.declared.prefix.StopReason.TheVariants.{Failure, Unbegun};
 ghost use Rattle.pm_base.specs.Readings.{Meanwhile};
+ghost use Rattle.pm_block.specs.Block.{attached_by};
 ghost use Rattle.pm_reader.specs.Follow.{OfScript, ReadsLines};
-ghost use Rattle.pm_split.specs.Split.{noted_busy, noted_call};
+ghost use Rattle.pm_reader.specs.Front.{Ahead, Attaches, WasReadAhead, ran};
+ghost use Rattle.pm_split.specs.Split.{noted, noted_call};
+ghost use Rattle.pm_split.specs.Split.Note.{Busy, Late};
 ghost use Rattle.pm_run.specs.Run.{Setup, setup_of};
 ghost use Rattle.pm_modules.specs.Modules.{ranges};
 ghost use Rattle.pm_board.specs.Standing.{standing};
@@ -18,7 +21,7 @@ ghost use Rattle.pm_replay.specs.Within.{AreTold, RanLine, RanLines, WritesOn};
 use crate::clocks::clocks_on;
 use crate::controller::Controller;
 use crate::tasks::tasks_on;
-use crate::writing::{write_busy, write_call, write_step};
+use crate::writing::{write_busy, write_call, write_late, write_step};
 use pm_base::{Event, Failed, Inputs, NodeId, Sink};
 use pm_board::Board;
 use pm_core::{Answer, Outbox};
@@ -26,8 +29,8 @@ use pm_device::Device;
 use pm_drive::rig;
 use pm_ipi::Response;
 use pm_modules::{ModulesOf, Responder};
-use pm_reader::{Follower, LineStop, LinesEnd, each_line};
-use pm_run::call_answer;
+use pm_reader::{Follower, Front, LineStop, LinesEnd};
+use pm_run::{OwnNote, call_answer};
 use pm_tasks::{Handler, TasksOf};
 
 /// What carries out each line of a script, makes the device follow it, and writes its text.
@@ -63,19 +66,26 @@ impl<'c, 'o, 'd, 'm, 't, O: Sink, D: Device, H: Responder, T: Handler> Follower
 /// line before it was written.
 pub(crate) fn run_lines<I: Inputs, O: Sink, D: Device, H: Responder, T: Handler>(
     controller: &mut Controller,
+    front: &mut Front,
     inputs: &mut I,
     id: u32,
     out: &mut O,
     dev: &mut D,
     board: &mut Board<H, T>,
 ) -> Result<LinesEnd, LineStop>
-    ensures ran { (c : Setup) → setup_of controller.old.book ≡ c → AreTold controller.old.clocks → OfScript I.observable id (I.state inputs.old)
-        (λ s. RanLines O.Sink D.Device c 1 s controller.old controller.new out.old out.new dev.old dev.new
+    requires front { WasReadAhead I.observable id (I.state inputs.old) front.old }
+    ensures ran { (ahead : Ahead) → Attaches I.observable id ahead (I.state inputs.old) front.old
+        → (c : Setup) → setup_of controller.old.book ≡ c → AreTold controller.old.clocks
+        → OfScript I.observable id ahead.first
+        (λ s. (attached_by s.events ≡ ahead.attached)
+        × RanLines O.Sink D.Device c 1 (ran s) controller.old controller.new out.old out.new dev.old dev.new
         (standing H.Responder T.Handler board.old.modules.now board.old.tasks)
         (standing H.Responder T.Handler board.old.modules.now board.new.tasks) result) }
     ensures ends { IfOk result (λ end. end.stop ≢ Unbegun) }
-    ensures fault { IfOk result (λ end. end.stop ≡ Failure → Rose (I.state inputs.old).faults (I.state inputs.new).faults) }
-    ensures reads { Meanwhile (I.state inputs.old) (I.state inputs.new) (ReadsLines id result) }
+    ensures fault { (ahead : Ahead) → Attaches I.observable id ahead (I.state inputs.old) front.old
+        → IfOk result (λ end. end.stop ≡ Failure → Rose ahead.first.faults (I.state inputs.new).faults) }
+    ensures reads { (ahead : Ahead) → Attaches I.observable id ahead (I.state inputs.old) front.old
+        → Meanwhile ahead.first (I.state inputs.new) (ReadsLines id result) }
 {
     let mut player = Player {
         controller,
@@ -84,7 +94,7 @@ pub(crate) fn run_lines<I: Inputs, O: Sink, D: Device, H: Responder, T: Handler>
         modules: board.modules,
         tasks: &mut board.tasks,
     };
-    each_line(inputs, id, &mut player)
+    front.follow(inputs, id, &mut player)
 }
 
 /// Breaks or mends a node of the device where the line asks for that, carries out the core events of the line to the
@@ -110,14 +120,16 @@ fn run_line<O: Sink, D: Device, H: Responder, T: Handler>(
     let mut left = parts.cores;
     let mut written = Ok(());
     let mut reply = None;
-    while let Some(core) = controller.next(&mut left) {
-        controller.step(&core, dev);
+    let mut made = Event::Pass;
+    while let Some(core) = controller.next(&mut left, &mut made) {
+        let taken = core.event(&made);
+        controller.step(taken, dev);
         let outbox = controller.outbox();
-        let answer = heard(modules, &core, &outbox.answer);
+        let answer = heard(modules, taken, &outbox.answer);
         written = write_on(written, number, outbox, &answer, out);
         reply = later_reply(reply, &answer);
     }
-    let noted = note_on(written, number, parts.busy, out);
+    let noted = note_on(written, number, parts.note, out);
     let clocked = clocks_on(noted, number, controller, out);
     let fired = tasks_on(clocked, number, event, tasks, out);
     let called = call_answer(controller.book().topology(), event, reply);
@@ -166,22 +178,50 @@ fn write_on<O: Sink>(
     }
 }
 
-/// Writes the line of a post into a full box, if there is one. A sink that has failed before within the line is given
-/// nothing more.
+/// Writes what a line says of itself, if it has something to say: that its post found a full box, or that the words that
+/// it attaches come too late. A sink that has failed before within the line is given nothing more.
 fn note_on<O: Sink>(
     written: Result<(), Failed>,
     number: u32,
-    busy: Option<NodeId>,
+    note: Option<OwnNote>,
     out: &mut O,
 ) -> Result<(), Failed>
-    ensures { WritesOn O.Sink (notes_text number (noted_busy busy)) written result out.old out.new }
+    ensures { WritesOn O.Sink (notes_text number (noted note)) written result out.old out.new }
 {
-    match busy {
+    match note {
         None => written,
-        Some(master) => match written {
-            Ok(()) => write_busy(number, master, out),
-            Err(failed) => Err(failed),
-        },
+        Some(OwnNote::Busy(master)) => busy_on(written, number, master, out),
+        Some(OwnNote::Late(address)) => late_on(written, number, address, out),
+    }
+}
+
+/// Writes the line of a post into a full box. A sink that has failed before within the line is given nothing more.
+fn busy_on<O: Sink>(
+    written: Result<(), Failed>,
+    number: u32,
+    master: NodeId,
+    out: &mut O,
+) -> Result<(), Failed>
+    ensures { WritesOn O.Sink (notes_text number (Busy master ∷ [])) written result out.old out.new }
+{
+    match written {
+        Ok(()) => write_busy(number, master, out),
+        Err(Failed) => Err(Failed),
+    }
+}
+
+/// Writes the line of words that come too late. A sink that has failed before within the line is given nothing more.
+fn late_on<O: Sink>(
+    written: Result<(), Failed>,
+    number: u32,
+    address: u32,
+    out: &mut O,
+) -> Result<(), Failed>
+    ensures { WritesOn O.Sink (notes_text number (Late address ∷ [])) written result out.old out.new }
+{
+    match written {
+        Ok(()) => write_late(number, address, out),
+        Err(Failed) => Err(Failed),
     }
 }
 

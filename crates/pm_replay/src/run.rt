@@ -1,6 +1,6 @@
 //! A script is run over a configuration object and a device.
 
-ghost use Rattle.std.specs.Prelude.{◌≡◌, ◌≢◌, IfOk};
+ghost use Rattle.std.specs.Prelude.{◌≡◌, ◌≢◌, ◌⊎◌, IfOk};
 ghost use Rattle.pm_base.specs.declared.names.Unit.{Unit};
 ghost use Rattle.pm_base.specs.Faults.{Rose};
 ghost use Rattle.pm_base.specs.Inputs.{MayFail};
@@ -9,16 +9,19 @@ ghost use Rattle.pm_base.specs.declared.prefix.StopReason.TheVariants.{Unbegun};
 ghost use Rattle.pm_script.specs.Named.{script_in};
 ghost use Rattle.pm_script.specs.Script.{script_limit, stop_of};
 ghost use Rattle.pm_base.specs.Readings.{Meanwhile};
-ghost use Rattle.pm_reader.specs.Follow.{OfScript};
+ghost use Rattle.pm_reader.specs.Follow.{IsBrokenOff, OfScript};
+ghost use Rattle.pm_reader.specs.Front.{Ahead, Attaches, WasReadAhead, ahead_of, ran};
 ghost use Rattle.pm_topology.specs.WellFormed.{IsWellFormed};
+ghost use Rattle.pm_block.specs.Block.{attached_by};
 ghost use Rattle.pm_object.specs.Grammar.{IsObject};
 ghost use Rattle.pm_board.specs.Standing.{standing};
 ghost use Rattle.pm_replay.specs.Within.{AreTold, IsLoaded, RanRest, RanScript, closing_report};
 ghost use Rattle.pm_trace.specs.Exits.{EndsWith, IsStarved};
-ghost use Rattle.pm_trace.specs.Report.{Reports};
+ghost use Rattle.pm_trace.specs.declared.faults.Fault.TheVariants.{Memory};
+ghost use Rattle.pm_trace.specs.Report.{Reports, refusal};
 ghost use Rattle.pm_trace.specs.Scripts.{ReadsBegun, ReadsScript, script_exit, script_named, script_or_fault};
 ghost use Rattle.pm_replay.specs.Replayed.{AnswersHaveCauses, ClocksFollow, IsRun, LinesServe, LowersCalls, Replayed, RunsKeepApart, TellsCalls};
-ghost use Rattle.pm_run.specs.Run.{Setup, setup, setup_of};
+ghost use Rattle.pm_run.specs.Run.{Setup, setup, setup_for, setup_of};
 ghost use Rattle.pm_replay.specs.Safe.{IsSafe};
 ghost use Rattle.pm_base.specs.World.{world};
 
@@ -26,7 +29,8 @@ use crate::controller::Controller;
 use crate::lines::run_lines;
 use crate::writing::{write_closing, write_step};
 use pm_apart::driven_runs_keep_apart;
-use pm_base::{Event, Exit, Failed, Inputs, NoMemory, Sink, StopReason};
+use pm_base::{Event, Exit, Failed, Inputs, List, NoMemory, Sink, StopReason, with};
+use pm_block::{Block, attached_objects_are_formed};
 use pm_board::{Board, happen};
 use pm_causes::runs_have_causes;
 use pm_device::Device;
@@ -35,8 +39,8 @@ use pm_drive::{
     scripts_are_lowered,
 };
 use pm_modules::{ModulesOf, Responder};
-use pm_object::Object;
-use pm_reader::LineStop;
+use pm_object::{Attached, Object};
+use pm_reader::{Front, LineStop};
 use pm_run::boxes_of_a_run;
 use pm_tasks::{Handler, TasksOf};
 use pm_topology::Topology;
@@ -72,7 +76,7 @@ pub fn replay<I: Inputs, O: Sink, D: Device, H: Responder, T: Handler>(
     // On Done the input held a script under the name, the whole text of its run was written, with what modules say
     // and with the calls of tasks, and the device was driven through that run.
     ensures done { I.observable → O.observable → result ≡ Exit.Done
-        → IsRun I.Inputs O.Sink D.Device (setup object topology)
+        → IsRun I.Inputs O.Sink D.Device object topology
         (standing H.Responder T.Handler modules.now tasks.old)
         (standing H.Responder T.Handler modules.now tasks.new) script.now
         (world inputs.old out.old dev.old) (world inputs.new out.new dev.new) }
@@ -83,29 +87,29 @@ pub fn replay<I: Inputs, O: Sink, D: Device, H: Responder, T: Handler>(
     ensures safe { IsSafe D.Device topology dev.old dev.new }
     // On every exit: what was asked for, what was written of it, what was done to the device, and how the tasks are
     // left.
-    ensures ran { Replayed I.Inputs O.Sink D.Device (setup object topology)
+    ensures ran { Replayed I.Inputs O.Sink D.Device object topology
         (standing H.Responder T.Handler modules.now tasks.old)
         (standing H.Responder T.Handler modules.now tasks.new) script.now
         (world inputs.old out.old dev.old) (world inputs.new out.new dev.new) result }
     // On every exit, of the run that the device was driven through: nothing that a master sends changes what is
     // beyond its reach.
-    ensures keeps { RunsKeepApart D.Device (setup object topology) dev.old dev.new }
+    ensures keeps { RunsKeepApart D.Device object topology dev.old dev.new }
     // Each answer of a run has its causes in the book before its step.
-    ensures causes { AnswersHaveCauses (setup object topology) }
+    ensures causes { AnswersHaveCauses object topology }
     // Each line of a run that serves sends the messages in all boxes, each once and by rising mask of their masters, and
     // leaves all boxes empty.
-    ensures boxes { LinesServe (setup object topology) }
+    ensures boxes { LinesServe object topology }
     // The line of a power call is the run of the events that it is lowered to by the chip and the call alone, and then its
     // answer; and so is a script with power calls the script with a line for each of these events.
-    ensures calls { LowersCalls (setup object topology) }
+    ensures calls { LowersCalls object topology }
     // Each line of a run tells exactly the calls of tasks that are due in it, and a task that is stored before and after
     // was called as often as the lines tell, modulo 2 ^ 32.
-    ensures tasks { TellsCalls (setup object topology) (standing H.Responder T.Handler modules.now tasks.old) }
+    ensures tasks { TellsCalls object topology (standing H.Responder T.Handler modules.now tasks.old) }
     // In each run, at its load and after each core step, the clocks are those that the calls on them so far left, if they
     // weren't refused, without the enables of masters that are off or may not use the clock's slave any more; a root
     // runs where its slave is in a state other than 0, and any other clock where a master enables it and the parent that
     // is chosen for it runs.
-    ensures clocks { ClocksFollow (setup object topology) }
+    ensures clocks { ClocksFollow object topology }
     // On every exit, of any inputs: the script is begun once, and read to its end or to one byte past the limit, or up
     // to a call that failed, or, where the run ends before, up to somewhere. Nothing else is begun or read.
     ensures begun { Meanwhile (I.state inputs.old) (I.state inputs.new) (ReadsScript result (script_named script.now)) }
@@ -126,6 +130,7 @@ pub fn replay<I: Inputs, O: Sink, D: Device, H: Responder, T: Handler>(
 {
     driven_runs_keep_apart::<D>();
     runs_have_causes();
+    attached_objects_are_formed();
     boxes_of_a_run();
     power_calls_are_their_events();
     scripts_are_lowered();
@@ -155,40 +160,7 @@ fn run_named<I: Inputs, O: Sink, D: Device, H: Responder, T: Handler>(
 ) -> Exit
     requires formed { IsWellFormed topology }
     requires idle { D.values_observable → (unit : Unit) → (D.state dev.old).value unit ≡ 0 }
-    ensures ran { Replayed I.Inputs O.Sink D.Device (setup object topology)
-        (standing H.Responder T.Handler board.old.modules.now board.old.tasks)
-        (standing H.Responder T.Handler board.old.modules.now board.new.tasks) script.now
-        (world inputs.old out.old dev.old) (world inputs.new out.new dev.new) result }
-    ensures begun { Meanwhile (I.state inputs.old) (I.state inputs.new) (ReadsScript result (script_named script.now)) }
-{
-    let Ok(mut controller) = load(alloc, object, topology) else {
-        return refuse(Fault::Memory, out);
-    };
-    run_loaded(&mut controller, inputs, script, out, dev, board)
-}
-
-/// All as it stands at load, before the device is given anything.
-fn load(alloc: Global, object: Object, topology: Topology) -> Result<Controller, NoMemory>
-    requires formed { IsWellFormed topology }
-    ensures loaded { IfOk result IsLoaded }
-    ensures setup { IfOk result (λ c. setup_of c.book ≡ setup object topology) }
-{
-    Controller::load(alloc, object, topology)
-}
-
-/// Runs the named script from the load, where it can be read.
-fn run_loaded<I: Inputs, O: Sink, D: Device, H: Responder, T: Handler>(
-    controller: &mut Controller,
-    inputs: &mut I,
-    script: &str,
-    out: &mut O,
-    dev: &mut D,
-    board: &mut Board<H, T>,
-) -> Exit
-    requires formed { IsWellFormed (setup_of controller.old.book).topology }
-    requires loaded { IsLoaded controller.old }
-    requires idle { D.values_observable → (unit : Unit) → (D.state dev.old).value unit ≡ 0 }
-    ensures ran { Replayed I.Inputs O.Sink D.Device (setup_of controller.old.book)
+    ensures ran { Replayed I.Inputs O.Sink D.Device object topology
         (standing H.Responder T.Handler board.old.modules.now board.old.tasks)
         (standing H.Responder T.Handler board.old.modules.now board.new.tasks) script.now
         (world inputs.old out.old dev.old) (world inputs.new out.new dev.new) result }
@@ -196,8 +168,95 @@ fn run_loaded<I: Inputs, O: Sink, D: Device, H: Responder, T: Handler>(
 {
     driven_follows::<D>();
     match inputs.begin(script) {
-        Ok(id) => run(controller, inputs, id, out, dev, board),
+        Ok(id) => run_begun(alloc, object, topology, inputs, id, out, dev, board),
         Err(Failed) => refuse(Fault::Read, out),
+    }
+}
+
+/// A controller at load, with what the first lines of the script attach, before the device is given anything, and the
+/// script, whose first lines were read.
+#[derive(Drop)]
+struct Loaded {
+    controller: Controller,
+    front: Front,
+}
+
+/// Reads the block of an input that was just begun, and loads the book with what it attaches. All that takes memory.
+fn load<I: Inputs>(
+    alloc: Global,
+    object: Object,
+    topology: Topology,
+    inputs: &mut I,
+    id: u32,
+) -> Result<Loaded, NoMemory>
+    requires formed { IsWellFormed topology }
+    ensures loaded { IfOk result (λ found. IsLoaded found.controller) }
+    ensures setup { IfOk result (λ found. setup_of found.controller.book
+        ≡ setup object found.controller.book.fixed.attached topology) }
+    ensures front { IfOk result (λ found. Attaches I.observable id
+        (ahead_of (I.state inputs.old) found.controller.book.fixed.attached) (I.state inputs.new) found.front) }
+    ensures reads { Meanwhile (I.state inputs.old) (I.state inputs.new) (IsBrokenOff id) }
+{
+    let read = read_block(alloc, inputs, id);
+    let ((object, topology), (front, attached)) = with((object, topology), read)?;
+    let controller = Controller::load(alloc, object, attached, topology);
+    let (front, controller) = with(front, controller)?;
+    Ok(Loaded { controller, front })
+}
+
+/// Reads the block of an input that was just begun: the script, whose first lines were read, and what they attach.
+fn read_block<I: Inputs>(
+    alloc: Global,
+    inputs: &mut I,
+    id: u32,
+) -> Result<(Front, List<Attached>), NoMemory>
+    ensures front { IfOk result (λ read. Attaches I.observable id (ahead_of (I.state inputs.old) read.1)
+        (I.state inputs.new) read.0) }
+    ensures reads { Meanwhile (I.state inputs.old) (I.state inputs.new) (IsBrokenOff id) }
+{
+    let mut block = Block::new(alloc);
+    let front = Front::read(alloc, inputs, id, &mut block)?;
+    let attached = block.attached(alloc)?;
+    Ok((front, attached))
+}
+
+/// Runs the script of an input that was just begun from the load of the object, with what its first lines attach, unless
+/// memory is wanted: then the device and the tasks stay as they were.
+fn run_begun<I: Inputs, O: Sink, D: Device, H: Responder, T: Handler>(
+    alloc: Global,
+    object: Object,
+    topology: Topology,
+    inputs: &mut I,
+    id: u32,
+    out: &mut O,
+    dev: &mut D,
+    board: &mut Board<H, T>,
+) -> Exit
+    requires formed { IsWellFormed topology }
+    ensures ran { (Reports O.Sink (refusal Memory) out.old out.new result × (dev.old ≡ dev.new)
+        × (board.old.tasks ≡ board.new.tasks))
+        ⊎ OfScript I.observable id (I.state inputs.old)
+        (λ s. RanScript O.Sink D.Device (setup_for object topology s.events) (ran s) out.old out.new dev.old dev.new
+        (standing H.Responder T.Handler board.old.modules.now board.old.tasks)
+        (standing H.Responder T.Handler board.old.modules.now board.new.tasks) result) }
+    ensures fault { result ≡ Exit.ReadFault → Rose (I.state inputs.old).faults (I.state inputs.new).faults }
+    ensures reads { Meanwhile (I.state inputs.old) (I.state inputs.new) (ReadsBegun result id) }
+{
+    match load(alloc, object, topology, inputs, id) {
+        Ok(mut loaded) => {
+            let exit = run(
+                &mut loaded.controller,
+                &mut loaded.front,
+                inputs,
+                id,
+                out,
+                dev,
+                board,
+            );
+            drop(loaded);
+            exit
+        }
+        Err(NoMemory) => refuse(Fault::Memory, out),
     }
 }
 
@@ -205,25 +264,31 @@ fn run_loaded<I: Inputs, O: Sink, D: Device, H: Responder, T: Handler>(
 /// nothing happens: calls that were left before are made.
 fn run<I: Inputs, O: Sink, D: Device, H: Responder, T: Handler>(
     controller: &mut Controller,
+    front: &mut Front,
     inputs: &mut I,
     id: u32,
     out: &mut O,
     dev: &mut D,
     board: &mut Board<H, T>,
 ) -> Exit
+    requires front { WasReadAhead I.observable id (I.state inputs.old) front.old }
     requires loaded { IsLoaded controller.old }
-    ensures ran { OfScript I.observable id (I.state inputs.old)
-        (λ s. RanScript O.Sink D.Device (setup_of controller.old.book) s out.old out.new dev.old dev.new
+    ensures ran { (ahead : Ahead) → Attaches I.observable id ahead (I.state inputs.old) front.old
+        → OfScript I.observable id ahead.first
+        (λ s. (attached_by s.events ≡ ahead.attached)
+        × RanScript O.Sink D.Device (setup_of controller.old.book) (ran s) out.old out.new dev.old dev.new
         (standing H.Responder T.Handler board.old.modules.now board.old.tasks)
         (standing H.Responder T.Handler board.old.modules.now board.new.tasks) result) }
-    ensures fault { result ≡ Exit.ReadFault → Rose (I.state inputs.old).faults (I.state inputs.new).faults }
-    ensures reads { Meanwhile (I.state inputs.old) (I.state inputs.new) (ReadsBegun result id) }
+    ensures fault { (ahead : Ahead) → Attaches I.observable id ahead (I.state inputs.old) front.old
+        → result ≡ Exit.ReadFault → Rose ahead.first.faults (I.state inputs.new).faults }
+    ensures reads { (ahead : Ahead) → Attaches I.observable id ahead (I.state inputs.old) front.old
+        → Meanwhile ahead.first (I.state inputs.new) (ReadsBegun result id) }
 {
     controller.start(dev);
     happen(&mut board.tasks, &Event::Pass);
     let outbox = controller.outbox();
     match write_step(0, outbox, &outbox.answer, out) {
-        Ok(()) => run_rest(controller, inputs, id, out, dev, board),
+        Ok(()) => run_rest(controller, front, inputs, id, out, dev, board),
         Err(Failed) => Exit::WriteFault,
     }
 }
@@ -231,20 +296,27 @@ fn run<I: Inputs, O: Sink, D: Device, H: Responder, T: Handler>(
 /// Runs the lines of a script, and writes what comes after them.
 fn run_rest<I: Inputs, O: Sink, D: Device, H: Responder, T: Handler>(
     controller: &mut Controller,
+    front: &mut Front,
     inputs: &mut I,
     id: u32,
     out: &mut O,
     dev: &mut D,
     board: &mut Board<H, T>,
 ) -> Exit
-    ensures ran { (c : Setup) → setup_of controller.old.book ≡ c → AreTold controller.old.clocks → OfScript I.observable id (I.state inputs.old)
-        (λ s. RanRest O.Sink D.Device c 1 s controller.old out.old out.new dev.old dev.new
+    requires front { WasReadAhead I.observable id (I.state inputs.old) front.old }
+    ensures ran { (ahead : Ahead) → Attaches I.observable id ahead (I.state inputs.old) front.old
+        → (c : Setup) → setup_of controller.old.book ≡ c → AreTold controller.old.clocks
+        → OfScript I.observable id ahead.first
+        (λ s. (attached_by s.events ≡ ahead.attached)
+        × RanRest O.Sink D.Device c 1 (ran s) controller.old out.old out.new dev.old dev.new
         (standing H.Responder T.Handler board.old.modules.now board.old.tasks)
         (standing H.Responder T.Handler board.old.modules.now board.new.tasks) result) }
-    ensures fault { result ≡ Exit.ReadFault → Rose (I.state inputs.old).faults (I.state inputs.new).faults }
-    ensures reads { Meanwhile (I.state inputs.old) (I.state inputs.new) (ReadsBegun result id) }
+    ensures fault { (ahead : Ahead) → Attaches I.observable id ahead (I.state inputs.old) front.old
+        → result ≡ Exit.ReadFault → Rose ahead.first.faults (I.state inputs.new).faults }
+    ensures reads { (ahead : Ahead) → Attaches I.observable id ahead (I.state inputs.old) front.old
+        → Meanwhile ahead.first (I.state inputs.new) (ReadsBegun result id) }
 {
-    match run_lines(controller, inputs, id, out, dev, board) {
+    match run_lines(controller, front, inputs, id, out, dev, board) {
         Ok(end) => finish(controller, end.stop, out),
         Err(LineStop::Bad(number, cause)) => refuse(Fault::Line(number, cause), out),
         Err(LineStop::Broken) => Exit::WriteFault,

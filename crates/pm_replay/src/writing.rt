@@ -4,8 +4,8 @@ ghost use Rattle.std.specs.Prelude.{◌≡◌, ◌<◌, ◌∷◌, [], Some, fla
 ghost use Rattle.pm_apply.specs.Part.{part_in};
 ghost use Rattle.pm_clock_tree.specs.Told.{listed};
 ghost use Rattle.pm_state.specs.Units.{units};
-ghost use Rattle.pm_split.specs.Split.{noted_busy, noted_call};
-ghost use Rattle.pm_split.specs.Split.Note.{NoTask};
+ghost use Rattle.pm_split.specs.Split.{noted_call};
+ghost use Rattle.pm_split.specs.Split.Note.{Busy, Late, NoTask};
 ghost use Rattle.pm_drive.specs.Clocks.{clock_note, end_line, ends_text, table_text};
 ghost use Rattle.pm_drive.specs.Tasks.{fired_note};
 ghost use Rattle.pm_trace.specs.Notes.{notes_text};
@@ -19,7 +19,7 @@ use pm_clocks::{ClockChange, ClockEnd, Clocks, all_clocks};
 use pm_core::{Answer, Outbox};
 use pm_tasks::Fired;
 use pm_trace::{
-    TextLine, busy_line, call_line, clock_closing, clock_line, closing, entries, entry,
+    TextLine, busy_line, call_line, clock_closing, clock_line, closing, entries, entry, late_line,
     no_task_line, task_line,
 };
 
@@ -42,10 +42,19 @@ pub(crate) fn write_step<O: Sink>(
 
 /// Writes the line of a post into the full box of a master.
 pub(crate) fn write_busy<O: Sink>(number: u32, master: NodeId, out: &mut O) -> Result<(), Failed>
-    ensures { Writes O.Sink (notes_text number (noted_busy (Some master))) out.old out.new result }
+    ensures { Writes O.Sink (notes_text number (Busy master ∷ [])) out.old out.new result }
 {
     let mut line = TextLine::new();
     busy_line(number, master, &mut line);
+    write_all(out, line.as_slice())
+}
+
+/// Writes the line of a script line that attaches words at an address and comes too late.
+pub(crate) fn write_late<O: Sink>(number: u32, address: u32, out: &mut O) -> Result<(), Failed>
+    ensures { Writes O.Sink (notes_text number (Late address ∷ [])) out.old out.new result }
+{
+    let mut line = TextLine::new();
+    late_line(number, address, &mut line);
     write_all(out, line.as_slice())
 }
 

@@ -2,6 +2,8 @@
 #![tactic(auto)]
 
 #[cfg(test)]
+mod attached;
+#[cfg(test)]
 mod boxes;
 #[cfg(test)]
 mod boxes_apart;

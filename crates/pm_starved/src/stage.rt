@@ -27,7 +27,8 @@ reset 33 1
 ";
 
 /// A script with lines of each kind.
-const SCRIPT: &str = "ipi 1 21
+const SCRIPT: &str = "object 4096 2 2 1 257 2 1 1 100 256 256 7 256 100 0 0 258 1 33 0 257
+ipi 1 21
 ipi 1 13 33 1 0 2
 post 7 13 11 1 0 1
 serve

@@ -14,7 +14,7 @@ const ACK: u32 = 3;
 static CALLS: [(u32, Call, AckKind, NodeId); 22] = [
     (0, Call::Unknown, AckKind::Blocking, NodeId(0)),
     (1, Call::GetApiVersion, AckKind::Blocking, NodeId(0)),
-    (2, Call::Unknown, AckKind::Blocking, NodeId(0)),
+    (2, Call::SetConfiguration(22), AckKind::Blocking, NodeId(0)),
     (
         3,
         Call::GetNodeStatus { node: NODE },

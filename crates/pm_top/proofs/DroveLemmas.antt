@@ -7,14 +7,16 @@ use Rattle.pm_base.specs.declared.sink.Sink as Sink
 use Rattle.pm_base.specs.World.{World}
 use Rattle.pm_board.specs.Board.{Standing}
 use Rattle.pm_device.specs.declared.device.Device as Device
-use Rattle.pm_drive.specs.Drive.{driven, until}
+use Rattle.pm_drive.specs.Drive.{until}
 use Rattle.pm_drive.specs.Drove.{Drove}
+use Rattle.pm_drive.specs.Scripts.{script_driven}
+use Rattle.pm_run.specs.Run.{setup_for}
 use Rattle.pm_trace.specs.declared.faults.Fault.{Fault}
 use Rattle.pm_trace.specs.Exits.{ExitsSay}
 use Rattle.pm_trace.specs.Report.{report_of}
 use Rattle.pm_top.specs.declared.works.Request.{Request}
 use Rattle.pm_top.specs.declared.works.Work.TheVariants.{Replay}
-use Rattle.pm_top.specs.Done.{report, setup_of}
+use Rattle.pm_top.specs.Done.{report}
 use Rattle.pm_top.specs.Form.{form_if, form_of, over, request_of}
 use Rattle.pm_top.specs.Job.{IsKnown, Job}
 use Rattle.pm_top.specs.Ran.{DroveRun, IsShown, Ran, RanForm, Touches}
@@ -33,7 +35,7 @@ module _ {I O : Type 0} (i : Inputs.Ghosts I) (o : Sink.Ghosts O) (say : ExitsSa
     start = touched.start;
     formed = known.supported.well_formed;
     fitted = touched.fitted;
-    drove = subst (λ (cut : Option ℕ). Drove d (setup_of job.asked.subject) (until cut (driven (setup_of job.asked.subject) answers job.asked.script.events)) touched.start w'.device) uncut touched.touched.0;
+    drove = subst (λ (cut : Option ℕ). Drove d (setup_for job.asked.subject.object job.asked.subject.topology job.asked.script.events) (until cut (script_driven job.asked.subject.object job.asked.subject.topology answers job.asked.script.events)) touched.start w'.device) uncut touched.touched.0;
   }
   drove_by (Err fault) answers cut known faultless uncut touched = absurd (some_is_none faultless)
 

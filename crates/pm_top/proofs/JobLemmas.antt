@@ -23,7 +23,7 @@ use Rattle.pm_top.specs.declared.reading.Subject.{Subject}
 use Rattle.pm_top.specs.Form.{word}
 use Rattle.pm_object.specs.declared.object.Object.{Object}
 use Rattle.pm_topology.specs.declared.topology.Topology.{Topology}
-use Rattle.pm_top.specs.Asked.{Begins, lines_by, no_script, object_by, script_begins, script_by, source_prefix, subject_by, subject_of, then_script, topology_by, with_script, with_topology}
+use Rattle.pm_top.specs.Asked.{Asked, Begins, lines_by, no_script, object_by, script_begins, script_by, source_prefix, subject_by, subject_of, then_script, topology_by, with_script, with_topology}
 use Rattle.pm_top.specs.Job.{IsAsked, IsFaultOf, IsFound, IsJobOf, IsKnown, Job, Meets}
 use Rattle.pm_top.specs.Within.{ReadsSubject, ReadsThen, ReadsTopology}
 use Rattle.pm_top.proofs.SubjectLemmas.{err_is, is_chip, memory_is_read, ok_is, ok_is_err, refusal, subject_files, subject_later, subject_room, topology_read, was_read}
@@ -43,17 +43,21 @@ not_none P (Some y) x is = tt
 
 -- ---- the job
 
+-- a subject with a script
+abbrev pub asked_with : Subject → Script → Asked
+asked_with subject script = record { subject = subject; script = script }
+
 -- of a subject without a script, and the events of one that is made
 abbrev pub whole_job : Subject → List Member → List Event → Job
-whole_job subject members events = record { asked = record { subject = subject; script = no_script }; members = members; events = events }
+whole_job subject members events = record { asked = asked_with subject no_script; members = members; events = events }
 
 -- of a subject with a script, and the members of a reach
 abbrev pub job_by : Subject → Result Comparison Fault → Result Job Fault
-job_by subject (Ok found) = Ok (record { asked = record { subject = subject; script = found.script }; members = found.members; events = [] })
+job_by subject (Ok found) = Ok (record { asked = asked_with subject found.script; members = found.members; events = [] })
 job_by subject (Err fault) = Err fault
 
-met : (subject : Subject) (job : Result Comparison Fault) (script : Result Script Fault) → script_of_job job ≡ script → IfOk job (λ found. IsFound subject found.members) → Meets (job_by subject job) (with_script subject script)
-met subject (Ok found) (Ok s) is reach = (ap (λ (s : Script). record { subject = subject; script = s }) (ok_is is), reach)
+met : (subject : Subject) (job : Result Comparison Fault) (script : Result Script Fault) → script_of_job job ≡ script → IfOk job (λ found. IsFound (asked_with subject found.script) found.members) → Meets (job_by subject job) (with_script subject script)
+met subject (Ok found) (Ok s) is reach = (ap (asked_with subject) (ok_is is), reach)
 met subject (Ok found) (Err due) is reach = absurd (ok_is_err is)
 met subject (Err fault) (Ok s) is reach = absurd (ok_is_err (sym is))
 met subject (Err fault) (Err due) is reach = err_is is
@@ -101,7 +105,7 @@ module _ {I : Type 0} (i : Inputs.Ghosts I) (f : Form) (ws : List (List ℕ)) wh
   }
 
   -- a subject of a form without a script
-  pub asked_whole : (old new : I) (subject : Subject) (members : List Member) (events : List Event) → f.script ≡ None → ReadsSubject i.observable f ws (i.state old) (i.state new) (Ok subject) → IsFound subject members → (f.source ≡ source.Number → IsScript (made subject.lines) events) → IsAskedFor i f ws old new (Ok (whole_job subject members events))
+  pub asked_whole : (old new : I) (subject : Subject) (members : List Member) (events : List Event) → f.script ≡ None → ReadsSubject i.observable f ws (i.state old) (i.state new) (Ok subject) → IsFound (asked_with subject no_script) members → (f.source ≡ source.Number → IsScript (made subject.lines) events) → IsAskedFor i f ws old new (Ok (whole_job subject members events))
   asked_whole old new subject members events none reads found making = record {
     shown = λ seen.
         let again : Begins (i.state old) = begins old new (Ok subject) reads seen true (λ many. refl) in
@@ -121,7 +125,7 @@ module _ {I : Type 0} (i : Inputs.Ghosts I) (f : Form) (ws : List (List ℕ)) wh
       meets m turn = subst (λ (o : Option ℕ). Meets (Ok (whole_job subject members events)) (with_script subject (script_by o ws m turn))) (sym none) (refl, found)
 
   -- a subject, and the script that was read after it
-  pub asked_script : (k : ℕ) → f.script ≡ Some k → (f.source ≡ source.Number → ⊥) → (old mid new : I) (result : Exit) (subject : Subject) (job : Result Comparison Fault) → ReadsSubject i.observable f ws (i.state old) (i.state mid) (Ok subject) → IsScriptOf i (word k ws) mid new result (script_of_job job) → IfOk job (λ found. IsFound subject found.members) → IsAsked i f ws old new result (job_by subject job)
+  pub asked_script : (k : ℕ) → f.script ≡ Some k → (f.source ≡ source.Number → ⊥) → (old mid new : I) (result : Exit) (subject : Subject) (job : Result Comparison Fault) → ReadsSubject i.observable f ws (i.state old) (i.state mid) (Ok subject) → IsScriptOf i (word k ws) mid new result (script_of_job job) → IfOk job (λ found. IsFound (asked_with subject found.script) found.members) → IsAsked i f ws old new result (job_by subject job)
   asked_script k has named old mid new result subject job reads script reach = record {
     shown = λ seen. shown seen (script.shown seen);
     failed = failed;
@@ -154,7 +158,7 @@ module _ {I : Type 0} (i : Inputs.Ghosts I) (f : Form) (ws : List (List ℕ)) wh
       failed : result ≡ ReadFault → Rose (i.state old).faults (i.state new).faults
       failed is = let later : (i.state old).faults ≤ (i.state mid).faults = subject_later f i.observable ws (i.state old) (i.state mid) subject reads in let up = script.failed is in omega (arith, up)
 
-      known : (job : Result Comparison Fault) → OnErr (script_of_job job) ((script_of_job job ≡ Err Read) ⊎ (script_of_job job ≡ Err Memory)) → IfOk job (λ found. IsFound subject found.members) → IsKnown f (job_by subject job)
+      known : (job : Result Comparison Fault) → OnErr (script_of_job job) ((script_of_job job ≡ Err Read) ⊎ (script_of_job job ≡ Err Memory)) → IfOk job (λ found. IsFound (asked_with subject found.script) found.members) → IsKnown f (job_by subject job)
       known (Ok found) none reach = record {
         supported = reads.supported;
         built_in = is_chip f i.observable ws (i.state old) (i.state mid) subject reads;

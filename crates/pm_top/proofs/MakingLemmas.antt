@@ -17,7 +17,8 @@ use Rattle.pm_board.specs.Board.{Standing}
 use Rattle.pm_device.specs.declared.device.Device as Device
 use Rattle.pm_gen.specs.Script.{HasMeaning, made}
 use Rattle.pm_gen.specs.Summary.{summary}
-use Rattle.pm_run.specs.Run.{Setup}
+use Rattle.pm_object.specs.declared.object.Object.{Object}
+use Rattle.pm_topology.specs.declared.topology.Topology.{Topology}
 use Rattle.pm_script.specs.declared.meaning.LineFault.{LineFault}
 use Rattle.pm_script.specs.Meaning.{meaning}
 use Rattle.pm_script.specs.Named.{IsScript, script_in}
@@ -26,7 +27,7 @@ use Rattle.pm_script.specs.Script.Stop.{End}
 use Rattle.pm_trace.specs.declared.faults.Fault.{Fault}
 use Rattle.pm_trace.specs.Report.{Reports}
 use Rattle.pm_trace.specs.Scripts.{IsScriptOf, script_exit, script_or_fault}
-use Rattle.pm_drive.specs.Text.{run_text}
+use Rattle.pm_drive.specs.Scripts.{script_text}
 use Rattle.pm_replay.specs.Replay.{Touched}
 use Rattle.pm_replay.specs.Replayed.{IsRun, Replayed}
 use Rattle.pm_top.specs.Asked.{line_limit}
@@ -69,25 +70,25 @@ no_other n few short meant bytes same result ends done memory failed = elim ends
   ]
 ]
 
-module _ {I O D : Type 0} {i : Inputs.Ghosts I} {o : Sink.Ghosts O} {d : Device.Ghosts D} {c : Setup} {board is : Standing} {name : List ℕ} {w w' : World I O D} (n : ℕ) (few : n ≤ line_limit) (short : length (made n) ≤ 18 * (n + 1)) (meant : HasMeaning (made n)) (held : (i.state w.inputs).file name ≡ Some (file_with (made n))) (room : (i.state w.inputs).room ≡ always_room) where
+module _ {I O D : Type 0} {i : Inputs.Ghosts I} {o : Sink.Ghosts O} {d : Device.Ghosts D} {object : Object} {t : Topology} {board is : Standing} {name : List ℕ} {w w' : World I O D} (n : ℕ) (few : n ≤ line_limit) (short : length (made n) ≤ 18 * (n + 1)) (meant : HasMeaning (made n)) (held : (i.state w.inputs).file name ≡ Some (file_with (made n))) (room : (i.state w.inputs).room ≡ always_room) where
   -- on Done
-  made_whole : (text : List ℕ) → IsRun i o d c board is name w w' → (o.state w.sink).bytes ≡ [] → text ≡ summary n (o.state w'.sink).bytes → IsSummary d c board is n w.device w'.device text
+  made_whole : (text : List ℕ) → IsRun i o d object t board is name w w' → (o.state w.sink).bytes ≡ [] → text ≡ summary n (o.state w'.sink).bytes → IsSummary d object t board is n w.device w'.device text
   made_whole text run empty said =
       let same : made n ≡ run.script_bytes = subst (λ (shown : Option File). IsSomeAnd shown (λ file. file.bytes ≡ run.script_bytes)) held run.held in
       record {
         events = run.events;
         answers = run.answers;
         means = subst (λ (bytes : List ℕ). IsScript bytes run.events) (sym same) run.means;
-        said = said ∙ ap (summary n) (run.text ∙ ap (λ (bytes : List ℕ). bytes ++ run_text c board run.answers run.events) empty);
+        said = said ∙ ap (summary n) (run.text ∙ ap (λ (bytes : List ℕ). bytes ++ script_text object t board run.answers run.events) empty);
         drove = run.drove;
         tasks_left = run.tasks_left;
       }
 
   -- on every exit
-  pub made_driven : (result : Exit) → i.observable → Replayed i o d c board is name w w' result → MayBeDriven d c board is n w.device w'.device
+  pub made_driven : (result : Exit) → i.observable → Replayed i o d object t board is name w w' result → MayBeDriven d object t board is n w.device w'.device
   made_driven result seen did = by did.job did.asked did.touched
     where
-      by : (job : Result Script Fault) → IsScriptOf i name w.inputs w'.inputs result job → Touched d c board is w.device w'.device job did.answers did.cut → MayBeDriven d c board is n w.device w'.device
+      by : (job : Result Script Fault) → IsScriptOf i name w.inputs w'.inputs result job → Touched d object t board is w.device w'.device job did.answers did.cut → MayBeDriven d object t board is n w.device w'.device
       by (Err fault) asked touched = inl touched
       by (Ok s) asked touched = elim (asked.shown seen) [
         | inl memory ↦ absurd (ok_is_err memory)
@@ -102,11 +103,11 @@ module _ {I O D : Type 0} {i : Inputs.Ghosts I} {o : Sink.Ghosts O} {d : Device.
       ]
 
   -- the summary of the run, or want of memory for it
-  pub made_summary : {X E : Type 0} (items : X → List ℕ) (text : List ℕ) (found : Result X E) → IfOk found (λ lines. items lines ≡ summary n text) → text ≡ (o.state w'.sink).bytes → (o.state w.sink).bytes ≡ [] → IsRun i o d c board is name w w' → MayBeDriven d c board is n w.device w'.device → MatchResult found (λ lines. IsSummary d c board is n w.device w'.device (items lines)) (λ error. MayBeDriven d c board is n w.device w'.device)
+  pub made_summary : {X E : Type 0} (items : X → List ℕ) (text : List ℕ) (found : Result X E) → IfOk found (λ lines. items lines ≡ summary n text) → text ≡ (o.state w'.sink).bytes → (o.state w.sink).bytes ≡ [] → IsRun i o d object t board is name w w' → MayBeDriven d object t board is n w.device w'.device → MatchResult found (λ lines. IsSummary d object t board is n w.device w'.device (items lines)) (λ error. MayBeDriven d object t board is n w.device w'.device)
   made_summary items text (Ok lines) said same empty run driven = made_whole (items lines) run empty (said ∙ ap (summary n) same)
   made_summary items text (Err error) said same empty run driven = driven
 
 -- a summary that is spelled so was written
-module _ {O D : Type 0} {o : Sink.Ghosts O} {d : Device.Ghosts D} {c : Setup} {board is : Standing} {n : ℕ} {sink sink' : O} {old new : D} {result : Exit} where
-  pub summarized : (text spelled : List ℕ) → spelled ≡ text → IsSummary d c board is n old new text → Reports o (one_piece spelled) sink sink' result → Makes o d c board is n sink sink' old new result
-  summarized text spelled same made reports = inr (record { text = spelled; made = subst (IsSummary d c board is n old new) (sym same) made; reports = reports })
+module _ {O D : Type 0} {o : Sink.Ghosts O} {d : Device.Ghosts D} {object : Object} {t : Topology} {board is : Standing} {n : ℕ} {sink sink' : O} {old new : D} {result : Exit} where
+  pub summarized : (text spelled : List ℕ) → spelled ≡ text → IsSummary d object t board is n old new text → Reports o (one_piece spelled) sink sink' result → Makes o d object t board is n sink sink' old new result
+  summarized text spelled same made reports = inr (record { text = spelled; made = subst (IsSummary d object t board is n old new) (sym same) made; reports = reports })

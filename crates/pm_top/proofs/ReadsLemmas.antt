@@ -20,7 +20,6 @@ use Rattle.pm_topology.specs.Chip.{chip}
 use Rattle.pm_topology.specs.declared.topology.Topology.{Topology}
 use Rattle.pm_topofile.specs.declared.fault.TopologyError.{TopologyError}
 use Rattle.pm_topofile.specs.declared.fault.TopologyError.TheVariants.{Bad, Rule, Memory as NoRoom}
-use Rattle.pm_run.specs.Run.{Setup}
 use Rattle.pm_trace.specs.declared.faults.Fault.{Fault}
 use Rattle.pm_trace.specs.declared.faults.Fault.TheVariants as faults
 use Rattle.pm_trace.specs.Faults.{exit_by}
@@ -181,26 +180,29 @@ module _ {O : Type 0} (o : Sink.Ghosts O) (Holds : List ℕ → Type 0) (old new
       by (Some k) = cut_first (nat_lt k 1)
 
 -- the run of a script that is made
-pub made_bare : {O D : Type 0} (o : Sink.Ghosts O) (d : Device.Ghosts D) (c : Setup) (board is : Standing) (n : ℕ) (sink sink' : O) (old new : D) (due : Exit) → Makes o d c board is n sink sink' old new due → EndsBare due
-made_bare o d c board is n sink sink' old new due (inl starves) = bare o (λ text. ⊤) sink sink' due (inl starves.reports)
-made_bare o d c board is n sink sink' old new due (inr wrote) = bare o (λ text. ⊤) sink sink' due (inr (record { text = wrote.text; holds = tt; reports = wrote.reports }))
+pub made_bare : {O D : Type 0} (o : Sink.Ghosts O) (d : Device.Ghosts D) (object : Object) (t : Topology) (board is : Standing) (n : ℕ) (sink sink' : O) (old new : D) (due : Exit) → Makes o d object t board is n sink sink' old new due → EndsBare due
+made_bare o d object t board is n sink sink' old new due (inl starves) = bare o (λ text. ⊤) sink sink' due (inl starves.reports)
+made_bare o d object t board is n sink sink' old new due (inr wrote) = bare o (λ text. ⊤) sink sink' due (inr (record { text = wrote.text; holds = tt; reports = wrote.reports }))
 
 join_script : (first topology : List Named) (name : List ℕ) (due : Exit) (one two : List Call) → ReadsEach (first ++ topology) one → ReadsScript due (script_named name) two → ReadsBy due first topology (script_named name ∷ []) (one ++ two)
 join_script first topology name exit.Done one two whole reads = each_append (first ++ topology) (script_named name ∷ []) one two whole reads
 join_script first topology name exit.TooLarge one two whole reads = each_append (first ++ topology) (script_named name ∷ []) one two whole reads
 join_script first topology name exit.BadLine one two whole reads = record { one = one; two = two; is = refl; whole = whole; on = reads.0; starts = reads.1 }
-join_script first topology name exit.WriteFault one two whole reads = record { one = one; two = two; is = refl; whole = whole; on = reads.0; starts = reads.1 }
+join_script first topology name exit.WriteFault one two whole (inl reads) = inl (record { one = one; two = two; is = refl; whole = whole; on = reads.0; starts = reads.1 })
+join_script first topology name exit.WriteFault one two whole (inr reads) = inr (record { one = one; two = two; is = refl; whole = whole; fault = reads })
 join_script first topology name exit.ReadFault one two whole reads = each_fault (first ++ topology) (script_named name ∷ []) one two whole reads
-join_script first topology name exit.Memory one two whole none =
-    on_more (first ++ topology) (script_named name ∷ []) (one ++ two) (on_whole (first ++ topology) (one ++ two) (subst (λ (cs : List Call). ReadsEach (first ++ topology) cs) (sym (ap (λ (cs : List Call). one ++ cs) none ∙ append-nil one)) whole))
+join_script first topology name exit.Memory one two whole (inl none) =
+    inl (on_more (first ++ topology) (script_named name ∷ []) (one ++ two) (on_whole (first ++ topology) (one ++ two) (subst (λ (cs : List Call). ReadsEach (first ++ topology) cs) (sym (ap (λ (cs : List Call). one ++ cs) none ∙ append-nil one)) whole)))
+join_script first topology name exit.Memory one two whole (inr (inl reads)) = inl (each_on (first ++ topology) (script_named name ∷ []) one two whole reads.0)
+join_script first topology name exit.Memory one two whole (inr (inr reads)) = inr (record { one = one; two = two; is = refl; whole = whole; fault = reads })
 join_script first topology name exit.Usage one two whole reads = absurd reads
 join_script first topology name exit.BadObject one two whole reads = absurd reads
 join_script first topology name exit.BadText one two whole reads = absurd reads
 
 join_bare : (first topology : List Named) (due : Exit) (calls : List Call) → ReadsEach (first ++ topology) calls → EndsBare due → ReadsBy due first topology [] calls
 join_bare first topology exit.Done calls whole ends = subst (λ (names : List Named). ReadsEach names calls) (sym (append-nil (first ++ topology))) whole
-join_bare first topology exit.WriteFault calls whole ends = record { one = calls; two = []; is = sym (append-nil calls); whole = whole; on = ([], refl); starts = refl }
-join_bare first topology exit.Memory calls whole ends = subst (λ (names : List Named). ReadsOn names calls) (sym (append-nil (first ++ topology))) (on_whole (first ++ topology) calls whole)
+join_bare first topology exit.WriteFault calls whole ends = inl (record { one = calls; two = []; is = sym (append-nil calls); whole = whole; on = ([], refl); starts = refl })
+join_bare first topology exit.Memory calls whole ends = inl (subst (λ (names : List Named). ReadsOn names calls) (sym (append-nil (first ++ topology))) (on_whole (first ++ topology) calls whole))
 join_bare first topology exit.Usage calls whole ends = absurd ends
 join_bare first topology exit.BadObject calls whole ends = absurd ends
 join_bare first topology exit.BadLine calls whole ends = absurd ends
@@ -228,7 +230,7 @@ refusal_by (faults.TopologyText fault) first topology script calls reads = reads
 refusal_by (faults.Topology fault) first topology script calls reads = reads
 refusal_by (faults.Line n cause) first topology script calls reads = absurd reads
 refusal_by faults.Read first topology script calls reads = fault_more (first ++ topology) script calls reads
-refusal_by faults.Memory first topology script calls reads = on_more (first ++ topology) script calls reads
+refusal_by faults.Memory first topology script calls reads = inl (on_more (first ++ topology) script calls reads)
 refusal_by faults.Size first topology script calls reads = absurd reads
 refusal_by faults.Node first topology script calls reads = reads
 refusal_by faults.Number first topology script calls reads = reads

@@ -1,5 +1,5 @@
 -- Each work did its job on the subject that was read.
-use Rattle.std.proofs.Common.{◌≡◌, ℕ, ◌⊎◌, Bool, false, List, [], ◌++◌, Option, Some, None, Result, Ok, Err, refl, sym, ◌∙◌, ap, subst, inl, inr, ◌∷◌}
+use Rattle.std.proofs.Common.{◌≡◌, ℕ, ◌+◌, ◌⊎◌, Bool, false, List, [], ◌++◌, length, Option, Some, None, Result, Ok, Err, refl, sym, ◌∙◌, ap, subst, inl, inr, ◌∷◌}
 use Rattle.std.specs.Prelude.{IfSome, IsSomeAnd, is_some, unwrap_or}
 use Rattle.pm_base.specs.declared.errors.Exit.{Exit}
 use Rattle.pm_base.specs.declared.errors.Exit.TheVariants as exit
@@ -25,20 +25,22 @@ use Rattle.pm_topofile.specs.Meaning.{meaning}
 use Rattle.pm_topofile.specs.Printing.{text_of as table_of}
 use Rattle.pm_reach.specs.declared.members.Member.{Member}
 use Rattle.pm_reach.specs.Membership.{IsReach}
+use Rattle.pm_block.specs.Block.{attached_by}
+use Rattle.pm_block.proofs.BlockLaw.{length_passed}
+use Rattle.pm_reader.specs.Front.{ran}
+use Rattle.pm_state.specs.State.{objects_in}
 use Rattle.pm_trace.specs.Reach.{reach_text}
 use Rattle.pm_board.specs.Board.{Standing}
 use Rattle.pm_device.specs.Act.{Fit}
 use Rattle.pm_device.specs.declared.device.Device as Device
-use Rattle.pm_run.specs.Run.{setup}
-use Rattle.pm_drive.specs.Drive.{driven}
-use Rattle.pm_drive.specs.Text.{run_text}
+use Rattle.pm_drive.specs.Scripts.{script_text}
 use Rattle.pm_script.specs.Named.{IsScript}
-use Rattle.pm_script.specs.Script.{Script}
+use Rattle.pm_script.specs.Script.{Script, Stop}
 use Rattle.pm_trace.specs.declared.faults.Fault.{Fault}
 use Rattle.pm_trace.specs.declared.faults.Fault.TheVariants.{Memory, Read}
 use Rattle.pm_trace.specs.declared.faults.Fault.TheVariants as faults
 use Rattle.pm_trace.specs.Report.{Report, Reports, exit_of, pieces, refusal, report_of}
-use Rattle.pm_trace.specs.Scripts.{IsScriptOf}
+use Rattle.pm_trace.specs.Scripts.{IsScriptOf, fault_at}
 use Rattle.pm_replay.specs.Replay.{Touched, replay_report}
 use Rattle.pm_isolate.specs.Compared.{Comparison, IsComparisonOf, comparison_report}
 use Rattle.pm_top.specs.declared.works.Form.{Form}
@@ -46,21 +48,29 @@ use Rattle.pm_top.specs.declared.works.Work.{Work}
 use Rattle.pm_top.specs.declared.works.Work.TheVariants.{Replay, Reach, Isolate, Print, Build, Make, Table}
 use Rattle.pm_top.specs.declared.works.Source.TheVariants as source
 use Rattle.pm_top.specs.declared.reading.Subject.{Subject}
-use Rattle.pm_top.specs.Asked.{laboratory_if, lines_asked, lines_by, object_by, object_limit, script_word, text_limit}
+use Rattle.pm_top.specs.Asked.{laboratory_if, lines_asked, lines_by, no_script, object_by, object_limit, script_word, text_limit}
 use Rattle.pm_top.specs.Fit.{IsFitted, LeftBy, MayBeFitted}
 use Rattle.pm_top.specs.Form.{form_of, word}
 use Rattle.pm_top.specs.Job.{IsFound}
-use Rattle.pm_top.specs.Done.{Compares, OnlyWrites, Replays, ReplaysFitted, WorkDone, Worked, report, setup_of}
+use Rattle.pm_top.specs.Done.{Compares, OnlyWrites, Replays, ReplaysFitted, WorkDone, Worked, report}
 use Rattle.pm_top.specs.Theorem.{IsReplayed}
 use Rattle.pm_top.specs.Making.{IsSummary, Makes, Starves, Summarizes, WasDriven}
 use Rattle.pm_top.specs.Ran.{Drives, IsShown, RanForm, Touches, TouchesBy, drives}
 use Rattle.pm_top.specs.Ran.Drives.{AsItWrites, BeforeItWrites, Never}
 use Rattle.pm_top.specs.Within.{IsReachText, IsTopologyText, ReadsSubject, Takes, one_piece}
 use Rattle.pm_trace.proofs.ReadsLemmas.{refused_exit}
-use Rattle.pm_top.proofs.JobLemmas.{asked_refused, asked_script, asked_whole, job_by, starved, whole_job}
+use Rattle.pm_top.proofs.JobLemmas.{asked_refused, asked_script, asked_whole, asked_with, job_by, starved, whole_job}
 use Rattle.pm_top.proofs.SubjectLemmas.{err_is, err_is_ok, is_chip, subject_files, topology_held, unnamed, was_read}
 use Rattle.pm_top.proofs.Unread.{IsAskedFor, by_exit}
 use Rattle.pm_top.proofs.WritingLemmas.{object_end, text_end, wrote_one}
+
+-- what is written up to the line before number n + 1, and then the fault at which a script stops there, if it does
+abbrev up_to : List (List ℕ) → Stop → ℕ → Report
+up_to body stop n = record { body = body; fault = fault_at (1 + n) stop }
+
+-- a script stops in the same line as it is run
+same_stop : (body : List (List ℕ)) (s : Script) → up_to body s.stop (length (ran s).events) ≡ up_to body s.stop (length s.events)
+same_stop body s = ap (up_to body s.stop) (length_passed [] s.events)
 
 -- a script alone, as a comparison without members
 abbrev alone : Result Script Fault → Result Comparison Fault
@@ -122,7 +132,7 @@ module _ {I O D : Type 0} (i : Inputs.Ghosts I) (o : Sink.Ghosts O) (d : Device.
   subject_refused f fault reads same kept reports = refused f fault (asked_refused i f ws old new fault reads) same kept reports
 
   -- a form without a script was carried out: its text is one piece
-  one_ran : (f : Form) (subject : Subject) (members : List Member) (events : List Event) (answers : List (List Bool)) (text : List ℕ) → f.script ≡ None → ReadsSubject i.observable f ws (i.state old) (i.state new) (Ok subject) → IsFound subject members → (f.source ≡ source.Number → IsScript (made subject.lines) events) → report board f.work (whole_job subject members events) answers ≡ one_piece text → ((cut : Option ℕ) → Touches d f ws board is (IsShown i o d f ws (world old sink dev)) dev dev' (Ok (whole_job subject members events)) answers cut) → Reports o (one_piece text) sink sink' result → RanForm i o d (Some f) ws board is (world old sink dev) (world new sink' dev') result
+  one_ran : (f : Form) (subject : Subject) (members : List Member) (events : List Event) (answers : List (List Bool)) (text : List ℕ) → f.script ≡ None → ReadsSubject i.observable f ws (i.state old) (i.state new) (Ok subject) → IsFound (asked_with subject no_script) members → (f.source ≡ source.Number → IsScript (made subject.lines) events) → report board f.work (whole_job subject members events) answers ≡ one_piece text → ((cut : Option ℕ) → Touches d f ws board is (IsShown i o d f ws (world old sink dev)) dev dev' (Ok (whole_job subject members events)) answers cut) → Reports o (one_piece text) sink sink' result → RanForm i o d (Some f) ws board is (world old sink dev) (world new sink' dev') result
   one_ran f subject members events answers text none reads found making same touched reports =
       let wrote : Reports o (report board f.work (whole_job subject members events) answers) sink sink' result = subst (λ (r : Report). Reports o r sink sink' result) (sym same) reports in
       record {
@@ -138,7 +148,7 @@ module _ {I O D : Type 0} (i : Inputs.Ghosts I) (o : Sink.Ghosts O) (d : Device.
 -- what makes a text that of a job
 record IsTextOf (board : Standing) (work : Work) (subject : Subject) (text : List ℕ) : Type 0 where
   pub members : List Member
-  pub found : IsFound subject members
+  pub found : IsFound (asked_with subject no_script) members
   pub is : report board work (whole_job subject members []) [] ≡ one_piece text
 
 module _ {I O D : Type 0} (i : Inputs.Ghosts I) (o : Sink.Ghosts O) (d : Device.Ghosts D) (ws : List (List ℕ)) (board is : Standing) (old mid new : I) (sink sink' : O) (dev dev' : D) (result : Exit) where
@@ -163,23 +173,24 @@ module _ {I O D : Type 0} (i : Inputs.Ghosts I) (o : Sink.Ghosts O) (d : Device.
       may = fitted_alone d (IsShown i o d (form_of Replay named) ws (world old sink dev)) dev dev' named subject.topology start fitted
           (topology_held (form_of Replay named) i.observable ws (i.state old) (i.state mid) subject reads) same
 
-  script_ran : (named : Option ℕ) (subject : Subject) → ReadsSubject i.observable (form_of Replay named) ws (i.state old) (i.state mid) (Ok subject) → IsFound subject [] → Replays i o d named (setup_of subject) board is (word 2 ws) (world mid sink dev) (world new sink' dev') result → RanForm i o d (Some (form_of Replay named)) ws board is (world old sink dev) (world new sink' dev') result
+  script_ran : (named : Option ℕ) (subject : Subject) → ReadsSubject i.observable (form_of Replay named) ws (i.state old) (i.state mid) (Ok subject) → ((s : Script) → IsFound (asked_with subject s) []) → Replays i o d named subject.object subject.topology board is (word 2 ws) (world mid sink dev) (world new sink' dev') result → RanForm i o d (Some (form_of Replay named)) ws board is (world old sink dev) (world new sink' dev') result
   script_ran named subject reads found (inl starves) = refused i o d ws board is old new sink sink' dev dev' result (form_of Replay named) Memory (starved i (form_of Replay named) ws old new) starves.device starves.still starves.reports
   script_ran named subject reads found (inr did) = by did.ran.job did.ran.asked did.ran.left did.ran.ends did.ran.touched
     where
-      by : (job : Result Script Fault) → IsScriptOf i (word 2 ws) mid new result job → Leaves o (pieces (report_of (replay_report (setup_of subject) board) job did.ran.answers)) did.ran.cut sink sink' → result ≡ exit_of (report_of (replay_report (setup_of subject) board) job did.ran.answers) did.ran.cut → Touched d (setup_of subject) board is did.start dev' job did.ran.answers did.ran.cut → RanForm i o d (Some (form_of Replay named)) ws board is (world old sink dev) (world new sink' dev') result
-      by (Ok s) asked left ends touched = record { job = job_by subject (alone (Ok s)); answers = did.ran.answers; cut = did.ran.cut; asked = asked_script i (form_of Replay named) ws 2 refl object_is_number old mid new result subject (alone (Ok s)) reads asked found; left = left; ends = ends; touched = record { start = did.start; fitted = did.fitted; touched = touched } }
+      by : (job : Result Script Fault) → IsScriptOf i (word 2 ws) mid new result job → Leaves o (pieces (report_of (replay_report subject.object subject.topology board) job did.ran.answers)) did.ran.cut sink sink' → result ≡ exit_of (report_of (replay_report subject.object subject.topology board) job did.ran.answers) did.ran.cut → Touched d subject.object subject.topology board is did.start dev' job did.ran.answers did.ran.cut → RanForm i o d (Some (form_of Replay named)) ws board is (world old sink dev) (world new sink' dev') result
+      by (Ok s) asked left ends touched = record { job = job_by subject (alone (Ok s)); answers = did.ran.answers; cut = did.ran.cut; asked = asked_script i (form_of Replay named) ws 2 refl object_is_number old mid new result subject (alone (Ok s)) reads asked (found s); left = subst (λ (r : Report). Leaves o (pieces r) did.ran.cut sink sink') (same_stop (replay_report subject.object subject.topology board s did.ran.answers).body s) left; ends = subst (λ (r : Report). result ≡ exit_of r did.ran.cut) (same_stop (replay_report subject.object subject.topology board s did.ran.answers).body s) ends; touched = record { start = did.start; fitted = did.fitted; touched = touched } }
       by (Err fault) asked left ends touched = record { job = Err fault; answers = did.ran.answers; cut = did.ran.cut; asked = asked_script i (form_of Replay named) ws 2 refl object_is_number old mid new result subject (alone (Err fault)) reads asked tt; left = left; ends = ends; touched = (left_fitted named subject did.start fault reads did.fitted touched.0 asked.known, touched.1) }
 
-  compared_ran : (place : Option ℕ) (subject : Subject) (master : NodeId) → subject.master ≡ Some master → ReadsSubject i.observable (form_of Isolate place) ws (i.state old) (i.state mid) (Ok subject) → Compares i o d (setup_of subject) master board is (word 2 ws) (world mid sink dev) (world new sink' dev') result → RanForm i o d (Some (form_of Isolate place)) ws board is (world old sink dev) (world new sink' dev') result
+  compared_ran : (place : Option ℕ) (subject : Subject) (master : NodeId) → subject.master ≡ Some master → ReadsSubject i.observable (form_of Isolate place) ws (i.state old) (i.state mid) (Ok subject) → Compares i o d subject.object subject.topology master board is (word 2 ws) (world mid sink dev) (world new sink' dev') result → RanForm i o d (Some (form_of Isolate place)) ws board is (world old sink dev) (world new sink' dev') result
   compared_ran place subject master named reads did = by did.ran.job did.ran.asked did.ran.left did.ran.ends
     where
-      by : (job : Result Comparison Fault) → IsComparisonOf i (setup_of subject) master (word 2 ws) mid new result job → Leaves o (pieces (report_of (comparison_report (setup_of subject) master) job did.ran.answers)) did.ran.cut sink sink' → result ≡ exit_of (report_of (comparison_report (setup_of subject) master) job did.ran.answers) did.ran.cut → RanForm i o d (Some (form_of Isolate place)) ws board is (world old sink dev) (world new sink' dev') result
+      by : (job : Result Comparison Fault) → IsComparisonOf i subject.object subject.topology master (word 2 ws) mid new result job → Leaves o (pieces (report_of (comparison_report subject.object subject.topology master) job did.ran.answers)) did.ran.cut sink sink' → result ≡ exit_of (report_of (comparison_report subject.object subject.topology master) job did.ran.answers) did.ran.cut → RanForm i o d (Some (form_of Isolate place)) ws board is (world old sink dev) (world new sink' dev') result
       by (Ok found) asked left ends =
-          let P : Option NodeId → Type 0 = λ named. Leaves o (pieces (comparison_report (setup_of subject) (unwrap_or named (record { 0 = 0 })) found did.ran.answers)) did.ran.cut sink sink' in
-          let Q : Option NodeId → Type 0 = λ named. result ≡ exit_of (comparison_report (setup_of subject) (unwrap_or named (record { 0 = 0 })) found did.ran.answers) did.ran.cut in
-          let reach : IsFound subject found.members = subst (λ (named : Option NodeId). IfSome named (λ master. IsReach (subject.object ∷ []) subject.topology master found.members)) (sym named) asked.reach in
-          record { job = job_by subject (Ok found); answers = did.ran.answers; cut = did.ran.cut; asked = asked_script i (form_of Isolate place) ws 2 refl object_is_number old mid new result subject (Ok found) reads asked.script reach; left = subst P (sym named) left; ends = subst Q (sym named) ends; touched = (did.device, did.still) }
+          let P : Option NodeId → Type 0 = λ named. Leaves o (pieces (comparison_report subject.object subject.topology (unwrap_or named (record { 0 = 0 })) found did.ran.answers)) did.ran.cut sink sink' in
+          let Q : Option NodeId → Type 0 = λ named. result ≡ exit_of (comparison_report subject.object subject.topology (unwrap_or named (record { 0 = 0 })) found did.ran.answers) did.ran.cut in
+          let same = same_stop (comparison_report subject.object subject.topology (unwrap_or subject.master (record { 0 = 0 })) found did.ran.answers).body found.script in
+          let reach : IsFound (asked_with subject found.script) found.members = subst (λ (named : Option NodeId). IfSome named (λ master. IsReach (objects_in subject.object (attached_by found.script.events)) subject.topology master found.members)) (sym named) asked.reach in
+          record { job = job_by subject (Ok found); answers = did.ran.answers; cut = did.ran.cut; asked = asked_script i (form_of Isolate place) ws 2 refl object_is_number old mid new result subject (Ok found) reads asked.script reach; left = subst (λ (r : Report). Leaves o (pieces r) did.ran.cut sink sink') same (subst P (sym named) left); ends = subst (λ (r : Report). result ≡ exit_of r did.ran.cut) same (subst Q (sym named) ends); touched = (did.device, did.still) }
       by (Err fault) asked left ends = record { job = Err fault; answers = did.ran.answers; cut = did.ran.cut; asked = asked_script i (form_of Isolate place) ws 2 refl object_is_number old mid new result subject (Err fault) reads asked.script tt; left = left; ends = ends; touched = (did.device, did.still) }
 
   -- what was made of a number of lines
@@ -192,7 +203,7 @@ module _ {I O D : Type 0} (i : Inputs.Ghosts I) (o : Sink.Ghosts O) (d : Device.
   of_lines subject reads = record { object = reads.says; topology = is_chip (form_of Make None) i.observable ws (i.state old) (i.state mid) subject reads; lines = (was_read (form_of Make None) ws reads.prefix reads.topology subject reads.is).lines }
 
   -- a script that is made was run before its summary was written, or memory is wanted
-  made_ran : (subject : Subject) → ReadsSubject i.observable (form_of Make None) ws (i.state old) (i.state mid) (Ok subject) → Makes o d (setup_of subject) board is subject.lines sink sink' dev dev' result → mid ≡ new → RanForm i o d (Some (form_of Make None)) ws board is (world old sink dev) (world new sink' dev') result
+  made_ran : (subject : Subject) → ReadsSubject i.observable (form_of Make None) ws (i.state old) (i.state mid) (Ok subject) → Makes o d subject.object subject.topology board is subject.lines sink sink' dev dev' result → mid ≡ new → RanForm i o d (Some (form_of Make None)) ws board is (world old sink dev) (world new sink' dev') result
   made_ran subject reads did same = elim did [
     | inl starves ↦ late starves
     | inr wrote ↦
@@ -202,7 +213,7 @@ module _ {I O D : Type 0} (i : Inputs.Ghosts I) (o : Sink.Ghosts O) (d : Device.
         (λ number. wrote.made.means) (ap one_piece (sym wrote.made.said)) (λ cut. (wrote.made.drove, wrote.made.tasks_left)) wrote.reports
   ]
     where
-      late : Starves o d (setup_of subject) board is subject.lines sink sink' dev dev' result → RanForm i o d (Some (form_of Make None)) ws board is (world old sink dev) (world new sink' dev') result
+      late : Starves o d subject.object subject.topology board is subject.lines sink sink' dev dev' result → RanForm i o d (Some (form_of Make None)) ws board is (world old sink dev) (world new sink' dev') result
       late starves = record {
         job = Err Memory;
         answers = [];
@@ -214,25 +225,25 @@ module _ {I O D : Type 0} (i : Inputs.Ghosts I) (o : Sink.Ghosts O) (d : Device.
           | inl idle ↦ inl idle
           | inr driven ↦ inr (
             refl,
-            subst (λ (n : ℕ). WasDriven d (setup laboratory chip) board is n dev dev') (of_lines subject reads).lines
-                (subst (λ (topology : Topology). WasDriven d (setup laboratory topology) board is subject.lines dev dev') (of_lines subject reads).topology
-                (subst (λ (object : Object). WasDriven d (setup object subject.topology) board is subject.lines dev dev') (of_lines subject reads).object driven)),
+            subst (λ (n : ℕ). WasDriven d laboratory chip board is n dev dev') (of_lines subject reads).lines
+                (subst (λ (topology : Topology). WasDriven d laboratory topology board is subject.lines dev dev') (of_lines subject reads).topology
+                (subst (λ (object : Object). WasDriven d object subject.topology board is subject.lines dev dev') (of_lines subject reads).object driven)),
           )
         ];
       }
 
   -- a form without a master has no reach
-  none_found : (f : Form) (subject : Subject) → is_some f.node ≡ false → ReadsSubject i.observable f ws (i.state old) (i.state mid) (Ok subject) → IsFound subject []
-  none_found f subject none reads = unnamed (λ master. IsReach (subject.object ∷ []) subject.topology master []) subject.master ((was_read f ws reads.prefix reads.topology subject reads.is).named ∙ none)
+  none_found : (f : Form) (subject : Subject) → is_some f.node ≡ false → ReadsSubject i.observable f ws (i.state old) (i.state mid) (Ok subject) → (s : Script) → IsFound (asked_with subject s) []
+  none_found f subject none reads s = unnamed (λ master. IsReach (objects_in subject.object (attached_by s.events)) subject.topology master []) subject.master ((was_read f ws reads.prefix reads.topology subject reads.is).named ∙ none)
 
   pub worked_ran : (work : Work) (named : Option ℕ) (subject : Subject) → ReadsSubject i.observable (form_of work named) ws (i.state old) (i.state mid) (Ok subject) → Worked i o d work named subject board is (script_word (form_of work named).script ws) (world mid sink dev) (world new sink' dev') result → RanForm i o d (Some (form_of work named)) ws board is (world old sink dev) (world new sink' dev') result
   worked_ran Replay named subject reads did = script_ran named subject reads (none_found (form_of Replay named) subject refl reads) did
   worked_ran Reach named subject reads did = only_ran (form_of Reach named) subject (IsReachText subject.object subject.topology did.0) (λ text made. record { members = made.members; found = subst (λ (named : Option NodeId). IfSome named (λ master. IsReach (subject.object ∷ []) subject.topology master made.members)) (sym did.1) made.reach; is = ap one_piece (sym made.is) }) refl refl object_is_number reads did.2
   worked_ran Isolate named subject reads did = compared_ran named subject did.0 did.1 reads did.2
-  worked_ran Print named subject reads did = only_ran (form_of Print named) subject (λ text. text ≡ text_of subject.object) (λ text made. record { members = []; found = none_found (form_of Print named) subject refl reads; is = ap one_piece (sym made) }) refl refl object_is_number reads did
-  worked_ran Build named subject reads did = only_ran (form_of Build named) subject (λ bytes. Reads bytes subject.object) (λ bytes made. record { members = []; found = none_found (form_of Build named) subject refl reads; is = ap one_piece (sym made.spelling) }) refl refl text_is_number reads did
+  worked_ran Print named subject reads did = only_ran (form_of Print named) subject (λ text. text ≡ text_of subject.object) (λ text made. record { members = []; found = none_found (form_of Print named) subject refl reads no_script; is = ap one_piece (sym made) }) refl refl object_is_number reads did
+  worked_ran Build named subject reads did = only_ran (form_of Build named) subject (λ bytes. Reads bytes subject.object) (λ bytes made. record { members = []; found = none_found (form_of Build named) subject refl reads no_script; is = ap one_piece (sym made.spelling) }) refl refl text_is_number reads did
   worked_ran Make named subject reads did = made_ran subject reads did.0 did.1
-  worked_ran Table named subject reads did = only_ran (form_of Table named) subject (IsTopologyText subject.topology) (λ text made. record { members = []; found = none_found (form_of Table named) subject refl reads; is = ap one_piece (sym made.is) }) refl refl nothing_is_number reads did
+  worked_ran Table named subject reads did = only_ran (form_of Table named) subject (IsTopologyText subject.topology) (λ text made. record { members = []; found = none_found (form_of Table named) subject refl reads no_script; is = ap one_piece (sym made.is) }) refl refl nothing_is_number reads did
 
 -- ---- what Done means
 
@@ -272,7 +283,7 @@ module _ {I O D : Type 0} (i : Inputs.Ghosts I) (o : Sink.Ghosts O) (d : Device.
   asked_lines None object is = absurd (err_is_ok is)
   asked_lines (Some n) object is = refl
 
-  made_done : (subject : Subject) → ReadsSubject i.observable (form_of Make None) ws (i.state old) (i.state mid) (Ok subject) → Makes o d (setup_of subject) board is subject.lines sink sink' dev dev' result → WorkDone i o d Make None ws board is (world old sink dev) (world new sink' dev')
+  made_done : (subject : Subject) → ReadsSubject i.observable (form_of Make None) ws (i.state old) (i.state mid) (Ok subject) → Makes o d subject.object subject.topology board is subject.lines sink sink' dev dev' result → WorkDone i o d Make None ws board is (world old sink dev) (world new sink' dev')
   made_done subject reads did = elim did [
     | inl starves ↦ let clash : exit.Done ≡ exit.Memory = sym done ∙ starves.reports.ends ∙ refused_exit Memory starves.reports.cut in absurd (done_is_memory clash)
     | inr wrote ↦ whole wrote
@@ -281,20 +292,20 @@ module _ {I O D : Type 0} (i : Inputs.Ghosts I) (o : Sink.Ghosts O) (d : Device.
       done_is_memory : exit.Done ≡ exit.Memory → ⊥
       done_is_memory e = cc
 
-      whole : Summarizes o d (setup_of subject) board is subject.lines sink sink' dev dev' result → WorkDone i o d Make None ws board is (world old sink dev) (world new sink' dev')
+      whole : Summarizes o d subject.object subject.topology board is subject.lines sink sink' dev dev' result → WorkDone i o d Make None ws board is (world old sink dev) (world new sink' dev')
       whole wrote =
           let known = was_read (form_of Make None) ws reads.prefix reads.topology subject reads.is in
           let lines : lines_asked (word 1 ws) ≡ Some (unwrap_or (lines_asked (word 1 ws)) 0) = subst (λ (p : Prefix). lines_asked p.bytes ≡ Some (unwrap_or (lines_asked p.bytes) 0)) reads.read.0 (asked_lines (lines_asked reads.prefix.bytes) subject.object known.object) in
-          let text : IsSummary d (setup laboratory chip) board is (unwrap_or (lines_asked (word 1 ws)) 0) dev dev' wrote.text = subst (λ (n : ℕ). IsSummary d (setup laboratory chip) board is n dev dev' wrote.text) known.lines
-          (subst (λ (topology : Topology). IsSummary d (setup laboratory topology) board is subject.lines dev dev' wrote.text) (is_chip (form_of Make None) i.observable ws (i.state old) (i.state mid) subject reads)
-          (subst (λ (object : Object). IsSummary d (setup object subject.topology) board is subject.lines dev dev' wrote.text) reads.says wrote.made)) in
+          let text : IsSummary d laboratory chip board is (unwrap_or (lines_asked (word 1 ws)) 0) dev dev' wrote.text = subst (λ (n : ℕ). IsSummary d laboratory chip board is n dev dev' wrote.text) known.lines
+          (subst (λ (topology : Topology). IsSummary d laboratory topology board is subject.lines dev dev' wrote.text) (is_chip (form_of Make None) i.observable ws (i.state old) (i.state mid) subject reads)
+          (subst (λ (object : Object). IsSummary d object subject.topology board is subject.lines dev dev' wrote.text) reads.says wrote.made)) in
           record {
             n = unwrap_or (lines_asked (word 1 ws)) 0;
             events = text.events;
             answers = text.answers;
             asked = lines;
             means = text.means;
-            text = after wrote.text (summary (unwrap_or (lines_asked (word 1 ws)) 0) (run_text (setup laboratory chip) board text.answers text.events)) text.said ((wrote_one o wrote.text sink sink' result wrote.reports done).appended written);
+            text = after wrote.text (summary (unwrap_or (lines_asked (word 1 ws)) 0) (script_text laboratory chip board text.answers text.events)) text.said ((wrote_one o wrote.text sink sink' result wrote.reports done).appended written);
             drove = text.drove;
             tasks_left = text.tasks_left;
           }
@@ -308,7 +319,7 @@ module _ {I O D : Type 0} (i : Inputs.Ghosts I) (o : Sink.Ghosts O) (d : Device.
       done_is_memory : exit.Done ≡ exit.Memory → ⊥
       done_is_memory e = cc
 
-      ran : ReplaysFitted i o d named (setup_of subject) board is (word 2 ws) (world mid sink dev) (world new sink' dev') result → IsReplayed i o d named ws board is (world old sink dev) (world new sink' dev')
+      ran : ReplaysFitted i o d named subject.object subject.topology board is (word 2 ws) (world mid sink dev) (world new sink' dev') result → IsReplayed i o d named ws board is (world old sink dev) (world new sink' dev')
       ran fits =
           let f : Form = form_of Replay named in
           let run = fits.done seen written done in

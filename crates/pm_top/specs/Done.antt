@@ -18,11 +18,10 @@ use Rattle.pm_reach.specs.declared.members.Member.{Member}
 use Rattle.pm_reach.specs.Membership.{IsReach}
 use Rattle.pm_device.specs.declared.device.Device as Device
 use Rattle.pm_script.specs.Named.{IsScript}
-use Rattle.pm_drive.specs.Drive.{driven}
 use Rattle.pm_drive.specs.Drove.{Drove}
 use Rattle.pm_board.specs.Board.{Standing}
 use Rattle.pm_drive.specs.Heard.{last_board}
-use Rattle.pm_drive.specs.Text.{run_text}
+use Rattle.pm_drive.specs.Scripts.{script_driven, script_text}
 use Rattle.pm_gen.specs.Laboratory.{laboratory}
 use Rattle.pm_gen.specs.Script.{made}
 use Rattle.pm_gen.specs.Summary.{summary}
@@ -30,7 +29,10 @@ use Rattle.pm_trace.specs.Reach.{reach_text}
 use Rattle.pm_isolate.specs.Differences.{isolate_text}
 use Rattle.pm_isolate.specs.Listed.{AreListed}
 use Rattle.pm_base.specs.Inputs.{Holds}
-use Rattle.pm_run.specs.Run.{Setup, setup}
+use Rattle.pm_block.specs.Block.{attached_by, passed}
+use Rattle.pm_state.specs.State.{objects_in}
+use Rattle.pm_reader.specs.Front.{ran}
+use Rattle.pm_run.specs.Run.{setup_for}
 use Rattle.pm_base.specs.World.{World, world}
 use Rattle.pm_replay.specs.Replay.{replay_report}
 use Rattle.pm_replay.specs.Replayed.{IsRun, Replayed}
@@ -57,20 +59,17 @@ use Rattle.pm_top.specs.Within.{IsReachText, IsTopologyText, Writes}
 abbrev pub no_master : NodeId
 no_master = record { 0 = 0 }
 
--- the setup of a subject
-abbrev pub setup_of : Subject → Setup
-setup_of subject = setup subject.object subject.topology
-
 -- the pieces that a work writes of its job, where there is a board, under the device's answers
 abbrev pub body_of : Standing → Work → Job → List (List Bool) → List (List ℕ)
-body_of board Replay job answers = (replay_report (setup_of job.asked.subject) board job.asked.script answers).body
+body_of board Replay job answers = (replay_report job.asked.subject.object job.asked.subject.topology board job.asked.script answers).body
 body_of board Reach job answers = reach_text job.members ∷ []
 body_of board Isolate job answers =
-    (isolate_report (setup_of job.asked.subject) (unwrap_or job.asked.subject.master no_master) job.members job.asked.script).body
+    (isolate_report (setup_for job.asked.subject.object job.asked.subject.topology job.asked.script.events)
+    (unwrap_or job.asked.subject.master no_master) job.members (ran job.asked.script)).body
 body_of board Print job answers = text_of job.asked.subject.object ∷ []
 body_of board Build job answers = little_endian (words_of job.asked.subject.object) ∷ []
 body_of board Make job answers =
-    summary job.asked.subject.lines (run_text (setup_of job.asked.subject) board answers job.events) ∷ []
+    summary job.asked.subject.lines (script_text job.asked.subject.object job.asked.subject.topology board answers job.events) ∷ []
 body_of board Table job answers = table_of job.asked.subject.topology ∷ []
 
 -- and then the fault at which its script stops, if it does
@@ -116,9 +115,9 @@ module _ {I O : Type 0} (i : Inputs.Ghosts I) (o : Sink.Ghosts O) where
     pub reads : Reads object_bytes object
     pub means : IsScript script_bytes events
     pub master_named : master_of object (word 3 ws) ≡ Some master
-    pub reach : IsReach (object ∷ []) topology master members
-    pub text : (o.state new).bytes ≡ (o.state old).bytes ++ isolate_text (setup object topology) master members events
-    pub listed : AreListed (setup object topology) master members events
+    pub reach : IsReach (objects_in object (attached_by events)) topology master members
+    pub text : (o.state new).bytes ≡ (o.state old).bytes ++ isolate_text (setup_for object topology events) master members (passed events)
+    pub listed : AreListed (setup_for object topology events) master members (passed events)
 
   -- an object was held under the name, and its text was written
   pub record IsPrinted (ws : List (List ℕ)) (inputs : I) (old new : O) : Type 0 where
@@ -152,9 +151,9 @@ module _ {O D : Type 0} (o : Sink.Ghosts O) (d : Device.Ghosts D) where
     pub answers : List (List Bool)
     pub asked : lines_asked (word 1 ws) ≡ Some n
     pub means : IsScript (made n) events
-    pub text : (o.state sink').bytes ≡ (o.state sink).bytes ++ summary n (run_text (setup laboratory chip) board answers events)
-    pub drove : Drove d (setup laboratory chip) (driven (setup laboratory chip) answers events) device device'
-    pub tasks_left : is ≡ last_board board (driven (setup laboratory chip) answers events)
+    pub text : (o.state sink').bytes ≡ (o.state sink).bytes ++ summary n (script_text laboratory chip board answers events)
+    pub drove : Drove d (setup_for laboratory chip events) (script_driven laboratory chip answers events) device device'
+    pub tasks_left : is ≡ last_board board (script_driven laboratory chip answers events)
 
 module _ {I O D : Type 0} (i : Inputs.Ghosts I) (o : Sink.Ghosts O) (d : Device.Ghosts D) where
   -- what a work asks for was done. A replay and a run that is made drive the device and call tasks, and nothing else touches them
@@ -186,9 +185,9 @@ module _ {I O D : Type 0} (i : Inputs.Ghosts I) (o : Sink.Ghosts O) (d : Device.
     pub still : board ≡ is
 
   -- two runs were compared, without the device and the tasks
-  pub record Compares (c : Setup) (master : NodeId) (board is : Standing) (name : List ℕ) (w w' : World I O D) (exit : Exit) : Type 0 where
-    pub ran : Compared i o c master name w.inputs w'.inputs w.sink w'.sink exit
-    pub done : i.observable → o.observable → exit ≡ Done → IsCompared i o c master name w.inputs w.sink w'.sink
+  pub record Compares (object : Object) (t : Topology) (master : NodeId) (board is : Standing) (name : List ℕ) (w w' : World I O D) (exit : Exit) : Type 0 where
+    pub ran : Compared i o object t master name w.inputs w'.inputs w.sink w'.sink exit
+    pub done : i.observable → o.observable → exit ≡ Done → IsCompared i o object t master name w.inputs w.sink w'.sink
     pub device : w.device ≡ w'.device
     pub still : board ≡ is
 
@@ -200,27 +199,27 @@ module _ {I O D : Type 0} (i : Inputs.Ghosts I) (o : Sink.Ghosts O) (d : Device.
     pub still : board ≡ is
 
   -- a device was fitted if a word names a topology, and then a script was run
-  pub record ReplaysFitted (named : Option ℕ) (c : Setup) (board is : Standing) (name : List ℕ) (w w' : World I O D) (exit : Exit) : Type 0 where
+  pub record ReplaysFitted (named : Option ℕ) (object : Object) (t : Topology) (board is : Standing) (name : List ℕ) (w w' : World I O D) (exit : Exit) : Type 0 where
     pub start : D
-    pub fitted : IsFitted d named c.topology w.device start
-    pub ran : Replayed i o d c board is name (world w.inputs w.sink start) w' exit
-    pub done : i.observable → o.observable → exit ≡ Done → IsRun i o d c board is name (world w.inputs w.sink start) w'
+    pub fitted : IsFitted d named t w.device start
+    pub ran : Replayed i o d object t board is name (world w.inputs w.sink start) w' exit
+    pub done : i.observable → o.observable → exit ≡ Done → IsRun i o d object t board is name (world w.inputs w.sink start) w'
 
   -- the same, or memory was wanted for the fit
-  abbrev pub Replays : Option ℕ → Setup → Standing → Standing → List ℕ → World I O D → World I O D → Exit → Type 0
-  Replays named c board is name w w' exit = Starved board is w w' exit ⊎ ReplaysFitted named c board is name w w' exit
+  abbrev pub Replays : Option ℕ → Object → Topology → Standing → Standing → List ℕ → World I O D → World I O D → Exit → Type 0
+  Replays named object t board is name w w' exit = Starved board is w w' exit ⊎ ReplaysFitted named object t board is name w w' exit
 
   -- what is done for the master of a subject
   abbrev pub ForMaster : Subject → (NodeId → Type 0) → Type 0
   ForMaster subject Does = (master : NodeId) × (subject.master ≡ Some master) × Does master
 
   abbrev pub Worked : Work → Option ℕ → Subject → Standing → Standing → List ℕ → World I O D → World I O D → Exit → Type 0
-  Worked Replay named subject board is name w w' exit = Replays named (setup_of subject) board is name w w' exit
+  Worked Replay named subject board is name w w' exit = Replays named subject.object subject.topology board is name w w' exit
   Worked Reach named subject board is name w w' exit =
       ForMaster subject (λ master. OnlyWrites (IsReachText subject.object subject.topology master) board is w w' exit)
-  Worked Isolate named subject board is name w w' exit = ForMaster subject (λ master. Compares (setup_of subject) master board is name w w' exit)
+  Worked Isolate named subject board is name w w' exit = ForMaster subject (λ master. Compares subject.object subject.topology master board is name w w' exit)
   Worked Print named subject board is name w w' exit = OnlyWrites (λ text. text ≡ text_of subject.object) board is w w' exit
   Worked Build named subject board is name w w' exit = OnlyWrites (λ bytes. Reads bytes subject.object) board is w w' exit
   Worked Make named subject board is name w w' exit =
-      Makes o d (setup_of subject) board is subject.lines w.sink w'.sink w.device w'.device exit × (w.inputs ≡ w'.inputs)
+      Makes o d subject.object subject.topology board is subject.lines w.sink w'.sink w.device w'.device exit × (w.inputs ≡ w'.inputs)
   Worked Table named subject board is name w w' exit = OnlyWrites (IsTopologyText subject.topology) board is w w' exit

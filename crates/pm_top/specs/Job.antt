@@ -1,6 +1,6 @@
 -- What a form has to do: what it asks for, what the master can reach, and the events of a script that is made; or the fault that
 -- refuses it.
-use Rattle.std.specs.Prelude.{◌≡◌, ℕ, ◌⊎◌, is_some, List, IfNone, IfSome, IsSome, Result, Ok, Err, ⊤, [], ◌∷◌}
+use Rattle.std.specs.Prelude.{◌≡◌, ℕ, ◌⊎◌, is_some, List, IfNone, IfSome, IsSome, Result, Ok, Err, ⊤}
 use Rattle.pm_base.specs.Faults.{Rose}
 use Rattle.pm_base.specs.declared.errors.Exit.{Exit}
 use Rattle.pm_base.specs.declared.errors.Exit.TheVariants.{ReadFault}
@@ -12,12 +12,13 @@ use Rattle.pm_topology.specs.Chip.{chip}
 use Rattle.pm_topology.specs.WellFormed.{IsSupported}
 use Rattle.pm_reach.specs.declared.members.Member.{Member}
 use Rattle.pm_reach.specs.Membership.{IsReach}
+use Rattle.pm_block.specs.Block.{attached_by}
+use Rattle.pm_state.specs.State.{objects_in}
 use Rattle.pm_script.specs.Named.{IsScript}
 use Rattle.pm_trace.specs.declared.faults.Fault.{Fault}
 use Rattle.pm_trace.specs.declared.faults.Fault.TheVariants.{Object as BadObject, Text as BadText, Topology as BadTopology, TopologyText, Line, Memory, Node, Number, Read, Size, Usage}
 use Rattle.pm_top.specs.declared.works.Form.{Form}
 use Rattle.pm_top.specs.declared.works.Source.TheVariants as source
-use Rattle.pm_top.specs.declared.reading.Subject.{Subject}
 use Rattle.pm_top.specs.Asked.{Asked, Begins, asked_of, no_script}
 
 -- what is asked for, the members of the reach of its master, where there is one, and the events of a script that is made
@@ -26,14 +27,16 @@ pub record Job : Type 0 where
   pub members : List Member
   pub events : List Event
 
--- what the master of a subject can reach on its topology, where it has one
-abbrev pub IsFound : Subject → List Member → Type 0
-IsFound subject members =
-    IfSome subject.master (λ master. IsReach (subject.object ∷ []) subject.topology master members)
+-- what the master of a subject can reach on its topology, where it has one: by the loaded object, and by each one that the first
+-- lines of a script attach which can be put in force
+abbrev pub IsFound : Asked → List Member → Type 0
+IsFound asked members =
+    IfSome asked.subject.master
+    (λ master. IsReach (objects_in asked.subject.object (attached_by asked.script.events)) asked.subject.topology master members)
 
 -- a job does what is asked for, or is refused for the same fault
 abbrev pub Meets : Result Job Fault → Result Asked Fault → Type 0
-Meets (Ok job) (Ok asked) = (job.asked ≡ asked) × IsFound job.asked.subject job.members
+Meets (Ok job) (Ok asked) = (job.asked ≡ asked) × IsFound job.asked job.members
 Meets (Ok job) (Err due) = ⊥
 Meets (Err fault) (Ok asked) = ⊥
 Meets (Err fault) (Err due) = fault ≡ due
@@ -57,13 +60,13 @@ IsFaultOf f (Line n cause) = ⊥
 IsFaultOf f Size = ⊥
 
 -- a job is one of the form: its topology keeps all rules, and is the chip's where no word names one; it has a master where a word
--- names one, whose reach is over that topology, a script where a word names one, and the events of the lines that are made where
+-- names one, whose reach is over that topology and the objects of the run, a script where a word names one, and the events of the lines that are made where
 -- a word is their number
 pub record IsOf (f : Form) (job : Job) : Type 0 where
   pub supported : IsSupported job.asked.subject.topology
   pub built_in : IfNone f.topology (job.asked.subject.topology ≡ chip)
   pub named : is_some job.asked.subject.master ≡ is_some f.node
-  pub reach : IsFound job.asked.subject job.members
+  pub reach : IsFound job.asked job.members
   pub unread : IfNone f.script (job.asked.script ≡ no_script)
   pub made : f.source ≡ source.Number → IsScript (made job.asked.subject.lines) job.events
 

@@ -12,7 +12,6 @@ use Rattle.pm_topology.specs.Chip.{chip}
 use Rattle.pm_topology.specs.declared.topology.Topology.{Topology}
 use Rattle.pm_topology.specs.WellFormed.{IsWellFormed}
 use Rattle.pm_device.specs.declared.device.Device as Device
-use Rattle.pm_drive.specs.Drive.{driven}
 use Rattle.pm_drive.specs.Drove.{Drove}
 use Rattle.pm_board.specs.Board.{Standing}
 use Rattle.pm_drive.specs.Heard.{last_board}
@@ -26,7 +25,8 @@ use Rattle.pm_trace.specs.Report.{Did, Report}
 use Rattle.pm_trace.specs.Scripts.{fault_at}
 use Rattle.pm_replay.specs.Replay.{Touched}
 use Rattle.pm_replay.specs.Replayed.{AnswersHaveCauses, ClocksFollow, LinesServe, LowersCalls, RunsKeepApart, TellsCalls}
-use Rattle.pm_run.specs.Run.{setup}
+use Rattle.pm_drive.specs.Scripts.{script_driven}
+use Rattle.pm_run.specs.Run.{setup_for}
 use Rattle.pm_base.specs.World.{World}
 use Rattle.pm_top.specs.declared.works.Form.{Form}
 use Rattle.pm_top.specs.declared.works.Source.{Source}
@@ -37,7 +37,7 @@ use Rattle.pm_top.specs.Fit.{HoldsTopology, IsFitted, LeftBy}
 use Rattle.pm_top.specs.Form.{form, word}
 use Rattle.pm_top.specs.Asked.{Asked, Begins, asked_of, lines_by, object_limit, script_turn, text_limit, topology_limit}
 use Rattle.pm_top.specs.Job.{IsAsked, Job}
-use Rattle.pm_top.specs.Done.{report, setup_of}
+use Rattle.pm_top.specs.Done.{report}
 use Rattle.pm_top.specs.Making.{WasDriven}
 
 -- ---- what was done
@@ -58,7 +58,7 @@ module _ {D : Type 0} (d : Device.Ghosts D) where
   pub record FitsAndDrives (named : Option ℕ) (board is : Standing) (job : Job) (answers : List (List Bool)) (cut : Option ℕ) (old new : D) : Type 0 where
     pub start : D
     pub fitted : IsFitted d named job.asked.subject.topology old start
-    pub touched : Touched d (setup_of job.asked.subject) board is start new (Ok job.asked.script) answers cut
+    pub touched : Touched d job.asked.subject.object job.asked.subject.topology board is start new (Ok job.asked.script) answers cut
 
   -- what is done to the device and to the tasks under these answers, up to the cut: it is driven through the steps of the script, after it was
   -- fitted if a word names a topology; or through all those of a script of so many lines that is made, or some of them where
@@ -67,10 +67,11 @@ module _ {D : Type 0} (d : Device.Ghosts D) where
   TouchesBy AsItWrites named board is Named n old new (Ok job) answers cut = FitsAndDrives named board is job answers cut old new
   TouchesBy AsItWrites named board is Named n old new (Err fault) answers cut = LeftBy d fault named Named old new × (board ≡ is)
   TouchesBy BeforeItWrites named board is Named n old new (Ok job) answers cut =
-      Drove d (setup_of job.asked.subject) (driven (setup_of job.asked.subject) answers job.events) old new
-      × (is ≡ last_board board (driven (setup_of job.asked.subject) answers job.events))
+      Drove d (setup_for job.asked.subject.object job.asked.subject.topology job.events)
+      (script_driven job.asked.subject.object job.asked.subject.topology answers job.events) old new
+      × (is ≡ last_board board (script_driven job.asked.subject.object job.asked.subject.topology answers job.events))
   TouchesBy BeforeItWrites named board is Named n old new (Err fault) answers cut =
-      ((old ≡ new) × (board ≡ is)) ⊎ ((fault ≡ Memory) × WasDriven d (setup laboratory chip) board is n old new)
+      ((old ≡ new) × (board ≡ is)) ⊎ ((fault ≡ Memory) × WasDriven d laboratory chip board is n old new)
   TouchesBy Never named board is Named n old new job answers cut = (old ≡ new) × (board ≡ is)
 
   -- the same by the work of a form, and the number of lines and the topology that its words ask for
@@ -110,7 +111,7 @@ module _ {D : Type 0} (d : Device.Ghosts D) where
     pub start : D
     pub formed : IsWellFormed topology
     pub fitted : IsFitted d named topology old start
-    pub drove : Drove d (setup object topology) (driven (setup object topology) answers events) start new
+    pub drove : Drove d (setup_for object topology events) (script_driven object topology answers events) start new
 
 -- ---- what is known of each run
 
@@ -119,29 +120,29 @@ module _ {D : Type 0} (d : Device.Ghosts D) where
 abbrev pub EachKeepsApart : {D : Type 0} → Device.Ghosts D → D → Type 0
 EachKeepsApart {D} d new =
     (object : Object) (topology : Topology) (start : D)
-    → IsObject object → IsWellFormed topology → RunsKeepApart d (setup object topology) start new
+    → IsObject object → IsWellFormed topology → RunsKeepApart d object topology start new
 
 -- over whichever object and topology: each answer has its causes in the book before its step
 abbrev pub EachHasCauses : Type 0
-EachHasCauses = (object : Object) (topology : Topology) → AnswersHaveCauses (setup object topology)
+EachHasCauses = (object : Object) (topology : Topology) → AnswersHaveCauses object topology
 
 -- over whichever object and topology: each line that serves sends the messages in all boxes, and leaves them empty
 abbrev pub EachEmptiesBoxes : Type 0
-EachEmptiesBoxes = (object : Object) (topology : Topology) → IsObject object → LinesServe (setup object topology)
+EachEmptiesBoxes = (object : Object) (topology : Topology) → IsObject object → LinesServe object topology
 
 -- over whichever object and topology: the line of a power call is the run of the events that it is lowered to, and so is a script
 abbrev pub EachLowersCalls : Type 0
-EachLowersCalls = (object : Object) (topology : Topology) → LowersCalls (setup object topology)
+EachLowersCalls = (object : Object) (topology : Topology) → LowersCalls object topology
 
 -- over whichever object and topology, of the modules and the tasks that a run begins with: each line tells exactly the calls of
 -- tasks that are due in it, and a task that is stored before and after was called as often as lines tell it
 abbrev pub EachTellsCalls : Standing → Type 0
-EachTellsCalls board = (object : Object) (topology : Topology) → TellsCalls (setup object topology) board
+EachTellsCalls board = (object : Object) (topology : Topology) → TellsCalls object topology board
 
 -- over whichever object and topology: at the load and after each core step the clocks follow the book, and each runs exactly where it is a
 -- root whose slave is in a state other than 0, or a master enables it and the parent that is chosen for it runs
 abbrev pub EachFollowsClocks : Type 0
-EachFollowsClocks = (object : Object) (topology : Topology) → ClocksFollow (setup object topology)
+EachFollowsClocks = (object : Object) (topology : Topology) → ClocksFollow object topology
 
 -- ---- what the exits mean
 

@@ -1,5 +1,5 @@
 -- Which names a run begins, in which order, and how far it reads each.
-use Rattle.std.specs.Prelude.{◌≡◌, ℕ, List, [], ◌∷◌, ◌++◌, map, Option, Some, None, Result, Ok, Err, ⊤}
+use Rattle.std.specs.Prelude.{◌≡◌, ◌⊎◌, ℕ, List, [], ◌∷◌, ◌++◌, map, Option, Some, None, Result, Ok, Err, ⊤}
 use Rattle.pm_base.specs.declared.errors.Exit.{Exit}
 use Rattle.pm_base.specs.declared.errors.Exit.TheVariants as exit
 use Rattle.pm_base.specs.Calls.{Call, Named, ReadsEach, ReadsOn, ReadsToFault, begun, named}
@@ -85,14 +85,26 @@ pub record ReadsPart (first second : List Named) (calls : List Call) : Type 0 wh
   pub on : ReadsOn second two
   pub starts : begun two ≡ map (λ n. n.name) second
 
--- the calls of a run that reads a first name, a topology and a script, where there are such, by its exit
+-- the first names are read whole, and then the others up to a call that failed
+pub record ReadsPartToFault (first second : List Named) (calls : List Call) : Type 0 where
+  pub one : List Call
+  pub two : List Call
+  pub is : calls ≡ one ++ two
+  pub whole : ReadsEach first one
+  pub fault : ReadsToFault second two
+
+-- the calls of a run that reads a first name, a topology and a script, where there are such, by its exit. What comes after
+-- the first lines of a script is read before they are run, so a read of it may have failed where the sink breaks off or
+-- memory is wanted
 abbrev pub ReadsBy : Exit → List Named → List Named → List Named → List Call → Type 0
 ReadsBy exit.Done first topology script calls = ReadsEach ((first ++ topology) ++ script) calls
 ReadsBy exit.TooLarge first topology script calls = ReadsEach ((first ++ topology) ++ script) calls
 ReadsBy exit.BadLine first topology script calls = ReadsPart (first ++ topology) script calls
-ReadsBy exit.WriteFault first topology script calls = ReadsPart (first ++ topology) script calls
+ReadsBy exit.WriteFault first topology script calls =
+    ReadsPart (first ++ topology) script calls ⊎ ReadsPartToFault (first ++ topology) script calls
 ReadsBy exit.ReadFault first topology script calls = ReadsToFault ((first ++ topology) ++ script) calls
-ReadsBy exit.Memory first topology script calls = ReadsOn ((first ++ topology) ++ script) calls
+ReadsBy exit.Memory first topology script calls =
+    ReadsOn ((first ++ topology) ++ script) calls ⊎ ReadsPartToFault (first ++ topology) script calls
 ReadsBy exit.BadObject first topology script calls = ReadsEach first calls
 ReadsBy exit.BadText first topology script calls = ReadsEach (first ++ topology) calls
 ReadsBy exit.Usage first topology script calls = ⊥

@@ -10,17 +10,17 @@ use Rattle.pm_object.specs.Grammar.{Reads}
 use Rattle.pm_topology.specs.declared.topology.Topology.{Topology}
 use Rattle.pm_device.specs.declared.device.Device as Device
 use Rattle.pm_script.specs.Named.{IsScript}
-use Rattle.pm_drive.specs.Drive.{driven}
 use Rattle.pm_drive.specs.Drove.{Drove}
 use Rattle.pm_board.specs.Board.{Standing}
 use Rattle.pm_drive.specs.Heard.{last_board}
-use Rattle.pm_drive.specs.Text.{run_text}
-use Rattle.pm_run.specs.Run.{setup}
+use Rattle.pm_drive.specs.Scripts.{script_driven, script_text}
+use Rattle.pm_run.specs.Run.{setup_for}
 use Rattle.pm_top.specs.Fit.{HoldsTopology, IsFitted}
 use Rattle.pm_top.specs.Form.{word}
 
 -- An object and a script were held under the two names, and under a third, where it is named, the text of a topology; else that is
--- the chip's. The whole text of the run of the script over the object and that topology was written, under the device's answers,
+-- the chip's. The whole text of the run of the script over the object and that topology, with what the script's first lines attach,
+-- was written, under the device's answers,
 -- with what the modules say and the calls of the tasks that are due, and the device was driven through that run; where the topology
 -- is named it was fitted to it before. The tasks are left as the run leaves them.
 pub record IsReplayed {I O D : Type 0} (i : Inputs.Ghosts I) (o : Sink.Ghosts O) (d : Device.Ghosts D) (named : Option ℕ) (ws : List (List ℕ)) (board is : Standing) (w w' : World I O D) : Type 0 where
@@ -36,7 +36,7 @@ pub record IsReplayed {I O D : Type 0} (i : Inputs.Ghosts I) (o : Sink.Ghosts O)
   pub script_held : Holds (i.state w.inputs) (word 2 ws) script_bytes
   pub reads : Reads object_bytes object
   pub means : IsScript script_bytes events
-  pub text : (o.state w'.sink).bytes ≡ (o.state w.sink).bytes ++ run_text (setup object topology) board answers events
+  pub text : (o.state w'.sink).bytes ≡ (o.state w.sink).bytes ++ script_text object topology board answers events
   pub fitted : IsFitted d named topology w.device start
-  pub drove : Drove d (setup object topology) (driven (setup object topology) answers events) start w'.device
-  pub tasks_left : is ≡ last_board board (driven (setup object topology) answers events)
+  pub drove : Drove d (setup_for object topology events) (script_driven object topology answers events) start w'.device
+  pub tasks_left : is ≡ last_board board (script_driven object topology answers events)

@@ -1,13 +1,13 @@
 //! A script of so many lines is made and run over the laboratory's object, and the summary of its run is written.
 
-ghost use Rattle.std.specs.Prelude.{◌≡◌, ◌⊎◌, ◌≤◌, IfOk, MatchResult};
+ghost use Rattle.std.specs.Prelude.{◌≡◌, ◌⊎◌, ◌≤◌, ◌+◌, ◌*◌, [], None, length, IfOk, MatchResult};
 ghost use Rattle.pm_base.specs.declared.names.Unit.{Unit};
 ghost use Rattle.pm_gen.specs.Laboratory.{laboratory};
+ghost use Rattle.pm_gen.specs.Script.{HasMeaning, made};
 ghost use Rattle.pm_object.specs.Grammar.{IsObject};
 ghost use Rattle.pm_topology.specs.WellFormed.{IsWellFormed};
 ghost use Rattle.pm_board.specs.Standing.{standing};
 ghost use Rattle.pm_replay.specs.Safe.{IsSafe};
-ghost use Rattle.pm_run.specs.Run.{setup};
 ghost use Rattle.pm_top.specs.Asked.{laboratory_for, line_limit, lines_asked, lines_by};
 ghost use Rattle.pm_top.specs.Making.{IsSummary, Makes, MayBeDriven};
 
@@ -85,7 +85,7 @@ pub(crate) fn make_over<O: Sink, D: Device, H: Responder, T: Handler>(
     requires few { lines ≤ line_limit }
     requires idle { D.values_observable → (unit : Unit) → (D.state dev.old).value unit ≡ 0 }
     ensures safe { IsSafe D.Device topology dev.old dev.new }
-    ensures made { Makes O.Sink D.Device (setup object topology)
+    ensures made { Makes O.Sink D.Device object topology
         (standing H.Responder T.Handler board.old.modules.now board.old.tasks)
         (standing H.Responder T.Handler board.old.modules.now board.new.tasks)
         lines out.old out.new dev.old dev.new result }
@@ -94,6 +94,19 @@ pub(crate) fn make_over<O: Sink, D: Device, H: Responder, T: Handler>(
         Ok(summary) => write_whole(summary.as_slice(), out),
         Err(NoMemory) => refuse(Fault::Memory, out),
     }
+}
+
+/// The script of so many lines as an input, and an empty sink for the text of its run.
+fn script_and_sink(alloc: Global, lines: u32) -> Result<(OneInput, MemSink), NoMemory>
+    ensures script { IfOk result (λ both. both.0 ≡ record { bytes = made lines; place = None; calls = [] }) }
+    ensures meant { IfOk result (λ _. HasMeaning (made lines)) }
+    ensures short { IfOk result (λ _. length (made lines) ≤ 18 * (lines + 1)) }
+    ensures sink { IfOk result (λ both. both.1 ≡ record { bytes = []; room = None; faults = 0 }) }
+{
+    let script = make(alloc, lines)?;
+    let inputs = OneInput::new(alloc, script.as_slice())?;
+    let text = MemSink::new(alloc, None)?;
+    Ok((inputs, text))
 }
 
 /// The summary of the run of a script that is made, over an object and a topology. The run's text is kept in memory, so
@@ -113,29 +126,33 @@ fn run_made<D: Device, H: Responder, T: Handler>(
     requires idle { D.values_observable → (unit : Unit) → (D.state dev.old).value unit ≡ 0 }
     ensures safe { IsSafe D.Device topology dev.old dev.new }
     ensures made { MatchResult result
-        (λ summary. IsSummary D.Device (setup object topology)
+        (λ summary. IsSummary D.Device object topology
         (standing H.Responder T.Handler board.old.modules.now board.old.tasks)
         (standing H.Responder T.Handler board.old.modules.now board.new.tasks) lines dev.old dev.new summary.items)
-        (λ _. MayBeDriven D.Device (setup object topology)
+        (λ _. MayBeDriven D.Device object topology
         (standing H.Responder T.Handler board.old.modules.now board.old.tasks)
         (standing H.Responder T.Handler board.old.modules.now board.new.tasks) lines dev.old dev.new) }
 {
-    let script = make(alloc, lines)?;
-    let mut inputs = OneInput::new(alloc, script.as_slice())?;
-    let mut text = MemSink::new(alloc, None)?;
-    match replay(
-        alloc,
-        object,
-        topology,
-        &mut inputs,
-        "script",
-        &mut text,
-        dev,
-        board.modules,
-        &mut board.tasks,
-    ) {
-        Exit::Done => summary_of(alloc, lines, text.bytes()),
-        Exit::Memory | Exit::WriteFault => Err(NoMemory),
-        _ => unreachable!(),
+    match script_and_sink(alloc, lines) {
+        Ok((mut inputs, mut text)) => match replay(
+            alloc,
+            object,
+            topology,
+            &mut inputs,
+            "script",
+            &mut text,
+            dev,
+            board.modules,
+            &mut board.tasks,
+        ) {
+            Exit::Done => summary_of(alloc, lines, text.bytes()),
+            Exit::Memory | Exit::WriteFault => Err(NoMemory),
+            _ => unreachable!(),
+        },
+        Err(NoMemory) => {
+            drop(object);
+            drop(topology);
+            Err(NoMemory)
+        }
     }
 }

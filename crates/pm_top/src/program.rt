@@ -20,6 +20,7 @@ use crate::reading::{read_subject, script_word};
 use crate::works::{Request, do_work, form_of, request_of};
 use pm_apart::driven_runs_keep_apart;
 use pm_base::{Exit, Inputs, Sink};
+use pm_block::attached_objects_are_formed;
 use pm_board::Board;
 use pm_causes::runs_have_causes;
 use pm_device::Device;
@@ -132,6 +133,7 @@ pub fn pm_main<I: Inputs, O: Sink, D: Device, H: Responder, T: Handler>(
     exits_say::<O>();
     driven_runs_keep_apart::<D>();
     runs_have_causes();
+    attached_objects_are_formed();
     boxes_of_a_run();
     power_calls_are_their_events();
     scripts_are_lowered();

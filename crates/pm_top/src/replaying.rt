@@ -8,7 +8,6 @@ ghost use Rattle.pm_object.specs.Grammar.{IsObject};
 ghost use Rattle.pm_topology.specs.Chip.{chip};
 ghost use Rattle.pm_topology.specs.WellFormed.{IsWellFormed};
 ghost use Rattle.pm_board.specs.Standing.{standing};
-ghost use Rattle.pm_run.specs.Run.{setup};
 ghost use Rattle.pm_top.specs.Done.{Replays};
 ghost use Rattle.pm_top.specs.Fit.{IsSafeRun};
 ghost use Rattle.pm_trace.specs.Scripts.{ReadsScript, script_named};
@@ -41,7 +40,7 @@ pub(crate) fn replay_over<I: Inputs, O: Sink, D: Device, H: Responder, T: Handle
     requires formed { IsWellFormed topology }
     requires built_in { IfNone named (topology ≡ chip) }
     requires idle { D.values_observable → (unit : Unit) → (D.state dev.old).value unit ≡ 0 }
-    ensures did { Replays I.Inputs O.Sink D.Device named (setup object topology)
+    ensures did { Replays I.Inputs O.Sink D.Device named object topology
         (standing H.Responder T.Handler board.old.modules.now board.old.tasks)
         (standing H.Responder T.Handler board.old.modules.now board.new.tasks)
         script.now (world inputs.old out.old dev.old) (world inputs.new out.new dev.new) result }
@@ -81,7 +80,7 @@ fn replay_fitted<I: Inputs, O: Sink, D: Device, H: Responder, T: Handler>(
     requires object { IsObject object }
     requires formed { IsWellFormed topology }
     requires idle { D.values_observable → (unit : Unit) → (D.state dev.old).value unit ≡ 0 }
-    ensures did { Replays I.Inputs O.Sink D.Device (Some place) (setup object topology)
+    ensures did { Replays I.Inputs O.Sink D.Device (Some place) object topology
         (standing H.Responder T.Handler board.old.modules.now board.old.tasks)
         (standing H.Responder T.Handler board.old.modules.now board.new.tasks)
         script.now (world inputs.old out.old dev.old) (world inputs.new out.new dev.new) result }
@@ -101,6 +100,10 @@ fn replay_fitted<I: Inputs, O: Sink, D: Device, H: Responder, T: Handler>(
             board.modules,
             &mut board.tasks,
         ),
-        Err(NoMemory) => refuse(Fault::Memory, out),
+        Err(NoMemory) => {
+            drop(object);
+            drop(topology);
+            refuse(Fault::Memory, out)
+        }
     }
 }

@@ -236,13 +236,17 @@ pub(crate) fn do_work<I: Inputs, O: Sink, D: Device, H: Responder, T: Handler>(
             dev,
             board,
         ),
-        Work::Reach => write_reach(
-            alloc,
-            &subject.object,
-            &subject.topology,
-            subject.master.unwrap(),
-            out,
-        ),
+        Work::Reach => {
+            let exit = write_reach(
+                alloc,
+                &subject.object,
+                &subject.topology,
+                subject.master.unwrap(),
+                out,
+            );
+            drop(subject);
+            exit
+        }
         Work::Isolate => compare(
             alloc,
             subject.object,
@@ -252,8 +256,16 @@ pub(crate) fn do_work<I: Inputs, O: Sink, D: Device, H: Responder, T: Handler>(
             script,
             out,
         ),
-        Work::Print => print_object(alloc, &subject.object, out),
-        Work::Build => build_object(alloc, &subject.object, out),
+        Work::Print => {
+            let exit = print_object(alloc, &subject.object, out);
+            drop(subject);
+            exit
+        }
+        Work::Build => {
+            let exit = build_object(alloc, &subject.object, out);
+            drop(subject);
+            exit
+        }
         Work::Make => make_over(
             alloc,
             subject.object,
@@ -263,6 +275,10 @@ pub(crate) fn do_work<I: Inputs, O: Sink, D: Device, H: Responder, T: Handler>(
             dev,
             board,
         ),
-        Work::Table => write_table(alloc, &subject.topology, out),
+        Work::Table => {
+            let exit = write_table(alloc, &subject.topology, out);
+            drop(subject);
+            exit
+        }
     }
 }

@@ -11,7 +11,6 @@ use Rattle.pm_base.specs.declared.errors.Exit.TheVariants as exit
 use Rattle.pm_base.specs.declared.prefix.StopReason.{StopReason}
 use Rattle.pm_base.specs.declared.prefix.StopReason.TheVariants as reason
 use Rattle.pm_base.specs.declared.sink.Sink as Sink
-use Rattle.pm_base.proofs.CallsLemmas.{can_end}
 use Rattle.pm_base.proofs.ReadingsLemmas.{begun_up_to, meanwhile_map, meanwhile_none, name_to_fault, name_unbegun, name_up_to, one_name, then_read}
 use Rattle.pm_script.specs.Script.{script_limit, stop_of}
 use Rattle.pm_trace.specs.declared.faults.Fault.{Fault}
@@ -59,7 +58,7 @@ up_to_whole id left calls reads = ([], subst (λ (cs : List Call). GoesOn id lef
 
 left_read : (stop : StopReason) (due : Exit) (id : ℕ) → EndsAfter stop due → (calls : List Call) → LeftReadBy stop id (script_limit + 1) calls → ReadsBegun due id calls
 left_read reason.End due id (inl is) calls reads = subst (λ (e : Exit). ReadsBegun e id calls) (sym is) reads
-left_read reason.End due id (inr is) calls reads = subst (λ (e : Exit). ReadsBegun e id calls) (sym is) (up_to_whole id (script_limit + 1) calls reads)
+left_read reason.End due id (inr is) calls reads = subst (λ (e : Exit). ReadsBegun e id calls) (sym is) (inl (up_to_whole id (script_limit + 1) calls reads))
 left_read reason.Limit due id is calls reads = subst (λ (e : Exit). ReadsBegun e id calls) (sym is) reads
 left_read reason.Failure due id is calls reads = subst (λ (e : Exit). ReadsBegun e id calls) (sym is) reads
 left_read reason.Unbegun due id is calls reads = absurd reads
@@ -75,9 +74,10 @@ pub reads_bad : {O : Type 0} (o : Sink.Ghosts O) (fault : Fault) (old new : O) (
 reads_bad o fault old new result id before after bad reports reads =
     subst (λ (e : Exit). Meanwhile before after (ReadsBegun e id)) (sym (refused o fault old new result reports ∙ bad)) reads
 
--- nothing is read yet
-pub reads_cut : (id : ℕ) (m : Moment) → Meanwhile m m (ReadsBegun exit.WriteFault id)
-reads_cut id m = meanwhile_none m (ReadsBegun exit.WriteFault id) (can_end id (script_limit + 1) false)
+-- memory is wanted after the first lines were read
+pub reads_starved : {O : Type 0} (o : Sink.Ghosts O) (old new : O) (result : Exit) (id : ℕ) (before after : Moment) → Reports o (refusal Memory) old new result → Meanwhile before after (ReadsBegun exit.Memory id) → Meanwhile before after (ReadsBegun result id)
+reads_starved o old new result id before after reports reads =
+    subst (λ (e : Exit). Meanwhile before after (ReadsBegun e id)) (sym (refused o Memory old new result reports)) reads
 
 -- ---- a script is begun, and then read
 
@@ -90,8 +90,10 @@ module _ (name : List ℕ) (id : ℕ) where
   by_exit exit.TooLarge calls reads = one_name (script_named name) id calls reads
   by_exit exit.ReadFault calls reads = name_to_fault (script_named name) id calls reads
   by_exit exit.BadLine calls reads = begun_is calls reads
-  by_exit exit.WriteFault calls reads = begun_is calls reads
-  by_exit exit.Memory calls reads = absurd reads
+  by_exit exit.WriteFault calls (inl reads) = inl (begun_is calls reads)
+  by_exit exit.WriteFault calls (inr reads) = inr (name_to_fault (script_named name) id calls reads)
+  by_exit exit.Memory calls (inl reads) = inr (inl (begun_is calls reads))
+  by_exit exit.Memory calls (inr reads) = inr (inr (name_to_fault (script_named name) id calls reads))
   by_exit exit.Usage calls reads = absurd reads
   by_exit exit.BadObject calls reads = absurd reads
   by_exit exit.BadText calls reads = absurd reads
@@ -104,7 +106,7 @@ pub script_not_begun : {O : Type 0} (o : Sink.Ghosts O) (name : List ℕ) (old n
 script_not_begun o name old new result before after reports adds =
     subst (λ (e : Exit). Meanwhile before after (ReadsScript e (script_named name))) (sym (refused o Read old new result reports)) (name_unbegun (script_named name) before after adds)
 
--- memory was wanted before
+-- memory was wanted before it was begun
 pub script_starved : {O : Type 0} (o : Sink.Ghosts O) (n : Named) (old new : O) (result : Exit) (m : Moment) → Reports o (refusal Memory) old new result → Meanwhile m m (ReadsScript result n)
 script_starved o n old new result m reports =
-    subst (λ (e : Exit). Meanwhile m m (ReadsScript e n)) (sym (refused o Memory old new result reports)) (meanwhile_none m (ReadsScript exit.Memory n) refl)
+    subst (λ (e : Exit). Meanwhile m m (ReadsScript e n)) (sym (refused o Memory old new result reports)) (meanwhile_none m (ReadsScript exit.Memory n) (inl refl))

@@ -4,8 +4,7 @@ use Rattle.pm_base.specs.declared.errors.Exit.{Exit}
 use Rattle.pm_base.specs.declared.errors.Exit.TheVariants as exit
 use Rattle.pm_trace.specs.declared.faults.Fault.{Fault}
 use Rattle.pm_trace.specs.declared.faults.Fault.TheVariants.{Usage, Object, Text, TopologyText, Topology, Line, Read, Memory, Size, Node, Number}
-use Rattle.pm_object.specs.declared.object.ObjectCause.{ObjectCause}
-use Rattle.pm_object.specs.declared.object.ObjectCause.TheVariants as objects
+use Rattle.pm_object.specs.Causes.{cause_number}
 use Rattle.pm_objtext.specs.declared.fault.TextCause.{TextCause}
 use Rattle.pm_objtext.specs.declared.fault.TextCause.TheVariants as texts
 use Rattle.pm_topofile.specs.declared.fault.TopoTextCause.{TopoTextCause}
@@ -17,21 +16,6 @@ use Rattle.pm_script.specs.declared.meaning.LineFault.TheVariants as lines
 use Rattle.pm_trace.specs.declared.line.Word.{Word}
 use Rattle.pm_trace.specs.declared.line.Word.TheVariants as word
 use Rattle.pm_trace.specs.Line.{line_text}
-
--- the number of a cause for which an object has no reading
-abbrev pub object_cause : ObjectCause → ℕ
-object_cause objects.Length = 1
-object_cause objects.TooLong = 2
-object_cause objects.Truncated = 3
-object_cause objects.HeaderShort = 4
-object_cause objects.BadType = 5
-object_cause objects.UnknownSection = 6
-object_cause objects.RepeatedSection = 7
-object_cause objects.NoMasters = 8
-object_cause objects.BadMaster = 9
-object_cause objects.MaskRepeated = 10
-object_cause objects.RepeatedNode = 11
-object_cause objects.Trailing = 12
 
 -- the number of a cause for which a text has no reading
 abbrev pub text_cause : TextCause → ℕ
@@ -71,7 +55,7 @@ line_cause lines.NotAscii = 5
 -- what a fault is called, with its place
 abbrev pub fault_words : Fault → List Word
 fault_words Usage = word.Name (codes "usage") ∷ []
-fault_words (Object fault) = word.Name (codes "object") ∷ word.Number (object_cause fault.cause) ∷ word.Number fault.offset ∷ []
+fault_words (Object fault) = word.Name (codes "object") ∷ word.Number (cause_number fault.cause) ∷ word.Number fault.offset ∷ []
 fault_words (Text fault) = word.Name (codes "text") ∷ word.Number fault.line ∷ word.Number (text_cause fault.cause) ∷ []
 fault_words (TopologyText fault) =
     word.Name (codes "text") ∷ word.Number fault.line ∷ word.Number (topology_text_cause fault.cause) ∷ []

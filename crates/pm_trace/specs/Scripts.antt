@@ -49,14 +49,15 @@ abbrev pub script_named : List ℕ → Named
 script_named name = named name script_limit
 
 -- the calls after a script was begun under a number, by the exit: all of it is read; or up to a read that failed; or up
--- to somewhere, if a line has no meaning or the sink breaks off
+-- to somewhere, if a line has no meaning; or either of these, if the sink breaks off or memory is wanted, since what comes
+-- after its first lines is read before they are run
 abbrev pub ReadsBegun : Exit → ℕ → List Call → Type 0
 ReadsBegun exit.Done id calls = GoesOn id (script_limit + 1) false calls
 ReadsBegun exit.TooLarge id calls = GoesOn id (script_limit + 1) false calls
 ReadsBegun exit.ReadFault id calls = GoesToFault id (script_limit + 1) false calls
 ReadsBegun exit.BadLine id calls = GoesUpTo id (script_limit + 1) false calls
-ReadsBegun exit.WriteFault id calls = GoesUpTo id (script_limit + 1) false calls
-ReadsBegun exit.Memory id calls = ⊥
+ReadsBegun exit.WriteFault id calls = GoesUpTo id (script_limit + 1) false calls ⊎ GoesToFault id (script_limit + 1) false calls
+ReadsBegun exit.Memory id calls = GoesUpTo id (script_limit + 1) false calls ⊎ GoesToFault id (script_limit + 1) false calls
 ReadsBegun exit.Usage id calls = ⊥
 ReadsBegun exit.BadObject id calls = ⊥
 ReadsBegun exit.BadText id calls = ⊥
@@ -65,15 +66,19 @@ ReadsBegun exit.BadText id calls = ⊥
 abbrev pub IsBegun : Named → List Call → Type 0
 IsBegun n calls = ReadsOn (n ∷ []) calls × (begun calls ≡ n.name ∷ [])
 
+-- the same, or up to a read that failed
+abbrev pub BreaksOff : Named → List Call → Type 0
+BreaksOff n calls = IsBegun n calls ⊎ ReadsToFault (n ∷ []) calls
+
 -- the calls of a reading of a named script, by the exit: it is read whole; or up to a call that failed; or begun, and read
--- up to somewhere; or memory was wanted before
+-- up to somewhere; or either of these, if the sink breaks off or memory is wanted, unless memory was wanted before
 abbrev pub ReadsScript : Exit → Named → List Call → Type 0
 ReadsScript exit.Done n calls = ReadsEach (n ∷ []) calls
 ReadsScript exit.TooLarge n calls = ReadsEach (n ∷ []) calls
 ReadsScript exit.ReadFault n calls = ReadsToFault (n ∷ []) calls
 ReadsScript exit.BadLine n calls = IsBegun n calls
-ReadsScript exit.WriteFault n calls = IsBegun n calls
-ReadsScript exit.Memory n calls = calls ≡ []
+ReadsScript exit.WriteFault n calls = BreaksOff n calls
+ReadsScript exit.Memory n calls = (calls ≡ []) ⊎ BreaksOff n calls
 ReadsScript exit.Usage n calls = ⊥
 ReadsScript exit.BadObject n calls = ⊥
 ReadsScript exit.BadText n calls = ⊥

@@ -1,11 +1,11 @@
 //! The line that a command ends with where it fails, and the exit.
 
 ghost use Rattle.std.specs.Prelude.{◌≡◌};
-ghost use Rattle.pm_trace.specs.Faults.{fault_text, object_cause, text_cause, topology_text_cause, topology_cause, line_cause, exit_by};
+ghost use Rattle.pm_trace.specs.Faults.{fault_text, text_cause, topology_text_cause, topology_cause, line_cause, exit_by};
 
 use crate::line::{TextLine, Word, name, write_line};
 use pm_base::Exit;
-use pm_object::{ObjectCause, ObjectFault};
+use pm_object::ObjectFault;
 use pm_objtext::{TextCause, TextFault};
 use pm_script::LineFault;
 use pm_topofile::{TopoTextCause, TopoTextFault};
@@ -49,7 +49,7 @@ pub fn write_fault(fault: Fault, line: &mut TextLine)
             name(b"fault"),
             &[
                 name(b"object"),
-                Word::Number(object_cause(fault.cause)),
+                Word::Number(fault.cause.number()),
                 Word::Number(fault.offset),
             ],
         ),
@@ -95,13 +95,6 @@ pub fn write_fault(fault: Fault, line: &mut TextLine)
         Fault::Node => write_line(line, name(b"fault"), &[name(b"node")]),
         Fault::Number => write_line(line, name(b"fault"), &[name(b"number")]),
     }
-}
-
-/// The number of a cause for which an object has no reading.
-fn object_cause(cause: ObjectCause) -> u32
-    ensures { result ≡ object_cause cause }
-{
-    cause as u32
 }
 
 /// The number of a cause for which a text has no reading.

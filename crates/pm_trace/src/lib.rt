@@ -15,7 +15,7 @@ pub use closing_table::{clock_closing, closing, unit_name};
 pub use exits::exits_say;
 pub use faults::{Fault, exit, write_fault};
 pub use line::{TextLine, Word, name, write_line};
-pub use notes::{busy_line, call_line, clock_line, no_task_line, task_line};
+pub use notes::{busy_line, call_line, clock_line, late_line, no_task_line, task_line};
 pub use reach::reach_text;
 pub use report::refuse;
 pub use step::{StepLine, entries, entry};

@@ -1,7 +1,7 @@
 //! The lines that a script line writes itself.
 
 ghost use Rattle.std.specs.Prelude.{◌≡◌};
-ghost use Rattle.pm_split.specs.Split.Note.{Busy, Called, Clock, Fired, NoTask};
+ghost use Rattle.pm_split.specs.Split.Note.{Busy, Called, Clock, Fired, Late, NoTask};
 ghost use Rattle.pm_trace.specs.Notes.{bit, note_line};
 
 use crate::line::{TextLine, Word, name, write_line};
@@ -49,6 +49,17 @@ pub fn task_line(n: u32, key: u64, at: u64, told: u32, line: &mut TextLine)
             Word::Address(at),
             Word::Number(told),
         ],
+    );
+}
+
+/// Leaves in `line` the line of script line `n` that attaches words at an address and comes too late.
+pub fn late_line(n: u32, address: u32, line: &mut TextLine)
+    ensures { line.new.items ≡ note_line n (Late address) }
+{
+    write_line(
+        line,
+        Word::Number(n),
+        &[name(b"late"), Word::Number(address)],
     );
 }
 

@@ -17,8 +17,7 @@ use Rattle.pm_script.specs.Named.{IsScript}
 use Rattle.pm_modules.specs.Ranges.{Ranged}
 use Rattle.pm_tasks.specs.Timetable.{Timetable, empty}
 use Rattle.pm_board.specs.Board.{Standing}
-use Rattle.pm_run.specs.Run.{setup}
-use Rattle.pm_drive.specs.Text.{run_text}
+use Rattle.pm_drive.specs.Scripts.{script_text}
 use Rattle.pm_replay.specs.Replayed.{IsRun}
 use Rattle.pm_whole_run.specs.Run.{Ends, WasRunOver, exit_due, no_board}
 
@@ -34,7 +33,7 @@ one_holds held content is = ap (λ (h : OneContent). Some (file_with h.bytes)) i
 module _ {I O D : Type 0} (i : Inputs.Ghosts I) (o : Sink.Ghosts O) (d : Device.Ghosts D) where
   chip_run : (object : Object) (is : Standing) (name script : List ℕ) (w w' : World I O D)
       → (i.state w.inputs).file name ≡ Some (file_with script) → (o.state w.sink).bytes ≡ [] → IsFresh chip (d.state w.device)
-      → IsRun i o d (setup object chip) no_board is name w w' → WasRunOver d object script (o.state w'.sink).bytes
+      → IsRun i o d object chip no_board is name w w' → WasRunOver d object script (o.state w'.sink).bytes
   chip_run object is name script w w' held none fresh run =
       let is_held : script ≡ run.script_bytes = subst (λ (f : Option File). IsSomeAnd f (λ file. file.bytes ≡ run.script_bytes)) held run.held in
       record {
@@ -45,17 +44,17 @@ module _ {I O D : Type 0} (i : Inputs.Ghosts I) (o : Sink.Ghosts O) (d : Device.
         means = subst (λ (b : List ℕ). IsScript b run.events) (sym is_held) run.means;
         fresh = fresh;
         drove = run.drove;
-        whole = run.text ∙ ap (λ (b : List ℕ). b ++ run_text (setup object chip) no_board run.answers run.events) none;
+        whole = run.text ∙ ap (λ (b : List ℕ). b ++ script_text object chip no_board run.answers run.events) none;
       }
 
   pub was_run : (object : Object) (topology : Topology) (board is : Standing) (name script : List ℕ) (w w' : World I O D)
       → topology ≡ chip → board ≡ no_board → (i.state w.inputs).file name ≡ Some (file_with script) → (o.state w.sink).bytes ≡ []
       → IsFresh topology (d.state w.device)
-      → IsRun i o d (setup object topology) board is name w w' → WasRunOver d object script (o.state w'.sink).bytes
+      → IsRun i o d object topology board is name w w' → WasRunOver d object script (o.state w'.sink).bytes
   was_run object topology board is name script w w' over with_none held none fresh run =
       chip_run object is name script w w' held none (subst (λ (t : Topology). IsFresh t (d.state w.device)) over fresh)
-      (subst (λ (b : Standing). IsRun i o d (setup object chip) b is name w w') with_none
-      (subst (λ (t : Topology). IsRun i o d (setup object t) board is name w w') over run))
+      (subst (λ (b : Standing). IsRun i o d object chip b is name w w') with_none
+      (subst (λ (t : Topology). IsRun i o d object t board is name w w') over run))
 
 -- what the input holds decides how a run ends
 pub ends_by : {X : Type 0} (held : OneContent) (script : List ℕ) (result : Exit)

@@ -15,10 +15,9 @@ use Rattle.pm_script.specs.Script.{script_limit, script_of}
 use Rattle.pm_trace.specs.Scripts.{script_exit, script_or_fault}
 use Rattle.pm_board.specs.Board.{Standing}
 use Rattle.pm_tasks.specs.Timetable.{empty}
-use Rattle.pm_run.specs.Run.{setup}
-use Rattle.pm_drive.specs.Drive.{driven}
+use Rattle.pm_drive.specs.Scripts.{script_driven, script_text}
+use Rattle.pm_run.specs.Run.{setup_for}
 use Rattle.pm_drive.specs.Drove.{Drove}
-use Rattle.pm_drive.specs.Text.{run_text}
 
 -- no modules, and no timed tasks
 abbrev pub no_board : Standing
@@ -33,8 +32,8 @@ pub record WasRunOver {D : Type 0} (d : Device.Ghosts D) (object : Object) (scri
   pub after : D
   pub means : IsScript script_bytes events
   pub fresh : IsFresh chip (d.state before)
-  pub drove : Drove d (setup object chip) (driven (setup object chip) answers events) before after
-  pub whole : text ≡ run_text (setup object chip) no_board answers events
+  pub drove : Drove d (setup_for object chip events) (script_driven object chip answers events) before after
+  pub whole : text ≡ script_text object chip no_board answers events
 
 -- the same, where the object is that of these bytes
 abbrev pub WasRun : {D : Type 0} → Device.Ghosts D → List ℕ → List ℕ → List ℕ → Type 0

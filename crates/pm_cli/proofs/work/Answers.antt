@@ -1,8 +1,8 @@
 use Rattle.std.proofs.Common.{◌≡◌, List, inl, inr, sym, ◌∙◌}
 use Rattle.pm_base.specs.declared.errors.Exit.TheVariants as exit
 use Rattle.pm_device.specs.Act.{Act}
-use Rattle.pm_run.specs.Run.{setup}
-use Rattle.pm_drive.specs.Drive.{acts, driven}
+use Rattle.pm_drive.specs.Drive.{acts}
+use Rattle.pm_drive.specs.Scripts.{script_driven}
 use Rattle.pm_cli.proofs.LogLemmas.{all_logged, built_in, safe_logged}
 use Rattle.pm_cli.proofs.work.Goals as goal
 
@@ -17,7 +17,7 @@ returns-clause-driven g c = λ named done is.
       | inr broken ↦ let clash : exit.Done ≡ exit.WriteFault = sym done ∙ broken in cc
     ] in
     let run = c.pm_main-exit.ensures.driven named ended is in
-    let all : List Act = acts (driven (setup run.object run.topology) run.answers run.events) in
+    let all : List Act = acts (script_driven run.object run.topology run.answers run.events) in
     record {
       object = run.object;
       topology = run.topology;

@@ -1,19 +1,19 @@
 use Rattle.pm_base.specs.declared.events.Event.{Event}
 use Rattle.pm_base.specs.declared.names.NodeId.{NodeId}
 use Rattle.std.proofs.Common.{List}
-use Rattle.pm_object.specs.Grammar.{IsObject}
 use Rattle.pm_topology.specs.WellFormed.{IsWellFormed}
-use Rattle.pm_run.specs.Run.{Setup}
+use Rattle.pm_run.specs.Run.{Setup, fixed_of}
 use Rattle.pm_drive.specs.Drive.{driven, until}
 use Rattle.pm_drive.specs.Heard.{heard_in}
 use Rattle.pm_apart.specs.Apart.{BooksStayApart}
 use Rattle.pm_apart.proofs.TellingLaw.{telling_apart}
 use Rattle.pm_apart.proofs.laws.driven_runs_keep_apart.Goals as goal
+use Rattle.pm_laws.specs.Border.{AreObjects}
 
 pub returns : goal.returns
 returns g c =
     let law = c.reach_keeps_apart.ensures in
-    let beyond : (cs : Setup) (events : List Event) (m : NodeId) → IsObject cs.object → IsWellFormed cs.topology → BooksStayApart cs events m = λ cs events m object formed. record {
+    let beyond : (cs : Setup) (events : List Event) (m : NodeId) → AreObjects (fixed_of cs) → IsWellFormed cs.topology → BooksStayApart cs events m = λ cs events m object formed. record {
       beside = law.beside cs m events object formed;
       alike = law.alike cs m events object formed;
     } in

@@ -1,6 +1,6 @@
 use Rattle.std.proofs.Common.{Option, subst, sym}
-use Rattle.pm_base.specs.declared.names.NodeId.{NodeId}
-use Rattle.pm_split.specs.Split.{noted_busy}
+use Rattle.pm_split.specs.declared.cores.OwnNote.{OwnNote}
+use Rattle.pm_split.specs.Split.{noted}
 use Rattle.pm_trace.specs.Notes.{notes_text}
 use Rattle.pm_replay.specs.Within.{WritesOn}
 use Rattle.pm_replay.proofs.CoresLemmas.{on-none}
@@ -8,5 +8,5 @@ use Rattle.pm_replay.proofs.lines.note_on.Goals as goal
 
 pub returns-in-None : goal.returns-in-None
 returns-in-None g c =
-    let P : Option NodeId → Type 0 = λ busy. WritesOn g.O.Sink (notes_text c.args.number (noted_busy busy)) c.args.written c.args.written c.args.out.now c.args.out.now in
+    let P : Option OwnNote → Type 0 = λ busy. WritesOn g.O.Sink (notes_text c.args.number (noted busy)) c.args.written c.args.written c.args.out.now c.args.out.now in
     subst P (sym c.in-None.is) (on-none g.O.Sink c.args.written c.args.out.now)

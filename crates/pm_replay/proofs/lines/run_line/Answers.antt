@@ -11,8 +11,9 @@ use Rattle.pm_board.specs.Standing.{standing}
 use Rattle.pm_state.specs.State.{Fixed, State}
 use Rattle.pm_clock_tree.specs.Told.{Clocked, changes, told as clocks_told}
 use Rattle.pm_split.specs.Boxes.{Boxes}
-use Rattle.pm_split.specs.Left.{events_left}
-use Rattle.pm_split.specs.Split.{Note, called_note, noted_busy, noted_call}
+use Rattle.pm_base.specs.declared.events.Event.{Event}
+use Rattle.pm_split.specs.Left.{core_event, events_left}
+use Rattle.pm_split.specs.Split.{Note, called_note, noted, noted_call}
 use Rattle.pm_run.specs.Run.{setup_of, split}
 use Rattle.pm_trace.specs.Step.{notices_in, step_text}
 use Rattle.pm_drive.specs.Clocks.{clock_note}
@@ -33,7 +34,10 @@ loop-core-init g c =
 pub loop-core-preserved : goal.loop-core-preserved
 loop-core-preserved g c =
     let modules : List Ranged = ranges g.H.Responder c.args.modules.now in
-    let core = c.in-Some.core in
+    let core = c.event-taken.result.now in
+    let next : events_left c.loop-core.controller.book.fixed.object c.loop-core.controller.book.fixed.topology c.loop-core.controller.boxes c.loop-core.left ≡ core ∷ events_left c.loop-core.controller.book.fixed.object c.loop-core.controller.book.fixed.topology c.next.new.self.boxes c.next.new.cores =
+    c.in-Some.ensures.events ∙ ap (λ (e : Event). e ∷ events_left c.loop-core.controller.book.fixed.object c.loop-core.controller.book.fixed.topology c.next.new.self.boxes c.next.new.cores) (sym c.event-taken.ensures)
+    in
     let shown : Outbox = c.outbox-outbox.result.now in
     let taken = c.next.new.self in
     let W : Answer → Type 0 = λ answer. WritesOn g.O.Sink (step_text c.args.number shown.done.items (notices_in shown) answer) c.loop-core.written c.write_on-written.result c.loop-core.out c.write_on-written.new.out in
@@ -57,15 +61,16 @@ loop-core-preserved g c =
     subst P told
     (one_more g.O.Sink g.D.Device c.args.number c.args.event.now core modules c.loop-core.left c.next.new.cores c.args.controller.now c.loop-core.controller taken c.step.new.self
     c.loop-core.reply c.loop-core.written c.write_on-written.result c.args.out.now c.loop-core.out c.write_on-written.new.out c.rig.new.dev c.loop-core.dev c.step.new.dev
-    c.loop-core.invariant c.in-Some.ensures.book c.in-Some.ensures.kept c.in-Some.ensures.clocks c.in-Some.ensures.events c.in-Some.ensures.boxes c.step.ensures.boxes
+    c.loop-core.invariant c.in-Some.ensures.book c.in-Some.ensures.kept c.in-Some.ensures.clocks next c.in-Some.ensures.boxes c.step.ensures.boxes
     (ap (λ (it : Clocked). it.told) c.step.ensures.goes.clocks) one)
 
 pub loop-core-smaller : goal.loop-core-smaller
 loop-core-smaller g c =
     let O = c.args.controller.now.book.fixed.object in
     let T = c.args.controller.now.book.fixed.topology in
-    let P : Fixed → Type 0 = λ fixed. events_left fixed.object fixed.topology c.loop-core.controller.boxes c.loop-core.left ≡ c.in-Some.core ∷ events_left fixed.object fixed.topology c.next.new.self.boxes c.next.new.cores in
-    let next = subst P c.loop-core.invariant.fixed c.in-Some.ensures.events ∙ ap (λ (b : Boxes). c.in-Some.core ∷ events_left O T b c.next.new.cores) (sym c.step.ensures.boxes) in
+    let core = core_event c.in-Some.core c.next.new.made in
+    let P : Fixed → Type 0 = λ fixed. events_left fixed.object fixed.topology c.loop-core.controller.boxes c.loop-core.left ≡ core ∷ events_left fixed.object fixed.topology c.next.new.self.boxes c.next.new.cores in
+    let next = subst P c.loop-core.invariant.fixed c.in-Some.ensures.events ∙ ap (λ (b : Boxes). core ∷ events_left O T b c.next.new.cores) (sym c.step.ensures.boxes) in
     omega (arith, ap length next)
 
 pub returns : goal.returns
@@ -82,7 +87,7 @@ returns g c = λ cs is are.
     c.call_answer-called.ensures ∙ ap (λ (t : Topology). called_note t event c.loop-core.reply) chip
     in
     let told_of = c.clocks_on-clocked.ensures.clocks in
-    let busy : List Note = noted_busy c.split-parts.result.busy in
+    let busy : List Note = noted c.split-parts.result.note in
     let turns : List Note = map clock_note (changes c.next.new.self.clocks) in
     let turned : turns ≡ map clock_note (changes now.clocks) = ap (λ (it : Clocked). map clock_note (changes it)) c.in_default.ensures.clocks in
     let fired : List Note = task_notes event board.tasks in

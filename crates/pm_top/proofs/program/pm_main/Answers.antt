@@ -1,6 +1,8 @@
 use Rattle.std.proofs.Common.{map, string_bytes}
 use Rattle.pm_base.specs.World.{world}
-use Rattle.pm_run.specs.Run.{setup}
+use Rattle.pm_block.specs.Block.{passed}
+use Rattle.pm_run.specs.Run.{setup, setup_for}
+use Rattle.pm_run.proofs.FormedLemmas.{objects_formed}
 use Rattle.pm_top.proofs.CompleteLemmas.{is_complete}
 use Rattle.pm_top.proofs.DroveLemmas.{replay_drove}
 use Rattle.pm_top.proofs.MainLemmas.{decides, memory, read_cause, reading_fault, unfailing, untouched, usage, writing_fault}
@@ -36,27 +38,27 @@ returns-clause-unfailed g c = unfailing g.I.Inputs g.O.Sink c.exits_say.ensures 
 
 pub returns-clause-keeps : goal.returns-clause-keeps
 returns-clause-keeps g c = λ object topology start of formed. record {
-  run = λ answers events drove. c.driven_runs_keep_apart.ensures.run (setup object topology) events answers start c.run_board.new.dev of formed drove;
-  steps = λ answers events cut drove. c.driven_runs_keep_apart.ensures.steps (setup object topology) events answers cut start c.run_board.new.dev of formed drove;
+  run = λ answers events drove. c.driven_runs_keep_apart.ensures.run (setup_for object topology events) (passed events) answers start c.run_board.new.dev (objects_formed c.attached_objects_are_formed.ensures object topology events of) formed drove;
+  steps = λ answers events cut drove. c.driven_runs_keep_apart.ensures.steps (setup_for object topology events) (passed events) answers cut start c.run_board.new.dev (objects_formed c.attached_objects_are_formed.ensures object topology events of) formed drove;
 }
 
 pub returns-clause-causes : goal.returns-clause-causes
-returns-clause-causes g c = λ object topology events. c.runs_have_causes.ensures.run (setup object topology) events
+returns-clause-causes g c = λ object topology events. c.runs_have_causes.ensures.run (setup_for object topology events) (passed events)
 
 pub returns-clause-boxes : goal.returns-clause-boxes
-returns-clause-boxes g c = λ object topology is events. c.boxes_of_a_run.ensures (setup object topology) events is
+returns-clause-boxes g c = λ object topology is events. c.boxes_of_a_run.ensures (setup_for object topology events) (passed events) is
 
 pub returns-clause-calls : goal.returns-clause-calls
 returns-clause-calls g c = λ object topology. record {
-  line = c.power_calls_are_their_events.ensures (setup object topology);
-  script = c.scripts_are_lowered.ensures (setup object topology);
+  line = λ attached. c.power_calls_are_their_events.ensures (setup object attached topology);
+  script = λ events. c.scripts_are_lowered.ensures (setup_for object topology events) (passed events);
 }
 
 pub returns-clause-tasks : goal.returns-clause-tasks
-returns-clause-tasks g c = λ object topology. c.calls_are_told.ensures (setup object topology) (standing g.H.Responder g.T.Handler c.args.modules.now c.args.tasks.now)
+returns-clause-tasks g c = λ object topology events. c.calls_are_told.ensures (setup_for object topology events) (standing g.H.Responder g.T.Handler c.args.modules.now c.args.tasks.now) (passed events)
 
 pub returns-clause-clocks : goal.returns-clause-clocks
-returns-clause-clocks g c = λ object topology. c.clocks_are_followed.ensures (setup object topology)
+returns-clause-clocks g c = λ object topology events. c.clocks_are_followed.ensures (setup_for object topology events) (passed events)
 
 pub returns-clause-complete : goal.returns-clause-complete
 returns-clause-complete g c = is_complete c.one_reading.ensures.written (λ text object. (c.one_meaning.ensures.built text object).1) g.I.Inputs g.O.Sink g.D.Device (map string_bytes c.args.words.now) (standing g.H.Responder g.T.Handler c.args.modules.now c.args.tasks.now) (standing g.H.Responder g.T.Handler c.args.modules.now c.run_board.new.tasks) (world c.args.inputs.now c.args.out.now c.args.dev.now) (world c.run_board.new.inputs c.run_board.new.out c.run_board.new.dev) c.run_board.result (decides g.I.Inputs g.O.Sink c.exits_say.ensures g.D.Device (map string_bytes c.args.words.now) (standing g.H.Responder g.T.Handler c.args.modules.now c.args.tasks.now) (standing g.H.Responder g.T.Handler c.args.modules.now c.run_board.new.tasks) (world c.args.inputs.now c.args.out.now c.args.dev.now) (world c.run_board.new.inputs c.run_board.new.out c.run_board.new.dev) c.run_board.result c.run_board.ensures.ran) c.run_board.ensures.done (reading_fault g.I.Inputs g.O.Sink c.exits_say.ensures g.D.Device (map string_bytes c.args.words.now) (standing g.H.Responder g.T.Handler c.args.modules.now c.args.tasks.now) (standing g.H.Responder g.T.Handler c.args.modules.now c.run_board.new.tasks) (world c.args.inputs.now c.args.out.now c.args.dev.now) (world c.run_board.new.inputs c.run_board.new.out c.run_board.new.dev) c.run_board.result c.run_board.ensures.ran)

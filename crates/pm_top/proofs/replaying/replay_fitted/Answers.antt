@@ -5,12 +5,8 @@ use Rattle.pm_trace.proofs.ReadsLemmas.{script_starved}
 use Rattle.pm_top.proofs.FitLemmas.{still_safe}
 use Rattle.pm_top.proofs.replaying.replay_fitted.Goals as goal
 
-pub replay-requires : goal.replay-requires
-replay-requires g c = record {
-  object = c.requires.object;
-  formed = c.requires.formed;
-  idle = λ seen unit. (c.chain_shows.ensures (Fit c.args.topology ∷ []) c.args.dev.now c.fit.new.self (c.fit.new.self, c.in-Ok.ensures.does, refl)).values seen unit;
-}
+pub replay-requires-clause-idle : goal.replay-requires-clause-idle
+replay-requires-clause-idle g c = λ seen unit. (c.chain_shows.ensures (Fit c.args.topology ∷ []) c.args.dev.now c.fit.new.self (c.fit.new.self, c.in-Ok.ensures.does, refl)).values seen unit
 
 pub returns-in-Ok-clause-did : goal.returns-in-Ok-clause-did
 returns-in-Ok-clause-did g c = inr (record { start = c.fit.new.self; fitted = c.in-Ok.ensures.does; ran = c.replay.ensures.ran; done = c.replay.ensures.done })

@@ -41,29 +41,29 @@ returns-in-Make-clause-safe g c =
 pub returns-in-Reach-clause-begun : goal.returns-in-Reach-clause-begun
 returns-in-Reach-clause-begun g c =
     let m = g.I.Inputs.state c.args.inputs.now in
-    let W : Work → Type 0 = λ work. Meanwhile m m (WorkReads (form_of work c.args.request.topology).script c.args.script.now c.write_reach.result) in
-    subst W (sym c.in-Reach.is) (meanwhile_none m (WorkReads None c.args.script.now c.write_reach.result) (refl, bare g.O.Sink _ c.args.out.now c.write_reach.new.out c.write_reach.result c.write_reach.ensures))
+    let W : Work → Type 0 = λ work. Meanwhile m m (WorkReads (form_of work c.args.request.topology).script c.args.script.now c.write_reach-exit.result) in
+    subst W (sym c.in-Reach.is) (meanwhile_none m (WorkReads None c.args.script.now c.write_reach-exit.result) (refl, bare g.O.Sink _ c.args.out.now c.write_reach-exit.new.out c.write_reach-exit.result c.write_reach-exit.ensures))
 
 pub returns-in-Print-clause-begun : goal.returns-in-Print-clause-begun
 returns-in-Print-clause-begun g c =
     let m = g.I.Inputs.state c.args.inputs.now in
-    let W : Work → Type 0 = λ work. Meanwhile m m (WorkReads (form_of work c.args.request.topology).script c.args.script.now c.print_object.result) in
-    subst W (sym c.in-Print.is) (meanwhile_none m (WorkReads None c.args.script.now c.print_object.result) (refl, bare g.O.Sink _ c.args.out.now c.print_object.new.out c.print_object.result c.print_object.ensures))
+    let W : Work → Type 0 = λ work. Meanwhile m m (WorkReads (form_of work c.args.request.topology).script c.args.script.now c.print_object-exit.result) in
+    subst W (sym c.in-Print.is) (meanwhile_none m (WorkReads None c.args.script.now c.print_object-exit.result) (refl, bare g.O.Sink _ c.args.out.now c.print_object-exit.new.out c.print_object-exit.result c.print_object-exit.ensures))
 
 pub returns-in-Build-clause-begun : goal.returns-in-Build-clause-begun
 returns-in-Build-clause-begun g c =
     let m = g.I.Inputs.state c.args.inputs.now in
-    let W : Work → Type 0 = λ work. Meanwhile m m (WorkReads (form_of work c.args.request.topology).script c.args.script.now c.build_object.result) in
-    subst W (sym c.in-Build.is) (meanwhile_none m (WorkReads None c.args.script.now c.build_object.result) (refl, bare g.O.Sink _ c.args.out.now c.build_object.new.out c.build_object.result c.build_object.ensures))
+    let W : Work → Type 0 = λ work. Meanwhile m m (WorkReads (form_of work c.args.request.topology).script c.args.script.now c.build_object-exit.result) in
+    subst W (sym c.in-Build.is) (meanwhile_none m (WorkReads None c.args.script.now c.build_object-exit.result) (refl, bare g.O.Sink _ c.args.out.now c.build_object-exit.new.out c.build_object-exit.result c.build_object-exit.ensures))
 
 pub returns-in-Make-clause-begun : goal.returns-in-Make-clause-begun
 returns-in-Make-clause-begun g c =
     let m = g.I.Inputs.state c.args.inputs.now in
     let W : Work → Type 0 = λ work. Meanwhile m m (WorkReads (form_of work c.args.request.topology).script c.args.script.now c.make_over.result) in
-    subst W (sym c.in-Make.is) (meanwhile_none m (WorkReads None c.args.script.now c.make_over.result) (refl, made_bare g.O.Sink g.D.Device _ _ _ _ c.args.out.now c.make_over.new.out c.args.dev.now c.make_over.new.dev c.make_over.result c.make_over.ensures.made))
+    subst W (sym c.in-Make.is) (meanwhile_none m (WorkReads None c.args.script.now c.make_over.result) (refl, made_bare g.O.Sink g.D.Device _ _ _ _ _ c.args.out.now c.make_over.new.out c.args.dev.now c.make_over.new.dev c.make_over.result c.make_over.ensures.made))
 
 pub returns-in-Table-clause-begun : goal.returns-in-Table-clause-begun
 returns-in-Table-clause-begun g c =
     let m = g.I.Inputs.state c.args.inputs.now in
-    let W : Work → Type 0 = λ work. Meanwhile m m (WorkReads (form_of work c.args.request.topology).script c.args.script.now c.write_table.result) in
-    subst W (sym c.in-Table.is) (meanwhile_none m (WorkReads None c.args.script.now c.write_table.result) (refl, bare g.O.Sink _ c.args.out.now c.write_table.new.out c.write_table.result c.write_table.ensures))
+    let W : Work → Type 0 = λ work. Meanwhile m m (WorkReads (form_of work c.args.request.topology).script c.args.script.now c.write_table-exit.result) in
+    subst W (sym c.in-Table.is) (meanwhile_none m (WorkReads None c.args.script.now c.write_table-exit.result) (refl, bare g.O.Sink _ c.args.out.now c.write_table-exit.new.out c.write_table-exit.result c.write_table-exit.ensures))

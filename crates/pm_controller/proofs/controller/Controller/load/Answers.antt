@@ -1,4 +1,6 @@
-use Rattle.std.proofs.Common.{subst}
+use Rattle.std.proofs.Common.{List, ap, subst, ◌∙◌}
+use Rattle.pm_object.specs.declared.attached.Attached.{Attached}
+use Rattle.pm_state.specs.Load.{load_of}
 use Rattle.pm_core.specs.Step.{outputs_at_load}
 use Rattle.pm_apply.specs.Record.{Kept}
 use Rattle.pm_apply.proofs.Below.{ChipLaws}
@@ -22,7 +24,7 @@ returns c =
     let P : Kept → Type 0 = λ kept. StepBegins kept (outputs_at_load book) new in
     record {
       loaded = record {
-        book = c.in_ok-book.ensures.book;
+        book = c.in_ok-book.ensures.book ∙ ap (λ (attached : List Attached). load_of c.args.object attached c.args.topology) c.new.ensures;
         step = subst P c.in_ok-kept.ensures.first
             (step_begins laws new c.in_ok-kept.kept c.begin_all-left.new.kept c.load-3.new.out (outputs_at_load book) c.begin_all-left.result c.in_ok-book.ensures.out
             c.begin_all-left.ensures.left c.begin_all-left.ensures.alike found.ensures.rest found.ensures.comes);

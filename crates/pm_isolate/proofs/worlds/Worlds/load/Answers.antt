@@ -1,27 +1,65 @@
-use Rattle.std.proofs.Common.{◌∙◌, ap}
+use Rattle.std.proofs.Common.{◌≡◌, ◌∙◌, List, ap, false, subst, sym}
+use Rattle.std.proofs.lemmas.Result.{IfOk-at_ok}
+use Rattle.pm_object.specs.declared.attached.Attached.{Attached}
 use Rattle.pm_object.specs.declared.object.Object.{Object}
 use Rattle.pm_topology.specs.declared.topology.Topology.{Topology}
-use Rattle.pm_state.specs.Load.{load_of}
-use Rattle.pm_run.specs.Run.{Stand}
+use Rattle.pm_topology.specs.UnitMap.{all_at}
+use Rattle.pm_topology.specs.Units.{units_of}
+use Rattle.pm_topology.specs.WellFormed.{IsWellFormed}
+use Rattle.pm_run.specs.Run.{Stand, loaded, setup}
+use Rattle.pm_isolate.specs.declared.worlds.Looked.{Looked}
 use Rattle.pm_isolate.specs.Marks.{proc_places}
 use Rattle.pm_isolate.proofs.LookedLemmas.{begins, load_marked, load_procs}
 use Rattle.pm_isolate.proofs.worlds.Worlds.load.Goals as goal
 
 pub returns : goal.returns
 returns c =
-    begins c.args.object c.args.topology c.in_ok-other_object.other_object c.in_ok-other_topology.other_topology c.in_ok-loud.loud c.in_ok-quiet.quiet c.in_ok-differs.differs
-    c.in_ok-other_object.ensures c.in_ok-other_topology.ensures c.in_ok-loud.ensures c.in_ok-quiet.ensures c.in_ok-differs.ensures.entries
+    let o = c.args.object in
+    let a = c.args.attached in
+    let t = c.args.topology in
+    let given = c.in_ok-given.ensures in
+    let pair = c.in_ok-looked.ensures in
+    let start : Stand = loaded (setup o a t) in
+    let quiet : c.in_ok-given.quiet ≡ start =
+    IfOk-at_ok (λ (b : Looked × Stand). b.1 ≡ loaded (setup o c.as_slice.result.now t)) given.1 c.beside_of-beside.ensures.quiet
+    ∙ ap (λ (x : List Attached). loaded (setup o x t)) c.as_slice.ensures
+    in
+    let differs : c.in_ok-given.looked.differs ≡ all_at false (units_of t) =
+    IfOk-at_ok (λ (b : Looked × Stand). b.0.differs ≡ all_at false (units_of t)) given.1 c.beside_of-beside.ensures.differs
+    in
+    let loud : c.in_ok-looked.loud ≡ start =
+    IfOk-at_ok (λ (s : Stand). s ≡ loaded (setup c.in_ok-given.given.0 c.in_ok-given.given.1 c.in_ok-given.given.2)) pair.1 c.load-loud.ensures
+    ∙ ap (λ (g : Object × List Attached × Topology). loaded (setup g.0 g.1 g.2)) given.0
+    in
+    begins o a t c.in_ok-looked.loud c.in_ok-looked.quiet c.in_ok-looked.looked.differs loud
+    (ap (λ (p : Looked × Stand). p.1) pair.0 ∙ quiet) (ap (λ (p : Looked × Stand). p.0.differs) pair.0 ∙ differs)
 
 pub invariant_of-result : goal.invariant_of-result
 invariant_of-result c =
-    let object = c.args.object in
+    let o = c.args.object in
+    let a = c.args.attached in
     let t = c.args.topology in
-    let loud = ap (λ (s : Stand). s.book) c.in_ok-loud.ensures in
-    let quiet =
-    ap (λ (s : Stand). s.book) c.in_ok-quiet.ensures
-    ∙ ap (λ (o : Object). load_of o c.in_ok-other_topology.other_topology) c.in_ok-other_object.ensures
-    ∙ ap (λ (x : Topology). load_of object x) c.in_ok-other_topology.ensures
+    let given = c.in_ok-given.ensures in
+    let pair = c.in_ok-looked.ensures in
+    let start : Stand = loaded (setup o a t) in
+    let quiet : c.in_ok-given.quiet ≡ start =
+    IfOk-at_ok (λ (b : Looked × Stand). b.1 ≡ loaded (setup o c.as_slice.result.now t)) given.1 c.beside_of-beside.ensures.quiet
+    ∙ ap (λ (x : List Attached). loaded (setup o x t)) c.as_slice.ensures
+    in
+    let differs : c.in_ok-given.looked.differs ≡ all_at false (units_of t) =
+    IfOk-at_ok (λ (b : Looked × Stand). b.0.differs ≡ all_at false (units_of t)) given.1 c.beside_of-beside.ensures.differs
+    in
+    let procs : c.in_ok-given.looked.procs.items ≡ proc_places t 0 (units_of t) =
+    IfOk-at_ok (λ (b : Looked × Stand). b.0.procs.items ≡ proc_places t 0 (units_of t)) given.1 c.beside_of-beside.ensures.procs
+    in
+    let loud : c.in_ok-looked.loud ≡ start =
+    IfOk-at_ok (λ (s : Stand). s ≡ loaded (setup c.in_ok-given.given.0 c.in_ok-given.given.1 c.in_ok-given.given.2)) pair.1 c.load-loud.ensures
+    ∙ ap (λ (g : Object × List Attached × Topology). loaded (setup g.0 g.1 g.2)) given.0
     in (
-      load_marked object t c.in_ok-loud.loud.book c.in_ok-quiet.quiet.book c.in_ok-differs.differs loud quiet c.in_ok-differs.ensures.entries,
-      load_procs object t c.in_ok-loud.loud.book c.in_ok-units.units c.in_ok-procs.procs.items loud c.in_ok-units.ensures.list (c.in_ok-procs.ensures ∙ ap (λ us. proc_places t 0 us) c.as_slice.ensures),
+      load_marked o a t c.in_ok-looked.loud c.in_ok-looked.quiet c.in_ok-looked.looked.differs loud
+          (ap (λ (p : Looked × Stand). p.1) pair.0 ∙ quiet) (ap (λ (p : Looked × Stand). p.0.differs) pair.0 ∙ differs),
+      load_procs o a t c.in_ok-looked.loud c.in_ok-looked.looked.procs.items loud (ap (λ (p : Looked × Stand). p.0.procs.items) pair.0 ∙ procs),
     )
+
+pub load-loud-requires : goal.load-loud-requires
+load-loud-requires c = record { formed = subst (λ (g : Object × List Attached × Topology). IsWellFormed g.2) (sym c.in_ok-given.ensures.0) c.requires.formed }
