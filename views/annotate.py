@@ -259,6 +259,8 @@ def meanings_of_replay(told):
             yield meaning_of_clock_at_end(*clock) if step == "end" else meaning_of_clock(*clock)
         elif kind == "busy":
             yield f"{names.node_name(int(number))}: its box is full"
+        elif kind == "late":
+            yield f"the words for address {int(number):#x} come too late"
         elif kind == "smc":
             yield f"{names.node_name(int(number))}: its power call is answered {words[0]}{RETURN_CODES.get(words[0], '')}"
         elif kind == "task":

@@ -8,6 +8,7 @@ LONGEST = 255
 EVENTS = {
     "ipi": (2, 7), "boot": (2, 2), "wfi": (1, 1), "irq": (1, 1), "gic": (1, 1), "tick": (1, 1),
     "post": (2, 7), "serve": (0, 0), "smc": (2, 5), "task": (2, 2), "cancel": (1, 1), "break": (1, 1), "mend": (1, 1),
+    "object": (1, 124),
 }  # fmt: skip
 # The words after the first one of a line that may have 64 bits, by their places; all others have 32.
 WIDE = {"boot": (2,), "smc": (3, 4, 5)}
@@ -21,7 +22,7 @@ SECTIONS = ("masters", "slaves", "prealloc", "power", "reset", "shutdown", "conf
 # A line of a script that certainly means something. It decides most lines at once.
 GOOD = re.compile(
     rb"[ \t]*(?:(?:(?:ipi|post)(?:[ \t]+N){2,7}|boot(?:[ \t]+N){2}|smc(?:[ \t]+N){2,5}|task(?:[ \t]+N){2}"
-    rb"|(?:wfi|irq|gic|tick|cancel|break|mend)[ \t]+N|serve)"
+    rb"|object(?:[ \t]+N){1,124}|(?:wfi|irq|gic|tick|cancel|break|mend)[ \t]+N|serve)"
     rb"(?=[ \t\r\n]|\Z)[ \t]*)?"
     rb"(?:#[\t -~]*)?\r?".replace(b"N", rb"(?:\d{1,9}|0x[\da-fA-F]{1,8})")
 )

@@ -158,7 +158,7 @@ IPI_MASKS = {1: 0x1, 6: 0x100, 7: 0x100, 8: 0x200}
 
 _CALLS = [
     (1, "GET_API_VERSION", ()),
-    (2, "SET_CONFIGURATION", None),
+    (2, "SET_CONFIGURATION", ("address",)),
     (3, "GET_NODE_STATUS", ("node",)),
     (4, "GET_OP_CHARACTERISTIC", ("node", "characteristic")),
     (5, "REGISTER_NOTIFIER", ("node", "event", "wake", "enable")),

@@ -18,7 +18,7 @@ GET_NODE_STATUS = 3
 SUSPENDING, ASLEEP = 3, 2
 
 # The lines that a script line writes itself, after those of its core events; and the clocks of the closing table.
-OWN = ("busy", "clock", "task", "notask", "smc")
+OWN = ("busy", "late", "clock", "task", "notask", "smc")
 
 # The calls that can change the mode of a processor: SELF_SUSPEND, FORCE_POWERDOWN, ABORT_SUSPEND, REQUEST_WAKEUP,
 # SYSTEM_SHUTDOWN and RESET_ASSERT.

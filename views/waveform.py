@@ -23,7 +23,7 @@ FIRST_CODE, CODES = 33, 94  # a signal's code is made of these characters
 # The characters of a text that GTKWave reads escaped.
 ESCAPED = {ord(" "): "\\x20", ord("\t"): "\\t", ord("\\"): "\\\\"}
 
-ANSWERS = ("reply", "call", "drop", "busy", "task", "notask", "smc")
+ANSWERS = ("reply", "call", "drop", "busy", "late", "task", "notask", "smc")
 
 
 def code_of(place):

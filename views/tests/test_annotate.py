@@ -133,6 +133,17 @@ class Names(Case):
             },
         )
 
+    def test_words_that_lines_attach(self):
+        script = "object 8 1\nipi APU SET_CONFIGURATION 8\nipi APU SET_CONFIGURATION 9\nobject 8 1\n"
+        self.check(
+            ["replay", example("laboratory.obj"), self.file("attached.script", script)],
+            {
+                "2 reply 1 15 4 0 0": "APU: invalid parameter",
+                "3 reply 1 15 0 0 0": "APU: invalid parameter",
+                "4 late 8": "the words for address 0x8 come too late",
+            },
+        )
+
     def test_a_late_reply_after_the_answer_to_another_message_of_a_line(self):
         script = "boot RPU_0 0\nipi APU REQUEST_SUSPEND RPU_0 BLOCKING 0 0\npost RPU_0 ABORT_SUSPEND 100 RPU_0\npost APU 1\n"
         script += "post APU 1\nserve # both\npost RPU_1 1\nserve\n"

@@ -41,6 +41,7 @@ SCRIPTS = {
     "one message undoes another": "boot 7 0\npost 7 10 2 0 0 2\npost 1 12 0 0\nserve\npost 1 8 6 2\npost 7 1\n# and\nserve",
     "power calls": "smc 2 0xC4000003 1 4096 0\nsmc 3 0x84000002\nsmc 2 0xC4000003 1 0\nsmc 2 0x84000002\nsmc 3 0x84000002\nsmc 2 1\n",
     "timed tasks": "task 0 2\nboot 7 0\npost 7 7 7 0 0 0 0\ntick 3\nserve\ntick 4294967295\nwfi 7\ncancel 0\ntick 2\ncancel 0\n",
+    "attached words": "object 8 1\nobject 9\nboot 7 0\npost 7 7 7 0 0 0 0\nipi 7 2 8\nserve\nwfi 7\nobject 8 1\ngic 7\n",
     "a message of no master": "post 8 1\nboot 7 0\npost 6 8 10 2\npost 7 8 10 2\nserve\n",
 }
 
