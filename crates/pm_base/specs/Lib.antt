@@ -1,16 +1,2 @@
 pub mod BoundedList
-pub mod Calls
 pub mod Faults
-pub mod Inputs
-pub mod Lines
-pub mod Logged
-pub mod MemInputs
-pub mod MemSink
-pub mod Numbers
-pub mod OneInput
-pub mod Prefix
-pub mod Readings
-pub mod Sink
-pub mod Words
-pub mod Writing
-pub mod World

@@ -1,0 +1,11 @@
+pub mod CallsLemmas
+pub mod LinesLemmas
+pub mod LogSteps
+pub mod NumbersLemmas
+pub mod PrefixEnds
+pub mod PrefixLemmas
+pub mod MemInputsLemmas
+pub mod ReadingsLemmas
+pub mod SinkLemmas
+pub mod WordTexts
+pub mod WordsLemmas

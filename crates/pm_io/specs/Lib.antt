@@ -1,0 +1,14 @@
+pub mod Calls
+pub mod Inputs
+pub mod Lines
+pub mod Logged
+pub mod MemInputs
+pub mod MemSink
+pub mod Numbers
+pub mod OneInput
+pub mod Prefix
+pub mod Readings
+pub mod Sink
+pub mod Words
+pub mod Writing
+pub mod World
