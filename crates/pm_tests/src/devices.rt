@@ -1,12 +1,24 @@
 //! The devices in memory, driven as any device.
 
 use crate::chip::chip;
-use crate::rows::all_right;
+use crate::rows::{all_right, boxed};
 use pm_base::{Command, LineId, NodeId, Unit};
 use pm_device::{Device, ListedDevice, ModelDevice};
 use pm_topology::{LineDef, Topology};
 use std::alloc::Global;
 use std::test::Fail;
+
+/// A device that follows each command.
+fn model(alloc: Global) -> Result<Box<ModelDevice>, Fail> {
+    let chip = chip(alloc)?;
+    Ok(boxed(alloc, ModelDevice::new(alloc, &chip)?)?)
+}
+
+/// A device that fails the commands with these numbers.
+fn listed(alloc: Global, failing: &[u32]) -> Result<Box<ListedDevice>, Fail> {
+    let chip = chip(alloc)?;
+    Ok(boxed(alloc, ListedDevice::new(alloc, &chip, failing)?)?)
+}
 
 fn node(number: u32) -> Unit {
     Unit::Node(NodeId(number))
@@ -90,9 +102,9 @@ fn wrong_value(device: &ModelDevice) -> Option<usize> {
 
 #[test]
 fn a_model_fails_on_broken_nodes_and_unknown_units(rt: HostRuntime) -> Result<(), Fail> {
-    let mut device = ModelDevice::new(rt.alloc(), &chip(rt.alloc())?)?;
+    let mut device = model(rt.alloc())?;
     assert_eq!(rt; device.value(node(62)), 0);
-    all_right(&rt, wrong_act(&mut device, &MODEL));
+    all_right(&rt, wrong_act(&mut *device, &MODEL));
     all_right(&rt, wrong_value(&device));
     Ok(())
 }
@@ -125,15 +137,15 @@ fn wrong_listed(device: &ListedDevice) -> Option<usize> {
 
 #[test]
 fn a_listed_device_fails_at_its_numbers(rt: HostRuntime) -> Result<(), Fail> {
-    let mut device = ListedDevice::new(rt.alloc(), &chip(rt.alloc())?, &[2, 5, 5, 0])?;
-    all_right(&rt, wrong_act(&mut device, &LISTED));
+    let mut device = listed(rt.alloc(), &[2, 5, 5, 0])?;
+    all_right(&rt, wrong_act(&mut *device, &LISTED));
     all_right(&rt, wrong_listed(&device));
-    all_right(&rt, wrong_act(&mut device, &[Act::Node(62, 4, true)]));
+    all_right(&rt, wrong_act(&mut *device, &[Act::Node(62, 4, true)]));
     Ok(())
 }
 
 /// The chip with a reset line more.
-fn larger_chip(alloc: Global) -> Result<Topology, Fail> {
+fn larger_chip(alloc: Global) -> Result<Box<Topology>, Fail> {
     let mut larger = chip(alloc)?;
     larger.lines.push(LineDef {
         line: LineId(62),
@@ -152,12 +164,13 @@ static FITTED: [Act; 4] = [
 
 #[test]
 fn a_fitted_model_has_the_units_of_its_chip(rt: HostRuntime) -> Result<(), Fail> {
-    let mut device = ModelDevice::new(rt.alloc(), &chip(rt.alloc())?)?;
-    all_right(&rt, wrong_act(&mut device, &MODEL));
-    device.fit(rt.alloc(), &larger_chip(rt.alloc())?)?;
+    let mut device = model(rt.alloc())?;
+    all_right(&rt, wrong_act(&mut *device, &MODEL));
+    let larger = larger_chip(rt.alloc())?;
+    device.fit(rt.alloc(), &larger)?;
     assert_eq!(rt; device.value(node(62)), 0);
     assert_eq!(rt; device.value(line(28)), 0);
-    all_right(&rt, wrong_act(&mut device, &FITTED));
+    all_right(&rt, wrong_act(&mut *device, &FITTED));
     assert_eq!(rt; device.value(line(62)), 1);
     Ok(())
 }
@@ -165,14 +178,15 @@ fn a_fitted_model_has_the_units_of_its_chip(rt: HostRuntime) -> Result<(), Fail>
 /// The numbers of the commands go on.
 #[test]
 fn a_fitted_listed_device_fails_at_its_later_numbers(rt: HostRuntime) -> Result<(), Fail> {
-    let mut device = ListedDevice::new(rt.alloc(), &chip(rt.alloc())?, &[2])?;
-    all_right(&rt, wrong_act(&mut device, &[Act::Node(62, 3, true)]));
-    device.fit(rt.alloc(), &larger_chip(rt.alloc())?)?;
+    let mut device = listed(rt.alloc(), &[2])?;
+    all_right(&rt, wrong_act(&mut *device, &[Act::Node(62, 3, true)]));
+    let larger = larger_chip(rt.alloc())?;
+    device.fit(rt.alloc(), &larger)?;
     assert_eq!(rt; device.value(node(62)), 0);
     all_right(
         &rt,
         wrong_act(
-            &mut device,
+            &mut *device,
             &[Act::Line(62, 1, false), Act::Line(62, 1, true)],
         ),
     );

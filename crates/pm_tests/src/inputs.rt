@@ -1,7 +1,8 @@
 //! Inputs and sinks in memory.
 
 use crate::rows::all_right;
-use pm_base::{Inputs, List, MemInputs, MemSink, Prefix, Sink, StopReason, gather, write_all};
+use pm_base::List;
+use pm_io::{Inputs, MemInputs, MemSink, Prefix, Sink, StopReason, gather, write_all};
 use std::alloc::Global;
 use std::test::Fail;
 

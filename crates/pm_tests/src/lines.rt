@@ -1,7 +1,8 @@
 //! The lines, words and numbers of a text, and what a line of a script means.
 
 use crate::rows::all_right;
-use pm_base::{Ending, Event, Message, NodeId, number, split_line, word};
+use pm_base::{Event, Message, NodeId};
+use pm_io::{Ending, number, split_line, word};
 use pm_script::{LineFault, parse_line};
 use std::alloc::Global;
 use std::test::Fail;
@@ -315,10 +316,9 @@ fn a_line_boots_a_processor(rt: HostRuntime) {
     all_right(&rt, wrong_boot());
 }
 
-/// A line, and what happens in it: a processor waits for an interrupt, a slave raises its own, there is one at a
-/// processor itself, a master puts a message into its box, the boxes are served, a processor makes a power call, a timed
-/// task is started or taken out, or a node breaks or is mended.
-fn events() -> [(&'static [u8], Event); 24] {
+/// A line, and what happens in it: a processor waits for an interrupt, a slave raises its own, or there is one at a
+/// processor itself.
+fn waits_and_interrupts() -> [(&'static [u8], Event); 9] {
     [
         (b"wfi 7", Event::Wfi { proc: NodeId(7) }),
         (
@@ -344,6 +344,12 @@ fn events() -> [(&'static [u8], Event); 24] {
             },
         ),
         (b"\tgic 07 \r", Event::Gic { proc: NodeId(7) }),
+    ]
+}
+
+/// The same of messages that masters put into their boxes, and of boxes that are served.
+fn posts() -> [(&'static [u8], Event); 5] {
+    [
         (
             b"post 7 13 39 1 0 2",
             Event::Post {
@@ -376,6 +382,12 @@ fn events() -> [(&'static [u8], Event); 24] {
         ),
         (b"serve", Event::Serve),
         (b" serve\t# 1\r", Event::Serve),
+    ]
+}
+
+/// The same of power calls of processors.
+fn power_calls() -> [(&'static [u8], Event); 3] {
+    [
         (
             b"smc 2 0x84000002",
             Event::Smc {
@@ -400,6 +412,12 @@ fn events() -> [(&'static [u8], Event); 24] {
                 args: [4096, 0, 0],
             },
         ),
+    ]
+}
+
+/// The same of timed tasks that are started or taken out, and of nodes that break or are mended.
+fn tasks_and_breaks() -> [(&'static [u8], Event); 7] {
+    [
         (
             b"task 0 100",
             Event::Task {
@@ -428,8 +446,8 @@ fn events() -> [(&'static [u8], Event); 24] {
     ]
 }
 
-fn wrong_event() -> Option<usize> {
-    for (place, (line, event)) in events().iter().enumerate() {
+fn wrong_event(events: &[(&[u8], Event)]) -> Option<usize> {
+    for (place, (line, event)) in events.iter().enumerate() {
         match parse_line(line) {
             Ok(parsed) if parsed == *event => {}
             _ => return Some(place),
@@ -440,7 +458,10 @@ fn wrong_event() -> Option<usize> {
 
 #[test]
 fn a_line_is_an_event(rt: HostRuntime) {
-    all_right(&rt, wrong_event());
+    all_right(&rt, wrong_event(&waits_and_interrupts()));
+    all_right(&rt, wrong_event(&posts()));
+    all_right(&rt, wrong_event(&power_calls()));
+    all_right(&rt, wrong_event(&tasks_and_breaks()));
 }
 
 /// A line that attaches words, the address, and the words.

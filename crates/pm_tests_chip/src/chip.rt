@@ -1,14 +1,15 @@
 //! The table of the chip.
 
-use crate::rows::all_right;
+use crate::rows::{all_right, boxed, same};
 use pm_base::{LineId, NodeId};
-use pm_topology::{Kind, LineDef, SlaveDef, Topology, zynqmp};
+use pm_chip::zynqmp;
+use pm_topology::{Kind, LineDef, SlaveDef, Topology};
 use std::alloc::Global;
 use std::test::Fail;
 
 /// The chip, of which nothing is said.
-pub(crate) fn chip(alloc: Global) -> Result<Topology, Fail> {
-    Ok(zynqmp(alloc)?)
+pub(crate) fn chip(alloc: Global) -> Result<Box<Topology>, Fail> {
+    Ok(boxed(alloc, zynqmp(alloc)?)?)
 }
 
 /// Each slave of the chip: its number, the number of its power node, and the letter of its class.
@@ -135,7 +136,7 @@ fn wrong_slave(chip: &Topology) -> Option<usize> {
 #[test]
 fn the_chip_has_the_published_slaves(rt: HostRuntime) -> Result<(), Fail> {
     let chip = chip(rt.alloc())?;
-    assert_eq!(rt; chip.slaves.len(), SLAVES.len());
+    same(&rt, chip.slaves.len(), SLAVES.len());
     all_right(&rt, wrong_slave(&chip));
     Ok(())
 }
@@ -200,9 +201,10 @@ fn wrong_proc(chip: &Topology) -> Option<usize> {
 #[test]
 fn the_chip_has_the_published_power_nodes_and_processors(rt: HostRuntime) -> Result<(), Fail> {
     let chip = chip(rt.alloc())?;
-    assert_eq!(rt;
+    same(
+        &rt,
         (chip.powers.len(), chip.procs.len()),
-        (POWERS.len(), PROCS.len())
+        (POWERS.len(), PROCS.len()),
     );
     all_right(&rt, wrong_power(&chip));
     all_right(&rt, wrong_proc(&chip));
@@ -261,7 +263,11 @@ fn wrong_master(chip: &Topology) -> Option<usize> {
 #[test]
 fn the_chip_has_the_published_lines_and_masters(rt: HostRuntime) -> Result<(), Fail> {
     let chip = chip(rt.alloc())?;
-    assert_eq!(rt; (chip.lines.len(), chip.masters.len()), (64, MASTERS.len()));
+    same(
+        &rt,
+        (chip.lines.len(), chip.masters.len()),
+        (64, MASTERS.len()),
+    );
     all_right(&rt, wrong_proc_line(&chip));
     all_right(&rt, wrong_slave_line(&chip));
     all_right(&rt, wrong_master(&chip));
@@ -282,8 +288,8 @@ static KINDS: [(u32, Kind); 9] = [
 ];
 
 /// A copy, of which nothing is said.
-fn copied(alloc: Global, chip: &Topology) -> Result<Topology, Fail> {
-    Ok(chip.copy(alloc)?)
+fn copied(alloc: Global, chip: &Topology) -> Result<Box<Topology>, Fail> {
+    Ok(boxed(alloc, chip.copy(alloc)?)?)
 }
 
 fn wrong_kind(chip: &Topology) -> Option<usize> {
@@ -297,8 +303,9 @@ fn wrong_kind(chip: &Topology) -> Option<usize> {
 
 #[test]
 fn a_copy_passes_and_names_the_same_nodes(rt: HostRuntime) -> Result<(), Fail> {
-    let chip = copied(rt.alloc(), &chip(rt.alloc())?)?;
-    assert_eq!(rt; chip.check(), Ok(()));
+    let first = chip(rt.alloc())?;
+    let chip = copied(rt.alloc(), &first)?;
+    same(&rt, chip.check(), Ok(()));
     all_right(&rt, wrong_kind(&chip));
     Ok(())
 }
@@ -346,6 +353,7 @@ fn wrong_above(chip: &Topology) -> Option<usize> {
 
 #[test]
 fn nodes_are_below_all_power_nodes_above_them(rt: HostRuntime) -> Result<(), Fail> {
-    all_right(&rt, wrong_above(&chip(rt.alloc())?));
+    let chip = chip(rt.alloc())?;
+    all_right(&rt, wrong_above(&chip));
     Ok(())
 }

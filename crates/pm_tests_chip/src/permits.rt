@@ -2,7 +2,7 @@
 //! that doesn't.
 
 use crate::chip::chip;
-use crate::rows::all_right;
+use crate::rows::{all_right, boxed};
 use pm_base::{LineId, NodeId};
 use pm_grants::Grants;
 use pm_object::Object;
@@ -349,7 +349,8 @@ fn is_permitted(object: &Object, chip: &Topology, deed: Deed) -> bool {
 pub(crate) fn object_of(alloc: Global, head: &str, rest: &str) -> Result<Box<Object>, Fail> {
     let mut text = Vec::from_slice(alloc, head.as_bytes())?;
     text.extend_from_slice(rest.as_bytes())?;
-    Ok(Box::new(alloc, build(alloc, &text)?)?)
+    let object = build(alloc, &text)?;
+    Ok(boxed(alloc, object)?)
 }
 
 fn wrong_permission(
@@ -367,22 +368,23 @@ fn wrong_permission(
     Ok(None)
 }
 
+/// How the objects of each list begin, and the list.
+static LISTS: [(&str, &[Permission]); 7] = [
+    (MASTERS, USES),
+    (HEAD, SUSPENDS),
+    (HEAD, WAKES),
+    (MASTERS, FORCES),
+    (MASTERS, RESETS),
+    (MASTERS, SHUTDOWNS),
+    (MASTERS, CONFIGURATIONS),
+];
+
 #[test]
 fn each_permission_is_given_by_its_own_bit(rt: HostRuntime) -> Result<(), Fail> {
-    let chip = Box::new(rt.alloc(), chip(rt.alloc())?)?;
-    all_right(&rt, wrong_permission(rt.alloc(), &chip, MASTERS, USES)?);
-    all_right(&rt, wrong_permission(rt.alloc(), &chip, HEAD, SUSPENDS)?);
-    all_right(&rt, wrong_permission(rt.alloc(), &chip, HEAD, WAKES)?);
-    all_right(&rt, wrong_permission(rt.alloc(), &chip, MASTERS, FORCES)?);
-    all_right(&rt, wrong_permission(rt.alloc(), &chip, MASTERS, RESETS)?);
-    all_right(
-        &rt,
-        wrong_permission(rt.alloc(), &chip, MASTERS, SHUTDOWNS)?,
-    );
-    all_right(
-        &rt,
-        wrong_permission(rt.alloc(), &chip, MASTERS, CONFIGURATIONS)?,
-    );
+    let chip = chip(rt.alloc())?;
+    for (head, rows) in LISTS.iter() {
+        all_right(&rt, wrong_permission(rt.alloc(), &chip, head, rows)?);
+    }
     Ok(())
 }
 
@@ -432,7 +434,7 @@ fn wrong_grant(
 ) -> Result<Option<usize>, Fail> {
     for (place, (rest, deed, want)) in rows.iter().enumerate() {
         let object = object_of(alloc, head, rest)?;
-        let grants = Grants::load(alloc, &object, chip)?;
+        let grants = boxed(alloc, Grants::load(alloc, &object, chip)?)?;
         if looked_up(&grants, &object, chip, *deed).unwrap_or(false) != *want {
             return Ok(Some(place));
         }
@@ -442,16 +444,9 @@ fn wrong_grant(
 
 #[test]
 fn each_permission_is_looked_up_by_places(rt: HostRuntime) -> Result<(), Fail> {
-    let chip = Box::new(rt.alloc(), chip(rt.alloc())?)?;
-    all_right(&rt, wrong_grant(rt.alloc(), &chip, MASTERS, USES)?);
-    all_right(&rt, wrong_grant(rt.alloc(), &chip, HEAD, SUSPENDS)?);
-    all_right(&rt, wrong_grant(rt.alloc(), &chip, HEAD, WAKES)?);
-    all_right(&rt, wrong_grant(rt.alloc(), &chip, MASTERS, FORCES)?);
-    all_right(&rt, wrong_grant(rt.alloc(), &chip, MASTERS, RESETS)?);
-    all_right(&rt, wrong_grant(rt.alloc(), &chip, MASTERS, SHUTDOWNS)?);
-    all_right(
-        &rt,
-        wrong_grant(rt.alloc(), &chip, MASTERS, CONFIGURATIONS)?,
-    );
+    let chip = chip(rt.alloc())?;
+    for (head, rows) in LISTS.iter() {
+        all_right(&rt, wrong_grant(rt.alloc(), &chip, head, rows)?);
+    }
     Ok(())
 }

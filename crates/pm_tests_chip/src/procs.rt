@@ -2,7 +2,7 @@
 
 use crate::chip::chip;
 use crate::permits::{HEAD, object_of};
-use crate::rows::all_right;
+use crate::rows::{all_right, boxed, same};
 use pm_base::{List, Mode, NodeId};
 use pm_perms::owner_of;
 use pm_procs::{Proc, Procs};
@@ -46,14 +46,21 @@ fn two(alloc: Global, first: usize, second: usize) -> Result<List<usize>, Fail> 
     Ok(places)
 }
 
-/// The processors of the chip, of which a first master has those at places 4 and 1, a second one those at 0
-/// and 5, and a third one none.
-fn processors(alloc: Global) -> Result<Procs, Fail> {
-    let mut members = List::new(alloc);
+/// The places of the processors of three masters: those at 4 and 1, those at 0 and 5, and none.
+fn members(alloc: Global) -> Result<Box<List<List<usize>>>, Fail> {
+    let mut members = boxed(alloc, List::new(alloc))?;
     members.push(two(alloc, 4, 1)?)?;
     members.push(two(alloc, 0, 5)?)?;
     members.push(List::new(alloc))?;
-    Ok(Procs::load(alloc, &chip(alloc)?, members)?)
+    Ok(members)
+}
+
+/// The processors of the chip, which these masters have.
+fn processors(alloc: Global) -> Result<Box<Procs>, Fail> {
+    let chip = chip(alloc)?;
+    let members = Box::into_inner(members(alloc)?);
+    let procs = Procs::load(alloc, &chip, members)?;
+    Ok(boxed(alloc, procs)?)
 }
 
 /// The place of the first pair for which a master doesn't have its mode, or another master has one.
@@ -92,10 +99,10 @@ fn a_processor_that_goes_off_forgets_its_address(rt: HostRuntime) -> Result<(), 
         mode: ASLEEP,
         address: 0xFFFF_FFFF_0000_0004,
     };
-    assert_eq!(rt; procs.proc(5), asleep);
-    assert_eq!(rt; procs.resume(4), 0);
+    same(&rt, procs.proc(5), asleep);
+    same(&rt, procs.resume(4), 0);
     procs.put(5, OFF);
-    assert_eq!(rt; (procs.mode(5), procs.resume(5)), (OFF, 0));
+    same(&rt, (procs.mode(5), procs.resume(5)), (OFF, 0));
     Ok(())
 }
 
@@ -104,8 +111,8 @@ fn what_is_not_there_is_off(rt: HostRuntime) -> Result<(), Fail> {
     let mut procs = processors(rt.alloc())?;
     procs.put(99, ACTIVE);
     procs.put_resume(99, 1);
-    assert_eq!(rt; procs.proc(99), Proc::off());
-    assert_eq!(rt; procs.members(0), [4, 1].as_slice());
+    same(&rt, procs.proc(99), Proc::off());
+    same(&rt, procs.members(0), [4, 1].as_slice());
     assert!(rt; procs.members(3).is_empty());
     Ok(())
 }
@@ -137,7 +144,7 @@ fn wrong_owner(alloc: Global, chip: &Topology) -> Result<Option<usize>, Fail> {
 
 #[test]
 fn a_processor_belongs_to_the_first_master_that_has_it(rt: HostRuntime) -> Result<(), Fail> {
-    let chip = Box::new(rt.alloc(), chip(rt.alloc())?)?;
+    let chip = chip(rt.alloc())?;
     all_right(&rt, wrong_owner(rt.alloc(), &chip)?);
     Ok(())
 }

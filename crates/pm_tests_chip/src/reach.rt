@@ -1,7 +1,7 @@
 //! What a master can reach: slaves, power nodes and reset lines, each with its path and reason.
 
 use crate::chip::chip;
-use crate::rows::all_right;
+use crate::rows::{all_right, boxed};
 use crate::topology_lists::{LINES, Lists, Master, POWERS, Power, Proc, SLAVES, built};
 use pm_base::NodeId;
 use pm_object::{Object, has_key};
@@ -214,7 +214,7 @@ pub(crate) fn wrong_case(
     cases: &[Case],
 ) -> Result<Option<usize>, Fail> {
     for (place, (text, master, rows)) in cases.iter().enumerate() {
-        let object = Box::new(alloc, build(alloc, text.as_bytes())?)?;
+        let object = boxed(alloc, build(alloc, text.as_bytes())?)?;
         if !reaches(alloc, &object, t, *master, rows)? {
             return Ok(Some(place));
         }
@@ -224,7 +224,7 @@ pub(crate) fn wrong_case(
 
 #[test]
 fn each_member_has_its_path_and_reason(rt: HostRuntime) -> Result<(), Fail> {
-    let chip = Box::new(rt.alloc(), chip(rt.alloc())?)?;
+    let chip = chip(rt.alloc())?;
     all_right(&rt, wrong_case(rt.alloc(), &chip, &CASES)?);
     Ok(())
 }
@@ -279,7 +279,7 @@ power 9 2
 
 #[test]
 fn a_power_node_with_nothing_below_is_never_reached(rt: HostRuntime) -> Result<(), Fail> {
-    let small = Box::new(rt.alloc(), built(rt.alloc(), &SMALL)?)?;
+    let small = built(rt.alloc(), &SMALL)?;
     all_right(&rt, wrong_case(rt.alloc(), &small, &EMPTY)?);
     Ok(())
 }
@@ -315,7 +315,7 @@ power 3 512
 
 #[test]
 fn each_master_that_has_a_processor_is_reached_by_it(rt: HostRuntime) -> Result<(), Fail> {
-    let shared = Box::new(rt.alloc(), built(rt.alloc(), &SHARED)?)?;
+    let shared = built(rt.alloc(), &SHARED)?;
     all_right(&rt, wrong_case(rt.alloc(), &shared, &OWNERS)?);
     Ok(())
 }

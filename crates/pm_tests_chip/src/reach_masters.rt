@@ -2,7 +2,7 @@
 
 use crate::chip::chip;
 use crate::reach::{Case, Row, reaches, wrong_case};
-use crate::rows::all_right;
+use crate::rows::{all_right, boxed};
 use pm_base::{List, NodeId};
 use pm_object::{MasterRec, Object, has_key};
 use pm_objtext::build;
@@ -85,7 +85,7 @@ static CASES: [Case; 3] = [CHAIN, TIE, DIRECT];
 
 #[test]
 fn masters_reach_one_another_by_least_paths(rt: HostRuntime) -> Result<(), Fail> {
-    let chip = Box::new(rt.alloc(), chip(rt.alloc())?)?;
+    let chip = chip(rt.alloc())?;
     all_right(&rt, wrong_case(rt.alloc(), &chip, &CASES)?);
     Ok(())
 }
@@ -138,7 +138,7 @@ static FOUR: [(&[Master], u32, &[Row]); 2] = [
 ];
 
 fn object_of(alloc: Global, masters: &[Master]) -> Result<Box<Object>, Fail> {
-    let mut object = Box::new(alloc, Object::unset(alloc, List::new(alloc)))?;
+    let mut object = boxed(alloc, Object::unset(alloc, List::new(alloc)))?;
     for (node, mask, suspend, wake) in masters {
         object.masters.push(MasterRec {
             node: *node,
@@ -163,7 +163,7 @@ fn wrong_four(alloc: Global, t: &Topology) -> Result<Option<usize>, Fail> {
 
 #[test]
 fn four_masters_reach_one_another_by_least_paths(rt: HostRuntime) -> Result<(), Fail> {
-    let chip = Box::new(rt.alloc(), chip(rt.alloc())?)?;
+    let chip = chip(rt.alloc())?;
     all_right(&rt, wrong_four(rt.alloc(), &chip)?);
     Ok(())
 }
@@ -249,7 +249,8 @@ fn object_for(alloc: Global, reason: &Reason) -> Result<Box<Object>, Fail> {
     let text = format!(in alloc;
         "header\nsection masters\nmaster 1 1 100 0 0\nmaster 7 256 100 {suspend} {wake}\n{sections}"
     )?;
-    Ok(Box::new(alloc, build(alloc, text.as_bytes())?)?)
+    let object = build(alloc, text.as_bytes())?;
+    Ok(boxed(alloc, object)?)
 }
 
 /// The reason for which master 7 of an object reaches master 1.
@@ -280,7 +281,7 @@ fn wrong_reason(alloc: Global, t: &Topology) -> Result<Option<usize>, Fail> {
 
 #[test]
 fn a_master_is_reached_for_its_first_reason(rt: HostRuntime) -> Result<(), Fail> {
-    let chip = Box::new(rt.alloc(), chip(rt.alloc())?)?;
+    let chip = chip(rt.alloc())?;
     all_right(&rt, wrong_reason(rt.alloc(), &chip)?);
     Ok(())
 }

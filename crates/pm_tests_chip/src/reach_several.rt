@@ -2,7 +2,7 @@
 
 use crate::chip::chip;
 use crate::reach::{Row, are_rows};
-use crate::rows::all_right;
+use crate::rows::{all_right, boxed};
 use pm_base::{List, NodeId};
 use pm_object::{Object, has_key};
 use pm_objtext::build;
@@ -153,8 +153,9 @@ const NEITHER: Case = (
 
 static CASES: [Case; 5] = [WAKES, FORCE_AND_USE, FIRST_REASON, SHORTER, NEITHER];
 
-fn objects_of(alloc: Global, texts: &[&str]) -> Result<List<Object>, Fail> {
-    let mut objects = List::new(alloc);
+/// The objects of these texts, in a box.
+fn objects_of(alloc: Global, texts: &[&str]) -> Result<Box<List<Object>>, Fail> {
+    let mut objects = boxed(alloc, List::new(alloc))?;
     for text in texts {
         objects.push(build(alloc, text.as_bytes())?)?;
     }
@@ -182,7 +183,7 @@ fn wrong_case(alloc: Global, t: &Topology) -> Result<Option<usize>, Fail> {
 
 #[test]
 fn one_object_permits_a_step_and_another_the_next(rt: HostRuntime) -> Result<(), Fail> {
-    let chip = Box::new(rt.alloc(), chip(rt.alloc())?)?;
+    let chip = chip(rt.alloc())?;
     all_right(&rt, wrong_case(rt.alloc(), &chip)?);
     Ok(())
 }
@@ -209,12 +210,13 @@ static REASONS: [(&str, Why); 6] = [
     ),
 ];
 
-/// Whether master 7 reaches 1 for this reason.
-fn reaches_first(alloc: Global, objects: &[Object], t: &Topology, why: Why) -> Result<bool, Fail> {
-    if !has_key(masters_of(objects), 7) {
+/// Whether master 7 of the objects of these texts reaches 1 for this reason.
+fn reaches_first(alloc: Global, texts: &[&str], t: &Topology, why: Why) -> Result<bool, Fail> {
+    let objects = objects_of(alloc, texts)?;
+    if !has_key(masters_of(objects.as_slice()), 7) {
         return Ok(false);
     }
-    let found = reach(alloc, objects, t, NodeId(7))?;
+    let found = reach(alloc, objects.as_slice(), t, NodeId(7))?;
     Ok(
         found.members.as_slice().iter().any(|member| {
             member.kind == MemberKind::Master && member.number == 1 && member.why == why
@@ -226,10 +228,8 @@ fn reaches_first(alloc: Global, objects: &[Object], t: &Topology, why: Why) -> R
 fn wrong_reason(alloc: Global, t: &Topology) -> Result<Option<usize>, Fail> {
     for (place, (rest, why)) in REASONS.iter().enumerate() {
         let text = format!(in alloc; "header\nsection masters\nmaster 1 1 100 0 0\n{rest}")?;
-        let last = objects_of(alloc, &[NOTHING, &text])?;
-        let first = objects_of(alloc, &[&text, NOTHING])?;
-        let holds = reaches_first(alloc, last.as_slice(), t, *why)?
-            && reaches_first(alloc, first.as_slice(), t, *why)?;
+        let holds = reaches_first(alloc, &[NOTHING, &text], t, *why)?
+            && reaches_first(alloc, &[&text, NOTHING], t, *why)?;
         if !holds {
             return Ok(Some(place));
         }
@@ -239,7 +239,7 @@ fn wrong_reason(alloc: Global, t: &Topology) -> Result<Option<usize>, Fail> {
 
 #[test]
 fn each_reason_may_come_of_any_object(rt: HostRuntime) -> Result<(), Fail> {
-    let chip = Box::new(rt.alloc(), chip(rt.alloc())?)?;
+    let chip = chip(rt.alloc())?;
     all_right(&rt, wrong_reason(rt.alloc(), &chip)?);
     Ok(())
 }

@@ -1,5 +1,6 @@
 //! Small topologies, built of lists.
 
+use crate::rows::boxed;
 use pm_base::{Caps, LineId, List, NoMemory, NodeId};
 use pm_topology::{LineDef, MasterDef, PowerDef, ProcDef, SlaveDef, SlaveState, Topology};
 use std::alloc::Global;
@@ -143,53 +144,59 @@ pub(crate) fn master(alloc: Global, (number, procs): Master) -> Result<MasterDef
     })
 }
 
-fn power_list(alloc: Global, entries: &[Power]) -> Result<List<PowerDef>, NoMemory> {
-    let mut list = List::new(alloc);
+fn put_powers(topology: &mut Topology, entries: &[Power]) -> Result<(), NoMemory> {
     for entry in entries {
-        list.push(power(*entry))?;
+        topology.powers.push(power(*entry))?;
     }
-    Ok(list)
+    Ok(())
 }
 
-fn proc_list(alloc: Global, entries: &[Proc]) -> Result<List<ProcDef>, NoMemory> {
-    let mut list = List::new(alloc);
+fn put_procs(topology: &mut Topology, entries: &[Proc]) -> Result<(), NoMemory> {
     for entry in entries {
-        list.push(proc(*entry))?;
+        topology.procs.push(proc(*entry))?;
     }
-    Ok(list)
+    Ok(())
 }
 
-fn slave_list(alloc: Global, entries: &[Slave]) -> Result<List<SlaveDef>, NoMemory> {
-    let mut list = List::new(alloc);
+fn put_slaves(alloc: Global, topology: &mut Topology, entries: &[Slave]) -> Result<(), NoMemory> {
     for entry in entries {
-        list.push(slave(alloc, *entry)?)?;
+        topology.slaves.push(slave(alloc, *entry)?)?;
     }
-    Ok(list)
+    Ok(())
 }
 
-fn line_list(alloc: Global, entries: &[Line]) -> Result<List<LineDef>, NoMemory> {
-    let mut list = List::new(alloc);
+fn put_lines(topology: &mut Topology, entries: &[Line]) -> Result<(), NoMemory> {
     for entry in entries {
-        list.push(line(*entry))?;
+        topology.lines.push(line(*entry))?;
     }
-    Ok(list)
+    Ok(())
 }
 
-fn master_list(alloc: Global, entries: &[Master]) -> Result<List<MasterDef>, NoMemory> {
-    let mut list = List::new(alloc);
+fn put_masters(alloc: Global, topology: &mut Topology, entries: &[Master]) -> Result<(), NoMemory> {
     for entry in entries {
-        list.push(master(alloc, *entry)?)?;
+        topology.masters.push(master(alloc, *entry)?)?;
     }
-    Ok(list)
+    Ok(())
 }
 
-pub(crate) fn built(alloc: Global, lists: &Lists) -> Result<Topology, NoMemory> {
+/// A topology of empty lists.
+fn empty(alloc: Global) -> Topology {
+    Topology {
+        slaves: List::new(alloc),
+        procs: List::new(alloc),
+        powers: List::new(alloc),
+        lines: List::new(alloc),
+        masters: List::new(alloc),
+    }
+}
+
+pub(crate) fn built(alloc: Global, lists: &Lists) -> Result<Box<Topology>, NoMemory> {
     let (powers, procs, slaves, lines, masters) = *lists;
-    Ok(Topology {
-        slaves: slave_list(alloc, slaves)?,
-        procs: proc_list(alloc, procs)?,
-        powers: power_list(alloc, powers)?,
-        lines: line_list(alloc, lines)?,
-        masters: master_list(alloc, masters)?,
-    })
+    let mut topology = boxed(alloc, empty(alloc))?;
+    put_powers(&mut topology, powers)?;
+    put_procs(&mut topology, procs)?;
+    put_slaves(alloc, &mut topology, slaves)?;
+    put_lines(&mut topology, lines)?;
+    put_masters(alloc, &mut topology, masters)?;
+    Ok(topology)
 }

@@ -87,27 +87,9 @@ fn a_task_is_due_once_in_a_tick(rt: HostRuntime) -> Result<(), Fail> {
     Ok(())
 }
 
-#[test]
-fn intervals_of_one_and_about_the_tick(rt: HostRuntime) -> Result<(), Fail> {
-    let events = [
-        Happening::Start(0, 1),
-        Happening::Start(1, 9),
-        Happening::Start(2, 10),
-        Happening::Start(3, 11),
-        Happening::Start(4, 0xFFFF_FFFF),
-        Happening::Start(5, 0),
-        Happening::Start(6, 1),
-        Happening::Tick(0),
-        Happening::Tick(10),
-        Happening::Tick(1),
-        Happening::Tick(9),
-        Happening::Tick(0xFFFF_FFEA),
-        Happening::Tick(1),
-        Happening::Tick(0xFFFF_FFFE),
-        Happening::Tick(0xFFFF_FFFF),
-    ];
-    let lines = lines_of(rt.alloc(), 6, &events)?;
-    let expected = [
+/// What the tasks at intervals of 1, 9, 10, 11 and the greatest come to.
+fn of_intervals() -> [Line; 25] {
+    [
         Line::NoTask(5),
         Line::NoTask(6),
         fired(0, 10, 1),
@@ -133,7 +115,30 @@ fn intervals_of_one_and_about_the_tick(rt: HostRuntime) -> Result<(), Fail> {
         fired(2, 0x2_FFFF_FFFC, 5),
         fired(3, 0x2_FFFF_FFFC, 4),
         fired(4, 0x2_FFFF_FFFC, 2),
+    ]
+}
+
+#[test]
+fn intervals_of_one_and_about_the_tick(rt: HostRuntime) -> Result<(), Fail> {
+    let events = [
+        Happening::Start(0, 1),
+        Happening::Start(1, 9),
+        Happening::Start(2, 10),
+        Happening::Start(3, 11),
+        Happening::Start(4, 0xFFFF_FFFF),
+        Happening::Start(5, 0),
+        Happening::Start(6, 1),
+        Happening::Tick(0),
+        Happening::Tick(10),
+        Happening::Tick(1),
+        Happening::Tick(9),
+        Happening::Tick(0xFFFF_FFEA),
+        Happening::Tick(1),
+        Happening::Tick(0xFFFF_FFFE),
+        Happening::Tick(0xFFFF_FFFF),
     ];
+    let lines = lines_of(rt.alloc(), 6, &events)?;
+    let expected = of_intervals();
     assert_eq!(rt; lines.as_slice(), expected.as_slice());
     Ok(())
 }

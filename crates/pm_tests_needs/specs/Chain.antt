@@ -2,7 +2,7 @@
 use Rattle.std.specs.Prelude.{Bool, Some, None, List, [], ◌∷◌, false}
 use Rattle.pm_topology.specs.declared.topology.ProcDef.{ProcDef}
 use Rattle.pm_topology.specs.declared.topology.PowerDef.{PowerDef}
-use Rattle.pm_topology.specs.Chip.{node, power, proc}
+use Rattle.pm_chip.specs.Chip.{node, power, proc}
 use Rattle.pm_power.specs.declared.child.Child.{Child}
 use Rattle.pm_power.specs.Needs.{child}
 

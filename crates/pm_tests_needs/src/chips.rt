@@ -1,7 +1,7 @@
 //! The chips of the tests: a chain of power nodes, and a tree of them. They have no slaves.
 
 ghost use Rattle.std.specs.Prelude.{◌≡◌, [], false, IfOk};
-ghost use Rattle.pm_topology.specs.Chip.{power, proc};
+ghost use Rattle.pm_chip.specs.Chip.{power, proc};
 ghost use Rattle.pm_tests_needs.specs.Chain.{powers, procs};
 
 use pm_base::{List, NoMemory, NodeId};

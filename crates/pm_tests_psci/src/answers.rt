@@ -1,9 +1,10 @@
 //! What calls are answered.
 
 use crate::tables::{Words, all_right, smc_of};
+use pm_chip::zynqmp;
 use pm_ipi::Response;
 use pm_psci::answer;
-use pm_topology::{Topology, zynqmp};
+use pm_topology::Topology;
 use std::test::Fail;
 
 const ON: Words = (2, 0xC400_0003, [1, 4096, 0]);

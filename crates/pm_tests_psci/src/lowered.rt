@@ -2,8 +2,9 @@
 
 use crate::tables::{Words, all_right, smc_of};
 use pm_base::{Event, Message, NodeId};
+use pm_chip::zynqmp;
 use pm_psci::lower;
-use pm_topology::{Topology, zynqmp};
+use pm_topology::Topology;
 use std::test::Fail;
 
 /// What a call comes to.

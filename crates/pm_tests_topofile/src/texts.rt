@@ -1,8 +1,8 @@
 //! Texts that are read, and what is printed of their topologies.
 
 use crate::rows::all_right;
+use pm_chip::zynqmp;
 use pm_topofile::{print_topology, read_topology};
-use pm_topology::zynqmp;
 use std::alloc::{AllocError, Global};
 use std::test::Fail;
 

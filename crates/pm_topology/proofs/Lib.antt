@@ -1,9 +1,7 @@
-pub mod Groups
 pub mod Entries
 pub mod Causes
 pub mod MastersLaw
 pub mod WellFormedLaw
-pub mod ChipLaw
 pub mod Upwards
 pub mod BelowLaw
 pub mod KindLaw

@@ -1,18 +1,19 @@
 -- A table of units: what is read after a write, and what a table of keys shows as one of units.
 use Rattle.std.proofs.Common.{◌&&◌, ◌≡◌, ℕ, ◌+◌, ◌<◌, ◌≤◌, ◌||◌, ◌==◌, Bool, true, false, not, cond, nat_lt, List, [], ◌∷◌, ◌++◌, length, take, drop, Option, Some, None, refl, ap, sym, ◌∙◌, suc, zero, arith, get_or, subst}
-use Rattle.std.specs.Prelude.{slice_get, position, is_some}
+use Rattle.std.specs.Prelude.{slice_get, position, is_some, unwrap_or, IfSome}
 use Rattle.std.specs.List.{list_all, position_or_len}
 use Rattle.std.specs.Option.{option_map}
-use Rattle.std.specs.Map.{lookup, keys_of}
+use Rattle.std.specs.Map.{keys_of}
 use Rattle.std.proofs.lemmas.Bool.Decides.{nat_tests}
 use Rattle.std.proofs.lemmas.List.{length-map, map-append, take_more}
 use Rattle.indexmap.specs.IndexMap.{insert_entry, set_value_at}
+use Rattle.pm_base.specs.declared.names.NodeId.{NodeId}
 use Rattle.pm_base.specs.declared.names.Unit.{Unit}
 use Rattle.pm_base.specs.declared.names.Unit.TheVariants.{Node, Line}
 use Rattle.pm_base.specs.contracts.names.UnitPartialEq.TheImpl as equality
 use Rattle.pm_topology.specs.declared.topology.Topology.{Topology}
 use Rattle.pm_topology.specs.Units.{same_unit, is_before, rises, has_in, has_unit, units_of}
-use Rattle.pm_topology.specs.UnitMap.{Sets, units_in, all_at, value_of, place_of, set_entry, with_value, with_value_at, mapped}
+use Rattle.pm_topology.specs.UnitMap.{AreNodePlaces, Sets, units_in, all_at, value_of, place_of, set_entry, with_value, with_value_at, mapped}
 use Rattle.pm_base.proofs.Booleans.{both, neither}
 use Rattle.pm_topology.proofs.UnitsLaw.{units_of-has, same_is, none_after, after_differs}
 
@@ -286,6 +287,100 @@ module _ {T : Type 0} where
       step (x ∷ entries) zero here = let same : x ≡ e = cc in ap (λ y. (x.0, f y.0 y.1) ∷ entries) (sym same)
       step (x ∷ entries) (suc place) here = ap (λ es. (x.0, f x.0 x.1) ∷ es) (step entries place here)
 
+-- ---- the places of nodes by number
+
+module _ {T : Type 0} where
+  -- a write at a place leaves the places of all units
+  same_first : (place : ℕ) (value : T) (entries : List (Unit × T)) (unit : Unit)
+      → position_or_len (λ e. same_unit e.0 unit) (with_value_at place value entries) ≡ position_or_len (λ e. same_unit e.0 unit) entries
+  same_first place value [] unit = refl
+  same_first zero value (e ∷ entries) unit = refl
+  same_first (suc place) value (e ∷ entries) unit = ap (λ n. cond (not (same_unit e.0 unit)) (1 + n) 0) (same_first place value entries unit)
+
+  same_length : (place : ℕ) (value : T) (entries : List (Unit × T)) → length (with_value_at place value entries) ≡ length entries
+  same_length place value [] = refl
+  same_length zero value (e ∷ entries) = refl
+  same_length (suc place) value (e ∷ entries) = ap suc (same_length place value entries)
+
+  pub place_of-with_at : (place : ℕ) (value : T) (entries : List (Unit × T)) (unit : Unit)
+      → place_of (with_value_at place value entries) unit ≡ place_of entries unit
+  place_of-with_at place value entries unit =
+      ap (λ n. cond (nat_lt n (length (with_value_at place value entries))) (Some n) None) (same_first place value entries unit)
+      ∙ ap
+      (λ len. cond (nat_lt (position_or_len (λ (e : Unit × T). same_unit e.0 unit) entries) len) (Some (position_or_len (λ (e : Unit × T). same_unit e.0 unit) entries)) None)
+      (same_length place value entries)
+
+  pub places_stay : (place : ℕ) (value : T) (entries : List (Unit × T)) (places : List (Option ℕ)) → AreNodePlaces entries places
+      → AreNodePlaces (with_value_at place value entries) places
+  places_stay place value entries places are number found here =
+      place_of-with_at place value entries (Node (record { 0 = number })) ∙ are number found here
+
+  -- the place that is kept for a node, if one is
+  pub kept_for : (entries : List (Unit × T)) (places : List (Option ℕ)) (unit : Unit) (node : NodeId) (found : Option ℕ)
+      → AreNodePlaces entries places
+      → unit ≡ Node node
+      → found ≡ unwrap_or (slice_get places node.0) None
+      → IfSome found (λ place. place_of entries unit ≡ Some place)
+  kept_for entries places unit node None are is found = tt
+  kept_for entries places unit node (Some place) are is found = at (slice_get places node.0) refl found
+    where
+      at : (o : Option (Option ℕ)) → slice_get places node.0 ≡ o → Some place ≡ unwrap_or o None → place_of entries unit ≡ Some place
+      at None here kept = cc
+      at (Some other) here kept = ap (place_of entries) is ∙ are node.0 place (here ∙ ap Some (sym kept))
+
+  pub one_more_place : (entries : List (Unit × T)) (places : List (Option ℕ)) (number : ℕ) (place : Option ℕ)
+      → length places ≡ number
+      → AreNodePlaces entries places
+      → place ≡ place_of entries (Node (record { 0 = number }))
+      → AreNodePlaces entries (places ++ place ∷ [])
+  one_more_place entries places number place count are is =
+      λ n found here. all_and_last At places place (λ k x there found kept. are k found (there ∙ ap Some kept))
+      (λ found kept. sym is_at ∙ kept) n (Some found) here found refl
+    where
+      At : ℕ → Option ℕ → Type 0
+      At number x = (found : ℕ) → x ≡ Some found → place_of entries (Node (record { 0 = number })) ≡ Some found
+
+      is_at : place ≡ place_of entries (Node (record { 0 = length places }))
+      is_at = is ∙ ap (λ (n : ℕ). place_of entries (Node (record { 0 = n }))) (sym count)
+
+      all_and_last : {X : Type 0} (P : ℕ → X → Type 0) (xs : List X) (y : X) → ((k : ℕ) (x : X) → slice_get xs k ≡ Some x → P k x) → P (length xs) y
+          → (k : ℕ) (x : X) → slice_get (xs ++ y ∷ []) k ≡ Some x → P k x
+      all_and_last P [] y all last zero x here = let same : y ≡ x = cc in subst (P 0) same last
+      all_and_last P [] y all last (suc k) x here = cc
+      all_and_last P (z ∷ xs) y all last zero x here = all zero x here
+      all_and_last P (z ∷ xs) y all last (suc k) x here = all_and_last (λ k. P (suc k)) xs y (λ k. all (suc k)) last k x here
+
+  -- the value of a unit stands at its place
+  value_at : (entries : List (Unit × T)) (unit : Unit)
+      → option_map (λ e. e.1) (slice_get entries (position_or_len (λ e. same_unit e.0 unit) entries)) ≡ value_of entries unit
+  value_at [] unit = refl
+  value_at (e ∷ entries) unit = at (same_unit e.0 unit) (value_at entries unit)
+    where
+      at : (b : Bool)
+          → option_map (λ (e : Unit × T). e.1) (slice_get entries (position_or_len (λ e. same_unit e.0 unit) entries)) ≡ value_of entries unit
+          → option_map (λ (e : Unit × T). e.1) (slice_get (e ∷ entries) (cond (not b) (1 + position_or_len (λ e. same_unit e.0 unit) entries) 0))
+          ≡ cond b (Some e.1) (value_of entries unit)
+      at true later = refl
+      at false later =
+          let next : 1 + position_or_len (λ (e : Unit × T). same_unit e.0 unit) entries ≡ suc (position_or_len (λ (e : Unit × T). same_unit e.0 unit) entries) = omega arith in
+          rw next later
+
+  pub found_at : (entries : List (Unit × T)) (unit : Unit) (place : ℕ) (found : Option (Unit × T))
+      → place_of entries unit ≡ Some place → found ≡ slice_get entries place → value_of entries unit ≡ option_map (λ e. e.1) found
+  found_at entries unit place found here is =
+      let at : place ≡ position_or_len (λ (e : Unit × T). same_unit e.0 unit) entries = grind (arith, nat_tests) in
+      sym (value_at entries unit) ∙ ap (λ k. option_map (λ (e : Unit × T). e.1) (slice_get entries k)) (sym at) ∙ ap (option_map (λ (e : Unit × T). e.1)) (sym is)
+
+  pub found_nowhere : (entries : List (Unit × T)) (unit : Unit) → place_of entries unit ≡ None → value_of entries unit ≡ None
+  found_nowhere entries unit none =
+      let out : length entries ≤ position_or_len (λ (e : Unit × T). same_unit e.0 unit) entries = grind (arith, nat_tests) in
+      sym (value_at entries unit) ∙ ap (option_map (λ (e : Unit × T). e.1)) (past entries _ out)
+    where
+      past : (entries : List (Unit × T)) (k : ℕ) → length entries ≤ k → slice_get entries k ≡ None
+      past [] k out = refl
+      past (e ∷ entries) zero out = absurd (omega arith)
+      past (e ∷ entries) (suc k) out = past entries k (omega arith)
+
 -- ---- the same of a hash table, whose keys are units
 
 pub agrees : (a b : Unit) → equality.eq-value.it a b ≡ same_unit b a
@@ -295,12 +390,6 @@ agrees (Line a) (Node b) = refl
 agrees (Line a) (Line b) = swapped a.0 b.0
 
 module _ {T : Type 0} where
-  pub value_of-is : (unit : Unit) (entries : List (Unit × T)) → lookup (equality.eq-value.it unit) entries ≡ value_of entries unit
-  value_of-is unit [] = refl
-  value_of-is unit (e ∷ entries) =
-      ap (λ b. cond b (Some e.1) (lookup (equality.eq-value.it unit) entries)) (agrees unit e.0)
-      ∙ ap (λ v. cond (same_unit e.0 unit) (Some e.1) v) (value_of-is unit entries)
-
   place_or_len : (unit : Unit) (entries : List (Unit × T)) → position_or_len (equality.eq-value.it unit) (keys_of entries) ≡ position_or_len (λ e. same_unit e.0 unit) entries
   place_or_len unit [] = refl
   place_or_len unit (e ∷ entries) =

@@ -1,5 +1,3 @@
-pub mod Chip
-pub mod Classes
 pub mod FirstFault
 pub mod Masters
 pub mod Places

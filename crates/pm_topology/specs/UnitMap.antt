@@ -2,6 +2,7 @@
 use Rattle.std.specs.Prelude.{◌≡◌, ◌++◌, ℕ, ◌+◌, ◌==◌, ◌&&◌, true, zero, suc, if◌then◌else◌, Option, Some, None, is_some, List, [], ◌∷◌, map, position, slice_get, take, drop}
 use Rattle.std.specs.Option.{option_map}
 use Rattle.pm_base.specs.declared.names.Unit.{Unit}
+use Rattle.pm_base.specs.declared.names.Unit.TheVariants.{Node}
 use Rattle.pm_topology.specs.Units.{same_unit, has_in, rises}
 
 abbrev pub units_in : {T : Type 0} → List (Unit × T) → List Unit
@@ -22,6 +23,11 @@ value_of (e ∷ entries) unit = if same_unit e.0 unit then Some e.1 else value_o
 -- the place of a unit, where it is there
 abbrev pub place_of : {T : Type 0} → List (Unit × T) → Unit → Option ℕ
 place_of entries unit = position (λ e. same_unit e.0 unit) entries
+
+-- of the nodes with numbers from 0 on, these are the places, as far as they are kept
+abbrev pub AreNodePlaces : {T : Type 0} → List (Unit × T) → List (Option ℕ) → Type 0
+AreNodePlaces entries places = (number place : ℕ) → slice_get places number ≡ Some (Some place)
+    → place_of entries (Node (record { 0 = number })) ≡ Some place
 
 -- the entries with this value at this unit; where it isn't there nothing changes
 abbrev pub set_entry : {T : Type 0} → Unit → T → Unit × T → Unit × T

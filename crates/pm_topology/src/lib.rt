@@ -3,8 +3,6 @@
 #![tactic(auto)]
 
 pub mod check;
-pub mod chip;
-pub mod classes;
 pub mod faults;
 pub mod laws;
 pub mod masters;
@@ -13,11 +11,12 @@ pub mod topology;
 pub mod unit_map;
 pub mod units;
 
-pub use chip::zynqmp;
 pub use faults::{TopoCause, TopoFault};
 pub use laws::{kinds_are_exact, unit_map_places, unit_maps, units_stand_in_order};
 pub use places::Kind;
-pub use topology::{LineDef, MasterDef, PowerDef, ProcDef, SlaveDef, SlaveState, Topology};
+pub use topology::{
+    LineDef, MasterDef, PowerDef, ProcDef, SlaveDef, SlaveState, Topology, list_of,
+};
 pub use unit_map::UnitMap;
 pub use units::{
     has_unit, is_before, kind_needs_power, needs_in, needs_power, parent_of_unit, same_unit,

@@ -2,7 +2,7 @@
 
 ghost use Rattle.std.specs.Prelude.{◌≡◌, IfOk};
 
-use pm_base::{Caps, LineId, List, NoMemory, NodeId};
+use pm_base::{Caps, LineId, List, NoMemory, NodeId, with};
 use std::alloc::Global;
 
 /// One state of a slave: what it can do there, how long it takes to leave it, whether it needs
@@ -78,18 +78,24 @@ impl Topology {
     pub fn copy(&self, alloc: Global) -> Result<Topology, NoMemory>
         ensures { IfOk result (λ copied. copied ≡ self.now) }
     {
+        let slaves = copy_of_slaves(alloc, self.slaves.as_slice())?;
+        let nodes = with(slaves, list_of(alloc, self.procs.as_slice()))?;
+        let nodes = with(nodes, list_of(alloc, self.powers.as_slice()))?;
+        let parts = with(nodes, list_of(alloc, self.lines.as_slice()))?;
+        let parts = with(parts, copy_of_masters(alloc, self.masters.as_slice()))?;
+        let ((((slaves, procs), powers), lines), masters) = parts;
         Ok(Topology {
-            slaves: copy_of_slaves(alloc, self.slaves.as_slice())?,
-            procs: list_of(alloc, self.procs.as_slice())?,
-            powers: list_of(alloc, self.powers.as_slice())?,
-            lines: list_of(alloc, self.lines.as_slice())?,
-            masters: copy_of_masters(alloc, self.masters.as_slice())?,
+            slaves,
+            procs,
+            powers,
+            lines,
+            masters,
         })
     }
 }
 
 /// A list of these items.
-pub(crate) fn list_of<T: Copy + Drop>(alloc: Global, items: &[T]) -> Result<List<T>, NoMemory>
+pub fn list_of<T: Copy + Drop>(alloc: Global, items: &[T]) -> Result<List<T>, NoMemory>
     ensures { IfOk result (λ list. list ≡ items.now) }
 {
     let mut list = List::new(alloc);

@@ -1,35 +1,42 @@
 //! A table of units.
 
-ghost use Rattle.std.specs.Prelude.{◌≡◌, ◌&&◌, ◌++◌, ◌∷◌, [], length, slice_get, true, false, if◌then◌else◌, is_some, Some, None, IfOk, OnOk};
+ghost use Rattle.std.specs.Prelude.{◌≡◌, ◌&&◌, ◌++◌, ◌∷◌, [], length, slice_get, true, false, if◌then◌else◌, is_some, Some, None, IfOk, IfSome, OnOk};
 ghost use Rattle.pm_base.specs.declared.names.Unit.{Unit as Part};
-ghost use Rattle.pm_topology.specs.UnitMap.{Sets, all_at, place_of, units_in, value_of, with_value, with_value_at};
+ghost use Rattle.pm_topology.specs.UnitMap.{AreNodePlaces, Sets, all_at, place_of, units_in, value_of, with_value, with_value_at};
 ghost use Rattle.pm_topology.specs.Units.{has_in, has_unit, rises, same_unit, units_of};
 
 use crate::topology::Topology;
 use crate::units::units_of;
 use indexmap::IndexMap;
-use pm_base::{NoMemory, Unit};
+use pm_base::{List, NoMemory, NodeId, Unit, at_or};
 use std::alloc::Global;
 use std::marker::Model;
 
+/// The number from which on a node's place isn't kept by number.
+const NUMBERED: u32 = 1024;
+
 /// One value for each unit, in the order of units: nodes by number, and then reset lines by number.
-/// A look-up by unit or by place takes constant time.
+/// A look-up by unit or by place takes constant time: nodes with low numbers, which is as a rule all of
+/// them, are found by number, and other units by hash.
 #[derive(Drop)]
 pub struct UnitMap<T> {
     entries: IndexMap<Unit, T>,
+    /// The places of nodes by number.
+    places: List<Option<usize>>,
 }
 
 impl<T> Model for UnitMap<T> {
     ghost use Rattle.std.specs.Prelude.{◌≡◌, true, List};
     ghost use Rattle.pm_base.specs.declared.names.Unit.{Unit};
-    ghost use Rattle.pm_topology.specs.UnitMap.{units_in};
+    ghost use Rattle.pm_topology.specs.UnitMap.{AreNodePlaces, units_in};
     ghost use Rattle.pm_topology.specs.Units.{rises};
 
     ghost Value = { List (Unit × T) };
 
     ghost view = { λ map. map.entries.entries };
 
-    ghost invariant = { λ map. rises (units_in map.entries.entries) ≡ true };
+    ghost invariant = { λ map. (rises (units_in map.entries.entries) ≡ true)
+        × AreNodePlaces map.entries.entries map.places };
 }
 
 impl<T> UnitMap<T> {
@@ -46,7 +53,20 @@ impl<T> UnitMap<T> {
         ensures place { result ≡ place_of self.now unit }
         ensures rising { rises (units_in self.now) ≡ true }
     {
-        self.entries.get_index_of(&unit)
+        match self.kept_place(unit) {
+            Some(place) => Some(place),
+            None => self.entries.get_index_of(&unit),
+        }
+    }
+
+    /// The place that is kept for a unit, if one is.
+    fn kept_place(&self, unit: Unit) -> Option<usize>
+        ensures { IfSome result (λ place. place_of self.now unit ≡ Some place) }
+    {
+        match unit {
+            Unit::Node(node) => at_or(self.places.as_slice(), node.0 as usize, None),
+            Unit::Line(_) => None,
+        }
     }
 }
 
@@ -71,7 +91,9 @@ impl<T: Copy + Drop> UnitMap<T> {
         ensures value { result ≡ value_of self.now unit }
         ensures rising { rises (units_in self.now) ≡ true }
     {
-        self.entries.get(&unit).copied()
+        let place = self.place(unit)?;
+        let (_, value) = self.entry(place)?;
+        Some(value)
     }
 
     /// The unit at a place and its value, where there is one.
@@ -117,7 +139,37 @@ fn filled<T: Copy + Drop>(alloc: Global, units: &[Unit], value: T) -> Result<Uni
     ensures { IfOk result (λ map. map ≡ all_at value units.now) }
 {
     let entries = filled_entries(alloc, units, value)?;
-    Ok(UnitMap { entries })
+    let places = node_places(alloc, &entries, end_of_numbers(units))?;
+    Ok(UnitMap { entries, places })
+}
+
+/// One past the highest number of a node whose place is kept by number.
+fn end_of_numbers(units: &[Unit]) -> u32 {
+    units.iter().map(end_of_number).max().unwrap_or(0)
+}
+
+/// One past the number of a node whose place is kept by number, and 0 of another unit.
+fn end_of_number(unit: &Unit) -> u32 {
+    match unit {
+        Unit::Node(node) if node.0 < NUMBERED => node.0 + 1,
+        _ => 0,
+    }
+}
+
+/// The places of the nodes with numbers below this one, by number.
+fn node_places<T>(
+    alloc: Global,
+    entries: &IndexMap<Unit, T>,
+    end: u32,
+) -> Result<List<Option<usize>>, NoMemory>
+    ensures { IfOk result (λ places. AreNodePlaces entries.now.entries places) }
+{
+    let mut places = List::new(alloc);
+    for number in 0..end {
+        let place = entries.get_index_of(&Unit::Node(NodeId(number)));
+        places.push(place)?;
+    }
+    Ok(places)
 }
 
 fn filled_entries<T: Copy + Drop>(

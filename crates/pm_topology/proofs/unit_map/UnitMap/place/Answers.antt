@@ -1,15 +1,23 @@
--- The hash table has the unit at the place.
-use Rattle.std.proofs.Common.{ap, sym, ◌∙◌}
+-- The place is kept, or the hash table has the unit there.
+use Rattle.std.proofs.Common.{◌≡◌, Some, ap, sym, ◌∙◌, subst}
+use Rattle.std.specs.Prelude.{IfSome}
 use Rattle.pm_topology.specs.Units.{rises}
 use Rattle.pm_topology.specs.UnitMap.{place_of, units_in}
 use Rattle.pm_topology.proofs.UnitMapLaw.{place_of-is}
 use Rattle.pm_topology.proofs.unit_map.UnitMap.place.Goals as goal
 
-pub returns-clause-place : goal.returns-clause-place
-returns-clause-place g c =
+pub returns-in-None-clause-place : goal.returns-in-None-clause-place
+returns-in-None-clause-place g c =
     c.get_index_of.ensures.index
     ∙ place_of-is c.args.unit c.self.inside.entries.entries
     ∙ ap (λ entries. place_of entries c.args.unit) c.self.view_is
 
-pub returns-clause-rising : goal.returns-clause-rising
-returns-clause-rising g c = ap (λ entries. rises (units_in entries)) (sym c.self.view_is) ∙ c.self.invariant
+pub returns-in-None-clause-rising : goal.returns-in-None-clause-rising
+returns-in-None-clause-rising g c = ap (λ entries. rises (units_in entries)) (sym c.self.view_is) ∙ c.self.invariant.0
+
+pub returns-in-Some-clause-rising : goal.returns-in-Some-clause-rising
+returns-in-Some-clause-rising g c = ap (λ entries. rises (units_in entries)) (sym c.self.view_is) ∙ c.self.invariant.0
+
+pub returns-in-Some-clause-place : goal.returns-in-Some-clause-place
+returns-in-Some-clause-place g c =
+    sym (subst (λ o. IfSome o (λ place. place_of c.args.self.now c.args.unit ≡ Some place)) c.in-Some.is c.kept_place.ensures)

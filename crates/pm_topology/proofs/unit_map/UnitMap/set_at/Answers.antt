@@ -1,17 +1,20 @@
 -- A write at a place leaves the units.
-use Rattle.std.proofs.Common.{◌≡◌, ◌≤◌, List, length, ap, ◌∙◌, subst, arith}
+use Rattle.std.proofs.Common.{◌≡◌, ◌≤◌, List, length, ap, sym, ◌∙◌, subst, arith}
 use Rattle.pm_base.specs.declared.names.Unit.{Unit}
 use Rattle.pm_topology.specs.Units.{rises}
-use Rattle.pm_topology.specs.UnitMap.{units_in, with_value_at}
-use Rattle.pm_topology.proofs.UnitMapLaw.{with_value_at-is, set_past, units_in-with_at}
+use Rattle.pm_topology.specs.UnitMap.{AreNodePlaces, units_in, with_value_at}
+use Rattle.pm_topology.proofs.UnitMapLaw.{places_stay, with_value_at-is, set_past, units_in-with_at}
 use Rattle.pm_topology.proofs.unit_map.UnitMap.set_at.Goals as goal
 
 pub invariant_of-self : goal.invariant_of-self
 invariant_of-self g c =
     let entries = c.self.inside.entries.entries in
-    ap (λ es. rises (units_in es)) (with_value_at-is entries c.args.place c.args.value)
-    ∙ ap rises (units_in-with_at c.args.place c.args.value entries)
-    ∙ c.self.invariant
+    let written = with_value_at-is entries c.args.place c.args.value in
+    let rising = ap rises (units_in-with_at c.args.place c.args.value entries) ∙ c.self.invariant.0 in
+    let places = places_stay c.args.place c.args.value entries c.self.inside.places c.self.invariant.1 in (
+      ap (λ es. rises (units_in es)) written ∙ rising,
+      subst (λ (es : List (Unit × g.row.T.Denot)). AreNodePlaces es c.self.inside.places) (sym written) places,
+    )
 
 pub returns-then-place-len-clause-entries : goal.returns-then-place-len-clause-entries
 returns-then-place-len-clause-entries g c =

@@ -8,10 +8,10 @@ use Rattle.pm_topology.specs.declared.topology.PowerDef.{PowerDef}
 use Rattle.pm_topology.specs.declared.topology.LineDef.{LineDef}
 use Rattle.pm_topology.specs.declared.topology.MasterDef.{MasterDef}
 use Rattle.pm_topology.specs.declared.topology.Topology.{Topology}
-use Rattle.pm_topology.specs.declared.classes.Class.{Class}
-use Rattle.pm_topology.specs.declared.classes.Class.TheVariants.{Memory, Dram, Peripheral, Block, External}
-use Rattle.pm_topology.specs.declared.chip.Group.{Group}
-use Rattle.pm_topology.specs.Classes.{states_of}
+use Rattle.pm_chip.specs.declared.classes.Class.{Class}
+use Rattle.pm_chip.specs.declared.classes.Class.TheVariants.{Memory, Dram, Peripheral, Block, External}
+use Rattle.pm_chip.specs.declared.chip.Group.{Group}
+use Rattle.pm_chip.specs.Classes.{states_of}
 
 abbrev pub node : ℕ → NodeId
 node number = record { 0 = number }

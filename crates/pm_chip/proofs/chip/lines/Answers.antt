@@ -2,8 +2,8 @@ use Rattle.std.proofs.Common.{◌≡◌, ℕ, ◌<◌, List, length, ◌++◌, �
 use Rattle.std.proofs.lemmas.List.{map_more}
 use Rattle.pm_topology.specs.declared.topology.SlaveDef.{SlaveDef}
 use Rattle.pm_topology.specs.declared.topology.LineDef.{LineDef}
-use Rattle.pm_topology.specs.Chip.{line_of}
-use Rattle.pm_topology.proofs.chip.lines.Goals as goal
+use Rattle.pm_chip.specs.Chip.{line_of}
+use Rattle.pm_chip.proofs.chip.lines.Goals as goal
 
 -- one more line, at the end
 line_step :

@@ -4,7 +4,7 @@ use Rattle.std.specs.List.{list_all}
 use Rattle.std.proofs.lemmas.Bool.Decides.{nat_tests}
 use Rattle.pm_topology.specs.declared.topology.SlaveState.{SlaveState}
 use Rattle.pm_topology.specs.declared.topology.SlaveDef.{SlaveDef}
-use Rattle.pm_topology.specs.Chip.{chip, slaves}
+use Rattle.pm_chip.specs.Chip.{chip, slaves}
 use Rattle.pm_topology.specs.WellFormed.{IsSupported}
 use Rattle.pm_topology.proofs.Causes.{all_at}
 use Rattle.pm_topology.proofs.WellFormedLaw.{well_formed_from}

@@ -1,6 +1,6 @@
 use Rattle.std.proofs.Common.{rules}
-use Rattle.pm_topology.proofs.Groups.{put_step}
-use Rattle.pm_topology.proofs.chip.push_group.Goals as goal
+use Rattle.pm_chip.proofs.Groups.{put_step}
+use Rattle.pm_chip.proofs.chip.push_group.Goals as goal
 
 pub loop-place-preserved : goal.loop-place-preserved
 loop-place-preserved c =

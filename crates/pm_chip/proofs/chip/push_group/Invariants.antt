@@ -1,6 +1,6 @@
 use Rattle.std.proofs.Common.{◌≡◌, ◌+◌, ◌-◌, ◌++◌}
-use Rattle.pm_topology.specs.Chip.{slaves_from}
-use Rattle.pm_topology.proofs.chip.push_group.Given as goal
+use Rattle.pm_chip.specs.Chip.{slaves_from}
+use Rattle.pm_chip.proofs.chip.push_group.Given as goal
 
 -- what was put, and what is left of the group, make the group
 abbrev pub invariant-loop-place : goal.invariant-loop-place

@@ -1,8 +1,8 @@
 -- The classes of slaves and their states.
 use Rattle.std.specs.Prelude.{ℕ, Bool, true, false, List, [], ◌∷◌}
 use Rattle.pm_topology.specs.declared.topology.SlaveState.{SlaveState}
-use Rattle.pm_topology.specs.declared.classes.Class.{Class}
-use Rattle.pm_topology.specs.declared.classes.Class.TheVariants.{Memory, Dram, Peripheral, Block, External}
+use Rattle.pm_chip.specs.declared.classes.Class.{Class}
+use Rattle.pm_chip.specs.declared.classes.Class.TheVariants.{Memory, Dram, Peripheral, Block, External}
 
 -- a state by its capabilities (ACCESS 1, CONTEXT 2, WAKEUP 4), its latency, whether it needs power, and its figure
 abbrev pub state : ℕ → ℕ → Bool → ℕ → SlaveState

@@ -1,10 +1,10 @@
 //! The classes of slaves. All slaves of a class have the same states.
 
 ghost use Rattle.std.specs.Prelude.{◌≡◌, IfOk};
-ghost use Rattle.pm_topology.specs.Classes.{state, states_of};
+ghost use Rattle.pm_chip.specs.Classes.{state, states_of};
 
-use crate::topology::{SlaveState, list_of};
 use pm_base::{Caps, List, NoMemory};
+use pm_topology::{SlaveState, list_of};
 use std::alloc::Global;
 
 /// A class of slaves.

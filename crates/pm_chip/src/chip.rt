@@ -1,14 +1,14 @@
 //! The table of the Zynq UltraScale+. The numbers are those of UG1200, the latencies and figures
 //! of power this project's own.
 
-ghost use Rattle.std.specs.Prelude.{◌≡◌, ◌++◌, IfOk, map};
+ghost use Rattle.std.specs.Prelude.{◌≡◌, ◌++◌, ◌∷◌, [], IfOk, map};
 ghost use Rattle.std.specs.List.{flat_map};
 ghost use Rattle.pm_topology.specs.WellFormed.{IsSupported};
-ghost use Rattle.pm_topology.specs.Chip.{chip, line_of, lines_of, master, masters, powers, proc, procs, power, slaves, slaves_in};
+ghost use Rattle.pm_chip.specs.Chip.{chip, line_of, lines_of, master, masters, powers, proc, procs, power, slaves, slaves_in};
 
 use crate::classes::{Class, states};
-use crate::topology::{LineDef, MasterDef, PowerDef, ProcDef, SlaveDef, Topology, list_of};
-use pm_base::{LineId, List, NoMemory, NodeId};
+use pm_base::{LineId, List, NoMemory, NodeId, with};
+use pm_topology::{LineDef, MasterDef, PowerDef, ProcDef, SlaveDef, Topology, list_of};
 use std::alloc::Global;
 
 /// The places of the power nodes.
@@ -74,13 +74,18 @@ pub fn zynqmp(alloc: Global) -> Result<Topology, NoMemory>
     ensures sound { IfOk result IsSupported }
 {
     let slaves = slaves(alloc)?;
-    let procs = procs(alloc)?;
+    let nodes = with(slaves, procs(alloc))?;
+    let lines = lines(alloc, nodes.1.as_slice(), nodes.0.as_slice());
+    let parts = with(nodes, lines)?;
+    let parts = with(parts, powers(alloc))?;
+    let parts = with(parts, masters(alloc))?;
+    let ((((slaves, procs), lines), powers), masters) = parts;
     Ok(Topology {
-        powers: powers(alloc)?,
-        lines: lines(alloc, procs.as_slice(), slaves.as_slice())?,
-        masters: masters(alloc)?,
         slaves,
         procs,
+        powers,
+        lines,
+        masters,
     })
 }
 
@@ -204,11 +209,29 @@ fn masters(alloc: Global) -> Result<List<MasterDef>, NoMemory>
     ensures { IfOk result (λ list. list ≡ masters) }
 {
     let mut masters = List::new(alloc);
-    masters.push(master(alloc, 1, &[NodeId(2), NodeId(3), NodeId(4), NodeId(5)])?)?;
-    masters.push(master(alloc, 6, &[NodeId(7)])?)?;
-    masters.push(master(alloc, 7, &[NodeId(7)])?)?;
-    masters.push(master(alloc, 8, &[NodeId(8)])?)?;
+    push_master(
+        alloc,
+        &mut masters,
+        1,
+        &[NodeId(2), NodeId(3), NodeId(4), NodeId(5)],
+    )?;
+    push_master(alloc, &mut masters, 6, &[NodeId(7)])?;
+    push_master(alloc, &mut masters, 7, &[NodeId(7)])?;
+    push_master(alloc, &mut masters, 8, &[NodeId(8)])?;
     Ok(masters)
+}
+
+/// Puts a master at the end.
+fn push_master(
+    alloc: Global,
+    masters: &mut List<MasterDef>,
+    number: u32,
+    procs: &[NodeId],
+) -> Result<(), NoMemory>
+    ensures { IfOk result (λ _. masters.new ≡ masters.old ++ master number procs.now ∷ []) }
+{
+    let made = master(alloc, number, procs)?;
+    masters.push(made)
 }
 
 /// A master by its number and its processors.

@@ -1,0 +1,7 @@
+//! The table of the Zynq UltraScale+, and the classes of its slaves.
+#![tactic(auto)]
+
+pub mod chip;
+pub mod classes;
+
+pub use chip::zynqmp;
