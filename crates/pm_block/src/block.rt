@@ -121,7 +121,8 @@ impl Piece {
     /// Puts words behind those that are there, as long as there is room among those that are kept.
     fn extend(&mut self, words: &Words) -> Result<(), NoMemory>
         ensures address { self.new.address ≡ self.old.address }
-        ensures words { OnOk result (self.new.words ≡ self.old.words ++ take (most_kept - length self.old.words) words.now) }
+        ensures words { OnOk result (self.new.words ≡ self.old.words
+            ++ take (most_kept - length self.old.words) words.now) }
     {
         let room = MOST_KEPT.saturating_sub(self.words.len());
         push_words(&mut self.words, words, room.min(words.len()))

@@ -2,12 +2,13 @@
 
 ghost use Rattle.std.specs.Prelude.{◌≡◌};
 ghost use Rattle.pm_object.specs.Grammar.{identifier, is_same};
-ghost use Rattle.pm_object.specs.Reading.{GivesAt, GivesInto, is_among, section, section_body, section_name, section_of, sections};
+ghost use Rattle.pm_object.specs.Reading.{GivesAt, GivesInto, counted_records, is_among, section, section_body, section_name, section_of, sections};
 
 use crate::masters::read_masters;
 use crate::object::{DecodeError, Object, ObjectCause, Section};
-use crate::records::{Keyed, read_list};
+use crate::records::{Keyed, Record, read_list};
 use crate::words::{Words, fault};
+use pm_base::List;
 use std::alloc::Global;
 
 impl Section {
@@ -86,6 +87,18 @@ fn read_name(order: &[Section], words: &mut Words) -> Result<Section, DecodeErro
     Ok(section)
 }
 
+/// Reads a list of records, which stands in the place of another one then.
+fn read_into<T: Record + Drop>(
+    alloc: Global,
+    list: &mut List<T>,
+    words: &mut Words,
+) -> Result<(), DecodeError>
+    ensures { GivesInto list.new words.new result (counted_records T.one words.old) }
+{
+    *list = read_list(alloc, words)?;
+    Ok(())
+}
+
 #[tactic(auto, unfolding(crate::specs::Reading::section_body, crate::specs::Reading::body))]
 fn read_body(
     alloc: Global,
@@ -97,11 +110,11 @@ fn read_body(
 {
     match section {
         Section::Masters => object.masters = read_masters(alloc, words)?,
-        Section::Slaves => object.slaves = read_list(alloc, words)?,
-        Section::Prealloc => object.groups = read_list(alloc, words)?,
-        Section::Power => object.power = read_list(alloc, words)?,
-        Section::Reset => object.reset = read_list(alloc, words)?,
-        Section::Shutdown => object.shutdown = read_list(alloc, words)?,
+        Section::Slaves => read_into(alloc, &mut object.slaves, words)?,
+        Section::Prealloc => read_into(alloc, &mut object.groups, words)?,
+        Section::Power => read_into(alloc, &mut object.power, words)?,
+        Section::Reset => read_into(alloc, &mut object.reset, words)?,
+        Section::Shutdown => read_into(alloc, &mut object.shutdown, words)?,
         Section::Config => {
             object.base_mask = words.next()?;
             object.overlay_mask = words.next()?;

@@ -8,13 +8,13 @@ use Rattle.std.proofs.lemmas.List.Elements.{All-from_recursion}
 use Rattle.pm_object.specs.declared.object.Section.{Section}
 use Rattle.pm_object.specs.declared.object.Section.TheVariants as sections
 use Rattle.pm_object.specs.Grammar.{master_words, slave_words, preset_words, pair_words}
-use Rattle.pm_base.specs.Words.{words}
+use Rattle.pm_io.specs.Words.{words}
 use Rattle.pm_objtext.specs.declared.names.Keyword.{Keyword}
 use Rattle.pm_objtext.specs.declared.names.Keyword.TheVariants as keywords
 use Rattle.pm_objtext.specs.declared.item.Item.{Item}
 use Rattle.pm_objtext.specs.declared.item.Item.TheVariants.{Empty, Header, Opens, Master, Slave, Group, Prefer, Power, Reset, Shutdown, Config, Gpo}
 use Rattle.pm_base.proofs.Booleans.{both}
-use Rattle.pm_base.proofs.LinesLemmas.{is_feed}
+use Rattle.pm_io.proofs.LinesLemmas.{is_feed}
 use Rattle.pm_objtext.specs.Names.{keyword_text, section_text}
 use Rattle.pm_objtext.specs.Printing.{number_text, numbers_line, line_of}
 use Rattle.pm_objtext.specs.Reading.{keyword_of, section_of, record_of, keyword_item, item_of}

@@ -7,7 +7,7 @@ use Rattle.std.proofs.lemmas.Bool.Decides.{nat_tests}
 use Rattle.std.proofs.lemmas.List.{append-nil}
 use Rattle.std.proofs.lemmas.List.Elements.{All-from_recursion}
 use Rattle.std.proofs.lemmas.Map.Views.{Contains-from_any}
-use Rattle.pm_base.specs.Lines.{lines_of}
+use Rattle.pm_io.specs.Lines.{lines_of}
 use Rattle.pm_base.proofs.Elements.{AllByRecursion-append, no_pairs}
 use Rattle.pm_object.specs.declared.object.PreGroup.{PreGroup}
 use Rattle.pm_object.specs.declared.object.Object.{Object}

@@ -5,8 +5,8 @@ use Rattle.std.proofs.lemmas.Bool.Decides.{nat_tests}
 use Rattle.pm_object.specs.declared.object.Pair.{Pair}
 use Rattle.pm_object.specs.declared.object.Section.{Section}
 use Rattle.pm_object.specs.Grammar.{pair_words}
-use Rattle.pm_base.specs.Words.{word_texts}
-use Rattle.pm_base.specs.Numbers.{number_of, at_most}
+use Rattle.pm_io.specs.Words.{word_texts}
+use Rattle.pm_io.specs.Numbers.{number_of, at_most}
 use Rattle.pm_objtext.specs.declared.names.Keyword.{Keyword}
 use Rattle.pm_objtext.specs.declared.names.Keyword.TheVariants as keywords
 use Rattle.pm_objtext.specs.declared.item.Item.{Item}

@@ -12,7 +12,7 @@ use Rattle.pm_object.specs.Grammar.{master_words, slave_words, preset_words, pai
 use Rattle.pm_objtext.specs.declared.names.Keyword.TheVariants as keywords
 use Rattle.pm_objtext.specs.declared.item.Item.{Item}
 use Rattle.pm_objtext.specs.declared.item.Item.TheVariants.{Empty, Header, Opens, Master, Slave, Group, Prefer, Power, Reset, Shutdown, Config, Gpo}
-use Rattle.pm_base.specs.Lines.{lines_of}
+use Rattle.pm_io.specs.Lines.{lines_of}
 use Rattle.pm_objtext.specs.Items.{header_lines, group_items, record_items, section_items}
 use Rattle.pm_objtext.specs.Printing.{line_of, ended_line, lines_text, header_items, items_of, text_of}
 use Rattle.pm_objtext.specs.Meaning.{item_before, items_in, Means}

@@ -1,7 +1,7 @@
 -- The object that a text means, or its first bad line. What a text means is said in Meaning without either of them, and the
 -- law `one_meaning` says that `building text ≡ Ok object` exactly where the text means that object.
 use Rattle.std.specs.Prelude.{ℕ, List, Option, Some, None, Result, Ok, Err}
-use Rattle.pm_base.specs.Lines.{lines_of}
+use Rattle.pm_io.specs.Lines.{lines_of}
 use Rattle.pm_object.specs.declared.object.Object.{Object}
 use Rattle.pm_objtext.specs.declared.fault.TextFault.{TextFault}
 use Rattle.pm_objtext.specs.SoFar.{SoFar, start}

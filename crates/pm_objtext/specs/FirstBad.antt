@@ -1,6 +1,6 @@
 -- The first bad line of an object's text, and the first of its causes.
 use Rattle.std.specs.Prelude.{ℕ, ◌+◌, nat_lt, if◌then◌else◌, List, [], ◌∷◌, length, Option, Some, None}
-use Rattle.pm_base.specs.Lines.{lines_of}
+use Rattle.pm_io.specs.Lines.{lines_of}
 use Rattle.pm_objtext.specs.declared.fault.TextCause.{TextCause}
 use Rattle.pm_objtext.specs.declared.fault.TextCause.TheVariants as causes
 use Rattle.pm_objtext.specs.declared.fault.TextFault.{TextFault}

@@ -3,9 +3,9 @@ use Rattle.std.specs.Prelude.{ℕ, Bool, ◌==◌, ◌&&◌, nat_lt, if◌then�
 use Rattle.std.specs.List.{list_all}
 use Rattle.std.specs.Option.{option_map}
 use Rattle.std.specs.Str.{bytes_eq}
-use Rattle.pm_base.specs.Lines.{without_return, is_plain}
-use Rattle.pm_base.specs.Words.{word_texts}
-use Rattle.pm_base.specs.Numbers.{number_of, at_most}
+use Rattle.pm_io.specs.Lines.{without_return, is_plain}
+use Rattle.pm_io.specs.Words.{word_texts}
+use Rattle.pm_io.specs.Numbers.{number_of, at_most}
 use Rattle.pm_object.specs.declared.object.Pair.{Pair}
 use Rattle.pm_object.specs.declared.object.Section.{Section}
 use Rattle.pm_objtext.specs.declared.names.Keyword.{Keyword}

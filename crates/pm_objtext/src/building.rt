@@ -1,38 +1,58 @@
 //! The object that a text means.
 
-ghost use Rattle.std.specs.Prelude.{◌≡◌, ◌≤◌, length, IfOk, Ok, Err, Some};
+ghost use Rattle.std.specs.Prelude.{◌≡◌, ◌≤◌, [], length, IfErr, IfOk, OnOk, Ok, Err, Some};
+ghost use Rattle.pm_object.specs.Answers.{FailsAs};
 ghost use Rattle.pm_object.specs.Grammar.{IsObject};
-ghost use Rattle.pm_objtext.specs.Answers.{Gives};
+ghost use Rattle.pm_objtext.specs.Answers.{Gives, fault_in};
 ghost use Rattle.pm_objtext.specs.Building.{building, judged};
+ghost use Rattle.pm_objtext.specs.Draft.{so_far};
 ghost use Rattle.pm_objtext.specs.SoFar.{start};
 ghost use Rattle.pm_objtext.specs.FirstBad.{first_bad};
 ghost use Rattle.pm_objtext.specs.Meaning.{Means};
 ghost use Rattle.pm_objtext.specs.declared.fault.TextFault.{TextFault};
 ghost use Rattle.pm_object.specs.declared.object.Object.{Object};
-ghost use Rattle.pm_base.specs.Lines.{lines_of};
+ghost use Rattle.pm_io.specs.Lines.{lines_of};
 
 use crate::draft::Draft;
 use crate::fault::{BuildError, TextCause, TextFault};
 use crate::laws::one_meaning;
-use pm_base::{Ending, split_line};
+use pm_io::{Ending, split_line};
 use pm_object::Object;
 use std::alloc::Global;
+use std::mem::drop;
 
 /// The greatest number of bytes of a text.
 const MOST_BYTES: usize = 1_048_576;
 
-/// The object of a text that isn't too long, apart from the test of its length: one loop.
-fn build_lines(alloc: Global, text: &[u8]) -> Result<Object, BuildError>
-    requires { length text.now ≤ 1048576 }
-    ensures { Gives result (judged 1 start (lines_of text.now)) }
+/// Reads the lines of a text that isn't too long, apart from `build_lines` so that no draft is owned along the loop.
+fn read_lines(alloc: Global, text: &[u8], draft: &mut Draft) -> Result<(), BuildError>
+    requires text { length text.now ≤ 1048576 }
+    requires first { draft.old.line ≡ 1 }
+    requires none { so_far draft.old ≡ start }
+    ensures read { OnOk result (judged draft.new.line (so_far draft.new) [] ≡ judged 1 start (lines_of text.now)) }
+    ensures bad { IfErr result (λ error. FailsAs fault_in error (judged 1 start (lines_of text.now))) }
 {
-    let mut draft = Draft::new(alloc);
     let mut left = text;
     'lines: while let Some((line, after)) = split_line(left, Ending::Whole) {
         draft.read(alloc, line)?;
         left = after;
     }
-    draft.finish(alloc)
+    Ok(())
+}
+
+/// The object of a text that isn't too long, apart from the test of its length.
+fn build_lines(alloc: Global, text: &[u8]) -> Result<Object, BuildError>
+    requires { length text.now ≤ 1048576 }
+    ensures { Gives result (judged 1 start (lines_of text.now)) }
+{
+    let mut draft = Draft::new(alloc);
+    match read_lines(alloc, text, &mut draft) {
+        Ok(()) => draft.finish(alloc),
+        Err(error) => {
+            drop(draft);
+            Err(error)
+        }
+    }
 }
 
 /// The object of a text, apart from `build` so that one proof alone unfolds what is built.

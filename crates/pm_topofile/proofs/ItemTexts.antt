@@ -4,9 +4,9 @@ use Rattle.std.specs.List.{flat_map, list_all, AllByRecursion, All}
 use Rattle.std.proofs.lemmas.Bool.Decides.{nat_tests}
 use Rattle.std.proofs.lemmas.Fmt.{length-decimal-le}
 use Rattle.std.proofs.lemmas.List.Elements.{All-from_recursion}
-use Rattle.pm_base.specs.Lines.{lines_of}
+use Rattle.pm_io.specs.Lines.{lines_of}
 use Rattle.pm_base.proofs.Booleans.{both}
-use Rattle.pm_base.proofs.LinesLemmas.{is_feed}
+use Rattle.pm_io.proofs.LinesLemmas.{is_feed}
 use Rattle.pm_topofile.specs.declared.table.Keyword.{Keyword}
 use Rattle.pm_topofile.specs.declared.table.Keyword.TheVariants as keywords
 use Rattle.pm_topofile.specs.Table.{keyword_text, none_text}

@@ -3,9 +3,9 @@ use Rattle.std.proofs.Common.{◌≡◌, ℕ, zero, suc, ◌+◌, ◌<◌, ◌�
 use Rattle.std.specs.Prelude.{IfOk, ⊤}
 use Rattle.std.specs.List.{AllByRecursion}
 use Rattle.std.proofs.lemmas.Bool.Decides.{nat_tests}
-use Rattle.pm_base.specs.Lines.{lines_of}
-use Rattle.pm_base.specs.Numbers.{number_of, at_most}
-use Rattle.pm_base.specs.Words.{word_texts}
+use Rattle.pm_io.specs.Lines.{lines_of}
+use Rattle.pm_io.specs.Numbers.{number_of, at_most}
+use Rattle.pm_io.specs.Words.{word_texts}
 use Rattle.pm_base.specs.declared.names.NodeId.{NodeId}
 use Rattle.pm_base.proofs.Elements.{AllByRecursion-append}
 use Rattle.pm_topology.specs.declared.topology.SlaveState.{SlaveState}

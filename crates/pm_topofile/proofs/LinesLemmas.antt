@@ -2,8 +2,8 @@
 use Rattle.std.proofs.Common.{◌≡◌, ℕ, ◌<◌, false, List, [], ◌∷◌, ◌++◌, length, refl, arith}
 use Rattle.std.specs.List.{All}
 use Rattle.std.proofs.lemmas.List.Splits.{slice_split_at, length-slice_split}
-use Rattle.pm_base.specs.Lines.{parts_of, lines_of_parts, lines_of}
-use Rattle.pm_base.proofs.LinesLemmas.{is_feed}
+use Rattle.pm_io.specs.Lines.{parts_of, lines_of_parts, lines_of}
+use Rattle.pm_io.proofs.LinesLemmas.{is_feed}
 
 part_is_line : (part : List ℕ) (parts : List (List ℕ)) → 0 < length parts → lines_of_parts 1 (part ∷ parts) ≡ part ∷ lines_of_parts 1 parts
 part_is_line part [] some = absurd (omega arith)

@@ -1,6 +1,6 @@
 -- The topology that a text means, or what is wrong with the text.
 use Rattle.std.specs.Prelude.{ℕ, ◌+◌, nat_lt, if◌then◌else◌, List, [], ◌∷◌, length, Option, Some, None, Result, Ok, Err}
-use Rattle.pm_base.specs.Lines.{lines_of}
+use Rattle.pm_io.specs.Lines.{lines_of}
 use Rattle.pm_topology.specs.declared.topology.Topology.{Topology}
 use Rattle.pm_topology.specs.declared.faults.TopoFault.{TopoFault}
 use Rattle.pm_topology.specs.FirstFault.{first_fault}

@@ -3,9 +3,9 @@ use Rattle.std.specs.Prelude.{ℕ, Bool, ◌==◌, ◌&&◌, nat_lt, nat_le, if�
 use Rattle.std.specs.List.{list_all}
 use Rattle.std.specs.Option.{option_map}
 use Rattle.std.specs.Str.{bytes_eq}
-use Rattle.pm_base.specs.Lines.{without_return, is_plain}
-use Rattle.pm_base.specs.Words.{word_texts}
-use Rattle.pm_base.specs.Numbers.{number_of, at_most}
+use Rattle.pm_io.specs.Lines.{without_return, is_plain}
+use Rattle.pm_io.specs.Words.{word_texts}
+use Rattle.pm_io.specs.Numbers.{number_of, at_most}
 use Rattle.pm_base.specs.declared.names.NodeId.{NodeId}
 use Rattle.pm_topofile.specs.declared.table.Keyword.{Keyword}
 use Rattle.pm_topofile.specs.declared.table.Keyword.TheVariants as keywords

@@ -1,7 +1,7 @@
 //! The topology that a text means.
 
 ghost use Rattle.std.specs.Prelude.{◌≤◌, length, IfOk};
-ghost use Rattle.pm_base.specs.Lines.{lines_of};
+ghost use Rattle.pm_io.specs.Lines.{lines_of};
 ghost use Rattle.pm_topology.specs.WellFormed.{IsSupported};
 ghost use Rattle.pm_topofile.specs.Answers.{Gives};
 ghost use Rattle.pm_topofile.specs.Meaning.{lines_taken, meaning};
@@ -9,7 +9,7 @@ ghost use Rattle.pm_topofile.specs.Taking.{nothing};
 
 use crate::draft::Draft;
 use crate::fault::{TopoTextCause, TopoTextFault, TopologyError};
-use pm_base::{Ending, split_line};
+use pm_io::{Ending, split_line};
 use pm_topology::Topology;
 use std::alloc::Global;
 

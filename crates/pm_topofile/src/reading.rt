@@ -2,7 +2,7 @@
 
 ghost use Rattle.std.specs.Prelude.{◌≡◌, ◌≤◌, length, drop};
 ghost use Rattle.std.specs.Option.{option_map};
-ghost use Rattle.pm_base.specs.Words.{word_texts};
+ghost use Rattle.pm_io.specs.Words.{word_texts};
 ghost use Rattle.pm_topofile.specs.Reading.{is_readable, number, number_at, node_in, node_at, optional_in, optional_at, flag_at, numbers_in, power_with, proc_with, slave_with, state_with, line_with, owner_with, form_item, keyword_of, has_count, keyword_item, item_of};
 ghost use Rattle.pm_topofile.specs.Table.{greatest, greatest_caps};
 
@@ -11,7 +11,8 @@ use crate::table::{
     ALL_KEYWORDS, GREATEST, GREATEST_CAPS, GREATEST_FLAG, Keyword, keyword_text, least_words,
     most_words,
 };
-use pm_base::{Caps, LineId, NodeId, TOO_LONG, is_plain, number, without_return, word_text};
+use pm_base::{Caps, LineId, NodeId};
+use pm_io::{TOO_LONG, is_plain, number, without_return, word_text};
 use pm_topology::{LineDef, SlaveState};
 
 fn is_readable(line: &[u8]) -> bool

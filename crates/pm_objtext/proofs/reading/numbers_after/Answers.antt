@@ -1,7 +1,7 @@
 use Rattle.std.proofs.Common.{arith, ◌≡◌, ◌∙◌, sym, Some, None}
 use Rattle.std.proofs.lemmas.Bool.Decides.{nat_tests}
 use Rattle.std.proofs.lemmas.Grind.{common_steps}
-use Rattle.pm_base.specs.Words.{word_texts}
+use Rattle.pm_io.specs.Words.{word_texts}
 use Rattle.pm_objtext.specs.Reading.{number}
 use Rattle.pm_objtext.proofs.ReadingLemmas.{numbers_more, numbers_refused, numbers_many, numbers_end}
 use Rattle.pm_objtext.proofs.reading.numbers_after.Goals as goal

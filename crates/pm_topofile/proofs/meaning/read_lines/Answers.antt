@@ -1,6 +1,6 @@
 use Rattle.std.proofs.Common.{arith, ◌∙◌, sym, ap}
 use Rattle.std.proofs.lemmas.Result.{err_from_is_err_and}
-use Rattle.pm_base.specs.Lines.{lines_of}
+use Rattle.pm_io.specs.Lines.{lines_of}
 use Rattle.pm_topofile.specs.Draft.{so_far}
 use Rattle.pm_topofile.specs.Meaning.{lines_taken}
 use Rattle.pm_topofile.proofs.TakingLemmas.{line_fails, line_passes}

@@ -1,5 +1,5 @@
 use Rattle.std.proofs.Common.{◌≡◌, ◌≤◌, length, ◌+◌}
-use Rattle.pm_base.specs.Lines.{lines_of}
+use Rattle.pm_io.specs.Lines.{lines_of}
 use Rattle.pm_topofile.specs.Draft.{so_far}
 use Rattle.pm_topofile.specs.Meaning.{lines_taken}
 use Rattle.pm_topofile.specs.Taking.{nothing}

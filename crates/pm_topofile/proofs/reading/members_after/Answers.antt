@@ -2,7 +2,7 @@ use Rattle.std.proofs.Common.{arith, ◌≡◌, ◌<◌, ◌∙◌, sym, Some, N
 use Rattle.std.proofs.lemmas.Bool.Decides.{nat_tests}
 use Rattle.std.proofs.lemmas.Grind.{common_steps}
 use Rattle.std.proofs.lemmas.Option.{slice_get_within}
-use Rattle.pm_base.specs.Words.{word_texts}
+use Rattle.pm_io.specs.Words.{word_texts}
 use Rattle.pm_topofile.specs.Reading.{number}
 use Rattle.pm_topofile.specs.Table.{greatest}
 use Rattle.pm_topofile.proofs.ReadingLemmas.{numbers_more, numbers_bad, numbers_end, past_all}

@@ -1,5 +1,5 @@
 use Rattle.std.proofs.Common.{◌≡◌, ◌+◌, ◌-◌, ◌≤◌, length, drop}
-use Rattle.pm_base.specs.Words.{word_texts}
+use Rattle.pm_io.specs.Words.{word_texts}
 use Rattle.pm_topofile.specs.Reading.{numbers_in}
 use Rattle.pm_topofile.proofs.ReadingLemmas.{with_front}
 use Rattle.pm_topofile.proofs.reading.members_after.Given as goal

@@ -2,8 +2,8 @@ use Rattle.std.proofs.Common.{◌≡◌, ◌≤◌, length, ◌+◌}
 use Rattle.pm_objtext.specs.Building.{judged}
 use Rattle.pm_objtext.specs.Draft.{so_far}
 use Rattle.pm_objtext.specs.SoFar.{start}
-use Rattle.pm_base.specs.Lines.{lines_of}
-use Rattle.pm_objtext.proofs.building.build_lines.Given as goal
+use Rattle.pm_io.specs.Lines.{lines_of}
+use Rattle.pm_objtext.proofs.building.read_lines.Given as goal
 
 abbrev pub invariant-lines : goal.invariant-lines
 invariant-lines l = record {
