@@ -1,5 +1,5 @@
 -- What a change of one processor changes: that processor, and the mode of the masters that have it.
-use Rattle.std.proofs.Common.{◌≡◌, ◌≢◌, ℕ, ◌<◌, Bool, true, false, ◌==◌, List, length, true≢false, refl, ap, sym, ◌∙◌, arith, ⊎_elim}
+use Rattle.std.proofs.Common.{◌≡◌, ◌≢◌, ℕ, ◌+◌, ◌<◌, ◌≤◌, Bool, true, false, ◌==◌, List, [], Some, length, map, slice_get, unwrap_or, true≢false, refl, ap, sym, ◌∙◌, arith, ⊎_elim}
 use Rattle.std.specs.Prelude.{slice_set}
 use Rattle.std.specs.List.{list_any}
 use Rattle.std.proofs.lemmas.List.{get_or-replicate, get_or_past, length-replicate, set_past}
@@ -75,3 +75,24 @@ load m count members = all_members_off m members (all_off count) (λ p is. ap (�
 -- after all of them went off the processors are as at load
 pub restart : (procs : List Proc) → all_turned_off procs ≡ all_off (length procs)
 restart procs = sym (splat_is_map procs (length procs) off refl)
+
+-- ---- the modes that are kept
+
+-- a master that isn't there is off, and one that is there has the mode of its processors
+pub no_master : (m : ℕ) (members : List (List ℕ)) (procs : List Proc) → length members ≤ m → master_mode_in m members procs ≡ Off
+no_master m members procs past = ap (λ ps. mode_among (map (λ p. mode_at p procs) ps)) (place.past_end m [] members past)
+
+pub mode_by : (m : ℕ) (members : List (List ℕ)) (procs : List Proc) (places : List ℕ) → slice_get members m ≡ Some places → mode_among (map (λ p. mode_at p procs) places) ≡ master_mode_in m members procs
+mode_by m members procs places at = ap (λ ps. mode_among (map (λ p. mode_at p procs) (unwrap_or ps []))) (sym at)
+
+-- the modes of the masters before one are written, and then its own
+pub writes : (members : List (List ℕ)) (procs : List Proc) (modes : List Mode) (m : ℕ) (mode : Mode) → m < length modes → mode ≡ master_mode_in m members procs
+    → ((n : ℕ) → n < m → unwrap_or (slice_get modes n) Off ≡ master_mode_in n members procs)
+    → (n : ℕ) → n < m + 1 → unwrap_or (slice_get (slice_set modes m mode) n) Off ≡ master_mode_in n members procs
+writes members procs modes m mode within is earlier n before = written_at (n == m) refl
+  where
+    written_at : (b : Bool) → (n == m) ≡ b → unwrap_or (slice_get (slice_set modes m mode) n) Off ≡ master_mode_in n members procs
+    written_at true here = let at : n ≡ m = grind (arith, nat_tests) in rw at (place.set_here m mode Off modes within ∙ is)
+    written_at false other =
+        let sooner : n < m = grind (arith, nat_tests) in
+        place.set_there m n mode Off modes (differs n m other) ∙ earlier n sooner

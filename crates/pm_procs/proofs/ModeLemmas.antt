@@ -1,5 +1,5 @@
 -- The mode of several processors, one processor after another.
-use Rattle.std.proofs.Common.{◌≡◌, ℕ, Bool, true, false, ◌||◌, ◌==◌, ⊎_elim, List, [], ◌∷◌, map, refl, ap}
+use Rattle.std.proofs.Common.{◌≡◌, ℕ, Bool, true, false, ◌||◌, ◌==◌, ⊎_elim, List, [], ◌∷◌, map, refl, ap, sym, ◌∙◌}
 use Rattle.std.specs.List.{list_any}
 use Rattle.std.proofs.lemmas.Bool.{eqb-true}
 use Rattle.pm_base.specs.declared.names.Mode.{Mode}
@@ -8,9 +8,12 @@ use Rattle.pm_base.proofs.Booleans.{either, equal, first_passes, later_passes, n
 use Rattle.pm_procs.specs.Modes.{has_mode, mode_among, same_mode}
 
 -- one of these processors has the mode
-pub any_mode : (mode : Mode) (f : ℕ → Mode) (ps : List ℕ) → list_any (λ p. same_mode mode (f p)) ps ≡ has_mode mode (map f ps)
+any_mode : (mode : Mode) (f : ℕ → Mode) (ps : List ℕ) → list_any (λ p. same_mode mode (f p)) ps ≡ has_mode mode (map f ps)
 any_mode mode f [] = refl
 any_mode mode f (p ∷ ps) = ap (λ b. same_mode mode (f p) || b) (any_mode mode f ps)
+
+pub has_by : (mode : Mode) (f : ℕ → Mode) (ps : List ℕ) (b : Bool) → list_any (λ p. same_mode mode (f p)) ps ≡ b → has_mode mode (map f ps) ≡ b
+has_by mode f ps b is = sym (any_mode mode f ps) ∙ is
 
 -- the modes of processors that are alike
 pub modes_alike : (f g : ℕ → Mode) (ps : List ℕ) → ((p : ℕ) → list_any (λ q. q == p) ps ≡ true → f p ≡ g p) → map f ps ≡ map g ps

@@ -1,5 +1,5 @@
 -- The processors of a chip: the mode and the resume address of each, and which master has which of them.
-use Rattle.std.specs.Prelude.{ℕ, ◌==◌, Bool, true, false, List, Option, map, slice_get, slice_set, unwrap_or, replicate, []}
+use Rattle.std.specs.Prelude.{ℕ, ◌==◌, ◌≡◌, Bool, true, false, List, Option, map, length, slice_get, slice_set, unwrap_or, replicate, []}
 use Rattle.std.specs.List.{list_any}
 use Rattle.pm_base.specs.declared.names.Mode.{Mode}
 use Rattle.pm_base.specs.declared.names.Mode.TheVariants.{Off, Active, Asleep, Suspending}
@@ -63,6 +63,11 @@ master_mode_in m members procs = mode_among (map (λ p. mode_at p procs) (member
 
 abbrev pub master_mode : ℕ → Procs → Mode
 master_mode m procs = master_mode_in m procs.members procs.procs
+
+-- these are the modes of the masters by their places, each by the processors of its master: off where there is no master
+pub record AreModes (members : List (List ℕ)) (procs : List Proc) (modes : List Mode) : Type 0 where
+  pub places : length modes ≡ length members
+  pub each : (m : ℕ) → unwrap_or (slice_get modes m) Off ≡ master_mode_in m members procs
 
 -- a processor after it went off, whatever it was
 abbrev pub turned_off : Proc → Proc

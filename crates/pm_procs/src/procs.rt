@@ -2,9 +2,9 @@
 
 ghost use Rattle.std.specs.Prelude.{◌≡◌, IfOk, length, map, slice_set};
 ghost use Rattle.std.specs.List.{list_any};
-ghost use Rattle.pm_procs.specs.Modes.{has_mode, same_mode as is_same};
+ghost use Rattle.pm_procs.specs.Modes.{mode_among, same_mode as is_same};
 ghost use Rattle.pm_procs.specs.Pending.{all_ended, all_lowered, asked, ended, none_pending, pending_at};
-ghost use Rattle.pm_procs.specs.Procs.{all_off, all_turned_off, gone, master_mode, members_at, mode_at, off, proc_at, turned_off, wakes, with_address, with_mode};
+ghost use Rattle.pm_procs.specs.Procs.{AreModes, all_off, all_turned_off, gone, master_mode, members_at, mode_at, off, proc_at, turned_off, wakes, with_address, with_mode};
 
 use crate::modes::same_mode;
 use crate::pending::{self, Pending};
@@ -54,7 +54,8 @@ impl Proc {
 }
 
 /// The processors of a chip by their places in its table; and for each master the places of the
-/// processors that it has, its first one first, and the request to suspend that is pending on it.
+/// processors that it has, its first one first, its mode by those, and the request to suspend that is
+/// pending on it.
 ///
 /// A processor that isn't there is off. A master that isn't there has no processors, and nothing is
 /// pending on it.
@@ -62,11 +63,12 @@ impl Proc {
 pub struct Procs {
     procs: Vec<Proc>,
     members: List<List<usize>>,
+    modes: Vec<Mode>,
     pending: Vec<Option<Pending>>,
 }
 
 impl Model for Procs {
-    ghost use Rattle.pm_procs.specs.Procs.{Procs};
+    ghost use Rattle.pm_procs.specs.Procs.{AreModes, Procs};
 
     ghost Value = { Procs };
 
@@ -75,6 +77,8 @@ impl Model for Procs {
       members = procs.members;
       pending = procs.pending.items;
     } };
+
+    ghost invariant = { λ procs. AreModes procs.members procs.procs.items procs.modes.items };
 }
 
 impl Procs {
@@ -90,10 +94,13 @@ impl Procs {
         ensures pending { IfOk result (λ loaded. loaded.pending ≡ none_pending (length members)) }
     {
         let procs = all_off(alloc, t.procs.len())?;
+        let mut modes = all_modes_off(alloc, members.len())?;
+        log_modes(&procs, &members, &mut modes);
         let pending = pending::none_pending(alloc, members.len())?;
         Ok(Procs {
             procs,
             members,
+            modes,
             pending,
         })
     }
@@ -143,6 +150,7 @@ impl Procs {
     {
         if p < self.procs.len() {
             self.procs[p] = proc;
+            log_modes(&self.procs, &self.members, &mut self.modes);
         }
     }
 
@@ -151,6 +159,7 @@ impl Procs {
         ensures { self.new ≡ record self.old { procs = all_turned_off self.old.procs } }
     {
         turn_off(&mut self.procs);
+        log_modes(&self.procs, &self.members, &mut self.modes);
     }
 
     /// The places of a master's processors, its first one first.
@@ -169,15 +178,7 @@ impl Procs {
     pub fn master_mode(&self, m: usize) -> Mode
         ensures { result ≡ master_mode m self.now }
     {
-        if self.one_has_mode(m, Mode::Active) {
-            Mode::Active
-        } else if self.one_has_mode(m, Mode::Suspending) {
-            Mode::Suspending
-        } else if self.one_has_mode(m, Mode::Asleep) {
-            Mode::Asleep
-        } else {
-            Mode::Off
-        }
+        at_or(&self.modes, m, Mode::Off)
     }
 
     /// Whether some processor is asleep or suspending, and so an interrupt wakes it.
@@ -223,20 +224,40 @@ impl Procs {
     {
         pending::lower_all(&mut self.pending, count);
     }
+}
 
-    /// Whether one of a master's processors has this mode.
-    fn one_has_mode(&self, m: usize, mode: Mode) -> bool
-        ensures { result ≡ has_mode mode (map (λ p. mode_at p self.now.procs) (members_at m self.now.members)) }
-    {
-        self.one_of(self.members(m), mode)
+/// Writes the mode of each master.
+fn log_modes(procs: &[Proc], members: &List<List<usize>>, modes: &mut [Mode])
+    requires { length modes.old ≡ length members.now }
+    ensures { AreModes members.now procs.now modes.new }
+{
+    for m in 0..members.len() {
+        modes[m] = mode_of(procs, members.get(m).as_slice());
     }
+}
 
-    /// Whether one of these processors has this mode.
-    fn one_of(&self, places: &[usize], mode: Mode) -> bool
-        ensures { result ≡ list_any (λ p. is_same mode (mode_at p self.now.procs)) places.now }
-    {
-        places.iter().any(|p| same_mode(mode, self.mode(*p)))
+/// The mode of a master that has the processors at these places.
+fn mode_of(procs: &[Proc], places: &[usize]) -> Mode
+    ensures { result ≡ mode_among (map (λ p. mode_at p procs.now) places.now) }
+{
+    if one_has_mode(procs, places, Mode::Active) {
+        Mode::Active
+    } else if one_has_mode(procs, places, Mode::Suspending) {
+        Mode::Suspending
+    } else if one_has_mode(procs, places, Mode::Asleep) {
+        Mode::Asleep
+    } else {
+        Mode::Off
     }
+}
+
+/// Whether one of the processors at these places has this mode.
+fn one_has_mode(procs: &[Proc], places: &[usize], mode: Mode) -> bool
+    ensures { result ≡ list_any (λ p. is_same mode (mode_at p procs.now)) places.now }
+{
+    places
+        .iter()
+        .any(|p| same_mode(mode, at_or(procs, *p, Proc::off()).mode))
 }
 
 /// This many processors that are off.
@@ -245,6 +266,13 @@ fn all_off(alloc: Global, count: usize) -> Result<Vec<Proc>, NoMemory>
 {
     let procs = vec![in alloc; Proc::off(); count].map_err(|_| NoMemory)?;
     Ok(procs)
+}
+
+/// The modes of so many masters that are off.
+fn all_modes_off(alloc: Global, masters: usize) -> Result<Vec<Mode>, NoMemory>
+    ensures { IfOk result (λ modes. length modes.items ≡ masters) }
+{
+    vec![in alloc; Mode::Off; masters].map_err(|_| NoMemory)
 }
 
 /// All of these processors go off.

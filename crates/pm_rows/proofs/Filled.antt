@@ -5,13 +5,13 @@ use Rattle.pm_base.specs.declared.names.Mode.{Mode}
 use Rattle.pm_rows.specs.declared.row.Entry.{Entry}
 use Rattle.pm_rows.specs.declared.row.Row.{Row}
 use Rattle.pm_rows.specs.declared.row.RowSeed.{RowSeed}
-use Rattle.pm_rows.specs.Counted.{AreReady, AreTallied, Counted, Table, Tally, blank_entry, counted, counted_in, entry_in, moved}
+use Rattle.pm_rows.specs.Counted.{AreReady, AreTallied, Counted, Table, Tally, blank_entry, counted, counted_in, entry_in, limit_of, moved}
 use Rattle.pm_rows.specs.Filling.{IsFilling, blank_of, AreFilled}
 use Rattle.pm_rows.specs.Modes.{mode_in}
 use Rattle.pm_rows.specs.Rows.{loaded, loaded_entry, pair_of}
 use Rattle.pm_cells.specs.Midway.{midway}
 use Rattle.pm_cells.proofs.Midway.{midway_end, midway_get, midway_len, midway_map, midway_set}
-use Rattle.pm_rows.proofs.Tallies.{tallied_moved, tallied_ready}
+use Rattle.pm_rows.proofs.Tallies.{tallied_moved, tallied_ready, tallied_limit}
 
 map_twice : {X Y Z : Type 0} (f : X → Y) (g : Y → Z) (xs : List X) → map g (map f xs) ≡ map (λ x. g (f x)) xs
 map_twice f g [] = refl
@@ -59,6 +59,11 @@ module _ (known : List Mode) (seeds : List RowSeed) (start table : Table) (k : �
       tallied_ready rows table.tally k (counted known (blank_of x)) is.kept
       (midway_get (λ seed. counted known (loaded_entry seed)) (λ seed. counted known (blank_of seed)) seeds k x at) placed (omega (arith, size, all, few)))
       placed)
+
+  pub fill_limit : (s : ℕ) → s < length table.tally.users → slice_get table.tally.limits s ≡ Some (limit_of s table.entries)
+  fill_limit s within =
+      tallied_limit rows table.tally s table.entries is.kept within
+      (is.changed ∙ sym (midway_map entry_in (λ seed. counted known (loaded_entry seed)) (λ seed. counted known (blank_of seed)) seeds k))
 
   pub fill_next : (x : RowSeed) (entry : Entry) (mode : Mode) (row : Row) (next : Table) → slice_get seeds k ≡ Some x → slice_get table.entries k ≡ Some entry
       → mode ≡ mode_in entry.seed.master known → row ≡ loaded x → entry.seed.slave < length table.tally.users

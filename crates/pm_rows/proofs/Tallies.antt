@@ -159,3 +159,24 @@ tallied_ready rows t k x are at within few = record {
   users = ready_at uses _ rows t.users k x are.users at within few;
   limits = omega (arith, are.limits.places);
 }
+
+-- and the least latency that is kept of its slave is that of the rows
+pub tallied_limit : (rows : List Counted) (t : Tally) (s : ℕ) (entries : List Entry) → AreTallied rows t → s < length t.users
+    → entries ≡ map entry_in rows → slice_get t.limits s ≡ Some (limit_of s entries)
+tallied_limit rows t s entries are within is = are.limits.right s within ∙ ap (λ es. Some (limit_of s es)) (sym is)
+
+-- a row that allows what the one before it allowed leaves the least latency
+pub limit_same : (s : ℕ) (entries : List Entry) (k : ℕ) (x y : Entry) → slice_get entries k ≡ Some x → y.seed.slave ≡ x.seed.slave
+    → limit_by x ≡ limit_by y → limit_of s entries ≡ limit_of s (slice_set entries k y)
+limit_same s entries k x y at seat same = along s entries k None at
+  where
+    along : (s : ℕ) (entries : List Entry) (k : ℕ) (limit : Option ℕ) → slice_get entries k ≡ Some x
+        → fold (with_limit s) limit entries ≡ fold (with_limit s) limit (slice_set entries k y)
+    along s [] k limit at = cc
+    along s (z ∷ entries) zero limit at =
+        let first : z ≡ x = cc in
+        let one : with_limit s limit x ≡ with_limit s limit y =
+        ap (λ n. if n == s then least limit (limit_by x) else limit) (sym seat) ∙ ap (λ l. if y.seed.slave == s then least limit l else limit) same
+        in
+        ap (λ l. fold (with_limit s) l entries) (ap (with_limit s limit) first ∙ one)
+    along s (z ∷ entries) (suc k) limit at = along s entries k (with_limit s limit z) at

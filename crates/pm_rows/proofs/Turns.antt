@@ -20,13 +20,13 @@ use Rattle.pm_rows.specs.declared.passes.Pass.TheVariants.{One, Settle, Shift, D
 use Rattle.pm_rows.specs.Modes.{mode_in}
 use Rattle.pm_rows.specs.Rows.{is_rival, is_at}
 use Rattle.pm_rows.specs.Shift.{shifted_row, is_taken}
-use Rattle.pm_rows.specs.Counted.{Counted, Table, Tally, AreTallied, AreReady, counted, counted_in, entry_in, is_on, permitted_on, moved}
+use Rattle.pm_rows.specs.Counted.{Counted, Table, Tally, AreTallied, AreReady, counted, counted_in, entry_in, is_on, permitted_on, limit_of, moved}
 use Rattle.pm_rows.specs.Passes.{touches, row_after, passed, known_after, cost_of}
 use Rattle.pm_cells.specs.Midway.{midway}
 use Rattle.pm_rows.specs.Passing.{same, done, IsPassing}
 use Rattle.pm_cells.proofs.Midway.{midway_get, midway_set, midway_same, midway_map, midway_len, midway_count, midway_any, map_same, midway_end, there}
 use Rattle.pm_cells.proofs.Counting.{one_if}
-use Rattle.pm_rows.proofs.Tallies.{tallied_moved, tallied_ready}
+use Rattle.pm_rows.proofs.Tallies.{tallied_moved, tallied_ready, tallied_limit}
 
 if_seed : (b : Bool) (x : Entry) (r : Row) → (if b then record x { row = r } else x).seed ≡ x.seed
 if_seed true x r = refl
@@ -100,6 +100,12 @@ module _ (pass : Pass) (known : List Mode) (rows : List Entry) (start k : ℕ) (
       tallied_ready (midway (done pass known rows) (counted known) k rows) table.tally k (counted known x) is.kept
       (midway_get (done pass known rows) (counted known) rows k x at) placed
       (let size = midway_len (done pass known rows) (counted known) rows k in omega arith)
+
+  -- the least latency that is kept is that of the rows
+  pub limit_here : (s : ℕ) → s < length table.tally.users → slice_get table.tally.limits s ≡ Some (limit_of s table.entries)
+  limit_here s within =
+      tallied_limit (midway (done pass known rows) (counted known) k rows) table.tally s table.entries is.kept within
+      (is.changed ∙ sym (entries_midway pass known rows k))
 
   permitted_here : (s : ℕ) → permitted_on s table.entries ≡ permitted_on s rows
   permitted_here s =

@@ -2,7 +2,7 @@
 
 ghost use Rattle.std.specs.Prelude.{◌≡◌, ◌+◌, ◌<◌, ◌≤◌, map, sum_by, slice_set};
 ghost use Rattle.pm_rows.specs.Modes.{mode_in};
-ghost use Rattle.pm_rows.specs.Shift.{is_taken};
+ghost use Rattle.pm_rows.specs.Shift.{is_taken, shifted_row};
 ghost use Rattle.pm_rows.specs.Counted.{AreTallied, counted};
 ghost use Rattle.pm_rows.specs.Passes.{cost_of, known_after, passed, row_after};
 ghost use Rattle.pm_rows.specs.Spans.{IsCover};
@@ -11,7 +11,7 @@ use crate::modes::mode_in;
 use crate::passes::Pass;
 use crate::row::{Entry, Row};
 use crate::seeking::{Sought, is_found};
-use crate::shift::shifted_row;
+use crate::shift::{is_start, shifted_row};
 use crate::table::Table;
 use pm_base::{Mode, Steps};
 use std::marker::Brand;
@@ -47,6 +47,18 @@ fn is_taken(table: &Table, entry: &Entry) -> bool
     is_found(table, Sought::Rival(entry.seed.master, entry.seed.slave))
 }
 
+/// The row of a master whose mode changes, as it is afterwards. Who uses its slave is asked for a master that
+/// starts alone.
+fn row_shifted(table: &Table, entry: &Entry, from: Mode, to: Mode) -> Row
+    ensures { result ≡ shifted_row from to (is_taken table.now.entries entry.now) entry.now.row }
+{
+    if is_start(from, to) {
+        shifted_row(entry.row, from, to, is_taken(table, entry))
+    } else {
+        shifted_row(entry.row, from, to, false)
+    }
+}
+
 /// A row that a pass changes, as it is afterwards.
 fn row_after(table: &Table, entry: Entry, pass: Pass) -> Row
     ensures { result ≡ row_after pass table.now.entries entry }
@@ -54,7 +66,7 @@ fn row_after(table: &Table, entry: Entry, pass: Pass) -> Row
     match pass {
         Pass::One(_, _, by) => entry.row.changed(by),
         Pass::Settle(_) => entry.row.settled(),
-        Pass::Shift(_, from, to) => shifted_row(entry.row, from, to, is_taken(table, &entry)),
+        Pass::Shift(_, from, to) => row_shifted(table, &entry, from, to),
         Pass::DropSlave(_) | Pass::Clear => entry.row.cleared(),
     }
 }

@@ -45,7 +45,12 @@ impl Model for Rows {
 
     ghost Value = { Rows };
 
-    ghost view = { λ rows. record { entries = rows.table.entries; known = rows.known.items; slaves = rows.table.slaves; room = rows.table.room } };
+    ghost view = { λ rows. record {
+      entries = rows.table.entries;
+      known = rows.known.items;
+      slaves = rows.table.slaves;
+      room = rows.table.room;
+    } };
 
     ghost invariant = { λ rows. AreTallied (map (counted rows.known.items) rows.table.entries) rows.table.tally };
 }

@@ -42,6 +42,7 @@ impl Sought {
 }
 
 /// The first row that is looked for.
+#[inline(always)]
 pub(crate) fn found(table: &Table, sought: Sought) -> Option<Entry>
     ensures { result ≡ find (is_sought sought) table.now.entries }
 {

@@ -1,6 +1,6 @@
 //! The rows in cells, with what is counted of them.
 
-ghost use Rattle.std.specs.Prelude.{◌≡◌, ◌+◌, ◌≤◌, ◌<◌, ◌^◌, [], ◌&&◌, IsTrue, fold, map, length, replicate, slice_get, slice_set, slice_index, Some, IfOk, None};
+ghost use Rattle.std.specs.Prelude.{◌≡◌, ◌+◌, ◌≤◌, ◌<◌, ◌^◌, [], ◌&&◌, IsTrue, fold, map, length, replicate, slice_get, slice_set, slice_index, Some, IfOk, None, Ok};
 ghost use Rattle.std.specs.List.{list_all};
 ghost use Rattle.std.specs.Option.{option_map};
 ghost use Rattle.pm_rows.specs.Counted.{AreReady, AreTallied, counted, counted_in, blank_entry, blank_row, is_narrow, is_narrow_pair, is_placed, is_placed_seed, limit_of, no_tally, moved, permitted_on, wanted_in};
@@ -125,6 +125,19 @@ fn blank_row() -> Row
     }
 }
 
+/// Two values, of which each may be missing, where neither is.
+fn both<T: Drop, U: Drop>(
+    first: Result<T, NoMemory>,
+    second: Result<U, NoMemory>,
+) -> Result<(T, U), NoMemory>
+    ensures { IfOk result (λ pair. (first ≡ Ok pair.0) × (second ≡ Ok pair.1)) }
+{
+    match (first, second) {
+        (Ok(first), Ok(second)) => Ok((first, second)),
+        (Err(error), _) | (_, Err(error)) => Err(error),
+    }
+}
+
 impl Table {
     /// No rows, with room for so many.
     pub(crate) fn blank(alloc: Global, slaves: usize, room: usize) -> Result<Table, NoMemory>
@@ -132,17 +145,34 @@ impl Table {
         ensures { IfOk result (λ table. table
             ≡ record { entries = []; tally = no_tally slaves; slaves = slaves; room = room }) }
     {
+        let rows = both(
+            both(
+                BoundedList::with_room(alloc, room),
+                Spans::load(alloc, slaves),
+            ),
+            both(
+                Cells::load(alloc, room, blank_row()),
+                Cells::load(alloc, slaves, None),
+            ),
+        );
+        let counts = both(
+            both(Counts::load(alloc, slaves), Counts::load(alloc, slaves)),
+            both(Counts::load(alloc, slaves), Counts::load(alloc, slaves)),
+        );
+        let (rows, counts) = both(rows, counts)?;
+        let ((seeds, spans), (cells, limits)) = rows;
+        let ((access, context), (wakeup, users)) = counts;
         Ok(Table {
-            seeds: BoundedList::with_room(alloc, room)?,
+            seeds,
             room,
-            spans: Spans::load(alloc, slaves)?,
+            spans,
             narrow: true,
-            cells: Cells::load(alloc, room, blank_row())?,
-            access: Counts::load(alloc, slaves)?,
-            context: Counts::load(alloc, slaves)?,
-            wakeup: Counts::load(alloc, slaves)?,
-            users: Counts::load(alloc, slaves)?,
-            limits: Cells::load(alloc, slaves, None)?,
+            cells,
+            access,
+            context,
+            wakeup,
+            users,
+            limits,
         })
     }
 
@@ -223,8 +253,31 @@ impl Table {
         limit
     }
 
+    /// The least latency of the used rows on a slave after a row on it was put, by what that row allowed before
+    /// and allows now: the one that is kept where these are the same.
+    fn limit_after<L: Ledger>(
+        &self,
+        slave: usize,
+        before: Option<u32>,
+        after: Option<u32>,
+        steps: &mut Steps<L>,
+    ) -> Option<u32>
+        requires place { slave < length self.now.tally.limits }
+        requires kept { before ≡ after → slice_get self.now.tally.limits slave
+            ≡ Some (limit_of slave self.now.entries) }
+        ensures limit { result ≡ limit_of slave self.now.entries }
+        ensures steps { steps.new ≤ steps.old + permitted_on slave self.now.entries }
+    {
+        if before == after {
+            peek(&self.limits, slave)
+        } else {
+            self.limit_on(slave, steps)
+        }
+    }
+
     /// Puts a row in the place of one that was read, and counts it in the mode that its master has from now
     /// on in place of the one before.
+    #[inline(always)]
     pub(crate) fn put<L: Ledger>(
         &mut self,
         k: usize,
@@ -236,6 +289,8 @@ impl Table {
     )
         requires here { slice_get self.old.entries k ≡ Some entry }
         requires ready { AreReady (counted_in from entry) self.old.tally }
+        requires limit { slice_get self.old.tally.limits entry.seed.slave
+            ≡ Some (limit_of entry.seed.slave self.old.entries) }
         ensures entries { self.new.entries ≡ slice_set self.old.entries k (record entry { row = row }) }
         ensures tally { self.new.tally
             ≡ moved (counted_in from entry) (counted_in to (record entry { row = row }))
@@ -245,15 +300,16 @@ impl Table {
         ensures steps { steps.new ≤ steps.old + (4 + permitted_on entry.seed.slave self.old.entries) }
     {
         let slave = entry.seed.slave;
+        let put = Entry { row, ..entry };
         let before = entry.required_by(from);
-        let after = Entry { row, ..entry }.required_by(to);
+        let after = put.required_by(to);
         follow_capability(&mut self.access, slave, 0, before, after, steps);
         follow_capability(&mut self.context, slave, 1, before, after, steps);
         follow_capability(&mut self.wakeup, slave, 2, before, after, steps);
         follow(&mut self.users, slave, entry.row.used, row.used, steps);
         self.cells.write(k, row);
         self.narrow = stays_narrow(self.narrow, row.now);
-        let limit = self.limit_on(slave, steps);
+        let limit = self.limit_after(slave, entry.limit_by(), put.limit_by(), steps);
         self.limits.write(slave, limit);
     }
 

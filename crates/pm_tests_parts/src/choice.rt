@@ -86,7 +86,8 @@ fn wrong_choice(chip: &Topology) -> Option<usize> {
 
 #[test]
 fn each_class_takes_its_least_state(rt: HostRuntime) -> Result<(), Fail> {
-    all_right(&rt, wrong_choice(&chip(rt.alloc())?));
+    let chip = chip(rt.alloc())?;
+    all_right(&rt, wrong_choice(&chip));
     Ok(())
 }
 
@@ -120,7 +121,8 @@ fn wrong_lack(chip: &Topology) -> Option<usize> {
 
 #[test]
 fn a_capability_that_the_slave_lacks_is_met_by_no_state(rt: HostRuntime) -> Result<(), Fail> {
-    all_right(&rt, wrong_lack(&chip(rt.alloc())?));
+    let chip = chip(rt.alloc())?;
+    all_right(&rt, wrong_lack(&chip));
     Ok(())
 }
 

@@ -2,10 +2,10 @@
 
 ghost use Rattle.std.specs.Prelude.{◌≡◌, ◌<◌, IfOk, length};
 
-use crate::rows::all_right;
+use crate::rows::{all_right, boxed, same};
 use pm_base::{NoMemory, NodeId, Steps};
+use pm_chip::zynqmp;
 use pm_power::Power;
-use pm_topology::zynqmp;
 use std::marker::Brand;
 use std::process::Abort;
 use std::sync::ledger::{Blank, Ledger};
@@ -15,12 +15,13 @@ use std::test::Fail;
 const CHILDREN: [u32; 10] = [2, 3, 4, 5, 7, 8, 11, 15, 19, 63];
 
 /// The forest of the chip, which has five power nodes.
-fn forest(rt: &(impl Abort + AllocGlobal)) -> Result<Power, NoMemory>
-    ensures { IfOk result (λ power. length power.powers ≡ 5) }
+fn forest(rt: &(impl Abort + AllocGlobal)) -> Result<Box<Power>, NoMemory>
+    ensures { IfOk result (λ power. length power.value.powers ≡ 5) }
 {
-    let chip = zynqmp(rt.alloc())?;
+    let chip = boxed(rt.alloc(), zynqmp(rt.alloc())?)?;
     assert_eq!(rt; chip.powers.len(), 5);
-    Power::load(rt.alloc(), &chip)
+    let power = Power::load(rt.alloc(), &chip)?;
+    boxed(rt.alloc(), power)
 }
 
 /// Which of PLD, FPD, LPD, the APU's island and the RPU's are up.
@@ -44,8 +45,8 @@ fn held_nodes_alone_are_up_at_first(rt: HostRuntime) -> Result<(), Fail> {
         power.up(3),
         power.up(4),
     ];
-    assert_eq!(rt; found, [false, false, true, false, false]);
-    assert_eq!(rt; ups(&power), found);
+    same(&rt, found, [false, false, true, false, false]);
+    same(&rt, ups(&power), found);
     assert!(rt; !power.needs(NodeId(2)) && !power.needs(NodeId(70)));
     Ok(())
 }

@@ -1,9 +1,10 @@
 //! Notifiers, and the notes that wait for a master.
 
 use crate::chip::chip;
-use crate::rows::all_right;
+use crate::rows::{all_right, boxed, same};
 use pm_base::NodeId;
 use pm_notify::{NodeEvent, Note, Notify, Waiting};
+use std::alloc::Global;
 use std::test::Fail;
 
 const CHANGE: NodeEvent = NodeEvent::Change;
@@ -177,23 +178,30 @@ fn wrong_deed(notify: &mut Notify, deeds: &[Deed]) -> Option<usize> {
     None
 }
 
+/// Nothing for three masters of the chip.
+fn notifiers(alloc: Global) -> Result<Box<Notify>, Fail> {
+    let chip = chip(alloc)?;
+    let notify = Notify::load(alloc, &chip, 3)?;
+    Ok(boxed(alloc, notify)?)
+}
+
 #[test]
 fn each_notifier_is_on_or_off_by_itself(rt: HostRuntime) -> Result<(), Fail> {
-    let mut notify = Notify::load(rt.alloc(), &chip(rt.alloc())?, 3)?;
+    let mut notify = notifiers(rt.alloc())?;
     all_right(&rt, wrong_deed(&mut notify, &NOTIFIERS));
     Ok(())
 }
 
 #[test]
 fn notes_are_taken_by_node_and_then_by_kind(rt: HostRuntime) -> Result<(), Fail> {
-    let mut notify = Notify::load(rt.alloc(), &chip(rt.alloc())?, 3)?;
+    let mut notify = notifiers(rt.alloc())?;
     all_right(&rt, wrong_deed(&mut notify, &ORDER));
     Ok(())
 }
 
 #[test]
 fn a_later_note_takes_the_slot_of_an_earlier_one(rt: HostRuntime) -> Result<(), Fail> {
-    let mut notify = Notify::load(rt.alloc(), &chip(rt.alloc())?, 3)?;
+    let mut notify = notifiers(rt.alloc())?;
     all_right(&rt, wrong_deed(&mut notify, &SLOTS));
     Ok(())
 }
@@ -206,11 +214,12 @@ fn an_event_has_its_number(rt: HostRuntime) -> Result<(), Fail> {
         NodeEvent::from_number(2),
         NodeEvent::from_number(3),
     ];
-    assert_eq!(rt; events, [None, Some(CHANGE), Some(ZERO_USERS), None]);
-    assert_eq!(rt; (CHANGE.number(), ZERO_USERS.number()), (1, 2));
-    assert_eq!(rt;
+    same(&rt, events, [None, Some(CHANGE), Some(ZERO_USERS), None]);
+    same(&rt, (CHANGE.number(), ZERO_USERS.number()), (1, 2));
+    same(
+        &rt,
         (CHANGE.note(), ZERO_USERS.note()),
-        (Note::Change, Note::ZeroUsers)
+        (Note::Change, Note::ZeroUsers),
     );
     Ok(())
 }

@@ -1,7 +1,7 @@
 //! Requests to suspend that are pending.
 
 use crate::chip::chip;
-use crate::rows::all_right;
+use crate::rows::{all_right, boxed, same};
 use pm_base::{List, NodeId};
 use pm_ipi::AckKind;
 use pm_procs::{NEVER, Pending, Procs};
@@ -30,12 +30,14 @@ fn request(timeout: u32) -> Pending {
 }
 
 /// A chip with three masters, which have no processors.
-fn masters(alloc: Global) -> Result<Procs, Fail> {
+fn masters(alloc: Global) -> Result<Box<Procs>, Fail> {
+    let chip = chip(alloc)?;
     let mut members = List::new(alloc);
     members.push(List::new(alloc))?;
     members.push(List::new(alloc))?;
     members.push(List::new(alloc))?;
-    Ok(Procs::load(alloc, &chip(alloc)?, members)?)
+    let procs = Procs::load(alloc, &chip, members)?;
+    Ok(boxed(alloc, procs)?)
 }
 
 /// The place of the first time that passes otherwise, for a request alone or among others.
@@ -78,22 +80,24 @@ fn pending(procs: &Procs) -> [Option<Pending>; 4] {
 #[test]
 fn each_master_has_one_request(rt: HostRuntime) -> Result<(), Fail> {
     let mut procs = masters(rt.alloc())?;
-    assert_eq!(rt; pending(&procs), [None; 4]);
+    same(&rt, pending(&procs), [None; 4]);
     procs.ask(0, request(5));
     procs.ask(2, request(9));
     procs.ask(3, request(1));
-    assert_eq!(rt;
+    same(
+        &rt,
         pending(&procs),
-        [Some(request(5)), None, Some(request(9)), None]
+        [Some(request(5)), None, Some(request(9)), None],
     );
     procs.ask(0, request(6));
     procs.tick(4);
-    assert_eq!(rt;
+    same(
+        &rt,
         pending(&procs),
-        [Some(request(2)), None, Some(request(5)), None]
+        [Some(request(2)), None, Some(request(5)), None],
     );
     procs.end(3);
     procs.end(0);
-    assert_eq!(rt; pending(&procs), [None, None, Some(request(5)), None]);
+    same(&rt, pending(&procs), [None, None, Some(request(5)), None]);
     Ok(())
 }

@@ -1,8 +1,8 @@
 //! The requirement rows: the changes of a master's mode, and what is wanted of a slave.
 
-ghost use Rattle.std.specs.Prelude.{◌≡◌, ◌<◌};
+ghost use Rattle.std.specs.Prelude.{◌≡◌, ◌<◌, IfOk};
 
-use crate::rows::all_right;
+use crate::rows::{all_right, boxed, same};
 use pm_base::{Caps, Mode, NoMemory, NodeId, Steps};
 use pm_rows::{Change, Row, RowSeed, Rows, Wanted};
 use std::alloc::Global;
@@ -34,9 +34,9 @@ static BESIDES: [(bool, Option<NodeId>); 4] = [
 
 /// The rows of two masters, of which the first one is in a mode and may use the slave. A row that is used
 /// has ACCESS now, CONTEXT next, and a latency of 9.
-fn prepared(alloc: Global, mode: Mode, used: bool, from: RowSeed) -> Result<Rows, NoMemory> {
+fn prepared(alloc: Global, mode: Mode, used: bool, from: RowSeed) -> Result<Box<Rows>, NoMemory> {
     let boot = if mode == Mode::Active { 0 } else { 1 };
-    let mut rows = Rows::load(alloc, 2, 1, boot, 1, &[from])?;
+    let mut rows = boxed(alloc, Rows::load(alloc, 2, 1, boot, 1, &[from])?)?;
     rows.shift(0, mode);
     if used {
         change_all::<Brand>(&mut rows, &TO_USED, Blank::new(1));
@@ -223,15 +223,9 @@ static STARTS: [(bool, &[usize], Users); 6] = [
 ];
 
 /// Three masters, of which the last two have presets for the slave. They start in this order.
-fn started(alloc: Global, shareable: bool, order: &[usize]) -> Result<Rows, NoMemory> {
-    let mut rows = Rows::load(
-        alloc,
-        3,
-        1,
-        0,
-        2,
-        &[seed(1, shareable, 1, false), seed(2, shareable, 4, false)],
-    )?;
+fn started(alloc: Global, shareable: bool, order: &[usize]) -> Result<Box<Rows>, NoMemory> {
+    let seeds = [seed(1, shareable, 1, false), seed(2, shareable, 4, false)];
+    let mut rows = boxed(alloc, Rows::load(alloc, 3, 1, 0, 2, &seeds)?)?;
     for master in order {
         rows.shift(*master, Mode::Active);
     }
@@ -240,7 +234,8 @@ fn started(alloc: Global, shareable: bool, order: &[usize]) -> Result<Rows, NoMe
 
 fn wrong_start(alloc: Global) -> Result<Option<usize>, NoMemory> {
     for (place, (shareable, order, wanted)) in STARTS.iter().enumerate() {
-        if users(&started(alloc, *shareable, order)?) != *wanted {
+        let rows = started(alloc, *shareable, order)?;
+        if users(&rows) != *wanted {
             return Ok(Some(place));
         }
     }
@@ -252,13 +247,13 @@ fn the_first_to_start_gets_a_slave_that_cannot_be_shared(rt: HostRuntime) -> Res
     all_right(&rt, wrong_start(rt.alloc())?);
     let mut rows = started(rt.alloc(), false, &[1, 2])?;
     rows.shift(1, Mode::Off);
-    assert_eq!(rt; users(&rows), (false, false, 0, None, None));
+    same(&rt, users(&rows), (false, false, 0, None, None));
     rows.shift(2, Mode::Asleep);
     rows.shift(2, Mode::Active);
-    assert_eq!(rt; users(&rows), (false, false, 0, None, None));
+    same(&rt, users(&rows), (false, false, 0, None, None));
     rows.shift(2, Mode::Off);
     rows.shift(2, Mode::Active);
-    assert_eq!(rt; users(&rows), (false, true, 1, Some(2), None));
+    same(&rt, users(&rows), (false, true, 1, Some(2), None));
     Ok(())
 }
 
@@ -332,20 +327,22 @@ fn wanted_in_all(caps: u32, limit: Option<u32>) -> Wanted {
 #[test]
 fn rows_of_several_masters_are_joined(rt: HostRuntime) -> Result<(), Fail> {
     let mut rows = started(rt.alloc(), true, &[1, 2])?;
-    assert_eq!(rt; rows.wanted(0), wanted_in_all(5, None));
+    same(&rt, rows.wanted(0), wanted_in_all(5, None));
     let limits = [(1, Change::Limit(300)), (2, Change::Limit(299))];
     change_all::<Brand>(&mut rows, &limits, Blank::new(1));
-    assert_eq!(rt; rows.wanted(0), wanted_in_all(5, Some(299)));
-    assert_eq!(rt;
+    same(&rt, rows.wanted(0), wanted_in_all(5, Some(299)));
+    same(
+        &rt,
         [rows.usage(0, 0), rows.usage(1, 0), rows.usage(2, 0)],
-        [2, 3, 3]
+        [2, 3, 3],
     );
     let releases = [(2, Change::Release), (2, Change::Limit(7))];
     change_all::<Brand>(&mut rows, &releases, Blank::new(1));
-    assert_eq!(rt; rows.wanted(0), wanted_in_all(1, Some(300)));
-    assert_eq!(rt;
+    same(&rt, rows.wanted(0), wanted_in_all(1, Some(300)));
+    same(
+        &rt,
         [rows.usage(0, 0), rows.usage(1, 0), rows.usage(2, 0)],
-        [2, 1, 2]
+        [2, 1, 2],
     );
     Ok(())
 }
@@ -372,6 +369,14 @@ static SEEDS: [RowSeed; 2] = [
     },
 ];
 
+/// The rows of that, with room for so many.
+fn loaded(alloc: Global, room: usize) -> Result<Box<Rows>, NoMemory>
+    ensures room { IfOk result (λ rows. rows.value.room ≡ room) }
+    ensures slaves { IfOk result (λ rows. rows.value.slaves ≡ 1) }
+{
+    boxed(alloc, Rows::load(alloc, 2, 1, 0, room, &SEEDS)?)
+}
+
 fn row(used: bool, now: u32, next: u32, preset: u32) -> Row {
     Row {
         used,
@@ -388,40 +393,50 @@ fn modes(rows: &Rows) -> [Mode; 3] {
     [rows.mode(0), rows.mode(1), rows.mode(2)]
 }
 
-#[test]
-fn rows_made_anew_are_those_at_load(rt: HostRuntime) -> Result<(), Fail> {
-    let mut rows = Rows::load(rt.alloc(), 2, 1, 0, SEEDS.len(), &SEEDS)?;
+/// Changes the rows, makes them anew for the same pairs, and stops where a row isn't what it should be then.
+fn change_and_reload(rt: &impl Abort, rows: &mut Rows)
+    requires room { rows.old.room ≡ 2 }
+    requires slaves { rows.old.slaves ≡ 1 }
+{
     let first = Row {
         hold: true,
         ..row(true, 3, 3, 2)
     };
-    assert_eq!(rt;
+    same(
+        rt,
         (rows.row(0, 0), rows.row(1, 0)),
-        (Some(first), Some(row(false, 0, 0, 1)))
+        (Some(first), Some(row(false, 0, 0, 1))),
     );
-    assert_eq!(rt; modes(&rows), [Mode::Active, Mode::Off, Mode::Off]);
-    assert_eq!(rt; (rows.row(1, 1), rows.row(2, 0)), (None, None));
+    same(rt, modes(rows), [Mode::Active, Mode::Off, Mode::Off]);
+    same(rt, (rows.row(1, 1), rows.row(2, 0)), (None, None));
     rows.settle(1);
-    assert_eq!(rt; rows.row(0, 0), Some(first));
+    same(rt, rows.row(0, 0), Some(first));
     rows.settle(0);
-    assert_eq!(rt; rows.row(0, 0), Some(row(true, 3, 3, 2)));
+    same(rt, rows.row(0, 0), Some(row(true, 3, 3, 2)));
     rows.shift(1, Mode::Active);
     rows.drop_slave(1);
-    assert_eq!(rt; rows.row(1, 0), Some(row(true, 1, 1, 1)));
+    same(rt, rows.row(1, 0), Some(row(true, 1, 1, 1)));
     rows.arm(1, 0, Some(NodeId(7)));
     rows.drop_slave(0);
-    assert_eq!(rt; rows.row(0, 0), Some(row(false, 0, 0, 2)));
-    assert_eq!(rt; rows.row(1, 0), Some(row(false, 0, 0, 1)));
+    same(rt, rows.row(0, 0), Some(row(false, 0, 0, 2)));
+    same(rt, rows.row(1, 0), Some(row(false, 0, 0, 1)));
     rows.shift(0, Mode::Asleep);
     rows.shift(1, Mode::Off);
     rows.shift(0, Mode::Off);
     rows.shift(0, Mode::Active);
     rows.reload(&SEEDS);
-    assert_eq!(rt;
+    same(
+        rt,
         (rows.row(0, 0), rows.row(1, 0)),
-        (Some(first), Some(row(false, 0, 0, 1)))
+        (Some(first), Some(row(false, 0, 0, 1))),
     );
-    assert_eq!(rt; modes(&rows), [Mode::Active, Mode::Off, Mode::Off]);
+    same(rt, modes(rows), [Mode::Active, Mode::Off, Mode::Off]);
+}
+
+#[test]
+fn rows_made_anew_are_those_at_load(rt: HostRuntime) -> Result<(), Fail> {
+    let mut rows = loaded(rt.alloc(), 2)?;
+    change_and_reload(&rt, &mut rows);
     Ok(())
 }
 
@@ -434,32 +449,32 @@ fn change_each<L: Ledger>(rt: &impl Abort, rows: &mut Rows, blank: Blank)
     let mut steps = Steps::<L>::new(blank);
     rows.release(0, 0, &mut steps);
     rows.settle(0);
-    assert_eq!(rt; rows.row(0, 0), Some(row(false, 0, 0, 2)));
+    same(rt, rows.row(0, 0), Some(row(false, 0, 0, 2)));
     rows.request(0, 0, Caps(5), &mut steps);
-    assert_eq!(rt; rows.row(0, 0), Some(row(true, 5, 5, 2)));
+    same(rt, rows.row(0, 0), Some(row(true, 5, 5, 2)));
     rows.set(0, 0, Caps(1), &mut steps);
-    assert_eq!(rt; rows.row(0, 0), Some(row(true, 1, 1, 2)));
+    same(rt, rows.row(0, 0), Some(row(true, 1, 1, 2)));
     rows.shift(0, Mode::Suspending);
     rows.set(0, 0, Caps(4), &mut steps);
-    assert_eq!(rt; rows.row(0, 0), Some(row(true, 1, 4, 2)));
+    same(rt, rows.row(0, 0), Some(row(true, 1, 4, 2)));
     rows.shift(0, Mode::Asleep);
     rows.set(0, 0, Caps(7), &mut steps);
-    assert_eq!(rt; rows.row(0, 0), Some(row(true, 4, 1, 2)));
+    same(rt, rows.row(0, 0), Some(row(true, 4, 1, 2)));
     rows.shift(0, Mode::Active);
-    assert_eq!(rt; rows.row(0, 0), Some(row(true, 1, 1, 2)));
+    same(rt, rows.row(0, 0), Some(row(true, 1, 1, 2)));
     rows.limit(0, 0, 10, &mut steps);
     let limited = Row {
         latency: Some(10),
         ..row(true, 1, 1, 2)
     };
-    assert_eq!(rt; rows.row(0, 0), Some(limited));
+    same(rt, rows.row(0, 0), Some(limited));
     rows.release(0, 0, &mut steps);
-    assert_eq!(rt; rows.row(0, 0), Some(row(false, 0, 0, 2)));
+    same(rt, rows.row(0, 0), Some(row(false, 0, 0, 2)));
 }
 
 #[test]
 fn a_row_is_changed_by_its_calls(rt: HostRuntime) -> Result<(), Fail> {
-    let mut rows = Rows::load(rt.alloc(), 2, 1, 0, SEEDS.len(), &SEEDS)?;
+    let mut rows = loaded(rt.alloc(), 2)?;
     change_each::<Brand>(&rt, &mut rows, Blank::new(1));
     Ok(())
 }
@@ -486,28 +501,38 @@ static ANEW: [RowSeed; 1] = [RowSeed {
     hold: false,
 }];
 
-#[test]
-fn rows_are_made_anew_for_other_pairs(rt: HostRuntime) -> Result<(), Fail> {
-    let mut rows = Rows::load(rt.alloc(), 2, 1, 0, 3, &SEEDS)?;
+/// Makes the rows anew for other pairs, for none and for the first ones, and stops where one isn't what it should be.
+fn reload_others(rt: &impl Abort, rows: &mut Rows)
+    requires room { rows.old.room ≡ 3 }
+    requires slaves { rows.old.slaves ≡ 1 }
+{
     rows.shift(1, Mode::Active);
     rows.shift(1, Mode::Suspending);
     rows.reload(&ANEW_USED);
-    assert_eq!(rt; rows.len(), 1);
-    assert_eq!(rt;
+    same(rt, rows.len(), 1);
+    same(
+        rt,
         (rows.row(0, 0), rows.row(1, 0)),
-        (None, Some(row(true, 5, 5, 4)))
+        (None, Some(row(true, 5, 5, 4))),
     );
-    assert_eq!(rt;
+    same(
+        rt,
         (rows.mode(0), rows.mode(1)),
-        (Mode::Active, Mode::Suspending)
+        (Mode::Active, Mode::Suspending),
     );
-    assert_eq!(rt; (rows.users(0), rows.wanted(0).caps), (1, Caps(5)));
+    same(rt, (rows.users(0), rows.wanted(0).caps), (1, Caps(5)));
     rows.reload(&ANEW);
-    assert_eq!(rt; rows.row(1, 0), Some(row(false, 0, 0, 4)));
-    assert_eq!(rt; (rows.users(0), rows.wanted(0).caps), (0, Caps(0)));
+    same(rt, rows.row(1, 0), Some(row(false, 0, 0, 4)));
+    same(rt, (rows.users(0), rows.wanted(0).caps), (0, Caps(0)));
     rows.reload(&[]);
-    assert_eq!(rt; rows.len(), 0);
+    same(rt, rows.len(), 0);
     rows.reload(&SEEDS);
-    assert_eq!(rt; rows.len(), 2);
+    same(rt, rows.len(), 2);
+}
+
+#[test]
+fn rows_are_made_anew_for_other_pairs(rt: HostRuntime) -> Result<(), Fail> {
+    let mut rows = loaded(rt.alloc(), 3)?;
+    reload_others(&rt, &mut rows);
     Ok(())
 }

@@ -1,6 +1,6 @@
 //! The values of the reset lines.
 
-use crate::rows::all_right;
+use crate::rows::{all_right, same};
 use pm_resets::Resets;
 use std::test::Fail;
 
@@ -41,7 +41,7 @@ fn wrong_put(resets: &mut Resets) -> Option<usize> {
 #[test]
 fn a_line_has_the_value_that_was_put_last(rt: HostRuntime) -> Result<(), Fail> {
     let mut resets = Resets::load(rt.alloc(), 5)?;
-    assert_eq!(rt; values(&resets), [0; 5]);
+    same(&rt, values(&resets), [0; 5]);
     all_right(&rt, wrong_put(&mut resets));
     Ok(())
 }
@@ -52,9 +52,9 @@ fn all_lines_are_released_by_a_restart(rt: HostRuntime) -> Result<(), Fail> {
     resets.put(1, true);
     resets.put(4, true);
     resets.restart();
-    assert_eq!(rt; values(&resets), [0; 5]);
+    same(&rt, values(&resets), [0; 5]);
     resets.put(3, true);
-    assert_eq!(rt; values(&resets), [0, 0, 0, 1, 0]);
+    same(&rt, values(&resets), [0, 0, 0, 1, 0]);
     Ok(())
 }
 
@@ -62,6 +62,6 @@ fn all_lines_are_released_by_a_restart(rt: HostRuntime) -> Result<(), Fail> {
 fn a_line_that_is_not_there_is_released(rt: HostRuntime) -> Result<(), Fail> {
     let mut resets = Resets::load(rt.alloc(), 0)?;
     resets.put(0, true);
-    assert_eq!(rt; (resets.value(0), resets.value(usize::MAX)), (0, 0));
+    same(&rt, (resets.value(0), resets.value(usize::MAX)), (0, 0));
     Ok(())
 }

@@ -1,6 +1,6 @@
 use Rattle.std.proofs.Common.{ap, arith}
 use Rattle.pm_rows.specs.declared.row.Entry.{Entry}
-use Rattle.pm_rows.proofs.Filled.{fill_ends, fill_next, fill_ready, fill_starts, fill_within}
+use Rattle.pm_rows.proofs.Filled.{fill_ends, fill_limit, fill_next, fill_ready, fill_starts, fill_within}
 use Rattle.pm_rows.proofs.filling.fill_over.Goals as goal
 
 pub loop-k-init : goal.loop-k-init
@@ -13,6 +13,10 @@ pub put-requires-clause-ready : goal.put-requires-clause-ready
 put-requires-clause-ready g c =
     fill_ready c.args.known.now c.args.seeds.now c.args.table.now c.loop-k.table c.loop-k.k c.loop-k.invariant c.seed_at-seed.result c.entry-entry.result c.mode_in-mode.result
     c.seed_at-seed.ensures c.entry-entry.ensures.entry c.mode_in-mode.ensures c.entry-entry.ensures.placed c.entry-entry.ensures.few
+
+pub put-requires-clause-limit : goal.put-requires-clause-limit
+put-requires-clause-limit g c =
+    fill_limit c.args.known.now c.args.seeds.now c.args.table.now c.loop-k.table c.loop-k.k c.loop-k.invariant c.entry-entry.result.seed.slave c.entry-entry.ensures.placed
 
 pub loop-k-preserved : goal.loop-k-preserved
 loop-k-preserved g c =

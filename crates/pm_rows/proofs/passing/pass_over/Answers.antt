@@ -3,7 +3,7 @@ use Rattle.pm_base.specs.declared.names.Mode.{Mode}
 use Rattle.pm_rows.specs.Counted.{AreReady, counted_in}
 use Rattle.pm_rows.specs.Passes.{touches}
 use Rattle.pm_rows.proofs.Ranges.{untouched_before, untouched_past}
-use Rattle.pm_rows.proofs.Turns.{row_here, len_here, ready_here, put_there, left_there, starts, skip_to, ends}
+use Rattle.pm_rows.proofs.Turns.{row_here, len_here, ready_here, limit_here, put_there, left_there, starts, skip_to, ends}
 use Rattle.pm_rows.proofs.passing.pass_over.Goals.{then-touches, else-touches}
 use Rattle.pm_rows.proofs.passing.pass_over.Goals as goal
 
@@ -28,6 +28,11 @@ put-requires-clause-ready g c =
     subst P (sym c.mode_in-from.ensures)
     (ready_here c.args.pass c.args.known.now c.args.table.now.entries c.args.steps.now c.loop-k.k c.loop-k.table c.loop-k.steps c.loop-k.invariant.0
     c.entry-entry.result here c.entry-entry.ensures.placed (omega (arith, size, c.entry-entry.ensures.few)))
+
+pub put-requires-clause-limit : goal.put-requires-clause-limit
+put-requires-clause-limit g c =
+    limit_here c.args.pass c.args.known.now c.args.table.now.entries c.args.steps.now c.loop-k.k c.loop-k.table c.loop-k.steps c.loop-k.invariant.0
+    c.entry-entry.result.seed.slave c.entry-entry.ensures.placed
 
 pub returns-clause-rows : goal.returns-clause-rows
 returns-clause-rows g c =

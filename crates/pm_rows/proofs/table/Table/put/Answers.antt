@@ -1,8 +1,9 @@
-use Rattle.std.proofs.Common.{◌∙◌, ap, length, arith, sym}
+use Rattle.std.proofs.Common.{◌∙◌, Some, ap, length, arith, refl, slice_get, sym}
 use Rattle.std.proofs.lemmas.List.{length-set}
 use Rattle.std.proofs.lemmas.Option.{slice_get_within}
-use Rattle.pm_rows.specs.Counted.{is_on, permitted_on, entries_of}
+use Rattle.pm_rows.specs.Counted.{Table, is_on, limit_of, permitted_on, entries_of}
 use Rattle.pm_rows.proofs.Cells.{seen_cell, seen_put, kept_put}
+use Rattle.pm_rows.proofs.Tallies.{limit_same}
 use Rattle.pm_cells.proofs.Counting.{count_set}
 use Rattle.pm_rows.proofs.table.Table.put.Goals as goal
 
@@ -10,6 +11,16 @@ pub write-requires : goal.write-requires
 write-requires g c =
     seen_cell c.args.self.now c.self.inside.seeds.items c.self.inside.cells _ (length c.self.inside.users) _ _ c.self.view_is c.self.invariant.0.base c.args.k
     (slice_get_within c.args.self.now.entries c.args.k c.args.entry c.requires.here)
+
+pub limit_after-limit-requires-clause-kept : goal.limit_after-limit-requires-clause-kept
+limit_after-limit-requires-clause-kept g c same =
+    ap (λ (t : Table). slice_get t.tally.limits c.args.entry.seed.slave) c.self.view_is
+    ∙ c.requires.limit
+    ∙ ap Some (limit_same c.args.entry.seed.slave c.args.self.now.entries c.args.k c.args.entry (record c.args.entry { row = c.args.row }) c.requires.here refl
+    (sym c.limit_by.ensures ∙ (same ∙ c.limit_by-2.ensures))
+    ∙ ap (limit_of c.args.entry.seed.slave) (sym (ap (λ rows. entries_of c.self.inside.seeds.items rows) c.write.ensures
+    ∙ seen_put c.args.self.now c.self.inside.seeds.items c.self.inside.cells _ (length c.self.inside.users) _ _ c.self.view_is c.self.invariant.0.base
+    c.args.k c.args.entry c.args.row c.requires.here)))
 
 pub invariant_of-self : goal.invariant_of-self
 invariant_of-self g c = (
@@ -39,4 +50,4 @@ returns-clause-steps g c =
     ∙ seen_put c.args.self.now c.self.inside.seeds.items c.self.inside.cells _ (length c.self.inside.users) _ _ c.self.view_is c.self.invariant.0.base
     c.args.k c.args.entry c.args.row c.requires.here) in
     let same = count_set (is_on c.args.entry.seed.slave) c.args.self.now.entries c.args.k c.args.entry (record c.args.entry { row = c.args.row }) c.requires.here in
-    omega (arith, put, same, c.limit_on-limit.ensures.steps, c.follow_capability.ensures.steps, c.follow_capability-2.ensures.steps, c.follow_capability-3.ensures.steps, c.follow.ensures.steps)
+    omega (arith, put, same, c.limit_after-limit.ensures.steps, c.follow_capability.ensures.steps, c.follow_capability-2.ensures.steps, c.follow_capability-3.ensures.steps, c.follow.ensures.steps)
