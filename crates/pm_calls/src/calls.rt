@@ -33,7 +33,7 @@ use pm_ipi::status::NO_FEATURE;
 use pm_state::Tables;
 use pm_values::{Along, Caches};
 
-/// One call. The modes are logged between its stages.
+/// One call. The modes are logged between its stages: a call of one stage at most logs nothing.
 pub fn serve(
     tables: &mut Tables,
     caches: &Caches,
@@ -47,6 +47,7 @@ pub fn serve(
     ensures book { tables.new ≡ after_stages (stages_of (called master call tables.old)) tables.old }
     ensures along { Completes tables.old
         (path_from (stages_of (called master call tables.old)) tables.old) tables.new along.new }
+    ensures still { is_once call ≡ true → along.new ≡ along.old }
 {
     match call {
         Call::ForcePowerdown { node, ack } => {

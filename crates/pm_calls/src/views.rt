@@ -4,15 +4,15 @@ ghost use Rattle.std.specs.Prelude.{◌≡◌};
 ghost use Rattle.pm_rows.specs.Rows.{now_of};
 ghost use Rattle.pm_values.specs.Caches.{AreKept};
 ghost use Rattle.pm_calls.specs.Views;
-ghost use Rattle.pm_calls.specs.Views.{row_view, own_proc, proc_view, can_wake, wakeable, wake_view, can_suspend, is_asked, names_master, suspendable, suspendable_at, suspend_view, watched, status_view};
+ghost use Rattle.pm_calls.specs.Views.{own_proc, proc_view, can_wake, wakeable, wake_view, can_suspend, is_asked, names_master, suspendable, suspendable_at, suspend_view, watched, status_view};
 
-use pm_base::{Caps, Mode, NodeId};
+use pm_base::{Caps, Mode, NodeId, Unit};
 use pm_object::{MasterRec, is_master_node};
-use pm_procs::Proc;
+use pm_procs::{Proc, mode_number};
 use pm_rows::Entry;
 use pm_state::{Tables, master_node};
 use pm_topology::Kind;
-use pm_values::{Caches, point};
+use pm_values::{Caches, value};
 
 /// What a master sees of its row on a slave: the slave's place, the row where the pair is permitted,
 /// and the other master that uses the slave where it can't be shared.
@@ -92,24 +92,8 @@ fn now_of(entry: Option<Entry>) -> Caps
     }
 }
 
-pub(crate) fn row_view(tables: &Tables, master: usize, node: NodeId) -> RowView
-    ensures { result ≡ row_view master node tables.now }
-{
-    match tables.slave_place(node) {
-        None => RowView {
-            slave: None,
-            entry: None,
-            rival: None,
-        },
-        Some(slave) => RowView {
-            slave: Some(slave),
-            entry: tables.rows().entry_at(master, slave),
-            rival: rival_node(tables, master, slave),
-        },
-    }
-}
-
-fn rival_node(tables: &Tables, master: usize, slave: usize) -> Option<NodeId>
+/// The other master that uses a slave which can't be shared.
+pub(crate) fn rival_node(tables: &Tables, master: usize, slave: usize) -> Option<NodeId>
     ensures { result ≡ Views.rival_node master slave tables.now }
 {
     match tables.rows().rival(master, slave) {
@@ -269,16 +253,16 @@ pub(crate) fn status_view(
     requires { AreKept tables.now caches.now }
     ensures { result ≡ status_view master node tables.now }
 {
-    let value = point(tables, caches, node);
     match tables.kind(node) {
         Kind::Unknown => StatusView {
             state: None,
             requested: Caps(0),
             usage: 0,
         },
-        Kind::Proc(_) | Kind::Power(_) => plain(value),
+        Kind::Proc(p) => plain(mode_number(tables.procs().mode(p))),
+        Kind::Power(_) => plain(value(tables, caches, Unit::Node(node))),
         Kind::Slave(slave) => StatusView {
-            state: Some(value),
+            state: Some(value(tables, caches, Unit::Node(node))),
             requested: now_of(tables.rows().entry_at(master, slave)),
             usage: tables.rows().usage(master, slave),
         },

@@ -21,7 +21,9 @@ use pm_base::{Event, List, Mode, NoMemory, NodeId, Unit, with};
 use pm_object::{Attached, Object};
 use pm_rows::Row;
 use pm_state::Tables;
-use pm_step::{advance, books_stay_sound, leaves_values, time_of, touched_unless};
+use pm_step::{
+    advance, begin, begin_after, books_stay_sound, leaves_values, time_of, touched_unless,
+};
 use pm_tell::{Telling, pulse_in, tell};
 use pm_topology::{Topology, kinds_are_exact, units_stand_in_order};
 use pm_values::{Caches, point, value, values_meet};
@@ -45,6 +47,7 @@ impl Model for Book {
     ghost use Rattle.pm_values.specs.Caches.{AreKept};
     ghost use Rattle.pm_state.specs.Sound.{IsBook};
     ghost use Rattle.pm_state.specs.State.{State};
+    ghost use Rattle.pm_step.specs.Fresh.{IsFresh};
     ghost use Rattle.pm_tell.specs.Telling.{HasPlaces};
 
     ghost Value = { State };
@@ -52,7 +55,8 @@ impl Model for Book {
     ghost view = { λ book. book.tables };
 
     ghost invariant = { λ book. IsBook book.tables × AreKept book.tables book.caches
-        × HasPlaces book.tables.fixed.topology (length book.tables.fixed.object.masters) book.telling };
+        × HasPlaces book.tables.fixed.topology (length book.tables.fixed.object.masters) book.telling
+        × IsFresh book.tables book.telling };
 }
 
 impl Book {
@@ -100,6 +104,7 @@ impl Book {
             &mut out.starts,
             &mut telling.notices,
         );
+        begin(&tables, &mut telling);
         Ok(Book {
             tables,
             caches,
@@ -161,6 +166,7 @@ impl Book {
             &mut out.late,
             &mut out.callbacks,
         );
+        begin_after(&self.tables, event, served, &mut self.telling);
         out.pulse = pulse_in(served);
         out.answer = answer(&self.tables, &self.caches, served);
     }

@@ -6,8 +6,9 @@ ghost use Rattle.pm_topology.specs.WellFormed.{IsWellFormed};
 use crate::book::Book;
 use crate::outbox::Outbox;
 use pm_base::{List, NoMemory};
+use pm_chip::zynqmp;
 use pm_object::Object;
-use pm_topology::{Topology, zynqmp};
+use pm_topology::Topology;
 use std::alloc::Global;
 use std::test::Fail;
 
@@ -45,12 +46,31 @@ fn empty_object(alloc: Global) -> Object {
     }
 }
 
+/// Loads the book of an object on a chip, and takes it apart. Each large value is dropped whole, by `drop`.
+fn load_and_take_apart(alloc: Global, object: Object, chip: Topology) -> Result<(), NoMemory>
+    requires formed { IsWellFormed chip }
+{
+    match Outbox::load(alloc, &chip, object.masters.len()) {
+        Ok(mut out) => {
+            let loaded = Book::load(alloc, object, List::new(alloc), chip, &mut out);
+            drop(out);
+            let book = loaded?;
+            take_apart(&book);
+            drop(book);
+            Ok(())
+        }
+        Err(error) => {
+            drop(object);
+            drop(chip);
+            Err(error)
+        }
+    }
+}
+
 #[test]
 fn book_fields(rt: HostRuntime) -> Result<(), Fail> {
     let chip = chip(rt.alloc())?;
     let object = empty_object(rt.alloc());
-    let mut out = Outbox::load(rt.alloc(), &chip, object.masters.len())?;
-    let book = Book::load(rt.alloc(), object, List::new(rt.alloc()), chip, &mut out)?;
-    take_apart(&book);
+    load_and_take_apart(rt.alloc(), object, chip)?;
     Ok(())
 }

@@ -6,7 +6,7 @@ ghost use Rattle.pm_procs.specs.Procs.{all_off, members_at};
 ghost use Rattle.pm_topology.specs.WellFormed.{IsWellFormed};
 ghost use Rattle.pm_rows.specs.Rows.{loaded_rows};
 ghost use Rattle.pm_state.specs.Boot.{active_at_load, boot_proc};
-ghost use Rattle.pm_state.specs.Load.{load_of};
+ghost use Rattle.pm_state.specs.Load.{IsHeld, IsRuled, load_of};
 ghost use Rattle.pm_state.specs.Members.{members_of};
 ghost use Rattle.pm_state.specs.Pairs.{seed_at_load};
 ghost use Rattle.pm_state.specs.Prims.{procs_with};
@@ -16,10 +16,10 @@ use crate::laws::loads_are_sound;
 use crate::members::members_of;
 use crate::objects::objects_in;
 use crate::pairs::Permitted;
-use crate::policies::{most_of, policies_of};
+use crate::policies::{Policy, most_of, policies_of};
 use crate::seeds::put_at_load;
 use crate::tables::Tables;
-use pm_base::{BoundedList, List, Mode, NoMemory};
+use pm_base::{BoundedList, List, Mode, NoMemory, with};
 use pm_notify::Notify;
 use pm_object::{Attached, Object};
 use pm_procs::{Proc, Procs};
@@ -57,31 +57,105 @@ fn load_tables(
     requires { IsWellFormed topology }
     ensures { IfOk result (λ tables. tables ≡ load_of object attached topology) }
 {
-    let objects = objects_in(alloc, &object, attached.as_slice())?;
-    let policies = policies_of(alloc, objects.as_slice(), &topology)?;
-    let procs = load_procs(alloc, &object, &topology)?;
-    let notify = Notify::load(alloc, &topology, object.masters.len())?;
-    let resets = Resets::load(alloc, topology.lines.len())?;
-    let room = most_of(policies.as_slice());
-    let mut seeds = BoundedList::with_room(alloc, room)?;
-    let boot = first_proc(&procs);
-    let masters = object.masters.len();
-    let slaves = topology.slaves.len();
-    let pairs = policies.get(0).pairs.as_slice();
-    let rows = load_rows(alloc, &mut seeds, masters, slaves, boot, room, pairs)?;
+    let parts = parts_of(alloc, &object, attached.as_slice(), &topology);
+    let ((object, attached, topology), (held, ruled)) = with((object, attached, topology), parts)?;
     Ok(Tables {
         object,
         attached,
-        objects,
-        policies,
+        objects: ruled.objects,
+        policies: ruled.policies,
         force: 0,
-        seeds,
+        seeds: ruled.seeds,
         topology,
-        rows,
+        rows: ruled.rows,
+        procs: held.procs,
+        notify: held.notify,
+        resets: held.resets,
+        halted: false,
+    })
+}
+
+/// What is kept of the processors, of the masters' notes and of the reset lines.
+#[derive(Drop)]
+struct Held {
+    procs: Procs,
+    notify: Notify,
+    resets: Resets,
+}
+
+/// The objects of the run, what each of them permits, and the rows of the first one, with room for the seeds of rows of
+/// any.
+#[derive(Drop)]
+struct Ruled {
+    objects: List<Object>,
+    policies: List<Policy>,
+    seeds: BoundedList<RowSeed>,
+    rows: Rows,
+}
+
+/// What the book has at load beside what it is loaded of.
+fn parts_of(
+    alloc: Global,
+    object: &Object,
+    attached: &[Attached],
+    t: &Topology,
+) -> Result<(Held, Ruled), NoMemory>
+    ensures held { IfOk result (λ parts. IsHeld object.now t.now parts.0) }
+    ensures ruled { IfOk result (λ parts. IsRuled object.now attached.now t.now parts.1) }
+{
+    let held = held_of(alloc, object, t)?;
+    let boot = first_proc(&held.procs);
+    let ruled = ruled_of(alloc, object, attached, t, boot);
+    with(held, ruled)
+}
+
+/// The processors, the notes and the reset lines at load.
+fn held_of(alloc: Global, object: &Object, t: &Topology) -> Result<Held, NoMemory>
+    ensures { IfOk result (IsHeld object.now t.now) }
+{
+    let procs = load_procs(alloc, object, t)?;
+    let notify = Notify::load(alloc, t, object.masters.len());
+    let (procs, notify) = with(procs, notify)?;
+    let resets = Resets::load(alloc, t.lines.len());
+    let ((procs, notify), resets) = with((procs, notify), resets)?;
+    Ok(Held {
         procs,
         notify,
         resets,
-        halted: false,
+    })
+}
+
+/// The objects of the run and what they permit, with the rows at load, where this processor starts.
+fn ruled_of(
+    alloc: Global,
+    object: &Object,
+    attached: &[Attached],
+    t: &Topology,
+    boot: Option<usize>,
+) -> Result<Ruled, NoMemory>
+    requires { boot ≡ boot_proc object.now t.now }
+    ensures { IfOk result (IsRuled object.now attached.now t.now) }
+{
+    let objects = objects_in(alloc, object, attached)?;
+    let policies = policies_of(alloc, objects.as_slice(), t);
+    let (objects, policies) = with(objects, policies)?;
+    let first = active_at_load(boot, object.masters.len());
+    let room = most_of(policies.as_slice());
+    let pairs = policies.get(0).pairs.as_slice();
+    let rows = load_rows(
+        alloc,
+        object.masters.len(),
+        t.slaves.len(),
+        first,
+        room,
+        pairs,
+    );
+    let ((objects, policies), (seeds, rows)) = with((objects, policies), rows)?;
+    Ok(Ruled {
+        objects,
+        policies,
+        seeds,
+        rows,
     })
 }
 
@@ -106,24 +180,24 @@ fn first_proc(procs: &Procs) -> Option<usize>
     procs.members(0).first().copied()
 }
 
-/// The rows at load, where this processor starts, if there is one.
+/// The rows at load with room for so many, and for as many seeds, where the master at place `first` is active.
 fn load_rows(
     alloc: Global,
-    seeds: &mut BoundedList<RowSeed>,
     masters: usize,
     slaves: usize,
-    boot: Option<usize>,
+    first: usize,
     room: usize,
     pairs: &[Permitted],
-) -> Result<Rows, NoMemory>
-    requires { length pairs.now ≤ seeds.old.room }
-    ensures rows { IfOk result (λ rows. rows ≡ loaded_rows masters slaves (active_at_load boot masters) room
-        (map (seed_at_load (active_at_load boot masters)) pairs.now)) }
-    ensures room { seeds.new.room ≡ seeds.old.room }
+) -> Result<(BoundedList<RowSeed>, Rows), NoMemory>
+    requires { length pairs.now ≤ room }
+    ensures room { IfOk result (λ both. both.0.room ≡ room) }
+    ensures rows { IfOk result (λ both. both.1
+        ≡ loaded_rows masters slaves first room (map (seed_at_load first) pairs.now)) }
 {
-    let first = active_at_load(boot, masters);
-    put_at_load(seeds, first, pairs);
-    Rows::load(alloc, masters, slaves, first, room, seeds.as_slice())
+    let mut seeds = BoundedList::with_room(alloc, room)?;
+    put_at_load(&mut seeds, first, pairs);
+    let rows = Rows::load(alloc, masters, slaves, first, room, seeds.as_slice());
+    with(seeds, rows)
 }
 
 /// The place of the master that is active at load: none of these where no processor starts.

@@ -10,3 +10,4 @@ pub mod StepLaw
 pub mod StillLaw
 pub mod TouchedLaw
 pub mod ModesLaw
+pub mod StaysLaw

@@ -129,7 +129,7 @@ module _ (fixed : Fixed) (core : CoreHalf) where
   first_keeps k mode later now false go_on = go_on (apply fixed (Shift k mode) now) refl refl
 
   -- processors and reset lines stay
-  follow_keeps : (k : ℕ) (masters : List MasterRec) (now : Now) → ((applies fixed (follow_from fixed core k masters) now).core.procs ≡ now.core.procs) × ((applies fixed (follow_from fixed core k masters) now).core.lines ≡ now.core.lines)
+  pub follow_keeps : (k : ℕ) (masters : List MasterRec) (now : Now) → ((applies fixed (follow_from fixed core k masters) now).core.procs ≡ now.core.procs) × ((applies fixed (follow_from fixed core k masters) now).core.lines ≡ now.core.lines)
   follow_keeps k [] now = (refl, refl)
   follow_keeps k (x ∷ masters) now =
       first_keeps k (mode_of_master fixed core k) (follow_from fixed core (k + 1) masters) now (same_mode (mode_of k core.rows) (mode_of_master fixed core k))

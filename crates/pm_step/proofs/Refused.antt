@@ -184,7 +184,7 @@ read_if call book m true reads =
     ap (stages_by cause) (reads_none m call book reads) ∙ none_by cause
 read_if call book m false reads = refl
 
-read_at : (call : Call) (book : State) (place : Option ℕ) → only_reads call ≡ true → message_stages (option_and_then (call_at call book) place) ≡ []
+pub read_at : (call : Call) (book : State) (place : Option ℕ) → only_reads call ≡ true → message_stages (option_and_then (call_at call book) place) ≡ []
 read_at call book None reads = refl
 read_at call book (Some m) reads = read_if call book m (may_call m book) reads
 

@@ -1,5 +1,5 @@
 -- The step: what an event does to the book.
-use Rattle.std.specs.Prelude.{ℕ, ◌==◌, Bool, true, false, not, ◌&&◌, ◌||◌, List, [], Option, Some, None, option_and_then, if◌then◌else◌}
+use Rattle.std.specs.Prelude.{ℕ, ◌==◌, Bool, true, false, not, ◌&&◌, ◌||◌, List, [], Option, Some, None, option_and_then, is_some, if◌then◌else◌}
 use Rattle.std.specs.List.{list_any}
 use Rattle.pm_base.specs.declared.names.LineId.{LineId}
 use Rattle.pm_base.specs.declared.names.NodeId.{NodeId}
@@ -187,6 +187,15 @@ abbrev pub row_node : Shape → Option NodeId
 row_node (Own_row node by call) = Some node
 row_node (Own_arming target source enable) = Some source
 row_node _ = None
+
+-- a call leaves all processors in their modes: it only reads the book, or changes a row of the caller
+abbrev pub keeps_procs : Call → Bool
+keeps_procs call = only_reads call || is_some (row_node (shape_of call))
+
+-- an event may change the mode of a processor
+abbrev pub may_move : Event → Option Served → Bool
+may_move event None = is_action event
+may_move event (Some served) = not (keeps_procs served.call)
 
 -- what is touched where the rows on the slave at this place change, and nothing else, if there is a place
 abbrev pub touched_at : Option ℕ → Touched

@@ -22,7 +22,8 @@ use pm_state::loads_are_sound;
 /// exactly where the object in force permits the pair, and after a restart of all a sound book is the book at load with
 /// that object in force.
 pub fn books_stay_sound()
-    ensures load { (object : Object) (attached : List Attached) (topology : Topology) → IsSound (load_of object attached topology) }
+    ensures load { (object : Object) (attached : List Attached) (topology : Topology)
+        → IsSound (load_of object attached topology) }
     ensures step { (event : Event) (book : State) → IsSound book → IsSound (effect event book) }
     ensures permitted { (master slave : NodeId) (book : State) → IsSound book
         → is_some (row master slave book) ≡ may_use (in_force book) book.fixed.topology master slave }

@@ -6,4 +6,4 @@ mod laws;
 mod step;
 
 pub use laws::{books_stay_sound, only_one_call_configures};
-pub use step::{advance, configures, leaves_values, time_of, touched_unless};
+pub use step::{advance, begin, begin_after, configures, leaves_values, time_of, touched_unless};

@@ -1,11 +1,12 @@
 //! What one event does to the book, and how it is answered.
 
-ghost use Rattle.std.specs.Prelude.{◌≡◌, false, length};
+ghost use Rattle.std.specs.Prelude.{◌≡◌, false, length, true};
 ghost use Rattle.pm_topology.specs.Places.{kind_of};
 ghost use Rattle.pm_calls.specs.calls.{only_reads, shape_of};
 ghost use Rattle.pm_values.specs.Caches.{AreKept};
 ghost use Rattle.pm_state.specs.Stages.{after_stages, path_from};
-ghost use Rattle.pm_step.specs.Step.{call_in, configures, is_action, is_proc_in, keeps_values, leaves_values, may_call, may_change, is_ipi, message_stages, path, row_node, row_place, served, stages, time_of, touched, touched_at, touched_in, touched_unless, verdict};
+ghost use Rattle.pm_step.specs.Step.{call_in, configures, is_action, is_proc_in, keeps_procs, keeps_values, leaves_values, may_call, may_change, may_move, is_ipi, message_stages, path, row_node, row_place, served, stages, time_of, touched, touched_at, touched_in, touched_unless, verdict};
+ghost use Rattle.pm_step.specs.Fresh.{IsFresh};
 ghost use Rattle.pm_tell.specs.Telling.{HasPlaces};
 ghost use Rattle.pm_values.specs.Along.{Completes, IsTrail, modes_of, trail_from};
 
@@ -54,6 +55,7 @@ pub fn advance(
 ) -> Option<Served>
     requires kept { AreKept tables.old caches.now }
     requires places { HasPlaces tables.old.fixed.topology (length tables.old.fixed.object.masters) telling.old }
+    requires fresh { IsFresh tables.old telling.old }
     ensures book { tables.new ≡ after_stages (stages event.now tables.old) tables.old }
     ensures served { result ≡ served event.now tables.old }
     ensures modes { telling.new.modes.items ≡ modes_of tables.old }
@@ -62,21 +64,46 @@ pub fn advance(
     ensures places { HasPlaces tables.new.fixed.topology (length tables.new.fixed.object.masters) telling.new }
     ensures ended { telling.new.ended ≡ telling.old.ended }
     ensures notices { telling.new.notices ≡ telling.old.notices }
+    ensures fresh { may_move event.now result ≡ false → IsFresh tables.new telling.new }
 {
-    telling.log_modes(tables);
-    telling.along.start(tables);
     let served = take(tables, caches, event, &mut telling.along);
-    telling.along.log(tables);
+    if may_move(event, served) {
+        telling.along.log(tables);
+    }
     served
 }
 
-/// Its stages and its verdict. Logging the modes after them completes what was logged along the step.
+/// Begins what is logged of the next step: the modes of the masters before it, and its first moment.
+pub fn begin(tables: &Tables, telling: &mut Telling)
+    requires places { HasPlaces tables.now.fixed.topology (length tables.now.fixed.object.masters) telling.old }
+    ensures fresh { IsFresh tables.now telling.new }
+    ensures places { HasPlaces tables.now.fixed.topology (length tables.now.fixed.object.masters) telling.new }
+{
+    telling.log_modes(tables);
+    telling.along.start(tables);
+}
+
+/// The same behind an event. Where that moved no processor, what is logged is as it was before it.
+pub fn begin_after(tables: &Tables, event: &Event, served: Option<Served>, telling: &mut Telling)
+    requires places { HasPlaces tables.now.fixed.topology (length tables.now.fixed.object.masters) telling.old }
+    requires fresh { may_move event.now served ≡ false → IsFresh tables.now telling.old }
+    ensures fresh { IsFresh tables.now telling.new }
+    ensures places { HasPlaces tables.now.fixed.topology (length tables.now.fixed.object.masters) telling.new }
+{
+    if may_move(event, served) {
+        begin(tables, telling);
+    }
+}
+
+/// Its stages and its verdict. Logging the modes after them completes what was logged along the step; where no
+/// processor moves, nothing was logged along it.
 fn take(tables: &mut Tables, caches: &Caches, event: &Event, along: &mut Along) -> Option<Served>
     requires kept { AreKept tables.old caches.now }
     requires along { along.old ≡ trail_from tables.old }
     ensures book { tables.new ≡ after_stages (stages event.now tables.old) tables.old }
     ensures served { result ≡ served event.now tables.old }
     ensures along { Completes tables.old (path event.now tables.old) tables.new along.new }
+    ensures still { may_move event.now result ≡ false → along.new ≡ along.old }
 {
     if let Event::Ipi { master, message } = event {
         let call = decode_call(message);
@@ -122,6 +149,7 @@ fn receive(
     ensures verdict { result ≡ verdict (call_in master call tables.old) }
     ensures along { Completes tables.old
         (path_from (message_stages (call_in master call tables.old)) tables.old) tables.new along.new }
+    ensures still { keeps_procs call ≡ true → along.new ≡ along.old }
 {
     let Some(place) = tables.master_place(master) else {
         return Verdict::Dropped;
@@ -160,6 +188,23 @@ fn only_reads(call: &Call) -> bool
             | Call::GetOpCharacteristic { .. }
             | Call::ResetGetStatus { .. }
     )
+}
+
+/// Whether a call leaves all processors in their modes: it only reads the book, or changes a row of the caller.
+fn keeps_procs(call: &Call) -> bool
+    ensures { result ≡ keeps_procs call.now }
+{
+    only_reads(call) || row_node(call).is_some()
+}
+
+/// Whether an event may change the mode of a processor.
+fn may_move(event: &Event, served: Option<Served>) -> bool
+    ensures { result ≡ may_move event.now served }
+{
+    match served {
+        Some(served) => !keeps_procs(&served.call),
+        None => is_action(event),
+    }
 }
 
 /// Whether an event may have stages, by the verdict on its message. Where it may not, the book stays but for

@@ -10,8 +10,8 @@ use pm_apply::{Kept, carry, carry_all, marks_suffice};
 use pm_base::{Event, LineId, Message, NoMemory, NodeId, Unit};
 use pm_core::{Answer, Outbox};
 use pm_device::{Device, ListedDevice, ModelDevice};
-use pm_object::{Object, decode};
-use pm_testing::{Desk, Trigger, bytes_of, chip, desk_with, event_of};
+use pm_object::Object;
+use pm_testing::{Desk, Trigger, boxed, chip, desk_with, event_of, object_of};
 use pm_topology::Topology;
 use std::alloc::Global;
 use std::test::Fail;
@@ -40,20 +40,47 @@ fn started<D: Device>(
 ) -> Result<Drive, NoMemory>
     requires formed { IsWellFormed chip }
 {
-    let mut kept = Kept::load(alloc, &chip)?;
-    let mut boxed = desk_with(alloc, object, chip)?;
-    let desk = &mut *boxed;
-    carry_all(dev, &mut kept, &desk.book, &mut desk.out);
-    Ok(Drive { kept, desk: boxed })
+    match Kept::load(alloc, &chip) {
+        Ok(mut kept) => match desk_with(alloc, object, chip) {
+            Ok(mut boxed) => {
+                let desk = &mut *boxed;
+                carry_all(dev, &mut kept, &desk.book, &mut desk.out);
+                Ok(Drive { kept, desk: boxed })
+            }
+            Err(error) => {
+                drop(kept);
+                Err(error)
+            }
+        },
+        Err(error) => {
+            drop((object, chip));
+            Err(error)
+        }
+    }
 }
 
 /// The same once master 7 is started.
-fn drive_of<D: Device>(alloc: Global, dev: &mut D) -> Result<Drive, Fail> {
-    let bytes = bytes_of(alloc, OBJECT)?;
-    let object = decode(alloc, &bytes)?;
-    let mut drive = started(alloc, object, chip(alloc)?, dev)?;
+fn drive_of<D: Device>(alloc: Global, dev: &mut D) -> Result<Box<Drive>, Fail> {
+    let object = object_of(alloc, OBJECT)?;
+    let chip = chip(alloc)?;
+    let drive = started(alloc, Box::into_inner(object), chip, dev)?;
+    let mut drive = boxed(alloc, drive)?;
     drive.take(&event_of(Trigger::Boot(7, 0)), dev);
     Ok(drive)
+}
+
+/// A device over the chip that does all but what it is told not to.
+fn model(alloc: Global) -> Result<Box<ModelDevice>, Fail> {
+    let chip = boxed(alloc, chip(alloc)?)?;
+    let dev = ModelDevice::new(alloc, &chip)?;
+    Ok(boxed(alloc, dev)?)
+}
+
+/// A device over the chip that fails at these commands.
+fn listed(alloc: Global, failing: &[u32]) -> Result<Box<ListedDevice>, Fail> {
+    let chip = boxed(alloc, chip(alloc)?)?;
+    let dev = ListedDevice::new(alloc, &chip, failing)?;
+    Ok(boxed(alloc, dev)?)
 }
 
 /// A call of master 7 on node 28 with ACCESS.
@@ -146,10 +173,7 @@ static DOWN: [Turn; 1] = [(
 
 #[test]
 fn a_domain_goes_up_before_its_slave_and_down_after_it(rt: HostRuntime) -> Result<(), Fail> {
-    let mut dev = Box::new(
-        rt.alloc(),
-        ModelDevice::new(rt.alloc(), &chip(rt.alloc())?)?,
-    )?;
+    let mut dev = model(rt.alloc())?;
     let mut drive = drive_of(rt.alloc(), &mut *dev)?;
     assert!(rt; are_done(&drive.desk.out, &[(7, 0, 1, true)]));
     all_right(&rt, wrong_turn(&mut drive, &mut *dev, &UP));
@@ -176,8 +200,7 @@ static SKIPPED: [Turn; 2] = [
 
 #[test]
 fn a_slave_is_skipped_while_its_domain_is_down(rt: HostRuntime) -> Result<(), Fail> {
-    let chip = chip(rt.alloc())?;
-    let mut dev = Box::new(rt.alloc(), ListedDevice::new(rt.alloc(), &chip, &[5])?)?;
+    let mut dev = listed(rt.alloc(), &[5])?;
     let mut drive = drive_of(rt.alloc(), &mut *dev)?;
     all_right(&rt, wrong_turn(&mut drive, &mut *dev, &SKIPPED));
     Ok(())
@@ -202,10 +225,7 @@ static BROKEN: [Turn; 3] = [
 
 #[test]
 fn a_domain_stays_up_over_a_slave_that_is_broken(rt: HostRuntime) -> Result<(), Fail> {
-    let mut dev = Box::new(
-        rt.alloc(),
-        ModelDevice::new(rt.alloc(), &chip(rt.alloc())?)?,
-    )?;
+    let mut dev = model(rt.alloc())?;
     let mut drive = drive_of(rt.alloc(), &mut *dev)?;
     all_right(&rt, wrong_turn(&mut drive, &mut *dev, &BROKEN));
     Ok(())
@@ -235,10 +255,7 @@ static TOLD: [Told; 4] = [
 
 #[test]
 fn a_device_that_does_not_follow_is_an_internal_error(rt: HostRuntime) -> Result<(), Fail> {
-    let mut dev = Box::new(
-        rt.alloc(),
-        ModelDevice::new(rt.alloc(), &chip(rt.alloc())?)?,
-    )?;
+    let mut dev = model(rt.alloc())?;
     let mut drive = drive_of(rt.alloc(), &mut *dev)?;
     for (broken, api, status, words) in &TOLD {
         dev.rig(NodeId(28), *broken);
@@ -310,10 +327,7 @@ static LINES: [Reset; 8] = [
 
 #[test]
 fn a_line_is_pulsed_by_two_commands(rt: HostRuntime) -> Result<(), Fail> {
-    let mut dev = Box::new(
-        rt.alloc(),
-        ModelDevice::new(rt.alloc(), &chip(rt.alloc())?)?,
-    )?;
+    let mut dev = model(rt.alloc())?;
     let mut drive = drive_of(rt.alloc(), &mut *dev)?;
     all_right(&rt, wrong_reset(&mut drive, &mut *dev, &LINES));
     Ok(())
@@ -333,11 +347,7 @@ static FAILING: [Reset; 6] = [
 
 #[test]
 fn a_pulse_may_fail(rt: HostRuntime) -> Result<(), Fail> {
-    let chip = chip(rt.alloc())?;
-    let mut dev = Box::new(
-        rt.alloc(),
-        ListedDevice::new(rt.alloc(), &chip, &[5, 7, 10])?,
-    )?;
+    let mut dev = listed(rt.alloc(), &[5, 7, 10])?;
     let mut drive = drive_of(rt.alloc(), &mut *dev)?;
     all_right(&rt, wrong_reset(&mut drive, &mut *dev, &FAILING));
     Ok(())

@@ -3,3 +3,4 @@ pub mod OtherNotesLaw
 pub mod RenewLaw
 pub mod TalkLemmas
 pub mod TellLemmas
+pub mod QuietLaw

@@ -53,6 +53,10 @@ pub record News : Type 0 where
   pub ended : List Ended
   pub notices : List Waiting
 
+-- nothing to tell
+abbrev pub no_news : News
+no_news = record { asked = None; ended = []; notices = [] }
+
 -- the acknowledgement of a request that ended, where the master that asked wants one: a note about the node of the
 -- request
 abbrev pub acknowledged_by : AckKind → Ended → List Waiting

@@ -1,6 +1,6 @@
 -- What is kept of a step until the masters are told of it: their modes before it, what is logged along it, and what
 -- there is to tell.
-use Rattle.std.specs.Prelude.{ℕ, ◌≤◌, ◌≡◌, List, length, Option, ◌++◌}
+use Rattle.std.specs.Prelude.{ℕ, ◌<◌, ◌≤◌, ◌≡◌, false, List, length, Option, ◌++◌}
 use Rattle.pm_topology.specs.declared.topology.Topology.{Topology}
 use Rattle.pm_topology.specs.Units.{units_of}
 use Rattle.pm_calls.specs.declared.verdict.Say.{Say}
@@ -8,8 +8,9 @@ use Rattle.pm_tell.specs.declared.telling.Telling.{Telling}
 use Rattle.pm_values.specs.declared.turns.Turns.{Turns}
 use Rattle.pm_values.specs.Along as along
 use Rattle.pm_values.specs.Along.{mode_logged, turns_logged}
-use Rattle.pm_tell.specs.Callbacks.{News, note_changes}
+use Rattle.pm_tell.specs.Callbacks.{News, note_changes, wakes}
 use Rattle.pm_values.specs.Notifications.{notice_count}
+use Rattle.pm_state.specs.Members.{mode_of_master}
 use Rattle.pm_state.specs.State.{State}
 use Rattle.pm_state.specs.Talk.{Talk, talks}
 use Rattle.pm_tell.specs.Opening.{forgets_from, talk_of}
@@ -29,6 +30,12 @@ mode_before telling = mode_logged telling.modes.items
 -- what there is to tell
 abbrev pub news_in : Telling → News
 news_in telling = record { asked = telling.asks; ended = telling.ended.items; notices = telling.notices.items }
+
+-- no master wakes from the modes before the step to those of this book
+abbrev pub NoneWakes : Telling → State → Type 0
+NoneWakes telling book =
+    (m : ℕ) → m < length book.fixed.object.masters
+    → wakes (mode_before telling m) (mode_of_master book.fixed book.now.core m) ≡ false
 
 -- what is done before any master is told, in the book after the stages
 abbrev pub opening_in : Telling → Option Say → Option ℕ → State → List Talk

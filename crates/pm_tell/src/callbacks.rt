@@ -1,6 +1,6 @@
 //! What masters are told in a step by callbacks.
 
-ghost use Rattle.std.specs.Prelude.{◌≡◌, ◌+◌, ◌<◌, ◌≤◌, ◌++◌, length, flat_map, map, option_to_list};
+ghost use Rattle.std.specs.Prelude.{◌≡◌, ◌+◌, ◌<◌, ◌≤◌, ◌++◌, false, length, flat_map, map, option_to_list};
 ghost use Rattle.pm_tell.specs.Callbacks.{callbacks_at_most, notes_of_master, told_if};
 ghost use Rattle.pm_state.specs.Units.{unit_count};
 ghost use Rattle.pm_notify.specs.MasterNotes.{waiting_in};
@@ -12,7 +12,7 @@ ghost use Rattle.pm_state.specs.Members.{mode_of_master};
 ghost use Rattle.pm_values.specs.Notifications.{notice_count};
 ghost use Rattle.pm_state.specs.Sound.{HasNotes};
 ghost use Rattle.pm_state.specs.Talk.{take_of, talked};
-ghost use Rattle.pm_tell.specs.Telling.{mode_before, news_in};
+ghost use Rattle.pm_tell.specs.Telling.{NoneWakes, mode_before, news_in};
 
 use crate::ended::Ended;
 use crate::keeping::{is_wanted, keep_notes};
@@ -24,7 +24,7 @@ use pm_ipi::callbacks::{ACKNOWLEDGE, INIT_SUSPEND, NOTIFY, REASON_MASTER};
 use pm_notify::{
     NodeEvent, Note, Waiting, notifiers_are_kept, others_keep_their_notes, takes_drain_the_slots,
 };
-use pm_procs::same_mode;
+use pm_procs::{is_awake, same_mode};
 use pm_state::{Tables, master_node};
 use pm_topology::units_stand_in_order;
 use pm_values::{Caches, point};
@@ -135,10 +135,27 @@ pub(crate) fn tell_masters(
     others_keep_their_notes();
     takes_drain_the_slots();
     units_stand_in_order();
+    // Most steps have nothing to tell.
+    if telling.has_no_news() && !one_wakes(tables, telling) {
+        return;
+    }
     for k in 0..tables.masters() {
         let master = master_node(tables.object().masters.as_slice(), k);
         tell_master(tables, caches, telling, k, master, callbacks);
     }
+}
+
+/// Whether some master was asleep before the step and is active or suspending after it. Otherwise none is told what
+/// waited.
+fn one_wakes(tables: &Tables, telling: &Telling) -> bool
+    ensures { result ≡ false → NoneWakes telling.now tables.now }
+{
+    for k in 0..tables.masters() {
+        if same_mode(telling.mode(k), Mode::Asleep) && is_awake(tables.mode_of_master(k)) {
+            return true;
+        }
+    }
+    false
 }
 
 /// Tells the master at a place what there is to tell. Nothing is told to one that is off.

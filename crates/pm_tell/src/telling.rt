@@ -1,12 +1,13 @@
 //! What is kept of a step until the masters are told of it: their modes before it, what is logged along it, and
 //! what there is to tell.
 
-ghost use Rattle.std.specs.Prelude.{◌≡◌, ◌+◌, ◌<◌, ◌≤◌, ◌++◌, IfOk, length};
+ghost use Rattle.std.specs.Prelude.{◌≡◌, ◌+◌, ◌<◌, ◌≤◌, ◌++◌, IfOk, length, true};
 ghost use Rattle.pm_procs.specs.Pending.{pending_at};
 ghost use Rattle.pm_values.specs.Along.{mode_logged, modes_of, trail_at_load};
 ghost use Rattle.pm_tell.specs.Ended.{ended_at, ended_from};
 ghost use Rattle.pm_values.specs.Notifications.{notice_count};
-ghost use Rattle.pm_tell.specs.Telling.{turns_in};
+ghost use Rattle.pm_tell.specs.Telling.{news_in, turns_in};
+ghost use Rattle.pm_tell.specs.Callbacks.{no_news};
 ghost use Rattle.pm_calls.specs.Verdict.{aborted_by, asked_by};
 
 use crate::ended::{Ended, ended_at};
@@ -64,6 +65,13 @@ impl Telling {
         ensures { result.now ≡ self.now.ended.items }
     {
         self.ended.as_slice()
+    }
+
+    /// Whether no master is asked to suspend in the step, no request ends in it, and nothing happens to nodes.
+    pub(crate) fn has_no_news(&self) -> bool
+        ensures { result ≡ true → news_in self.now ≡ no_news }
+    {
+        self.asks.is_none() && self.ended().is_empty() && self.notices().is_empty()
     }
 
     /// What happens to nodes in the step.

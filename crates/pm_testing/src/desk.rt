@@ -6,9 +6,10 @@ ghost use Rattle.pm_core.specs.Outbox.{HasRoomFor};
 
 use crate::events::{Trigger, event_of, message};
 use pm_base::{Event, List, NoMemory};
+use pm_chip::zynqmp;
 use pm_core::{Answer, Book, Outbox};
 use pm_object::{Attached, Content, DecodeError, Object, decode};
-use pm_topology::{Topology, zynqmp};
+use pm_topology::Topology;
 use std::alloc::Global;
 use std::test::Fail;
 
@@ -47,13 +48,24 @@ pub fn desk_beside(
     ensures chip { IfOk result (λ desk. desk.value.book.fixed.topology ≡ chip) }
     ensures fresh { IfOk result (λ desk. desk.value.out.done.items ≡ []) }
 {
-    let mut out = Outbox::load(alloc, &chip, object.masters.len())?;
-    let book = Book::load(alloc, object, attached, chip, &mut out)?;
-    boxed(alloc, Desk { book, out })
+    match Outbox::load(alloc, &chip, object.masters.len()) {
+        Ok(mut out) => match Book::load(alloc, object, attached, chip, &mut out) {
+            Ok(book) => boxed(alloc, Desk { book, out }),
+            Err(error) => {
+                drop(out);
+                Err(error)
+            }
+        },
+        Err(error) => {
+            drop((object, attached, chip));
+            Err(error)
+        }
+    }
 }
 
-/// A value on the heap. It is dropped, where there is not enough memory, at a type that is any.
-fn boxed<T: Drop>(alloc: Global, value: T) -> Result<Box<T>, NoMemory>
+/// A large value on the heap: what holds it drops one box at each of its exits, not the value's fields one by one. Where
+/// there is not enough memory the value is dropped here, at a type that is any.
+pub fn boxed<T: Drop>(alloc: Global, value: T) -> Result<Box<T>, NoMemory>
     ensures { IfOk result (λ held. held.value ≡ value) }
 {
     Box::new(alloc, value).map_err(|_| NoMemory)
@@ -70,18 +82,37 @@ fn attached_at(alloc: Global, address: u32, words: &[u32]) -> Result<Attached, F
     Ok(Attached { address, content })
 }
 
+/// These words, each at its address, on the heap.
+fn attached_of(alloc: Global, pieces: &[(u32, &[u32])]) -> Result<Box<List<Attached>>, Fail> {
+    let mut attached = boxed(alloc, List::new(alloc))?;
+    for (address, words) in pieces {
+        attached.push(attached_at(alloc, *address, words)?)?;
+    }
+    Ok(attached)
+}
+
 /// The book at load over an object of these words, where words are attached at addresses.
 pub fn desk_attached(
     alloc: Global,
     words: &[u32],
     pieces: &[(u32, &[u32])],
 ) -> Result<Box<Desk>, Fail> {
-    let object = decode(alloc, &bytes_of(alloc, words)?)?;
-    let mut attached = List::new(alloc);
-    for (address, words) in pieces {
-        attached.push(attached_at(alloc, *address, words)?)?;
-    }
-    Ok(desk_beside(alloc, object, attached, chip(alloc)?)?)
+    let object = object_of(alloc, words)?;
+    let attached = attached_of(alloc, pieces)?;
+    let chip = chip(alloc)?;
+    Ok(desk_beside(
+        alloc,
+        Box::into_inner(object),
+        Box::into_inner(attached),
+        chip,
+    )?)
+}
+
+/// The object of these words, on the heap.
+pub fn object_of(alloc: Global, words: &[u32]) -> Result<Box<Object>, Fail> {
+    let bytes = bytes_of(alloc, words)?;
+    let object = decode(alloc, &bytes)?;
+    Ok(boxed(alloc, object)?)
 }
 
 /// The bytes of words, the lowest byte of each first.
@@ -95,9 +126,9 @@ pub fn bytes_of(alloc: Global, words: &[u32]) -> Result<Vec<u8>, Fail> {
 
 /// The book at load over an object of these words.
 pub fn desk_of(alloc: Global, words: &[u32]) -> Result<Box<Desk>, Fail> {
-    let bytes = bytes_of(alloc, words)?;
-    let object = decode(alloc, &bytes)?;
-    Ok(desk_with(alloc, object, chip(alloc)?)?)
+    let object = object_of(alloc, words)?;
+    let chip = chip(alloc)?;
+    Ok(desk_with(alloc, Box::into_inner(object), chip)?)
 }
 
 /// The book once master 1 has finished its initialization and master 7 is started.

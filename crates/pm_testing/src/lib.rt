@@ -9,7 +9,9 @@ pub mod rows;
 pub mod turns;
 
 pub use answers::{Case, Want, wrong_answer};
-pub use desk::{Desk, bytes_of, chip, desk_attached, desk_beside, desk_of, desk_with, settled};
+pub use desk::{
+    Desk, boxed, bytes_of, chip, desk_attached, desk_beside, desk_of, desk_with, object_of, settled,
+};
 pub use events::{Trigger, event_of, message};
 pub use rows::{RowCase, UNUSED, wrong_row, wrong_value};
 pub use turns::{Turn, have_moved, have_started, wrong_turn};

@@ -49,7 +49,8 @@ impl Along {
 
     /// Logs the first moment of a step.
     pub fn start(&mut self, tables: &Tables)
-        requires { HasPlaces (length tables.now.fixed.object.masters) (length tables.now.fixed.topology.procs) self.old }
+        requires { HasPlaces (length tables.now.fixed.object.masters)
+            (length tables.now.fixed.topology.procs) self.old }
         ensures { self.new ≡ trail_from tables.now }
     {
         log_modes(tables, &mut self.modes);
@@ -59,7 +60,8 @@ impl Along {
 
     /// Logs one moment more.
     pub fn log(&mut self, tables: &Tables)
-        requires { HasPlaces (length tables.now.fixed.object.masters) (length tables.now.fixed.topology.procs) self.old }
+        requires { HasPlaces (length tables.now.fixed.object.masters)
+            (length tables.now.fixed.topology.procs) self.old }
         ensures { self.new ≡ trailed tables.now self.old }
     {
         log_turns(tables, &self.modes, &mut self.turns);

@@ -1,13 +1,15 @@
 //! What the book keeps of its values.
 
-ghost use Rattle.std.specs.Prelude.{◌≡◌, ℕ, ◌<◌, ◌≤◌, ◌++◌, IfOk, Some, true, false, length, option_map, slice_get};
+ghost use Rattle.std.specs.Prelude.{◌≡◌, ℕ, ◌<◌, ◌≤◌, ◌++◌, IfOk, Some, true, false, length, map, option_map, slice_get};
 ghost use Rattle.pm_base.specs.declared.names.Unit.TheVariants.{Node};
 ghost use Rattle.pm_topology.specs.declared.places.Kind.TheVariants.{Slave};
 ghost use Rattle.pm_topology.specs.Units.{units_of};
+ghost use Rattle.pm_topology.specs.WellFormed.{IsWellFormed};
+ghost use Rattle.pm_power.specs.Needs.{needs_of};
 ghost use Rattle.pm_state.specs.Values.{value};
 ghost use Rattle.pm_values.specs.declared.caches.UnitKind.TheVariants.{Entry};
 ghost use Rattle.pm_topology.specs.UnitMap.{all_at};
-ghost use Rattle.pm_values.specs.Caches.{AreChosen, AreKept, AreSettled, Finds, HasPlaces, HasRoom, IsChosen, IsWritten, freed_by, moved_at, noticed_at, value_by, value_kept};
+ghost use Rattle.pm_values.specs.Caches.{AreChosen, AreKept, AreSettled, Finds, HasPlaces, HasRoom, IsChosen, IsWritten, freed_by, kind_of_unit, moved_at, noticed_at, value_by, value_kept};
 ghost use Rattle.pm_values.specs.Kinds.{MayRest, rests_at};
 ghost use Rattle.pm_values.specs.Touches.{IsBefore, IsLogged, IsOfModes, IsOfRows, IsTouched, is_among, rests, turned};
 
@@ -18,11 +20,11 @@ use crate::needs::{choose, choose_one, choose_turned, follow_runs, log_runs, sla
 use crate::notifications::{freed, log_notice, log_turned_uses, log_use, log_uses};
 use crate::starts::Start;
 use crate::touches::Touched;
-use pm_base::{BoundedList, Mode, NoMemory, NodeId, Unit, at_or};
+use pm_base::{BoundedList, Mode, NoMemory, NodeId, Unit, at_or, with};
 use pm_notify::Waiting;
 use pm_power::Power;
 use pm_state::Tables;
-use pm_topology::{Kind, SlaveDef, UnitMap, kinds_are_exact, units_stand_in_order};
+use pm_topology::{Kind, SlaveDef, Topology, UnitMap, kinds_are_exact, units_stand_in_order};
 use std::alloc::Global;
 
 /// What the value of a unit is found by: the kind of a node, or the place of a reset line.
@@ -53,15 +55,17 @@ impl Caches {
         ensures zeros { IfOk result (λ caches. caches.values ≡ all_at 0 (units_of tables.now.fixed.topology)) }
     {
         let t = tables.topology();
-        let slaves = t.slaves.len();
+        let found = found_of(alloc, t)?;
+        let flags = flags_of(alloc, t.slaves.len(), t.procs.len());
+        let ((kinds, power, values), (states, needs, runs, used)) = with(found, flags)?;
         Ok(Caches {
-            kinds: Kinds::load(alloc, t)?,
-            states: zeros(alloc, slaves)?,
-            needs: no_needs(alloc, slaves)?,
-            runs: no_needs(alloc, t.procs.len())?,
-            used: no_needs(alloc, slaves)?,
-            power: Power::load(alloc, t)?,
-            values: UnitMap::load(alloc, t, 0)?,
+            kinds,
+            states,
+            needs,
+            runs,
+            used,
+            power,
+            values,
         })
     }
 
@@ -378,6 +382,40 @@ impl Caches {
         state_of(tables, s) == at_or(&self.states, s, 0)
             && !freed(UnitKind::Entry(Kind::Slave(s)), &self.used, tables.rows())
     }
+}
+
+/// The kinds of the units, the power nodes with nothing up, and the value 0 of each unit.
+fn found_of(alloc: Global, t: &Topology) -> Result<(Kinds, Power, UnitMap<u32>), NoMemory>
+    requires { IsWellFormed t.now }
+    ensures kinds { IfOk result (λ found. found.0.items ≡ map (kind_of_unit t.now) (units_of t.now)) }
+    ensures power { IfOk result (λ found. found.1 ≡ needs_of t.now (λ _. false)) }
+    ensures values { IfOk result (λ found. found.2 ≡ all_at 0 (units_of t.now)) }
+{
+    let kinds = Kinds::load(alloc, t)?;
+    let power = Power::load(alloc, t);
+    let (kinds, power) = with(kinds, power)?;
+    let values = UnitMap::load(alloc, t, 0);
+    let ((kinds, power), values) = with((kinds, power), values)?;
+    Ok((kinds, power, values))
+}
+
+/// The states of so many slaves and whether each needs its power node, whether each of so many processors runs, and
+/// whether each slave is used.
+fn flags_of(
+    alloc: Global,
+    slaves: usize,
+    procs: usize,
+) -> Result<(Vec<u32>, Vec<bool>, Vec<bool>, Vec<bool>), NoMemory>
+    ensures states { IfOk result (λ flags. length flags.0.items ≡ slaves) }
+    ensures needs { IfOk result (λ flags. length flags.1.items ≡ slaves) }
+    ensures runs { IfOk result (λ flags. length flags.2.items ≡ procs) }
+    ensures used { IfOk result (λ flags. length flags.3.items ≡ slaves) }
+{
+    let states = zeros(alloc, slaves)?;
+    let needs = no_needs(alloc, slaves)?;
+    let runs = no_needs(alloc, procs)?;
+    let used = no_needs(alloc, slaves)?;
+    Ok((states, needs, runs, used))
 }
 
 fn zeros(alloc: Global, count: usize) -> Result<Vec<u32>, NoMemory>

@@ -5,10 +5,10 @@ ghost use Rattle.pm_topology.specs.declared.places.Kind.TheVariants.{Slave};
 ghost use Rattle.pm_topology.specs.Units.{units_of};
 ghost use Rattle.pm_values.specs.declared.caches.UnitKind.TheVariants.{Entry};
 ghost use Rattle.pm_values.specs.Caches.{kind_of_unit};
-ghost use Rattle.pm_values.specs.Kinds.{AreApart, AreHomes, MayRest, may_rest, rests_at, with_home, woken_at};
+ghost use Rattle.pm_values.specs.Kinds.{AreApart, AreHomes, AreIndexed, MayRest, may_rest, rests_at, with_home, woken_at};
 
 use crate::caches::UnitKind;
-use pm_base::{NoMemory, Unit, at_or};
+use pm_base::{NoMemory, Unit, at_or, with};
 use pm_topology::{Kind, Topology, kinds_are_exact, units_of, units_stand_in_order};
 use std::alloc::Global;
 use std::marker::Model;
@@ -43,10 +43,9 @@ impl Kinds {
     {
         units_stand_in_order();
         kinds_are_exact();
-        let kinds = kinds_of(alloc, t, units_of(alloc, t)?.as_slice())?;
-        let homes = homes_of(alloc, t.slaves.len(), &kinds)?;
-        let always = always_of(alloc, &kinds)?;
-        let awake = asleep(alloc, always.len())?;
+        let kinds = unit_kinds(alloc, t)?;
+        let beside = beside_of(alloc, t.slaves.len(), &kinds);
+        let (kinds, (homes, (always, awake))) = with(kinds, beside)?;
         Ok(Kinds {
             kinds,
             homes,
@@ -88,7 +87,8 @@ impl Kinds {
     /// The group of the unit of the slave at a place doesn't rest from now on.
     pub(crate) fn wake(&mut self, s: usize)
         ensures items { self.new.items ≡ self.old.items }
-        ensures woken { (k : ℕ) → slice_get self.old.items k ≡ Some (Entry (Slave s)) → rests_at self.new.awake k ≡ false }
+        ensures woken { (k : ℕ) → slice_get self.old.items k ≡ Some (Entry (Slave s))
+            → rests_at self.new.awake k ≡ false }
         ensures others { (k : ℕ) → rests_at self.new.awake k ≡ true → rests_at self.old.awake k ≡ true }
     {
         let home = at_or(&self.homes, s, 0);
@@ -125,6 +125,39 @@ fn wake_at(k: usize, awake: &mut [bool])
 }
 
 /// The kind of each of these units.
+/// The kinds of the units of a chip.
+fn unit_kinds(alloc: Global, t: &Topology) -> Result<Vec<UnitKind>, NoMemory>
+    ensures { IfOk result (λ kinds. kinds.items ≡ map (kind_of_unit t.now) (units_of t.now)) }
+{
+    let units = units_of(alloc, t)?;
+    kinds_of(alloc, t, units.as_slice())
+}
+
+/// What stands beside the kinds: the places of the units of so many slaves, the groups that never rest, and those that
+/// don't rest in this step.
+fn beside_of(
+    alloc: Global,
+    slaves: usize,
+    kinds: &[UnitKind],
+) -> Result<(Vec<usize>, (Vec<bool>, Vec<bool>)), NoMemory>
+    requires { AreApart slaves kinds.now }
+    ensures { IfOk result (λ beside. AreIndexed kinds.now beside.0.items beside.1.0.items beside.1.1.items) }
+{
+    let homes = homes_of(alloc, slaves, kinds)?;
+    let groups = groups_of(alloc, kinds);
+    with(homes, groups)
+}
+
+/// The groups that never rest, and room for those that don't rest in a step.
+fn groups_of(alloc: Global, kinds: &[UnitKind]) -> Result<(Vec<bool>, Vec<bool>), NoMemory>
+    ensures others { IfOk result (λ groups. MayRest kinds.now (length kinds.now) groups.0.items) }
+    ensures count { IfOk result (λ groups. length groups.1.items ≡ length groups.0.items) }
+{
+    let always = always_of(alloc, kinds)?;
+    let awake = asleep(alloc, always.len());
+    with(always, awake)
+}
+
 fn kinds_of(alloc: Global, t: &Topology, units: &[Unit]) -> Result<Vec<UnitKind>, NoMemory>
     ensures { IfOk result (λ kinds. kinds.items ≡ map (kind_of_unit t.now) units.now) }
 {

@@ -108,8 +108,8 @@ fn log_kind(
     } }
     ensures notices { notices.new ≡ record notices.old {
       items = notices.old.items
-          ++ noticed_at (unit_value states.now procs.now.procs ups.now resets.now kind) (freed_by used.now rows.now kind)
-          (slice_get values.old k);
+          ++ noticed_at (unit_value states.now procs.now.procs ups.now resets.now kind)
+          (freed_by used.now rows.now kind) (slice_get values.old k);
     } }
     ensures few { length notices.new.items ≤ length notices.old.items + 2 }
 {
@@ -142,7 +142,28 @@ fn log_unit(
     if is_settled(entry, value, freed) {
         return;
     }
-    log_notice(entry, value, freed, notices);
+    log_change(k, value, freed, values, moved, notices);
+}
+
+/// The same of a unit to which something happened.
+fn log_change(
+    k: usize,
+    value: u32,
+    freed: bool,
+    values: &mut UnitMap<u32>,
+    moved: &mut BoundedList<Unit>,
+    notices: &mut BoundedList<Waiting>,
+)
+    requires room { length moved.old.items < moved.old.room }
+    requires notices { length notices.old.items + 2 ≤ notices.old.room }
+    ensures values { values.new ≡ with_value_at k value values.old }
+    ensures moved { moved.new
+        ≡ record moved.old { items = moved.old.items ++ moved_at value (slice_get values.old k) } }
+    ensures notices { notices.new
+        ≡ record notices.old { items = notices.old.items ++ noticed_at value freed (slice_get values.old k) } }
+    ensures few { length notices.new.items ≤ length notices.old.items + 2 }
+{
+    log_notice(values.entry(k), value, freed, notices);
     log_move(k, value, values, moved);
 }
 

@@ -30,7 +30,8 @@ pub fn serve(
     requires { along.old ≡ trail_from tables.old }
     ensures verdict { result ≡ verdict_of (force_powerdown (grants_in tables.old) tables.old.fixed master node ack) }
     ensures book { tables.new
-        ≡ after_stages (stages_of (force_powerdown (grants_in tables.old) tables.old.fixed master node ack)) tables.old }
+        ≡ after_stages (stages_of
+        (force_powerdown (grants_in tables.old) tables.old.fixed master node ack)) tables.old }
     ensures along { Completes tables.old
         (path_from (stages_of (force_powerdown (grants_in tables.old) tables.old.fixed master node ack)) tables.old)
         tables.new along.new }

@@ -7,7 +7,7 @@ ghost use Rattle.pm_state.specs.Stages.{after_stages};
 ghost use Rattle.pm_calls.specs.Views.{row_view};
 
 use crate::verdict::Verdict;
-use crate::views::row_view;
+use crate::views::rival_node;
 use bitflags::Flags;
 use pm_base::{Caps, NodeId};
 use pm_ipi::status::{DOUBLE_REQUEST, INVALID_NODE, INVALID_PARAMETER, NO_ACCESS, NO_FEATURE};
@@ -21,14 +21,13 @@ pub fn serve(tables: &mut Tables, master: usize, node: NodeId, caps: Caps, ack: 
     ensures book { tables.new
         ≡ after_stages (stages_of (request_node caps ack (row_view master node tables.old))) tables.old }
 {
-    let view = row_view(tables, master, node);
     if ack_kind(ack).is_none() {
         return Verdict::refused(INVALID_PARAMETER);
     }
-    if view.slave.is_none() {
+    let Some(slave) = tables.slave_place(node) else {
         return Verdict::refused(INVALID_NODE);
-    }
-    let Some(entry) = view.entry else {
+    };
+    let Some(entry) = tables.rows().entry_at(master, slave) else {
         return Verdict::refused(NO_ACCESS);
     };
     if !entry.seed.all.contains(caps) {
@@ -37,7 +36,7 @@ pub fn serve(tables: &mut Tables, master: usize, node: NodeId, caps: Caps, ack: 
     if entry.row.used {
         return Verdict::refused(DOUBLE_REQUEST);
     }
-    if let Some(rival) = view.rival {
+    if let Some(rival) = rival_node(tables, master, slave) {
         return Verdict::Refused(Response::used_by(rival));
     }
     tables.row_stage(entry.seed.master, entry.seed.slave, Change::Request(caps));

@@ -22,7 +22,8 @@ pub fn serve(tables: &mut Tables, master: usize, address: u32) -> Verdict
     ensures verdict { result ≡ verdict_of
         (set_configuration (found_at address tables.old.fixed) (permits_configure (grants_in tables.old) master)) }
     ensures book { tables.new ≡ after_stages
-        (stages_of (set_configuration (found_at address tables.old.fixed) (permits_configure (grants_in tables.old) master)))
+        (stages_of (set_configuration (found_at address tables.old.fixed)
+        (permits_configure (grants_in tables.old) master)))
         tables.old }
 {
     match tables.found(address) {

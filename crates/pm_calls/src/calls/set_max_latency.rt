@@ -7,7 +7,6 @@ ghost use Rattle.pm_calls.specs.Views.{row_view};
 ghost use Rattle.pm_calls.specs.calls.SetMaxLatency.{set_max_latency};
 
 use crate::verdict::Verdict;
-use crate::views::row_view;
 use pm_base::NodeId;
 use pm_ipi::status::{INVALID_NODE, NO_ACCESS};
 use pm_rows::Change;
@@ -19,11 +18,10 @@ pub fn serve(tables: &mut Tables, master: usize, node: NodeId, latency: u32) -> 
     ensures book { tables.new
         ≡ after_stages (stages_of (set_max_latency latency (row_view master node tables.old))) tables.old }
 {
-    let view = row_view(tables, master, node);
-    if view.slave.is_none() {
+    let Some(slave) = tables.slave_place(node) else {
         return Verdict::refused(INVALID_NODE);
-    }
-    let Some(entry) = view.entry else {
+    };
+    let Some(entry) = tables.rows().entry_at(master, slave) else {
         return Verdict::refused(NO_ACCESS);
     };
     if !entry.row.used {

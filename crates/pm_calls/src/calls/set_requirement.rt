@@ -8,7 +8,6 @@ ghost use Rattle.pm_calls.specs.Views.{row_view};
 ghost use Rattle.pm_calls.specs.calls.SetRequirement.{set_requirement};
 
 use crate::verdict::Verdict;
-use crate::views::row_view;
 use bitflags::Flags;
 use pm_base::{Caps, NodeId};
 use pm_ipi::ack_kind;
@@ -27,15 +26,13 @@ pub fn serve(tables: &mut Tables, master: usize, node: NodeId, caps: Caps, ack: 
         (set_requirement (mode_of_master tables.old.fixed tables.old.now.core master) caps ack
         (row_view master node tables.old))) tables.old }
 {
-    let view = row_view(tables, master, node);
-    let mode = tables.mode_of_master(master);
     if ack_kind(ack).is_none() {
         return Verdict::refused(INVALID_PARAMETER);
     }
-    if view.slave.is_none() {
+    let Some(slave) = tables.slave_place(node) else {
         return Verdict::refused(INVALID_NODE);
-    }
-    let Some(entry) = view.entry else {
+    };
+    let Some(entry) = tables.rows().entry_at(master, slave) else {
         return Verdict::refused(NO_ACCESS);
     };
     if !entry.seed.all.contains(caps) {
@@ -44,6 +41,7 @@ pub fn serve(tables: &mut Tables, master: usize, node: NodeId, caps: Caps, ack: 
     if !entry.row.used {
         return Verdict::refused(NO_ACCESS);
     }
+    let mode = tables.mode_of_master(master);
     tables.row_stage(entry.seed.master, entry.seed.slave, Change::Set(mode, caps));
     Verdict::done()
 }

@@ -7,7 +7,7 @@ ghost use Rattle.pm_calls.specs.Views.{proc_view, row_view};
 ghost use Rattle.pm_calls.specs.calls.SetWakeupSource.{arming, set_wakeup_source};
 
 use crate::verdict::Verdict;
-use crate::views::{proc_view, row_view};
+use crate::views::proc_view;
 use bitflags::Flags;
 use pm_base::{Caps, NodeId};
 use pm_ipi::status::{INVALID_NODE, INVALID_PARAMETER, NO_ACCESS, NO_FEATURE};
@@ -39,17 +39,16 @@ pub fn serve(
         tables.old }
 {
     let target = proc_view(tables, master, node);
-    let source = row_view(tables, master, slave);
-    if target.place.is_none() || source.slave.is_none() {
+    let (Some(_), Some(source)) = (target.place, tables.slave_place(slave)) else {
         return Verdict::refused(INVALID_NODE);
-    }
+    };
     if enable > 1 {
         return Verdict::refused(INVALID_PARAMETER);
     }
     if target.own.is_none() {
         return Verdict::refused(NO_ACCESS);
     }
-    let Some(entry) = source.entry else {
+    let Some(entry) = tables.rows().entry_at(master, source) else {
         return Verdict::refused(NO_ACCESS);
     };
     if !entry.seed.all.contains(Caps::WAKEUP) {

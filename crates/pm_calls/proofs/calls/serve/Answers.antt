@@ -1,3 +1,4 @@
+use Rattle.std.proofs.Common.{refl}
 use Rattle.pm_calls.specs.calls.{called}
 use Rattle.pm_calls.specs.Verdict.{stages_of}
 use Rattle.pm_values.proofs.AlongLaw.{once_trailed}
@@ -13,4 +14,5 @@ returns-in_default c =
       along = once_trailed (stages_of (called c.args.master c.args.call book)) book c.serve_once.new.tables c.args.along.now
           (called_once c.args.master c.args.call book (once_of c.args.call c.in_default.not-ForcePowerdown c.in_default.not-SystemShutdown))
           c.requires.along c.serve_once.ensures.book;
+      still = λ is. refl;
     }

@@ -1,12 +1,10 @@
-use Rattle.std.proofs.Common.{◌≡◌, length, sym, ◌∙◌, ap, subst, arith}
-use Rattle.pm_base.specs.BoundedList.{Bounded}
-use Rattle.pm_notify.specs.declared.notes.Waiting.{Waiting}
-use Rattle.pm_step.specs.Step.{path}
+use Rattle.std.proofs.Common.{◌≡◌, false, length, sym, ◌∙◌, ap, subst, arith}
+use Rattle.pm_step.specs.Step.{may_move, path}
 use Rattle.pm_state.specs.State.{Fixed, State}
 use Rattle.pm_state.specs.Units.{units}
-use Rattle.pm_values.specs.Along.{HasPlaces as HasTrail, Trail, mode_beside}
-use Rattle.pm_state.proofs.PlacedLemmas.{length-placed}
-use Rattle.pm_values.proofs.AlongLaw.{completed, trailed_places}
+use Rattle.pm_values.specs.Along.{HasPlaces as HasTrail, IsTrail, Trail, modes_of, trail_from}
+use Rattle.pm_values.proofs.AlongLaw.{trailed_places}
+use Rattle.pm_step.proofs.StaysLaw.{stays_fresh, stays_logged}
 use Rattle.pm_step.proofs.step.advance.Goals as goal
 
 -- the places of the trail stay while it is logged
@@ -15,21 +13,44 @@ log-requires c =
     let Q : Fixed → Type 0 = λ f. HasTrail (length f.object.masters) (length f.topology.procs) c.take-served.new.along in
     subst Q (sym (ap (λ (b : State). b.fixed) c.take-served.ensures.book)) c.take-served.ensures.along.places
 
-pub returns-clause-along : goal.returns-clause-along
-returns-clause-along c =
-    let old = c.args.tables.now in
-    completed old (path c.args.event.now old) c.take-served.new.tables c.take-served.new.along c.log.new.self c.take-served.ensures.along c.log.ensures
-
-pub returns-clause-places : goal.returns-clause-places
-returns-clause-places c =
+pub returns-then-may_move-clause-places : goal.returns-then-may_move-clause-places
+returns-then-may_move-clause-places c =
     let old = c.args.tables.now in
     let mid = c.take-served.new.tables in
     let count : length mid.fixed.object.masters ≡ length old.fixed.object.masters = ap (λ (b : State). length b.fixed.object.masters) c.take-served.ensures.book in
     let all : length (units mid) ≡ length (units old) = ap (λ (b : State). length (units b)) c.take-served.ensures.book in
     let Q : Trail → Type 0 = λ n. HasTrail (length mid.fixed.object.masters) (length mid.fixed.topology.procs) n in
     record {
-      modes = ap length c.log_modes.ensures.modes ∙ (length-placed (mode_beside old) 0 old.fixed.object.masters ∙ sym count);
+      modes = c.requires.places.modes ∙ sym count;
       along = subst Q (sym c.log.ensures) (trailed_places mid c.take-served.new.along);
-      ended = omega (arith, count, c.requires.places.ended, ap (λ (l : Bounded _). l.room) c.log_modes.ensures.ended);
-      notices = omega (arith, all, c.requires.places.notices, ap (λ (l : Bounded Waiting). l.room) c.log_modes.ensures.notices);
+      ended = omega (arith, count, c.requires.places.ended);
+      notices = omega (arith, all, c.requires.places.notices);
+    }
+
+-- no processor moves, and nothing is logged behind the first moment
+stays : (c : goal.Else-may_move) → may_move c.args.event.now c.take-served.result ≡ false
+stays c = sym c.may_move.ensures ∙ c.if-may_move.false
+
+logged : (c : goal.Else-may_move) → IsTrail c.args.tables.now (path c.args.event.now c.args.tables.now) c.take-served.new.along × (c.take-served.new.along.modes ≡ modes_of c.take-served.new.tables)
+logged c =
+    stays_logged c.args.event.now c.args.tables.now c.take-served.new.tables c.take-served.result c.take-served.new.along c.take-served.ensures.served (stays c) c.take-served.ensures.book
+    (c.take-served.ensures.still (stays c) ∙ c.requires.fresh.along)
+
+pub returns-else-may_move-clause-along : goal.returns-else-may_move-clause-along
+returns-else-may_move-clause-along c = (logged c).0
+
+pub returns-else-may_move-clause-now : goal.returns-else-may_move-clause-now
+returns-else-may_move-clause-now c = (logged c).1
+
+-- so what is kept of it is begun for the next step
+pub returns-else-may_move-clause-fresh : goal.returns-else-may_move-clause-fresh
+returns-else-may_move-clause-fresh c =
+    let old = c.args.tables.now in
+    let mid = c.take-served.new.tables in
+    let same : trail_from mid ≡ trail_from old =
+    stays_fresh c.args.event.now old mid c.take-served.result c.take-served.ensures.served (stays c) c.take-served.ensures.book
+    in
+    λ still. record {
+      modes = c.requires.fresh.modes ∙ sym (ap (λ (t : Trail). t.modes) same);
+      along = c.take-served.ensures.still (stays c) ∙ (c.requires.fresh.along ∙ sym same);
     }

@@ -1,4 +1,4 @@
-use Rattle.std.proofs.Common.{sym}
+use Rattle.std.proofs.Common.{refl, sym}
 use Rattle.pm_step.specs.Step.{stages}
 use Rattle.pm_values.proofs.AlongLaw.{once_trailed}
 use Rattle.pm_step.proofs.StepLaw.{no_message, none_served, stages_once}
@@ -13,4 +13,5 @@ returns c =
       book = c.happen.ensures;
       served = sym (none_served event book none);
       along = once_trailed (stages event book) book c.happen.new.tables c.args.along.now (stages_once event book none) c.requires.along c.happen.ensures;
+      still = λ stays. refl;
     }

@@ -1,4 +1,4 @@
-use Rattle.std.proofs.Common.{◌≡◌, ◌<◌, ◌≤◌, ◌+◌, ◌*◌, ◌++◌, ℕ, length, length-append, refl, ◌∙◌, ap, arith, inl, inr}
+use Rattle.std.proofs.Common.{◌≡◌, ◌<◌, ◌≤◌, ◌+◌, ◌*◌, ◌++◌, ℕ, [], length, length-append, append-nil, refl, sym, ◌∙◌, ap, arith, inl, inr}
 use Rattle.std.proofs.lemmas.List.{length-map}
 use Rattle.std.proofs.lemmas.Option.{slice_get_cases}
 use Rattle.pm_base.specs.BoundedList.{Bounded}
@@ -8,7 +8,7 @@ use Rattle.pm_notify.specs.MasterNotes.{MasterNotes, waiting_in}
 use Rattle.pm_notify.specs.Notify.{notes_for}
 use Rattle.pm_topology.specs.Units.{UnitLaws}
 use Rattle.pm_tell.specs.declared.callbacks.Callback.{Callback}
-use Rattle.pm_tell.specs.Callbacks.{called_back, note_changes_at, callbacks_to_one}
+use Rattle.pm_tell.specs.Callbacks.{called_back, callbacks, note_changes, note_changes_at, callbacks_to_one}
 use Rattle.pm_state.specs.Members.{mode_of_master}
 use Rattle.pm_state.specs.Units.{unit_count}
 use Rattle.pm_state.specs.Sound.{HasNotes}
@@ -18,6 +18,7 @@ use Rattle.pm_values.specs.Along.{mode_logged}
 use Rattle.pm_tell.specs.Telling.{news_in}
 use Rattle.pm_state.specs.Nodes.{master_node}
 use Rattle.pm_tell.proofs.OtherNotesLaw.{changes_leave_others}
+use Rattle.pm_tell.proofs.QuietLaw.{no_calls, no_changes}
 use Rattle.pm_tell.proofs.TellLemmas.{called_same, callbacks_step, few_called, note_changes_step, mode_same, part_fits}
 use Rattle.pm_tell.proofs.callbacks.tell_masters.Goals as goal
 
@@ -29,6 +30,30 @@ waits_few takes laws start now k within has here =
     let few = takes.few k start.now.talk.notes in
     let count = laws.few start.fixed.topology in
     omega (arith, ap (λ (m : MasterNotes). length (waiting_in m)) here, units, few, count, length-map (notes_for k start.now.talk.notes) (λ e. e.0))
+
+-- no master wakes, and there is nothing else to tell
+pub returns-then-not-one_wakes-clause-book : goal.returns-then-not-one_wakes-clause-book
+returns-then-not-one_wakes-clause-book c =
+    let book = c.args.tables.now in
+    let telling = c.args.telling.now in
+    let was = mode_logged telling.modes.items in
+    let none : note_changes (news_in telling) was book.now.talk.notes book ≡ [] =
+    ap (λ news. note_changes news was book.now.talk.notes book) (c.has_no_news.ensures c.if-has_no_news.true)
+    ∙ no_changes was book.now.talk.notes book (c.one_wakes.ensures c.if-not-one_wakes.true)
+    in
+    ap (λ changes. talked changes book) (sym none)
+
+pub returns-then-not-one_wakes-clause-callbacks : goal.returns-then-not-one_wakes-clause-callbacks
+returns-then-not-one_wakes-clause-callbacks c =
+    let book = c.args.tables.now in
+    let telling = c.args.telling.now in
+    let was = mode_logged telling.modes.items in
+    let put = c.args.callbacks.now in
+    let none : callbacks (news_in telling) was book.now.talk.notes book ≡ [] =
+    ap (λ news. callbacks news was book.now.talk.notes book) (c.has_no_news.ensures c.if-has_no_news.true)
+    ∙ no_calls was book.now.talk.notes book (c.one_wakes.ensures c.if-not-one_wakes.true)
+    in
+    ap (λ items. record put { items = items }) (sym (append-nil put.items) ∙ ap (λ calls. put.items ++ calls) (sym none))
 
 pub tell_master-requires-clause-room : goal.tell_master-requires-clause-room
 tell_master-requires-clause-room c =

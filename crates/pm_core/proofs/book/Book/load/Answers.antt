@@ -3,7 +3,6 @@ use Rattle.std.specs.Prelude.{IfOk}
 use Rattle.std.proofs.lemmas.List.{length-map}
 use Rattle.pm_base.specs.declared.names.Unit.{Unit}
 use Rattle.pm_notify.specs.declared.notes.Waiting.{Waiting}
-use Rattle.pm_topology.specs.declared.topology.Topology.{Topology}
 use Rattle.pm_topology.specs.Units.{units_of, entry_count}
 use Rattle.pm_topology.specs.WellFormed.{IsWellFormed}
 use Rattle.pm_values.specs.declared.caches.Caches.{Caches}
@@ -46,26 +45,33 @@ update-requires c =
       few = made.notices;
     }
 
-pub invariant_of-result : goal.invariant_of-result
-invariant_of-result c =
+pub begin-requires : goal.begin-requires
+begin-requires c =
     let book = c.in_ok-tables-2.tables in
     let made = begun c.in_ok-tables.tables book c.in_ok-tables-2.kept c.kept_of-kept.result c.in_ok-tables-2.ensures c.kept_of-kept.ensures in
-    let is = c.in_ok-tables-2.ensures.0 ∙ c.in_ok-tables.ensures.book in
-    let P : State → Type 0 = λ b. IsWellFormed b.fixed.topology in
     let zeros : length c.in_ok-tables-2.kept.0.values ≡ length (units_of book.fixed.topology) =
     ap length made.zeros ∙ length-map (units_of book.fixed.topology) (λ u. (u, 0))
-    in (
+    in
+    record {
+      places = record {
+        modes = made.modes;
+        along = load_places _ _ _ _ c.in_ok-tables-2.kept.1.along made.along refl refl;
+        ended = made.ended;
+        notices = omega (arith, zeros, made.notices, ap (λ (l : Bounded Waiting). l.room) c.update.ensures.found.notices);
+      };
+    }
+
+pub invariant_of-result : goal.invariant_of-result
+invariant_of-result c =
+    let is = c.in_ok-tables-2.ensures.0 ∙ c.in_ok-tables.ensures.book in
+    let P : State → Type 0 = λ b. IsWellFormed b.fixed.topology in (
       record {
         formed = subst P (sym is) c.requires.formed;
         sound = subst IsSound (sym c.in_ok-tables-2.ensures.0) c.in_ok-tables.ensures.sound;
       },
       c.update.ensures.kept,
-      record {
-        modes = made.modes;
-        along = load_places _ _ _ _ c.in_ok-tables-2.kept.1.along made.along refl refl;
-        ended = made.ended;
-        notices = omega (arith, zeros, made.notices, ap (λ (l : Bounded Waiting). l.room) c.update.ensures.found.notices);
-      },
+      c.begin.ensures.places,
+      c.begin.ensures.fresh,
     )
 
 pub returns-clause-met : goal.returns-clause-met

@@ -16,6 +16,7 @@ use Rattle.pm_values.specs.declared.starts.Start.{Start}
 use Rattle.pm_state.specs.Stages.{after_stages}
 use Rattle.pm_values.specs.Starts.{starts, was_down}
 use Rattle.pm_state.specs.State.{State}
+use Rattle.pm_step.specs.Fresh.{IsFresh}
 use Rattle.pm_core.specs.Step.{effect, ended, served, modes_in, news, opening, outputs, path, pulse, stages, answer_by, answer_to}
 use Rattle.pm_tell.specs.Telling.{notes_after, tellings, HasPlaces, news_in, opening_in}
 use Rattle.pm_tell.specs.Ended.{ended_from}
@@ -137,6 +138,23 @@ answer-out-requires c =
     let P : State → Type 0 = λ b. AreKept b c.follow.new.self in
     subst P (sym c.tell.ensures.book) (kept_talked changes mid c.follow.new.self c.follow.ensures.kept)
 
+pub begin_after-requires-clause-places : goal.begin_after-requires-clause-places
+begin_after-requires-clause-places c =
+    let Q : State → Type 0 = λ b. HasPlaces b.fixed.topology (length b.fixed.object.masters) c.tell.new.telling in
+    subst Q (sym c.tell.ensures.book) c.tell.ensures.places
+
+-- where no processor moved, what is told leaves what is begun for the next step
+pub begin_after-requires-clause-fresh : goal.begin_after-requires-clause-fresh
+begin_after-requires-clause-fresh c =
+    let telling = c.tell.new.telling in
+    let P : State → Type 0 = λ b. IsFresh b telling in
+    λ still.
+    let fresh = c.advance-served.ensures.fresh still in
+    subst P (sym c.tell.ensures.book) (record {
+      modes = ap (λ v. v.items) c.tell.ensures.modes ∙ fresh.modes;
+      along = c.tell.ensures.along ∙ fresh.along;
+    })
+
 pub invariant_of-self : goal.invariant_of-self
 invariant_of-self c =
     let event = c.args.event.now in
@@ -145,11 +163,11 @@ invariant_of-self c =
     let new = c.tell.new.tables in
     let telling = c.tell.new.telling in
     let changes = tellings (news_in telling) (mode_logged telling.modes.items) (opening_in telling (says_in c.advance-served.result) c.time_of-count.result mid) c.advance-served.result mid in
-    let P : State → Type 0 = λ b. AreKept b c.follow.new.self in
-    let Q : State → Type 0 = λ b. HasPlaces b.fixed.topology (length b.fixed.object.masters) telling in (
+    let P : State → Type 0 = λ b. AreKept b c.follow.new.self in (
       kept_by c.books_stay_sound.ensures.step event old new (told c).book c.self.invariant.0,
       subst P (sym c.tell.ensures.book) (kept_talked changes mid c.follow.new.self c.follow.ensures.kept),
-      subst Q (sym c.tell.ensures.book) c.tell.ensures.places,
+      c.begin_after.ensures.places,
+      c.begin_after.ensures.fresh,
     )
 
 pub returns-in-Pass-clause-book : goal.returns-in-Pass-clause-book
