@@ -4,8 +4,8 @@ use Rattle.std.specs.Prelude.{⊤}
 use Rattle.pm_base.specs.declared.errors.Failed.{Failed}
 use Rattle.pm_base.specs.declared.events.Event.{Event}
 use Rattle.pm_base.specs.declared.events.Event.TheVariants.{Pass}
-use Rattle.pm_base.specs.Inputs.{Moment}
-use Rattle.pm_base.specs.Readings.{Meanwhile}
+use Rattle.pm_io.specs.Inputs.{Moment}
+use Rattle.pm_io.specs.Readings.{Meanwhile}
 use Rattle.pm_object.specs.declared.attached.Attached.{Attached}
 use Rattle.pm_block.specs.declared.block.Piece.{Piece}
 use Rattle.pm_block.specs.Pieces.{attached_in}

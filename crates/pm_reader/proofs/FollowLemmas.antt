@@ -6,17 +6,17 @@ use Rattle.std.proofs.lemmas.Bool.Decides.{nat_tests}
 use Rattle.std.proofs.lemmas.List.{append-nil, get_or-take, length-append, length-take-le, take-append-le}
 use Rattle.std.proofs.lemmas.List.Quantifiers.{position-Some}
 use Rattle.pm_base.specs.declared.events.Event.{Event}
-use Rattle.pm_base.specs.declared.lines.Ending.{Ending}
-use Rattle.pm_base.specs.declared.lines.Ending.TheVariants.{Whole, Cut}
-use Rattle.pm_base.specs.declared.prefix.StopReason.{StopReason}
-use Rattle.pm_base.specs.declared.prefix.StopReason.TheVariants as reason
+use Rattle.pm_io.specs.declared.lines.Ending.{Ending}
+use Rattle.pm_io.specs.declared.lines.Ending.TheVariants.{Whole, Cut}
+use Rattle.pm_io.specs.declared.prefix.StopReason.{StopReason}
+use Rattle.pm_io.specs.declared.prefix.StopReason.TheVariants as reason
 use Rattle.pm_base.specs.Faults.{Rose}
-use Rattle.pm_base.specs.Inputs.{IsStuck, Moment, Took}
-use Rattle.pm_base.specs.Lines.{least_length, lines}
-use Rattle.pm_base.specs.Calls.{Comes}
-use Rattle.pm_base.specs.Prefix.{text_of}
-use Rattle.pm_base.specs.Readings.{Meanwhile}
-use Rattle.pm_base.proofs.LinesLemmas as parts
+use Rattle.pm_io.specs.Inputs.{IsStuck, Moment, Took}
+use Rattle.pm_io.specs.Lines.{least_length, lines}
+use Rattle.pm_io.specs.Calls.{Comes}
+use Rattle.pm_io.specs.Prefix.{text_of}
+use Rattle.pm_io.specs.Readings.{Meanwhile}
+use Rattle.pm_io.proofs.LinesLemmas as parts
 use Rattle.pm_script.specs.declared.meaning.LineFault.{LineFault}
 use Rattle.pm_script.specs.declared.meaning.LineFault.TheVariants.{Long}
 use Rattle.pm_script.specs.Meaning.{meaning}

@@ -5,12 +5,12 @@ use Rattle.std.proofs.lemmas.List.{length-append}
 use Rattle.pm_base.specs.declared.errors.Failed.{Failed}
 use Rattle.pm_base.specs.declared.events.Event.{Event}
 use Rattle.pm_base.specs.declared.events.Event.TheVariants.{Attach, Pass}
-use Rattle.pm_base.specs.declared.lines.Ending.{Ending}
-use Rattle.pm_base.specs.Calls.{Comes}
+use Rattle.pm_io.specs.declared.lines.Ending.{Ending}
+use Rattle.pm_io.specs.Calls.{Comes}
 use Rattle.pm_base.specs.Faults.{Rose}
-use Rattle.pm_base.specs.Inputs.{IsStuck, Moment}
-use Rattle.pm_base.specs.Lines.{lines}
-use Rattle.pm_base.specs.Readings.{Meanwhile}
+use Rattle.pm_io.specs.Inputs.{IsStuck, Moment}
+use Rattle.pm_io.specs.Lines.{lines}
+use Rattle.pm_io.specs.Readings.{Meanwhile}
 use Rattle.pm_object.specs.declared.attached.Attached.{Attached}
 use Rattle.pm_block.specs.declared.block.Piece.{Piece}
 use Rattle.pm_block.specs.Pieces.{attached_in, kept, takes, with_words}

@@ -6,10 +6,10 @@ use Rattle.std.proofs.lemmas.Slice.Eq.{bytes_eq-Decides}
 use Rattle.std.proofs.lemmas.Bool.Decides.{nat_tests}
 use Rattle.std.proofs.lemmas.List.{length-append, append-nil, length-take-le, take-append-drop, take-take}
 use Rattle.std.proofs.Math.Seq.{take-append_seam}
-use Rattle.pm_base.specs.Inputs.{File, Input, IsStuck, Moment, Took, rest}
-use Rattle.pm_base.specs.Prefix.{Prefix, prefix_before, prefix_within, text_of}
-use Rattle.pm_base.specs.declared.prefix.StopReason.{StopReason}
-use Rattle.pm_base.specs.declared.prefix.StopReason.TheVariants as reason
+use Rattle.pm_io.specs.Inputs.{File, Input, IsStuck, Moment, Took, rest}
+use Rattle.pm_io.specs.Prefix.{Prefix, prefix_before, prefix_within, text_of}
+use Rattle.pm_io.specs.declared.prefix.StopReason.{StopReason}
+use Rattle.pm_io.specs.declared.prefix.StopReason.TheVariants as reason
 use Rattle.pm_script.specs.Script.{ending_of, script_limit}
 use Rattle.pm_reader.specs.Reader.{Held, KnowsEnd, within_limit}
 use Rattle.pm_reader.specs.Way.{MayGoOn}

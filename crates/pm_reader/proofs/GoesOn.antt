@@ -3,10 +3,10 @@ use Rattle.std.proofs.Common.{◌≡◌, ℕ, zero, suc, ◌+◌, ◌-◌, ◌<�
 use Rattle.std.proofs.lemmas.Bool.Decides.{nat_tests}
 use Rattle.std.proofs.lemmas.List.{length-append, drop-append-le, take-append-le, append-nil}
 use Rattle.std.proofs.lemmas.List.Quantifiers.{position-Some}
-use Rattle.pm_base.specs.Lines.{lines, least_length}
-use Rattle.pm_base.specs.declared.lines.Ending.{Ending}
-use Rattle.pm_base.specs.declared.lines.Ending.TheVariants.{Whole}
-use Rattle.pm_base.proofs.LinesLemmas.{line_by_feed, last_line, no_line}
+use Rattle.pm_io.specs.Lines.{lines, least_length}
+use Rattle.pm_io.specs.declared.lines.Ending.{Ending}
+use Rattle.pm_io.specs.declared.lines.Ending.TheVariants.{Whole}
+use Rattle.pm_io.proofs.LinesLemmas.{line_by_feed, last_line, no_line}
 use Rattle.pm_reader.specs.declared.reader.Taken.TheVariants.{Line}
 use Rattle.pm_reader.specs.Reader.{Held, GaveByFeed, GaveLast, Gives, Grows, is_feed, within, within_limit}
 use Rattle.pm_reader.specs.Way.{GoesOn, MayGoOn}

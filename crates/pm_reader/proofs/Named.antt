@@ -2,8 +2,8 @@
 use Rattle.std.proofs.Common.{◌≡◌, ℕ, List, Option, Some, None, refl, sym, ◌∙◌, ap, arith, inl, inr}
 use Rattle.std.specs.Prelude.{◌⊎◌}
 use Rattle.std.proofs.lemmas.Bool.Decides.{nat_tests}
-use Rattle.pm_base.specs.Inputs.{Began, CannotBegin, File, Moment}
-use Rattle.pm_base.specs.Prefix.{Prefix, prefix_before, prefix_of, unbegun}
+use Rattle.pm_io.specs.Inputs.{Began, CannotBegin, File, Moment}
+use Rattle.pm_io.specs.Prefix.{Prefix, prefix_before, prefix_of, unbegun}
 use Rattle.pm_script.specs.Named.{script_in}
 use Rattle.pm_script.specs.Script.{Script, script_from, script_limit, script_lines, script_of, stop_of}
 use Rattle.pm_script.proofs.NamedLemmas.{script_some}

@@ -1,11 +1,11 @@
 -- How a reading of an input comes on by the calls of a reader.
 use Rattle.std.proofs.Common.{◌≡◌, ◌<◌, ◌≤◌, ◌+◌, ◌-◌, ◌==◌, ℕ, Bool, true, false, IsTrue, List, [], ◌∷◌, length, Some, None, refl, sym, ◌∙◌, ap, subst, arith, inl, inr}
 use Rattle.std.proofs.lemmas.Bool.Decides.{nat_tests}
-use Rattle.pm_base.specs.Calls.{Comes, GoesOn, GoesUpTo, Read}
-use Rattle.pm_base.specs.Inputs.{Adds, Moment}
-use Rattle.pm_base.specs.Readings.{LeftReadBy, Meanwhile}
-use Rattle.pm_base.specs.declared.prefix.StopReason.TheVariants as reason
-use Rattle.pm_base.proofs.ReadingsLemmas.{comes_both, comes_ended, comes_start, comes_then_fault, comes_to_fault, comes_took, comes_up_to, comes_whole}
+use Rattle.pm_io.specs.Calls.{Comes, GoesOn, GoesUpTo, Read}
+use Rattle.pm_io.specs.Inputs.{Adds, Moment}
+use Rattle.pm_io.specs.Readings.{LeftReadBy, Meanwhile}
+use Rattle.pm_io.specs.declared.prefix.StopReason.TheVariants as reason
+use Rattle.pm_io.proofs.ReadingsLemmas.{comes_both, comes_ended, comes_start, comes_then_fault, comes_to_fault, comes_took, comes_up_to, comes_whole}
 use Rattle.pm_script.specs.Script.{script_limit}
 use Rattle.pm_reader.specs.declared.reader.Taken.{Taken}
 use Rattle.pm_reader.specs.declared.reader.Taken.TheVariants.{Line, End, Long, Over, Fault}

@@ -2,7 +2,7 @@
 use Rattle.std.proofs.Common.{◌≡◌, ℕ, ◌≤◌, List, [], ◌++◌, refl, sym, ◌∙◌, ap, arith, Option, Some, None, append_assoc}
 use Rattle.std.specs.Prelude.{IfSome}
 use Rattle.std.proofs.lemmas.List.{length-append}
-use Rattle.pm_base.specs.Inputs.{Advances, File, Input, Moment, Took, rest}
+use Rattle.pm_io.specs.Inputs.{Advances, File, Input, Moment, Took, rest}
 
 same_place : (fails_at : Option ℕ) (place : ℕ) → IfSome fails_at (λ at. place ≤ at → place ≤ at)
 same_place None place = tt

@@ -2,12 +2,12 @@
 use Rattle.std.specs.Prelude.{◌≡◌, ◌⊎◌, ℕ, ◌+◌, List, [], ◌∷◌, length, false, Result, Ok, Err, IfOk, ⊤}
 use Rattle.pm_base.specs.declared.errors.Failed.{Failed}
 use Rattle.pm_base.specs.declared.events.Event.{Event}
-use Rattle.pm_base.specs.declared.prefix.StopReason.TheVariants.{Failure, Unbegun}
-use Rattle.pm_base.specs.Calls.{Call, GoesToFault, GoesUpTo}
+use Rattle.pm_io.specs.declared.prefix.StopReason.TheVariants.{Failure, Unbegun}
+use Rattle.pm_io.specs.Calls.{Call, GoesToFault, GoesUpTo}
 use Rattle.pm_base.specs.Faults.{Rose}
-use Rattle.pm_base.specs.Inputs.{Moment}
-use Rattle.pm_base.specs.Prefix.{Prefix, prefix_before}
-use Rattle.pm_base.specs.Readings.{LeftReadBy}
+use Rattle.pm_io.specs.Inputs.{Moment}
+use Rattle.pm_io.specs.Prefix.{Prefix, prefix_before}
+use Rattle.pm_io.specs.Readings.{LeftReadBy}
 use Rattle.pm_reader.specs.declared.follow.LineStop.{LineStop}
 use Rattle.pm_reader.specs.declared.follow.LineStop.TheVariants as stops
 use Rattle.pm_reader.specs.declared.follow.LinesEnd.{LinesEnd}

@@ -2,9 +2,9 @@
 use Rattle.std.specs.Prelude.{◌≡◌, ℕ, Bool, true, false, List, [], ◌∷◌, ◌++◌, length, map, replicate, Ok}
 use Rattle.pm_base.specs.declared.events.Event.{Event}
 use Rattle.pm_base.specs.declared.events.Event.TheVariants.{Attach, Pass}
-use Rattle.pm_base.specs.declared.lines.Ending.{Ending}
-use Rattle.pm_base.specs.Inputs.{Moment}
-use Rattle.pm_base.specs.Lines.{lines}
+use Rattle.pm_io.specs.declared.lines.Ending.{Ending}
+use Rattle.pm_io.specs.Inputs.{Moment}
+use Rattle.pm_io.specs.Lines.{lines}
 use Rattle.pm_object.specs.declared.attached.Attached.{Attached}
 use Rattle.pm_block.specs.declared.block.Piece.{Piece}
 use Rattle.pm_block.specs.Pieces.{attached_in, kept, takes, with_words}

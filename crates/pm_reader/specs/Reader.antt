@@ -1,7 +1,7 @@
 -- A reader of lines: what it holds, what its answers mean, and the lines that it gives.
 use Rattle.std.specs.Prelude.{◌≡◌, ℕ, ◌+◌, ◌-◌, ◌<◌, ◌≤◌, ◌⊎◌, ◌==◌, Bool, false, IsTrue, List, [], ◌++◌, length, take, drop, position, Some, None, if◌then◌else◌}
-use Rattle.pm_base.specs.Calls.{Call, Comes, GoesToFault}
-use Rattle.pm_base.specs.Inputs.{IsStuck, Moment, Took, rest}
+use Rattle.pm_io.specs.Calls.{Call, Comes, GoesToFault}
+use Rattle.pm_io.specs.Inputs.{IsStuck, Moment, Took, rest}
 use Rattle.pm_reader.specs.declared.reader.Taken.{Taken}
 use Rattle.pm_reader.specs.declared.reader.Taken.TheVariants.{Line, End, Long, Over, Fault}
 

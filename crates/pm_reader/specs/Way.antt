@@ -1,11 +1,11 @@
 -- How far the lines of an input were taken, and what holds of all its lines however it goes on.
 use Rattle.std.specs.Prelude.{◌≡◌, ℕ, ◌+◌, ◌<◌, ◌≤◌, false, IsTrue, List, [], ◌++◌, length}
-use Rattle.pm_base.specs.declared.lines.Ending.{Ending}
-use Rattle.pm_base.specs.declared.lines.Ending.TheVariants.{Whole, Cut}
-use Rattle.pm_base.specs.Calls.{Comes}
+use Rattle.pm_io.specs.declared.lines.Ending.{Ending}
+use Rattle.pm_io.specs.declared.lines.Ending.TheVariants.{Whole, Cut}
+use Rattle.pm_io.specs.Calls.{Comes}
 use Rattle.pm_base.specs.Faults.{Rose}
-use Rattle.pm_base.specs.Inputs.{IsStuck, Moment, Took}
-use Rattle.pm_base.specs.Readings.{Meanwhile}
+use Rattle.pm_io.specs.Inputs.{IsStuck, Moment, Took}
+use Rattle.pm_io.specs.Readings.{Meanwhile}
 use Rattle.pm_script.specs.Script.{script_limit}
 use Rattle.pm_reader.specs.declared.reader.Taken.{Taken}
 use Rattle.pm_reader.specs.declared.reader.Taken.TheVariants.{Fault}

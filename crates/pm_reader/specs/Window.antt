@@ -1,7 +1,7 @@
 -- A window of fixed size on an input.
 use Rattle.std.specs.Prelude.{◌≡◌, ◌↔◌, ◌<◌, ℕ, ◌≤◌, List, [], ◌++◌, length, Some}
-use Rattle.pm_base.specs.Calls.{Read}
-use Rattle.pm_base.specs.Inputs.{Adds, Moment, Took, rest}
+use Rattle.pm_io.specs.Calls.{Read}
+use Rattle.pm_io.specs.Inputs.{Adds, Moment, Took, rest}
 
 pub record IsWindow (start end : ℕ) : Type 0 where
   pub order : start ≤ end

@@ -3,16 +3,17 @@
 
 ghost use Rattle.std.specs.Prelude.{◌≡◌, ◌+◌, [], List as Sequence, IfErr, IfOk, map, replicate};
 ghost use Rattle.pm_base.specs.declared.events.Event.TheVariants.{Pass};
-ghost use Rattle.pm_base.specs.Readings.{Meanwhile};
+ghost use Rattle.pm_io.specs.Readings.{Meanwhile};
 ghost use Rattle.pm_block.specs.declared.block.Piece.{Piece};
 ghost use Rattle.pm_block.specs.Pieces.{kept};
 ghost use Rattle.pm_reader.specs.Follow.{FollowedFront, FollowedInput, FollowedOne, IsBrokenOff, ReadsLines};
 ghost use Rattle.pm_reader.specs.Front.{Ahead, AttachedOne, Attaches, ReadAhead, WasReadAhead};
 
 use crate::reader::{LineBuf, LineReader, Taken};
-use pm_base::{Event, Failed, Inputs, NoMemory, StopReason};
+use pm_base::{Event, Failed, NoMemory};
 use pm_block::Block;
-use pm_script::{LineFault, SCRIPT_LIMIT, parse_line};
+use pm_io::{Inputs, StopReason};
+use pm_script::{LineFault, SCRIPT_LIMIT, parse_line, read_line};
 use std::alloc::Global;
 
 /// What carries out the lines of a script, one after another.
@@ -118,13 +119,13 @@ impl Front {
         follow_passed(self.lines, follower)?;
         let mut count = self.lines;
         let mut taken = self.taken;
+        let mut event = Event::Pass;
         'lines: loop {
             let stop = match taken {
                 Taken::Line => {
-                    let meaning = parse_line(self.line.as_slice());
-                    match &meaning {
-                        Ok(event) => follow_one(count + 1, event, follower)?,
-                        Err(cause) => return Err(LineStop::Bad(count + 1, *cause)),
+                    match read_line(self.line.as_slice(), &mut event) {
+                        Ok(()) => follow_one(count + 1, &event, follower)?,
+                        Err(cause) => return Err(LineStop::Bad(count + 1, cause)),
                     }
                     count += 1;
                     taken = self.reader.next(inputs, id, &mut self.line);

@@ -2,15 +2,16 @@
 
 ghost use Rattle.std.specs.Prelude.{◌≡◌, ◌≢◌, ◌+◌, ◌<◌, ◌≤◌, ◌==◌, [], None, false, length, position, take, IfSome, MatchOption, MatchResult, IsErr, IsTrue, OnOk};
 ghost use Rattle.arrayvec.specs.ArrayVec.{array_vec_len};
-ghost use Rattle.pm_base.specs.Calls.{Read};
+ghost use Rattle.pm_io.specs.Calls.{Read};
 ghost use Rattle.pm_base.specs.Faults.{HasCause, Rose};
-ghost use Rattle.pm_base.specs.Inputs.{Adds, IsStuck, Took};
-ghost use Rattle.pm_base.specs.Readings.{Meanwhile};
+ghost use Rattle.pm_io.specs.Inputs.{Adds, IsStuck, Took};
+ghost use Rattle.pm_io.specs.Readings.{Meanwhile};
 ghost use Rattle.pm_reader.specs.Reader.{ComesOn, Gives, Grew, HasRead, IsOpen, KnowsEnd, NeedsMore, Turn, within};
 
 use crate::window::Window;
 use arrayvec::ArrayVec;
-use pm_base::{Failed, Inputs, TOO_LONG};
+use pm_base::Failed;
+use pm_io::{Inputs, TOO_LONG};
 use std::marker::Model;
 
 /// A line without its line feed.

@@ -1,12 +1,13 @@
 //! A window of fixed size on an input.
 
 ghost use Rattle.std.specs.Prelude.{◌≡◌, ◌↔◌, ◌+◌, ◌-◌, ◌<◌, ◌≤◌, ◌++◌, [], length, take, drop, Some, None, IfOk, OnErr, IsErr, MatchResult};
-ghost use Rattle.pm_base.specs.Calls.{Read};
+ghost use Rattle.pm_io.specs.Calls.{Read};
 ghost use Rattle.pm_base.specs.Faults.{HasCause};
-ghost use Rattle.pm_base.specs.Inputs.{Adds, IsStuck, Took, rest};
+ghost use Rattle.pm_io.specs.Inputs.{Adds, IsStuck, Took, rest};
 ghost use Rattle.pm_reader.specs.Window.{Filled};
 
-use pm_base::{Failed, Inputs};
+use pm_base::Failed;
+use pm_io::Inputs;
 use std::marker::Model;
 
 /// The bytes of an input that were read and not given, at most 4,096.

@@ -2,7 +2,7 @@
 use Rattle.std.proofs.Common.{◌≡◌, ℕ, ◌-◌, ◌≤◌, Bool, true, false, Option, Some, List, [], ◌∷◌, length, refl, arith, slice_get, ◌∙◌, ap, Err, drop, map, nat_le, sym}
 use Rattle.std.proofs.lemmas.Bool.Decides.{nat_tests}
 use Rattle.std.proofs.lemmas.List.{length-map}
-use Rattle.pm_base.specs.Words.{words, word_texts, text_between}
+use Rattle.pm_io.specs.Words.{words, word_texts, text_between}
 use Rattle.pm_script.specs.declared.meaning.LineFault.TheVariants.{Count}
 use Rattle.pm_script.specs.Forms.{Row, row_with}
 use Rattle.pm_script.specs.Meaning.{form_meaning, found_meaning, words_meaning}

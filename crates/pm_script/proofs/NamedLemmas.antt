@@ -2,12 +2,12 @@
 use Rattle.std.proofs.Common.{◌≡◌, ℕ, List, [], ◌∷◌, Option, Some, None, Result, Ok, Err, refl, sym, ◌∙◌, ap, subst}
 use Rattle.std.specs.Prelude.{map}
 use Rattle.pm_base.specs.declared.events.Event.{Event}
-use Rattle.pm_base.specs.declared.prefix.StopReason.{StopReason}
-use Rattle.pm_base.specs.declared.prefix.StopReason.TheVariants as reason
-use Rattle.pm_base.specs.Inputs.{MayFail, Moment}
-use Rattle.pm_base.specs.Lines.{lines_of}
-use Rattle.pm_base.specs.Prefix.{IsUnread, Prefix, prefix_of}
-use Rattle.pm_base.proofs.PrefixEnds.{prefix_fails, prefix_whole}
+use Rattle.pm_io.specs.declared.prefix.StopReason.{StopReason}
+use Rattle.pm_io.specs.declared.prefix.StopReason.TheVariants as reason
+use Rattle.pm_io.specs.Inputs.{MayFail, Moment}
+use Rattle.pm_io.specs.Lines.{lines_of}
+use Rattle.pm_io.specs.Prefix.{IsUnread, Prefix, prefix_of}
+use Rattle.pm_io.proofs.PrefixEnds.{prefix_fails, prefix_whole}
 use Rattle.pm_script.specs.declared.meaning.LineFault.{LineFault}
 use Rattle.pm_script.specs.Meaning.{meaning}
 use Rattle.pm_script.specs.Named.{IsHeldWhole, IsUnreadable, script_in}

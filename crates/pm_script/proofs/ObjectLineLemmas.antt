@@ -3,8 +3,8 @@ use Rattle.std.proofs.Common.{◌≡◌, ℕ, zero, suc, ◌+◌, ◌-◌, ◌*�
 use Rattle.std.proofs.lemmas.Grind.{common_steps}
 use Rattle.std.specs.Prelude.{IfSome}
 use Rattle.std.proofs.lemmas.List.{append-nil, append_assoc, length-append, take_all}
-use Rattle.pm_base.specs.Lines.{without_return}
-use Rattle.pm_base.specs.Words.{is_blank, text_between, words, words_from, word_texts}
+use Rattle.pm_io.specs.Lines.{without_return}
+use Rattle.pm_io.specs.Words.{is_blank, text_between, words, words_from, word_texts}
 use Rattle.pm_base.specs.declared.events.Event.TheVariants.{Attach}
 use Rattle.pm_base.proofs.ListLemmas.{take_next}
 use Rattle.pm_script.specs.declared.meaning.LineFault.TheVariants.{Count}

@@ -4,7 +4,7 @@ use Rattle.std.specs.Str.{bytes_eq}
 use Rattle.pm_base.specs.declared.events.Event.{Event}
 use Rattle.pm_base.specs.declared.events.Event.TheVariants as events
 use Rattle.pm_base.specs.declared.events.Message.{Message}
-use Rattle.pm_base.specs.Numbers.{number_of, at_most}
+use Rattle.pm_io.specs.Numbers.{number_of, at_most}
 use Rattle.pm_script.specs.declared.forms.Argument.{Argument}
 use Rattle.pm_script.specs.declared.forms.Argument.TheVariants as arguments
 use Rattle.pm_script.specs.declared.forms.Kind.{Kind}

@@ -1,11 +1,11 @@
 -- What a line of a script means, by the table of line forms.
-use Rattle.std.specs.Prelude.{ℕ, ◌&&◌, nat_lt, nat_le, if◌then◌else◌, List, [], ◌∷◌, length, Option, Some, None, ok_or, option_map, Result, Ok, Err}
+use Rattle.std.specs.Prelude.{ℕ, ◌&&◌, nat_lt, nat_le, if◌then◌else◌, List, [], ◌∷◌, length, Option, Some, None, ok_or, option_map, Result, Ok, Err, ⊤}
 use Rattle.std.specs.List.{list_all}
 use Rattle.std.specs.Str.{bytes_eq}
 use Rattle.pm_base.specs.declared.events.Event.{Event}
 use Rattle.pm_base.specs.declared.events.Event.TheVariants.{Pass}
-use Rattle.pm_base.specs.Lines.{without_return, is_plain}
-use Rattle.pm_base.specs.Words.{word_texts}
+use Rattle.pm_io.specs.Lines.{without_return, is_plain}
+use Rattle.pm_io.specs.Words.{word_texts}
 use Rattle.pm_script.specs.declared.meaning.LineFault.{LineFault}
 use Rattle.pm_script.specs.declared.meaning.LineFault.TheVariants.{Unknown, Number, Count, Long, NotAscii}
 use Rattle.pm_script.specs.Forms.{Row, arguments_of, event_of, row_with}
@@ -36,3 +36,8 @@ abbrev pub meaning : List ℕ → Result Event LineFault
 meaning line =
     if nat_lt 255 (length line) then Err Long
     else (if list_all is_plain (without_return line) then words_meaning (word_texts line) else Err NotAscii)
+
+-- what a line means where the event of it was left in a place, by the answer
+abbrev pub left : Result ⊤ LineFault → Event → Result Event LineFault
+left (Ok done) event = Ok event
+left (Err fault) event = Err fault

@@ -1,9 +1,9 @@
 -- The script of a name, by what is held under it.
 use Rattle.std.specs.Prelude.{◌≡◌, ℕ, List, map, Option, Some, None, Ok, ⊤}
 use Rattle.pm_base.specs.declared.events.Event.{Event}
-use Rattle.pm_base.specs.Inputs.{Holds, Moment}
-use Rattle.pm_base.specs.Lines.{lines_of}
-use Rattle.pm_base.specs.Prefix.{prefix_of}
+use Rattle.pm_io.specs.Inputs.{Holds, Moment}
+use Rattle.pm_io.specs.Lines.{lines_of}
+use Rattle.pm_io.specs.Prefix.{prefix_of}
 use Rattle.pm_script.specs.Meaning.{meaning}
 use Rattle.pm_script.specs.Script.{Script, script_limit, script_of}
 use Rattle.pm_script.specs.Script.Stop.{Failed}

@@ -1,12 +1,12 @@
 -- The script of a text: the events of its lines up to the first one without a meaning, and why no more follow.
 use Rattle.std.specs.Prelude.{ℕ, List, [], ◌∷◌, Option, Some, None, Result, Ok, Err}
 use Rattle.pm_base.specs.declared.events.Event.{Event}
-use Rattle.pm_base.specs.declared.lines.Ending.{Ending}
-use Rattle.pm_base.specs.declared.lines.Ending.TheVariants.{Whole, Cut}
-use Rattle.pm_base.specs.declared.prefix.StopReason.{StopReason}
-use Rattle.pm_base.specs.declared.prefix.StopReason.TheVariants as reason
-use Rattle.pm_base.specs.Lines.{lines}
-use Rattle.pm_base.specs.Prefix.{Prefix, text_of}
+use Rattle.pm_io.specs.declared.lines.Ending.{Ending}
+use Rattle.pm_io.specs.declared.lines.Ending.TheVariants.{Whole, Cut}
+use Rattle.pm_io.specs.declared.prefix.StopReason.{StopReason}
+use Rattle.pm_io.specs.declared.prefix.StopReason.TheVariants as reason
+use Rattle.pm_io.specs.Lines.{lines}
+use Rattle.pm_io.specs.Prefix.{Prefix, text_of}
 use Rattle.pm_script.specs.declared.meaning.LineFault.{LineFault}
 use Rattle.pm_script.specs.Meaning.{meaning}
 

@@ -7,7 +7,8 @@
 ghost use Rattle.std.specs.Prelude.{◌≡◌, ◌≤◌, length, option_map, IfSome};
 ghost use Rattle.pm_script.specs.Forms.{address_at, argument_of, call_arguments, event_of, first_with, message_of, number_at, row_of, row_with};
 
-use pm_base::{Event, Message, NodeId, number};
+use pm_base::{Event, Message, NodeId};
+use pm_io::number;
 
 /// What an argument of a line is: a number of 32 bits, or an address or another argument of 64 bits.
 #[derive(Clone, Copy)]
@@ -148,37 +149,46 @@ fn call_arguments(arguments: &[Argument]) -> [u64; 3]
     [argument(2), argument(3), argument(4)]
 }
 
+/// Leaves the event that a line's arguments make. Most lines are messages: where a message was left before, its words
+/// are written over.
+pub(crate) fn leave_event(kind: Kind, arguments: &[Argument], event: &mut Event)
+    ensures { event.new ≡ event_of kind arguments.now }
+{
+    match (kind, event) {
+        (Kind::Ipi, Event::Ipi { master, message }) => {
+            *master = NodeId(number_at(arguments, 0));
+            *message = message_of(arguments);
+        }
+        (_, event) => *event = event_of(kind, arguments),
+    }
+}
+
 /// The event that a line's arguments make.
-pub(crate) fn event_of(kind: Kind, arguments: &[Argument]) -> Event
+fn event_of(kind: Kind, arguments: &[Argument]) -> Event
     ensures { result ≡ event_of kind arguments.now }
 {
     let number = |k| number_at(arguments, k);
+    let node = NodeId(number(0));
     match kind {
         Kind::Ipi => Event::Ipi {
-            master: NodeId(number(0)),
+            master: node,
             message: message_of(arguments),
         },
         Kind::Boot => Event::Boot {
-            proc: NodeId(number(0)),
+            proc: node,
             address: address_at(arguments, 1),
         },
-        Kind::Wfi => Event::Wfi {
-            proc: NodeId(number(0)),
-        },
-        Kind::Irq => Event::Irq {
-            slave: NodeId(number(0)),
-        },
-        Kind::Gic => Event::Gic {
-            proc: NodeId(number(0)),
-        },
+        Kind::Wfi => Event::Wfi { proc: node },
+        Kind::Irq => Event::Irq { slave: node },
+        Kind::Gic => Event::Gic { proc: node },
         Kind::Tick => Event::Tick { count: number(0) },
         Kind::Post => Event::Post {
-            master: NodeId(number(0)),
+            master: node,
             message: message_of(arguments),
         },
         Kind::Serve => Event::Serve,
         Kind::Smc => Event::Smc {
-            proc: NodeId(number(0)),
+            proc: node,
             function: number(1),
             args: call_arguments(arguments),
         },
@@ -187,11 +197,7 @@ pub(crate) fn event_of(kind: Kind, arguments: &[Argument]) -> Event
             interval: number(1),
         },
         Kind::Cancel => Event::Cancel { key: number(0) },
-        Kind::Break => Event::Break {
-            node: NodeId(number(0)),
-        },
-        Kind::Mend => Event::Mend {
-            node: NodeId(number(0)),
-        },
+        Kind::Break => Event::Break { node: node },
+        Kind::Mend => Event::Mend { node: node },
     }
 }

@@ -2,9 +2,9 @@
 
 ghost use Rattle.std.specs.Prelude.{◌≡◌, ℕ, List, [], ◌∷◌, Some, None, Ok, Err, codes};
 ghost use Rattle.pm_base.specs.declared.events.Event.TheVariants.{Pass};
-ghost use Rattle.pm_base.specs.Inputs.{MayFail, Moment};
-ghost use Rattle.pm_base.specs.Prefix.{IsUnread, Prefix};
-ghost use Rattle.pm_base.specs.declared.prefix.StopReason.TheVariants.{Unbegun};
+ghost use Rattle.pm_io.specs.Inputs.{MayFail, Moment};
+ghost use Rattle.pm_io.specs.Prefix.{IsUnread, Prefix};
+ghost use Rattle.pm_io.specs.declared.prefix.StopReason.TheVariants.{Unbegun};
 ghost use Rattle.pm_script.specs.declared.meaning.LineFault.TheVariants.{Unknown};
 ghost use Rattle.pm_script.specs.Meaning.{words_meaning};
 ghost use Rattle.pm_script.specs.ObjectLine.{object_meaning};
@@ -32,7 +32,8 @@ pub fn each_kind_has_its_sentence()
     ensures object { (words : List (List ℕ)) → words_meaning (codes "object" ∷ words) ≡ object_meaning words }
     ensures break_ { (words : List (List ℕ)) → words_meaning (codes "break" ∷ words) ≡ break_meaning words }
     ensures mend { (words : List (List ℕ)) → words_meaning (codes "mend" ∷ words) ≡ mend_meaning words }
-    ensures unknown { (word : List ℕ) (words : List (List ℕ)) → IsNoKeyword word → words_meaning (word ∷ words) ≡ Err Unknown }
+    ensures unknown { (word : List ℕ) (words : List (List ℕ)) → IsNoKeyword word
+        → words_meaning (word ∷ words) ≡ Err Unknown }
 {}
 
 /// What is read of a named script: one that can't be begun is none, and any other one is that of its lines. It

@@ -1,14 +1,15 @@
 //! What a line of a script means.
 
-ghost use Rattle.std.specs.Prelude.{◌≡◌, ◌≤◌, drop, length};
-ghost use Rattle.pm_base.specs.Words.{word_texts};
+ghost use Rattle.std.specs.Prelude.{◌≡◌, ◌≤◌, Ok, drop, length};
+ghost use Rattle.pm_io.specs.Words.{word_texts};
 ghost use Rattle.pm_script.specs.Forms.{row_of};
-ghost use Rattle.pm_script.specs.Meaning.{form_meaning, meaning, other_meaning, words_meaning};
+ghost use Rattle.pm_script.specs.Meaning.{form_meaning, left, meaning, other_meaning, words_meaning};
 
-use crate::forms::{LineForm, event_of, form_of};
-use crate::object_line::parse_object;
+use crate::forms::{LineForm, form_of, leave_event};
+use crate::object_line::read_object;
 use crate::words::{LineWords, Places, first_places};
-use pm_base::{Event, TOO_LONG, is_plain, without_return};
+use pm_base::Event;
+use pm_io::{TOO_LONG, without_return};
 
 /// Why a line of a script has no meaning. Where a line has several faults, the first of `Long`,
 /// `NotAscii`, `Unknown`, `Count` and `Number` is answered.
@@ -38,48 +39,72 @@ pub enum LineFault {
 pub fn parse_line(line: &[u8]) -> Result<Event, LineFault>
     ensures { result ≡ meaning line.now }
 {
+    let mut event = Event::Pass;
+    read_line(line, &mut event)?;
+    Ok(event)
+}
+
+/// Leaves in `event` what a line without its line feed means, by the rules of `parse_line`. An event is large, and a
+/// reader of many lines needs no more than this one.
+///
+/// # Errors
+///
+/// The first fault of a line that has no meaning. Then `event` may be any.
+pub fn read_line(line: &[u8], event: &mut Event) -> Result<(), LineFault>
+    ensures { left result event.new ≡ meaning line.now }
+{
     if line.len() >= TOO_LONG {
         return Err(LineFault::Long);
     }
     let text = without_return(line);
-    if !is_plain(text) {
+    let mut places = Places::new();
+    if !first_places(text, &mut places) {
         return Err(LineFault::NotAscii);
     }
-    let mut places = Places::new();
-    first_places(text, &mut places);
-    parse_words(&LineWords::of(line, &places))
+    read_words(&LineWords::of(line, &places), event)
 }
 
-/// What a line with these words means. Its first word says which form it has.
-fn parse_words(words: &LineWords) -> Result<Event, LineFault>
+/// Leaves what a line with these words means. Its first word says which form it has.
+fn read_words(words: &LineWords, event: &mut Event) -> Result<(), LineFault>
     requires { length words.now ≤ 255 }
-    ensures { result ≡ words_meaning (word_texts words.now) }
+    ensures { left result event.new ≡ words_meaning (word_texts words.now) }
 {
     match words.text_at(0) {
-        None => Ok(Event::Pass),
+        None => read_nothing(event),
         Some(keyword) => match form_of(keyword) {
-            None => parse_other(keyword, words),
-            Some(form) => parse_form(form, words),
+            None => read_other(keyword, words, event),
+            Some(form) => read_form(form, words, event),
         },
     }
 }
 
-/// What a line with these words means, the first of which is no form's.
-fn parse_other(keyword: &[u8], words: &LineWords) -> Result<Event, LineFault>
+/// Leaves the event in which nothing happens, if it isn't there already.
+fn read_nothing(event: &mut Event) -> Result<(), LineFault>
+    ensures { left result event.new ≡ Ok Event.Pass }
+{
+    match event {
+        Event::Pass => {}
+        _ => *event = Event::Pass,
+    }
+    Ok(())
+}
+
+/// Leaves what a line with these words means, the first of which is no form's.
+fn read_other(keyword: &[u8], words: &LineWords, event: &mut Event) -> Result<(), LineFault>
     requires { length words.now ≤ 255 }
-    ensures { result ≡ other_meaning keyword.now (drop 1 (word_texts words.now)) }
+    ensures { left result event.new ≡ other_meaning keyword.now (drop 1 (word_texts words.now)) }
 {
     if keyword == b"object".as_slice() {
-        parse_object(words)
+        read_object(words, event)
     } else {
         Err(LineFault::Unknown)
     }
 }
 
-/// What a line of this form means.
-fn parse_form(form: LineForm, words: &LineWords) -> Result<Event, LineFault>
+/// Leaves what a line of this form means.
+fn read_form(form: LineForm, words: &LineWords, event: &mut Event) -> Result<(), LineFault>
     requires { length form.3.now ≤ 7 }
-    ensures { result ≡ form_meaning (row_of form) (drop 1 (word_texts words.now)) }
+    ensures { left result event.new ≡ form_meaning (row_of form) (drop 1 (word_texts words.now)) }
 {
     let LineForm(_, kind, least, widths) = form;
     if !words.has_arguments(least, widths.len()) {
@@ -87,6 +112,9 @@ fn parse_form(form: LineForm, words: &LineWords) -> Result<Event, LineFault>
     }
     match words.arguments(widths) {
         None => Err(LineFault::Number),
-        Some(arguments) => Ok(event_of(kind, &arguments)),
+        Some(arguments) => {
+            leave_event(kind, &arguments, event);
+            Ok(())
+        }
     }
 }

@@ -1,37 +1,40 @@
 //! The line that attaches words of a configuration object: the one line that has any number of words.
 
 ghost use Rattle.std.specs.Prelude.{◌≡◌, ◌≤◌, None, Some, drop, length, map};
-ghost use Rattle.pm_base.specs.Words.{text_between, words_from, word_texts};
+ghost use Rattle.pm_io.specs.Words.{text_between, words_from, word_texts};
+ghost use Rattle.pm_script.specs.Meaning.{left};
 ghost use Rattle.pm_script.specs.ObjectLine.{attach_event, numbers_of, object_meaning};
 ghost use Rattle.pm_script.specs.Sentences.{number_of_word};
 
 use crate::meaning::LineFault;
 use crate::words::LineWords;
-use pm_base::words::is_blank;
-use pm_base::{Event, Words, number};
+use pm_base::{Event, Words};
+use pm_io::number;
+use pm_io::words::is_blank;
 
-/// What a line means whose first word is `object`: the words after the address are attached at it.
-pub(crate) fn parse_object(words: &LineWords) -> Result<Event, LineFault>
+/// Leaves what a line means whose first word is `object`: the words after the address are attached at it.
+pub(crate) fn read_object(words: &LineWords, event: &mut Event) -> Result<(), LineFault>
     requires { length words.now ≤ 255 }
-    ensures { result ≡ object_meaning (drop 1 (word_texts words.now)) }
+    ensures { left result event.new ≡ object_meaning (drop 1 (word_texts words.now)) }
 {
     match words.numbers() {
-        Some(numbers) => attach(&numbers),
+        Some(numbers) => attach(&numbers, event),
         None => Err(LineFault::Number),
     }
 }
 
 /// The words after the first number are attached at it.
-fn attach(numbers: &Words) -> Result<Event, LineFault>
-    ensures { result ≡ attach_event (Some numbers.now) }
+fn attach(numbers: &Words, event: &mut Event) -> Result<(), LineFault>
+    ensures { left result event.new ≡ attach_event (Some numbers.now) }
 {
     if numbers.len() == 0 {
         return Err(LineFault::Count);
     }
-    Ok(Event::Attach {
+    *event = Event::Attach {
         address: *numbers.get(0),
         words: after_first(numbers),
-    })
+    };
+    Ok(())
 }
 
 /// All of these words but the first.

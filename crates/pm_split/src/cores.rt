@@ -1,6 +1,6 @@
 //! The core events of a script line.
 
-ghost use Rattle.std.specs.Prelude.{◌≡◌, ◌<◌, ◌+◌, ◌∷◌, [], None, MatchOption, drop, length};
+ghost use Rattle.std.specs.Prelude.{◌≡◌, ◌<◌, ◌+◌, ◌∷◌, [], None, Some, MatchOption, drop, length};
 ghost use Rattle.pm_topology.specs.declared.topology.Topology.{Topology};
 ghost use Rattle.pm_psci.specs.Lowering.{lowered};
 ghost use Rattle.pm_split.specs.Boxes.{box_of};
@@ -72,12 +72,32 @@ impl<'e> Source<'e> {
 /// the box of its master, and the line says so if that is full; the messages in all boxes are served, by rising mask of
 /// their masters; a power call is lowered; each other event is the only core event of its line, and one that attaches
 /// words says that it comes too late. A line always has a core event.
+#[inline]
 pub fn split_event<'e>(
     object: &Object,
     t: &Topology,
     boxes: &mut Mail,
     event: &'e Event,
 ) -> Split<'e>
+    requires { length boxes.old ≡ length object.now.masters }
+    ensures events { events_left object.now t.now boxes.new result.cores
+        ≡ (split_of object.now t.now event.now boxes.old).events }
+    ensures some { 0 < length (events_left object.now t.now boxes.new result.cores) }
+    ensures boxes { boxes_left boxes.new result.cores ≡ (split_of object.now t.now event.now boxes.old).boxes }
+    ensures notes { noted result.note ≡ (split_of object.now t.now event.now boxes.old).notes }
+    ensures places { length boxes.new ≡ length boxes.old }
+{
+    match event {
+        Event::Post { .. } | Event::Serve | Event::Smc { .. } | Event::Attach { .. } => {
+            split_more(object, t, boxes, event)
+        }
+        _ => alone(CoreEvents::Own(event)),
+    }
+}
+
+/// The same of a line that isn't its own event alone. (Most lines are, and they are split where that is asked for.)
+#[inline(never)]
+fn split_more<'e>(object: &Object, t: &Topology, boxes: &mut Mail, event: &'e Event) -> Split<'e>
     requires { length boxes.old ≡ length object.now.masters }
     ensures events { events_left object.now t.now boxes.new result.cores
         ≡ (split_of object.now t.now event.now boxes.old).events }
@@ -111,6 +131,7 @@ pub fn split_event<'e>(
 impl<'e> CoreEvents<'e> {
     /// Takes the next core event off, if there is one; one that is made is left in `made`. At the end of a line that
     /// serves all boxes are empty.
+    #[inline]
     pub fn next(
         &mut self,
         object: &Object,
@@ -134,22 +155,65 @@ impl<'e> CoreEvents<'e> {
                 *self = CoreEvents::Past;
                 Some(Source::Own(event))
             }
-            CoreEvents::Pass => {
+            _ => self.make_next(object, t, boxes, made),
+        }
+    }
+
+    /// The same of a line that isn't its own event. (Most lines are, and theirs is taken where it is asked for.)
+    #[inline(never)]
+    fn make_next(
+        &mut self,
+        object: &Object,
+        t: &Topology,
+        boxes: &mut Mail,
+        made: &mut Event,
+    ) -> Option<Source<'e>>
+        requires { length boxes.old ≡ length object.now.masters }
+        ensures events { MatchOption result
+            ((events_left object.now t.now boxes.old self.old ≡ [])
+            × (events_left object.now t.now boxes.new self.new ≡ []))
+            (λ source. events_left object.now t.now boxes.old self.old
+            ≡ core_event source made.new ∷ events_left object.now t.now boxes.new self.new) }
+        ensures boxes { boxes_left boxes.new self.new ≡ boxes_left boxes.old self.old }
+        ensures end { result ≡ None → boxes.new ≡ boxes_left boxes.old self.old }
+        ensures places { length boxes.new ≡ length boxes.old }
+    {
+        match *self {
+            CoreEvents::Past => None,
+            CoreEvents::Own(event) => {
                 *self = CoreEvents::Past;
-                *made = Event::Pass;
-                Some(Source::Made)
+                Some(Source::Own(event))
             }
-            CoreEvents::Sent(master, message) => {
-                *self = CoreEvents::Past;
-                *made = Event::Ipi { master, message };
-                Some(Source::Made)
-            }
+            CoreEvents::Pass => self.pass(made),
+            CoreEvents::Sent(master, message) => self.send(master, message, made),
             CoreEvents::Served { bit, some } => self.serve(object, t, boxes, bit, some, made),
             CoreEvents::Lowered(smc, k) => self.lower(t, smc, k, made),
         }
     }
 
+    /// Leaves the event in which nothing happens, and is over. (An event is large, and a function clears each one that it
+    /// holds when it is entered. So what makes events is kept apart, and a line that is its own event pays nothing for it.)
+    #[inline(never)]
+    fn pass(&mut self, made: &mut Event) -> Option<Source<'e>>
+        ensures { (self.new ≡ CoreEvents.Past) × (made.new ≡ Event.Pass) × (result ≡ Some Source.Made) }
+    {
+        *self = CoreEvents::Past;
+        *made = Event::Pass;
+        Some(Source::Made)
+    }
+
+    /// Leaves the event of a message, and is over.
+    #[inline(never)]
+    fn send(&mut self, master: NodeId, message: Message, made: &mut Event) -> Option<Source<'e>>
+        ensures { (self.new ≡ CoreEvents.Past) × (made.new ≡ Event.Ipi master message) × (result ≡ Some Source.Made) }
+    {
+        *self = CoreEvents::Past;
+        *made = Event::Ipi { master, message };
+        Some(Source::Made)
+    }
+
     /// The same of a power call.
+    #[inline(never)]
     fn lower(&mut self, t: &Topology, smc: Smc, k: usize, made: &mut Event) -> Option<Source<'e>>
         ensures events { MatchOption result
             ((drop k (lowered t.now smc) ≡ []) × (self.new ≡ self.old))
@@ -164,6 +228,7 @@ impl<'e> CoreEvents<'e> {
 
     /// The same of a line that serves. If no message is left, all boxes are emptied, and a line that served none has a
     /// Pass.
+    #[inline(never)]
     fn serve(
         &mut self,
         object: &Object,

@@ -1,7 +1,7 @@
 -- What is known of the words that are left is known of all words, case by case of the byte.
 use Rattle.std.proofs.Common.{◌≡◌, ◌+◌, None, Some, ap, arith, sym, ◌∙◌, length, []}
 use Rattle.std.proofs.lemmas.Grind.{common_steps}
-use Rattle.pm_base.proofs.WordsLemmas.{words_from-begin, words_from-between, words_from-end, words_from-last, words_from-none, words_from-on}
+use Rattle.pm_io.proofs.WordsLemmas.{words_from-begin, words_from-between, words_from-end, words_from-last, words_from-none, words_from-on}
 use Rattle.pm_script.proofs.ObjectLineLemmas.{begun_none, begun_some, begun_was, goes_on, last_ends, no_more, one_bad, room_begins, room_between, room_ends, room_on, word_ends}
 use Rattle.pm_script.proofs.object_line.numbers_from.Goals.{in-None, in-None-3, in-Some+in_ok-number_of_word-in-Some, in-Some+else-is_blank-2, in-Some-start+in_ok-number_of_word, in_default}
 use Rattle.pm_script.proofs.object_line.numbers_from.Goals as goal

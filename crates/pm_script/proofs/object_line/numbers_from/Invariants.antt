@@ -2,7 +2,7 @@
 -- so there are few of them.
 use Rattle.std.proofs.Common.{◌≡◌, ◌+◌, ◌*◌, ◌≤◌, None, drop, length, map}
 use Rattle.std.specs.Prelude.{IfSome}
-use Rattle.pm_base.specs.Words.{text_between, words_from}
+use Rattle.pm_io.specs.Words.{text_between, words_from}
 use Rattle.pm_script.specs.ObjectLine.{numbers_of}
 use Rattle.pm_script.proofs.ObjectLineLemmas.{begun_count, joined}
 use Rattle.pm_script.proofs.object_line.numbers_from.Given as goal

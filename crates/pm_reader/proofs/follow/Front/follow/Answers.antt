@@ -3,8 +3,9 @@ use Rattle.std.proofs.Common.{◌≡◌, ◌+◌, ◌≤◌, Err, Result, ap, ar
 use Rattle.std.specs.Prelude.{⊤}
 use Rattle.std.proofs.lemmas.Result.{err_from_is_err_and}
 use Rattle.pm_base.specs.declared.events.Event.TheVariants.{Pass}
-use Rattle.pm_base.specs.Readings.{Meanwhile}
-use Rattle.pm_script.specs.Meaning.{meaning}
+use Rattle.pm_io.specs.Readings.{Meanwhile}
+use Rattle.pm_script.specs.declared.meaning.LineFault.{LineFault}
+use Rattle.pm_script.specs.Meaning.{left, meaning}
 use Rattle.pm_script.specs.Script.{script_limit}
 use Rattle.pm_reader.specs.declared.follow.LineStop.{LineStop}
 use Rattle.pm_reader.specs.declared.follow.LinesEnd.{LinesEnd}
@@ -66,24 +67,24 @@ pub returns-in_err-follow_one-in-Ok-clause-followed : goal.returns-in_err-follow
 returns-in_err-follow_one-in-Ok-clause-followed g c = λ ahead front.
     let exit = err_from_is_err_and c.from_residual-in_err-follow_one-in-Ok.result c.from_residual-in_err-follow_one-in-Ok.ensures.1 in
     let why : LineStop = c.in_err-follow_one-in-Ok.field-0.0 in
-    let one = subst (λ (r : Result ⊤ LineStop). FollowedOne g.F.Follower.Follows (c.lines.count + 1) c.in-Ok.event c.lines.follower c.follow_one.new.follower r) c.in_err-follow_one-in-Ok.was c.follow_one.ensures in
+    let one = subst (λ (r : Result ⊤ LineStop). FollowedOne g.F.Follower.Follows (c.lines.count + 1) c.read_line.new.event c.lines.follower c.follow_one.new.follower r) c.in_err-follow_one-in-Ok.was c.follow_one.ensures in
     let stands = stands_as g.F.Follower.Follows g.I.Inputs.observable c.args.id ahead c.args.follower.now c.args.self.now.lines c.lines.count (g.I.Inputs.state c.lines.inputs) c.lines.follower c.lines.self.line.items c.lines.self.reader c.lines.taken taken.Line c.in-Line.is (c.lines.invariant ahead front) in
     subst (λ (r : Result LinesEnd LineStop). FollowedInput g.F.Follower.Follows g.I.Inputs.observable c.args.id ahead (g.I.Inputs.state c.lines.inputs) c.args.follower.now c.follow_one.new.follower r) (sym (exit.1 ∙ ap Err exit.2))
-    (stands_broken g.F.Follower.Follows g.I.Inputs.observable c.args.id ahead c.args.follower.now c.args.self.now.lines c.lines.count (g.I.Inputs.state c.lines.inputs) c.lines.follower c.lines.self.line.items c.lines.self.reader c.follow_one.new.follower c.parse_line-meaning.result c.in-Ok.event why stands (c.parse_line-meaning.ensures ∙ ap meaning c.as_slice.ensures.value) c.in-Ok.is one)
+    (stands_broken g.F.Follower.Follows g.I.Inputs.observable c.args.id ahead c.args.follower.now c.args.self.now.lines c.lines.count (g.I.Inputs.state c.lines.inputs) c.lines.follower c.lines.self.line.items c.lines.self.reader c.follow_one.new.follower (left c.read_line.result c.read_line.new.event) c.read_line.new.event why stands (c.read_line.ensures ∙ ap meaning c.as_slice.ensures.value) (ap (λ (r : Result ⊤ LineFault). left r c.read_line.new.event) c.in-Ok.is) one)
 
 pub returns-in_err-follow_one-in-Ok-clause-reads : goal.returns-in_err-follow_one-in-Ok-clause-reads
 returns-in_err-follow_one-in-Ok-clause-reads g c = λ ahead front.
     let exit = err_from_is_err_and c.from_residual-in_err-follow_one-in-Ok.result c.from_residual-in_err-follow_one-in-Ok.ensures.1 in
     let why : LineStop = c.in_err-follow_one-in-Ok.field-0.0 in
-    let one = subst (λ (r : Result ⊤ LineStop). FollowedOne g.F.Follower.Follows (c.lines.count + 1) c.in-Ok.event c.lines.follower c.follow_one.new.follower r) c.in_err-follow_one-in-Ok.was c.follow_one.ensures in
+    let one = subst (λ (r : Result ⊤ LineStop). FollowedOne g.F.Follower.Follows (c.lines.count + 1) c.read_line.new.event c.lines.follower c.follow_one.new.follower r) c.in_err-follow_one-in-Ok.was c.follow_one.ensures in
     let stands = stands_as g.F.Follower.Follows g.I.Inputs.observable c.args.id ahead c.args.follower.now c.args.self.now.lines c.lines.count (g.I.Inputs.state c.lines.inputs) c.lines.follower c.lines.self.line.items c.lines.self.reader c.lines.taken taken.Line c.in-Line.is (c.lines.invariant ahead front) in
     subst (λ (r : Result LinesEnd LineStop). Meanwhile ahead.first (g.I.Inputs.state c.lines.inputs) (ReadsLines c.args.id r)) (sym (exit.1 ∙ ap Err exit.2))
-    (calls_stopped g.F.Follower.Follows g.I.Inputs.observable c.args.id ahead c.args.follower.now c.args.self.now.lines c.lines.count (g.I.Inputs.state c.lines.inputs) c.lines.follower c.lines.self.line.items c.lines.self.reader c.follow_one.new.follower c.in-Ok.event why one stands)
+    (calls_stopped g.F.Follower.Follows g.I.Inputs.observable c.args.id ahead c.args.follower.now c.args.self.now.lines c.lines.count (g.I.Inputs.state c.lines.inputs) c.lines.follower c.lines.self.line.items c.lines.self.reader c.follow_one.new.follower c.read_line.new.event why one stands)
 
 pub returns-in-Err-clause-followed : goal.returns-in-Err-clause-followed
 returns-in-Err-clause-followed g c = λ ahead front.
     let stands = stands_as g.F.Follower.Follows g.I.Inputs.observable c.args.id ahead c.args.follower.now c.args.self.now.lines c.lines.count (g.I.Inputs.state c.lines.inputs) c.lines.follower c.lines.self.line.items c.lines.self.reader c.lines.taken taken.Line c.in-Line.is (c.lines.invariant ahead front) in
-    stands_bad g.F.Follower.Follows g.I.Inputs.observable c.args.id ahead c.args.follower.now c.args.self.now.lines c.lines.count (g.I.Inputs.state c.lines.inputs) c.lines.follower c.lines.self.line.items c.lines.self.reader c.parse_line-meaning.result c.in-Err.cause stands (c.parse_line-meaning.ensures ∙ ap meaning c.as_slice.ensures.value) c.in-Err.is
+    stands_bad g.F.Follower.Follows g.I.Inputs.observable c.args.id ahead c.args.follower.now c.args.self.now.lines c.lines.count (g.I.Inputs.state c.lines.inputs) c.lines.follower c.lines.self.line.items c.lines.self.reader (left c.read_line.result c.read_line.new.event) c.in-Err.cause stands (c.read_line.ensures ∙ ap meaning c.as_slice.ensures.value) (ap (λ (r : Result ⊤ LineFault). left r c.read_line.new.event) c.in-Err.is)
 
 pub returns-in-Err-clause-reads : goal.returns-in-Err-clause-reads
 returns-in-Err-clause-reads g c = λ ahead front.
@@ -97,10 +98,10 @@ lines-smaller g c =
 
 pub lines-preserved : goal.lines-preserved
 lines-preserved g c = λ ahead front.
-    let one = subst (λ (r : Result ⊤ LineStop). FollowedOne g.F.Follower.Follows (c.lines.count + 1) c.in-Ok.event c.lines.follower c.follow_one.new.follower r) c.in_ok-follow_one-in-Ok.was c.follow_one.ensures in
+    let one = subst (λ (r : Result ⊤ LineStop). FollowedOne g.F.Follower.Follows (c.lines.count + 1) c.read_line.new.event c.lines.follower c.follow_one.new.follower r) c.in_ok-follow_one-in-Ok.was c.follow_one.ensures in
     let stands = stands_as g.F.Follower.Follows g.I.Inputs.observable c.args.id ahead c.args.follower.now c.args.self.now.lines c.lines.count (g.I.Inputs.state c.lines.inputs) c.lines.follower c.lines.self.line.items c.lines.self.reader c.lines.taken taken.Line c.in-Line.is (c.lines.invariant ahead front) in
-    stands_next g.F.Follower.Follows g.I.Inputs.observable c.args.id ahead c.args.follower.now c.args.self.now.lines c.lines.count (g.I.Inputs.state c.lines.inputs) c.lines.follower c.lines.self.line.items c.lines.self.reader (g.I.Inputs.state c.next-taken.new.inputs) c.follow_one.new.follower c.next-taken.new.self c.next-taken.result c.next-taken.new.line.items c.parse_line-meaning.result c.in-Ok.event
-    stands (c.parse_line-meaning.ensures ∙ ap meaning c.as_slice.ensures.value) c.in-Ok.is one c.next-taken.ensures.turn c.next-taken.ensures.knows c.next-taken.ensures.stuck c.next-taken.ensures.fault c.next-taken.ensures.reads
+    stands_next g.F.Follower.Follows g.I.Inputs.observable c.args.id ahead c.args.follower.now c.args.self.now.lines c.lines.count (g.I.Inputs.state c.lines.inputs) c.lines.follower c.lines.self.line.items c.lines.self.reader (g.I.Inputs.state c.next-taken.new.inputs) c.follow_one.new.follower c.next-taken.new.self c.next-taken.result c.next-taken.new.line.items (left c.read_line.result c.read_line.new.event) c.read_line.new.event
+    stands (c.read_line.ensures ∙ ap meaning c.as_slice.ensures.value) (ap (λ (r : Result ⊤ LineFault). left r c.read_line.new.event) c.in-Ok.is) one c.next-taken.ensures.turn c.next-taken.ensures.knows c.next-taken.ensures.stuck c.next-taken.ensures.fault c.next-taken.ensures.reads
 
 pub returns-in-Long-clause-followed : goal.returns-in-Long-clause-followed
 returns-in-Long-clause-followed g c = λ ahead front.

@@ -1,6 +1,6 @@
 -- One more line of the block was read, or the answer that ends it.
 use Rattle.std.proofs.Common.{◌≡◌, true, false, rules}
-use Rattle.pm_base.specs.Readings.{Meanwhile}
+use Rattle.pm_io.specs.Readings.{Meanwhile}
 use Rattle.pm_reader.specs.Follow.{IsBrokenOff}
 use Rattle.pm_reader.proofs.FrontLemmas.{attached_as, if_err, reads_done, reads_more, reads_none}
 use Rattle.pm_reader.proofs.StandsLemmas.{broken_off}

@@ -1,6 +1,6 @@
 use Rattle.std.proofs.Common.{◌≡◌, ◌-◌, ◌==◌, ℕ, Bool, false, ap, subst, sym, arith}
-use Rattle.pm_base.specs.Calls.{Comes}
-use Rattle.pm_base.specs.Readings.{Meanwhile}
+use Rattle.pm_io.specs.Calls.{Comes}
+use Rattle.pm_io.specs.Readings.{Meanwhile}
 use Rattle.pm_reader.specs.Reader.{Held}
 use Rattle.pm_reader.proofs.ReadsLemmas.{more_reads}
 use Rattle.pm_reader.proofs.reader.LineReader.more.Goals as goal

@@ -1,5 +1,5 @@
 use Rattle.std.proofs.Common.{◌+◌, cond}
-use Rattle.pm_base.specs.Readings.{Meanwhile}
+use Rattle.pm_io.specs.Readings.{Meanwhile}
 use Rattle.pm_reader.specs.Reader.{ComesOn, Grew, KnowsEnd}
 use Rattle.pm_reader.proofs.reader.LineReader.next.Given as goal
 

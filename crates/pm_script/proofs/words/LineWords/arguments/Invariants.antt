@@ -1,5 +1,5 @@
 use Rattle.std.proofs.Common.{◌≡◌, ◌+◌, drop, length}
-use Rattle.pm_base.specs.Words.{word_texts}
+use Rattle.pm_io.specs.Words.{word_texts}
 use Rattle.pm_script.specs.Forms.{arguments_of}
 use Rattle.pm_script.proofs.ArgumentsLemmas.{with_front}
 use Rattle.pm_script.proofs.words.LineWords.arguments.Given as goal

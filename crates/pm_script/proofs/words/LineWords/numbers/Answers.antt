@@ -1,8 +1,8 @@
 -- The words after the first one stand from its end on.
 use Rattle.std.proofs.Common.{◌≡◌, ◌∙◌, ℕ, List, None, Some, ap, arith, drop, length, map, sym}
 use Rattle.std.specs.Prelude.{slice_get}
-use Rattle.pm_base.specs.Lines.{without_return}
-use Rattle.pm_base.specs.Words.{text_between, words, words_from}
+use Rattle.pm_io.specs.Lines.{without_return}
+use Rattle.pm_io.specs.Words.{text_between, words, words_from}
 use Rattle.pm_script.specs.ObjectLine.{numbers_of}
 use Rattle.pm_script.proofs.ObjectLineLemmas.{texts_after}
 use Rattle.pm_script.proofs.words.LineWords.numbers.Goals as goal

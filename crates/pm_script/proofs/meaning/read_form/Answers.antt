@@ -1,9 +1,9 @@
 -- The words are counted before one of them is read.
 use Rattle.std.proofs.Common.{sym, arith, drop}
-use Rattle.pm_base.specs.Words.{word_texts}
+use Rattle.pm_io.specs.Words.{word_texts}
 use Rattle.pm_script.specs.Forms.{row_of}
 use Rattle.pm_script.proofs.MeaningLemmas.{count_arguments, miscounted}
-use Rattle.pm_script.proofs.meaning.parse_form.Goals as goal
+use Rattle.pm_script.proofs.meaning.read_form.Goals as goal
 
 pub returns-then-not-has_arguments : goal.returns-then-not-has_arguments
 returns-then-not-has_arguments c =

@@ -1,0 +1,12 @@
+-- The bytes that were passed are blanks.
+use Rattle.std.proofs.Common.{◌≡◌, None, drop}
+use Rattle.std.specs.List.{list_all}
+use Rattle.pm_io.specs.Lines.{is_plain}
+use Rattle.pm_io.specs.Words.{words_from}
+use Rattle.pm_script.proofs.words.blanks_end.Given as goal
+
+abbrev pub invariant-bytes : goal.invariant-bytes
+invariant-bytes l = record {
+  plain : list_all is_plain (drop l.at l.text) ≡ list_all is_plain (drop l.from l.text);
+  words : words_from None l.at (drop l.at l.text) ≡ words_from None l.from (drop l.from l.text);
+}
