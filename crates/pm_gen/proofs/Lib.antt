@@ -1,3 +1,4 @@
+pub mod CountLemmas
 pub mod LaboratoryLemmas
 pub mod LinesLemmas
 pub mod MeaningLemmas

@@ -9,9 +9,9 @@ use Rattle.std.proofs.lemmas.List.{length-append}
 use Rattle.std.proofs.lemmas.List.Splits.{slice_split-cons_no, slice_split-cons_yes, length-slice_split}
 use Rattle.std.proofs.lemmas.Slice.Eq.{bytes_eq-Decides}
 use Rattle.pm_base.specs.declared.events.Event.{Event}
-use Rattle.pm_base.specs.Lines.{lines_of, lines_of_parts, parts_of}
-use Rattle.pm_base.specs.Words.{is_blank, words}
-use Rattle.pm_base.proofs.LinesLemmas.{is_feed}
+use Rattle.pm_io.specs.Lines.{lines_of, lines_of_parts, parts_of}
+use Rattle.pm_io.specs.Words.{is_blank, words}
+use Rattle.pm_io.proofs.LinesLemmas.{is_feed}
 use Rattle.pm_script.specs.declared.meaning.LineFault.{LineFault}
 use Rattle.pm_script.specs.Meaning.{meaning}
 use Rattle.pm_gen.specs.Script.{HasMeaning, line_by, line_of, lines_from, made, next, opening}
