@@ -1,6 +1,6 @@
 -- What a step visits: the turns of the units that moved, of those that lag and of the line that is pulsed. All of them are
 -- marked first. Each other unit has the book's value in the record, and has no command.
-use Rattle.std.specs.Prelude.{◌≡◌, ℕ, ◌==◌, ◌&&◌, Bool, true, false, Option, Some, None, List, [], ◌∷◌, length, slice_get}
+use Rattle.std.specs.Prelude.{◌≡◌, ℕ, ◌==◌, Bool, true, false, Option, Some, None, List, [], ◌∷◌, length, slice_get}
 use Rattle.std.specs.Option.{option_map_or}
 use Rattle.pm_base.specs.BoundedList.{Bounded}
 use Rattle.pm_base.specs.declared.names.LineId.{LineId}
@@ -9,7 +9,7 @@ use Rattle.pm_base.specs.declared.names.Unit.TheVariants.{Node, Line}
 use Rattle.pm_topology.specs.declared.topology.PowerDef.{PowerDef}
 use Rattle.pm_topology.specs.declared.topology.Topology.{Topology}
 use Rattle.pm_topology.specs.UnitMap.{units_in, with_value}
-use Rattle.pm_topology.specs.Units.{has_in, same_unit}
+use Rattle.pm_topology.specs.Units.{has_in}
 use Rattle.pm_apply.specs.declared.kept.KeptValue.{KeptValue}
 use Rattle.pm_apply.specs.declared.turns.Turn.{Turn}
 use Rattle.pm_apply.specs.declared.turns.Turn.TheVariants.{PowerOn, Pulse, Apply, PowerOff}
@@ -20,10 +20,6 @@ use Rattle.pm_apply.specs.Record.{Kept, kept_of, kept_value, lags_in, mark, mark
 -- each entry that lags stands at one of these places
 abbrev pub LagsWithin : List ℕ → Kept → Type 0
 LagsWithin places kept = (k : ℕ) (e : Unit × KeptValue) → slice_get kept k ≡ Some e → e.1.lags ≡ true → has_place places k ≡ true
-
--- the entry at a place is that of this unit, and lags
-abbrev pub lags_as : Kept → Unit → ℕ → Bool
-lags_as kept unit k = option_map_or (λ (e : Unit × KeptValue). e.1.lags && same_unit e.0 unit) (slice_get kept k) false
 
 -- the mark of the unit at a place was made by its value; nothing else changed
 pub record Remakes (values : Unit → ℕ) (place : ℕ) (before after : Kept) : Type 0 where

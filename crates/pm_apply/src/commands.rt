@@ -38,7 +38,8 @@ pub fn carry<D: Device>(dev: &mut D, kept: &mut Kept, book: &Book, out: &mut Out
     requires room { HasRoomFor book.now out.old }
     requires fresh { out.old.done.items ≡ [] }
     requires record { IsRecordOf book.now.fixed.topology kept.old }
-    requires marked { DifferencesAreMarked book.now.fixed.topology (λ u. value u book.now) out.old.moved.items kept.old }
+    requires marked { DifferencesAreMarked book.now.fixed.topology
+        (λ u. value u book.now) out.old.moved.items kept.old }
     // Exactly the step's plan under the answers that the device gave, its record, and its answer, which is an internal
     // error in place of success if the device didn't follow the step.
     ensures part { part_in kept.new out.new ≡ part_of kept.old (answers_in out.new) book.now (outputs_in out.old) }

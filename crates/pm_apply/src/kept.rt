@@ -2,14 +2,13 @@
 
 ghost use Rattle.std.specs.Prelude.{◌≡◌, ℕ, ◌<◌, ◌≤◌, ◌==◌, [], ◌∷◌, true, false, not, IfOk, count_by, length, slice_get, Some};
 ghost use Rattle.pm_base.specs.declared.names.Unit.{Unit as Part};
-ghost use Rattle.std.specs.List.{list_any};
 ghost use Rattle.pm_topology.specs.UnitMap.{place_of, units_in, values_in};
 ghost use Rattle.pm_topology.specs.Units.{rises, units_of};
 ghost use Rattle.pm_state.specs.Values.{value};
 ghost use Rattle.pm_apply.specs.Places.{has_place};
 ghost use Rattle.pm_apply.specs.Plan.{after_answer};
 ghost use Rattle.pm_apply.specs.Record.{CountsUses, IsAtZero, IsRecordOf, at_zero, idle, uses_power, keep, kept_of, kept_value, lags_in, mark, marked};
-ghost use Rattle.pm_apply.specs.Visits.{LagsNotAt, LagsWithin, lags_as, Marks, Remakes, StandsElsewhere, with_mark, pulsed};
+ghost use Rattle.pm_apply.specs.Visits.{LagsNotAt, LagsWithin, Marks, Remakes, StandsElsewhere, with_mark, pulsed};
 
 use crate::laws::at_zero_is_a_record;
 use crate::places::Places;
@@ -18,7 +17,7 @@ use crate::use_counts::UseCounts;
 use pm_base::{Command, LineId, NoMemory, Unit};
 use pm_core::Book;
 use pm_topology::{
-    Topology, UnitMap, kinds_are_exact, same_unit, unit_map_places, unit_maps, units_stand_in_order,
+    Topology, UnitMap, kinds_are_exact, unit_map_places, unit_maps, units_stand_in_order,
 };
 use std::alloc::Global;
 use std::marker::Model;
@@ -99,9 +98,7 @@ impl Kept {
     pub fn lags(&self, unit: Unit) -> bool
         ensures { result ≡ lags_in self.now unit }
     {
-        units_stand_in_order();
-        let _units = self.values.len();
-        one_lags(self.marked.as_slice(), &self.values, unit)
+        kept_of(&self.values, unit).lags
     }
 
     /// The place of the first unit from this one on that is marked, and the number of units where there is none.
@@ -239,23 +236,6 @@ fn kept_of(values: &UnitMap<KeptValue>, unit: Unit) -> KeptValue
     ensures rising { rises (units_in values.now) ≡ true }
 {
     values.get(unit).unwrap_or(idle())
-}
-
-/// Whether one of the entries at these places is that of a unit, and lags.
-fn one_lags(places: &[usize], values: &UnitMap<KeptValue>, unit: Unit) -> bool
-    ensures { result ≡ list_any (lags_as values.now unit) places.now }
-{
-    places.iter().any(|place| lags_as(*place, values, unit))
-}
-
-/// Whether the entry at a place is.
-fn lags_as(place: usize, values: &UnitMap<KeptValue>, unit: Unit) -> bool
-    ensures { result ≡ lags_as values.now unit place }
-{
-    match values.entry(place) {
-        Some((other, kept)) => kept.lags && same_unit(other, unit),
-        None => false,
-    }
 }
 
 /// Keeps the value of a command for its unit, and the counts of uses. Nothing changes where the unit isn't there.

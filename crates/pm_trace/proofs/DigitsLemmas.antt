@@ -1,36 +1,30 @@
--- The decimal text of a short number is its digits.
-use Rattle.std.proofs.Common.{◌≡◌, ℕ, ◌+◌, ◌/◌, ◌%◌, ◌≤◌, ◌<◌, List, [], ◌∷◌, ◌++◌, decimal, refl, arith, append_assoc}
+-- The decimal text of a number, two digits at a time.
+use Rattle.std.proofs.Common.{◌≡◌, ◌∙◌, ℕ, ◌+◌, ◌/◌, ◌%◌, ◌^◌, ◌≤◌, ◌<◌, List, [], ◌∷◌, ◌++◌, decimal, length, length-append, refl, ap, arith, append_assoc}
 use Rattle.std.proofs.lemmas.Fmt.{decimal_digit, decimal_step}
 
-two_digits : (n : ℕ) → 10 ≤ n → n < 100 → decimal n ≡ (48 + n / 10) ∷ (48 + n % 10) ∷ []
+-- two digits
+abbrev pub pair : ℕ → List ℕ
+pair n = (48 + n / 10) ∷ (48 + n % 10) ∷ []
+
+-- the text of a number of two digits
+pub two_digits : (n : ℕ) → 10 ≤ n → n < 100 → decimal n ≡ pair n
 two_digits n least most = rw (decimal_step n least (omega arith), decimal_digit (n / 10) (omega arith)) refl
 
-three_digits : (n : ℕ) → 100 ≤ n → n < 1000 → decimal n ≡ (48 + n / 100) ∷ (48 + n / 10 % 10) ∷ (48 + n % 10) ∷ []
-three_digits n least most =
+-- the text of a longer one ends with two digits
+pub last_two : (n : ℕ) → 100 ≤ n → n < 2 ^ 64 → decimal n ≡ decimal (n / 100) ++ pair (n % 100)
+last_two n least most =
     let front : n / 10 / 10 ≡ n / 100 = omega arith in
-    rw (decimal_step n (omega arith) (omega arith), two_digits (n / 10) (omega arith) (omega arith), front) refl
+    let tens : n / 10 % 10 ≡ n % 100 / 10 = omega arith in
+    let ones : n % 10 ≡ n % 100 % 10 = omega arith in
+    rw (decimal_step n (omega arith) most, decimal_step (n / 10) (omega arith) (omega arith), front, tens, ones)
+    (append_assoc (decimal (n / 100)) ((48 + n % 100 / 10) ∷ []) ((48 + n % 100 % 10) ∷ []))
 
--- digits that are put one after another are the text of their number
-pub puts_two : (n a b : ℕ) (line one two : List ℕ) → 10 ≤ n → n < 100
-    → a ≡ 48 + n / 10 → b ≡ 48 + n % 10
-    → one ≡ line ++ a ∷ [] → two ≡ one ++ b ∷ []
-    → two ≡ line ++ decimal n
-puts_two n a b line one two least most tens ones first second =
-    rw (second, first, tens, ones, two_digits n least most) (append_assoc line ((48 + n / 10) ∷ []) ((48 + n % 10) ∷ []))
+-- how many digits a number has
+pub one_long : (n : ℕ) → n < 10 → length (decimal n) ≡ 1
+one_long n most = ap length (decimal_digit n most)
 
-pub puts_three : (n a b c : ℕ) (line one two three : List ℕ) → 100 ≤ n → n < 1000
-    → a ≡ 48 + n / 100 → b ≡ 48 + n / 10 % 10 → c ≡ 48 + n % 10
-    → one ≡ line ++ a ∷ [] → two ≡ one ++ b ∷ [] → three ≡ two ++ c ∷ []
-    → three ≡ line ++ decimal n
-puts_three n a b c line one two three least most hundreds tens ones first second third =
-    rw (
-      third,
-      second,
-      first,
-      hundreds,
-      tens,
-      ones,
-      three_digits n least most,
-      append_assoc line ((48 + n / 100) ∷ []) ((48 + n / 10 % 10) ∷ []),
-      append_assoc line ((48 + n / 100) ∷ (48 + n / 10 % 10) ∷ []) ((48 + n % 10) ∷ []),
-    ) refl
+pub two_long : (n : ℕ) → 10 ≤ n → n < 100 → length (decimal n) ≡ 2
+two_long n least most = ap length (two_digits n least most)
+
+pub more_long : (n : ℕ) → 100 ≤ n → n < 2 ^ 64 → length (decimal n) ≡ length (decimal (n / 100)) + 2
+more_long n least most = ap length (last_two n least most) ∙ length-append (decimal (n / 100)) (pair (n % 100))

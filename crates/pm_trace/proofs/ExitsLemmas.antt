@@ -7,10 +7,10 @@ use Rattle.std.proofs.lemmas.List.{append-nil}
 use Rattle.std.proofs.lemmas.Option.{slice_get_within}
 use Rattle.pm_base.specs.declared.errors.Exit.{Exit}
 use Rattle.pm_base.specs.declared.errors.Exit.TheVariants as exit
-use Rattle.pm_base.specs.declared.sink.Sink as Sink
-use Rattle.pm_base.specs.Sink.{HasFailed, Wrote}
-use Rattle.pm_base.specs.Writing.{Leaves}
-use Rattle.pm_base.proofs.SinkLemmas.{BreaksIn-failed}
+use Rattle.pm_io.specs.declared.sink.Sink as Sink
+use Rattle.pm_io.specs.Sink.{HasFailed, Wrote}
+use Rattle.pm_io.specs.Writing.{Leaves}
+use Rattle.pm_io.proofs.SinkLemmas.{BreaksIn-failed}
 use Rattle.pm_trace.specs.declared.faults.Fault.{Fault}
 use Rattle.pm_trace.specs.declared.faults.Fault.TheVariants.{Line, Memory, Node, Number, Object, Read, Size, Text, Topology, TopologyText, Usage}
 use Rattle.pm_trace.specs.Exits.{EndsBy, ExitSays, IsWhole}

@@ -1,11 +1,12 @@
 -- A line of output is made of its words one after another.
-use Rattle.std.proofs.Common.{◌≡◌, ℕ, ◌+◌, ◌<◌, ◌≤◌, List, [], ◌∷◌, ◌++◌, map, take, length, get_or, refl, suc, ap, sym, ◌∙◌, arith, append-nil, take_all}
+use Rattle.std.proofs.Common.{◌≡◌, ℕ, ◌+◌, ◌<◌, ◌≤◌, List, [], ◌∷◌, ◌++◌, map, take, length, get_or, refl, suc, ap, sym, ◌∙◌, arith, append-nil, take_all, decimal}
 use Rattle.std.specs.List.{join_with_byte, flat_map}
 use Rattle.std.proofs.Math.Seq.{take-suc}
 use Rattle.std.proofs.lemmas.List.{append_assoc}
 use Rattle.std.proofs.lemmas.Grind.{flat_map-append}
 use Rattle.pm_trace.specs.declared.line.Word.{Word}
-use Rattle.pm_trace.specs.Line.{after_space, word_text, line_text}
+use Rattle.pm_trace.specs.declared.line.Word.TheVariants.{Number, Name}
+use Rattle.pm_trace.specs.Line.{after_space, line_text, numbers, word_text}
 
 pub line_of : (first : Word) (rest : List Word) → line_text (first ∷ rest) ≡ (word_text first ++ flat_map after_space rest) ++ 10 ∷ []
 line_of first rest = ap (λ words. words ++ 10 ∷ []) (joined first rest)
@@ -34,3 +35,12 @@ word_more rest k next begun done spaced new is there so space word =
     in
     let one : flat_map after_space (next ∷ []) ≡ 32 ∷ word_text next = append-nil (after_space next) in
     rw (word, space, so, taken, parts, one, append_assoc (begun ++ flat_map after_space (take k rest)) (32 ∷ []) (word_text next), append_assoc begun (flat_map after_space (take k rest)) (32 ∷ word_text next)) refl
+
+-- a number, a name, more numbers and the line feed make the line
+pub numbers_are_made : (n : ℕ) (kind rest : List ℕ) (k : ℕ) (start begun spaced named done new : List ℕ) → start ≡ [] → begun ≡ start ++ decimal n
+    → spaced ≡ begun ++ 32 ∷ [] → named ≡ spaced ++ kind → done ≡ named ++ flat_map after_space (numbers (take k rest)) → length rest ≤ k
+    → new ≡ done ++ 10 ∷ [] → new ≡ line_text (Number n ∷ Name kind ∷ numbers rest)
+numbers_are_made n kind rest k start begun spaced named done new empty number space name words all feed =
+    let whole : take k rest ≡ rest = take_all k rest all in
+    let later = flat_map after_space (numbers rest) in
+    rw (line_of (Number n) (Name kind ∷ numbers rest), feed, words, whole, name, space, number, empty, append_assoc (decimal n ++ 32 ∷ []) kind later, append_assoc (decimal n) (32 ∷ []) (kind ++ later)) refl

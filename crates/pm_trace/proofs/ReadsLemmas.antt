@@ -3,15 +3,15 @@ use Rattle.std.proofs.Common.{◌≡◌, ℕ, ◌+◌, ◌⊎◌, Bool, true, fa
 use Rattle.std.specs.Prelude.{if◌then◌else◌}
 use Rattle.std.proofs.lemmas.Bool.Decides.{nat_tests}
 use Rattle.std.proofs.lemmas.List.{append-nil}
-use Rattle.pm_base.specs.Calls.{Begin, Call, GoesOn, GoesUpTo, Named}
-use Rattle.pm_base.specs.Inputs.{Adds, Moment}
-use Rattle.pm_base.specs.Readings.{LeftReadBy, Meanwhile}
+use Rattle.pm_io.specs.Calls.{Begin, Call, GoesOn, GoesUpTo, Named}
+use Rattle.pm_io.specs.Inputs.{Adds, Moment}
+use Rattle.pm_io.specs.Readings.{LeftReadBy, Meanwhile}
 use Rattle.pm_base.specs.declared.errors.Exit.{Exit}
 use Rattle.pm_base.specs.declared.errors.Exit.TheVariants as exit
-use Rattle.pm_base.specs.declared.prefix.StopReason.{StopReason}
-use Rattle.pm_base.specs.declared.prefix.StopReason.TheVariants as reason
-use Rattle.pm_base.specs.declared.sink.Sink as Sink
-use Rattle.pm_base.proofs.ReadingsLemmas.{begun_up_to, meanwhile_map, meanwhile_none, name_to_fault, name_unbegun, name_up_to, one_name, then_read}
+use Rattle.pm_io.specs.declared.prefix.StopReason.{StopReason}
+use Rattle.pm_io.specs.declared.prefix.StopReason.TheVariants as reason
+use Rattle.pm_io.specs.declared.sink.Sink as Sink
+use Rattle.pm_io.proofs.ReadingsLemmas.{begun_up_to, meanwhile_map, meanwhile_none, name_to_fault, name_unbegun, name_up_to, one_name, then_read}
 use Rattle.pm_script.specs.Script.{script_limit, stop_of}
 use Rattle.pm_trace.specs.declared.faults.Fault.{Fault}
 use Rattle.pm_trace.specs.declared.faults.Fault.TheVariants.{Memory, Read}

@@ -3,13 +3,13 @@ use Rattle.std.proofs.Common.{◌≡◌, ℕ, ◌+◌, ◌⊎◌, Bool, List, []
 use Rattle.pm_base.specs.Faults.{Rose}
 use Rattle.pm_base.specs.declared.errors.Exit.{Exit}
 use Rattle.pm_base.specs.declared.errors.Exit.TheVariants as exit
-use Rattle.pm_base.specs.declared.inputs.Inputs as Inputs
-use Rattle.pm_base.specs.declared.prefix.StopReason.{StopReason}
-use Rattle.pm_base.specs.declared.prefix.StopReason.TheVariants as reason
-use Rattle.pm_base.specs.declared.sink.Sink as Sink
-use Rattle.pm_base.specs.Inputs.{MayFail}
-use Rattle.pm_base.specs.Sink.{HasFailed, IsUnfailed}
-use Rattle.pm_base.specs.Writing.{Leaves}
+use Rattle.pm_io.specs.declared.inputs.Inputs as Inputs
+use Rattle.pm_io.specs.declared.prefix.StopReason.{StopReason}
+use Rattle.pm_io.specs.declared.prefix.StopReason.TheVariants as reason
+use Rattle.pm_io.specs.declared.sink.Sink as Sink
+use Rattle.pm_io.specs.Inputs.{MayFail}
+use Rattle.pm_io.specs.Sink.{HasFailed, IsUnfailed}
+use Rattle.pm_io.specs.Writing.{Leaves}
 use Rattle.pm_script.specs.Named.{IsHeldWhole, IsUnreadable, script_in}
 use Rattle.pm_script.specs.declared.meaning.LineFault.{LineFault}
 use Rattle.pm_script.specs.Script.{Script, Stop, script_limit, stop_of}

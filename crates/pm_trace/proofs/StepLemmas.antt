@@ -1,6 +1,6 @@
 -- The lines of a core step by their places.
-use Rattle.std.proofs.Common.{◌≡◌, ℕ, ◌-◌, ◌<◌, List, [], ◌∷◌, ◌++◌, length, map, ◌∙◌, sym, ap, arith, Option, Some, None, zero, suc}
-use Rattle.std.specs.Prelude.{slice_get}
+use Rattle.std.proofs.Common.{◌≡◌, ℕ, ◌-◌, ◌<◌, List, [], ◌∷◌, ◌++◌, length, map, ◌∙◌, refl, sym, ap, arith, true, Option, Some, None, zero, suc}
+use Rattle.std.specs.Prelude.{IfSome, is_some, option_to_list, slice_get}
 use Rattle.std.specs.Option.{option_map}
 use Rattle.std.proofs.lemmas.Option.{slice_get-map}
 use Rattle.pm_trace.specs.declared.step.StepLine.{StepLine}
@@ -20,6 +20,16 @@ past_front f [] later k past none is = ap (slice_get later) (omega (arith, is))
 past_front f (y ∷ xs) later zero past none is = cc
 past_front f (y ∷ xs) later (suc k) past none is = past_front f xs later k past none (omega (arith, is))
 
+-- the same of a slice that holds the front
+pub in_items : {X Y : Type 0} (f : X → Y) (xs held : List X) (later : List Y) (k : ℕ) (x : X) → held ≡ xs → slice_get held k ≡ Some x
+    → Some (f x) ≡ slice_get (map f xs ++ later) k
+in_items f xs held later k x is found = in_front f xs later k x (sym (ap (λ items. slice_get items k) is) ∙ found)
+
+pub past_items : {X Y : Type 0} (f : X → Y) (xs held : List X) (later : List Y) (k past : ℕ) → held ≡ xs → slice_get held k ≡ None
+    → past ≡ k - length held → slice_get later past ≡ slice_get (map f xs ++ later) k
+past_items f xs held later k past is none far =
+    past_front f xs later k past (sym (ap (λ items. slice_get items k) is) ∙ none) (far ∙ ap (λ items. k - length items) is)
+
 -- a line that tells this
 pub line_told : (n : ℕ) (lines : List StepLine) (k : ℕ) (told : StepLine) (text : List ℕ) → Some told ≡ slice_get lines k
     → text ≡ numbered_line n (step_words told) → slice_get (map (numbered_line n) (map step_words lines)) k ≡ Some text
@@ -33,3 +43,16 @@ pub none_missing : {X Y : Type 0} (f : X → Y) (xs : List X) (k : ℕ) → None
 none_missing f [] k none within = omega (arith, within)
 none_missing f (x ∷ xs) zero none within = cc
 none_missing f (x ∷ xs) (suc k) none within = none_missing f xs k none (omega (arith, within))
+
+-- what may stand past all others is there, where so many stand
+pub some_last : {X Y : Type 0} (f : X → Y) (last : Option X) (xs : List X) (k past : ℕ) → slice_get (option_to_list last) past ≡ slice_get xs k
+    → k < length (map f xs) → (last ≡ slice_get xs k) × (is_some last ≡ true)
+some_last f None xs k past at within = absurd (none_missing f xs k at within)
+some_last f (Some x) xs k zero at within = (at, refl)
+some_last f (Some x) xs k (suc past) at within = absurd (none_missing f xs k at within)
+
+-- the line of an answer
+pub last_told : (n : ℕ) (lines : List StepLine) (k : ℕ) (last : Option StepLine) (text : List ℕ) → (last ≡ slice_get lines k) × (is_some last ≡ true)
+    → IfSome last (λ told. text ≡ numbered_line n (step_words told)) → slice_get (map (numbered_line n) (map step_words lines)) k ≡ Some text
+last_told n lines k None text is says = cc
+last_told n lines k (Some told) text is says = line_told n lines k told text is.0 says

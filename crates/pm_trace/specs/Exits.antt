@@ -3,9 +3,9 @@ use Rattle.std.specs.Prelude.{◌≡◌, ℕ, ◌⊎◌, [], ◌∷◌, Option, 
 use Rattle.std.specs.List.{concat}
 use Rattle.pm_base.specs.declared.errors.Exit.{Exit}
 use Rattle.pm_base.specs.declared.errors.Exit.TheVariants as exit
-use Rattle.pm_base.specs.declared.sink.Sink as Sink
-use Rattle.pm_base.specs.Sink.{HasFailed, Wrote}
-use Rattle.pm_base.specs.Writing.{Leaves}
+use Rattle.pm_io.specs.declared.sink.Sink as Sink
+use Rattle.pm_io.specs.Sink.{HasFailed, Wrote}
+use Rattle.pm_io.specs.Writing.{Leaves}
 use Rattle.pm_trace.specs.declared.faults.Fault.TheVariants.{Memory, Read, Usage}
 use Rattle.pm_trace.specs.Faults.{exit_after, fault_text}
 use Rattle.pm_trace.specs.Report.{Report, exit_of, pieces}

@@ -3,8 +3,8 @@ use Rattle.std.specs.Prelude.{◌≡◌, ℕ, ◌+◌, ◌⊎◌, List, [], ◌�
 use Rattle.pm_base.specs.declared.errors.Exit.{Exit}
 use Rattle.pm_base.specs.declared.errors.Exit.TheVariants.{ReadFault}
 use Rattle.pm_base.specs.declared.errors.Exit.TheVariants as exit
-use Rattle.pm_base.specs.Calls.{Call, GoesOn, GoesToFault, GoesUpTo, Named, ReadsEach, ReadsOn, ReadsToFault, begun, named}
-use Rattle.pm_base.specs.declared.inputs.Inputs as Inputs
+use Rattle.pm_io.specs.Calls.{Call, GoesOn, GoesToFault, GoesUpTo, Named, ReadsEach, ReadsOn, ReadsToFault, begun, named}
+use Rattle.pm_io.specs.declared.inputs.Inputs as Inputs
 use Rattle.pm_base.specs.Faults.{Rose}
 use Rattle.pm_script.specs.Named.{script_in}
 use Rattle.pm_script.specs.Script.{Script, Stop, script_limit}

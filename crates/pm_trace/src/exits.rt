@@ -2,7 +2,7 @@
 
 ghost use Rattle.pm_trace.specs.Exits.{ExitsSay};
 
-use pm_base::Sink;
+use pm_io::Sink;
 
 /// What each exit of a command says of what it had to write and of the sink. Done comes only where all
 /// was written, and no write failed; WriteFault only where one did; Usage, ReadFault and Memory only

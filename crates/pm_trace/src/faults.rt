@@ -1,6 +1,8 @@
 //! The line that a command ends with where it fails, and the exit.
 
-ghost use Rattle.std.specs.Prelude.{◌≡◌};
+ghost use Rattle.std.specs.Prelude.{◌≡◌, ◌≤◌, ◌∷◌, [], codes, length};
+ghost use Rattle.pm_trace.specs.declared.line.Word.TheVariants as word;
+ghost use Rattle.pm_trace.specs.Line.{line_text};
 ghost use Rattle.pm_trace.specs.Faults.{fault_text, text_cause, topology_text_cause, topology_cause, line_cause, exit_by};
 
 use crate::line::{TextLine, Word, name, write_line};
@@ -43,34 +45,12 @@ pub fn write_fault(fault: Fault, line: &mut TextLine)
     ensures { line.new.items ≡ fault_text fault }
 {
     match fault {
-        Fault::Usage => write_line(line, name(b"fault"), &[name(b"usage")]),
-        Fault::Object(fault) => write_line(
-            line,
-            name(b"fault"),
-            &[
-                name(b"object"),
-                Word::Number(fault.cause.number()),
-                Word::Number(fault.offset),
-            ],
-        ),
-        Fault::Text(fault) => write_line(
-            line,
-            name(b"fault"),
-            &[
-                name(b"text"),
-                Word::Number(fault.line),
-                Word::Number(text_cause(fault.cause)),
-            ],
-        ),
-        Fault::TopologyText(fault) => write_line(
-            line,
-            name(b"fault"),
-            &[
-                name(b"text"),
-                Word::Number(fault.line),
-                Word::Number(topology_text_cause(fault.cause)),
-            ],
-        ),
+        Fault::Usage => write_named(b"usage", line),
+        Fault::Object(fault) => write_placed(b"object", fault.cause.number(), fault.offset, line),
+        Fault::Text(fault) => write_placed(b"text", fault.line, text_cause(fault.cause), line),
+        Fault::TopologyText(fault) => {
+            write_placed(b"text", fault.line, topology_text_cause(fault.cause), line);
+        }
         Fault::Topology(fault) => write_line(
             line,
             name(b"fault"),
@@ -80,21 +60,34 @@ pub fn write_fault(fault: Fault, line: &mut TextLine)
                 Word::Address(fault.place as u64),
             ],
         ),
-        Fault::Line(n, cause) => write_line(
-            line,
-            name(b"fault"),
-            &[
-                name(b"line"),
-                Word::Number(n),
-                Word::Number(line_cause(cause)),
-            ],
-        ),
-        Fault::Read => write_line(line, name(b"fault"), &[name(b"read")]),
-        Fault::Memory => write_line(line, name(b"fault"), &[name(b"memory")]),
-        Fault::Size => write_line(line, name(b"fault"), &[name(b"size")]),
-        Fault::Node => write_line(line, name(b"fault"), &[name(b"node")]),
-        Fault::Number => write_line(line, name(b"fault"), &[name(b"number")]),
+        Fault::Line(n, cause) => write_placed(b"line", n, line_cause(cause), line),
+        Fault::Read => write_named(b"read", line),
+        Fault::Memory => write_named(b"memory", line),
+        Fault::Size => write_named(b"size", line),
+        Fault::Node => write_named(b"node", line),
+        Fault::Number => write_named(b"number", line),
     }
+}
+
+/// Leaves in `line` the line of a fault that has a name alone.
+fn write_named(kind: &'static [u8], line: &mut TextLine)
+    requires short { length kind.now ≤ 8 }
+    ensures { line.new.items ≡ line_text (word.Name (codes "fault") ∷ word.Name kind.now ∷ []) }
+{
+    write_line(line, name(b"fault"), &[name(kind)]);
+}
+
+/// Leaves in `line` the line of a fault that has a name and two numbers.
+fn write_placed(kind: &'static [u8], first: u32, second: u32, line: &mut TextLine)
+    requires short { length kind.now ≤ 8 }
+    ensures { line.new.items
+        ≡ line_text (word.Name (codes "fault") ∷ word.Name kind.now ∷ word.Number first ∷ word.Number second ∷ []) }
+{
+    write_line(
+        line,
+        name(b"fault"),
+        &[name(kind), Word::Number(first), Word::Number(second)],
+    );
 }
 
 /// The number of a cause for which a text has no reading.

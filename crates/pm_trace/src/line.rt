@@ -1,9 +1,9 @@
 //! A line of output, made of words.
 
-ghost use Rattle.std.specs.Prelude.{◌≡◌, ◌+◌, ◌<◌, ◌≤◌, ◌++◌, ◌∷◌, length, decimal};
+ghost use Rattle.std.specs.Prelude.{◌≡◌, ◌+◌, ◌/◌, ◌%◌, ◌<◌, ◌≤◌, ◌++◌, ◌∷◌, [], length, decimal};
 ghost use Rattle.arrayvec.specs.ArrayVec.{array_vec_len};
 ghost use Rattle.pm_trace.specs.declared.line.Word.TheVariants as word;
-ghost use Rattle.pm_trace.specs.Line.{word_text, line_text, width, widths};
+ghost use Rattle.pm_trace.specs.Line.{word_text, line_text, numbers, width, widths};
 
 use arrayvec::ArrayVec;
 use itoa::Buffer;
@@ -57,10 +57,27 @@ pub fn write_line(line: &mut TextLine, first: Word, rest: &[Word])
     line.clear();
     push_word(line, &first);
     for word in rest {
-        push_text(line, b" ");
+        line.push(b' ');
         push_word(line, word);
     }
-    push_text(line, b"\n");
+    line.push(b'\n');
+}
+
+/// Leaves a line of a number, a name and more numbers, with one space between them and a line feed at the end.
+pub fn write_numbers(line: &mut TextLine, n: u32, kind: &'static [u8], rest: &[u32])
+    requires short { length kind.now ≤ 8 }
+    requires few { length rest.now ≤ 9 }
+    ensures { line.new.items ≡ line_text (word.Number n ∷ word.Name kind.now ∷ numbers rest.now) }
+{
+    line.clear();
+    push_number(line, n);
+    line.push(b' ');
+    push_text(line, kind);
+    for number in rest {
+        line.push(b' ');
+        push_number(line, *number);
+    }
+    line.push(b'\n');
 }
 
 /// Puts a word at the end of a line.
@@ -71,30 +88,64 @@ fn push_word(line: &mut TextLine, word: &Word)
 {
     match word {
         Word::Number(n) => push_number(line, *n),
-        _ => push_text_of(line, word),
+        _ => push_other(line, word),
     }
 }
 
-/// Puts a number at the end of a line: a short one, as most are, digit by digit.
-#[tactic(auto, using(std::proofs::lemmas::Fmt::decimal_digit))]
+/// Puts a word that is no number of 32 bits at the end of a line.
+fn push_other(line: &mut TextLine, word: &Word)
+    requires room { array_vec_len line.old + width word.now ≤ 128 }
+    ensures items { line.new.items ≡ line.old.items ++ word_text word.now }
+    ensures len { array_vec_len line.new ≤ array_vec_len line.old + width word.now }
+{
+    match word {
+        Word::Name(text) => push_text(line, text.bytes()),
+        _ => {
+            let mut buffer = Buffer::new();
+            push_text(line, text_of(word, &mut buffer));
+        }
+    }
+}
+
+/// Puts a number at the end of a line.
 fn push_number(line: &mut TextLine, n: u32)
     requires room { array_vec_len line.old + 10 ≤ 128 }
     ensures items { line.new.items ≡ line.old.items ++ decimal n }
     ensures len { array_vec_len line.new ≤ array_vec_len line.old + 10 }
 {
+    if n < 10 {
+        line.push(digit(n));
+    } else {
+        push_digits(line, n);
+    }
+}
+
+/// Puts the digits of a number at the end of a line, two at a time.
+#[tactic(auto, using(std::proofs::lemmas::Fmt::decimal_digit))]
+fn push_digits(line: &mut TextLine, n: u32)
+    requires room { array_vec_len line.old + length (decimal n) ≤ 128 }
+    ensures items { line.new.items ≡ line.old.items ++ decimal n }
+    ensures len { array_vec_len line.new ≡ array_vec_len line.old + length (decimal n) }
+{
     match n {
         0..=9 => line.push(digit(n)),
-        10..=99 => {
-            line.push(digit(n / 10));
-            line.push(digit(n % 10));
+        10..=99 => push_pair(line, n),
+        _ => {
+            push_digits(line, n / 100);
+            push_pair(line, n % 100);
         }
-        100..=999 => {
-            line.push(digit(n / 100));
-            line.push(digit(n / 10 % 10));
-            line.push(digit(n % 10));
-        }
-        _ => push_text_of(line, &Word::Number(n)),
     }
+}
+
+/// Puts two digits at the end of a line.
+fn push_pair(line: &mut TextLine, n: u32)
+    requires small { n < 100 }
+    requires room { array_vec_len line.old + 2 ≤ 128 }
+    ensures items { line.new.items ≡ line.old.items ++ (48 + n / 10) ∷ (48 + n % 10) ∷ [] }
+    ensures len { array_vec_len line.new ≡ array_vec_len line.old + 2 }
+{
+    line.push(digit(n / 10));
+    line.push(digit(n % 10));
 }
 
 /// The byte of a digit.
@@ -103,16 +154,6 @@ fn digit(n: u32) -> u8
     ensures { result ≡ 48 + n }
 {
     b'0' + n as u8
-}
-
-/// Puts the text of a word at the end of a line.
-fn push_text_of(line: &mut TextLine, word: &Word)
-    requires room { array_vec_len line.old + width word.now ≤ 128 }
-    ensures items { line.new.items ≡ line.old.items ++ word_text word.now }
-    ensures len { array_vec_len line.new ≤ array_vec_len line.old + width word.now }
-{
-    let mut buffer = Buffer::new();
-    push_text(line, text_of(word, &mut buffer));
 }
 
 /// Puts bytes at the end of a line.

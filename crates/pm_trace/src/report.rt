@@ -4,7 +4,8 @@ ghost use Rattle.pm_trace.specs.Report.{Reports, refusal};
 
 use crate::faults::{Fault, exit, write_fault};
 use crate::line::TextLine;
-use pm_base::{Exit, Sink, write_all};
+use pm_base::Exit;
+use pm_io::{Sink, write_all};
 
 /// Writes the line of a fault that stops a command, and answers the exit. The line is tried once:
 /// where the sink fails on it, the exit stays.

@@ -1,16 +1,16 @@
--- The digits of a number, one after another.
-use Rattle.std.proofs.Common.{arith}
-use Rattle.pm_trace.proofs.DigitsLemmas.{puts_two, puts_three}
+use Rattle.std.proofs.Common.{arith, refl}
+use Rattle.std.proofs.lemmas.Fmt.{decimal_digit, length-decimal-le}
 use Rattle.pm_trace.proofs.line.push_number.Goals as goal
 
-pub returns-in-10-to-99-clause-items : goal.returns-in-10-to-99-clause-items
-returns-in-10-to-99-clause-items c =
-    puts_two c.args.n _ _ _ _ _ (omega (arith, c.in-10-to-99)) (omega (arith, c.in-10-to-99))
-    c.digit-in-10-to-99.ensures c.digit-in-10-to-99-2.ensures
-    c.push-in-10-to-99.ensures.items c.push-in-10-to-99-2.ensures.items
+pub push_digits-requires : goal.push_digits-requires
+push_digits-requires c =
+    let long = length-decimal-le 10 c.args.n (omega arith) (omega (arith, c.ranges.n.fits)) (omega (arith, c.ranges.n.fits)) in
+    record { room = omega (arith, c.requires.room, long) }
 
-pub returns-in-100-to-999-clause-items : goal.returns-in-100-to-999-clause-items
-returns-in-100-to-999-clause-items c =
-    puts_three c.args.n _ _ _ _ _ _ _ (omega (arith, c.in-100-to-999)) (omega (arith, c.in-100-to-999))
-    c.digit-in-100-to-999.ensures c.digit-in-100-to-999-2.ensures c.digit-in-100-to-999-3.ensures
-    c.push-in-100-to-999.ensures.items c.push-in-100-to-999-2.ensures.items c.push-in-100-to-999-3.ensures.items
+pub returns-then-n-lt10-clause-items : goal.returns-then-n-lt10-clause-items
+returns-then-n-lt10-clause-items c = rw (c.push.ensures.items, c.digit.ensures, decimal_digit c.args.n (omega (arith, c.if-n-lt10.true))) refl
+
+pub returns-else-n-lt10-clause-len : goal.returns-else-n-lt10-clause-len
+returns-else-n-lt10-clause-len c =
+    let long = length-decimal-le 10 c.args.n (omega arith) (omega (arith, c.ranges.n.fits)) (omega (arith, c.ranges.n.fits)) in
+    omega (arith, c.push_digits.ensures.len, long)

@@ -15,27 +15,27 @@ loop-word-init c =
     let none = ap length c.clear.ensures in
     record { written = search rules; room = omega (arith, none, c.push_word.ensures.len, c.requires.room) }
 
-pub push_text-requires : goal.push_text-requires
-push_text-requires c = record { room = omega (arith, c.loop-word.invariant.room) }
+pub push-requires : goal.push-requires
+push-requires c = (omega arith, omega (arith, c.loop-word.invariant.room))
 
 pub push_word-requires-in-loop-word : goal.push_word-requires-in-loop-word
 push_word-requires-in-loop-word c =
     let next = left c.args.rest.now c.loop-word.word-index c.word-item.result c.word-item.is c.loop-word-test.true in
-    record { room = omega (arith, next, c.loop-word.invariant.room, c.push_text.ensures.len) }
+    record { room = omega (arith, next, c.loop-word.invariant.room, c.push.ensures.len) }
 
 pub loop-word-preserved : goal.loop-word-preserved
 loop-word-preserved c =
     let next = left c.args.rest.now c.loop-word.word-index c.word-item.result c.word-item.is c.loop-word-test.true in
     record {
-      written = word_more c.args.rest.now c.loop-word.word-index c.word-item.result c.push_word.new.line.items c.loop-word.line.items c.push_text.new.line.items
-          c.push_word-in-loop-word.new.line.items c.word-item.is c.loop-word-test.true c.loop-word.invariant.written c.push_text.ensures.items
+      written = word_more c.args.rest.now c.loop-word.word-index c.word-item.result c.push_word.new.line.items c.loop-word.line.items c.push.new.self.items
+          c.push_word-in-loop-word.new.line.items c.word-item.is c.loop-word-test.true c.loop-word.invariant.written c.push.ensures.items
           c.push_word-in-loop-word.ensures.items;
-      room = omega (arith, next, c.loop-word.invariant.room, c.push_text.ensures.len, c.push_word-in-loop-word.ensures.len);
+      room = omega (arith, next, c.loop-word.invariant.room, c.push.ensures.len, c.push_word-in-loop-word.ensures.len);
     }
 
-pub push_text-requires-2 : goal.push_text-requires-2
-push_text-requires-2 c = record { room = omega (arith, c.loop-word.invariant.room) }
+pub push-requires-2 : goal.push-requires-2
+push-requires-2 c = (omega arith, omega (arith, c.loop-word.invariant.room))
 
 pub returns : goal.returns
 returns c =
-    line_is_made c.args.first c.args.rest.now c.loop-word.word-index _ _ _ _ c.clear.ensures c.push_word.ensures.items c.loop-word.invariant.written c.loop-word-test.false c.push_text-2.ensures.items
+    line_is_made c.args.first c.args.rest.now c.loop-word.word-index _ _ _ _ c.clear.ensures c.push_word.ensures.items c.loop-word.invariant.written c.loop-word-test.false c.push-2.ensures.items
