@@ -59,7 +59,8 @@ pub fn lines_stay_apart()
         ≡ closing_line_of c (driven c [] (quiet m events)) unit }
     ensures steps { (c : Setup) (events : List Event) (cut : Option ℕ) → AreObjects (fixed_of c)
         → IsWellFormed c.topology → StepsStayApart c [] events cut }
-    ensures run { (c : Setup) (events : List Event) → AreObjects (fixed_of c) → IsWellFormed c.topology → StaysApart c [] events }
+    ensures run { (c : Setup) (events : List Event) → AreObjects (fixed_of c) → IsWellFormed c.topology
+        → StaysApart c [] events }
 {
     reach_keeps_apart();
     reach_is_closed();

@@ -27,7 +27,7 @@ use Rattle.pm_state.specs.Nodes.{master_mode, master_mode_at}
 use Rattle.pm_state.specs.Sound.{IsSound}
 use Rattle.pm_object.specs.declared.attached.Attached.{Attached}
 use Rattle.pm_state.proofs.ObjectsLaw.{of_run, place_same}
-use Rattle.pm_state.specs.State.{Fixed, State, in_force, object_at}
+use Rattle.pm_state.specs.State.{Fixed, State, in_force}
 use Rattle.pm_state.specs.Values.{master_place, value}
 use Rattle.pm_core.specs.declared.replies.Answer.{Answer}
 use Rattle.pm_core.specs.declared.replies.Answer.TheVariants.{Silent, Drop, Reply, Ack}

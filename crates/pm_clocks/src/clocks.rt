@@ -62,8 +62,10 @@ impl Clocks {
     /// looked at.
     pub fn answer(&mut self, book: &Book, event: &Event, out: &mut Outbox)
         requires stepped { HasStepped event.now out.old.moved.items self.old.tree book.now }
-        ensures clocks { self.new ≡ record self.old { tree = tree_after event.now out.old.answer book.now self.old.tree } }
-        ensures out { out.new ≡ record out.old { answer = clock_answer event.now out.old.answer book.now self.old.tree } }
+        ensures clocks { self.new
+            ≡ record self.old { tree = tree_after event.now out.old.answer book.now self.old.tree } }
+        ensures out { out.new
+            ≡ record out.old { answer = clock_answer event.now out.old.answer book.now self.old.tree } }
         ensures stands { StandsOver book.now self.new.tree }
     {
         units_stand_in_order();
@@ -83,7 +85,8 @@ impl Clocks {
     /// Serves the call on a clock that an event makes, if the book replied to it. Answers what is told in place of the
     /// book's answer.
     fn serve(&mut self, scene: &BookScene, event: &Event, answer: Answer) -> Answer
-        ensures clocks { self.new ≡ record self.old { tree = served_by (view_of scene.now.book.now) (made event.now answer) self.old.tree } }
+        ensures clocks { self.new
+            ≡ record self.old { tree = served_by (view_of scene.now.book.now) (made event.now answer) self.old.tree } }
         ensures answer { result ≡ clock_answer event.now answer scene.now.book.now self.old.tree }
     {
         match made(event, answer) {

@@ -15,7 +15,8 @@ ghost use Rattle.pm_control_laws.specs.Session.{EndAs, IsCore, IsSession};
 /// these events, with nothing attached, over a device with these answers: with the same book, record, commands, answer, notices
 /// and lines.
 pub fn controllers_are_driven()
-    ensures { (object : Object) (topology : Topology) (events : List Event) (answers : List (List Bool)) (ends : List Controls)
+    ensures { (object : Object) (topology : Topology) (events : List Event) (answers : List (List Bool))
+        (ends : List Controls)
         → Each IsCore events → IsSession object topology events answers ends
         → EndAs ends (given_in (driven (setup object [] topology) answers events)) }
 {}

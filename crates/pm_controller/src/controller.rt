@@ -228,7 +228,8 @@ impl Controller {
     pub fn line(&self, n: u32, k: usize, line: &mut TextLine)
         requires { k < length (core_lines n self.now.outbox.done.items (notices_in self.now.outbox)
             self.now.outbox.answer) }
-        ensures { slice_get (core_lines n self.now.outbox.done.items (notices_in self.now.outbox) self.now.outbox.answer) k
+        ensures { slice_get (core_lines n self.now.outbox.done.items
+            (notices_in self.now.outbox) self.now.outbox.answer) k
             ≡ Some line.new.items }
     {
         entry(n, &self.outbox, &self.outbox.answer, k, line);
@@ -265,7 +266,8 @@ fn find(left: &mut Carrying, kept: &mut Kept, book: &Book, out: &mut Outbox) -> 
       left = left.new;
       waits = result;
     }) result answers
-        ≡ part_with book.now (outputs_in out.old) out.old.done.items (plan book.now.fixed.topology (λ u. value u book.now)
+        ≡ part_with book.now (outputs_in out.old) out.old.done.items (plan book.now.fixed.topology
+        (λ u. value u book.now)
         (turns_left book.now.fixed.topology out.old.pulse left.old) kept.old answers) }
     ensures rest { out.new ≡ record out.old { answer = out.new.answer } }
 {
@@ -296,9 +298,11 @@ fn answer(
     requires asking { IsAsking book.now kept.old out.old.pulse out.old.done.items left.old command }
     ensures way { IsUnderWay book.now kept.new out.new.pulse out.new.done.items left.new }
     ensures comes { (answers : List Bool) → part_with book.now (outputs_in out.new) out.new.done.items
-        (plan book.now.fixed.topology (λ u. value u book.now) (turns_left book.now.fixed.topology out.new.pulse left.new)
+        (plan book.now.fixed.topology
+        (λ u. value u book.now) (turns_left book.now.fixed.topology out.new.pulse left.new)
         kept.new answers)
-        ≡ part_with book.now (outputs_in out.old) out.old.done.items (plan book.now.fixed.topology (λ u. value u book.now)
+        ≡ part_with book.now (outputs_in out.old) out.old.done.items (plan book.now.fixed.topology
+        (λ u. value u book.now)
         (turns_left book.now.fixed.topology out.old.pulse left.old) kept.old (ok ∷ answers)) }
     ensures done { out.new.done.items ≡ out.old.done.items ++ done_as command kept.old ok ∷ [] }
     ensures rest { KeepsRest out.old out.new }

@@ -80,7 +80,8 @@ pub fn reach_keeps_apart()
         → IsWellFormed c.topology
         → Beside c.object c.topology m es fs → IsBookOf c a → IsBookOf c b → Agree (border_of (fixed_of c) m) a b
         → Agree (border_of (fixed_of c) m) (book_after es a) (book_after fs b) }
-    ensures line { (c : Setup) (m : NodeId) (event : Event) (a b : Stand) → AreObjects (fixed_of c) → IsWellFormed c.topology
+    ensures line { (c : Setup) (m : NodeId) (event : Event) (a b : Stand) → AreObjects (fixed_of c)
+        → IsWellFormed c.topology
         → IsBookOf c a.book → IsBookOf c b.book → Agree (border_of (fixed_of c) m) a.book b.book
         → AreQuietBoxes c m a.boxes b.boxes
         → IsLineBeside c m a.book b.book (line_of c event a) (line_of c (quiet_event m event) b) }

@@ -44,7 +44,8 @@ impl Runner {
         requires formed { IsWellFormed topology }
         ensures book { IfOk result (λ runner. runner.book ≡ load_of object attached topology) }
         ensures boxes { IfOk result (λ runner. runner.boxes ≡ all_empty (length object.masters)) }
-        ensures stand { IfOk result (λ runner. stand_at runner.book runner.boxes ≡ loaded (setup object attached topology)) }
+        ensures stand { IfOk result
+            (λ runner. stand_at runner.book runner.boxes ≡ loaded (setup object attached topology)) }
         ensures out { IfOk result (λ runner. Holds (outputs_at_load runner.book) runner.outbox) }
     {
         let masters = object.masters.len();
@@ -79,6 +80,7 @@ impl Runner {
 
     /// Takes the next core event of a line off, if there is one; one that is made is left in `made`. At the end of a line that
     /// serves all boxes are empty.
+    #[inline]
     pub fn next<'e>(&mut self, cores: &mut CoreEvents<'e>, made: &mut Event) -> Option<Source<'e>>
         ensures book { self.new.book ≡ self.old.book }
         ensures outbox { self.new.outbox ≡ self.old.outbox }
@@ -86,7 +88,8 @@ impl Runner {
             ((events_left self.old.book.fixed.object self.old.book.fixed.topology self.old.boxes cores.old ≡ [])
             × (events_left self.old.book.fixed.object self.old.book.fixed.topology self.new.boxes cores.new ≡ []))
             (λ source. events_left self.old.book.fixed.object self.old.book.fixed.topology self.old.boxes cores.old
-            ≡ core_event source made.new ∷ events_left self.old.book.fixed.object self.old.book.fixed.topology self.new.boxes cores.new) }
+            ≡ core_event source made.new
+            ∷ events_left self.old.book.fixed.object self.old.book.fixed.topology self.new.boxes cores.new) }
         ensures boxes { boxes_left self.new.boxes cores.new ≡ boxes_left self.old.boxes cores.old }
         ensures end { result ≡ None → self.new.boxes ≡ boxes_left self.old.boxes cores.old }
     {
