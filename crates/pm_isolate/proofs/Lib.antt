@@ -7,5 +7,6 @@ pub mod MarksLemmas
 pub mod MovesLemmas
 pub mod PlacesLemmas
 pub mod ReportLemmas
-pub mod WithinLaw
 pub mod StandLemmas
+pub mod TurnsLaw
+pub mod WithinLaw

@@ -1,4 +1,4 @@
--- After a line it is enough to look at the units that moved and at the processors.
+-- After a line it is enough to look at the units that moved, and at the processors where a mode may have changed.
 use Rattle.std.proofs.Common.{◌≡◌, ℕ, ◌+◌, ◌==◌, ◌||◌, ◌++◌, Bool, true, false, not, cond, List, [], ◌∷◌, Option, Some, None, refl, sym, ◌∙◌, ap, subst, arith}
 use Rattle.std.specs.Prelude.{is_some, slice_get}
 use Rattle.std.specs.Option.{option_map}
@@ -15,6 +15,8 @@ use Rattle.pm_topology.specs.declared.places.Kind.{Kind}
 use Rattle.pm_topology.specs.declared.places.Kind.TheVariants.{Proc, Slave, Power, Unknown}
 use Rattle.pm_topology.specs.declared.topology.Topology.{Topology}
 use Rattle.pm_topology.specs.Places.{kind_of, proc_of}
+use Rattle.pm_procs.specs.Modes.{mode_number}
+use Rattle.pm_procs.specs.Procs.{mode_at}
 use Rattle.pm_topology.specs.UnitMap.{TablePlaceLaws, all_at, mapped, remade, units_in}
 use Rattle.pm_topology.specs.Units.{UnitLaws, rises, units_of}
 use Rattle.pm_state.specs.State.{CoreHalf, Fixed, State}
@@ -28,20 +30,23 @@ use Rattle.pm_laws.specs.Quiet.{quiet_event}
 use Rattle.pm_isolate.specs.Sides.{AreMarked, Sides}
 use Rattle.pm_isolate.specs.Within.{begun, line_after, looked, noted, noted_in, stepped}
 use Rattle.pm_isolate.proofs.HistoryLemmas.{clash, not_false, one}
-use Rattle.pm_isolate.proofs.MovesLemmas.{unmoved}
+use Rattle.pm_isolate.proofs.MovesLemmas.{unmoved, unturned}
 use Rattle.pm_isolate.proofs.PlacesLemmas.{neither_place, procs_there, renewed_all}
+use Rattle.pm_isolate.proofs.TurnsLaw.{KeepsProcs}
 
--- ---- the value of a unit that is no processor is what is shown of it
+-- ---- a unit shows what it showed where its value stays, and a processor where all processors do
 
-shown_by : (kind : Kind) (fixed : Fixed) (core : CoreHalf) → is_some (proc_of kind) ≡ false → point_at kind fixed core ≡ value_at kind fixed core
-shown_by (Proc p) fixed core other = clash other
-shown_by (Slave s) fixed core other = refl
-shown_by (Power w) fixed core other = refl
-shown_by Unknown fixed core other = refl
+point_kept : (kind : Kind) (fixed : Fixed) (old new : CoreHalf) → value_at kind fixed new ≡ value_at kind fixed old → (is_some (proc_of kind) ≡ true → new.procs ≡ old.procs) → point_at kind fixed new ≡ point_at kind fixed old
+point_kept (Proc p) fixed old new same procs = ap (λ ps. mode_number (mode_at p ps)) (procs refl)
+point_kept (Slave s) fixed old new same procs = same
+point_kept (Power w) fixed old new same procs = same
+point_kept Unknown fixed old new same procs = same
 
-shows_value : (u : Unit) (book : State) → is_proc book.fixed.topology u ≡ false → shown u book ≡ value u book
-shows_value (Node node) book other = shown_by (kind_of book.fixed.topology node) book.fixed book.now.core other
-shows_value (Line line) book other = refl
+shown_kept : (u : Unit) (old new : State) → new.fixed ≡ old.fixed → value u new ≡ value u old → (is_proc old.fixed.topology u ≡ true → KeepsProcs old new) → shown u new ≡ shown u old
+shown_kept (Node node) old new fixed same procs =
+    ap (λ (f : Fixed). point_at (kind_of f.topology node) f new.now.core) fixed
+    ∙ point_kept (kind_of old.fixed.topology node) old.fixed old.now.core new.now.core (sym (ap (λ (f : Fixed). value_at (kind_of f.topology node) f new.now.core) fixed) ∙ same) procs
+shown_kept (Line line) old new fixed same procs = same
 
 -- ---- what is noted once more
 
@@ -85,50 +90,52 @@ marked_first book = record { fixed = refl; units = units_all (units book); shows
 -- ---- a line
 
 module _ (laws : TablePlaceLaws Bool) (a b a' b' : State) (marks : Marks) (m : Logged) (procs : List ℕ) where
+  -- the processors stay in both books where it isn't logged that a mode may have changed
+  abbrev KeepBoth : Type 0
+  KeepBoth = m.modes ≡ false → KeepsProcs a a' × KeepsProcs b b'
+
+  -- the processors are looked at where a mode may have changed
+  abbrev turned : List ℕ
+  turned = cond m.modes procs []
+
   -- the unit at a place that isn't looked at shows the same in both books, if it wasn't found to differ
-  shows_still : procs ≡ proc_places a.fixed.topology 0 (units a) → AreMarked a b marks → a'.fixed ≡ a.fixed → b'.fixed ≡ b.fixed
-      → (k : ℕ) (e : Unit × Bool) → slice_get marks k ≡ Some e → value e.0 a' ≡ value e.0 a → value e.0 b' ≡ value e.0 b → has_place procs k ≡ false
+  shows_still : procs ≡ proc_places a.fixed.topology 0 (units a) → AreMarked a b marks → a'.fixed ≡ a.fixed → b'.fixed ≡ b.fixed → KeepBoth
+      → (k : ℕ) (e : Unit × Bool) → slice_get marks k ≡ Some e → value e.0 a' ≡ value e.0 a → value e.0 b' ≡ value e.0 b → has_place turned k ≡ false
       → e.1 ≡ false → shown e.0 a' ≡ shown e.0 b'
-  shows_still at_procs marked fixed fixed' k e at first second none not_yet =
+  shows_still at_procs marked fixed fixed' keep k e at first second none not_yet =
       let there : slice_get (units a) k ≡ Some e.0 =
       ap (λ (us : List Unit). slice_get us k) (sym marked.units) ∙ slice_get-map (λ (x : Unit × Bool). x.0) marks k ∙ ap (option_map (λ (x : Unit × Bool). x.0)) at
       in
-      let other : is_proc a.fixed.topology e.0 ≡ false = by (is_proc a.fixed.topology e.0) refl
-      (λ is. subst (λ (j : ℕ). has_place (proc_places a.fixed.topology 0 (units a)) j ≡ true) plain (procs_there a.fixed.topology 0 (units a) k e.0 there is))
-      (ap (λ (ps : List ℕ). has_place ps k) (sym at_procs) ∙ none)
+      let both : is_proc a.fixed.topology e.0 ≡ true → KeepsProcs a a' × KeepsProcs b b' =
+      λ is. by m.modes refl (ap (λ (ps : List ℕ). has_place ps k) at_procs ∙ subst (λ (j : ℕ). has_place (proc_places a.fixed.topology 0 (units a)) j ≡ true) plain (procs_there a.fixed.topology 0 (units a) k e.0 there is)) none
       in
-      let otherwise : (f : Fixed) → f ≡ a.fixed → is_proc f.topology e.0 ≡ false = λ f is. ap (λ (g : Fixed). is_proc g.topology e.0) is ∙ other in
-      shows_value e.0 a' (otherwise a'.fixed fixed)
-      ∙ first
-      ∙ sym (shows_value e.0 a other)
+      shown_kept e.0 a a' fixed first (λ is. (both is).0)
       ∙ marked.shows k e at not_yet
-      ∙ shows_value e.0 b (otherwise b.fixed marked.fixed)
-      ∙ sym second
-      ∙ sym (shows_value e.0 b' (otherwise b'.fixed (fixed' ∙ marked.fixed)))
+      ∙ sym (shown_kept e.0 b b' fixed' second (λ is. (both (sym (ap (λ (f : Fixed). is_proc f.topology e.0) marked.fixed) ∙ is)).1))
     where
       plain : 0 + k ≡ k
       plain = omega arith
 
-      by : (d : Bool) → is_proc a.fixed.topology e.0 ≡ d → (is_proc a.fixed.topology e.0 ≡ true → has_place (proc_places a.fixed.topology 0 (units a)) k ≡ true) → has_place (proc_places a.fixed.topology 0 (units a)) k ≡ false → is_proc a.fixed.topology e.0 ≡ false
-      by true is there out = clash (sym (there is) ∙ out)
-      by false is there out = is
+      by : (modes : Bool) → m.modes ≡ modes → has_place procs k ≡ true → has_place (cond modes procs []) k ≡ false → KeepsProcs a a' × KeepsProcs b b'
+      by true is there out = clash (sym there ∙ out)
+      by false is there out = keep is
 
-  looked_all : procs ≡ proc_places a.fixed.topology 0 (units a) → AreMarked a b marks → a'.fixed ≡ a.fixed → b'.fixed ≡ b.fixed
+  looked_all : procs ≡ proc_places a.fixed.topology 0 (units a) → AreMarked a b marks → a'.fixed ≡ a.fixed → b'.fixed ≡ b.fixed → KeepBoth
       → ((k : ℕ) (e : Unit × Bool) → slice_get marks k ≡ Some e → is_logged m k ≡ false → (value e.0 a' ≡ value e.0 a) × (value e.0 b' ≡ value e.0 b))
       → looked a' b' m procs marks ≡ noted a' b' marks
-  looked_all at_procs marked fixed fixed' kept = by m.all refl
+  looked_all at_procs marked fixed fixed' keep kept = by m.all refl
     where
-      stays : m.all ≡ false → (k : ℕ) (e : Unit × Bool) → slice_get marks k ≡ Some e → has_place (m.places.items ++ procs) k ≡ false → noted_in a' b' e.0 e.1 ≡ e.1
+      stays : m.all ≡ false → (k : ℕ) (e : Unit × Bool) → slice_get marks k ≡ Some e → has_place (m.places.items ++ turned) k ≡ false → noted_in a' b' e.0 e.1 ≡ e.1
       stays some k e at none =
-          let parts = neither_place m.places.items procs k none in
+          let parts = neither_place m.places.items turned k none in
           let values = kept k e at (none_of m.all (has_place m.places.items k) some parts.0) in
-          not_noted a' b' e.0 e.1 (shows_still at_procs marked fixed fixed' k e at values.0 values.1 parts.1)
+          not_noted a' b' e.0 e.1 (shows_still at_procs marked fixed fixed' keep k e at values.0 values.1 parts.1)
 
-      by : (all : Bool) → m.all ≡ all → cond all (noted a' b' marks) (renewed_along (noted_in a' b') procs (renewed_along (noted_in a' b') m.places.items marks)) ≡ noted a' b' marks
+      by : (all : Bool) → m.all ≡ all → cond all (noted a' b' marks) (renewed_along (noted_in a' b') turned (renewed_along (noted_in a' b') m.places.items marks)) ≡ noted a' b' marks
       by true is = refl
       by false is =
-          sym (fold-append (renewed_at (noted_in a' b')) marks m.places.items procs)
-          ∙ renewed_all laws (noted_in a' b') (noted_twice a' b') (m.places.items ++ procs) marks (stays is)
+          sym (fold-append (renewed_at (noted_in a' b')) marks m.places.items turned)
+          ∙ renewed_all laws (noted_in a' b') (noted_twice a' b') (m.places.items ++ turned) marks (stays is)
 
 -- ---- a script line in each book
 
@@ -150,13 +157,19 @@ module _ (event other : Event) (a b : Stand) (marks : Marks) (marked : AreMarked
   pub line_looked : UnitLaws → TablePlaceLaws Bool → (m : Logged) (procs : List ℕ) → procs ≡ proc_places a.book.fixed.topology 0 (units a.book)
       → looked (line_after event a).book (line_after other b).book (line_moves marks other b (line_moves marks event a (cleared m))) procs marks ≡ noted (line_after event a).book (line_after other b).book marks
   line_looked laws places m procs at_procs =
-      looked_all places a.book b.book (line_after event a).book (line_after other b).book marks (line_moves marks other b (line_moves marks event a (cleared m))) procs at_procs marked fixed_loud fixed_quiet kept
+      looked_all places a.book b.book (line_after event a).book (line_after other b).book marks (line_moves marks other b (line_moves marks event a (cleared m))) procs at_procs marked fixed_loud fixed_quiet keep kept
     where
       rising : rises (units_in marks) ≡ true
       rising = ap rises marked.units ∙ (laws.are a.book.fixed.topology).rising
 
       in_quiet : units_in marks ≡ units b.book
       in_quiet = marked.units ∙ ap (λ (f : Fixed). units_of f.topology) (sym marked.fixed)
+
+      keep : (line_moves marks other b (line_moves marks event a (cleared m))).modes ≡ false → KeepsProcs a.book (line_after event a).book × KeepsProcs b.book (line_after other b).book
+      keep none =
+          let second = unturned marks (split (setup_of b.book) other b).events b.book (line_moves marks event a (cleared m)) none in
+          let first = unturned marks (split (setup_of a.book) event a).events a.book (cleared m) second.0 in
+          (first.1, second.1)
 
       kept : (k : ℕ) (e : Unit × Bool) → slice_get marks k ≡ Some e → is_logged (line_moves marks other b (line_moves marks event a (cleared m))) k ≡ false
           → (value e.0 (line_after event a).book ≡ value e.0 a.book) × (value e.0 (line_after other b).book ≡ value e.0 b.book)

@@ -1,7 +1,8 @@
--- A unit at a place that isn't logged keeps its value.
+-- A unit at a place that isn't logged keeps its value, and the processors stay where it isn't logged that a mode may have changed.
 use Rattle.std.proofs.Common.{◌≡◌, ℕ, ◌==◌, ◌||◌, ◌++◌, Bool, true, false, not, cond, nat_lt, List, [], ◌∷◌, Option, Some, None, length, zero, suc, refl, sym, ◌∙◌, ap, subst}
 use Rattle.std.specs.Prelude.{filter, slice_get}
 use Rattle.pm_base.specs.declared.events.Event.{Event}
+use Rattle.pm_base.specs.declared.events.Event.TheVariants.{Pass}
 use Rattle.pm_base.specs.declared.names.Unit.{Unit}
 use Rattle.pm_base.proofs.Booleans.{equal, later_passes, neither}
 use Rattle.pm_topology.specs.UnitMap.{place_of, units_in}
@@ -10,12 +11,14 @@ use Rattle.pm_topology.proofs.UnitsLaw.{same-refl, same_is}
 use Rattle.pm_state.specs.State.{State}
 use Rattle.pm_state.specs.Units.{moved, units}
 use Rattle.pm_state.specs.Values.{value}
+use Rattle.pm_step.proofs.Refused.{pass_stays}
 use Rattle.pm_core.specs.Step.{effect}
-use Rattle.pm_run.specs.Run.{book_after}
+use Rattle.pm_run.specs.Run.{Stand, book_after}
 use Rattle.pm_isolate.specs.Marks.{Marks, has_place}
-use Rattle.pm_isolate.specs.Moves.{Logged, is_logged, logged_along, with_place, with_place_of, with_unit, with_units}
+use Rattle.pm_isolate.specs.Moves.{Logged, is_logged, line_moves, logged_along, may_turn, with_event, with_place, with_place_of, with_step, with_unit, with_units}
 use Rattle.pm_isolate.proofs.HistoryLemmas.{clash, not_false, one}
 use Rattle.pm_isolate.proofs.PlacesLemmas.{neither_place, place_there, unit_there}
+use Rattle.pm_isolate.proofs.TurnsLaw.{KeepsProcs, event_keeps}
 
 -- ---- a unit that isn't among those that pass
 
@@ -86,6 +89,48 @@ pub unmoved : (marks : Marks) (events : List Event) (book : State) (m : Logged) 
     → is_logged (logged_along marks events book m) k ≡ false → (is_logged m k ≡ false) × (value e.0 (book_after events book) ≡ value e.0 book)
 unmoved marks [] book m k e rising all at none = (none, refl)
 unmoved marks (event ∷ events) book m k e rising all at none =
-    let rest = unmoved marks events (effect event book) (with_units marks (moved (λ u. value u book) (effect event book)) m) k e rising all at none in
-    let first = unmoved_step marks book (effect event book) m k e rising all at rest.0 in
+    let rest = unmoved marks events (effect event book) (with_step marks event book (effect event book) m) k e rising all at none in
+    let first = unmoved_step marks book (effect event book) (with_event event m) k e rising all at rest.0 in
     (first.0, rest.1 ∙ first.1)
+
+-- ---- the processors stay
+
+place_modes : (o : Option ℕ) (m : Logged) → (with_place_of o m).modes ≡ m.modes
+place_modes None m = refl
+place_modes (Some place) m = by (nat_lt (length m.places.items) m.places.room)
+  where
+    by : (b : Bool) → (cond b (record m { places = record m.places { items = m.places.items ++ place ∷ [] } }) (record m { all = true })).modes ≡ m.modes
+    by true = refl
+    by false = refl
+
+units_modes : (marks : Marks) (units : List Unit) (m : Logged) → (with_units marks units m).modes ≡ m.modes
+units_modes marks [] m = refl
+units_modes marks (v ∷ units) m = units_modes marks units (with_unit marks m v) ∙ place_modes (place_of marks v) m
+
+pub unturned : (marks : Marks) (events : List Event) (book : State) (m : Logged) → (logged_along marks events book m).modes ≡ false → (m.modes ≡ false) × KeepsProcs book (book_after events book)
+unturned marks [] book m none = (none, refl)
+unturned marks (event ∷ events) book m none =
+    let rest = unturned marks events (effect event book) (with_step marks event book (effect event book) m) none in
+    let now : (m.modes || may_turn event) ≡ false = sym (units_modes marks (moved (λ u. value u book) (effect event book)) (with_event event m)) ∙ rest.0 in
+    let parts = neither m.modes (may_turn event) now in
+    (parts.0, rest.1 ∙ event_keeps event book parts.1)
+
+-- ---- an event of which nothing comes
+
+none_moved : (book : State) (units : List Unit) → filter (λ u. not (value u book == value u book)) units ≡ []
+none_moved book [] = refl
+none_moved book (u ∷ units) =
+    let later : List Unit = filter (λ u. not (value u book == value u book)) units in
+    ap (λ (b : Bool). cond (not b) (u ∷ later) later) (equal (value u book) (value u book) refl) ∙ none_moved book units
+
+or_false : (b : Bool) → (b || false) ≡ b
+or_false true = refl
+or_false false = refl
+
+-- nothing is logged of it
+pub pass_logs : (marks : Marks) (stand : Stand) (m : Logged) → line_moves marks Pass stand m ≡ m
+pass_logs marks stand m =
+    let book : State = stand.book in
+    ap (λ (b : State). with_units marks (moved (λ u. value u book) b) (with_event Pass m)) (pass_stays book)
+    ∙ ap (λ (us : List Unit). with_units marks us (with_event Pass m)) (none_moved book (units book))
+    ∙ ap (λ (modes : Bool). record m { modes = modes }) (or_false m.modes)

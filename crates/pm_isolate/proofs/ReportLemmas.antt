@@ -7,10 +7,10 @@ use Rattle.std.proofs.lemmas.List.{append-nil}
 use Rattle.pm_base.specs.declared.errors.Exit.{Exit}
 use Rattle.pm_base.specs.declared.errors.Exit.TheVariants.{WriteFault}
 use Rattle.pm_base.specs.declared.errors.Failed.{Failed}
-use Rattle.pm_base.specs.declared.sink.Sink as Sink
-use Rattle.pm_base.specs.Sink.{Wrote}
-use Rattle.pm_base.specs.Writing.{BreaksIn, Leaves}
-use Rattle.pm_base.proofs.SinkLemmas.{BreaksIn-after, BreaksIn-before, BreaksIn-joined, Wrote-is, Wrote-trans}
+use Rattle.pm_io.specs.declared.sink.Sink as Sink
+use Rattle.pm_io.specs.Sink.{Wrote}
+use Rattle.pm_io.specs.Writing.{BreaksIn, Leaves}
+use Rattle.pm_io.proofs.SinkLemmas.{BreaksIn-after, BreaksIn-before, BreaksIn-joined, Wrote-is, Wrote-trans}
 use Rattle.pm_trace.specs.Faults.{exit_after}
 use Rattle.pm_trace.specs.Report.{Report, Reports, exit_of, pieces}
 use Rattle.pm_isolate.specs.Within.{Writes, report_behind}

@@ -1,9 +1,11 @@
 -- The core events of a line are carried out one after another.
 use Rattle.std.proofs.Common.{◌≡◌, List, [], ◌∷◌, refl, sym, ◌∙◌, ap, subst}
 use Rattle.pm_base.specs.declared.events.Event.{Event}
+use Rattle.pm_base.specs.declared.events.Event.TheVariants.{Pass}
 use Rattle.pm_object.specs.declared.object.Object.{Object}
 use Rattle.pm_topology.specs.declared.topology.Topology.{Topology}
 use Rattle.pm_state.specs.State.{Fixed, State}
+use Rattle.pm_step.proofs.Refused.{pass_stays}
 use Rattle.pm_core.specs.Step.{effect}
 use Rattle.pm_split.specs.declared.cores.CoreEvents.{CoreEvents}
 use Rattle.pm_split.specs.Boxes.{Boxes}
@@ -67,3 +69,7 @@ same_fixed (event ∷ events) book = same_fixed events (effect event book)
 
 pub fixed_on : (event : Event) (stand : Stand) → (line_after event stand).book.fixed ≡ stand.book.fixed
 fixed_on event stand = same_fixed (split (setup_of stand.book) event stand).events stand.book
+
+-- a run stands where it stood after an event of which nothing comes
+pub pass_stands : (stand : Stand) → line_after Pass stand ≡ stand
+pass_stands stand = stand_is (line_after Pass stand) stand (pass_stays stand.book) refl

@@ -2,10 +2,10 @@
 use Rattle.std.specs.Prelude.{◌≡◌, ℕ, Bool, List, ◌++◌, Option, Result, Ok, Err, IfOk, ⊤}
 use Rattle.pm_base.specs.declared.errors.Exit.{Exit}
 use Rattle.pm_base.specs.declared.events.Event.{Event}
-use Rattle.pm_base.specs.declared.inputs.Inputs as Inputs
+use Rattle.pm_io.specs.declared.inputs.Inputs as Inputs
 use Rattle.pm_base.specs.declared.names.NodeId.{NodeId}
-use Rattle.pm_base.specs.declared.sink.Sink as Sink
-use Rattle.pm_base.specs.Inputs.{Holds}
+use Rattle.pm_io.specs.declared.sink.Sink as Sink
+use Rattle.pm_io.specs.Inputs.{Holds}
 use Rattle.pm_reach.specs.declared.members.Member.{Member}
 use Rattle.pm_reach.specs.Membership.{IsReach}
 use Rattle.pm_object.specs.declared.object.Object.{Object}

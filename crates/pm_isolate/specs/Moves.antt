@@ -1,24 +1,42 @@
--- The places of the units that moved in a script line, in either book.
-use Rattle.std.specs.Prelude.{ℕ, ◌||◌, nat_lt, Bool, true, false, if◌then◌else◌, List, [], ◌∷◌, ◌++◌, fold, length, Option, None, Some}
+-- The places of the units that moved in a script line, in either book, and whether a processor may have changed its mode.
+use Rattle.std.specs.Prelude.{ℕ, ◌==◌, ◌||◌, nat_lt, not, Bool, true, false, if◌then◌else◌, List, [], ◌∷◌, ◌++◌, fold, length, Option, None, Some}
 use Rattle.pm_base.specs.BoundedList.{Bounded}
 use Rattle.pm_base.specs.declared.events.Event.{Event}
+use Rattle.pm_base.specs.declared.events.Event.TheVariants.{Ipi}
 use Rattle.pm_base.specs.declared.names.Unit.{Unit}
 use Rattle.pm_topology.specs.UnitMap.{place_of}
 use Rattle.pm_state.specs.State.{State}
 use Rattle.pm_state.specs.Units.{moved}
 use Rattle.pm_state.specs.Values.{value}
+use Rattle.pm_step.specs.Step.{is_action}
 use Rattle.pm_core.specs.Step.{effect}
 use Rattle.pm_run.specs.Run.{Stand, setup_of, split}
 use Rattle.pm_isolate.specs.Marks.{Marks, has_place}
 
--- the places that were logged, or all places, if there was no room for one
+-- the places that were logged, or all places, if there was no room for one, and whether a mode may have changed
 pub record Logged : Type 0 where
   pub places : Bounded ℕ
   pub all : Bool
+  pub modes : Bool
 
--- no place is logged
+-- no place is logged, and no mode has changed
 abbrev pub cleared : Logged → Logged
-cleared m = record { places = record m.places { items = [] }; all = false }
+cleared m = record { places = record m.places { items = [] }; all = false; modes = false }
+
+-- the call of this number only reads the book (GET_API_VERSION, GET_NODE_STATUS, GET_OP_CHARACTERISTIC, RESET_GET_STATUS), or
+-- changes a row of its caller (SET_WAKEUP_SOURCE, REQUEST_NODE, RELEASE_NODE, SET_REQUIREMENT, SET_MAX_LATENCY)
+abbrev pub keeps_modes : ℕ → Bool
+keeps_modes api =
+    (api == 1) || (api == 3) || (api == 4) || (api == 11) || (api == 13) || (api == 14) || (api == 15) || (api == 16) || (api == 18)
+
+-- a core event may change the mode of a processor: the message of another call, and any other event that may have stages
+abbrev pub may_turn : Event → Bool
+may_turn (Ipi master message) = not (keeps_modes message.api)
+may_turn event = is_action event
+
+-- with whether this event may
+abbrev pub with_event : Event → Logged → Logged
+with_event event m = record m { modes = m.modes || may_turn event }
 
 -- one more place, or all places, if there is no room for it
 abbrev pub with_place : ℕ → Logged → Logged
@@ -41,12 +59,16 @@ with_units marks units m = fold (with_unit marks) m units
 abbrev pub is_logged : Logged → ℕ → Bool
 is_logged m k = m.all || has_place m.places.items k
 
--- with the places of the units that these core events move, one event after another
+-- with a core event by which the book becomes this one, and the places of the units that it moves
+abbrev pub with_step : Marks → Event → State → State → Logged → Logged
+with_step marks event book after m = with_units marks (moved (λ u. value u book) after) (with_event event m)
+
+-- with these core events, one after another
 abbrev pub logged_along : Marks → List Event → State → Logged → Logged
 logged_along marks [] book m = m
 logged_along marks (event ∷ events) book m =
-    logged_along marks events (effect event book) (with_units marks (moved (λ u. value u book) (effect event book)) m)
+    logged_along marks events (effect event book) (with_step marks event book (effect event book) m)
 
--- and of those that a script line moves
+-- and with those of a script line
 abbrev pub line_moves : Marks → Event → Stand → Logged → Logged
 line_moves marks event stand m = logged_along marks (split (setup_of stand.book) event stand).events stand.book m

@@ -5,10 +5,10 @@ use Rattle.pm_base.specs.declared.errors.Failed.{Failed}
 use Rattle.pm_base.specs.declared.events.Event.{Event}
 use Rattle.pm_base.specs.declared.names.NodeId.{NodeId}
 use Rattle.pm_base.specs.declared.names.Unit.{Unit}
-use Rattle.pm_base.specs.declared.sink.Sink as Sink
-use Rattle.pm_base.specs.Inputs.{Moment}
-use Rattle.pm_base.specs.Sink.{Wrote}
-use Rattle.pm_base.specs.Writing.{BreaksIn}
+use Rattle.pm_io.specs.declared.sink.Sink as Sink
+use Rattle.pm_io.specs.Inputs.{Moment}
+use Rattle.pm_io.specs.Sink.{Wrote}
+use Rattle.pm_io.specs.Writing.{BreaksIn}
 use Rattle.pm_object.specs.declared.object.Object.{Object}
 use Rattle.pm_topology.specs.declared.topology.Topology.{Topology}
 use Rattle.pm_topology.specs.UnitMap.{all_at, mapped}
@@ -46,10 +46,11 @@ noted a b marks = mapped (noted_in a b) marks
 abbrev pub noted_along : State → State → List ℕ → Marks → Marks
 noted_along a b places marks = renewed_along (noted_in a b) places marks
 
--- and those at the places that were logged and at these, or all units where all places were logged
+-- and those at the places that were logged, and at these where a mode may have changed, or all units where all places were
+-- logged
 abbrev pub looked : State → State → Logged → List ℕ → Marks → Marks
 looked a b m procs marks =
-    if m.all then noted a b marks else noted_along a b procs (noted_along a b m.places.items marks)
+    if m.all then noted a b marks else noted_along a b (if m.modes then procs else []) (noted_along a b m.places.items marks)
 
 -- both runs at load, which show the same
 abbrev pub begun : Setup → Sides

@@ -2,12 +2,10 @@
 
 ghost use Rattle.std.specs.Prelude.{◌≡◌, ◌∷◌, [], None, IfOk, MatchOption};
 ghost use Rattle.pm_topology.specs.WellFormed.{IsWellFormed};
-ghost use Rattle.pm_state.specs.Units.{moved};
-ghost use Rattle.pm_state.specs.Values.{value};
 ghost use Rattle.pm_core.specs.Step.{effect};
 ghost use Rattle.pm_split.specs.Left.{boxes_left, core_event, events_left};
 ghost use Rattle.pm_run.specs.Run.{loaded, setup, setup_of, split, stand_at};
-ghost use Rattle.pm_isolate.specs.Moves.{with_units};
+ghost use Rattle.pm_isolate.specs.Moves.{with_step};
 
 use crate::moves::Moves;
 use pm_base::{Event, List, NoMemory};
@@ -76,21 +74,23 @@ impl BoxedRun {
             ((events_left self.old.book.fixed.object self.old.book.fixed.topology self.old.boxes cores.old ≡ [])
             × (events_left self.old.book.fixed.object self.old.book.fixed.topology self.new.boxes cores.new ≡ []))
             (λ source. events_left self.old.book.fixed.object self.old.book.fixed.topology self.old.boxes cores.old
-            ≡ core_event source made.new ∷ events_left self.old.book.fixed.object self.old.book.fixed.topology self.new.boxes cores.new) }
+            ≡ core_event source made.new
+            ∷ events_left self.old.book.fixed.object self.old.book.fixed.topology self.new.boxes cores.new) }
         ensures boxes { boxes_left self.new.boxes cores.new ≡ boxes_left self.old.boxes cores.old }
         ensures end { result ≡ None → self.new.boxes ≡ boxes_left self.old.boxes cores.old }
     {
         self.runner.next(cores, made)
     }
 
-    /// One core event. The places of the units whose value it changes are logged.
+    /// One core event. It is logged with the places of the units whose value it changes.
     pub fn step(&mut self, event: &Event, marks: &UnitMap<bool>, moves: &mut Moves)
         ensures book { self.new.book ≡ effect event.now self.old.book }
         ensures boxes { self.new.boxes ≡ self.old.boxes }
         ensures moves { moves.new
-            ≡ with_units marks.now (moved (λ u. value u self.old.book) (effect event.now self.old.book)) moves.old }
+            ≡ with_step marks.now event.now self.old.book (effect event.now self.old.book) moves.old }
     {
         self.runner.step(event);
+        moves.add_event(event);
         moves.add_units(marks, self.runner.outbox.moved.as_slice());
     }
 }
@@ -103,7 +103,8 @@ fn runner_of(
     topology: Topology,
 ) -> Result<Box<Runner>, NoMemory>
     requires formed { IsWellFormed topology }
-    ensures { IfOk result (λ runner. stand_at runner.value.book runner.value.boxes ≡ loaded (setup object attached topology)) }
+    ensures { IfOk result (λ runner. stand_at runner.value.book runner.value.boxes
+        ≡ loaded (setup object attached topology)) }
 {
     let runner = Runner::load(alloc, object, attached, topology)?;
     boxed(alloc, runner)

@@ -3,9 +3,9 @@
 ghost use Rattle.std.specs.Prelude.{◌≡◌, ◌≢◌, ◌==◌, ◌⊎◌, List as Sequence, IfErr, IfOk, IsTrue};
 ghost use Rattle.std.specs.List.{list_any};
 ghost use Rattle.pm_base.specs.Faults.{Rose};
-ghost use Rattle.pm_base.specs.Inputs.{MayFail};
-ghost use Rattle.pm_base.specs.Sink.{HasFailed, IsUnfailed};
-ghost use Rattle.pm_base.specs.declared.prefix.StopReason.TheVariants.{Unbegun};
+ghost use Rattle.pm_io.specs.Inputs.{MayFail};
+ghost use Rattle.pm_io.specs.Sink.{HasFailed, IsUnfailed};
+ghost use Rattle.pm_io.specs.declared.prefix.StopReason.TheVariants.{Unbegun};
 ghost use Rattle.pm_object.specs.declared.attached.Attached.{Attached};
 ghost use Rattle.pm_block.specs.Block.{attached_by};
 ghost use Rattle.pm_object.specs.Grammar.{IsObject};
@@ -16,7 +16,7 @@ ghost use Rattle.pm_reach.specs.Membership.{IsReach};
 ghost use Rattle.pm_state.specs.State.{objects_in};
 ghost use Rattle.pm_script.specs.Named.{script_in};
 ghost use Rattle.pm_script.specs.Script.{script_limit, stop_of};
-ghost use Rattle.pm_base.specs.Readings.{Meanwhile};
+ghost use Rattle.pm_io.specs.Readings.{Meanwhile};
 ghost use Rattle.pm_reader.specs.Follow.{IsBrokenOff, OfScript};
 ghost use Rattle.pm_reader.specs.Front.{Ahead, Attaches, WasReadAhead, ahead_of, ran};
 ghost use Rattle.pm_trace.specs.Exits.{EndsWith, IsStarved};
@@ -32,8 +32,9 @@ use crate::laws::what_differs_is_reached;
 use crate::lines::run_lines;
 use crate::worlds::Worlds;
 use crate::writing::write_end;
-use pm_base::{Exit, Failed, Inputs, List, NoMemory, NodeId, Sink, StopReason, with, write_all};
+use pm_base::{Exit, Failed, List, NoMemory, NodeId, with};
 use pm_block::{Block, attached_objects_are_formed};
+use pm_io::{Inputs, Sink, StopReason, write_all};
 use pm_object::{Attached, Object};
 use pm_reach::reach;
 use pm_reader::{Front, LineStop};
@@ -196,7 +197,8 @@ fn compare_begun<I: Inputs, O: Sink>(
     ensures ran { Reports O.Sink (refusal Memory) out.old out.new result
         ⊎ OfScript I.observable id (I.state inputs.old) (λ s. (members : Sequence Member)
         × IsReach (objects_in object (attached_by s.events)) topology m members
-        × Reports O.Sink (isolate_report (setup_for object topology s.events) m members (ran s)) out.old out.new result) }
+        × Reports O.Sink (isolate_report (setup_for object topology s.events) m members
+        (ran s)) out.old out.new result) }
     ensures fault { result ≡ Exit.ReadFault → Rose (I.state inputs.old).faults (I.state inputs.new).faults }
     ensures reads { Meanwhile (I.state inputs.old) (I.state inputs.new) (ReadsBegun result id) }
 {

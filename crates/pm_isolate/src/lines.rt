@@ -2,15 +2,16 @@
 
 ghost use Rattle.std.specs.Prelude.{◌≡◌, ◌≢◌, IfOk};
 ghost use Rattle.pm_base.specs.Faults.{Rose};
-ghost use Rattle.pm_base.specs.declared.prefix.StopReason.TheVariants.{Failure, Unbegun};
-ghost use Rattle.pm_base.specs.Readings.{Meanwhile};
+ghost use Rattle.pm_io.specs.declared.prefix.StopReason.TheVariants.{Failure, Unbegun};
+ghost use Rattle.pm_io.specs.Readings.{Meanwhile};
 ghost use Rattle.pm_block.specs.Block.{attached_by};
 ghost use Rattle.pm_reader.specs.Follow.{OfScript, ReadsLines};
 ghost use Rattle.pm_reader.specs.Front.{Ahead, Attaches, WasReadAhead, ran};
 ghost use Rattle.pm_isolate.specs.Within.{RanLines};
 
 use crate::worlds::Worlds;
-use pm_base::{Event, Failed, Inputs, NodeId};
+use pm_base::{Event, Failed, NodeId};
+use pm_io::Inputs;
 use pm_reader::{Follower, Front, LineStop, LinesEnd};
 
 /// What steps both books by each line of a script, the quiet one without the messages of a master. It

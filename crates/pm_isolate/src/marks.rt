@@ -10,8 +10,8 @@ use pm_core::Book;
 use pm_topology::{Kind, Topology, UnitMap, unit_map_places};
 use std::alloc::Global;
 
-/// Marks each unit that shows different values in two books, if it is at one of the places that were logged or
-/// at one of these, which are those of the processors.
+/// Marks each unit that shows different values in two books, if it is at one of the places that were logged, or, where a
+/// mode may have changed, at one of these, which are those of the processors.
 pub fn log(loud: &Book, quiet: &Book, moves: &Moves, procs: &[usize], marks: &mut UnitMap<bool>)
     ensures { marks.new ≡ looked loud.now quiet.now moves.now procs.now marks.old }
 {
@@ -19,7 +19,9 @@ pub fn log(loud: &Book, quiet: &Book, moves: &Moves, procs: &[usize], marks: &mu
         log_all(loud, quiet, marks);
     } else {
         log_along(loud, quiet, moves.places(), marks);
-        log_along(loud, quiet, procs, marks);
+        if moves.modes() {
+            log_along(loud, quiet, procs, marks);
+        }
     }
 }
 

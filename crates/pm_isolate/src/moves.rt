@@ -1,20 +1,21 @@
-//! The places of the units that moved in a script line.
+//! The places of the units that moved in a script line, and whether a processor may have changed its mode.
 
 ghost use Rattle.std.specs.Prelude.{◌≡◌, [], false, IfOk};
-ghost use Rattle.pm_isolate.specs.Moves.{cleared, with_place, with_unit, with_units};
+ghost use Rattle.pm_isolate.specs.Moves.{cleared, keeps_modes, may_turn, with_event, with_place, with_unit, with_units};
 
-use pm_base::{BoundedList, NoMemory, Unit};
+use pm_base::{BoundedList, Event, NoMemory, Unit};
 use pm_topology::UnitMap;
 use std::alloc::Global;
 use std::marker::Model;
 
-/// The places of the units that moved in a script line, or all places, if more moved than there is room for.
-/// Contracts see both.
+/// The places of the units that moved in a script line, or all places, if more moved than there is room for, and whether
+/// a processor may have changed its mode. Contracts see all three.
 #[derive(Drop)]
 pub struct Moves {
     places: BoundedList<usize>,
     room: usize,
     all: bool,
+    modes: bool,
 }
 
 impl Model for Moves {
@@ -23,7 +24,7 @@ impl Model for Moves {
 
     ghost Value = { Logged };
 
-    ghost view = { λ moves. record { places = moves.places; all = moves.all } };
+    ghost view = { λ moves. record { places = moves.places; all = moves.all; modes = moves.modes } };
 
     ghost invariant = { λ moves. moves.room ≡ moves.places.room };
 }
@@ -35,22 +36,25 @@ impl Moves {
     ///
     /// `NoMemory` where there is not enough memory.
     pub fn load(alloc: Global, room: usize) -> Result<Moves, NoMemory>
-        ensures { IfOk result (λ moves. moves ≡ record { places = record { items = []; room = room }; all = false }) }
+        ensures { IfOk result (λ moves. moves
+            ≡ record { places = record { items = []; room = room }; all = false; modes = false }) }
     {
         let places = BoundedList::with_room(alloc, room)?;
         Ok(Moves {
             places,
             room,
             all: false,
+            modes: false,
         })
     }
 
-    /// Takes all places out.
+    /// Takes all places out: no mode has changed.
     pub fn clear(&mut self)
         ensures { self.new ≡ cleared self.old }
     {
         self.places.clear();
         self.all = false;
+        self.modes = false;
     }
 
     /// Whether all places are meant.
@@ -60,11 +64,25 @@ impl Moves {
         self.all
     }
 
+    /// Whether a processor may have changed its mode.
+    pub fn modes(&self) -> bool
+        ensures { result ≡ self.now.modes }
+    {
+        self.modes
+    }
+
     /// The places that were put in. A place may occur more than once.
     pub fn places(&self) -> &[usize]
         ensures { result.now ≡ self.now.places.items }
     {
         self.places.as_slice()
+    }
+
+    /// Logs whether a core event may change the mode of a processor.
+    pub fn add_event(&mut self, event: &Event)
+        ensures { self.new ≡ with_event event.now self.old }
+    {
+        self.modes = self.modes || may_turn(event);
     }
 
     /// Puts the place of each of these units in.
@@ -95,4 +113,25 @@ impl Moves {
             self.all = true;
         }
     }
+}
+
+/// Whether a core event may change the mode of a processor: the message of a call that does more than to read the book or
+/// to change a row, and any other event at a processor or a slave.
+fn may_turn(event: &Event) -> bool
+    ensures { result ≡ may_turn event.now }
+{
+    match event {
+        Event::Ipi { message, .. } => !keeps_modes(message.api),
+        Event::Boot { .. } | Event::Wfi { .. } | Event::Irq { .. } | Event::Gic { .. } => true,
+        _ => false,
+    }
+}
+
+/// Whether the call of a number only reads the book (GET_API_VERSION, GET_NODE_STATUS, GET_OP_CHARACTERISTIC,
+/// RESET_GET_STATUS), or changes a row of its caller (SET_WAKEUP_SOURCE, REQUEST_NODE, RELEASE_NODE, SET_REQUIREMENT,
+/// SET_MAX_LATENCY): it leaves all processors in their modes.
+fn keeps_modes(api: u32) -> bool
+    ensures { result ≡ keeps_modes api }
+{
+    matches!(api, 1 | 3 | 4 | 11 | 13 | 14 | 15 | 16 | 18)
 }

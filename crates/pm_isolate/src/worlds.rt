@@ -22,8 +22,8 @@ use std::marker::Model;
 
 /// The run with all messages, the quiet one without those of a master, and for each unit whether what it
 /// shows has differed between them: these contracts see. A unit that didn't move in either book and is no
-/// processor shows what it showed before, so after a line those that moved are looked at, and the
-/// processors, whose mode may change without their value.
+/// processor shows what it showed before, so after a line those that moved are looked at, and, where a mode may
+/// have changed, the processors, whose mode may change without their value.
 #[derive(Drop)]
 pub struct Worlds {
     loud: BoxedRun,
@@ -31,6 +31,7 @@ pub struct Worlds {
     differs: UnitMap<bool>,
     procs: Vec<usize>,
     moves: Moves,
+    made: Event,
 }
 
 impl Model for Worlds {
@@ -73,6 +74,7 @@ impl Worlds {
             differs: looked.differs,
             procs: looked.procs,
             moves: looked.moves,
+            made: Event::Pass,
         })
     }
 
@@ -86,8 +88,20 @@ impl Worlds {
         let pass = Event::Pass;
         let heard = quiet_event(m, event, &pass);
         self.moves.clear();
-        step_line(&mut self.loud, event, &self.differs, &mut self.moves);
-        step_line(&mut self.quiet, heard, &self.differs, &mut self.moves);
+        step_line(
+            &mut self.loud,
+            event,
+            &self.differs,
+            &mut self.moves,
+            &mut self.made,
+        );
+        step_line(
+            &mut self.quiet,
+            heard,
+            &self.differs,
+            &mut self.moves,
+            &mut self.made,
+        );
         log(
             self.loud.book(),
             self.quiet.book(),
@@ -203,16 +217,26 @@ fn copy_attached(alloc: Global, attached: &[Attached]) -> Result<List<Attached>,
     Ok(copied)
 }
 
-/// Carries out the core events of a script line, and logs the places of the units that they move.
-fn step_line(runner: &mut BoxedRun, event: &Event, marks: &UnitMap<bool>, moves: &mut Moves)
+/// Carries out the core events of a script line, and logs them with the places of the units that they move. One that is
+/// made of a message in a box is left in `made`.
+fn step_line(
+    runner: &mut BoxedRun,
+    event: &Event,
+    marks: &UnitMap<bool>,
+    moves: &mut Moves,
+    made: &mut Event,
+)
     ensures stand { runner.new ≡ line_after event.now runner.old }
     ensures moves { moves.new ≡ line_moves marks.now event.now runner.old moves.old }
 {
+    // Nothing comes of such an event.
+    if let Event::Pass = event {
+        return;
+    }
     let parts = runner.split(event);
     let mut left = parts.cores;
-    let mut made = Event::Pass;
-    while let Some(core) = runner.next(&mut left, &mut made) {
-        let taken = core.event(&made);
+    while let Some(core) = runner.next(&mut left, made) {
+        let taken = core.event(made);
         runner.step(taken, marks, moves);
     }
 }

@@ -8,7 +8,8 @@ ghost use Rattle.pm_isolate.specs.Differences.{difference_line};
 ghost use Rattle.pm_isolate.specs.Within.{Writes, end_text, mark_line, mark_lines};
 
 use crate::worlds::Worlds;
-use pm_base::{Failed, Sink, Unit, write_all};
+use pm_base::{Failed, Unit};
+use pm_io::{Sink, write_all};
 use pm_topology::Topology;
 use pm_trace::{TextLine, Word, name, unit_name, write_line};
 

@@ -1,5 +1,5 @@
 -- Two books of one object agree beyond the reach of a master at load.
-use Rattle.std.proofs.Common.{◌≡◌, ◌==◌, ◌++◌, ◌∙◌, ℕ, Bool, true, false, IsTrue, List, [], ◌∷◌, map, Option, Some, None, nat_eq, refl, ap, subst, sym}
+use Rattle.std.proofs.Common.{◌≡◌, ◌==◌, ◌++◌, ℕ, Bool, true, false, IsTrue, List, [], ◌∷◌, map, Option, Some, None, nat_eq, refl, ap, subst, sym}
 use Rattle.std.specs.List.{AllByRecursion as Each, list_any}
 use Rattle.std.specs.Prelude.{if◌then◌else◌, option_to_list}
 use Rattle.std.specs.Option.{option_eq}
@@ -37,14 +37,13 @@ pub objects_formed : (object : Object) (others : List Object) (attached : List A
 objects_formed object others attached chip is formed made =
     (is, subst (λ (list : List Attached). Each IsObject (usable_among object list)) (sym made) (usable_formed object others formed))
 
-pub sides_at_load : (m : NodeId) (object other : Object) (attached again : List Attached) (chip : Topology) (loud quiet : State)
-    → AreObjects (record { object = object; topology = chip; attached = attached }) → IsNamed m object → other ≡ object → again ≡ attached
+pub sides_at_load : (m : NodeId) (object : Object) (attached : List Attached) (chip : Topology) (loud quiet : State)
+    → AreObjects (record { object = object; topology = chip; attached = attached }) → IsNamed m object
     → Agree (border_of (record { object = object; topology = chip; attached = attached }) m) (load_of object attached chip) (load_of object attached chip)
-    → loud ≡ load_of object attached chip → quiet ≡ load_of other again chip → AreSides m loud quiet
-sides_at_load m object other attached again chip loud quiet are named same same_attached agree first second =
+    → loud ≡ load_of object attached chip → quiet ≡ load_of object attached chip → AreSides m loud quiet
+sides_at_load m object attached chip loud quiet are named agree first second =
     let start : State = load_of object attached chip in
-    let there : quiet ≡ start = second ∙ ap (λ (o : Object). load_of o again chip) same ∙ ap (λ (list : List Attached). load_of object list chip) same_attached in
-    subst (λ (b : State). AreSides m b quiet) (sym first) (subst (λ (b : State). AreSides m start b) (sym there) (record { object = are; named = named; agree = agree }))
+    subst (λ (b : State). AreSides m b quiet) (sym first) (subst (λ (b : State). AreSides m start b) (sym second) (record { object = are; named = named; agree = agree }))
 
 -- places that are told to be equal are
 pub same_place : (one other : Option ℕ) → option_eq nat_eq one other ≡ true → one ≡ other

@@ -5,8 +5,8 @@ use Rattle.pm_topology.specs.declared.topology.ProcDef.{ProcDef}
 use Rattle.pm_topology.specs.declared.topology.PowerDef.{PowerDef}
 use Rattle.pm_topology.specs.declared.topology.MasterDef.{MasterDef}
 use Rattle.pm_topology.specs.declared.topology.Topology.{Topology}
-use Rattle.pm_topology.specs.Chip.{node, power, proc, master}
-use Rattle.pm_topology.specs.Classes.{state}
+use Rattle.pm_chip.specs.Chip.{node, power, proc, master}
+use Rattle.pm_chip.specs.Classes.{state}
 
 -- a node that is held, and one below which nothing stands
 abbrev pub powers : List PowerDef

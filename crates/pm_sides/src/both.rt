@@ -4,6 +4,7 @@ ghost use Rattle.std.specs.List.{AllByRecursion as Each, list_any};
 ghost use Rattle.std.specs.Prelude.{◌≡◌, ◌==◌, IfOk, IsTrue, map};
 ghost use Rattle.pm_base.specs.declared.events.Event.TheVariants.{Wfi};
 ghost use Rattle.pm_object.specs.Grammar.{IsObject};
+ghost use Rattle.pm_topology.specs.WellFormed.{IsWellFormed};
 ghost use Rattle.pm_state.specs.Load.{load_of};
 ghost use Rattle.pm_core.specs.Outbox.{HasRoomFor};
 ghost use Rattle.pm_laws.specs.Beside.{IsOwn};
@@ -12,6 +13,7 @@ ghost use Rattle.pm_sides.specs.Sides.{AreSides, at_4096};
 ghost use Rattle.pm_sides.specs.Table.{small};
 
 use crate::comparing::{object, object_of};
+use crate::rows::same;
 use crate::table::small_chip;
 use pm_base::{Event, List, NoMemory, NodeId, Unit};
 use pm_core::{Book, Outbox};
@@ -41,24 +43,61 @@ pub(crate) fn desk_of(
 ) -> Result<Box<Desk>, NoMemory>
     ensures { IfOk result (λ desk. desk.value.book ≡ load_of object attached small) }
 {
-    let chip = small_chip(alloc)?;
-    let mut out = Outbox::load(alloc, &chip, object.masters.len())?;
-    let book = Book::load(alloc, object, attached, chip, &mut out)?;
-    boxed(alloc, Desk { book, out })
+    match small_chip(alloc) {
+        Ok(chip) => desk_over(alloc, object, attached, chip),
+        Err(error) => {
+            drop((object, attached));
+            Err(error)
+        }
+    }
+}
+
+/// The same over any chip. What isn't needed any more is dropped at a type that is any.
+fn desk_over(
+    alloc: Global,
+    object: Object,
+    attached: List<Attached>,
+    chip: Topology,
+) -> Result<Box<Desk>, NoMemory>
+    requires formed { IsWellFormed chip }
+    ensures { IfOk result (λ desk. desk.value.book ≡ load_of object attached chip) }
+{
+    match Outbox::load(alloc, &chip, object.masters.len()) {
+        Ok(mut out) => match Book::load(alloc, object, attached, chip, &mut out) {
+            Ok(book) => boxed(alloc, Desk { book, out }),
+            Err(error) => {
+                drop(out);
+                Err(error)
+            }
+        },
+        Err(error) => {
+            drop((object, attached, chip));
+            Err(error)
+        }
+    }
+}
+
+/// The book of a copy of an object at load over the small chip, where copies of others are attached.
+fn desk_beside(alloc: Global, object: &Object, others: &[Object]) -> Result<Box<Desk>, NoMemory>
+    ensures { IfOk result (λ desk. desk.value.book ≡ load_of object.now (map at_4096 others.now) small) }
+{
+    let attached = attached_of(alloc, others)?;
+    let object = object.copy(alloc)?;
+    desk_of(alloc, object, Box::into_inner(attached))
 }
 
 /// A value on the heap. It is dropped, where there is not enough memory, at a type that is any.
-fn boxed<T: Drop>(alloc: Global, value: T) -> Result<Box<T>, NoMemory>
+pub(crate) fn boxed<T: Drop>(alloc: Global, value: T) -> Result<Box<T>, NoMemory>
     ensures { IfOk result (λ held. held.value ≡ value) }
 {
     Box::new(alloc, value).map_err(|_| NoMemory)
 }
 
-/// These objects, each attached at address 4096.
-fn attached_of(alloc: Global, objects: &[Object]) -> Result<List<Attached>, NoMemory>
-    ensures { IfOk result (λ attached. attached ≡ map at_4096 objects.now) }
+/// These objects, each attached at address 4096, on the heap.
+fn attached_of(alloc: Global, objects: &[Object]) -> Result<Box<List<Attached>>, NoMemory>
+    ensures { IfOk result (λ attached. attached.value ≡ map at_4096 objects.now) }
 {
-    let mut attached = List::new(alloc);
+    let mut attached = boxed(alloc, List::new(alloc))?;
     for object in objects {
         attached.push(attached_one(alloc, object)?)?;
     }
@@ -86,7 +125,8 @@ struct Sides {
 fn sides_of(alloc: Global, m: NodeId) -> Result<Sides, Fail>
     ensures { IfOk result (λ sides. AreSides m sides.loud.value.book sides.quiet.value.book) }
 {
-    sides_with(alloc, object(alloc)?, &[], m)
+    let object = object(alloc)?;
+    sides_with(alloc, &object, &[], m)
 }
 
 /// Both books at load over an object in which master 1 may set the configuration, where one is attached in which slave 46
@@ -96,12 +136,12 @@ fn configured_sides(alloc: Global, m: NodeId) -> Result<Sides, Fail>
 {
     let object = object_of(alloc, CONFIGURED)?;
     let other = object_of(alloc, EXCHANGED)?;
-    sides_with(alloc, object, slice::from_ref(&other), m)
+    sides_with(alloc, &object, slice::from_ref(&*other), m)
 }
 
 /// Both books of an object at load, where the number is that of a master of it and others are attached.
-fn sides_with(alloc: Global, object: Object, others: &[Object], m: NodeId) -> Result<Sides, Fail>
-    requires formed { IsObject object }
+fn sides_with(alloc: Global, object: &Object, others: &[Object], m: NodeId) -> Result<Sides, Fail>
+    requires formed { IsObject object.now }
     requires others { Each IsObject others.now }
     ensures { IfOk result (λ sides. AreSides m sides.loud.value.book sides.quiet.value.book) }
 {
@@ -116,20 +156,19 @@ fn sides_with(alloc: Global, object: Object, others: &[Object], m: NodeId) -> Re
 /// Both books of an object that has the master, at load, where others are attached.
 fn sides_over(
     alloc: Global,
-    object: Object,
+    object: &Object,
     others: &[Object],
     m: NodeId,
 ) -> Result<Sides, NoMemory>
-    requires formed { IsObject object }
+    requires formed { IsObject object.now }
     requires others { Each IsObject others.now }
-    requires named { IsTrue (list_any (λ r. r.node == m.0) object.masters) }
+    requires named { IsTrue (list_any (λ r. r.node == m.0) object.now.masters) }
     ensures { IfOk result (λ sides. AreSides m sides.loud.value.book sides.quiet.value.book) }
 {
     books_agree();
     reach_is_closed();
-    let other = object.copy(alloc)?;
-    let loud = desk_of(alloc, object, attached_of(alloc, others)?)?;
-    let quiet = desk_of(alloc, other, attached_of(alloc, others)?)?;
+    let loud = desk_beside(alloc, object, others)?;
+    let quiet = desk_beside(alloc, object, others)?;
     Ok(Sides { loud, quiet })
 }
 
@@ -146,6 +185,16 @@ fn step(loud: &mut Desk, quiet: &mut Desk, m: NodeId, event: &Event)
         &mut loud.out,
         &mut quiet.out,
     );
+}
+
+/// The event of a line in both books, as `step`.
+fn step_line(loud: &mut Desk, quiet: &mut Desk, m: NodeId, line: &str) -> Result<(), Fail>
+    requires { AreSides m loud.old.book quiet.old.book }
+    ensures { AreSides m loud.new.book quiet.new.book }
+{
+    let event = parse_line(line.as_bytes())?;
+    step(loud, quiet, m, &event);
+    Ok(())
 }
 
 /// Whether the processor is the master's.
@@ -183,7 +232,7 @@ fn wait_alone(loud: &mut Desk, quiet: &mut Desk, m: NodeId, proc: NodeId) -> boo
 }
 
 /// The lines of a step with this number.
-pub(crate) fn text_of(alloc: Global, n: u32, out: &Outbox) -> Result<Vec<u8>, Fail> {
+fn text_of(alloc: Global, n: u32, out: &Outbox) -> Result<Vec<u8>, Fail> {
     let mut text = Vec::new(alloc);
     let mut line = TextLine::new();
     for k in 0..entries(out, &out.answer) {
@@ -191,6 +240,12 @@ pub(crate) fn text_of(alloc: Global, n: u32, out: &Outbox) -> Result<Vec<u8>, Fa
         text.extend_from_slice(line.as_slice())?;
     }
     Ok(text)
+}
+
+/// Whether the lines of a step with this number are this text.
+pub(crate) fn writes(alloc: Global, n: u32, out: &Outbox, text: &str) -> Result<bool, Fail> {
+    let lines = text_of(alloc, n, out)?;
+    Ok(lines.as_slice() == text.as_bytes())
 }
 
 /// A line of a script, by its number; what its step puts out in the book with all messages, and what in the other.
@@ -317,12 +372,9 @@ fn wrong_turn(
     ensures { AreSides m loud.new.book quiet.new.book }
 {
     for (number, line, of_loud, of_quiet) in turns {
-        let event = parse_line(line.as_bytes())?;
-        step(loud, quiet, m, &event);
-        let first = text_of(alloc, *number, &loud.out)?;
-        let second = text_of(alloc, *number, &quiet.out)?;
-        let told = first.as_slice() == of_loud.as_bytes()
-            && second.as_slice() == of_quiet.as_bytes();
+        step_line(loud, quiet, m, line)?;
+        let told = writes(alloc, *number, &loud.out, of_loud)?
+            && writes(alloc, *number, &quiet.out, of_quiet)?;
         if !told || !are_alike(&loud.book, &quiet.book, beyond) {
             return Ok(Some(*number));
         }
@@ -335,15 +387,16 @@ fn wrong_turn(
 fn compared(alloc: Global, turns: &[Turn]) -> Result<(Option<u32>, bool), Fail> {
     let m = NodeId(8);
     let mut sides = sides_of(alloc, m)?;
-    let wrong = wrong_turn(alloc, &mut sides.loud, &mut sides.quiet, m, turns, BEYOND)?;
+    let wrong = wrong_turn(alloc, &mut sides.loud, &mut sides.quiet, m, turns, BEYOND);
     let alike = is_alike(&sides.loud.book, &sides.quiet.book, 108);
-    Ok((wrong, alike))
+    drop(sides);
+    Ok((wrong?, alike))
 }
 
 #[test]
 fn what_is_beyond_is_told_the_same(rt: HostRuntime) -> Result<(), Fail> {
-    assert_eq!(rt; compared(rt.alloc(), &ASKED)?, (None, true));
-    assert_eq!(rt; compared(rt.alloc(), &WATCHED)?, (None, false));
+    same(&rt, compared(rt.alloc(), &ASKED)?, (None, true));
+    same(&rt, compared(rt.alloc(), &WATCHED)?, (None, false));
     Ok(())
 }
 
@@ -366,19 +419,20 @@ fn waited(alloc: Global, proc: u32) -> Result<(Option<u32>, bool, bool, bool), F
         m,
         &SUSPENDED,
         BEYOND,
-    )?;
+    );
     let waits = wait_alone(&mut sides.loud, &mut sides.quiet, m, NodeId(proc));
     let beyond = are_alike(&sides.loud.book, &sides.quiet.book, BEYOND);
     let alike = is_alike(&sides.loud.book, &sides.quiet.book, proc);
-    Ok((wrong, waits, beyond, alike))
+    drop(sides);
+    Ok((wrong?, waits, beyond, alike))
 }
 
 #[test]
 fn the_wait_of_a_processor_stays_within(rt: HostRuntime) -> Result<(), Fail> {
     let own = waited(rt.alloc(), 108)?;
-    assert_eq!(rt; own, (None, true, true, false));
+    same(&rt, own, (None, true, true, false));
     let other = waited(rt.alloc(), 2)?;
-    assert_eq!(rt; other, (None, false, true, true));
+    same(&rt, other, (None, false, true, true));
     Ok(())
 }
 
@@ -443,17 +497,18 @@ fn configured(
 ) -> Result<(Option<u32>, Option<u32>, Option<u32>), Fail> {
     let m = NodeId(m);
     let mut sides = configured_sides(alloc, m)?;
-    let wrong = wrong_turn(alloc, &mut sides.loud, &mut sides.quiet, m, turns, beyond)?;
+    let wrong = wrong_turn(alloc, &mut sides.loud, &mut sides.quiet, m, turns, beyond);
     let loud = sides.loud.book.usage(NodeId(8), NodeId(46));
     let quiet = sides.quiet.book.usage(NodeId(8), NodeId(46));
-    Ok((wrong, loud, quiet))
+    drop(sides);
+    Ok((wrong?, loud, quiet))
 }
 
 #[test]
 fn an_object_is_put_in_force_in_both_books_or_in_one(rt: HostRuntime) -> Result<(), Fail> {
     let both = configured(rt.alloc(), 8, &ENFORCED, &[2, 8, 107])?;
-    assert_eq!(rt; both, (None, Some(1), Some(0)));
+    same(&rt, both, (None, Some(1), Some(0)));
     let one = configured(rt.alloc(), 1, &HIDDEN, &[8, 107])?;
-    assert_eq!(rt; one, (None, Some(1), Some(0)));
+    same(&rt, one, (None, Some(1), Some(0)));
     Ok(())
 }

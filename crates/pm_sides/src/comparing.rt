@@ -1,10 +1,14 @@
 //! A run of a script is compared with the run without the messages of a master.
 
-ghost use Rattle.std.specs.Prelude.{IfOk};
+ghost use Rattle.std.specs.List.{list_any};
+ghost use Rattle.std.specs.Prelude.{◌==◌, IfOk, IsTrue};
 ghost use Rattle.pm_object.specs.Grammar.{IsObject};
 
+use crate::both::boxed;
+use crate::rows::all_right;
 use crate::table::small_chip;
-use pm_base::{Exit, MemInputs, MemSink, NodeId};
+use pm_base::{Exit, NoMemory, NodeId, with};
+use pm_io::{MemInputs, MemSink};
 use pm_isolate::compare;
 use pm_object::{Object, decode, has_key};
 use std::alloc::Global;
@@ -159,22 +163,50 @@ steps 4
     ),
 ];
 
-/// The object of the tests of books.
-pub(crate) fn object(alloc: Global) -> Result<Object, Fail>
-    ensures { IfOk result IsObject }
+/// The object of the tests of books, on the heap.
+pub(crate) fn object(alloc: Global) -> Result<Box<Object>, Fail>
+    ensures { IfOk result (λ object. IsObject object.value) }
 {
     object_of(alloc, OBJECT)
 }
 
-/// The object of these words.
-pub(crate) fn object_of(alloc: Global, words: &[u32]) -> Result<Object, Fail>
-    ensures { IfOk result IsObject }
+/// The object of these words, on the heap.
+pub(crate) fn object_of(alloc: Global, words: &[u32]) -> Result<Box<Object>, Fail>
+    ensures { IfOk result (λ object. IsObject object.value) }
 {
     let mut bytes = Vec::new(alloc);
     for word in words {
         bytes.extend_from_slice(&word.to_le_bytes())?;
     }
-    Ok(decode(alloc, &bytes)?)
+    Ok(boxed(alloc, decode(alloc, &bytes)?)?)
+}
+
+/// The input `script` with these bytes.
+fn inputs_of(alloc: Global, script: &str) -> Result<MemInputs, Fail> {
+    let mut inputs = MemInputs::new(alloc, &[])?;
+    let added = inputs.add("script", script.as_bytes());
+    let (inputs, ()) = with(inputs, added)?;
+    Ok(inputs)
+}
+
+/// Compares the two runs of the script over an object that has the master.
+fn compared_over(
+    alloc: Global,
+    object: Object,
+    m: NodeId,
+    inputs: &mut MemInputs,
+    out: &mut MemSink,
+) -> Result<Exit, NoMemory>
+    requires formed { IsObject object }
+    requires named { IsTrue (list_any (λ r. r.node == m.0) object.masters) }
+{
+    match small_chip(alloc) {
+        Ok(chip) => Ok(compare(alloc, object, chip, m, inputs, "script", out)),
+        Err(error) => {
+            drop(object);
+            Err(error)
+        }
+    }
 }
 
 /// Compares the two runs of a script over the object of these words, where the number is that of a master of it.
@@ -182,28 +214,40 @@ fn compared(
     alloc: Global,
     words: &[u32],
     m: u32,
-    script: &str,
+    inputs: &mut MemInputs,
     out: &mut MemSink,
 ) -> Result<Option<Exit>, Fail> {
-    let mut inputs = MemInputs::new(alloc, &[])?;
-    inputs.add("script", script.as_bytes())?;
     let object = object_of(alloc, words)?;
     if has_key(object.masters.as_slice(), m) {
-        let chip = small_chip(alloc)?;
-        let exit = compare(alloc, object, chip, NodeId(m), &mut inputs, "script", out);
+        let exit = compared_over(alloc, Box::into_inner(object), NodeId(m), inputs, out)?;
         Ok(Some(exit))
     } else {
         Ok(None)
     }
 }
 
+/// Whether the runs of a script are compared to the end, and this text is put out.
+fn is_told(alloc: Global, words: &[u32], m: u32, script: &str, text: &str) -> Result<bool, Fail> {
+    let (mut inputs, mut out) = with(inputs_of(alloc, script)?, MemSink::new(alloc, None))?;
+    let exit = compared(alloc, words, m, &mut inputs, &mut out);
+    let is_written = out.bytes() == text.as_bytes();
+    drop(inputs);
+    drop(out);
+    Ok(exit? == Some(Exit::Done) && is_written)
+}
+
+/// The place of the first case that isn't compared to the end, or of which not that text is put out.
+fn wrong_case(alloc: Global) -> Result<Option<usize>, Fail> {
+    for (place, (words, m, script, text)) in CASES.iter().enumerate() {
+        if !is_told(alloc, words, *m, script, text)? {
+            return Ok(Some(place));
+        }
+    }
+    Ok(None)
+}
+
 #[test]
 fn a_number_of_a_master_and_of_a_power_node(rt: HostRuntime) -> Result<(), Fail> {
-    for (words, m, script, text) in &CASES {
-        let mut out = MemSink::new(rt.alloc(), None)?;
-        let exit = compared(rt.alloc(), words, *m, script, &mut out)?;
-        assert_eq!(rt; exit, Some(Exit::Done), "{m}");
-        assert_eq!(rt; out.bytes(), text.as_bytes(), "{m}");
-    }
+    all_right(&rt, wrong_case(rt.alloc())?);
     Ok(())
 }

@@ -7,6 +7,8 @@ mod both;
 #[cfg(test)]
 mod comparing;
 #[cfg(test)]
+mod rows;
+#[cfg(test)]
 mod running;
 #[cfg(test)]
 mod table;

@@ -1,36 +1,44 @@
 //! A list of events is run at once, and one by one.
 
-use crate::both::{ASKED, Desk, Turn, desk_of, text_of};
+use crate::both::{ASKED, Desk, Turn, desk_of, writes};
 use crate::comparing::object;
-use pm_base::{Event, List, NodeId, Unit};
+use crate::rows::all_right;
+use pm_base::{Event, List, NodeId, Unit, with};
 use pm_core::{Book, Outbox};
 use pm_laws::{quiet_event, run};
 use pm_script::parse_line;
 use std::alloc::Global;
 use std::test::Fail;
 
+/// The event of a line, with nothing in place of a message of the master.
+fn event_without(m: NodeId, line: &str) -> Result<Event, Fail> {
+    let event = parse_line(line.as_bytes())?;
+    let pass = Event::Pass;
+    let is_left_out = *quiet_event(m, &event, &pass) == pass;
+    Ok(if is_left_out { Event::Pass } else { event })
+}
+
 /// The events of these lines, with nothing in place of each message of a master.
 fn events_without(alloc: Global, m: NodeId, turns: &[Turn]) -> Result<Vec<Event>, Fail> {
     let mut events = Vec::new(alloc);
     for (_, line, _, _) in turns {
-        let event = parse_line(line.as_bytes())?;
-        let pass = Event::Pass;
-        let is_left_out = *quiet_event(m, &event, &pass) == pass;
-        events.push(if is_left_out { Event::Pass } else { event })?;
+        events.push(event_without(m, line)?)?;
     }
     Ok(events)
 }
 
 /// The book at load, after a run of these events at once.
 fn run_of(alloc: Global, events: &[Event]) -> Result<Box<Desk>, Fail> {
-    let mut desk = desk_of(alloc, object(alloc)?, List::new(alloc))?;
+    let object = Box::into_inner(object(alloc)?);
+    let mut desk = desk_of(alloc, object, List::new(alloc))?;
     desk.run(events);
     Ok(desk)
 }
 
 /// The book at load, after these events one by one.
 fn steps_of(alloc: Global, events: &[Event]) -> Result<Box<Desk>, Fail> {
-    let mut desk = desk_of(alloc, object(alloc)?, List::new(alloc))?;
+    let object = Box::into_inner(object(alloc)?);
+    let mut desk = desk_of(alloc, object, List::new(alloc))?;
     for event in events {
         desk.step(event);
     }
@@ -98,19 +106,41 @@ static END: [(u32, u32, u32); 6] = [
     (108, 1, 1),
 ];
 
+/// The books after these events, at once and one by one.
+fn desks_of(alloc: Global, events: &[Event]) -> Result<(Box<Desk>, Box<Desk>), Fail> {
+    with(run_of(alloc, events)?, steps_of(alloc, events))
+}
+
+/// Whether the last of nine steps put out this text in both outboxes.
+fn both_write(alloc: Global, one: &Outbox, other: &Outbox, text: &str) -> Result<bool, Fail> {
+    Ok(writes(alloc, 9, one, text)? && writes(alloc, 9, other, text)?)
+}
+
+/// Whether these events, at once and one by one, put out this text at their end, and leave equal books, which have the values
+/// of `END`.
+fn ends(alloc: Global, events: &[Event], text: &str) -> Result<bool, Fail> {
+    let (at_once, by_steps) = desks_of(alloc, events)?;
+    let are_told = both_write(alloc, &at_once.out, &by_steps.out, text);
+    let are_kept = are_equal(&at_once.book, &by_steps.book) && are_valued(&at_once.book, &END);
+    drop(at_once);
+    drop(by_steps);
+    Ok(are_told? && are_kept)
+}
+
+/// The place of the first end that isn't so.
+fn wrong_end(alloc: Global) -> Result<Option<usize>, Fail> {
+    for (place, (m, text)) in ENDS.iter().enumerate() {
+        let events = events_without(alloc, NodeId(*m), &ASKED)?;
+        if !ends(alloc, events.as_slice(), text)? {
+            return Ok(Some(place));
+        }
+    }
+    Ok(None)
+}
+
 #[test]
 fn a_run_ends_as_its_steps_do(rt: HostRuntime) -> Result<(), Fail> {
-    for (m, text) in &ENDS {
-        let events = events_without(rt.alloc(), NodeId(*m), &ASKED)?;
-        let at_once = run_of(rt.alloc(), events.as_slice())?;
-        let by_steps = steps_of(rt.alloc(), events.as_slice())?;
-        let first = text_of(rt.alloc(), 9, &at_once.out)?;
-        let second = text_of(rt.alloc(), 9, &by_steps.out)?;
-        assert_eq!(rt; first.as_slice(), text.as_bytes(), "{m}");
-        assert_eq!(rt; second.as_slice(), text.as_bytes(), "{m}");
-        assert!(rt; are_equal(&at_once.book, &by_steps.book), "{m}");
-        assert!(rt; are_valued(&at_once.book, &END), "{m}");
-    }
+    all_right(&rt, wrong_end(rt.alloc())?);
     Ok(())
 }
 
@@ -120,18 +150,38 @@ static KEPT: [(usize, &str, &[u32]); 2] = [
     (9, "0 run 2 0\n0 call 1 31 8 2006 0 0\n", &[2]),
 ];
 
+/// The book after these events, twice.
+fn same_desks(alloc: Global, events: &[Event]) -> Result<(Box<Desk>, Box<Desk>), Fail> {
+    with(run_of(alloc, events)?, run_of(alloc, events))
+}
+
+/// Whether a run of no event, after these, leaves this text and these nodes in the outbox, and the book as it is.
+fn keeps(alloc: Global, events: &[Event], text: &str, moved: &[u32]) -> Result<bool, Fail> {
+    let (still, mut desk) = same_desks(alloc, events)?;
+    desk.run(&[]);
+    let is_told = writes(alloc, 0, &desk.out, text);
+    let is_kept = have_moved(&desk.out, moved) && are_equal(&desk.book, &still.book);
+    drop(still);
+    drop(desk);
+    Ok(is_told? && is_kept)
+}
+
+/// The place of the first of these that isn't so.
+fn wrong_kept(alloc: Global, all: &[Event]) -> Result<Option<usize>, Fail> {
+    for (place, (count, text, moved)) in KEPT.iter().enumerate() {
+        let events = all.get(..*count).ok_or("too few")?;
+        if !keeps(alloc, events, text, moved)? {
+            return Ok(Some(place));
+        }
+    }
+    Ok(None)
+}
+
 #[test]
 fn a_run_of_no_event_changes_nothing(rt: HostRuntime) -> Result<(), Fail> {
     let all = events_without(rt.alloc(), NodeId(8), &ASKED)?;
-    for (count, text, moved) in &KEPT {
-        let events = all.get(..*count).ok_or("too few")?;
-        let still = run_of(rt.alloc(), events)?;
-        let mut desk = run_of(rt.alloc(), events)?;
-        desk.run(&[]);
-        let kept = text_of(rt.alloc(), 0, &desk.out)?;
-        assert_eq!(rt; kept.as_slice(), text.as_bytes(), "{count}");
-        assert!(rt; have_moved(&desk.out, moved), "{count}");
-        assert!(rt; are_equal(&desk.book, &still.book), "{count}");
-    }
+    let wrong = wrong_kept(rt.alloc(), all.as_slice());
+    drop(all);
+    all_right(&rt, wrong?);
     Ok(())
 }

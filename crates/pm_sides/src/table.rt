@@ -1,7 +1,7 @@
 //! A small chip, in which number 8 is that of a master and of a power node that is none of its parts.
 
 ghost use Rattle.std.specs.Prelude.{◌≡◌, ◌∷◌, [], None, IfOk};
-ghost use Rattle.pm_topology.specs.Chip.{master, power, proc};
+ghost use Rattle.pm_chip.specs.Chip.{master, power, proc};
 ghost use Rattle.pm_topology.specs.WellFormed.{IsWellFormed};
 ghost use Rattle.pm_sides.specs.Table.{masters, powers, procs, slaves, small};
 

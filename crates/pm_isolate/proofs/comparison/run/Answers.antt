@@ -1,6 +1,6 @@
 use Rattle.std.proofs.Common.{List, [], ◌∷◌, ℕ, subst}
-use Rattle.pm_base.specs.Sink.{Wrote}
-use Rattle.pm_base.specs.Writing.{BreaksIn}
+use Rattle.pm_io.specs.Sink.{Wrote}
+use Rattle.pm_io.specs.Writing.{BreaksIn}
 use Rattle.pm_reader.specs.Front.{ran}
 use Rattle.pm_reader.proofs.AheadLemmas.{Idle, front_script}
 use Rattle.pm_reader.proofs.Named.{of_more}

@@ -2,12 +2,12 @@ use Rattle.std.proofs.Common.{◌≡◌, ◌∙◌, ◌∷◌, List, length, ref
 use Rattle.pm_base.specs.declared.events.Event.{Event}
 use Rattle.pm_core.specs.Step.{effect}
 use Rattle.pm_state.specs.State.{State}
-use Rattle.pm_state.specs.Units.{moved}
-use Rattle.pm_state.specs.Values.{value}
 use Rattle.pm_split.specs.Left.{core_event, events_left}
 use Rattle.pm_run.specs.Run.{book_after, setup_of, split}
-use Rattle.pm_isolate.specs.Moves.{Logged, logged_along, with_units}
-use Rattle.pm_isolate.proofs.StandLemmas.{line_ends, next_left, none_ends, one_more}
+use Rattle.pm_isolate.specs.Moves.{Logged, line_moves, logged_along, with_step}
+use Rattle.pm_isolate.specs.Within.{line_after}
+use Rattle.pm_isolate.proofs.MovesLemmas.{pass_logs}
+use Rattle.pm_isolate.proofs.StandLemmas.{line_ends, next_left, none_ends, one_more, pass_stands}
 use Rattle.pm_isolate.proofs.worlds.step_line.Goals as goal
 
 pub loop-core-init : goal.loop-core-init
@@ -48,7 +48,7 @@ loop-core-preserved c =
       moves =
           ap (λ (b : State). logged_along marks later b c.step.new.moves) (c.step.ensures.book ∙ ap (effect core) stays)
           ∙ ap (λ (m : Logged). logged_along marks later (effect core now.book) m)
-          (c.step.ensures.moves ∙ ap (λ (b : State). with_units marks (moved (λ u. value u b) (effect core b)) c.loop-core.moves) stays)
+          (c.step.ensures.moves ∙ ap (λ (b : State). with_step marks core b (effect core b) c.loop-core.moves) stays)
           ∙ sym (ap (λ (events : List Event). logged_along marks events now.book c.loop-core.moves) next)
           ∙ c.loop-core.invariant.moves;
     }
@@ -59,12 +59,21 @@ loop-core-smaller c =
     c.loop-core.invariant.way.fixed c.in-Some.ensures.events c.step.ensures.boxes in
     omega (arith, ap length next)
 
+pub returns-in-Pass : goal.returns-in-Pass
+returns-in-Pass c =
+    let start = c.args.runner.now in
+    let m = c.args.moves.now in
+    record {
+      stand = sym (ap (λ (e : Event). line_after e start) c.in-Pass.is ∙ pass_stands start);
+      moves = sym (ap (λ (e : Event). line_moves c.args.marks.now e start m) c.in-Pass.is ∙ pass_logs c.args.marks.now start m);
+    }
+
 pub returns : goal.returns
 returns c =
     let now = c.loop-core.runner in
-    let none = none_ends c.loop-core.left c.args.runner.now now c.loop-core.invariant.way.fixed c.in_default.ensures.events.0 in
+    let none = none_ends c.loop-core.left c.args.runner.now now c.loop-core.invariant.way.fixed c.in_default-next.ensures.events.0 in
     record {
       stand = line_ends c.args.event.now c.loop-core.left c.args.runner.now now c.next.new.self c.loop-core.invariant.way
-          c.in_default.ensures.book c.in_default.ensures.events.0 (c.in_default.ensures.end refl);
+          c.in_default-next.ensures.book c.in_default-next.ensures.events.0 (c.in_default-next.ensures.end refl);
       moves = sym (ap (λ (events : List Event). logged_along c.args.marks.now events now.book c.loop-core.moves) none) ∙ c.loop-core.invariant.moves;
     }

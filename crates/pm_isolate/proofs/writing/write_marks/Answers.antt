@@ -1,7 +1,7 @@
 use Rattle.std.proofs.Common.{◌≡◌, Some, subst, sym}
 use Rattle.std.specs.Prelude.{slice_get}
 use Rattle.std.proofs.lemmas.Result.{err_from_is_err_and}
-use Rattle.pm_base.proofs.SinkLemmas.{BreaksIn-joined, BreaksIn-piece, Wrote-piece}
+use Rattle.pm_io.proofs.SinkLemmas.{BreaksIn-joined, BreaksIn-piece, Wrote-piece}
 use Rattle.pm_topology.specs.declared.topology.Topology.{Topology}
 use Rattle.pm_isolate.specs.Within.{mark_line, mark_lines}
 use Rattle.pm_isolate.proofs.ReportLemmas.{slice_get-map}

@@ -3,4 +3,4 @@ use Rattle.pm_sides.specs.Sides.{at_4096}
 use Rattle.pm_sides.proofs.both.attached_of.Given as goal
 
 abbrev pub invariant-loop-object : goal.invariant-loop-object
-invariant-loop-object l = l.attached ≡ map at_4096 (take l.object-index l.objects)
+invariant-loop-object l = l.attached.value ≡ map at_4096 (take l.object-index l.objects)

@@ -1,8 +1,9 @@
-use Rattle.std.proofs.Common.{List, ◌∙◌, refl, sym}
+use Rattle.std.proofs.Common.{List, refl, map}
 use Rattle.pm_object.specs.declared.attached.Attached.{Attached}
 use Rattle.pm_object.specs.declared.object.Object.{Object}
 use Rattle.pm_state.specs.State.{Fixed}
 use Rattle.pm_laws.specs.ReachBorder.{border_of}
+use Rattle.pm_sides.specs.Sides.{at_4096}
 use Rattle.pm_sides.specs.Table.{small}
 use Rattle.pm_sides.proofs.SidesLaw.{objects_formed, sides_at_load}
 use Rattle.pm_sides.proofs.TableLaw.{small_sound}
@@ -10,11 +11,10 @@ use Rattle.pm_sides.proofs.both.sides_over.Goals as goal
 
 pub returns : goal.returns
 returns c =
-    let object : Object = c.args.object in
-    let attached : List Attached = c.in_ok-attached_of.field-0 in
+    let object : Object = c.args.object.now in
+    let attached : List Attached = map at_4096 c.args.others.now in
     let fixed : Fixed = record { object = object; topology = small; attached = attached } in
-    let are = objects_formed object c.args.others.now attached small c.requires.formed c.requires.others c.in_ok-attached_of.ensures in
+    let are = objects_formed object c.args.others.now attached small c.requires.formed c.requires.others refl in
     let closed = c.reach_is_closed.ensures.closed fixed c.args.m are small_sound in
-    sides_at_load c.args.m object c.in_ok-other.other attached c.in_ok-attached_of-2.field-0 small c.in_ok-loud.loud.value.book c.in_ok-quiet.quiet.value.book
-    are c.requires.named c.in_ok-other.ensures (c.in_ok-attached_of-2.ensures ∙ sym c.in_ok-attached_of.ensures)
+    sides_at_load c.args.m object attached small c.in_ok-loud.loud.value.book c.in_ok-quiet.quiet.value.book are c.requires.named
     (c.books_agree.ensures.load (border_of fixed c.args.m) fixed object 0 refl closed) c.in_ok-loud.ensures c.in_ok-quiet.ensures

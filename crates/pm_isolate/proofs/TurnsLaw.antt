@@ -1,0 +1,110 @@
+-- A core event that may turn no mode leaves all processors as they are.
+use Rattle.std.proofs.Common.{◌≡◌, ℕ, ◌==◌, ◌||◌, ◌⊎◌, Bool, true, false, if◌then◌else◌, List, [], ◌∷◌, Option, Some, None, refl, inl, inr, sym, ap, ◌∙◌, subst}
+use Rattle.std.specs.Prelude.{is_some, option_and_then}
+use Rattle.pm_base.specs.declared.events.Event.{Event}
+use Rattle.pm_base.specs.declared.events.Event.TheVariants.{Ipi}
+use Rattle.pm_base.specs.declared.events.Message.{Message}
+use Rattle.pm_ipi.specs.declared.calls.Call.{Call}
+use Rattle.pm_ipi.specs.declared.calls.Call.TheVariants.{GetApiVersion}
+use Rattle.pm_ipi.specs.Calls.{call_of}
+use Rattle.pm_rows.specs.declared.row.Change.{Change}
+use Rattle.pm_rows.specs.declared.row.Entry.{Entry}
+use Rattle.pm_state.specs.Members.{mode_of_master}
+use Rattle.pm_state.specs.Prims.{Prim, At_row, changed}
+use Rattle.pm_state.specs.Stages.{after_stages}
+use Rattle.pm_state.specs.State.{State}
+use Rattle.pm_state.specs.Values.{master_place}
+use Rattle.pm_calls.specs.Checks.{Cause, Fits, Stands, first_failing}
+use Rattle.pm_calls.specs.RowCalls.{changes_of}
+use Rattle.pm_calls.specs.Shapes.{Shape, Own_arming, Own_row, shaped}
+use Rattle.pm_calls.specs.Verdict.{Called, stages_by}
+use Rattle.pm_calls.specs.Views.{row_view}
+use Rattle.pm_calls.specs.calls.{called, only_reads, shape_of}
+use Rattle.pm_calls.specs.calls.SetWakeupSource.{arming}
+use Rattle.pm_step.specs.Step.{call_at, keeps_procs, may_call, message_stages, row_node}
+use Rattle.pm_step.proofs.ModesLaw.{follow_keeps}
+use Rattle.pm_step.proofs.Refused.{none_staged, read_at}
+use Rattle.pm_core.specs.Step.{effect}
+use Rattle.pm_isolate.specs.Moves.{keeps_modes, may_turn}
+use Rattle.pm_isolate.proofs.HistoryLemmas.{not_false, one}
+
+-- the processors after a step of a book are those before it
+abbrev pub KeepsProcs : State → State → Type 0
+KeepsProcs book next = next.now.core.procs ≡ book.now.core.procs
+
+-- these stages leave them
+abbrev LeavesProcs : State → List (List Prim) → Type 0
+LeavesProcs book stages = KeepsProcs book (after_stages stages book)
+
+-- the rows follow, and the processors stay
+stage_leaves : (prims : List Prim) (book : State) → KeepsProcs book (changed prims book) → LeavesProcs book (prims ∷ [])
+stage_leaves prims book same =
+    let mid : State = changed prims book in
+    (follow_keeps book.fixed mid.now.core 0 book.fixed.object.masters mid.now).0 ∙ same
+
+row_leaves : (by : Change) (book : State) (entry : Option Entry) → LeavesProcs book (changes_of by entry ∷ [])
+row_leaves by book None = stage_leaves [] book refl
+row_leaves by book (Some entry) = stage_leaves (At_row entry.seed.master entry.seed.slave by ∷ []) book refl
+
+-- ---- a message
+
+by_cause : (book : State) (cause : Cause) (stages : List (List Prim)) → LeavesProcs book stages → LeavesProcs book (stages_by cause stages)
+by_cause book (Stands Fits) stages leaves = leaves
+by_cause book _ stages leaves = refl
+
+call_leaves : (call : Call) (book : State) (m : ℕ) (heard : Bool) → LeavesProcs book (called m call book).stages → LeavesProcs book (message_stages (if heard then Some (called m call book) else None))
+call_leaves call book m true leaves = by_cause book (first_failing (called m call book).checks) (called m call book).stages leaves
+call_leaves call book m false leaves = refl
+
+message_leaves : (call : Call) (book : State) (place : Option ℕ) → ((m : ℕ) → LeavesProcs book (called m call book).stages) → LeavesProcs book (message_stages (option_and_then (call_at call book) place))
+message_leaves call book None leaves = refl
+message_leaves call book (Some m) leaves = call_leaves call book m (may_call m book) (leaves m)
+
+called_shaped : (m : ℕ) (call : Call) (book : State) → called m call book ≡ shaped m (shape_of call) book
+called_shaped m GetApiVersion book = refl
+called_shaped m _ book = refl
+
+shape_leaves : (m : ℕ) (shape : Shape) (book : State) → is_some (row_node shape) ≡ true → LeavesProcs book (shaped m shape book).stages
+shape_leaves m (Own_row node by call) book is =
+    row_leaves (by (mode_of_master book.fixed book.now.core m)) book (row_view m node book).entry
+shape_leaves m (Own_arming target source enable) book is =
+    row_leaves (arming target enable) book (row_view m source book).entry
+shape_leaves m _ book is = cc
+
+either_of : (reads row : Bool) → (reads || row) ≡ true → (reads ≡ true) ⊎ (row ≡ true)
+either_of true row is = inl refl
+either_of false row is = inr is
+
+call_keeps : (call : Call) (book : State) (place : Option ℕ) → keeps_procs call ≡ true → LeavesProcs book (message_stages (option_and_then (call_at call book) place))
+call_keeps call book place keeps = elim (either_of (only_reads call) (is_some (row_node (shape_of call))) keeps) [
+  | inl reads ↦ ap (λ (stages : List (List Prim)). (after_stages stages book).now.core.procs) (read_at call book place reads)
+  | inr row ↦ message_leaves call book place (λ m.
+      let Q : Called → Type 0 = λ c. LeavesProcs book c.stages in
+      subst Q (sym (called_shaped m call book)) (shape_leaves m (shape_of call) book row))
+]
+
+-- ---- the number of a message
+
+number_keeps : (message : Message) (n : ℕ) → keeps_procs (call_of (record message { api = n })) ≡ true → (message.api == n) ≡ true → keeps_procs (call_of message) ≡ true
+number_keeps message n keeps is = subst (λ (api : ℕ). keeps_procs (call_of (record message { api = api })) ≡ true) (sym (one message.api n is)) keeps
+
+either_keeps : (message : Message) (n : ℕ) (before : Bool) → keeps_procs (call_of (record message { api = n })) ≡ true → (before ≡ true → keeps_procs (call_of message) ≡ true)
+    → (before || (message.api == n)) ≡ true → keeps_procs (call_of message) ≡ true
+either_keeps message n before keeps earlier is = by before refl is
+  where
+    by : (b : Bool) → before ≡ b → (b || (message.api == n)) ≡ true → keeps_procs (call_of message) ≡ true
+    by true first is = earlier first
+    by false first is = number_keeps message n keeps is
+
+message_keeps : (message : Message) → keeps_modes message.api ≡ true → keeps_procs (call_of message) ≡ true
+message_keeps message =
+    either_keeps message 18 _ refl (either_keeps message 16 _ refl (either_keeps message 15 _ refl (either_keeps message 14 _ refl (either_keeps message 13 _ refl
+    (either_keeps message 11 _ refl (either_keeps message 4 _ refl (either_keeps message 3 _ refl (number_keeps message 1 refl))))))))
+
+-- ---- a core event
+
+pub event_keeps : (event : Event) (book : State) → may_turn event ≡ false → KeepsProcs book (effect event book)
+event_keeps (Ipi master message) book stays =
+    let call : Call = call_of message in
+    call_keeps call book (master_place master book) (message_keeps message (not_false (keeps_modes message.api) stays))
+event_keeps event book stays = ap (λ (stages : List (List Prim)). (after_stages stages book).now.core.procs) (none_staged event book stays)
