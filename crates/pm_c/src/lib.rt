@@ -4,6 +4,10 @@
 
 pub mod commands;
 pub mod events;
+mod exits;
 pub mod handles;
+mod held_reads;
 pub mod reading;
 pub mod running;
+mod telling;
+mod whole_run;

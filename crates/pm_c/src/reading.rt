@@ -4,13 +4,13 @@ ghost use Rattle.std.specs.Prelude.{◌≡◌, ◌≤◌, ◌<◌, [], ◌∷◌
 ghost use Rattle.pm_controller.specs.Controls.{is_settled, mode_of, text_of, value_of};
 ghost use Rattle.pm_slot.specs.Held.{Holds, inside};
 ghost use Rattle.pm_handle.specs.Handle.{IsOneOf, IsOver, IsWaiting};
-ghost use Rattle.pm_handle_reads.specs.Read.{HasNoStatus, IsBeyond, IsStatus, mode_number};
+ghost use Rattle.pm_c.specs.HeldReads.{HasNoStatus, IsBeyond, IsStatus, mode_number};
 
-use pm_base::{Message, NodeId};
-use pm_handle_reads::reading::{
+use crate::held_reads::{
     StatusWords, read_beyond, read_mode, read_settled, read_status, read_value,
 };
-use pm_handle_reads::telling::write_text;
+use crate::telling::write_text;
+use pm_base::{Message, NodeId};
 use pm_slot::Slot;
 use std::alloc::Global;
 

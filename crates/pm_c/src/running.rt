@@ -3,11 +3,11 @@
 ghost use Rattle.std.specs.Prelude.{◌≡◌, ◌≤◌, take, length};
 ghost use Rattle.pm_object.specs.declared.object.Object.{Object};
 ghost use Rattle.pm_object.specs.Grammar.{Reads};
-ghost use Rattle.pm_whole_run.specs.Run.{WasRun, exit_due};
+ghost use Rattle.pm_c.specs.WholeRun.{WasRun, exit_due};
 
+use crate::whole_run::run_in_memory;
 use pm_base::Exit;
 use pm_device::{Device, ModelDevice};
-use pm_whole_run::running::run_in_memory;
 use std::alloc::Global;
 
 /// Runs a script over a configuration object, the topology of the chip and a new device in memory, with no modules and

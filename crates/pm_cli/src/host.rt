@@ -2,9 +2,10 @@
 //! of what they hold.
 
 ghost use Rattle.std.specs.Prelude.{◌≡◌, ◌⊎◌, [], take, length, ◌≤◌, IfSome};
-ghost use Rattle.pm_base.specs.Inputs.{unobserved};
+ghost use Rattle.pm_io.specs.Inputs.{unobserved};
 
-use pm_base::{CallLog, Entry, Exit, Failed, Inputs, NoMemory, Sink};
+use pm_base::{Exit, Failed, NoMemory};
+use pm_io::{CallLog, Entry, Inputs, Sink};
 use std::alloc::Global;
 use std::fs;
 use std::io::{Read, Write};

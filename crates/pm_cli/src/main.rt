@@ -2,7 +2,7 @@
 #![tactic(auto)]
 
 ghost use Rattle.std.specs.Prelude.{◌≡◌, ℕ, [], IfOk, None, Option, Some, map, string_bytes};
-ghost use Rattle.pm_topology.specs.Chip.{chip};
+ghost use Rattle.pm_chip.specs.Chip.{chip};
 ghost use Rattle.pm_device.specs.Fresh.{IsFresh};
 ghost use Rattle.pm_device.specs.Model.{moment_of};
 ghost use Rattle.pm_top.specs.declared.works.Work.TheVariants.{Replay};
@@ -19,12 +19,12 @@ mod host;
 use brought::{boxed, modules, tasks};
 use host::{HostInputs, HostSink};
 use pm_base::{Exit, NoMemory};
+use pm_chip::zynqmp;
 use pm_device::{ModelDevice, chains_are_logged};
 use pm_modules::{Echo, Masked, Modules, Responder};
 use pm_replay::logged_acts_are_safe;
 use pm_tasks::{Counter, Handler, Tasks};
 use pm_top::pm_main;
-use pm_topology::zynqmp;
 use std::alloc::Global;
 use std::process::ExitCode;
 use std::rt::{Env, Files};
@@ -48,18 +48,44 @@ fn run<R: Env + Files + Print + AllocGlobal>(rt: &R) -> Exit {
     }
 }
 
-/// Runs these words over a new device, with the modules and the timed tasks of the program: two handlers for ranges of
-/// API words, and two that count their calls.
+/// Runs these words over a new device, with the modules and the timed tasks of the program.
 fn run_words<R: Files + Print + AllocGlobal>(rt: &R, words: &[String]) -> Result<Exit, NoMemory> {
+    let mut device = device(rt.alloc())?;
+    run_over(rt, words, &mut device)
+}
+
+/// Runs them over this device, with two handlers for ranges of API words, and the timed tasks.
+fn run_over<R: Files + Print + AllocGlobal>(
+    rt: &R,
+    words: &[String],
+    device: &mut ModelDevice,
+) -> Result<Exit, NoMemory>
+    requires fresh { IsFresh chip (moment_of device.old) }
+    requires log { device.old.log ≡ [] }
+{
     let alloc = rt.alloc();
-    let mut device = device(alloc)?;
     let echo = boxed(alloc, Echo)?;
     let masked = boxed(alloc, Masked { mask: 255 })?;
     let modules = modules::<Box<dyn Responder>>(alloc, echo, masked)?;
+    run_with(rt, words, device, &modules)
+}
+
+/// Runs them over this device with these modules, and with two handlers that count their calls.
+fn run_with<R: Files + Print + AllocGlobal>(
+    rt: &R,
+    words: &[String],
+    device: &mut ModelDevice,
+    modules: &Modules,
+) -> Result<Exit, NoMemory>
+    requires fresh { IsFresh chip (moment_of device.old) }
+    requires log { device.old.log ≡ [] }
+    requires modules { ranges ⟦<Box<dyn Responder> as Responder>⟧ modules.now ≡ programs_modules }
+{
+    let alloc = rt.alloc();
     let first = boxed(alloc, Counter { calls: 0 })?;
     let second = boxed(alloc, Counter { calls: 0 })?;
     let mut tasks = tasks::<Box<dyn Handler>>(alloc, first, second)?;
-    Ok(work(rt, words, &mut device, &modules, &mut tasks))
+    Ok(work(rt, words, device, modules, &mut tasks))
 }
 
 /// Runs these words over a new device, with the modules and the timed tasks of the program. Whatever becomes of them,

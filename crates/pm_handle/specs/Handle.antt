@@ -5,7 +5,7 @@ use Rattle.pm_base.specs.declared.names.Unit.{Unit}
 use Rattle.pm_base.specs.declared.names.Unit.TheVariants.{Node, Line}
 use Rattle.pm_object.specs.declared.object.Object.{Object}
 use Rattle.pm_object.specs.Grammar.{Reads}
-use Rattle.pm_topology.specs.Chip.{chip}
+use Rattle.pm_chip.specs.Chip.{chip}
 use Rattle.pm_controller.specs.Controls.{Controls}
 use Rattle.pm_controller.specs.Steps.{IsLoaded}
 use Rattle.pm_handle.specs.declared.commands.UnitCommand.{UnitCommand}

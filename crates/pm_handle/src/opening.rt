@@ -3,16 +3,16 @@
 ghost use Rattle.std.specs.Prelude.{◌≡◌, IfErr, IfOk, IfSome, Some};
 ghost use Rattle.pm_object.specs.declared.object.Object.{Object};
 ghost use Rattle.pm_object.specs.Grammar.{Reads};
-ghost use Rattle.pm_topology.specs.Chip.{chip};
+ghost use Rattle.pm_chip.specs.Chip.{chip};
 ghost use Rattle.pm_controller.specs.Steps.{IsLoaded};
 ghost use Rattle.pm_slot.specs.Held.{Holds, inside};
 ghost use Rattle.pm_handle.specs.Handle.{IsOpened, IsRefused};
 
 use crate::answers::{BAD_OBJECT, NO_MEMORY};
+use pm_chip::zynqmp;
 use pm_controller::Controller;
 use pm_object::{DecodeError, Object, decode};
 use pm_slot::{Held, Slot};
-use pm_topology::zynqmp;
 use std::alloc::Global;
 
 /// A slot with a controller of an object at load, over the topology of the chip.

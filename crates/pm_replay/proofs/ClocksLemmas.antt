@@ -5,7 +5,7 @@ use Rattle.std.proofs.Math.Seq.{take-suc}
 use Rattle.std.proofs.lemmas.Grind.{flat_map-append}
 use Rattle.std.proofs.lemmas.List.{append-nil, map-append}
 use Rattle.pm_base.specs.declared.errors.Failed.{Failed}
-use Rattle.pm_base.specs.declared.sink.Sink as Sink
+use Rattle.pm_io.specs.declared.sink.Sink as Sink
 use Rattle.pm_clock_tree.specs.declared.clock_tree.ClockChange.{ClockChange}
 use Rattle.pm_clock_tree.specs.declared.clock_tree.ClockEnd.{ClockEnd}
 use Rattle.pm_clock_tree.specs.declared.table.ClockDef.{ClockDef}

@@ -6,10 +6,10 @@ use Rattle.std.proofs.lemmas.List.{append_assoc}
 use Rattle.pm_base.specs.declared.errors.Failed.{Failed}
 use Rattle.pm_base.specs.declared.events.Event.{Event}
 use Rattle.pm_base.specs.declared.events.Event.TheVariants.{Ipi}
-use Rattle.pm_base.specs.declared.sink.Sink as Sink
-use Rattle.pm_base.specs.Sink.{Wrote}
-use Rattle.pm_base.specs.Writing.{BreaksIn}
-use Rattle.pm_base.proofs.SinkLemmas.{Wrote-refl, Wrote-trans}
+use Rattle.pm_io.specs.declared.sink.Sink as Sink
+use Rattle.pm_io.specs.Sink.{Wrote}
+use Rattle.pm_io.specs.Writing.{BreaksIn}
+use Rattle.pm_io.proofs.SinkLemmas.{Wrote-refl, Wrote-trans}
 use Rattle.pm_device.specs.declared.device.Device as Device
 use Rattle.pm_device.specs.Act.{Chain}
 use Rattle.pm_device.specs.Chains.{Chain-append}

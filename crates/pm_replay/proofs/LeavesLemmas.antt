@@ -3,10 +3,10 @@ use Rattle.std.proofs.Common.{ℕ, ◌+◌, List, [], ◌∷◌, ◌++◌, lengt
 use Rattle.std.specs.List.{concat}
 use Rattle.std.proofs.lemmas.List.{append-nil}
 use Rattle.std.proofs.lemmas.List.Folds.{concat-append}
-use Rattle.pm_base.specs.declared.sink.Sink as Sink
-use Rattle.pm_base.specs.Sink.{Wrote}
-use Rattle.pm_base.specs.Writing.{Leaves}
-use Rattle.pm_base.proofs.SinkLemmas.{BreaksIn-after, BreaksIn-before, Wrote-is, Wrote-trans}
+use Rattle.pm_io.specs.declared.sink.Sink as Sink
+use Rattle.pm_io.specs.Sink.{Wrote}
+use Rattle.pm_io.specs.Writing.{Leaves}
+use Rattle.pm_io.proofs.SinkLemmas.{BreaksIn-after, BreaksIn-before, Wrote-is, Wrote-trans}
 
 -- a cut that is counted behind so many pieces
 abbrev pub behind : ℕ → Option ℕ → Option ℕ

@@ -3,10 +3,10 @@ use Rattle.std.proofs.Common.{◌≡◌, ℕ, ◌+◌, Bool, List, [], ◌∷◌
 use Rattle.std.specs.List.{concat}
 use Rattle.pm_base.specs.declared.errors.Exit.{Exit}
 use Rattle.pm_base.specs.declared.errors.Exit.TheVariants as exit
-use Rattle.pm_base.specs.declared.inputs.Inputs as Inputs
-use Rattle.pm_base.specs.declared.sink.Sink as Sink
+use Rattle.pm_io.specs.declared.inputs.Inputs as Inputs
+use Rattle.pm_io.specs.declared.sink.Sink as Sink
 use Rattle.pm_base.specs.Faults.{Rose}
-use Rattle.pm_base.specs.World.{World}
+use Rattle.pm_io.specs.World.{World}
 use Rattle.pm_device.specs.declared.device.Device as Device
 use Rattle.pm_board.specs.Board.{Standing}
 use Rattle.pm_object.specs.declared.object.Object.{Object}

@@ -2,7 +2,7 @@
 use Rattle.std.proofs.Common.{◌≡◌, ℕ, List, [], ◌∷◌, ◌++◌, map, Result, sym, subst}
 use Rattle.std.specs.Prelude.{⊤}
 use Rattle.pm_base.specs.declared.errors.Failed.{Failed}
-use Rattle.pm_base.specs.declared.sink.Sink as Sink
+use Rattle.pm_io.specs.declared.sink.Sink as Sink
 use Rattle.pm_split.specs.Split.{Note}
 use Rattle.pm_tasks.specs.declared.tasks.Fired.{Fired}
 use Rattle.pm_trace.specs.Notes.{notes_text}

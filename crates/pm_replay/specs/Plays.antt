@@ -2,7 +2,7 @@
 use Rattle.std.specs.Prelude.{◌≡◌, ℕ, Result, ⊤}
 use Rattle.pm_base.specs.declared.errors.Failed.{Failed}
 use Rattle.pm_base.specs.declared.events.Event.{Event}
-use Rattle.pm_base.specs.declared.sink.Sink as Sink
+use Rattle.pm_io.specs.declared.sink.Sink as Sink
 use Rattle.pm_modules.specs.declared.responders.Responder as Responder
 use Rattle.pm_tasks.specs.declared.handler.Handler as Handler
 use Rattle.pm_board.specs.Standing.{standing}

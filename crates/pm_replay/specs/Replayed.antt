@@ -2,10 +2,10 @@
 use Rattle.std.specs.Prelude.{◌≡◌, ℕ, Bool, List, ◌++◌, Option}
 use Rattle.pm_base.specs.declared.errors.Exit.{Exit}
 use Rattle.pm_base.specs.declared.events.Event.{Event}
-use Rattle.pm_base.specs.declared.inputs.Inputs as Inputs
-use Rattle.pm_base.specs.declared.sink.Sink as Sink
-use Rattle.pm_base.specs.Inputs.{Holds}
-use Rattle.pm_base.specs.World.{World}
+use Rattle.pm_io.specs.declared.inputs.Inputs as Inputs
+use Rattle.pm_io.specs.declared.sink.Sink as Sink
+use Rattle.pm_io.specs.Inputs.{Holds}
+use Rattle.pm_io.specs.World.{World}
 use Rattle.pm_device.specs.declared.device.Device as Device
 use Rattle.pm_board.specs.Board.{Standing}
 use Rattle.pm_object.specs.declared.attached.Attached.{Attached}

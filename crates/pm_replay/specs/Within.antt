@@ -4,9 +4,9 @@ use Rattle.std.specs.Prelude.{◌≡◌, ℕ, ◌+◌, Bool, List, [], ◌∷◌
 use Rattle.pm_base.specs.declared.errors.Exit.{Exit}
 use Rattle.pm_base.specs.declared.errors.Failed.{Failed}
 use Rattle.pm_base.specs.declared.events.Event.{Event}
-use Rattle.pm_base.specs.declared.sink.Sink as Sink
-use Rattle.pm_base.specs.Sink.{Wrote}
-use Rattle.pm_base.specs.Writing.{BreaksIn, Leaves}
+use Rattle.pm_io.specs.declared.sink.Sink as Sink
+use Rattle.pm_io.specs.Sink.{Wrote}
+use Rattle.pm_io.specs.Writing.{BreaksIn, Leaves}
 use Rattle.pm_device.specs.declared.device.Device as Device
 use Rattle.pm_device.specs.Act.{Chain}
 use Rattle.pm_board.specs.Board.{Standing, board_after}

@@ -8,8 +8,9 @@ ghost use Rattle.pm_replay.specs.Within.{WritesOn};
 
 use crate::controller::Controller;
 use crate::writing::write_clock;
-use pm_base::{Failed, Sink};
+use pm_base::Failed;
 use pm_clocks::{ClockChange, Clocks, all_clocks};
+use pm_io::Sink;
 
 /// Writes the lines of the clocks that began or ceased to run in a script line, all core steps of which were carried out.
 /// They are told of then. A sink that has failed before within the line is given nothing more. In a line that can't have

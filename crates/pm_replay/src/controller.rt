@@ -157,6 +157,7 @@ impl Controller {
     }
 
     /// Takes the next core event of a line off, if there is one; one that is made is left in `made`.
+    #[inline]
     pub fn next<'e>(&mut self, cores: &mut CoreEvents<'e>, made: &mut Event) -> Option<Source<'e>>
         ensures book { self.new.book ≡ self.old.book }
         ensures kept { self.new.kept ≡ self.old.kept }
@@ -165,7 +166,8 @@ impl Controller {
             ((events_left self.old.book.fixed.object self.old.book.fixed.topology self.old.boxes cores.old ≡ [])
             × (events_left self.old.book.fixed.object self.old.book.fixed.topology self.new.boxes cores.new ≡ []))
             (λ source. events_left self.old.book.fixed.object self.old.book.fixed.topology self.old.boxes cores.old
-            ≡ core_event source made.new ∷ events_left self.old.book.fixed.object self.old.book.fixed.topology self.new.boxes cores.new) }
+            ≡ core_event source made.new
+            ∷ events_left self.old.book.fixed.object self.old.book.fixed.topology self.new.boxes cores.new) }
         ensures boxes { boxes_left self.new.boxes cores.new ≡ boxes_left self.old.boxes cores.old }
         ensures end { result ≡ None → self.new.boxes ≡ boxes_left self.old.boxes cores.old }
     {

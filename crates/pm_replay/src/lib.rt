@@ -9,5 +9,6 @@ mod safe;
 mod tasks;
 mod writing;
 
+pub use pm_apart::driven_runs_keep_apart;
 pub use run::replay;
 pub use safe::logged_acts_are_safe;

@@ -2,8 +2,8 @@
 
 ghost use Rattle.std.specs.Prelude.{◌≡◌, ◌≢◌, ◌∷◌, [], IfOk};
 ghost use Rattle.pm_base.specs.Faults.{Rose};
-ghost use Rattle.pm_base.specs.declared.prefix.StopReason.TheVariants.{Failure, Unbegun};
-ghost use Rattle.pm_base.specs.Readings.{Meanwhile};
+ghost use Rattle.pm_io.specs.declared.prefix.StopReason.TheVariants.{Failure, Unbegun};
+ghost use Rattle.pm_io.specs.Readings.{Meanwhile};
 ghost use Rattle.pm_block.specs.Block.{attached_by};
 ghost use Rattle.pm_reader.specs.Follow.{OfScript, ReadsLines};
 ghost use Rattle.pm_reader.specs.Front.{Ahead, Attaches, WasReadAhead, ran};
@@ -22,11 +22,12 @@ use crate::clocks::clocks_on;
 use crate::controller::Controller;
 use crate::tasks::tasks_on;
 use crate::writing::{write_busy, write_call, write_late, write_step};
-use pm_base::{Event, Failed, Inputs, NodeId, Sink};
+use pm_base::{Event, Failed, NodeId};
 use pm_board::Board;
 use pm_core::{Answer, Outbox};
 use pm_device::Device;
 use pm_drive::rig;
+use pm_io::{Inputs, Sink};
 use pm_ipi::Response;
 use pm_modules::{ModulesOf, Responder};
 use pm_reader::{Follower, Front, LineStop, LinesEnd};
@@ -41,6 +42,8 @@ pub(crate) struct Player<'c, 'o, 'd, 'm, 't, O: Sink, D: Device, H: Drop, T: Dro
     dev: &'d mut D,
     modules: &'m ModulesOf<H>,
     tasks: &'t mut TasksOf<T>,
+    /// Where the core events stand that a line makes.
+    made: Event,
 }
 
 impl<'c, 'o, 'd, 'm, 't, O: Sink, D: Device, H: Responder, T: Handler> Follower
@@ -58,6 +61,7 @@ impl<'c, 'o, 'd, 'm, 't, O: Sink, D: Device, H: Responder, T: Handler> Follower
             self.dev,
             self.modules,
             self.tasks,
+            &mut self.made,
         )
     }
 }
@@ -93,6 +97,7 @@ pub(crate) fn run_lines<I: Inputs, O: Sink, D: Device, H: Responder, T: Handler>
         dev,
         modules: board.modules,
         tasks: &mut board.tasks,
+        made: Event::Pass,
     };
     front.follow(inputs, id, &mut player)
 }
@@ -109,6 +114,7 @@ fn run_line<O: Sink, D: Device, H: Responder, T: Handler>(
     dev: &mut D,
     modules: &ModulesOf<H>,
     tasks: &mut TasksOf<T>,
+    made: &mut Event,
 ) -> Result<(), Failed>
     ensures { (c : Setup) → setup_of controller.old.book ≡ c → AreTold controller.old.clocks
         → RanLine O.Sink D.Device c number event.now controller.old controller.new out.old out.new dev.old dev.new
@@ -120,9 +126,8 @@ fn run_line<O: Sink, D: Device, H: Responder, T: Handler>(
     let mut left = parts.cores;
     let mut written = Ok(());
     let mut reply = None;
-    let mut made = Event::Pass;
-    while let Some(core) = controller.next(&mut left, &mut made) {
-        let taken = core.event(&made);
+    while let Some(core) = controller.next(&mut left, made) {
+        let taken = core.event(made);
         controller.step(taken, dev);
         let outbox = controller.outbox();
         let answer = heard(modules, taken, &outbox.answer);

@@ -3,12 +3,12 @@
 ghost use Rattle.std.specs.Prelude.{◌≡◌, ◌≢◌, ◌⊎◌, IfOk};
 ghost use Rattle.pm_base.specs.declared.names.Unit.{Unit};
 ghost use Rattle.pm_base.specs.Faults.{Rose};
-ghost use Rattle.pm_base.specs.Inputs.{MayFail};
-ghost use Rattle.pm_base.specs.Sink.{HasFailed, IsUnfailed};
-ghost use Rattle.pm_base.specs.declared.prefix.StopReason.TheVariants.{Unbegun};
+ghost use Rattle.pm_io.specs.Inputs.{MayFail};
+ghost use Rattle.pm_io.specs.Sink.{HasFailed, IsUnfailed};
+ghost use Rattle.pm_io.specs.declared.prefix.StopReason.TheVariants.{Unbegun};
 ghost use Rattle.pm_script.specs.Named.{script_in};
 ghost use Rattle.pm_script.specs.Script.{script_limit, stop_of};
-ghost use Rattle.pm_base.specs.Readings.{Meanwhile};
+ghost use Rattle.pm_io.specs.Readings.{Meanwhile};
 ghost use Rattle.pm_reader.specs.Follow.{IsBrokenOff, OfScript};
 ghost use Rattle.pm_reader.specs.Front.{Ahead, Attaches, WasReadAhead, ahead_of, ran};
 ghost use Rattle.pm_topology.specs.WellFormed.{IsWellFormed};
@@ -23,13 +23,13 @@ ghost use Rattle.pm_trace.specs.Scripts.{ReadsBegun, ReadsScript, script_exit, s
 ghost use Rattle.pm_replay.specs.Replayed.{AnswersHaveCauses, ClocksFollow, IsRun, LinesServe, LowersCalls, Replayed, RunsKeepApart, TellsCalls};
 ghost use Rattle.pm_run.specs.Run.{Setup, setup, setup_for, setup_of};
 ghost use Rattle.pm_replay.specs.Safe.{IsSafe};
-ghost use Rattle.pm_base.specs.World.{world};
+ghost use Rattle.pm_io.specs.World.{world};
 
 use crate::controller::Controller;
 use crate::lines::run_lines;
 use crate::writing::{write_closing, write_step};
 use pm_apart::driven_runs_keep_apart;
-use pm_base::{Event, Exit, Failed, Inputs, List, NoMemory, Sink, StopReason, with};
+use pm_base::{Event, Exit, Failed, List, NoMemory, with};
 use pm_block::{Block, attached_objects_are_formed};
 use pm_board::{Board, happen};
 use pm_causes::runs_have_causes;
@@ -38,6 +38,7 @@ use pm_drive::{
     calls_are_told, clocks_are_followed, driven_follows, power_calls_are_their_events,
     scripts_are_lowered,
 };
+use pm_io::{Inputs, Sink, StopReason};
 use pm_modules::{ModulesOf, Responder};
 use pm_object::{Attached, Object};
 use pm_reader::{Front, LineStop};
@@ -82,7 +83,8 @@ pub fn replay<I: Inputs, O: Sink, D: Device, H: Responder, T: Handler>(
         (world inputs.old out.old dev.old) (world inputs.new out.new dev.new) }
     // What the input holds decides the exit, unless memory is wanted or the sink fails.
     ensures decided { I.observable
-        → EndsWith O.Sink (script_exit (script_or_fault (script_in (I.state inputs.old) script.now))) out.old out.new result }
+        → EndsWith O.Sink (script_exit
+        (script_or_fault (script_in (I.state inputs.old) script.now))) out.old out.new result }
     // On every exit: nothing was used without power, and no domain went down under its users.
     ensures safe { IsSafe D.Device topology dev.old dev.new }
     // On every exit: what was asked for, what was written of it, what was done to the device, and how the tasks are
@@ -327,7 +329,8 @@ fn run_rest<I: Inputs, O: Sink, D: Device, H: Responder, T: Handler>(
 /// script can't be read on.
 fn finish<O: Sink>(controller: &Controller, stop: StopReason, out: &mut O) -> Exit
     requires begins { stop ≢ Unbegun }
-    ensures { Reports O.Sink (closing_report (stop_of stop) controller.now.book controller.now.kept controller.now.clocks.tree)
+    ensures { Reports O.Sink (closing_report
+        (stop_of stop) controller.now.book controller.now.kept controller.now.clocks.tree)
         out.old out.new result }
 {
     match stop {

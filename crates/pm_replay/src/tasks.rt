@@ -9,8 +9,9 @@ ghost use Rattle.pm_trace.specs.Notes.{notes_text};
 ghost use Rattle.pm_replay.specs.Within.{WritesOn};
 
 use crate::writing::{write_no_task, write_task};
-use pm_base::{Event, Failed, Sink};
+use pm_base::{Event, Failed};
 use pm_board::happen;
+use pm_io::Sink;
 use pm_tasks::{Fired, Handler, TasksOf};
 
 /// Carries out what a line does to tasks, to its end, and writes the lines of it. A sink that has failed before within

@@ -14,9 +14,10 @@ ghost use Rattle.pm_trace.specs.Step.{notices_in, step_text};
 ghost use Rattle.pm_replay.specs.Within.{Writes, WritesOn};
 
 use crate::controller::Controller;
-use pm_base::{Failed, NodeId, Sink, write_all};
+use pm_base::{Failed, NodeId};
 use pm_clocks::{ClockChange, ClockEnd, Clocks, all_clocks};
 use pm_core::{Answer, Outbox};
+use pm_io::{Sink, write_all};
 use pm_tasks::Fired;
 use pm_trace::{
     TextLine, busy_line, call_line, clock_closing, clock_line, closing, entries, entry, late_line,
@@ -30,7 +31,8 @@ pub(crate) fn write_step<O: Sink>(
     answer: &Answer,
     out: &mut O,
 ) -> Result<(), Failed>
-    ensures { Writes O.Sink (step_text number outbox.now.done.items (notices_in outbox.now) answer.now) out.old out.new result }
+    ensures { Writes O.Sink (step_text number outbox.now.done.items
+        (notices_in outbox.now) answer.now) out.old out.new result }
 {
     let mut line = TextLine::new();
     for k in 0..entries(outbox, answer) {

@@ -2,9 +2,9 @@
 use Rattle.std.proofs.Common.{◌≡◌, ℕ, ◌<◌, ◌≤◌, ◌⊎◌, Bool, true, false, List, Option, Some, None, Result, Ok, Err, refl, sym, ◌∙◌, ap, subst, inl, inr}
 use Rattle.std.specs.Prelude.{IsSomeAnd}
 use Rattle.std.proofs.lemmas.Bool.{cases_lt}
-use Rattle.pm_base.specs.Inputs.{FailsWithin, MayFail, Moment}
-use Rattle.pm_base.specs.Prefix.{IsUnread, Prefix, prefix_of}
-use Rattle.pm_base.proofs.PrefixEnds.{prefix_fails}
+use Rattle.pm_io.specs.Inputs.{FailsWithin, MayFail, Moment}
+use Rattle.pm_io.specs.Prefix.{IsUnread, Prefix, prefix_of}
+use Rattle.pm_io.proofs.PrefixEnds.{prefix_fails}
 use Rattle.pm_script.specs.Script.{Script, script_limit, script_of}
 use Rattle.pm_script.specs.Script.Stop.{End, Failed}
 use Rattle.pm_trace.specs.declared.faults.Fault.{Fault}
@@ -16,7 +16,7 @@ use Rattle.pm_top.specs.declared.works.Form.{Form}
 use Rattle.pm_top.specs.declared.works.Source.{Source}
 use Rattle.pm_top.specs.declared.works.Source.TheVariants as source
 use Rattle.pm_top.specs.declared.reading.Subject.{Subject}
-use Rattle.pm_top.specs.Form.{word}
+use Rattle.pm_top.specs.Words.{word}
 use Rattle.pm_top.specs.Asked.{Asked, Begins, asked_of, first_prefix, later_prefix, object_limit, script_begins, script_by, script_turn, source_prefix, subject_of, text_limit, then_script, topology_by, topology_limit, with_script}
 use Rattle.pm_top.specs.Job.{Job, Meets}
 use Rattle.pm_top.specs.Ran.{FormMayFail, LaterMayFail, SourceMayFail}

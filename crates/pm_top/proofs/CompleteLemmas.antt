@@ -4,14 +4,14 @@ use Rattle.std.specs.Prelude.{IsSome}
 use Rattle.std.proofs.lemmas.Bool.{cases_lt}
 use Rattle.pm_base.specs.declared.errors.Exit.{Exit}
 use Rattle.pm_base.specs.declared.errors.Exit.TheVariants as exit
-use Rattle.pm_base.specs.declared.inputs.Inputs as Inputs
+use Rattle.pm_io.specs.declared.inputs.Inputs as Inputs
 use Rattle.pm_base.specs.declared.names.NodeId.{NodeId}
-use Rattle.pm_base.specs.declared.sink.Sink as Sink
+use Rattle.pm_io.specs.declared.sink.Sink as Sink
 use Rattle.pm_base.specs.Faults.{Rose}
-use Rattle.pm_base.specs.Inputs.{Holds, MayFail, Moment}
-use Rattle.pm_base.specs.Prefix.{Prefix}
-use Rattle.pm_base.specs.Sink.{HasFailed}
-use Rattle.pm_base.specs.World.{World}
+use Rattle.pm_io.specs.Inputs.{Holds, MayFail, Moment}
+use Rattle.pm_io.specs.Prefix.{Prefix}
+use Rattle.pm_io.specs.Sink.{HasFailed}
+use Rattle.pm_io.specs.World.{World}
 use Rattle.pm_object.specs.declared.object.Object.{Object}
 use Rattle.pm_object.specs.Grammar.{Reads}
 use Rattle.pm_object.specs.Reading.{reading}
@@ -36,7 +36,8 @@ use Rattle.pm_top.specs.Asked.{Begins, asked_of, built_of, first_prefix, laborat
 use Rattle.pm_top.specs.Complete.{FormIsRight, HoldsObject, IsComplete, IsRight, NamesMaster, NamesScript, ReadsRight}
 use Rattle.pm_top.specs.Done.{IsDone}
 use Rattle.pm_top.specs.Fit.{HoldsTopology}
-use Rattle.pm_top.specs.Form.{form, word}
+use Rattle.pm_top.specs.Form.{form}
+use Rattle.pm_top.specs.Words.{word}
 use Rattle.pm_top.specs.Ran.{Decides, FormDecides, FormMayFail, InputsMayFail, LaterMayFail, SourceMayFail, job_exit}
 use Rattle.pm_top.proofs.HeldWhole.{all_of, object_fits, script_whole, whole}
 use Rattle.pm_top.proofs.TakingLemmas.{means_short}

@@ -3,11 +3,11 @@ use Rattle.std.proofs.Common.{◌≡◌, ℕ, ◌+◌, Bool, true, false, List, 
 use Rattle.pm_base.specs.Faults.{Rose}
 use Rattle.pm_base.specs.declared.errors.Exit.{Exit}
 use Rattle.pm_base.specs.declared.errors.Exit.TheVariants as exit
-use Rattle.pm_base.specs.declared.inputs.Inputs as Inputs
-use Rattle.pm_base.specs.declared.sink.Sink as Sink
-use Rattle.pm_base.specs.Inputs.{Moment}
-use Rattle.pm_base.specs.Sink.{HasFailed, IsUnfailed}
-use Rattle.pm_base.specs.Writing.{Leaves}
+use Rattle.pm_io.specs.declared.inputs.Inputs as Inputs
+use Rattle.pm_io.specs.declared.sink.Sink as Sink
+use Rattle.pm_io.specs.Inputs.{Moment}
+use Rattle.pm_io.specs.Sink.{HasFailed, IsUnfailed}
+use Rattle.pm_io.specs.Writing.{Leaves}
 use Rattle.pm_board.specs.Board.{Standing}
 use Rattle.pm_script.specs.Script.{Stop}
 use Rattle.pm_script.specs.Script.Stop.{End, Bad, Past, Failed}

@@ -1,6 +1,6 @@
 -- A device that is of the chip, or that was fitted to a topology first.
 use Rattle.std.proofs.Common.{◌≡◌, [], None, Option, refl, ℕ, inl}
-use Rattle.pm_topology.specs.Chip.{chip}
+use Rattle.pm_chip.specs.Chip.{chip}
 use Rattle.pm_topology.specs.declared.topology.Topology.{Topology}
 use Rattle.pm_device.specs.declared.device.Device as Device
 use Rattle.pm_replay.specs.Safe.{IsSafe}

@@ -4,10 +4,10 @@ use Rattle.std.specs.Prelude.{IsSomeAnd, map}
 use Rattle.std.proofs.lemmas.Bool.{cases_lt}
 use Rattle.std.proofs.lemmas.Bool.Decides.{Decides-eqb, nat_tests}
 use Rattle.pm_base.specs.declared.events.Event.{Event}
-use Rattle.pm_base.specs.declared.prefix.StopReason.TheVariants.{End}
-use Rattle.pm_base.specs.Inputs.{FailsWithin, File, Holds, MayFail, Moment}
-use Rattle.pm_base.specs.Lines.{lines_of}
-use Rattle.pm_base.specs.Prefix.{Prefix, prefix_before, prefix_of, unbegun}
+use Rattle.pm_io.specs.declared.prefix.StopReason.TheVariants.{End}
+use Rattle.pm_io.specs.Inputs.{FailsWithin, File, Holds, MayFail, Moment}
+use Rattle.pm_io.specs.Lines.{lines_of}
+use Rattle.pm_io.specs.Prefix.{Prefix, prefix_before, prefix_of, unbegun}
 use Rattle.pm_object.specs.declared.object.Object.{Object}
 use Rattle.pm_object.specs.Reading.{reading}
 use Rattle.pm_script.specs.declared.meaning.LineFault.{LineFault}

@@ -4,9 +4,9 @@ use Rattle.std.specs.Prelude.{IfNone, IfOk, OnErr}
 use Rattle.pm_base.specs.Faults.{Rose}
 use Rattle.pm_base.specs.declared.errors.Exit.{Exit}
 use Rattle.pm_base.specs.declared.errors.Exit.TheVariants.{ReadFault}
-use Rattle.pm_base.specs.declared.inputs.Inputs as Inputs
-use Rattle.pm_base.specs.Inputs.{Moment}
-use Rattle.pm_base.specs.Prefix.{Prefix}
+use Rattle.pm_io.specs.declared.inputs.Inputs as Inputs
+use Rattle.pm_io.specs.Inputs.{Moment}
+use Rattle.pm_io.specs.Prefix.{Prefix}
 use Rattle.pm_base.specs.declared.events.Event.{Event}
 use Rattle.pm_gen.specs.Script.{made}
 use Rattle.pm_reach.specs.declared.members.Member.{Member}
@@ -20,7 +20,7 @@ use Rattle.pm_isolate.specs.Compared.{Comparison, script_of_job}
 use Rattle.pm_top.specs.declared.works.Form.{Form}
 use Rattle.pm_top.specs.declared.works.Source.TheVariants as source
 use Rattle.pm_top.specs.declared.reading.Subject.{Subject}
-use Rattle.pm_top.specs.Form.{word}
+use Rattle.pm_top.specs.Words.{word}
 use Rattle.pm_object.specs.declared.object.Object.{Object}
 use Rattle.pm_topology.specs.declared.topology.Topology.{Topology}
 use Rattle.pm_top.specs.Asked.{Asked, Begins, lines_by, no_script, object_by, script_begins, script_by, source_prefix, subject_by, subject_of, then_script, topology_by, with_script, with_topology}

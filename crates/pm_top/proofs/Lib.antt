@@ -7,6 +7,7 @@ pub mod HeldWhole
 pub mod JobLemmas
 pub mod MainLemmas
 pub mod MakingLemmas
+pub mod PieceLemmas
 pub mod RequestLemmas
 pub mod SubjectLemmas
 pub mod TakingLemmas

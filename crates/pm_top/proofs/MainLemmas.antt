@@ -4,9 +4,9 @@ use Rattle.std.specs.Prelude.{◌↔◌}
 use Rattle.pm_base.specs.Faults.{Rose}
 use Rattle.pm_base.specs.declared.errors.Exit.{Exit}
 use Rattle.pm_base.specs.declared.errors.Exit.TheVariants as exit
-use Rattle.pm_base.specs.declared.inputs.Inputs as Inputs
-use Rattle.pm_base.specs.declared.sink.Sink as Sink
-use Rattle.pm_base.specs.Sink.{HasFailed, IsUnfailed}
+use Rattle.pm_io.specs.declared.inputs.Inputs as Inputs
+use Rattle.pm_io.specs.declared.sink.Sink as Sink
+use Rattle.pm_io.specs.Sink.{HasFailed, IsUnfailed}
 use Rattle.pm_board.specs.Board.{Standing}
 use Rattle.pm_device.specs.declared.device.Device as Device
 use Rattle.pm_trace.specs.declared.faults.Fault.{Fault}
@@ -14,10 +14,11 @@ use Rattle.pm_trace.specs.declared.faults.Fault.TheVariants.{Memory, Read, Usage
 use Rattle.pm_trace.specs.declared.faults.Fault.TheVariants as faults
 use Rattle.pm_trace.specs.Exits.{ExitsSay, IsStarved}
 use Rattle.pm_trace.specs.Report.{exit_of, report_of}
-use Rattle.pm_base.specs.World.{World}
+use Rattle.pm_io.specs.World.{World}
 use Rattle.pm_top.specs.declared.works.Form.{Form}
 use Rattle.pm_top.specs.Fit.{LeftBy, MayBeFitted}
-use Rattle.pm_top.specs.Form.{form, word}
+use Rattle.pm_top.specs.Form.{form}
+use Rattle.pm_top.specs.Words.{word}
 use Rattle.pm_top.specs.Job.{Job}
 use Rattle.pm_top.specs.Asked.{lines_by}
 use Rattle.pm_top.specs.Ran.{Decides, Drives, FormDecides, FormMayFail, InputsMayFail, IsBeforeRun, IsShown, Ran, RanForm, StarvesBefore, StarvesFirst, Touches, TouchesBy, drives, nothing_to_do}

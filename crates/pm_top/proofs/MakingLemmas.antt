@@ -5,14 +5,14 @@ use Rattle.std.proofs.lemmas.Bool.Decides.{nat_tests}
 use Rattle.pm_base.specs.declared.errors.Exit.{Exit}
 use Rattle.pm_base.specs.declared.errors.Exit.TheVariants as exit
 use Rattle.pm_base.specs.declared.events.Event.{Event}
-use Rattle.pm_base.specs.declared.inputs.Inputs as Inputs
-use Rattle.pm_base.specs.declared.prefix.StopReason.TheVariants as reason
-use Rattle.pm_base.specs.declared.sink.Sink as Sink
-use Rattle.pm_base.specs.Inputs.{File}
-use Rattle.pm_base.specs.Lines.{lines_of}
-use Rattle.pm_base.specs.OneInput.{always_room, file_with}
-use Rattle.pm_base.specs.Prefix.{Prefix, prefix_of, prefix_within}
-use Rattle.pm_base.specs.World.{World}
+use Rattle.pm_io.specs.declared.inputs.Inputs as Inputs
+use Rattle.pm_io.specs.declared.prefix.StopReason.TheVariants as reason
+use Rattle.pm_io.specs.declared.sink.Sink as Sink
+use Rattle.pm_io.specs.Inputs.{File}
+use Rattle.pm_io.specs.Lines.{lines_of}
+use Rattle.pm_io.specs.OneInput.{always_room, file_with}
+use Rattle.pm_io.specs.Prefix.{Prefix, prefix_of, prefix_within}
+use Rattle.pm_io.specs.World.{World}
 use Rattle.pm_board.specs.Board.{Standing}
 use Rattle.pm_device.specs.declared.device.Device as Device
 use Rattle.pm_gen.specs.Script.{HasMeaning, made}

@@ -4,19 +4,19 @@ use Rattle.std.specs.Prelude.{◌≢◌, IfErr, if◌then◌else◌, ⊤}
 use Rattle.std.proofs.lemmas.List.{append-nil}
 use Rattle.pm_base.specs.declared.errors.Exit.{Exit}
 use Rattle.pm_base.specs.declared.errors.Exit.TheVariants as exit
-use Rattle.pm_base.specs.declared.sink.Sink as Sink
+use Rattle.pm_io.specs.declared.sink.Sink as Sink
 use Rattle.pm_base.specs.declared.names.NodeId.{NodeId}
-use Rattle.pm_base.specs.Calls.{Begin, Call, Named, ReadsEach, ReadsOn, ReadsToFault, mended}
-use Rattle.pm_base.specs.Inputs.{Moment}
-use Rattle.pm_base.specs.Readings.{Meanwhile}
-use Rattle.pm_base.proofs.CallsLemmas.{can_end, each_append, each_fault, each_on}
-use Rattle.pm_base.proofs.ReadingsLemmas.{meanwhile_both, meanwhile_map, one_name}
+use Rattle.pm_io.specs.Calls.{Begin, Call, Named, ReadsEach, ReadsOn, ReadsToFault, mended}
+use Rattle.pm_io.specs.Inputs.{Moment}
+use Rattle.pm_io.specs.Readings.{Meanwhile}
+use Rattle.pm_io.proofs.CallsLemmas.{can_end, each_append, each_fault, each_on}
+use Rattle.pm_io.proofs.ReadingsLemmas.{meanwhile_both, meanwhile_map, one_name}
 use Rattle.pm_device.specs.declared.device.Device as Device
 use Rattle.pm_object.specs.declared.object.Object.{Object}
 use Rattle.pm_object.specs.declared.object.ObjectFault.{ObjectFault}
 use Rattle.pm_objtext.specs.declared.fault.TextFault.{TextFault}
 use Rattle.pm_gen.specs.Laboratory.{laboratory}
-use Rattle.pm_topology.specs.Chip.{chip}
+use Rattle.pm_chip.specs.Chip.{chip}
 use Rattle.pm_topology.specs.declared.topology.Topology.{Topology}
 use Rattle.pm_topofile.specs.declared.fault.TopologyError.{TopologyError}
 use Rattle.pm_topofile.specs.declared.fault.TopologyError.TheVariants.{Bad, Rule, Memory as NoRoom}
@@ -31,7 +31,7 @@ use Rattle.pm_top.specs.declared.works.Form.{Form}
 use Rattle.pm_top.specs.declared.works.Source.{Source}
 use Rattle.pm_top.specs.declared.works.Source.TheVariants as source
 use Rattle.pm_top.specs.Asked.{laboratory_if, master_of, object_or_fault, script_word, text_or_fault, topology_or_fault, with_master, with_named}
-use Rattle.pm_top.specs.Form.{word}
+use Rattle.pm_top.specs.Words.{word}
 use Rattle.pm_board.specs.Board.{Standing}
 use Rattle.pm_top.specs.Making.{Makes}
 use Rattle.pm_top.specs.Reads.{EndsBare, FormReads, IsFaultBehind, IsOfSource, ReadsBy, ReadsFor, RefusedReads, RefusedSubject, SubjectReads, WorkReads, script_names, source_named, topology_named}

@@ -3,19 +3,19 @@ use Rattle.std.proofs.Common.{◌≡◌, ◌⊎◌, ◌≤◌, ℕ, true, false,
 use Rattle.std.specs.Prelude.{◌+◌, ◌≢◌, IfErr, IfNone, IfOk, IfSome, IsSome, is_some, unwrap_or}
 use Rattle.std.proofs.lemmas.Bool.Decides.{nat_tests}
 use Rattle.pm_base.specs.declared.names.NodeId.{NodeId}
-use Rattle.pm_base.specs.declared.prefix.StopReason.{StopReason}
-use Rattle.pm_base.specs.declared.prefix.StopReason.TheVariants as reason
+use Rattle.pm_io.specs.declared.prefix.StopReason.{StopReason}
+use Rattle.pm_io.specs.declared.prefix.StopReason.TheVariants as reason
 use Rattle.pm_base.specs.Faults.{Rose}
-use Rattle.pm_base.specs.Inputs.{Moment, SameFiles}
-use Rattle.pm_base.specs.Numbers.{at_most, number_of}
-use Rattle.pm_base.specs.Prefix.{IsUnread, Prefix}
+use Rattle.pm_io.specs.Inputs.{Moment, SameFiles}
+use Rattle.pm_io.specs.Numbers.{at_most, number_of}
+use Rattle.pm_io.specs.Prefix.{IsUnread, Prefix}
 use Rattle.pm_object.specs.declared.object.Object.{Object}
 use Rattle.pm_object.specs.declared.object.ObjectFault.{ObjectFault}
 use Rattle.pm_object.specs.Grammar.{IsObject}
 use Rattle.pm_object.specs.Reading.{reading}
 use Rattle.pm_objtext.specs.declared.fault.TextFault.{TextFault}
 use Rattle.pm_objtext.specs.Building.{building}
-use Rattle.pm_topology.specs.Chip.{chip}
+use Rattle.pm_chip.specs.Chip.{chip}
 use Rattle.pm_topology.specs.declared.topology.Topology.{Topology}
 use Rattle.pm_topology.specs.WellFormed.{IsSupported}
 use Rattle.pm_topofile.specs.declared.fault.TopologyError.{TopologyError}
@@ -28,8 +28,9 @@ use Rattle.pm_top.specs.declared.works.Source.{Source}
 use Rattle.pm_top.specs.declared.works.Source.TheVariants as source
 use Rattle.pm_top.specs.declared.reading.Subject.{Subject}
 use Rattle.pm_top.specs.declared.works.Work.{Work}
-use Rattle.pm_top.specs.declared.works.Work.TheVariants.{Replay, Reach, Isolate, Print, Build, Make, Table}
-use Rattle.pm_top.specs.Form.{form_of, word}
+use Rattle.pm_top.specs.declared.works.Work.TheVariants.{Replay, Isolate, Make, Write}
+use Rattle.pm_top.specs.Form.{beside, form_of, piece_source}
+use Rattle.pm_top.specs.Words.{word}
 use Rattle.pm_top.specs.Asked.{Says, judged, laboratory_if, line_limit, lines_asked, lines_by, master_of, object_by, object_or_fault, some_lines, subject_by, subject_of, text_or_fault, topology_or_fault, with_master, with_named, with_topology}
 use Rattle.pm_top.specs.Fit.{HoldsTopology}
 use Rattle.pm_top.specs.Job.{IsFaultOf}
@@ -432,11 +433,14 @@ rest_behind shown f ws object before after (Err fault) (inr rest) = by f.topolog
     by (Some k) (Err due) read is = subst IsFaultBehind (err_is is) (judged_behind read.prefix.stop (meaning read.prefix.bytes) due read.is)
 
 -- a topology is named beside an object alone
+none_beside : (s : Source) (named : Option ℕ) → s ≢ source.Object → beside s named ≡ None
+none_beside source.Object named not = absurd (not refl)
+none_beside source.Text named not = refl
+none_beside source.Number named not = refl
+none_beside source.Nothing named not = refl
+
 pub plain : (work : Work) (named : Option ℕ) → (form_of work named).source ≢ source.Object → (form_of work named).topology ≡ None
-plain Replay named not = absurd (not refl)
-plain Reach named not = absurd (not refl)
-plain Isolate named not = absurd (not refl)
-plain Print named not = refl
-plain Build named not = refl
-plain Make named not = refl
-plain Table named not = refl
+plain Replay named not = none_beside source.Object named not
+plain Isolate named not = none_beside source.Object named not
+plain Make named not = none_beside source.Number named not
+plain (Write piece) named not = none_beside (piece_source piece) named not

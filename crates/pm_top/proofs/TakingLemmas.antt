@@ -4,14 +4,14 @@ use Rattle.std.specs.Prelude.{IfOk}
 use Rattle.std.proofs.lemmas.Bool.{lt-ltb}
 use Rattle.std.proofs.lemmas.Bool.Decides.{Decides-eqb, nat_tests}
 use Rattle.pm_base.specs.Faults.{Rose}
-use Rattle.pm_base.specs.declared.prefix.StopReason.{StopReason}
-use Rattle.pm_base.specs.declared.prefix.StopReason.TheVariants as reason
-use Rattle.pm_base.specs.Inputs.{File, Moment, SameFiles}
-use Rattle.pm_base.specs.Prefix.{HasSize, IsUnread, Prefix, prefix_of}
-use Rattle.pm_base.proofs.PrefixEnds.{prefix_whole}
+use Rattle.pm_io.specs.declared.prefix.StopReason.{StopReason}
+use Rattle.pm_io.specs.declared.prefix.StopReason.TheVariants as reason
+use Rattle.pm_io.specs.Inputs.{File, Moment, SameFiles}
+use Rattle.pm_io.specs.Prefix.{HasSize, IsUnread, Prefix, prefix_of}
+use Rattle.pm_io.proofs.PrefixEnds.{prefix_whole}
 use Rattle.pm_gen.specs.Laboratory.{laboratory}
 use Rattle.pm_object.specs.declared.object.Object.{Object}
-use Rattle.pm_topology.specs.Chip.{chip}
+use Rattle.pm_chip.specs.Chip.{chip}
 use Rattle.pm_topology.specs.declared.topology.Topology.{Topology}
 use Rattle.pm_topofile.specs.declared.fault.TopologyError.{TopologyError}
 use Rattle.pm_topofile.specs.declared.fault.TopologyError.TheVariants.{Bad, Rule, Memory as NoRoom}
@@ -22,7 +22,7 @@ use Rattle.pm_top.specs.declared.works.Source.{Source}
 use Rattle.pm_top.specs.declared.works.Source.TheVariants as source
 use Rattle.pm_top.specs.Asked.{itself, judged, laboratory_for, laboratory_if, later_prefix, lines_asked, source_prefix, topology_by, topology_limit, topology_of, topology_or_fault}
 use Rattle.pm_top.specs.Fit.{HoldsTopology}
-use Rattle.pm_top.specs.Form.{word}
+use Rattle.pm_top.specs.Words.{word}
 use Rattle.pm_top.specs.Within.{ReadsAs, ReadsTopology, Takes}
 
 module _ (shown : Type 0) (name : List ℕ) (before after : Moment) (p : Prefix) where

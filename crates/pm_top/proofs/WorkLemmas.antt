@@ -3,33 +3,26 @@ use Rattle.std.proofs.Common.{◌≡◌, ℕ, ◌+◌, ◌⊎◌, Bool, false, L
 use Rattle.std.specs.Prelude.{IfSome, IsSomeAnd, is_some, unwrap_or}
 use Rattle.pm_base.specs.declared.errors.Exit.{Exit}
 use Rattle.pm_base.specs.declared.errors.Exit.TheVariants as exit
-use Rattle.pm_base.specs.declared.inputs.Inputs as Inputs
+use Rattle.pm_io.specs.declared.inputs.Inputs as Inputs
 use Rattle.pm_base.specs.declared.names.NodeId.{NodeId}
-use Rattle.pm_base.specs.declared.sink.Sink as Sink
+use Rattle.pm_io.specs.declared.sink.Sink as Sink
 use Rattle.pm_base.specs.declared.events.Event.{Event}
-use Rattle.pm_base.specs.Inputs.{File, Holds, Moment, SameFiles}
-use Rattle.pm_base.specs.Prefix.{Prefix}
-use Rattle.pm_base.specs.Writing.{Leaves}
-use Rattle.pm_base.specs.World.{world}
-use Rattle.pm_base.proofs.PrefixEnds.{prefix_whole}
-use Rattle.pm_object.specs.Grammar.{Reads, little_endian, words_of}
+use Rattle.pm_io.specs.Inputs.{File, Holds, SameFiles}
+use Rattle.pm_io.specs.Prefix.{Prefix}
+use Rattle.pm_io.specs.Writing.{Leaves}
+use Rattle.pm_io.specs.World.{world}
 use Rattle.pm_object.specs.declared.object.Object.{Object}
 use Rattle.pm_gen.specs.Laboratory.{laboratory}
 use Rattle.pm_gen.specs.Script.{made}
 use Rattle.pm_gen.specs.Summary.{summary}
-use Rattle.pm_objtext.specs.Meaning.{Means}
-use Rattle.pm_objtext.specs.Printing.{text_of}
-use Rattle.pm_topology.specs.Chip.{chip}
+use Rattle.pm_chip.specs.Chip.{chip}
 use Rattle.pm_topology.specs.declared.topology.Topology.{Topology}
-use Rattle.pm_topofile.specs.Meaning.{meaning}
-use Rattle.pm_topofile.specs.Printing.{text_of as table_of}
 use Rattle.pm_reach.specs.declared.members.Member.{Member}
 use Rattle.pm_reach.specs.Membership.{IsReach}
 use Rattle.pm_block.specs.Block.{attached_by}
 use Rattle.pm_block.proofs.BlockLaw.{length_passed}
 use Rattle.pm_reader.specs.Front.{ran}
 use Rattle.pm_state.specs.State.{objects_in}
-use Rattle.pm_trace.specs.Reach.{reach_text}
 use Rattle.pm_board.specs.Board.{Standing}
 use Rattle.pm_device.specs.Act.{Fit}
 use Rattle.pm_device.specs.declared.device.Device as Device
@@ -44,25 +37,28 @@ use Rattle.pm_trace.specs.Scripts.{IsScriptOf, fault_at}
 use Rattle.pm_replay.specs.Replay.{Touched, replay_report}
 use Rattle.pm_isolate.specs.Compared.{Comparison, IsComparisonOf, comparison_report}
 use Rattle.pm_top.specs.declared.works.Form.{Form}
+use Rattle.pm_top.specs.declared.works.Piece.{Piece}
 use Rattle.pm_top.specs.declared.works.Work.{Work}
-use Rattle.pm_top.specs.declared.works.Work.TheVariants.{Replay, Reach, Isolate, Print, Build, Make, Table}
+use Rattle.pm_top.specs.declared.works.Work.TheVariants.{Replay, Isolate, Make, Write}
 use Rattle.pm_top.specs.declared.works.Source.TheVariants as source
 use Rattle.pm_top.specs.declared.reading.Subject.{Subject}
-use Rattle.pm_top.specs.Asked.{laboratory_if, lines_asked, lines_by, no_script, object_by, object_limit, script_word, text_limit}
+use Rattle.pm_top.specs.Asked.{laboratory_if, lines_asked, lines_by, no_script, script_word}
 use Rattle.pm_top.specs.Fit.{IsFitted, LeftBy, MayBeFitted}
-use Rattle.pm_top.specs.Form.{form_of, word}
+use Rattle.pm_top.specs.Form.{IsPiece, form_of}
+use Rattle.pm_top.specs.Words.{word}
 use Rattle.pm_top.specs.Job.{IsFound}
 use Rattle.pm_top.specs.Done.{Compares, OnlyWrites, Replays, ReplaysFitted, WorkDone, Worked, report}
 use Rattle.pm_top.specs.Theorem.{IsReplayed}
 use Rattle.pm_top.specs.Making.{IsSummary, Makes, Starves, Summarizes, WasDriven}
 use Rattle.pm_top.specs.Ran.{Drives, IsShown, RanForm, Touches, TouchesBy, drives}
 use Rattle.pm_top.specs.Ran.Drives.{AsItWrites, BeforeItWrites, Never}
-use Rattle.pm_top.specs.Within.{IsReachText, IsTopologyText, ReadsSubject, Takes, one_piece}
+use Rattle.pm_top.specs.Within.{ReadsSubject, one_piece}
 use Rattle.pm_trace.proofs.ReadsLemmas.{refused_exit}
 use Rattle.pm_top.proofs.JobLemmas.{asked_refused, asked_script, asked_whole, asked_with, job_by, starved, whole_job}
 use Rattle.pm_top.proofs.SubjectLemmas.{err_is, err_is_ok, is_chip, subject_files, topology_held, unnamed, was_read}
 use Rattle.pm_top.proofs.Unread.{IsAskedFor, by_exit}
-use Rattle.pm_top.proofs.WritingLemmas.{object_end, text_end, wrote_one}
+use Rattle.pm_top.proofs.PieceLemmas.{piece_done, text_of_job, unnumbered}
+use Rattle.pm_top.proofs.WritingLemmas.{object_held, wrote_one}
 
 -- what is written up to the line before number n + 1, and then the fault at which a script stops there, if it does
 abbrev up_to : List (List ℕ) → Stop → ℕ → Report
@@ -109,12 +105,6 @@ module _ {D : Type 0} (d : Device.Ghosts D) (Named : Topology → Type 0) (dev d
 object_is_number : source.Object ≡ source.Number → ⊥
 object_is_number e = cc
 
-text_is_number : source.Text ≡ source.Number → ⊥
-text_is_number e = cc
-
-nothing_is_number : source.Nothing ≡ source.Number → ⊥
-nothing_is_number e = cc
-
 module _ {I O D : Type 0} (i : Inputs.Ghosts I) (o : Sink.Ghosts O) (d : Device.Ghosts D) (ws : List (List ℕ)) (board is : Standing) (old new : I) (sink sink' : O) (dev dev' : D) (result : Exit) where
   -- a form was refused
   refused : (f : Form) (fault : Fault) → IsAskedFor i f ws old new (Err fault) → dev ≡ dev' → board ≡ is → Reports o (refusal fault) sink sink' result → RanForm i o d (Some f) ws board is (world old sink dev) (world new sink' dev') result
@@ -145,19 +135,19 @@ module _ {I O D : Type 0} (i : Inputs.Ghosts I) (o : Sink.Ghosts O) (d : Device.
         touched = touched wrote.cut;
       }
 
--- what makes a text that of a job
-record IsTextOf (board : Standing) (work : Work) (subject : Subject) (text : List ℕ) : Type 0 where
-  pub members : List Member
-  pub found : IsFound (asked_with subject no_script) members
-  pub is : report board work (whole_job subject members []) [] ≡ one_piece text
-
 module _ {I O D : Type 0} (i : Inputs.Ghosts I) (o : Sink.Ghosts O) (d : Device.Ghosts D) (ws : List (List ℕ)) (board is : Standing) (old mid new : I) (sink sink' : O) (dev dev' : D) (result : Exit) where
   -- a work that writes one piece and does nothing else
-  only_ran : (f : Form) (subject : Subject) (Holds : List ℕ → Type 0) → ((text : List ℕ) → Holds text → IsTextOf board f.work subject text) → f.script ≡ None → drives f.work ≡ Never → (f.source ≡ source.Number → ⊥) → ReadsSubject i.observable f ws (i.state old) (i.state mid) (Ok subject) → OnlyWrites i o d Holds board is (world mid sink dev) (world new sink' dev') result → RanForm i o d (Some f) ws board is (world old sink dev) (world new sink' dev') result
-  only_ran f subject Holds made none idle named reads did = elim did.writes [
-    | inl memory ↦ refused i o d ws board is old new sink sink' dev dev' result f Memory (starved i f ws old new) did.device did.still memory
-    | inr one ↦ let text = made one.text one.holds in one_ran i o d ws board is old new sink sink' dev dev' result f subject text.members [] [] one.text none (subst (λ (end : I). ReadsSubject i.observable f ws (i.state old) (i.state end) (Ok subject)) did.inputs reads) text.found (λ number. absurd (named number)) text.is (λ cut. subst (λ (drive : Drives). TouchesBy d drive f.topology board is (IsShown i o d f ws (world old sink dev)) (lines_by f.source (word 1 ws)) dev dev' (Ok (whole_job subject text.members [])) [] cut) (sym idle) (did.device, did.still)) one.reports
-  ]
+  piece_ran : (piece : Piece) (named : Option ℕ) (subject : Subject) → ReadsSubject i.observable (form_of (Write piece) named) ws (i.state old) (i.state mid) (Ok subject) → OnlyWrites i o d (IsPiece piece subject) board is (world mid sink dev) (world new sink' dev') result → RanForm i o d (Some (form_of (Write piece) named)) ws board is (world old sink dev) (world new sink' dev') result
+  piece_ran piece named subject reads did =
+      let f : Form = form_of (Write piece) named in
+      elim did.writes [
+        | inl memory ↦ refused i o d ws board is old new sink sink' dev dev' result f Memory (starved i f ws old new) did.device did.still memory
+        | inr one ↦
+            let text = text_of_job piece subject one.text (was_read f ws reads.prefix reads.topology subject reads.is).named one.holds in
+            one_ran i o d ws board is old new sink sink' dev dev' result f subject text.members [] [] one.text refl
+            (subst (λ (end : I). ReadsSubject i.observable f ws (i.state old) (i.state end) (Ok subject)) did.inputs reads)
+            text.found (λ number. absurd (unnumbered piece number)) (ap one_piece (sym text.is)) (λ cut. (did.device, did.still)) one.reports
+      ]
 
   -- a script that can't be begun, and want of memory, come after the device was fitted
   left_fitted : (named : Option ℕ) (subject : Subject) (start : D) (fault : Fault) → ReadsSubject i.observable (form_of Replay named) ws (i.state old) (i.state mid) (Ok subject) → IsFitted d named subject.topology dev start → start ≡ dev' → (◌≡◌ {A = Result Script Fault} (Err fault) (Err Read)) ⊎ (◌≡◌ {A = Result Script Fault} (Err fault) (Err Memory)) → LeftBy d fault named (IsShown i o d (form_of Replay named) ws (world old sink dev)) dev dev'
@@ -238,23 +228,13 @@ module _ {I O D : Type 0} (i : Inputs.Ghosts I) (o : Sink.Ghosts O) (d : Device.
 
   pub worked_ran : (work : Work) (named : Option ℕ) (subject : Subject) → ReadsSubject i.observable (form_of work named) ws (i.state old) (i.state mid) (Ok subject) → Worked i o d work named subject board is (script_word (form_of work named).script ws) (world mid sink dev) (world new sink' dev') result → RanForm i o d (Some (form_of work named)) ws board is (world old sink dev) (world new sink' dev') result
   worked_ran Replay named subject reads did = script_ran named subject reads (none_found (form_of Replay named) subject refl reads) did
-  worked_ran Reach named subject reads did = only_ran (form_of Reach named) subject (IsReachText subject.object subject.topology did.0) (λ text made. record { members = made.members; found = subst (λ (named : Option NodeId). IfSome named (λ master. IsReach (subject.object ∷ []) subject.topology master made.members)) (sym did.1) made.reach; is = ap one_piece (sym made.is) }) refl refl object_is_number reads did.2
   worked_ran Isolate named subject reads did = compared_ran named subject did.0 did.1 reads did.2
-  worked_ran Print named subject reads did = only_ran (form_of Print named) subject (λ text. text ≡ text_of subject.object) (λ text made. record { members = []; found = none_found (form_of Print named) subject refl reads no_script; is = ap one_piece (sym made) }) refl refl object_is_number reads did
-  worked_ran Build named subject reads did = only_ran (form_of Build named) subject (λ bytes. Reads bytes subject.object) (λ bytes made. record { members = []; found = none_found (form_of Build named) subject refl reads no_script; is = ap one_piece (sym made.spelling) }) refl refl text_is_number reads did
   worked_ran Make named subject reads did = made_ran subject reads did.0 did.1
-  worked_ran Table named subject reads did = only_ran (form_of Table named) subject (IsTopologyText subject.topology) (λ text made. record { members = []; found = none_found (form_of Table named) subject refl reads no_script; is = ap one_piece (sym made.is) }) refl refl nothing_is_number reads did
+  worked_ran (Write piece) named subject reads did = piece_ran piece named subject reads did
 
 -- ---- what Done means
 
 module _ {I O D : Type 0} (i : Inputs.Ghosts I) (o : Sink.Ghosts O) (d : Device.Ghosts D) (ws : List (List ℕ)) (board is : Standing) (old mid new : I) (sink sink' : O) (dev dev' : D) (result : Exit) (seen : i.observable) (written : o.observable) (done : result ≡ exit.Done) where
-  -- what was read was held whole
-  held_object : (p : Prefix) (between : Moment) (object : Object) → Takes source.Object i.observable (word 1 ws) (i.state old) between p → object_by source.Object p ≡ Ok object → Holds (i.state old) (word 1 ws) p.bytes
-  held_object p between object took is = prefix_whole object_limit ((i.state old).file (word 1 ws)) (i.state old).room p (took.is seen) (object_end p object took.size is)
-
-  held_text : (p : Prefix) (between : Moment) (object : Object) → Takes source.Text i.observable (word 1 ws) (i.state old) between p → Means p.bytes object → object_by source.Text p ≡ Ok object → Holds (i.state old) (word 1 ws) p.bytes
-  held_text p between object took says is = prefix_whole text_limit ((i.state old).file (word 1 ws)) (i.state old).room p (took.is seen) (text_end p object took.size says is)
-
   -- the text that was written
   record IsText (Made : List ℕ → Type 0) : Type 0 where
     pub text : List ℕ
@@ -331,7 +311,7 @@ module _ {I O D : Type 0} (i : Inputs.Ghosts I) (o : Sink.Ghosts O) (d : Device.
             events = run.events;
             answers = run.answers;
             start = fits.start;
-            object_held = held_object reads.prefix reads.between subject.object reads.read (was_read f ws reads.prefix reads.topology subject reads.is).object;
+            object_held = object_held i.observable f ws (i.state old) (i.state mid) subject reads refl seen;
             topology_held = topology_held f i.observable ws (i.state old) (i.state mid) subject reads seen;
             script_held = second_held (word 2 ws) run.script_bytes (subject_files f i.observable ws (i.state old) (i.state mid) subject reads seen) run.held;
             reads = reads.says;
@@ -341,24 +321,6 @@ module _ {I O D : Type 0} (i : Inputs.Ghosts I) (o : Sink.Ghosts O) (d : Device.
             drove = run.drove;
             tasks_left = run.tasks_left;
           }
-  worked_done Reach named subject reads did =
-      let f : Form = form_of Reach named in
-      let wrote = written_text (IsReachText subject.object subject.topology did.0) did.2 in (
-        record {
-          bytes = reads.prefix.bytes;
-          object = subject.object;
-          topology = subject.topology;
-          master = did.0;
-          members = wrote.made.members;
-          held = held_object reads.prefix reads.between subject.object reads.read (was_read f ws reads.prefix reads.topology subject reads.is).object;
-          topology_held = topology_held f i.observable ws (i.state old) (i.state mid) subject reads seen;
-          reads = reads.says;
-          master_named = (was_read f ws reads.prefix reads.topology subject reads.is).master 2 refl ∙ did.1;
-          reach = wrote.made.reach;
-          text = after wrote.text (reach_text wrote.made.members) wrote.made.is wrote.appended;
-        },
-        (wrote.device, wrote.still),
-      )
   worked_done Isolate named subject reads did =
       let f : Form = form_of Isolate named in
       let run = did.2.done seen written done in (
@@ -370,7 +332,7 @@ module _ {I O D : Type 0} (i : Inputs.Ghosts I) (o : Sink.Ghosts O) (d : Device.
           events = run.events;
           master = did.0;
           members = run.members;
-          object_held = held_object reads.prefix reads.between subject.object reads.read (was_read f ws reads.prefix reads.topology subject reads.is).object;
+          object_held = object_held i.observable f ws (i.state old) (i.state mid) subject reads refl seen;
           topology_held = topology_held f i.observable ws (i.state old) (i.state mid) subject reads seen;
           script_held = second_held (word 2 ws) run.script_bytes (subject_files f i.observable ws (i.state old) (i.state mid) subject reads seen) run.held;
           reads = reads.says;
@@ -382,20 +344,7 @@ module _ {I O D : Type 0} (i : Inputs.Ghosts I) (o : Sink.Ghosts O) (d : Device.
         },
         (did.2.device, did.2.still),
       )
-  worked_done Print named subject reads did =
-      let wrote = written_text (λ text. text ≡ text_of subject.object) did in
-      (record { bytes = reads.prefix.bytes; object = subject.object; held = held_object reads.prefix reads.between subject.object reads.read (was_read (form_of Print named) ws reads.prefix reads.topology subject reads.is).object; reads = reads.says; text = after wrote.text (text_of subject.object) wrote.made wrote.appended }, (wrote.device, wrote.still))
-  worked_done Build named subject reads did =
-      let wrote = written_text (λ bytes. Reads bytes subject.object) did in
-      (record { bytes = reads.prefix.bytes; object = subject.object; held = held_text reads.prefix reads.between subject.object reads.read reads.says (was_read (form_of Build named) ws reads.prefix reads.topology subject reads.is).object; says = reads.says; text = after wrote.text (little_endian (words_of subject.object)) wrote.made.spelling wrote.appended; reads = subst (λ (bytes : List ℕ). Reads bytes subject.object) wrote.made.spelling wrote.made }, (wrote.device, wrote.still))
   worked_done Make named subject reads did = made_done subject reads did.0
-  worked_done Table named subject reads did =
-      let wrote = written_text (IsTopologyText subject.topology) did in
-      let chips : subject.topology ≡ chip = is_chip (form_of Table named) i.observable ws (i.state old) (i.state mid) subject reads in
-      let same : wrote.text ≡ table_of chip = wrote.made.is ∙ ap table_of chips in (
-        record {
-          text = after wrote.text (table_of chip) same wrote.appended;
-          means = sym (ap meaning same) ∙ wrote.made.means ∙ ap (λ (t : Topology). Ok t) chips;
-        },
-        (wrote.device, wrote.still),
-      )
+  worked_done (Write piece) named subject reads did =
+      let wrote = written_text (IsPiece piece subject) did in
+      (piece_done i o ws old mid sink sink' named subject wrote.text seen wrote.appended piece reads wrote.made, (wrote.device, wrote.still))

@@ -5,21 +5,28 @@ use Rattle.std.proofs.lemmas.List.{append-nil}
 use Rattle.std.proofs.lemmas.Option.{slice_get_within}
 use Rattle.pm_base.specs.declared.errors.Exit.{Exit}
 use Rattle.pm_base.specs.declared.errors.Exit.TheVariants as exit
-use Rattle.pm_base.specs.declared.prefix.StopReason.{StopReason}
-use Rattle.pm_base.specs.declared.prefix.StopReason.TheVariants as reason
-use Rattle.pm_base.specs.declared.sink.Sink as Sink
-use Rattle.pm_base.specs.Prefix.{HasSize, Prefix}
-use Rattle.pm_base.specs.Sink.{Wrote}
-use Rattle.pm_base.specs.Writing.{BreaksIn, Leaves}
+use Rattle.pm_io.specs.declared.prefix.StopReason.{StopReason}
+use Rattle.pm_io.specs.declared.prefix.StopReason.TheVariants as reason
+use Rattle.pm_io.specs.declared.sink.Sink as Sink
+use Rattle.pm_io.specs.Inputs.{Holds, Moment}
+use Rattle.pm_io.specs.Prefix.{HasSize, Prefix}
+use Rattle.pm_io.specs.Sink.{Wrote}
+use Rattle.pm_io.specs.Writing.{BreaksIn, Leaves}
+use Rattle.pm_io.proofs.PrefixEnds.{prefix_whole}
 use Rattle.pm_object.specs.declared.object.Object.{Object}
 use Rattle.pm_object.specs.declared.object.ObjectFault.{ObjectFault}
 use Rattle.pm_object.specs.Reading.{reading}
 use Rattle.pm_objtext.specs.Building.{building}
 use Rattle.pm_objtext.specs.Meaning.{Means}
 use Rattle.pm_trace.specs.Report.{Reports, exit_of}
-use Rattle.pm_top.specs.Asked.{built_of, judged, object_limit, object_of, object_or_fault, text_limit, text_or_fault}
-use Rattle.pm_top.specs.Within.{one_piece}
-use Rattle.pm_top.proofs.SubjectLemmas.{err_is_ok}
+use Rattle.pm_top.specs.declared.reading.Subject.{Subject}
+use Rattle.pm_top.specs.declared.works.Form.{Form}
+use Rattle.pm_top.specs.declared.works.Source.{Source}
+use Rattle.pm_top.specs.declared.works.Source.TheVariants as source
+use Rattle.pm_top.specs.Asked.{Says, built_of, judged, object_by, object_limit, object_of, object_or_fault, text_limit, text_or_fault}
+use Rattle.pm_top.specs.Within.{ReadsSubject, Takes, one_piece}
+use Rattle.pm_top.specs.Words.{word}
+use Rattle.pm_top.proofs.SubjectLemmas.{err_is_ok, was_read}
 
 -- ---- an object that says something was read to its end
 
@@ -48,6 +55,28 @@ text_end p o size means is = by p.stop size is
     by reason.Limit size is = let short : length p.bytes ≤ 1048576 = means.short in absurd (omega arith)
     by reason.Failure size is = absurd (err_is_ok is)
     by reason.Unbegun size is = absurd (err_is_ok is)
+
+-- ---- so it was held whole
+
+module _ (shown : Type 0) (f : Form) (ws : List (List ℕ)) (before after : Moment) (subject : Subject) (reads : ReadsSubject shown f ws before after (Ok subject)) where
+  of_source : (s : Source) → f.source ≡ s → object_by s reads.prefix ≡ Ok subject.object
+  of_source s from = subst (λ (s : Source). object_by s reads.prefix ≡ Ok subject.object) from (was_read f ws reads.prefix reads.topology subject reads.is).object
+
+  taken : (s : Source) → f.source ≡ s → Takes s shown (word 1 ws) before reads.between reads.prefix
+  taken s from = subst (λ (s : Source). Takes s shown (word 1 ws) before reads.between reads.prefix) from reads.read
+
+  pub object_held : f.source ≡ source.Object → shown → Holds before (word 1 ws) reads.prefix.bytes
+  object_held from seen =
+      let took : Takes source.Object shown (word 1 ws) before reads.between reads.prefix = taken source.Object from in
+      prefix_whole object_limit (before.file (word 1 ws)) before.room reads.prefix (took.is seen)
+      (object_end reads.prefix subject.object took.size (of_source source.Object from))
+
+  pub text_held : f.source ≡ source.Text → shown → Holds before (word 1 ws) reads.prefix.bytes
+  text_held from seen =
+      let took : Takes source.Text shown (word 1 ws) before reads.between reads.prefix = taken source.Text from in
+      let says : Means reads.prefix.bytes subject.object = subst (λ (s : Source). Says s reads.prefix.bytes subject.object) from reads.says in
+      prefix_whole text_limit (before.file (word 1 ws)) before.room reads.prefix (took.is seen)
+      (text_end reads.prefix subject.object took.size says (of_source source.Text from))
 
 -- ---- one piece
 

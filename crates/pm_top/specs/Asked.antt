@@ -2,12 +2,12 @@
 -- the script that a form reads, or the fault that refuses it.
 use Rattle.std.specs.Prelude.{◌≡◌, ℕ, ◌≤◌, ◌==◌, Bool, true, if◌then◌else◌, List, [], unwrap_or, Option, Some, None, Result, Ok, Err}
 use Rattle.std.specs.List.{list_any}
-use Rattle.pm_base.specs.Inputs.{Moment}
+use Rattle.pm_io.specs.Inputs.{Moment}
 use Rattle.pm_base.specs.declared.names.NodeId.{NodeId}
-use Rattle.pm_base.specs.declared.prefix.StopReason.{StopReason}
-use Rattle.pm_base.specs.declared.prefix.StopReason.TheVariants.{End, Limit, Failure, Unbegun}
-use Rattle.pm_base.specs.Numbers.{at_most, number_of}
-use Rattle.pm_base.specs.Prefix.{Prefix, prefix_of}
+use Rattle.pm_io.specs.declared.prefix.StopReason.{StopReason}
+use Rattle.pm_io.specs.declared.prefix.StopReason.TheVariants.{End, Limit, Failure, Unbegun}
+use Rattle.pm_io.specs.Numbers.{at_most, number_of}
+use Rattle.pm_io.specs.Prefix.{Prefix, prefix_of}
 use Rattle.pm_object.specs.declared.object.MasterRec.{MasterRec}
 use Rattle.pm_object.specs.declared.object.Object.{Object}
 use Rattle.pm_object.specs.declared.object.ObjectFault.{ObjectFault}
@@ -17,7 +17,7 @@ use Rattle.pm_gen.specs.Laboratory.{laboratory}
 use Rattle.pm_objtext.specs.declared.fault.TextFault.{TextFault}
 use Rattle.pm_objtext.specs.Building.{building}
 use Rattle.pm_objtext.specs.Meaning.{Means}
-use Rattle.pm_topology.specs.Chip.{chip}
+use Rattle.pm_chip.specs.Chip.{chip}
 use Rattle.pm_topology.specs.declared.topology.Topology.{Topology}
 use Rattle.pm_topofile.specs.declared.fault.TopologyError.{TopologyError}
 use Rattle.pm_topofile.specs.declared.fault.TopologyError.TheVariants.{Bad, Rule, Memory as NoRoom}
@@ -31,7 +31,7 @@ use Rattle.pm_top.specs.declared.works.Form.{Form}
 use Rattle.pm_top.specs.declared.works.Source.{Source}
 use Rattle.pm_top.specs.declared.works.Source.TheVariants as source
 use Rattle.pm_top.specs.declared.reading.Subject.{Subject}
-use Rattle.pm_top.specs.Form.{word}
+use Rattle.pm_top.specs.Words.{word}
 
 -- the most bytes of an object
 abbrev pub object_limit : ℕ

@@ -3,12 +3,12 @@ use Rattle.std.specs.Prelude.{◌≡◌, ◌≢◌, ℕ, ◌≤◌, ◌⊎◌, L
 use Rattle.pm_base.specs.declared.errors.Exit.{Exit}
 use Rattle.pm_base.specs.declared.errors.Exit.TheVariants as exit
 use Rattle.pm_base.specs.declared.events.Event.{Event}
-use Rattle.pm_base.specs.declared.inputs.Inputs as Inputs
-use Rattle.pm_base.specs.declared.sink.Sink as Sink
+use Rattle.pm_io.specs.declared.inputs.Inputs as Inputs
+use Rattle.pm_io.specs.declared.sink.Sink as Sink
 use Rattle.pm_base.specs.Faults.{Rose}
-use Rattle.pm_base.specs.Inputs.{Holds, Moment}
-use Rattle.pm_base.specs.Sink.{HasFailed}
-use Rattle.pm_base.specs.World.{World}
+use Rattle.pm_io.specs.Inputs.{Holds, Moment}
+use Rattle.pm_io.specs.Sink.{HasFailed}
+use Rattle.pm_io.specs.World.{World}
 use Rattle.pm_object.specs.declared.object.Object.{Object}
 use Rattle.pm_object.specs.Grammar.{Reads}
 use Rattle.pm_objtext.specs.Meaning.{Means}
@@ -24,7 +24,8 @@ use Rattle.pm_top.specs.declared.works.Source.TheVariants as source
 use Rattle.pm_top.specs.Asked.{lines_asked, master_of}
 use Rattle.pm_top.specs.Done.{IsDone}
 use Rattle.pm_top.specs.Fit.{HoldsTopology}
-use Rattle.pm_top.specs.Form.{form, word}
+use Rattle.pm_top.specs.Form.{form}
+use Rattle.pm_top.specs.Words.{word}
 use Rattle.pm_top.specs.Ran.{InputsMayFail}
 
 -- ---- what is right

@@ -1,19 +1,15 @@
 -- What each work writes, and what Done means for it. No limit, no reason to stop and no cut occurs in Done.
-use Rattle.std.specs.Prelude.{◌≡◌, ◌⊎◌, ℕ, ◌+◌, Bool, List, [], ◌∷◌, ◌++◌, length, unwrap_or, Option, Some, None, Ok}
+use Rattle.std.specs.Prelude.{◌≡◌, ◌⊎◌, ℕ, ◌+◌, Bool, List, [], ◌∷◌, ◌++◌, length, unwrap_or, Option, Some, None}
 use Rattle.pm_base.specs.declared.errors.Exit.{Exit}
 use Rattle.pm_base.specs.declared.errors.Exit.TheVariants.{Done}
 use Rattle.pm_base.specs.declared.events.Event.{Event}
-use Rattle.pm_base.specs.declared.inputs.Inputs as Inputs
-use Rattle.pm_base.specs.declared.sink.Sink as Sink
+use Rattle.pm_io.specs.declared.inputs.Inputs as Inputs
+use Rattle.pm_io.specs.declared.sink.Sink as Sink
 use Rattle.pm_base.specs.declared.names.NodeId.{NodeId}
 use Rattle.pm_object.specs.declared.object.Object.{Object}
-use Rattle.pm_object.specs.Grammar.{Reads, little_endian, words_of}
-use Rattle.pm_objtext.specs.Meaning.{Means}
-use Rattle.pm_objtext.specs.Printing.{text_of}
-use Rattle.pm_topology.specs.Chip.{chip}
+use Rattle.pm_object.specs.Grammar.{Reads}
+use Rattle.pm_chip.specs.Chip.{chip}
 use Rattle.pm_topology.specs.declared.topology.Topology.{Topology}
-use Rattle.pm_topofile.specs.Meaning.{meaning}
-use Rattle.pm_topofile.specs.Printing.{text_of as table_of}
 use Rattle.pm_reach.specs.declared.members.Member.{Member}
 use Rattle.pm_reach.specs.Membership.{IsReach}
 use Rattle.pm_device.specs.declared.device.Device as Device
@@ -25,15 +21,14 @@ use Rattle.pm_drive.specs.Scripts.{script_driven, script_text}
 use Rattle.pm_gen.specs.Laboratory.{laboratory}
 use Rattle.pm_gen.specs.Script.{made}
 use Rattle.pm_gen.specs.Summary.{summary}
-use Rattle.pm_trace.specs.Reach.{reach_text}
 use Rattle.pm_isolate.specs.Differences.{isolate_text}
 use Rattle.pm_isolate.specs.Listed.{AreListed}
-use Rattle.pm_base.specs.Inputs.{Holds}
+use Rattle.pm_io.specs.Inputs.{Holds}
 use Rattle.pm_block.specs.Block.{attached_by, passed}
 use Rattle.pm_state.specs.State.{objects_in}
 use Rattle.pm_reader.specs.Front.{ran}
 use Rattle.pm_run.specs.Run.{setup_for}
-use Rattle.pm_base.specs.World.{World, world}
+use Rattle.pm_io.specs.World.{World, world}
 use Rattle.pm_replay.specs.Replay.{replay_report}
 use Rattle.pm_replay.specs.Replayed.{IsRun, Replayed}
 use Rattle.pm_isolate.specs.Compared.{Compared, IsCompared}
@@ -42,16 +37,17 @@ use Rattle.pm_trace.specs.Report.{Report, Reports, refusal}
 use Rattle.pm_trace.specs.declared.faults.Fault.TheVariants.{Memory}
 use Rattle.pm_trace.specs.Scripts.{fault_at}
 use Rattle.pm_top.specs.declared.works.Work.{Work}
-use Rattle.pm_top.specs.declared.works.Work.TheVariants.{Replay, Reach, Isolate, Print, Build, Make, Table}
+use Rattle.pm_top.specs.declared.works.Work.TheVariants.{Replay, Isolate, Make, Write}
 use Rattle.pm_top.specs.declared.works.Request.{Request}
 use Rattle.pm_top.specs.Fit.{HoldsTopology, IsFitted}
-use Rattle.pm_top.specs.Form.{request_of, word}
+use Rattle.pm_top.specs.Form.{ForMaster, IsPiece, PieceDone, piece_text, request_of}
 use Rattle.pm_top.specs.Asked.{lines_asked, master_of}
 use Rattle.pm_top.specs.Job.{Job}
 use Rattle.pm_top.specs.Making.{Makes}
 use Rattle.pm_top.specs.Theorem.{IsReplayed}
 use Rattle.pm_top.specs.declared.reading.Subject.{Subject}
-use Rattle.pm_top.specs.Within.{IsReachText, IsTopologyText, Writes}
+use Rattle.pm_top.specs.Within.{Writes}
+use Rattle.pm_top.specs.Words.{word}
 
 -- ---- what is written
 
@@ -62,15 +58,12 @@ no_master = record { 0 = 0 }
 -- the pieces that a work writes of its job, where there is a board, under the device's answers
 abbrev pub body_of : Standing → Work → Job → List (List Bool) → List (List ℕ)
 body_of board Replay job answers = (replay_report job.asked.subject.object job.asked.subject.topology board job.asked.script answers).body
-body_of board Reach job answers = reach_text job.members ∷ []
 body_of board Isolate job answers =
     (isolate_report (setup_for job.asked.subject.object job.asked.subject.topology job.asked.script.events)
     (unwrap_or job.asked.subject.master no_master) job.members (ran job.asked.script)).body
-body_of board Print job answers = text_of job.asked.subject.object ∷ []
-body_of board Build job answers = little_endian (words_of job.asked.subject.object) ∷ []
 body_of board Make job answers =
     summary job.asked.subject.lines (script_text job.asked.subject.object job.asked.subject.topology board answers job.events) ∷ []
-body_of board Table job answers = table_of job.asked.subject.topology ∷ []
+body_of board (Write piece) job answers = piece_text piece job.asked.subject job.members ∷ []
 
 -- and then the fault at which its script stops, if it does
 abbrev pub report : Standing → Work → Job → List (List Bool) → Report
@@ -82,21 +75,6 @@ report board work job answers = record {
 -- ---- what Done means
 
 module _ {I O : Type 0} (i : Inputs.Ghosts I) (o : Sink.Ghosts O) where
-  -- an object was held under the first name, the second one names a master of it, and the text of what that master can
-  -- reach was written: on the chip, or on the topology of the text that was held under a third name
-  pub record IsReached (named : Option ℕ) (ws : List (List ℕ)) (inputs : I) (old new : O) : Type 0 where
-    pub bytes : List ℕ
-    pub object : Object
-    pub topology : Topology
-    pub master : NodeId
-    pub members : List Member
-    pub held : Holds (i.state inputs) (word 1 ws) bytes
-    pub topology_held : HoldsTopology named ws (i.state inputs) topology
-    pub reads : Reads bytes object
-    pub master_named : master_of object (word 2 ws) ≡ Some master
-    pub reach : IsReach (object ∷ []) topology master members
-    pub text : (o.state new).bytes ≡ (o.state old).bytes ++ reach_text members
-
   -- an object and a script were held under the first two names, the third one names a master of the object, and what was
   -- written is what that master can reach, each unit whose transitions differ between the run of the script and the run
   -- without the messages of the master, and the number of script lines. Each such unit is in that reach, or a processor of a
@@ -119,29 +97,6 @@ module _ {I O : Type 0} (i : Inputs.Ghosts I) (o : Sink.Ghosts O) where
     pub text : (o.state new).bytes ≡ (o.state old).bytes ++ isolate_text (setup_for object topology events) master members (passed events)
     pub listed : AreListed (setup_for object topology events) master members (passed events)
 
-  -- an object was held under the name, and its text was written
-  pub record IsPrinted (ws : List (List ℕ)) (inputs : I) (old new : O) : Type 0 where
-    pub bytes : List ℕ
-    pub object : Object
-    pub held : Holds (i.state inputs) (word 1 ws) bytes
-    pub reads : Reads bytes object
-    pub text : (o.state new).bytes ≡ (o.state old).bytes ++ text_of object
-
-  -- the text of an object was held under the name, and the object's bytes were written, which are read again
-  pub record IsBuilt (ws : List (List ℕ)) (inputs : I) (old new : O) : Type 0 where
-    pub bytes : List ℕ
-    pub object : Object
-    pub held : Holds (i.state inputs) (word 1 ws) bytes
-    pub says : Means bytes object
-    pub text : (o.state new).bytes ≡ (o.state old).bytes ++ little_endian (words_of object)
-    pub reads : Reads (little_endian (words_of object)) object
-
-module _ {O : Type 0} (o : Sink.Ghosts O) where
-  -- the text of the chip's topology was written, which means that topology
-  pub record IsTabled (old new : O) : Type 0 where
-    pub text : (o.state new).bytes ≡ (o.state old).bytes ++ table_of chip
-    pub means : meaning (table_of chip) ≡ Ok chip
-
 module _ {O D : Type 0} (o : Sink.Ghosts O) (d : Device.Ghosts D) where
   -- the word is a number of lines, and the summary was written of the run of the script of so many lines over the laboratory's
   -- object, through which the device was driven. The tasks are left as that run leaves them
@@ -159,12 +114,10 @@ module _ {I O D : Type 0} (i : Inputs.Ghosts I) (o : Sink.Ghosts O) (d : Device.
   -- what a work asks for was done. A replay and a run that is made drive the device and call tasks, and nothing else touches them
   abbrev pub WorkDone : Work → Option ℕ → List (List ℕ) → Standing → Standing → World I O D → World I O D → Type 0
   WorkDone Replay named ws board is w w' = IsReplayed i o d named ws board is w w'
-  WorkDone Reach named ws board is w w' = IsReached i o named ws w.inputs w.sink w'.sink × ((w.device ≡ w'.device) × (board ≡ is))
   WorkDone Isolate named ws board is w w' = IsIsolated i o named ws w.inputs w.sink w'.sink × ((w.device ≡ w'.device) × (board ≡ is))
-  WorkDone Print named ws board is w w' = IsPrinted i o ws w.inputs w.sink w'.sink × ((w.device ≡ w'.device) × (board ≡ is))
-  WorkDone Build named ws board is w w' = IsBuilt i o ws w.inputs w.sink w'.sink × ((w.device ≡ w'.device) × (board ≡ is))
   WorkDone Make named ws board is w w' = IsMade o d ws board is w.sink w'.sink w.device w'.device
-  WorkDone Table named ws board is w w' = IsTabled o w.sink w'.sink × ((w.device ≡ w'.device) × (board ≡ is))
+  WorkDone (Write piece) named ws board is w w' =
+      PieceDone i o piece named ws w.inputs w.sink w'.sink × ((w.device ≡ w'.device) × (board ≡ is))
 
   -- words that ask for nothing are never done
   abbrev pub DoneIf : Option Request → List (List ℕ) → Standing → Standing → World I O D → World I O D → Type 0
@@ -209,17 +162,9 @@ module _ {I O D : Type 0} (i : Inputs.Ghosts I) (o : Sink.Ghosts O) (d : Device.
   abbrev pub Replays : Option ℕ → Object → Topology → Standing → Standing → List ℕ → World I O D → World I O D → Exit → Type 0
   Replays named object t board is name w w' exit = Starved board is w w' exit ⊎ ReplaysFitted named object t board is name w w' exit
 
-  -- what is done for the master of a subject
-  abbrev pub ForMaster : Subject → (NodeId → Type 0) → Type 0
-  ForMaster subject Does = (master : NodeId) × (subject.master ≡ Some master) × Does master
-
   abbrev pub Worked : Work → Option ℕ → Subject → Standing → Standing → List ℕ → World I O D → World I O D → Exit → Type 0
   Worked Replay named subject board is name w w' exit = Replays named subject.object subject.topology board is name w w' exit
-  Worked Reach named subject board is name w w' exit =
-      ForMaster subject (λ master. OnlyWrites (IsReachText subject.object subject.topology master) board is w w' exit)
   Worked Isolate named subject board is name w w' exit = ForMaster subject (λ master. Compares subject.object subject.topology master board is name w w' exit)
-  Worked Print named subject board is name w w' exit = OnlyWrites (λ text. text ≡ text_of subject.object) board is w w' exit
-  Worked Build named subject board is name w w' exit = OnlyWrites (λ bytes. Reads bytes subject.object) board is w w' exit
   Worked Make named subject board is name w w' exit =
       Makes o d subject.object subject.topology board is subject.lines w.sink w'.sink w.device w'.device exit × (w.inputs ≡ w'.inputs)
-  Worked Table named subject board is name w w' exit = OnlyWrites (IsTopologyText subject.topology) board is w w' exit
+  Worked (Write piece) named subject board is name w w' exit = OnlyWrites (IsPiece piece subject) board is w w' exit

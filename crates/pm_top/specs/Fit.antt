@@ -1,7 +1,7 @@
 -- The topology that a form is carried out over, and the device of it.
 use Rattle.std.specs.Prelude.{◌≡◌, ◌⊎◌, ℕ, List, Option, Some, None, Ok}
-use Rattle.pm_base.specs.Inputs.{Holds, Moment}
-use Rattle.pm_topology.specs.Chip.{chip}
+use Rattle.pm_io.specs.Inputs.{Holds, Moment}
+use Rattle.pm_chip.specs.Chip.{chip}
 use Rattle.pm_topology.specs.declared.topology.Topology.{Topology}
 use Rattle.pm_topofile.specs.Meaning.{meaning}
 use Rattle.pm_device.specs.Act.{Fit}
@@ -9,7 +9,7 @@ use Rattle.pm_device.specs.declared.device.Device as Device
 use Rattle.pm_replay.specs.Safe.{IsSafe}
 use Rattle.pm_trace.specs.declared.faults.Fault.{Fault}
 use Rattle.pm_trace.specs.declared.faults.Fault.TheVariants.{Memory, Read}
-use Rattle.pm_top.specs.Form.{word}
+use Rattle.pm_top.specs.Words.{word}
 
 -- where a word names the topology, it is the one that the text means which is held under that word, and it keeps all rules; else
 -- it is the chip's

@@ -1,22 +1,71 @@
--- The forms of the words of the program: what each of them reads, and its work.
-use Rattle.std.specs.Prelude.{ℕ, List, [], ◌∷◌, codes, if◌then◌else◌, get_or, Option, Some, None}
+-- The forms of the words of the program: what each of them reads, and its work; and of those that write one piece, what it is, and
+-- what Done means.
+use Rattle.std.specs.Prelude.{◌≡◌, ℕ, List, [], ◌∷◌, ◌++◌, codes, if◌then◌else◌, Option, Some, None, Ok}
 use Rattle.std.specs.Str.{bytes_eq}
+use Rattle.pm_io.specs.declared.inputs.Inputs as Inputs
+use Rattle.pm_base.specs.declared.names.NodeId.{NodeId}
+use Rattle.pm_io.specs.declared.sink.Sink as Sink
+use Rattle.pm_io.specs.Inputs.{Holds}
+use Rattle.pm_object.specs.declared.object.Object.{Object}
+use Rattle.pm_object.specs.Grammar.{Reads, little_endian, words_of}
+use Rattle.pm_objtext.specs.Meaning.{Means}
+use Rattle.pm_objtext.specs.Printing.{text_of}
+use Rattle.pm_reach.specs.declared.members.Member.{Member}
+use Rattle.pm_reach.specs.Membership.{IsReach}
+use Rattle.pm_topofile.specs.Meaning.{meaning}
+use Rattle.pm_topofile.specs.Printing.{text_of as table_of}
+use Rattle.pm_chip.specs.Chip.{chip}
+use Rattle.pm_topology.specs.declared.topology.Topology.{Topology}
+use Rattle.pm_trace.specs.Reach.{reach_text}
+use Rattle.pm_top.specs.declared.reading.Subject.{Subject}
 use Rattle.pm_top.specs.declared.works.Form.{Form}
+use Rattle.pm_top.specs.declared.works.Piece.{Piece}
+use Rattle.pm_top.specs.declared.works.Piece.TheVariants.{Reach, ObjectText, ObjectBytes, TopologyText}
 use Rattle.pm_top.specs.declared.works.Request.{Request}
+use Rattle.pm_top.specs.declared.works.Source.{Source}
 use Rattle.pm_top.specs.declared.works.Source.TheVariants as source
 use Rattle.pm_top.specs.declared.works.Work.{Work}
-use Rattle.pm_top.specs.declared.works.Work.TheVariants.{Replay, Reach, Isolate, Print, Build, Make, Table}
+use Rattle.pm_top.specs.declared.works.Work.TheVariants.{Replay, Isolate, Make, Write}
+use Rattle.pm_top.specs.Asked.{master_of}
+use Rattle.pm_top.specs.Fit.{HoldsTopology}
+use Rattle.pm_top.specs.Within.{IsReachText, IsTopologyText}
+use Rattle.pm_top.specs.Words.{word}
 
--- `replay OBJ SCRIPT`, `reach OBJ NODE`, `isolate OBJ SCRIPT NODE`, with the place of a `TOPO` behind them or none, `print OBJ`,
--- `build TEXT`, `make N`, `table`: what is read, and the places of the words that name a topology, a master and a script
+-- ---- what is read
+
+-- `print OBJ`, `build TEXT`, `table`, `reach OBJ NODE`: what a piece is read from, and the place of the word that names a master
+abbrev pub piece_source : Piece → Source
+piece_source Reach = source.Object
+piece_source ObjectText = source.Object
+piece_source ObjectBytes = source.Text
+piece_source TopologyText = source.Nothing
+
+abbrev pub piece_node : Piece → Option ℕ
+piece_node Reach = Some 2
+piece_node ObjectText = None
+piece_node ObjectBytes = None
+piece_node TopologyText = None
+
+-- a topology is named beside an object alone
+abbrev pub beside : Source → Option ℕ → Option ℕ
+beside source.Object named = named
+beside source.Text named = None
+beside source.Number named = None
+beside source.Nothing named = None
+
+-- what a work reads that is done over the topology that a word names: what the first name is, and the places of the words that
+-- name a master and a script
+abbrev pub reads : Source → Option ℕ → Option ℕ → Work → Option ℕ → Form
+reads from node script work named = record { source = from; topology = beside from named; node = node; script = script; work = work }
+
+-- `replay OBJ SCRIPT`, `isolate OBJ SCRIPT NODE`, `make N`, and what writes a piece
 abbrev pub form_of : Work → Option ℕ → Form
-form_of Replay named = record { source = source.Object; topology = named; node = None; script = Some 2; work = Replay }
-form_of Reach named = record { source = source.Object; topology = named; node = Some 2; script = None; work = Reach }
-form_of Isolate named = record { source = source.Object; topology = named; node = Some 3; script = Some 2; work = Isolate }
-form_of Print named = record { source = source.Object; topology = None; node = None; script = None; work = Print }
-form_of Build named = record { source = source.Text; topology = None; node = None; script = None; work = Build }
-form_of Make named = record { source = source.Number; topology = None; node = None; script = None; work = Make }
-form_of Table named = record { source = source.Nothing; topology = None; node = None; script = None; work = Table }
+form_of Replay named = reads source.Object None (Some 2) Replay named
+form_of Isolate named = reads source.Object (Some 3) (Some 2) Isolate named
+form_of Make named = reads source.Number None None Make named
+form_of (Write piece) named = reads (piece_source piece) (piece_node piece) None (Write piece) named
+
+-- ---- the words
 
 -- a work over the topology that the word at a place names, or over the chip's
 abbrev pub over : Option ℕ → Work → Request
@@ -30,13 +79,13 @@ over_named work place = Some (over (Some place) work)
 
 -- what one word asks for
 abbrev pub request_of_one : List ℕ → Option Request
-request_of_one first = if bytes_eq first (codes "table") then over_chip Table else None
+request_of_one first = if bytes_eq first (codes "table") then over_chip (Write TopologyText) else None
 
 -- what two words ask for by the first
 abbrev pub request_of_two : List ℕ → Option Request
 request_of_two first =
-    if bytes_eq first (codes "print") then over_chip Print
-    else if bytes_eq first (codes "build") then over_chip Build
+    if bytes_eq first (codes "print") then over_chip (Write ObjectText)
+    else if bytes_eq first (codes "build") then over_chip (Write ObjectBytes)
     else if bytes_eq first (codes "make") then over_chip Make
     else None
 
@@ -44,7 +93,7 @@ request_of_two first =
 abbrev pub request_of_three : List ℕ → Option Request
 request_of_three first =
     if bytes_eq first (codes "replay") then over_chip Replay
-    else if bytes_eq first (codes "reach") then over_chip Reach
+    else if bytes_eq first (codes "reach") then over_chip (Write Reach)
     else None
 
 -- what four words ask for by the first
@@ -52,7 +101,7 @@ abbrev pub request_of_four : List ℕ → Option Request
 request_of_four first =
     if bytes_eq first (codes "isolate") then over_chip Isolate
     else if bytes_eq first (codes "replay") then over_named Replay 3
-    else if bytes_eq first (codes "reach") then over_named Reach 3
+    else if bytes_eq first (codes "reach") then over_named (Write Reach) 3
     else None
 
 -- what five words ask for by the first
@@ -85,6 +134,70 @@ topology_if (Some request) = request.topology
 abbrev pub topology_in : List (List ℕ) → Option ℕ
 topology_in ws = topology_if (request_of ws)
 
--- the word at a place
-abbrev pub word : ℕ → List (List ℕ) → List ℕ
-word k words = get_or words k []
+-- ---- what a piece is
+
+-- by what it is of, and the members of the reach of its master, where there is one
+abbrev pub piece_text : Piece → Subject → List Member → List ℕ
+piece_text Reach subject members = reach_text members
+piece_text ObjectText subject members = text_of subject.object
+piece_text ObjectBytes subject members = little_endian (words_of subject.object)
+piece_text TopologyText subject members = table_of subject.topology
+
+-- what is done for the master of a subject
+abbrev pub ForMaster : Subject → (NodeId → Type 0) → Type 0
+ForMaster subject Does = (master : NodeId) × (subject.master ≡ Some master) × Does master
+
+-- a text is that piece of a subject
+abbrev pub IsPiece : Piece → Subject → List ℕ → Type 0
+IsPiece Reach subject text = ForMaster subject (λ master. IsReachText subject.object subject.topology master text)
+IsPiece ObjectText subject text = text ≡ text_of subject.object
+IsPiece ObjectBytes subject text = Reads text subject.object
+IsPiece TopologyText subject text = IsTopologyText subject.topology text
+
+-- ---- what Done means where a piece is written
+
+module _ {I O : Type 0} (i : Inputs.Ghosts I) (o : Sink.Ghosts O) where
+  -- an object was held under the first name, the second one names a master of it, and the text of what that master can
+  -- reach was written: on the chip, or on the topology of the text that was held under a third name
+  pub record IsReached (named : Option ℕ) (ws : List (List ℕ)) (inputs : I) (old new : O) : Type 0 where
+    pub bytes : List ℕ
+    pub object : Object
+    pub topology : Topology
+    pub master : NodeId
+    pub members : List Member
+    pub held : Holds (i.state inputs) (word 1 ws) bytes
+    pub topology_held : HoldsTopology named ws (i.state inputs) topology
+    pub reads : Reads bytes object
+    pub master_named : master_of object (word 2 ws) ≡ Some master
+    pub reach : IsReach (object ∷ []) topology master members
+    pub text : (o.state new).bytes ≡ (o.state old).bytes ++ reach_text members
+
+  -- an object was held under the name, and its text was written
+  pub record IsPrinted (ws : List (List ℕ)) (inputs : I) (old new : O) : Type 0 where
+    pub bytes : List ℕ
+    pub object : Object
+    pub held : Holds (i.state inputs) (word 1 ws) bytes
+    pub reads : Reads bytes object
+    pub text : (o.state new).bytes ≡ (o.state old).bytes ++ text_of object
+
+  -- the text of an object was held under the name, and the object's bytes were written, which are read again
+  pub record IsBuilt (ws : List (List ℕ)) (inputs : I) (old new : O) : Type 0 where
+    pub bytes : List ℕ
+    pub object : Object
+    pub held : Holds (i.state inputs) (word 1 ws) bytes
+    pub says : Means bytes object
+    pub text : (o.state new).bytes ≡ (o.state old).bytes ++ little_endian (words_of object)
+    pub reads : Reads (little_endian (words_of object)) object
+
+module _ {O : Type 0} (o : Sink.Ghosts O) where
+  -- the text of the chip's topology was written, which means that topology
+  pub record IsTabled (old new : O) : Type 0 where
+    pub text : (o.state new).bytes ≡ (o.state old).bytes ++ table_of chip
+    pub means : meaning (table_of chip) ≡ Ok chip
+
+module _ {I O : Type 0} (i : Inputs.Ghosts I) (o : Sink.Ghosts O) where
+  abbrev pub PieceDone : Piece → Option ℕ → List (List ℕ) → I → O → O → Type 0
+  PieceDone Reach named ws inputs old new = IsReached i o named ws inputs old new
+  PieceDone ObjectText named ws inputs old new = IsPrinted i o ws inputs old new
+  PieceDone ObjectBytes named ws inputs old new = IsBuilt i o ws inputs old new
+  PieceDone TopologyText named ws inputs old new = IsTabled o old new

@@ -5,10 +5,10 @@ use Rattle.pm_base.specs.Faults.{Rose}
 use Rattle.pm_base.specs.declared.errors.Exit.{Exit}
 use Rattle.pm_base.specs.declared.errors.Exit.TheVariants.{ReadFault}
 use Rattle.pm_base.specs.declared.events.Event.{Event}
-use Rattle.pm_base.specs.Inputs.{Moment}
-use Rattle.pm_base.specs.declared.inputs.Inputs as Inputs
+use Rattle.pm_io.specs.Inputs.{Moment}
+use Rattle.pm_io.specs.declared.inputs.Inputs as Inputs
 use Rattle.pm_gen.specs.Script.{made}
-use Rattle.pm_topology.specs.Chip.{chip}
+use Rattle.pm_chip.specs.Chip.{chip}
 use Rattle.pm_topology.specs.WellFormed.{IsSupported}
 use Rattle.pm_reach.specs.declared.members.Member.{Member}
 use Rattle.pm_reach.specs.Membership.{IsReach}

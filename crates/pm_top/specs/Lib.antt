@@ -1,8 +1,9 @@
+pub mod Words
 pub mod Fit
-pub mod Form
 pub mod Asked
 pub mod Job
 pub mod Within
+pub mod Form
 pub mod Reads
 pub mod Making
 pub mod Theorem

@@ -3,12 +3,12 @@ use Rattle.std.specs.Prelude.{◌≡◌, ℕ, ◌+◌, ◌<◌, ◌⊎◌, Bool,
 use Rattle.pm_base.specs.declared.errors.Exit.{Exit}
 use Rattle.pm_base.specs.declared.errors.Exit.TheVariants as exit
 use Rattle.pm_base.specs.declared.events.Event.{Event}
-use Rattle.pm_base.specs.declared.inputs.Inputs as Inputs
-use Rattle.pm_base.specs.declared.sink.Sink as Sink
-use Rattle.pm_base.specs.Inputs.{Moment, MayFail}
+use Rattle.pm_io.specs.declared.inputs.Inputs as Inputs
+use Rattle.pm_io.specs.declared.sink.Sink as Sink
+use Rattle.pm_io.specs.Inputs.{Moment, MayFail}
 use Rattle.pm_object.specs.declared.object.Object.{Object}
 use Rattle.pm_object.specs.Grammar.{IsObject}
-use Rattle.pm_topology.specs.Chip.{chip}
+use Rattle.pm_chip.specs.Chip.{chip}
 use Rattle.pm_topology.specs.declared.topology.Topology.{Topology}
 use Rattle.pm_topology.specs.WellFormed.{IsWellFormed}
 use Rattle.pm_device.specs.declared.device.Device as Device
@@ -27,14 +27,15 @@ use Rattle.pm_replay.specs.Replay.{Touched}
 use Rattle.pm_replay.specs.Replayed.{AnswersHaveCauses, ClocksFollow, LinesServe, LowersCalls, RunsKeepApart, TellsCalls}
 use Rattle.pm_drive.specs.Scripts.{script_driven}
 use Rattle.pm_run.specs.Run.{setup_for}
-use Rattle.pm_base.specs.World.{World}
+use Rattle.pm_io.specs.World.{World}
 use Rattle.pm_top.specs.declared.works.Form.{Form}
 use Rattle.pm_top.specs.declared.works.Source.{Source}
 use Rattle.pm_top.specs.declared.works.Source.TheVariants as source
 use Rattle.pm_top.specs.declared.works.Work.{Work}
 use Rattle.pm_top.specs.declared.works.Work.TheVariants.{Replay, Make}
 use Rattle.pm_top.specs.Fit.{HoldsTopology, IsFitted, LeftBy}
-use Rattle.pm_top.specs.Form.{form, word}
+use Rattle.pm_top.specs.Form.{form}
+use Rattle.pm_top.specs.Words.{word}
 use Rattle.pm_top.specs.Asked.{Asked, Begins, asked_of, lines_by, object_limit, script_turn, text_limit, topology_limit}
 use Rattle.pm_top.specs.Job.{IsAsked, Job}
 use Rattle.pm_top.specs.Done.{report}

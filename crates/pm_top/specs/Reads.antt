@@ -2,7 +2,7 @@
 use Rattle.std.specs.Prelude.{◌≡◌, ◌⊎◌, ℕ, List, [], ◌∷◌, ◌++◌, map, Option, Some, None, Result, Ok, Err, ⊤}
 use Rattle.pm_base.specs.declared.errors.Exit.{Exit}
 use Rattle.pm_base.specs.declared.errors.Exit.TheVariants as exit
-use Rattle.pm_base.specs.Calls.{Call, Named, ReadsEach, ReadsOn, ReadsToFault, begun, named}
+use Rattle.pm_io.specs.Calls.{Call, Named, ReadsEach, ReadsOn, ReadsToFault, begun, named}
 use Rattle.pm_script.specs.Script.{script_limit}
 use Rattle.pm_trace.specs.declared.faults.Fault.{Fault}
 use Rattle.pm_trace.specs.declared.faults.Fault.TheVariants as faults
@@ -11,7 +11,7 @@ use Rattle.pm_top.specs.declared.works.Form.{Form}
 use Rattle.pm_top.specs.declared.works.Source.{Source}
 use Rattle.pm_top.specs.declared.works.Source.TheVariants as source
 use Rattle.pm_top.specs.Asked.{object_limit, text_limit, topology_limit}
-use Rattle.pm_top.specs.Form.{word}
+use Rattle.pm_top.specs.Words.{word}
 
 -- the name that is read first, where there is one: an object, or the text of one
 abbrev pub source_named : Source → List ℕ → List Named

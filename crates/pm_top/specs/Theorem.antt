@@ -1,10 +1,10 @@
 -- The headline: what Done means for the words `replay OBJ SCRIPT` and `replay OBJ SCRIPT TOPO`.
 use Rattle.std.specs.Prelude.{◌≡◌, ℕ, Bool, List, ◌++◌, Option}
 use Rattle.pm_base.specs.declared.events.Event.{Event}
-use Rattle.pm_base.specs.declared.inputs.Inputs as Inputs
-use Rattle.pm_base.specs.declared.sink.Sink as Sink
-use Rattle.pm_base.specs.Inputs.{Holds}
-use Rattle.pm_base.specs.World.{World}
+use Rattle.pm_io.specs.declared.inputs.Inputs as Inputs
+use Rattle.pm_io.specs.declared.sink.Sink as Sink
+use Rattle.pm_io.specs.Inputs.{Holds}
+use Rattle.pm_io.specs.World.{World}
 use Rattle.pm_object.specs.declared.object.Object.{Object}
 use Rattle.pm_object.specs.Grammar.{Reads}
 use Rattle.pm_topology.specs.declared.topology.Topology.{Topology}
@@ -16,7 +16,7 @@ use Rattle.pm_drive.specs.Heard.{last_board}
 use Rattle.pm_drive.specs.Scripts.{script_driven, script_text}
 use Rattle.pm_run.specs.Run.{setup_for}
 use Rattle.pm_top.specs.Fit.{HoldsTopology, IsFitted}
-use Rattle.pm_top.specs.Form.{word}
+use Rattle.pm_top.specs.Words.{word}
 
 -- An object and a script were held under the two names, and under a third, where it is named, the text of a topology; else that is
 -- the chip's. The whole text of the run of the script over the object and that topology, with what the script's first lines attach,

@@ -3,7 +3,6 @@
 //! or the text of the chip's topology is written.
 #![tactic(auto)]
 
-mod conversions;
 mod making;
 mod objects;
 mod program;
@@ -12,7 +11,8 @@ mod reading;
 mod replaying;
 mod topologies;
 mod works;
+mod writing;
 
 pub use objects::OBJECT_LIMIT;
 pub use program::pm_main;
-pub use works::{Form, Request, Source, Work};
+pub use works::{Form, Piece, Request, Source, Work};

@@ -11,12 +11,13 @@ ghost use Rattle.pm_replay.specs.Safe.{IsSafe};
 ghost use Rattle.pm_top.specs.Asked.{laboratory_for, line_limit, lines_asked, lines_by};
 ghost use Rattle.pm_top.specs.Making.{IsSummary, Makes, MayBeDriven};
 
-use crate::conversions::write_whole;
 use crate::works::Source;
-use pm_base::{Exit, MemSink, NoMemory, OneInput, Sink, number};
+use crate::writing::write_whole;
+use pm_base::{Exit, NoMemory};
 use pm_board::Board;
 use pm_device::Device;
 use pm_gen::{lab_object, make, summary_of};
+use pm_io::{MemSink, OneInput, Sink, number};
 use pm_modules::Responder;
 use pm_object::Object;
 use pm_replay::replay;

@@ -1,7 +1,7 @@
 //! A named object is read, from its bytes or from its text.
 
 ghost use Rattle.std.specs.Prelude.{◌≡◌, ◌⊎◌, IfOk};
-ghost use Rattle.pm_base.specs.Readings.{Meanwhile};
+ghost use Rattle.pm_io.specs.Readings.{Meanwhile};
 ghost use Rattle.pm_object.specs.Grammar.{IsObject, Reads};
 ghost use Rattle.pm_object.specs.Reading.{reading};
 ghost use Rattle.pm_objtext.specs.Building.{building};
@@ -11,7 +11,7 @@ ghost use Rattle.pm_top.specs.Asked.{object_or_fault, text_or_fault};
 ghost use Rattle.pm_top.specs.Reads.{ReadsFor, source_named};
 ghost use Rattle.pm_top.specs.Within.{ReadsAs};
 
-use pm_base::{Inputs, StopReason, gather};
+use pm_io::{Inputs, StopReason, gather};
 use pm_object::{DecodeError, Object, decode};
 use pm_objtext::{BuildError, build};
 use pm_trace::Fault;

@@ -3,10 +3,10 @@
 ghost use Rattle.std.specs.Prelude.{◌≡◌, ◌↔◌, ℕ, Option, None, Some, map, string_bytes};
 ghost use Rattle.pm_base.specs.declared.names.Unit.{Unit};
 ghost use Rattle.pm_base.specs.Faults.{Rose};
-ghost use Rattle.pm_base.specs.Readings.{Meanwhile};
-ghost use Rattle.pm_base.specs.Sink.{HasFailed, IsUnfailed};
+ghost use Rattle.pm_io.specs.Readings.{Meanwhile};
+ghost use Rattle.pm_io.specs.Sink.{HasFailed, IsUnfailed};
 ghost use Rattle.pm_trace.specs.Exits.{IsStarved};
-ghost use Rattle.pm_base.specs.World.{world};
+ghost use Rattle.pm_io.specs.World.{world};
 ghost use Rattle.pm_board.specs.Standing.{standing};
 ghost use Rattle.pm_top.specs.Complete.{IsComplete};
 ghost use Rattle.pm_top.specs.Done.{IsDone, WorkDone};
@@ -18,8 +18,7 @@ ghost use Rattle.pm_top.specs.Ran.{Decides, DroveRun, EachEmptiesBoxes, EachFoll
 
 use crate::reading::{read_subject, script_word};
 use crate::works::{Request, do_work, form_of, request_of};
-use pm_apart::driven_runs_keep_apart;
-use pm_base::{Exit, Inputs, Sink};
+use pm_base::Exit;
 use pm_block::attached_objects_are_formed;
 use pm_board::Board;
 use pm_causes::runs_have_causes;
@@ -27,9 +26,11 @@ use pm_device::Device;
 use pm_drive::{
     calls_are_told, clocks_are_followed, power_calls_are_their_events, scripts_are_lowered,
 };
+use pm_io::{Inputs, Sink};
 use pm_modules::{ModulesOf, Responder};
 use pm_object::one_reading;
 use pm_objtext::one_meaning;
+use pm_replay::driven_runs_keep_apart;
 use pm_run::boxes_of_a_run;
 use pm_tasks::{Handler, TasksOf};
 use pm_trace::{Fault, exits_say, refuse};

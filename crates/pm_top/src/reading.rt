@@ -3,18 +3,19 @@
 
 ghost use Rattle.std.specs.Prelude.{◌≡◌, ◌≢◌, ◌⊎◌, ◌==◌, None, IfOk, IfSome, IsTrue, map, string_bytes};
 ghost use Rattle.std.specs.List.{list_any};
-ghost use Rattle.pm_base.specs.Readings.{Meanwhile};
+ghost use Rattle.pm_io.specs.Readings.{Meanwhile};
 ghost use Rattle.pm_object.specs.Grammar.{IsObject};
 ghost use Rattle.pm_top.specs.Asked.{master_of, script_word, with_master};
-ghost use Rattle.pm_top.specs.Form.{word};
 ghost use Rattle.pm_top.specs.Reads.{ReadsFor, SubjectReads, source_named, topology_named};
+ghost use Rattle.pm_top.specs.Words.{word};
 ghost use Rattle.pm_top.specs.Within.{IsNamed, IsSubject, ReadsAs, ReadsRest, ReadsSubject};
 
 use crate::making::{laboratory, laboratory_for, lines_by};
 use crate::objects::{read_object, read_text};
 use crate::topologies::topology_for;
 use crate::works::{Form, Source, word};
-use pm_base::{Inputs, NodeId, number};
+use pm_base::NodeId;
+use pm_io::{Inputs, number};
 use pm_object::{Object, has_key};
 use pm_topology::Topology;
 use pm_trace::Fault;

@@ -2,19 +2,20 @@
 
 ghost use Rattle.std.specs.Prelude.{◌≡◌, IfNone};
 ghost use Rattle.pm_base.specs.declared.names.Unit.{Unit};
-ghost use Rattle.pm_base.specs.World.{world};
-ghost use Rattle.pm_base.specs.Readings.{Meanwhile};
+ghost use Rattle.pm_io.specs.World.{world};
+ghost use Rattle.pm_io.specs.Readings.{Meanwhile};
 ghost use Rattle.pm_object.specs.Grammar.{IsObject};
-ghost use Rattle.pm_topology.specs.Chip.{chip};
+ghost use Rattle.pm_chip.specs.Chip.{chip};
 ghost use Rattle.pm_topology.specs.WellFormed.{IsWellFormed};
 ghost use Rattle.pm_board.specs.Standing.{standing};
 ghost use Rattle.pm_top.specs.Done.{Replays};
 ghost use Rattle.pm_top.specs.Fit.{IsSafeRun};
 ghost use Rattle.pm_trace.specs.Scripts.{ReadsScript, script_named};
 
-use pm_base::{Exit, Inputs, NoMemory, Sink};
+use pm_base::{Exit, NoMemory};
 use pm_board::Board;
 use pm_device::{Device, chain_shows};
+use pm_io::{Inputs, Sink};
 use pm_modules::Responder;
 use pm_object::Object;
 use pm_replay::replay;

@@ -1,9 +1,9 @@
 //! The topology that a form is carried out over: that of a named text, or the chip's.
 
 ghost use Rattle.std.specs.Prelude.{◌≡◌, ◌⊎◌, ◌∷◌, [], IfOk, map, string_bytes};
-ghost use Rattle.pm_base.specs.Calls.{named};
-ghost use Rattle.pm_base.specs.Readings.{Meanwhile};
-ghost use Rattle.pm_topology.specs.Chip.{chip};
+ghost use Rattle.pm_io.specs.Calls.{named};
+ghost use Rattle.pm_io.specs.Readings.{Meanwhile};
+ghost use Rattle.pm_chip.specs.Chip.{chip};
 ghost use Rattle.pm_topology.specs.WellFormed.{IsSupported};
 ghost use Rattle.pm_topofile.specs.Meaning.{meaning};
 ghost use Rattle.pm_top.specs.Asked.{topology_limit, topology_or_fault};
@@ -11,9 +11,11 @@ ghost use Rattle.pm_top.specs.Reads.{ReadsFor, topology_named};
 ghost use Rattle.pm_top.specs.Within.{ReadsText, ReadsTopology};
 
 use crate::works::word;
-use pm_base::{Inputs, NoMemory, StopReason, gather};
+use pm_base::NoMemory;
+use pm_chip::zynqmp;
+use pm_io::{Inputs, StopReason, gather};
 use pm_topofile::{TopologyError, read_topology};
-use pm_topology::{Topology, zynqmp};
+use pm_topology::Topology;
 use pm_trace::Fault;
 use std::alloc::Global;
 

@@ -1,28 +1,34 @@
-//! The forms of the words of the program, as data: what each of them reads, and its work.
+//! The forms of the words of the program, as data: what each of them reads, and its work, with the pieces that some write.
 
-ghost use Rattle.std.specs.Prelude.{◌≡◌, IfNone, is_some, map, string_bytes};
+ghost use Rattle.std.specs.Prelude.{◌≡◌, IfNone, IfOk, is_some, map, string_bytes};
 ghost use Rattle.pm_base.specs.declared.names.Unit.{Unit};
-ghost use Rattle.pm_base.specs.World.{world};
-ghost use Rattle.pm_base.specs.Readings.{Meanwhile};
-ghost use Rattle.pm_topology.specs.Chip.{chip};
+ghost use Rattle.pm_io.specs.World.{world};
+ghost use Rattle.pm_io.specs.Readings.{Meanwhile};
+ghost use Rattle.pm_chip.specs.Chip.{chip};
 ghost use Rattle.pm_board.specs.Standing.{standing};
 ghost use Rattle.pm_top.specs.Done.{Worked};
 ghost use Rattle.pm_top.specs.Fit.{IsSafeRun};
-ghost use Rattle.pm_top.specs.Form.{form_of, over_chip, over_named, request_of, request_of_five, request_of_four, request_of_one, request_of_three, request_of_two, word};
+ghost use Rattle.pm_top.specs.Form.{IsPiece, beside, form_of, over_chip, over_named, piece_node, request_of, request_of_five, request_of_four, request_of_one, request_of_three, request_of_two};
 ghost use Rattle.pm_top.specs.Reads.{WorkReads};
-ghost use Rattle.pm_top.specs.Within.{IsSubject};
+ghost use Rattle.pm_top.specs.Within.{IsSubject, Writes};
+ghost use Rattle.pm_top.specs.Words.{word};
 
-use crate::conversions::{build_object, print_object, write_table};
 use crate::making::make_over;
-use crate::reaching::write_reach;
+use crate::reaching::text_of_reach;
 use crate::reading::Subject;
 use crate::replaying::replay_over;
-use pm_base::{Exit, Inputs, Sink};
+use crate::writing::write_whole;
+use pm_base::{Exit, NoMemory};
 use pm_board::Board;
 use pm_device::Device;
+use pm_io::{Inputs, Sink};
 use pm_isolate::compare;
 use pm_modules::Responder;
+use pm_object::encode;
+use pm_objtext::print;
 use pm_tasks::Handler;
+use pm_topofile::print_topology;
+use pm_trace::{Fault, refuse};
 use std::alloc::Global;
 
 /// What the word after the first names.
@@ -43,18 +49,25 @@ pub enum Source {
 pub enum Work {
     /// The script is run over the object.
     Replay,
-    /// What the master can reach is written.
-    Reach,
     /// The run of the script is compared with the run without the messages of the master.
     Isolate,
-    /// The text of the object is written.
-    Print,
-    /// The bytes of the object are written.
-    Build,
     /// A script that is made is run over the object, and the summary of its run is written.
     Make,
-    /// The text of the topology is written.
-    Table,
+    /// A piece is written, and nothing else is done.
+    Write(Piece),
+}
+
+/// What a form writes that writes one piece.
+#[derive(Clone, Copy, Debug, PartialEq, Eq)]
+pub enum Piece {
+    /// What the master can reach.
+    Reach,
+    /// The text of the object.
+    ObjectText,
+    /// The bytes of the object.
+    ObjectBytes,
+    /// The text of the topology.
+    TopologyText,
 }
 
 /// What the words ask for: a work, and the place of the word that names the topology that it is done over, where
@@ -84,21 +97,31 @@ pub struct Form {
 pub(crate) fn form_of(request: Request) -> Form
     ensures { result ≡ form_of request.work request.topology }
 {
-    let (source, topology, node, script) = match request.work {
-        Work::Replay => (Source::Object, request.topology, None, Some(2)),
-        Work::Reach => (Source::Object, request.topology, Some(2), None),
-        Work::Isolate => (Source::Object, request.topology, Some(3), Some(2)),
-        Work::Print => (Source::Object, None, None, None),
-        Work::Build => (Source::Text, None, None, None),
-        Work::Make => (Source::Number, None, None, None),
-        Work::Table => (Source::Nothing, None, None, None),
+    let (source, node, script) = match request.work {
+        Work::Replay => (Source::Object, None, Some(2)),
+        Work::Isolate => (Source::Object, Some(3), Some(2)),
+        Work::Make => (Source::Number, None, None),
+        Work::Write(Piece::Reach) => (Source::Object, Some(2), None),
+        Work::Write(Piece::ObjectText) => (Source::Object, None, None),
+        Work::Write(Piece::ObjectBytes) => (Source::Text, None, None),
+        Work::Write(Piece::TopologyText) => (Source::Nothing, None, None),
     };
     Form {
         source,
-        topology,
+        topology: beside(source, request.topology),
         node,
         script,
         work: request.work,
+    }
+}
+
+/// A topology is named beside an object alone.
+fn beside(source: Source, topology: Option<usize>) -> Option<usize>
+    ensures { result ≡ beside source topology }
+{
+    match source {
+        Source::Object => topology,
+        Source::Text | Source::Number | Source::Nothing => None,
     }
 }
 
@@ -141,7 +164,7 @@ fn request_of_one(first: &str) -> Option<Request>
     ensures { result ≡ request_of_one first.now }
 {
     match first {
-        "table" => over_chip(Work::Table),
+        "table" => over_chip(Work::Write(Piece::TopologyText)),
         _ => None,
     }
 }
@@ -151,8 +174,8 @@ fn request_of_two(first: &str) -> Option<Request>
     ensures { result ≡ request_of_two first.now }
 {
     match first {
-        "print" => over_chip(Work::Print),
-        "build" => over_chip(Work::Build),
+        "print" => over_chip(Work::Write(Piece::ObjectText)),
+        "build" => over_chip(Work::Write(Piece::ObjectBytes)),
         "make" => over_chip(Work::Make),
         _ => None,
     }
@@ -164,7 +187,7 @@ fn request_of_three(first: &str) -> Option<Request>
 {
     match first {
         "replay" => over_chip(Work::Replay),
-        "reach" => over_chip(Work::Reach),
+        "reach" => over_chip(Work::Write(Piece::Reach)),
         _ => None,
     }
 }
@@ -176,7 +199,7 @@ fn request_of_four(first: &str) -> Option<Request>
     match first {
         "isolate" => over_chip(Work::Isolate),
         "replay" => over_named(Work::Replay, 3),
-        "reach" => over_named(Work::Reach, 3),
+        "reach" => over_named(Work::Write(Piece::Reach), 3),
         _ => None,
     }
 }
@@ -198,6 +221,37 @@ pub(crate) fn word(words: &[String], place: usize) -> &str
     match words.get(place) {
         Some(word) => word.as_str(),
         None => "",
+    }
+}
+
+/// A piece of a subject.
+fn piece_of(alloc: Global, piece: Piece, subject: &Subject) -> Result<Vec<u8>, NoMemory>
+    requires sound { IsSubject subject.now }
+    requires complete { is_some subject.now.master ≡ is_some (piece_node piece) }
+    ensures { IfOk result (λ text. IsPiece piece subject.now text.items) }
+{
+    match piece {
+        Piece::Reach => text_of_reach(
+            alloc,
+            &subject.object,
+            &subject.topology,
+            subject.master.unwrap(),
+        ),
+        Piece::ObjectText => print(alloc, &subject.object),
+        Piece::ObjectBytes => encode(alloc, &subject.object),
+        Piece::TopologyText => print_topology(alloc, &subject.topology),
+    }
+}
+
+/// Writes a piece of a subject.
+fn write_piece<O: Sink>(alloc: Global, piece: Piece, subject: &Subject, out: &mut O) -> Exit
+    requires sound { IsSubject subject.now }
+    requires complete { is_some subject.now.master ≡ is_some (piece_node piece) }
+    ensures { Writes O.Sink (IsPiece piece subject.now) out.old out.new result }
+{
+    match piece_of(alloc, piece, subject) {
+        Ok(text) => write_whole(text.as_slice(), out),
+        Err(NoMemory) => refuse(Fault::Memory, out),
     }
 }
 
@@ -236,17 +290,6 @@ pub(crate) fn do_work<I: Inputs, O: Sink, D: Device, H: Responder, T: Handler>(
             dev,
             board,
         ),
-        Work::Reach => {
-            let exit = write_reach(
-                alloc,
-                &subject.object,
-                &subject.topology,
-                subject.master.unwrap(),
-                out,
-            );
-            drop(subject);
-            exit
-        }
         Work::Isolate => compare(
             alloc,
             subject.object,
@@ -256,16 +299,6 @@ pub(crate) fn do_work<I: Inputs, O: Sink, D: Device, H: Responder, T: Handler>(
             script,
             out,
         ),
-        Work::Print => {
-            let exit = print_object(alloc, &subject.object, out);
-            drop(subject);
-            exit
-        }
-        Work::Build => {
-            let exit = build_object(alloc, &subject.object, out);
-            drop(subject);
-            exit
-        }
         Work::Make => make_over(
             alloc,
             subject.object,
@@ -275,8 +308,8 @@ pub(crate) fn do_work<I: Inputs, O: Sink, D: Device, H: Responder, T: Handler>(
             dev,
             board,
         ),
-        Work::Table => {
-            let exit = write_table(alloc, &subject.topology, out);
+        Work::Write(piece) => {
+            let exit = write_piece(alloc, piece, &subject, out);
             drop(subject);
             exit
         }

@@ -7,7 +7,7 @@ use Rattle.pm_base.specs.declared.events.Event.{Event}
 use Rattle.pm_block.specs.Block.{passed}
 use Rattle.pm_run.specs.Run.{setup, setup_for}
 use Rattle.pm_run.proofs.FormedLemmas.{objects_formed}
-use Rattle.pm_base.specs.World.{world}
+use Rattle.pm_io.specs.World.{world}
 use Rattle.pm_trace.specs.Scripts.{IsScriptOf}
 use Rattle.pm_trace.proofs.ScriptsLemmas as scripts
 use Rattle.pm_replay.proofs.ReplayLemmas.{of_script, replay_done, replay_safe, replay_untouched, script_itself}

@@ -1,6 +1,6 @@
 use Rattle.std.proofs.Common.{[], ◌∷◌, ◌∙◌, ap, refl, subst, sym}
-use Rattle.pm_base.specs.Sink.{Wrote}
-use Rattle.pm_base.specs.Writing.{BreaksIn}
+use Rattle.pm_io.specs.Sink.{Wrote}
+use Rattle.pm_io.specs.Writing.{BreaksIn}
 use Rattle.pm_board.specs.Standing.{standing}
 use Rattle.pm_tasks.specs.Timetable.{Timetable}
 use Rattle.pm_core.specs.declared.outbox.Outbox.{Outbox}

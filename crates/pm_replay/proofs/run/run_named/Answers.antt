@@ -1,7 +1,7 @@
 use Rattle.std.proofs.Common.{arith, inl, inr, refl, ap}
 use Rattle.std.proofs.lemmas.Bool.{false≢true}
 use Rattle.pm_base.specs.Faults.{Rose}
-use Rattle.pm_base.specs.World.{world}
+use Rattle.pm_io.specs.World.{world}
 use Rattle.pm_board.specs.Standing.{standing}
 use Rattle.pm_tasks.specs.declared.tasks.TasksOf.{TasksOf}
 use Rattle.pm_reader.specs.Front.{ran}

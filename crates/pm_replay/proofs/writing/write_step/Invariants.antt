@@ -1,6 +1,6 @@
 use Rattle.std.proofs.Common.{take}
 use Rattle.std.specs.List.{concat}
-use Rattle.pm_base.specs.Sink.{Wrote}
+use Rattle.pm_io.specs.Sink.{Wrote}
 use Rattle.pm_trace.specs.Step.{core_lines, notices_in}
 use Rattle.pm_replay.proofs.writing.write_step.Given as goal
 

@@ -1,6 +1,6 @@
 use Rattle.std.proofs.Common.{◌∙◌, sym, ap, Some, List, ℕ}
 use Rattle.std.proofs.lemmas.Result.{err_from_is_err_and}
-use Rattle.pm_base.proofs.SinkLemmas.{BreaksIn-joined, BreaksIn-piece, Wrote-piece}
+use Rattle.pm_io.proofs.SinkLemmas.{BreaksIn-joined, BreaksIn-piece, Wrote-piece}
 use Rattle.pm_trace.specs.Closing.{closing_lines}
 use Rattle.pm_replay.proofs.writing.write_units.Goals as goal
 

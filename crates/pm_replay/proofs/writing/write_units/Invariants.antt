@@ -1,6 +1,6 @@
 use Rattle.std.proofs.Common.{take}
 use Rattle.std.specs.List.{concat}
-use Rattle.pm_base.specs.Sink.{Wrote}
+use Rattle.pm_io.specs.Sink.{Wrote}
 use Rattle.pm_trace.specs.Closing.{closing_lines}
 use Rattle.pm_replay.proofs.writing.write_units.Given as goal
 

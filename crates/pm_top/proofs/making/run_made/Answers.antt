@@ -1,6 +1,6 @@
 use Rattle.std.proofs.Common.{ℕ, Vec, Global, refl, ap}
 use Rattle.pm_top.proofs.MakingLemmas.{made_driven, made_summary, no_other}
-use Rattle.pm_base.specs.OneInput.{file_with}
+use Rattle.pm_io.specs.OneInput.{file_with}
 use Rattle.std.proofs.Common.{Some}
 use Rattle.pm_top.proofs.making.run_made.Goals as goal
 

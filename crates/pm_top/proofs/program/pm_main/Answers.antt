@@ -1,5 +1,5 @@
 use Rattle.std.proofs.Common.{map, string_bytes}
-use Rattle.pm_base.specs.World.{world}
+use Rattle.pm_io.specs.World.{world}
 use Rattle.pm_block.specs.Block.{passed}
 use Rattle.pm_run.specs.Run.{setup, setup_for}
 use Rattle.pm_run.proofs.FormedLemmas.{objects_formed}

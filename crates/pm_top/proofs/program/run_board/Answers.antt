@@ -1,5 +1,5 @@
 use Rattle.std.proofs.Common.{ap, map, string_bytes, subst}
-use Rattle.pm_base.specs.World.{world}
+use Rattle.pm_io.specs.World.{world}
 use Rattle.pm_board.specs.Board.{Standing}
 use Rattle.pm_board.specs.Standing.{standing}
 use Rattle.pm_top.specs.Done.{IsDone}

@@ -1,9 +1,9 @@
 use Rattle.std.proofs.Common.{◌≡◌, ◌⊎◌, ◌++◌, ℕ, List, None, Result, Ok, Err, map, refl, string_bytes, subst, sym}
 use Rattle.std.specs.Prelude.{◌≢◌}
 use Rattle.pm_top.specs.declared.works.Source.TheVariants as source
-use Rattle.pm_base.specs.Calls.{ReadsEach}
-use Rattle.pm_base.specs.Readings.{Meanwhile}
-use Rattle.pm_base.specs.World.{world}
+use Rattle.pm_io.specs.Calls.{ReadsEach}
+use Rattle.pm_io.specs.Readings.{Meanwhile}
+use Rattle.pm_io.specs.World.{world}
 use Rattle.pm_trace.specs.declared.faults.Fault.{Fault}
 use Rattle.pm_trace.specs.declared.faults.Fault.TheVariants.{Memory}
 use Rattle.pm_board.specs.Standing.{standing}
@@ -16,7 +16,7 @@ use Rattle.pm_top.specs.Within.{ReadsSubject}
 use Rattle.pm_top.proofs.FitLemmas.{still_safe}
 use Rattle.pm_top.proofs.SubjectLemmas.{is_chip, known_read, plain, was_read}
 use Rattle.pm_top.proofs.WorkLemmas.{subject_refused, worked_done, worked_ran}
-use Rattle.pm_top.specs.Form.{word}
+use Rattle.pm_top.specs.Words.{word}
 use Rattle.pm_top.specs.Reads.{RefusedSubject, WorkReads, source_named, topology_named}
 use Rattle.pm_top.proofs.ReadsLemmas.{work_read, work_refused}
 use Rattle.pm_top.proofs.program.run_request.Goals as goal

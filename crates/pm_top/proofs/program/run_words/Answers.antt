@@ -1,14 +1,14 @@
 use Rattle.std.proofs.Common.{[], Option, None, Err, map, refl, string_bytes, subst}
 use Rattle.pm_trace.specs.declared.faults.Fault.TheVariants.{Usage}
-use Rattle.pm_base.specs.World.{world}
+use Rattle.pm_io.specs.World.{world}
 use Rattle.pm_board.specs.Standing.{standing}
 use Rattle.pm_top.specs.declared.works.Request.{Request}
 use Rattle.pm_top.specs.Done.{DoneIf}
 use Rattle.pm_top.specs.Fit.{IsSafeRun}
 use Rattle.pm_top.specs.Form.{form_if, topology_if}
 use Rattle.pm_top.specs.Ran.{RanForm}
-use Rattle.pm_base.specs.Readings.{Meanwhile}
-use Rattle.pm_base.proofs.ReadingsLemmas.{meanwhile_none}
+use Rattle.pm_io.specs.Readings.{Meanwhile}
+use Rattle.pm_io.proofs.ReadingsLemmas.{meanwhile_none}
 use Rattle.pm_top.specs.Reads.{FormReads}
 use Rattle.pm_top.proofs.FitLemmas.{still_safe}
 use Rattle.pm_top.proofs.program.run_words.Goals as goal

@@ -3,8 +3,8 @@ use Rattle.pm_trace.specs.declared.faults.Fault.TheVariants.{Memory}
 use Rattle.pm_top.specs.declared.works.Source.{Source}
 use Rattle.pm_top.specs.Within.{ReadsAs}
 use Rattle.pm_top.proofs.TakingLemmas.{nothing_read, number_read}
-use Rattle.pm_base.specs.Readings.{Meanwhile}
-use Rattle.pm_base.proofs.ReadingsLemmas.{meanwhile_none}
+use Rattle.pm_io.specs.Readings.{Meanwhile}
+use Rattle.pm_io.proofs.ReadingsLemmas.{meanwhile_none}
 use Rattle.pm_top.specs.Asked.{lines_asked}
 use Rattle.pm_top.specs.Reads.{ReadsFor, source_named}
 use Rattle.pm_top.proofs.ReadsLemmas.{nothing_for, number_for}

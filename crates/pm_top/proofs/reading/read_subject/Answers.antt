@@ -1,7 +1,7 @@
 use Rattle.std.proofs.Common.{List, ℕ, map, string_bytes, subst}
-use Rattle.pm_base.specs.Readings.{Meanwhile}
-use Rattle.pm_base.specs.Calls.{ReadsEach}
-use Rattle.pm_top.specs.Form.{word}
+use Rattle.pm_io.specs.Readings.{Meanwhile}
+use Rattle.pm_io.specs.Calls.{ReadsEach}
+use Rattle.pm_top.specs.Words.{word}
 use Rattle.pm_top.specs.Reads.{RefusedSubject, source_named, topology_named}
 use Rattle.pm_top.proofs.ReadsLemmas.{subject_at, subject_for}
 use Rattle.pm_top.proofs.SubjectLemmas.{of_read, rest_behind, subject_bad, subject_read}

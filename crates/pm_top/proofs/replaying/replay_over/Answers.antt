@@ -1,8 +1,8 @@
 use Rattle.std.proofs.Common.{◌≡◌, ℕ, Option, inr, refl, subst, sym}
 use Rattle.std.specs.Prelude.{IfNone}
-use Rattle.pm_base.specs.World.{world}
+use Rattle.pm_io.specs.World.{world}
 use Rattle.pm_board.specs.Standing.{standing}
-use Rattle.pm_topology.specs.Chip.{chip}
+use Rattle.pm_chip.specs.Chip.{chip}
 use Rattle.pm_top.specs.Done.{Replays}
 use Rattle.pm_top.proofs.FitLemmas.{chip_safe}
 use Rattle.pm_top.proofs.replaying.replay_over.Goals as goal

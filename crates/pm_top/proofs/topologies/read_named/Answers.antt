@@ -1,8 +1,8 @@
 use Rattle.std.proofs.Common.{[], ◌∷◌, List, inl, inr, subst, sym, ◌∙◌}
-use Rattle.pm_base.specs.declared.prefix.StopReason.{StopReason}
-use Rattle.pm_base.specs.Calls.{Call, ReadsEach, named}
-use Rattle.pm_base.specs.Readings.{Meanwhile, NameReadBy}
-use Rattle.pm_base.proofs.ReadingsLemmas.{meanwhile_map}
+use Rattle.pm_io.specs.declared.prefix.StopReason.{StopReason}
+use Rattle.pm_io.specs.Calls.{Call, ReadsEach, named}
+use Rattle.pm_io.specs.Readings.{Meanwhile, NameReadBy}
+use Rattle.pm_io.proofs.ReadingsLemmas.{meanwhile_map}
 use Rattle.pm_topofile.specs.Meaning.{meaning}
 use Rattle.pm_top.specs.Asked.{topology_limit}
 use Rattle.pm_top.specs.Reads.{ReadsFor}

@@ -1,7 +1,7 @@
 use Rattle.std.proofs.Common.{◌≡◌, ◌⊎◌, ℕ, List, [], ◌∷◌, Option, Err, map, refl, string_bytes, subst, sym}
-use Rattle.pm_base.specs.Calls.{named}
-use Rattle.pm_base.specs.Readings.{Meanwhile}
-use Rattle.pm_base.proofs.ReadingsLemmas.{meanwhile_none}
+use Rattle.pm_io.specs.Calls.{named}
+use Rattle.pm_io.specs.Readings.{Meanwhile}
+use Rattle.pm_io.proofs.ReadingsLemmas.{meanwhile_none}
 use Rattle.pm_trace.specs.declared.faults.Fault.TheVariants.{Memory}
 use Rattle.pm_top.specs.Asked.{topology_limit}
 use Rattle.pm_top.specs.Reads.{ReadsFor, topology_named}

@@ -1,0 +1,2 @@
+pub mod HeldReads
+pub mod WholeRun
