@@ -3,7 +3,7 @@
 use super::checks::check;
 use super::sinks::check_each_length;
 use pm_base::Exit;
-use pm_running::{Asked, LABORATORY, joined, replay_of};
+use pm_fixtures::{Asked, LABORATORY, joined, replay_of};
 use std::test::Fail;
 
 const SCRIPT: &[u8] = b"ipi 1 21\nipi 1 13 33 1 0 2\n";

@@ -1,8 +1,10 @@
 //! Runs over inputs that fail.
 
 use super::checks::check;
-use pm_base::{Exit, MemSink};
-use pm_running::{ALONE, Asked, model, node, replay_of, run_with};
+use super::running::run_with;
+use pm_base::Exit;
+use pm_fixtures::{ALONE, Asked, model, node, replay_of};
+use pm_io::MemSink;
 use std::test::Fail;
 
 const SCRIPT: &[u8] = b"ipi 8 3 11\nipi 8 3 12";

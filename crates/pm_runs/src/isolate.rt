@@ -1,9 +1,11 @@
 //! Runs that compare the run of a script with the run without the messages of a master.
 
 use super::checks::check;
+use super::running::run_with;
 use super::sinks::check_each_length;
-use pm_base::{Exit, MemSink};
-use pm_running::{ALONE, Asked, LABORATORY, OBJECT, joined, model, node, run_with};
+use pm_base::Exit;
+use pm_fixtures::{ALONE, Asked, LABORATORY, OBJECT, joined, model, node};
+use pm_io::MemSink;
 use std::test::Fail;
 
 /// What master 7 reaches in the object of two masters.

@@ -2,7 +2,7 @@
 
 use super::checks::check;
 use pm_base::Exit;
-use pm_running::{OBJECT, joined, replay_of};
+use pm_fixtures::{OBJECT, joined, replay_of};
 use pm_script::SCRIPT_LIMIT;
 use std::alloc::{AllocError, Global};
 use std::test::Fail;

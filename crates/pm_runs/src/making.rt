@@ -1,8 +1,10 @@
 //! Runs of scripts that are made.
 
+use super::running::run;
 use super::sinks::check_each_length;
-use pm_base::{Exit, MemSink};
-use pm_running::{Asked, OBJECT, run};
+use pm_base::Exit;
+use pm_fixtures::{Asked, OBJECT};
+use pm_io::MemSink;
 use std::alloc::Global;
 use std::test::Fail;
 

@@ -2,7 +2,7 @@
 
 use super::checks::check;
 use pm_base::Exit;
-use pm_running::{Asked, USUAL, bytes_of};
+use pm_fixtures::{Asked, USUAL, bytes_of};
 use pm_top::OBJECT_LIMIT;
 use std::process::Abort;
 use std::test::Fail;

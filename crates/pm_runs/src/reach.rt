@@ -1,9 +1,11 @@
 //! Runs that write what a master can reach.
 
 use super::checks::check;
+use super::running::run_with;
 use super::sinks::check_each_length;
-use pm_base::{Exit, MemSink};
-use pm_running::{Asked, LABORATORY, OBJECT, model, node, run_with};
+use pm_base::Exit;
+use pm_fixtures::{Asked, LABORATORY, OBJECT, model, node};
+use pm_io::MemSink;
 use std::test::Fail;
 
 /// What master 7 reaches in the object of two masters.

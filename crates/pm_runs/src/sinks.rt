@@ -3,8 +3,10 @@
 ghost use Rattle.std.specs.Prelude.{[]};
 
 use super::checks::check;
-use pm_base::{Exit, Failed, MemSink, Sink};
-use pm_running::{ALONE, Asked, OBJECT, STARTED, bytes_of, replay_of, run};
+use super::running::run;
+use pm_base::{Exit, Failed};
+use pm_fixtures::{ALONE, Asked, OBJECT, STARTED, bytes_of, replay_of};
+use pm_io::{MemSink, Sink};
 use std::process::Abort;
 use std::test::Fail;
 

@@ -1,8 +1,10 @@
 //! Runs over the topology of a file.
 
 use super::checks::check;
-use pm_base::{Exit, MemSink};
-use pm_running::{Asked, LABORATORY, joined, run};
+use super::running::run;
+use pm_base::Exit;
+use pm_fixtures::{Asked, LABORATORY, joined};
+use pm_io::MemSink;
 use std::test::Fail;
 
 /// A chip of two power nodes, three processors and a slave.

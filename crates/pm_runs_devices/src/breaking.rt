@@ -2,9 +2,11 @@
 
 use super::checks::check_with;
 use super::devices::check_listed;
-use pm_base::{Exit, MemSink};
+use super::running::run_with;
+use pm_base::Exit;
+use pm_fixtures::{LABORATORY, joined, listed, model, replay_of};
 use pm_gen::make;
-use pm_running::{LABORATORY, joined, listed, model, replay_of, run_with};
+use pm_io::MemSink;
 use std::alloc::{AllocError, Global};
 use std::process::Abort;
 use std::test::Fail;

@@ -8,7 +8,7 @@ use super::checks::check_with;
 use super::devices::check_values;
 use pm_base::{Exit, NoMemory, NodeId};
 use pm_device::{Device, ModelDevice};
-use pm_running::{DOMAINS, model, replay_of};
+use pm_fixtures::{DOMAINS, model, replay_of};
 use std::alloc::Global;
 use std::test::Fail;
 

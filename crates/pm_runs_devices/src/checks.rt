@@ -3,9 +3,11 @@
 ghost use Rattle.std.specs.Prelude.{◌≡◌};
 ghost use Rattle.pm_base.specs.declared.names.Unit.{Unit};
 
-use pm_base::{Exit, MemSink, Unit};
+use super::running::run_with;
+use pm_base::Exit;
 use pm_device::Device;
-use pm_running::{Asked, run_with};
+use pm_fixtures::Asked;
+use pm_io::MemSink;
 use std::process::Abort;
 use std::test::Fail;
 

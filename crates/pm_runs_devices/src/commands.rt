@@ -1,7 +1,7 @@
 //! A run in which each command fails alone.
 
 use super::devices::check_listed;
-use pm_running::{DOMAINS, replay_of};
+use pm_fixtures::{DOMAINS, replay_of};
 use std::alloc::{AllocError, Global};
 use std::test::Fail;
 

@@ -3,7 +3,7 @@
 use super::checks::check_with;
 use pm_base::Exit;
 use pm_device::{Device, ModelDevice};
-use pm_running::{Asked, DOMAINS, listed, model, node, replay_of};
+use pm_fixtures::{Asked, DOMAINS, listed, model, node, replay_of};
 use std::process::Abort;
 use std::test::Fail;
 

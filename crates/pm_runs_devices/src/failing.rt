@@ -2,7 +2,7 @@
 
 use super::commands::push_line;
 use super::devices::check_listed;
-use pm_running::replay_of;
+use pm_fixtures::replay_of;
 use std::alloc::{AllocError, Global};
 use std::test::Fail;
 

@@ -1,8 +1,10 @@
 //! A device of a run over the topology of a file.
 
-use pm_base::{Command, Exit, MemSink};
+use super::running::run_with;
+use pm_base::{Command, Exit};
 use pm_device::Device;
-use pm_running::{Asked, model, node, run_with};
+use pm_fixtures::{Asked, model, node};
+use pm_io::MemSink;
 use std::test::Fail;
 
 /// A chip of which the device of a test has all units but a slave.

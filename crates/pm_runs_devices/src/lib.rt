@@ -16,4 +16,6 @@ mod failing;
 #[cfg(test)]
 mod fitting;
 #[cfg(test)]
+mod running;
+#[cfg(test)]
 mod serving;

@@ -1,8 +1,10 @@
 //! Runs with lines of several core steps, over a device whose values are looked at afterwards.
 
 use super::devices::check_values;
-use pm_base::{Exit, MemSink};
-use pm_running::{BOXES, BOXES_SETTLED, model, replay_of, run_with};
+use super::running::run_with;
+use pm_base::Exit;
+use pm_fixtures::{BOXES, BOXES_SETTLED, model, replay_of};
+use pm_io::MemSink;
 use std::process::Abort;
 use std::test::Fail;
 

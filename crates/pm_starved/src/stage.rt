@@ -4,10 +4,11 @@ ghost use Rattle.std.specs.Prelude.{◌≡◌, IfOk};
 ghost use Rattle.pm_base.specs.declared.names.Unit.{Unit};
 ghost use Rattle.pm_device.specs.Model.{moment_of};
 
-use pm_base::{Exit, MemInputs, MemSink, NoMemory};
+use pm_base::{Exit, NoMemory};
 use pm_device::ModelDevice;
+use pm_fixtures::{LABORATORY, bytes_of, model, put};
+use pm_io::{MemInputs, MemSink};
 use pm_modules::{Echo, ModuleOf, ModulesOf};
-use pm_running::{LABORATORY, bytes_of, model};
 use pm_tasks::{Counter, TasksOf};
 use pm_top::pm_main;
 use std::alloc::Global;
@@ -102,14 +103,6 @@ pub(crate) fn new_shared(alloc: Global) -> Result<Shared, NoMemory> {
     let mut modules = ModulesOf::new(alloc)?;
     let _added = modules.add(ModuleOf::new(256, 259, Echo));
     Ok(Shared { inputs, modules })
-}
-
-/// Puts a file in under a name.
-fn put(inputs: &mut MemInputs, name: &str, content: &[u8]) -> Result<(), NoMemory> {
-    if !inputs.has(name) {
-        inputs.add(name, content)?;
-    }
-    Ok(())
 }
 
 /// Puts the words of an object in under a name.

@@ -3,7 +3,7 @@
 
 use super::checks::check;
 use pm_base::Exit;
-use pm_running::{joined, replay_of};
+use pm_fixtures::{joined, replay_of};
 use std::test::Fail;
 
 /// Two masters. The first may use the slaves 24, 33, 53 and 54, and the second 33 alone; the second may force power node 1, which

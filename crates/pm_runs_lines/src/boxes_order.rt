@@ -3,7 +3,7 @@
 
 use super::checks::check;
 use pm_base::Exit;
-use pm_running::{DOMAINS, replay_of};
+use pm_fixtures::{DOMAINS, replay_of};
 use std::test::Fail;
 
 /// Two masters, of which the one with the greater node has the lesser mask, and the other the last bit of a word. Both

@@ -2,7 +2,7 @@
 
 use super::checks::check;
 use pm_base::Exit;
-use pm_running::{Asked, joined};
+use pm_fixtures::{Asked, joined};
 use std::test::Fail;
 
 /// Master 7 stands first, whose mask is greater, and then master 1. Each may use the memory 11, which can't be shared;

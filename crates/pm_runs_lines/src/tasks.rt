@@ -3,8 +3,8 @@
 use super::checks::check_with;
 use super::steps::{LOADED, SETTLED as LABORATORY_SETTLED};
 use pm_base::{Exit, NoMemory};
+use pm_fixtures::{BOXES, BOXES_CLOSED, BOXES_SETTLED, LABORATORY, joined, replay_of};
 use pm_modules::{Echo, ModulesOf};
-use pm_running::{BOXES, BOXES_CLOSED, BOXES_SETTLED, LABORATORY, joined, replay_of};
 use pm_tasks::{Handler, TasksOf};
 use std::alloc::Global;
 use std::process::Abort;

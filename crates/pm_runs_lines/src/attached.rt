@@ -2,7 +2,7 @@
 
 use super::checks::check;
 use pm_base::Exit;
-use pm_running::{Asked, joined};
+use pm_fixtures::{Asked, joined};
 use std::test::Fail;
 
 /// The object of two masters, in which master 1 may set the configuration.

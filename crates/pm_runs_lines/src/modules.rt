@@ -2,9 +2,9 @@
 
 use super::checks::check_with;
 use pm_base::{Exit, Message, NoMemory};
+use pm_fixtures::{BOXES, BOXES_CLOSED, BOXES_SETTLED, joined, replay_of};
 use pm_ipi::Response;
 use pm_modules::{ModuleOf, ModulesOf, Responder};
-use pm_running::{BOXES, BOXES_CLOSED, BOXES_SETTLED, joined, replay_of};
 use pm_tasks::{Counter, TasksOf};
 use std::alloc::Global;
 use std::process::Abort;
@@ -15,7 +15,7 @@ use std::test::Fail;
 struct Telling;
 
 impl Responder for Telling {
-    ghost use Rattle.pm_runs.specs.Handlers.{told};
+    ghost use Rattle.pm_runs_lines.specs.Handlers.{told};
 
     ghost says = { λ _. told };
 
@@ -35,7 +35,7 @@ struct Constant {
 }
 
 impl Responder for Constant {
-    ghost use Rattle.pm_runs.specs.Handlers.{constant};
+    ghost use Rattle.pm_runs_lines.specs.Handlers.{constant};
 
     ghost says = { λ responder. constant responder.word };
 

@@ -2,7 +2,7 @@
 
 use super::checks::check;
 use pm_base::Exit;
-use pm_running::{Asked, BOXES, BOXES_SETTLED, OBJECT, joined, replay_of};
+use pm_fixtures::{Asked, BOXES, BOXES_SETTLED, OBJECT, joined, replay_of};
 use std::test::Fail;
 
 /// The lines of a processor that is started, of one that stops, of one that is asked for, and of a call of another

@@ -2,8 +2,8 @@
 
 use super::checks::check_with;
 use pm_base::{Exit, NoMemory};
+use pm_fixtures::{Asked, BOXES, BOXES_CLOSED, BOXES_SETTLED, joined, replay_of};
 use pm_modules::{Echo, Masked, Module, Modules, Responder};
-use pm_running::{Asked, BOXES, BOXES_CLOSED, BOXES_SETTLED, joined, replay_of};
 use pm_tasks::{Counter, Handler, Tasks};
 use std::alloc::Global;
 use std::process::Abort;

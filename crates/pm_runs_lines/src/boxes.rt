@@ -3,7 +3,7 @@
 use super::checks::check;
 use super::steps::check_settled;
 use pm_base::Exit;
-use pm_running::{Asked, BOXES, BOXES_SETTLED, OBJECT, joined, replay_of};
+use pm_fixtures::{Asked, BOXES, BOXES_SETTLED, OBJECT, joined, replay_of};
 use std::test::Fail;
 
 /// A script over the laboratory's object after its first line, `ipi 1 21`, and its text after that line's.

@@ -2,7 +2,7 @@
 
 use super::checks::check;
 use pm_base::Exit;
-use pm_running::{LABORATORY, OBJECT, joined, replay_of};
+use pm_fixtures::{LABORATORY, OBJECT, joined, replay_of};
 use std::process::Abort;
 use std::test::Fail;
 
