@@ -1,6 +1,6 @@
 //! What a reader answers, call by call.
 
-use pm_base::{Inputs, MemInputs};
+use pm_io::{Inputs, MemInputs};
 use pm_reader::{LineBuf, LineReader, Taken};
 use std::alloc::Global;
 use std::test::Fail;

@@ -1,6 +1,6 @@
 //! The one input in memory.
 
-use pm_base::{Inputs, OneInput};
+use pm_io::{Inputs, OneInput};
 use std::test::Fail;
 
 /// Numbers, and what is read of each in turn into four bytes, before any name was begun.
