@@ -15,13 +15,13 @@ def source(path):
 
 def powers_of_the_chip():
     """Of the chip's table: each power node with its name, and its parent's name or None."""
-    found = re.findall(r"power\((\d+), (None|Some\((\w+)\)), \w+, \d+, \d+\), // (\w+)", source("pm_topology/src/chip.rt"))
+    found = re.findall(r"power\((\d+), (None|Some\((\w+)\)), \w+, \d+, \d+\), // (\w+)", source("pm_chip/src/chip.rt"))
     return {int(number): (name, parent or None) for number, _, parent, name in found}
 
 
 def slaves_of_the_chip():
     """Of the chip's table: each slave with its parent's name, its class, and its name or what that begins with."""
-    found = re.findall(r"Group\((\d+), (\d+), (\w+), Class::(\w+)\), // (.*)", source("pm_topology/src/chip.rt"))
+    found = re.findall(r"Group\((\d+), (\d+), (\w+), Class::(\w+)\), // (.*)", source("pm_chip/src/chip.rt"))
     return {
         int(first) + place: (parent, kind.lower(), (listed.split(", ") * int(count))[place])
         for first, count, parent, kind, listed in found
@@ -30,12 +30,12 @@ def slaves_of_the_chip():
 
 
 def procs_of_the_chip():
-    found = re.findall(r"proc\((\d+), (\w+), \d+, \d+\), // (\w+)", source("pm_topology/src/chip.rt"))
+    found = re.findall(r"proc\((\d+), (\w+), \d+, \d+\), // (\w+)", source("pm_chip/src/chip.rt"))
     return {int(number): (name, parent) for number, parent, name in found}
 
 
 def masters_of_the_chip():
-    found = re.findall(r"master\(alloc, (\d+), &\[(.*?)\]\)", source("pm_topology/src/chip.rt"))
+    found = re.findall(r"push_master\(\s*alloc,\s*&mut masters,\s*(\d+),\s*&\[(.*?)\],?\s*\)", source("pm_chip/src/chip.rt"))
     return {int(number): tuple(map(int, re.findall(r"NodeId\((\d+)\)", procs))) for number, procs in found}
 
 
@@ -88,7 +88,7 @@ class Chip(unittest.TestCase):
         self.assertEqual(names.MASTERS, masters_of_the_chip())
 
     def test_each_class_has_its_number_of_states_and_its_capabilities(self):
-        text = source("pm_topology/src/classes.rt")
+        text = source("pm_chip/src/classes.rt")
         constants = {name: int(value) for name, value in re.findall(r"const (\w+): Caps = Caps\((\d)\);", text)}
         bodies = re.findall(r"fn (\w+)_states\(.*?let states = \[(.*?)\];", text, re.DOTALL)
         self.assertEqual({name for name, _ in bodies}, set(names.STATES))
