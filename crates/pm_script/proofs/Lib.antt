@@ -4,4 +4,5 @@ pub mod MeaningLemmas
 pub mod NamedLemmas
 pub mod ObjectLineLemmas
 pub mod SentencesLemmas
+pub mod ShortLemmas
 pub mod WordsLemmas

@@ -6,6 +6,7 @@ pub mod laws;
 pub mod meaning;
 mod object_line;
 pub mod script;
+mod short;
 mod words;
 
 pub use laws::{each_kind_has_its_sentence, scripts_are_read};

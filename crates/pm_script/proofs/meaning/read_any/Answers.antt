@@ -2,7 +2,7 @@ use Rattle.std.proofs.Common.{None, sym, ◌∙◌, ap}
 use Rattle.std.specs.Prelude.{take}
 use Rattle.pm_io.specs.Words.{words_from}
 use Rattle.pm_script.proofs.WordsLemmas.{words_is}
-use Rattle.pm_script.proofs.meaning.read_line.Goals as goal
+use Rattle.pm_script.proofs.meaning.read_any.Goals as goal
 
 pub of-requires : goal.of-requires
 of-requires c =
