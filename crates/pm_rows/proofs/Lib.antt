@@ -1,6 +1,7 @@
 pub mod Bits
 pub mod Blank
 pub mod ByCounts
+pub mod Calm
 pub mod Cells
 pub mod Changed
 pub mod Filled

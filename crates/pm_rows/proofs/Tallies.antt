@@ -5,8 +5,9 @@ use Rattle.std.proofs.lemmas.Bool.{eq-eqb}
 use Rattle.std.proofs.lemmas.List.{length-set, get_or-set_same, get_or-set_other}
 use Rattle.pm_cells.proofs.Counting.{one_if, count_set, count_most, count_some, get_same, get_other, same_or_not}
 use Rattle.pm_rows.specs.declared.row.Entry.{Entry}
-use Rattle.pm_rows.specs.Wanted.{least, limit_by}
-use Rattle.pm_rows.specs.Counted.{Counted, on, entry_in, wants, uses, limit_of, with_limit, Tally, IsTally, AreLimits, AreTallied, IsReady, AreReady, moved_count, moved}
+use Rattle.pm_rows.specs.declared.row.Row.{Row}
+use Rattle.pm_rows.specs.Wanted.{least, limit_by, required_by}
+use Rattle.pm_rows.specs.Counted.{Counted, on, has, entry_in, wants, uses, limit_of, with_limit, Tally, IsTally, AreLimits, AreTallied, IsReady, AreReady, moved_count, moved}
 
 moved_len : (s : ℕ) (before after : Bool) (counts : List ℕ) → length (moved_count s before after counts) ≡ length counts
 moved_len s true true counts = refl
@@ -180,3 +181,57 @@ limit_same s entries k x y at seat same = along s entries k None at
         in
         ap (λ l. fold (with_limit s) l entries) (ap (with_limit s limit) first ∙ one)
     along s (z ∷ entries) (suc k) limit at = along s entries k (with_limit s limit z) at
+
+-- ---- a row that stays leaves all that is counted
+
+pub set_same : {X : Type 0} (xs : List X) (k : ℕ) (x : X) → slice_get xs k ≡ Some x → slice_set xs k x ≡ xs
+set_same [] k x at = refl
+set_same (z ∷ xs) zero x at = let same : z ≡ x = cc in ap (λ w. w ∷ xs) (sym same)
+set_same (z ∷ xs) (suc k) x at = ap (λ ys. z ∷ ys) (set_same xs k x at)
+
+moved_none : (s : ℕ) (before after : Bool) (counts : List ℕ) → before ≡ after → moved_count s before after counts ≡ counts
+moved_none s true true counts same = refl
+moved_none s true false counts same = cc
+moved_none s false true counts same = cc
+moved_none s false false counts same = refl
+
+abbrev tally_of : List ℕ → List ℕ → List ℕ → List ℕ → List (Option ℕ) → Tally
+tally_of access context wakeup users limits = record { access = access; context = context; wakeup = wakeup; users = users; limits = limits }
+
+pub moved_same : (x y : Counted) (entries : List Entry) (t : Tally) → y.entry ≡ x.entry
+    → required_by y.mode y.entry ≡ required_by x.mode x.entry
+    → slice_get t.limits x.entry.seed.slave ≡ Some (limit_of x.entry.seed.slave entries)
+    → moved x y entries t ≡ t
+moved_same x y entries t same alike limit =
+    let access = moved_none x.entry.seed.slave _ _ t.access (ap (has 0) (sym alike)) in
+    let context = moved_none x.entry.seed.slave _ _ t.context (ap (has 1) (sym alike)) in
+    let wakeup = moved_none x.entry.seed.slave _ _ t.wakeup (ap (has 2) (sym alike)) in
+    let users = moved_none x.entry.seed.slave _ _ t.users (ap (λ (e : Entry). e.row.used) (sym same)) in
+    let limits = set_same t.limits x.entry.seed.slave _ limit in
+    ap (λ l. tally_of (moved x y entries t).access (moved x y entries t).context (moved x y entries t).wakeup (moved x y entries t).users l) limits
+    ∙ (ap (λ l. tally_of (moved x y entries t).access (moved x y entries t).context (moved x y entries t).wakeup l t.limits) users
+    ∙ (ap (λ l. tally_of (moved x y entries t).access (moved x y entries t).context l t.users t.limits) wakeup
+    ∙ (ap (λ l. tally_of (moved x y entries t).access l t.wakeup t.users t.limits) context
+    ∙ ap (λ l. tally_of l t.context t.wakeup t.users t.limits) access)))
+
+-- ---- a row that is used and limited as the one before
+
+pub limit_alike : (x : Entry) (row : Row) → row.used ≡ x.row.used → row.latency ≡ x.row.latency → limit_by x ≡ limit_by (record x { row = row })
+limit_alike x row used latency =
+    ap (λ u. if u then x.row.latency else None) (sym used) ∙ ap (λ l. if row.used then l else None) (sym latency)
+
+pub wants_moved : (x y : Counted) (entries : List Entry) (t : Tally) (access context wakeup : List ℕ)
+    → access ≡ moved_count x.entry.seed.slave (wants 0 x) (wants 0 y) t.access
+    → context ≡ moved_count x.entry.seed.slave (wants 1 x) (wants 1 y) t.context
+    → wakeup ≡ moved_count x.entry.seed.slave (wants 2 x) (wants 2 y) t.wakeup
+    → y.entry.row.used ≡ x.entry.row.used
+    → slice_get t.limits x.entry.seed.slave ≡ Some (limit_of x.entry.seed.slave entries)
+    → tally_of access context wakeup t.users t.limits ≡ moved x y entries t
+wants_moved x y entries t access context wakeup first second third used limit =
+    ap (λ l. tally_of l context wakeup t.users t.limits) first
+    ∙ (ap (λ l. tally_of (moved x y entries t).access l wakeup t.users t.limits) second
+    ∙ (ap (λ l. tally_of (moved x y entries t).access (moved x y entries t).context l t.users t.limits) third
+    ∙ (ap (λ l. tally_of (moved x y entries t).access (moved x y entries t).context (moved x y entries t).wakeup l t.limits)
+    (sym (moved_none x.entry.seed.slave (uses x) (uses y) t.users (sym used)))
+    ∙ ap (λ l. tally_of (moved x y entries t).access (moved x y entries t).context (moved x y entries t).wakeup (moved x y entries t).users l)
+    (sym (set_same t.limits x.entry.seed.slave _ limit)))))

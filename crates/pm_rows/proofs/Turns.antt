@@ -23,7 +23,7 @@ use Rattle.pm_rows.specs.Shift.{shifted_row, is_taken}
 use Rattle.pm_rows.specs.Counted.{Counted, Table, Tally, AreTallied, AreReady, counted, counted_in, entry_in, is_on, permitted_on, limit_of, moved}
 use Rattle.pm_rows.specs.Passes.{touches, row_after, passed, known_after, cost_of}
 use Rattle.pm_cells.specs.Midway.{midway}
-use Rattle.pm_rows.specs.Passing.{same, done, IsPassing}
+use Rattle.pm_rows.specs.Passing.{same, done, IsPassing, MayPut, PutsAt}
 use Rattle.pm_cells.proofs.Midway.{midway_get, midway_set, midway_same, midway_map, midway_len, midway_count, midway_any, map_same, midway_end, there}
 use Rattle.pm_cells.proofs.Counting.{one_if}
 use Rattle.pm_rows.proofs.Tallies.{tallied_moved, tallied_ready, tallied_limit}
@@ -169,25 +169,7 @@ module _ (pass : Pass) (known : List Mode) (rows : List Entry) (start k : ℕ) (
         cost = omega (arith, due, left, is.cost);
       }
 
-  -- the same, where the pair was read before the row
-  pub put_there : (x : Entry) (seed : Pair) (from to : Mode) (row : Row) (next : Table) (later read : ℕ) → slice_get rows k ≡ Some x
-      → slice_get table.entries k ≡ Some x → option_map (λ (e : Entry). e.seed) (slice_get table.entries k) ≡ Some seed → touches pass seed ≡ true
-      → x.seed.slave < length table.tally.users
-      → from ≡ mode_in x.seed.master known
-      → to ≡ mode_in x.seed.master (known_after pass known)
-      → row ≡ row_after pass table.entries x
-      → read ≡ steps + 1
-      → next.entries ≡ slice_set table.entries k (record x { row = row })
-      → next.tally ≡ moved (counted_in from x) (counted_in to (record x { row = row })) next.entries table.tally
-      → later ≤ read + (4 + permitted_on x.seed.slave table.entries)
-      → IsPassing pass known rows start (k + 1) next later
-  put_there x seed from to row next later read at here pair touched placed before mode row_is reads entries tally cost =
-      let both : Some x.seed ≡ Some seed = ap (option_map (λ (e : Entry). e.seed)) (sym here) ∙ pair in
-      let same_pair : x.seed ≡ seed = cc in
-      put_here x to row next later at (ap (touches pass) same_pair ∙ touched) placed mode row_is entries
-      (tally ∙ ap (λ m. moved (counted_in m x) (counted_in to (record x { row = row })) next.entries table.tally) before)
-      (omega arith)
-
+  -- the same, where its pair alone was read
   pub left_there : (seed : Pair) → k < length rows → option_map (λ (e : Entry). e.seed) (slice_get table.entries k) ≡ Some seed
       → touches pass seed ≡ false → IsPassing pass known rows start (k + 1) table steps
   left_there seed within pair untouched =
@@ -196,6 +178,28 @@ module _ (pass : Pass) (known : List Mode) (rows : List Entry) (start k : ℕ) (
       let both : Some found.0.seed ≡ Some seed = ap (option_map (λ (e : Entry). e.seed)) (sym mid) ∙ pair in
       let same_pair : found.0.seed ≡ seed = cc in
       left_here found.0 found.1 (ap (touches pass) same_pair ∙ untouched)
+
+  -- it may be put
+  pub may_put : (x : Entry) → slice_get rows k ≡ Some x → x.seed.slave < length table.tally.users → length rows < 2 ^ 31
+      → MayPut (counted known x) table
+  may_put x at placed few = record { ready = ready_here x at placed few; limit = limit_here x.seed.slave placed }
+
+  -- it is put by the pass
+  pub puts_there : (seed : Pair) (next : Table) (later : ℕ) → k < length rows
+      → option_map (λ (e : Entry). e.seed) (slice_get table.entries k) ≡ Some seed → touches pass seed ≡ true
+      → PutsAt pass known k table steps next later
+      → IsPassing pass known rows start (k + 1) next later × (next.slaves ≡ table.slaves) × (next.room ≡ table.room)
+  puts_there seed next later within pair touched puts =
+      let found = there rows k within in
+      let mid : slice_get table.entries k ≡ Some found.0 = ap (λ es. slice_get es k) is.changed ∙ midway_get (passed pass rows) same rows k found.0 found.1 in
+      let both : Some found.0.seed ≡ Some seed = ap (option_map (λ (e : Entry). e.seed)) (sym mid) ∙ pair in
+      let same_pair : found.0.seed ≡ seed = cc in
+      let put = puts found.0 mid in (
+        put_here found.0 (mode_in found.0.seed.master (known_after pass known)) (row_after pass table.entries found.0) next later found.1
+            (ap (touches pass) same_pair ∙ touched) put.placed refl refl put.entries put.tally (omega (arith, put.cost)),
+        put.slaves,
+        put.room,
+      )
 
 -- rows that a pass leaves are passed over
 pub skip : (n : ℕ) (pass : Pass) (known : List Mode) (rows : List Entry) (start k : ℕ) (table : Table) (steps : ℕ)

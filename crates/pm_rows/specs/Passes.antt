@@ -1,5 +1,5 @@
 -- A pass over all rows: which rows it touches, what it makes of them, and which modes are known afterwards.
-use Rattle.std.specs.Prelude.{ℕ, ◌+◌, Bool, true, false, ◌&&◌, ◌==◌, if◌then◌else◌, List, slice_set, cond}
+use Rattle.std.specs.Prelude.{ℕ, ◌+◌, Bool, true, false, ◌&&◌, ◌||◌, not, is_some, ◌==◌, if◌then◌else◌, List, slice_set, cond}
 use Rattle.pm_base.specs.declared.names.Mode.{Mode}
 use Rattle.pm_rows.specs.declared.row.Pair.{Pair}
 use Rattle.pm_rows.specs.declared.row.Row.{Row}
@@ -25,6 +25,10 @@ row_after (Settle m) entries entry = record entry.row { hold = false }
 row_after (Shift m from to) entries entry = shifted_row from to (is_taken entries entry) entry.row
 row_after (DropSlave s) entries entry = cleared entry.row
 row_after Clear entries entry = cleared entry.row
+
+-- a row that is not armed, and for which nothing else is scheduled where it is used
+abbrev pub rests : Entry → Bool
+rests entry = not (is_some entry.row.armed) && (not entry.row.used || (entry.row.now.0 == entry.row.next.0))
 
 -- each row after the pass
 abbrev pub passed : Pass → List Entry → Entry → Entry

@@ -1,13 +1,13 @@
 -- A list in the middle of a pass: what is done, and what is left.
-use Rattle.std.specs.Prelude.{◌≡◌, ℕ, ◌+◌, ◌≤◌, List, sum_by}
+use Rattle.std.specs.Prelude.{◌≡◌, ℕ, ◌+◌, ◌<◌, ◌≤◌, ◌^◌, List, Some, length, slice_get, slice_set, sum_by}
 use Rattle.std.specs.Prelude.{drop}
 use Rattle.pm_cells.specs.Midway.{midway}
 use Rattle.pm_base.specs.declared.names.Mode.{Mode}
 use Rattle.pm_rows.specs.declared.row.Entry.{Entry}
 use Rattle.pm_rows.specs.declared.passes.Pass.{Pass}
 use Rattle.pm_rows.specs.Modes.{mode_in}
-use Rattle.pm_rows.specs.Counted.{Counted, Table, AreTallied, counted, counted_in}
-use Rattle.pm_rows.specs.Passes.{passed, known_after, cost_of}
+use Rattle.pm_rows.specs.Counted.{AreReady, Counted, Table, AreTallied, counted, counted_in, limit_of, moved, permitted_on}
+use Rattle.pm_rows.specs.Passes.{passed, known_after, row_after, cost_of}
 
 abbrev pub same : Entry → Entry
 same entry = entry
@@ -15,6 +15,33 @@ same entry = entry
 -- a row as it is counted after the pass
 abbrev pub done : Pass → List Mode → List Entry → Entry → Counted
 done pass known entries entry = counted_in (mode_in entry.seed.master (known_after pass known)) (passed pass entries entry)
+
+-- a row may be put in place of this one: what is counted of it may be changed, and the least latency on its slave is kept
+pub record MayPut (x : Counted) (table : Table) : Type 0 where
+  pub ready : AreReady x table.tally
+  pub limit : slice_get table.tally.limits x.entry.seed.slave ≡ Some (limit_of x.entry.seed.slave table.entries)
+
+-- that at place k, as it is counted in these modes, where the table has room for its slave
+abbrev pub MayPutAt : List Mode → ℕ → Table → Type 0
+MayPutAt known k table =
+    (x : Entry) → slice_get table.entries k ≡ Some x → x.seed.slave < length table.tally.users → length table.entries < 2 ^ 31
+    → MayPut (counted known x) table
+
+-- the row at place k was put in place of another, and counted instead of it
+pub record IsPut (k : ℕ) (x y : Counted) (before : Table) (start : ℕ) (after : Table) (steps : ℕ) : Type 0 where
+  pub placed : x.entry.seed.slave < length before.tally.users
+  pub entries : after.entries ≡ slice_set before.entries k y.entry
+  pub tally : after.tally ≡ moved x y after.entries before.tally
+  pub slaves : after.slaves ≡ before.slaves
+  pub room : after.room ≡ before.room
+  pub cost : steps ≤ start + (5 + permitted_on x.entry.seed.slave before.entries)
+
+-- the row at place k is as a pass makes it, and counted in the mode that its master has afterwards
+abbrev pub PutsAt : Pass → List Mode → ℕ → (before : Table) → (start : ℕ) → (after : Table) → (steps : ℕ) → Type 0
+PutsAt pass known k before start after steps =
+    (x : Entry) → slice_get before.entries k ≡ Some x
+    → IsPut k (counted known x)
+    (counted_in (mode_in x.seed.master (known_after pass known)) (record x { row = row_after pass before.entries x })) before start after steps
 
 -- before place k the rows are as after the pass and counted in the modes then, from there on as before it, and no more was
 -- read and counted than the rows before place k cost

@@ -55,6 +55,31 @@ pub(crate) fn follow_capability<L: Ledger>(
     follow(counts, place, has(before, bit), has(after, bit), steps);
 }
 
+/// The same of each capability that is counted. Where the row wants what it wanted before, no count moves.
+pub(crate) fn follow_wants<L: Ledger>(
+    access: &mut Counts,
+    context: &mut Counts,
+    wakeup: &mut Counts,
+    place: usize,
+    before: Caps,
+    after: Caps,
+    steps: &mut Steps<L>,
+)
+    requires access { IsReady place (has 0 before) access.old }
+    requires context { IsReady place (has 1 before) context.old }
+    requires wakeup { IsReady place (has 2 before) wakeup.old }
+    ensures access { access.new ≡ moved_count place (has 0 before) (has 0 after) access.old }
+    ensures context { context.new ≡ moved_count place (has 1 before) (has 1 after) context.old }
+    ensures wakeup { wakeup.new ≡ moved_count place (has 2 before) (has 2 after) wakeup.old }
+    ensures steps { steps.new ≤ steps.old + 3 }
+{
+    if before.0 != after.0 {
+        follow_capability(access, place, 0, before, after, steps);
+        follow_capability(context, place, 1, before, after, steps);
+        follow_capability(wakeup, place, 2, before, after, steps);
+    }
+}
+
 /// A value where a count isn't 0.
 pub(crate) fn flag(count: u32, value: u32) -> u32
     ensures value { result ≡ flag count value }

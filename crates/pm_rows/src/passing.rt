@@ -1,19 +1,22 @@
 //! A pass over all rows, which keeps the counts.
 
-ghost use Rattle.std.specs.Prelude.{◌≡◌, ◌+◌, ◌<◌, ◌≤◌, map, sum_by, slice_set};
+ghost use Rattle.std.specs.Prelude.{◌≡◌, ℕ, ◌+◌, ◌<◌, ◌≤◌, length, map, slice_set, sum_by, true};
+ghost use Rattle.pm_rows.specs.declared.passes.Pass.TheVariants.{One, Shift};
+ghost use Rattle.pm_rows.specs.declared.row.Change.TheVariants.{Arm, Set};
 ghost use Rattle.pm_rows.specs.Modes.{mode_in};
-ghost use Rattle.pm_rows.specs.Shift.{is_taken, shifted_row};
+ghost use Rattle.pm_rows.specs.Shift.{is_calm, is_taken, shifted_row};
 ghost use Rattle.pm_rows.specs.Counted.{AreTallied, counted};
 ghost use Rattle.pm_rows.specs.Passes.{cost_of, known_after, passed, row_after};
+ghost use Rattle.pm_rows.specs.Passing.{MayPutAt, PutsAt};
 ghost use Rattle.pm_rows.specs.Spans.{IsCover};
 
 use crate::modes::mode_in;
 use crate::passes::Pass;
-use crate::row::{Entry, Row};
+use crate::row::{Change, Entry, Row};
 use crate::seeking::{Sought, is_found};
-use crate::shift::{is_start, shifted_row};
+use crate::shift::{is_calm, is_start, shifted_row, turned_row};
 use crate::table::Table;
-use pm_base::{Mode, Steps};
+use pm_base::{Caps, Mode, NodeId, Steps};
 use std::marker::Brand;
 use std::sync::ledger::{Blank, Ledger};
 
@@ -71,6 +74,128 @@ fn row_after(table: &Table, entry: Entry, pass: Pass) -> Row
     }
 }
 
+/// Puts the row at a place as a pass asks, and counts it in the mode that its master has afterwards.
+fn put_at<L: Ledger>(table: &mut Table, k: usize, known: &[Mode], pass: &Pass, steps: &mut Steps<L>)
+    requires within { k < length table.old.entries }
+    requires ready { MayPutAt known.now k table.old }
+    ensures { PutsAt pass.now known.now k table.old steps.old table.new steps.new }
+{
+    let entry = table.entry(k, steps);
+    let row = row_after(table, entry, *pass);
+    let from = mode_in(known, entry.seed.master);
+    let to = mode_after(known, *pass, entry.seed.master);
+    table.put(k, entry, from, row, to, steps);
+}
+
+/// The same where the mode of the master at place `m` changes calmly: a row that rests is left.
+fn turn_at<L: Ledger>(
+    table: &mut Table,
+    k: usize,
+    known: &[Mode],
+    m: usize,
+    from: Mode,
+    to: Mode,
+    steps: &mut Steps<L>,
+)
+    requires calm { is_calm from to ≡ true }
+    requires within { k < length table.old.entries }
+    requires ready { MayPutAt known.now k table.old }
+    ensures { PutsAt (Shift m from to) known.now k table.old steps.old table.new steps.new }
+{
+    let entry = table.entry(k, steps);
+    if !entry.rests() {
+        let row = turned_row(from, to, entry.row);
+        let was = mode_in(known, entry.seed.master);
+        let is = mode_set(known, m, to, entry.seed.master);
+        table.put_alike(k, entry, was, row, is, steps);
+    }
+}
+
+/// The same where the requirement of a row is set.
+fn set_at<L: Ledger>(
+    table: &mut Table,
+    k: usize,
+    known: &[Mode],
+    mode: Mode,
+    caps: Caps,
+    steps: &mut Steps<L>,
+)
+    requires within { k < length table.old.entries }
+    requires ready { MayPutAt known.now k table.old }
+    ensures { (master slave : ℕ) → PutsAt (One master slave (Set mode caps)) known.now k table.old steps.old table.new steps.new }
+{
+    let entry = table.entry(k, steps);
+    let row = entry.row.set_in(mode, caps);
+    let is = mode_in(known, entry.seed.master);
+    table.put_alike(k, entry, is, row, is, steps);
+}
+
+/// The same where a row is armed or disarmed.
+fn arm_at<L: Ledger>(
+    table: &mut Table,
+    k: usize,
+    known: &[Mode],
+    target: Option<NodeId>,
+    steps: &mut Steps<L>,
+)
+    requires within { k < length table.old.entries }
+    requires ready { MayPutAt known.now k table.old }
+    ensures { (master slave : ℕ) → PutsAt (One master slave (Arm target)) known.now k table.old steps.old table.new steps.new }
+{
+    let entry = table.entry(k, steps);
+    let row = entry.row.armed_by(target);
+    let is = mode_in(known, entry.seed.master);
+    table.put_alike(k, entry, is, row, is, steps);
+}
+
+/// The same of any change of the row of a pair.
+fn change_at<L: Ledger>(
+    table: &mut Table,
+    k: usize,
+    known: &[Mode],
+    master: usize,
+    slave: usize,
+    by: Change,
+    steps: &mut Steps<L>,
+)
+    requires within { k < length table.old.entries }
+    requires ready { MayPutAt known.now k table.old }
+    ensures { PutsAt (One master slave by) known.now k table.old steps.old table.new steps.new }
+{
+    match by {
+        Change::Set(mode, caps) => set_at(table, k, known, mode, caps, steps),
+        Change::Arm(target) => arm_at(table, k, known, target, steps),
+        Change::Request(_) | Change::Release | Change::Limit(_) => {
+            put_at(table, k, known, &Pass::One(master, slave, by), steps)
+        }
+    }
+}
+
+/// The same of any pass.
+fn pass_at<L: Ledger>(
+    table: &mut Table,
+    k: usize,
+    known: &[Mode],
+    pass: &Pass,
+    steps: &mut Steps<L>,
+)
+    requires within { k < length table.old.entries }
+    requires ready { MayPutAt known.now k table.old }
+    ensures { PutsAt pass.now known.now k table.old steps.old table.new steps.new }
+{
+    match *pass {
+        Pass::One(master, slave, by) => change_at(table, k, known, master, slave, by, steps),
+        Pass::Shift(m, from, to) => {
+            if is_calm(from, to) {
+                turn_at(table, k, known, m, from, to, steps)
+            } else {
+                put_at(table, k, known, pass, steps)
+            }
+        }
+        Pass::Settle(_) | Pass::DropSlave(_) | Pass::Clear => put_at(table, k, known, pass, steps),
+    }
+}
+
 /// Between which places the rows stand that a pass touches.
 fn cover(table: &Table, pass: Pass) -> (usize, usize)
     ensures { IsCover pass result.0 result.1 table.now.entries }
@@ -100,11 +225,7 @@ pub(crate) fn pass_over<L: Ledger>(
     for k in first..past {
         let seed = table.seed(k);
         if pass.touches(seed) {
-            let entry = table.entry(k, steps);
-            let row = row_after(table, entry, pass);
-            let from = mode_in(known, entry.seed.master);
-            let to = mode_after(known, pass, entry.seed.master);
-            table.put(k, entry, from, row, to, steps);
+            pass_at(table, k, known, &pass, steps);
         }
     }
 }

@@ -1,6 +1,7 @@
 //! One row: what a master requires of a slave.
 
 ghost use Rattle.std.specs.Prelude.{◌≡◌, false};
+ghost use Rattle.pm_rows.specs.Passes.{rests};
 ghost use Rattle.pm_rows.specs.Rows as spec;
 ghost use Rattle.pm_rows.specs.Rows.{applied, pair_of, set_in, is_at, is_of_other, is_rival, is_user};
 
@@ -95,7 +96,8 @@ impl Row {
         }
     }
 
-    fn set_in(self, mode: Mode, caps: Caps) -> Row
+    /// The row with its requirement set.
+    pub(crate) fn set_in(self, mode: Mode, caps: Caps) -> Row
         ensures { result ≡ set_in mode caps self }
     {
         match mode {
@@ -106,6 +108,16 @@ impl Row {
             },
             Mode::Suspending => Row { next: caps, ..self },
             Mode::Asleep | Mode::Off => self,
+        }
+    }
+
+    /// The row armed by a processor, or by none.
+    pub(crate) fn armed_by(self, target: Option<NodeId>) -> Row
+        ensures { result ≡ record self { armed = target } }
+    {
+        Row {
+            armed: target,
+            ..self
         }
     }
 
@@ -133,10 +145,7 @@ impl Row {
                 latency: Some(latency),
                 ..self
             },
-            Change::Arm(target) => Row {
-                armed: target,
-                ..self
-            },
+            Change::Arm(target) => self.armed_by(target),
         }
     }
 }
@@ -195,6 +204,14 @@ impl Entry {
         ensures { result ≡ is_rival master slave self.now }
     {
         self.is_of_other(master, slave) && self.row.used && !self.seed.shareable
+    }
+
+    /// Whether the row stays as it is while the mode of its master changes, and wants the same in each of them: it isn't armed,
+    /// and where it is used, nothing else is scheduled.
+    pub(crate) fn rests(&self) -> bool
+        ensures { result ≡ rests self.now }
+    {
+        self.row.armed.is_none() && (!self.row.used || self.row.now.0 == self.row.next.0)
     }
 
     /// Whether a master uses the slave by this row.

@@ -8,7 +8,7 @@ ghost use Rattle.pm_rows.specs.Rows.{pair_of};
 ghost use Rattle.pm_rows.specs.Spans.{IsSpan};
 ghost use Rattle.pm_rows.specs.Wanted.{nothing_wanted, with_row};
 
-use crate::counting::{flag, follow, follow_capability};
+use crate::counting::{flag, follow, follow_wants};
 use crate::peek::peek;
 use crate::row::{Entry, Pair, Row, RowSeed};
 use crate::spans::Spans;
@@ -239,6 +239,7 @@ impl Table {
     }
 
     /// The least latency of the used rows on a slave. Each row on it is read once.
+    #[inline(never)]
     fn limit_on<L: Ledger>(&self, slave: usize, steps: &mut Steps<L>) -> Option<u32>
         ensures limit { result ≡ limit_of slave self.now.entries }
         ensures steps { steps.new ≡ steps.old + permitted_on slave self.now.entries }
@@ -301,16 +302,59 @@ impl Table {
     {
         let slave = entry.seed.slave;
         let put = Entry { row, ..entry };
-        let before = entry.required_by(from);
-        let after = put.required_by(to);
-        follow_capability(&mut self.access, slave, 0, before, after, steps);
-        follow_capability(&mut self.context, slave, 1, before, after, steps);
-        follow_capability(&mut self.wakeup, slave, 2, before, after, steps);
-        follow(&mut self.users, slave, entry.row.used, row.used, steps);
         self.cells.write(k, row);
         self.narrow = stays_narrow(self.narrow, row.now);
+        follow_wants(
+            &mut self.access,
+            &mut self.context,
+            &mut self.wakeup,
+            slave,
+            entry.required_by(from),
+            put.required_by(to),
+            steps,
+        );
+        follow(&mut self.users, slave, entry.row.used, row.used, steps);
         let limit = self.limit_after(slave, entry.limit_by(), put.limit_by(), steps);
         self.limits.write(slave, limit);
+    }
+
+    /// The same of a row that is used and limited as the one before: what it wants alone is counted.
+    #[inline(always)]
+    pub(crate) fn put_alike<L: Ledger>(
+        &mut self,
+        k: usize,
+        entry: Entry,
+        from: Mode,
+        row: Row,
+        to: Mode,
+        steps: &mut Steps<L>,
+    )
+        requires used { row.used ≡ entry.row.used }
+        requires latency { row.latency ≡ entry.row.latency }
+        requires here { slice_get self.old.entries k ≡ Some entry }
+        requires ready { AreReady (counted_in from entry) self.old.tally }
+        requires limit { slice_get self.old.tally.limits entry.seed.slave
+            ≡ Some (limit_of entry.seed.slave self.old.entries) }
+        ensures entries { self.new.entries ≡ slice_set self.old.entries k (record entry { row = row }) }
+        ensures tally { self.new.tally
+            ≡ moved (counted_in from entry) (counted_in to (record entry { row = row }))
+            self.new.entries self.old.tally }
+        ensures slaves { self.new.slaves ≡ self.old.slaves }
+        ensures room { self.new.room ≡ self.old.room }
+        ensures steps { steps.new ≤ steps.old + (4 + permitted_on entry.seed.slave self.old.entries) }
+    {
+        let put = Entry { row, ..entry };
+        self.cells.write(k, row);
+        self.narrow = stays_narrow(self.narrow, row.now);
+        follow_wants(
+            &mut self.access,
+            &mut self.context,
+            &mut self.wakeup,
+            entry.seed.slave,
+            entry.required_by(from),
+            put.required_by(to),
+            steps,
+        );
     }
 
     /// How many masters use a slave.
@@ -351,6 +395,7 @@ impl Table {
     }
 
     /// What is wanted of a slave by its rows, each of which is read.
+    #[inline(never)]
     fn collected(&self, slave: usize, known: &[Mode]) -> Wanted
         ensures { result ≡ fold (with_row slave known.now) nothing_wanted self.now.entries }
     {

@@ -1,9 +1,7 @@
-use Rattle.std.proofs.Common.{true, false, ◌≡◌, ◌∙◌, sym, subst, refl, arith, length, ◌<◌}
-use Rattle.pm_base.specs.declared.names.Mode.{Mode}
-use Rattle.pm_rows.specs.Counted.{AreReady, counted_in}
+use Rattle.std.proofs.Common.{true, false, ◌≡◌, ◌∙◌, sym, refl, arith, length, ◌<◌}
 use Rattle.pm_rows.specs.Passes.{touches}
 use Rattle.pm_rows.proofs.Ranges.{untouched_before, untouched_past}
-use Rattle.pm_rows.proofs.Turns.{row_here, len_here, ready_here, limit_here, put_there, left_there, starts, skip_to, ends}
+use Rattle.pm_rows.proofs.Turns.{row_here, len_here, may_put, puts_there, left_there, starts, skip_to, ends}
 use Rattle.pm_rows.proofs.passing.pass_over.Goals.{then-touches, else-touches}
 use Rattle.pm_rows.proofs.passing.pass_over.Goals as goal
 
@@ -17,22 +15,18 @@ loop-k-init g c = (
   refl,
 )
 
-pub put-requires-clause-ready : goal.put-requires-clause-ready
-put-requires-clause-ready g c =
-    let within : c.loop-k.k < length c.args.table.now.entries = omega (arith, c.cover-first.ensures.within, c.loop-k-test.true) in
-    let here = row_here c.args.pass c.args.known.now c.args.table.now.entries c.args.steps.now c.loop-k.k c.loop-k.table c.loop-k.steps c.loop-k.invariant.0
-    c.entry-entry.result c.entry-entry.ensures.entry within
-    in
+pub pass_at-requires-clause-within : goal.pass_at-requires-clause-within
+pass_at-requires-clause-within g c =
     let size = len_here c.args.pass c.args.known.now c.args.table.now.entries c.args.steps.now c.loop-k.k c.loop-k.table c.loop-k.steps c.loop-k.invariant.0 in
-    let P : Mode → Type 0 = λ from. AreReady (counted_in from c.entry-entry.result) c.loop-k.table.tally in
-    subst P (sym c.mode_in-from.ensures)
-    (ready_here c.args.pass c.args.known.now c.args.table.now.entries c.args.steps.now c.loop-k.k c.loop-k.table c.loop-k.steps c.loop-k.invariant.0
-    c.entry-entry.result here c.entry-entry.ensures.placed (omega (arith, size, c.entry-entry.ensures.few)))
+    omega (arith, size, c.cover-first.ensures.within, c.loop-k-test.true)
 
-pub put-requires-clause-limit : goal.put-requires-clause-limit
-put-requires-clause-limit g c =
-    limit_here c.args.pass c.args.known.now c.args.table.now.entries c.args.steps.now c.loop-k.k c.loop-k.table c.loop-k.steps c.loop-k.invariant.0
-    c.entry-entry.result.seed.slave c.entry-entry.ensures.placed
+pub pass_at-requires-clause-ready : goal.pass_at-requires-clause-ready
+pass_at-requires-clause-ready g c = λ x at placed few.
+    let within : c.loop-k.k < length c.args.table.now.entries = omega (arith, c.cover-first.ensures.within, c.loop-k-test.true) in
+    let here = row_here c.args.pass c.args.known.now c.args.table.now.entries c.args.steps.now c.loop-k.k c.loop-k.table c.loop-k.steps c.loop-k.invariant.0 x at within in
+    let size = len_here c.args.pass c.args.known.now c.args.table.now.entries c.args.steps.now c.loop-k.k c.loop-k.table c.loop-k.steps c.loop-k.invariant.0 in
+    may_put c.args.pass c.args.known.now c.args.table.now.entries c.args.steps.now c.loop-k.k c.loop-k.table c.loop-k.steps c.loop-k.invariant.0
+    x here placed (omega (arith, size, few))
 
 pub returns-clause-rows : goal.returns-clause-rows
 returns-clause-rows g c =
@@ -64,17 +58,10 @@ loop-k-preserved g c =
     elim c.if-touches.branch [
       | then-touches w ↦
           let touched : touches c.args.pass c.seed-seed.result ≡ true = sym c.touches.ensures ∙ w.if-touches.true in
-          let here = row_here c.args.pass c.args.known.now c.args.table.now.entries c.args.steps.now c.loop-k.k c.loop-k.table c.loop-k.steps c.loop-k.invariant.0
-          w.entry-entry.result w.entry-entry.ensures.entry within
+          let put = puts_there c.args.pass c.args.known.now c.args.table.now.entries c.args.steps.now c.loop-k.k c.loop-k.table c.loop-k.steps c.loop-k.invariant.0
+          c.seed-seed.result w.pass_at.new.table w.pass_at.new.steps within c.seed-seed.ensures touched w.pass_at.ensures
           in
-          rw (w.table-is, w.steps-is) (
-            put_there c.args.pass c.args.known.now c.args.table.now.entries c.args.steps.now c.loop-k.k c.loop-k.table c.loop-k.steps c.loop-k.invariant.0
-                w.entry-entry.result c.seed-seed.result w.mode_in-from.result w.mode_after-to.result w.row_after-row.result w.put.new.self w.put.new.steps w.entry-entry.new.steps here
-                w.entry-entry.ensures.entry c.seed-seed.ensures touched w.entry-entry.ensures.placed w.mode_in-from.ensures w.mode_after-to.ensures w.row_after-row.ensures
-                w.entry-entry.ensures.steps w.put.ensures.entries w.put.ensures.tally w.put.ensures.steps,
-            w.put.ensures.slaves ∙ c.loop-k.invariant.1,
-            w.put.ensures.room ∙ c.loop-k.invariant.2,
-          )
+          rw (w.table-is, w.steps-is) (put.0, put.1 ∙ c.loop-k.invariant.1, put.2 ∙ c.loop-k.invariant.2)
       | else-touches w ↦
           let untouched : touches c.args.pass c.seed-seed.result ≡ false = sym c.touches.ensures ∙ w.if-touches.false in
           rw (w.table-is, w.steps-is) (

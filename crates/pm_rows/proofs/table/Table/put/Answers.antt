@@ -50,4 +50,4 @@ returns-clause-steps g c =
     ∙ seen_put c.args.self.now c.self.inside.seeds.items c.self.inside.cells _ (length c.self.inside.users) _ _ c.self.view_is c.self.invariant.0.base
     c.args.k c.args.entry c.args.row c.requires.here) in
     let same = count_set (is_on c.args.entry.seed.slave) c.args.self.now.entries c.args.k c.args.entry (record c.args.entry { row = c.args.row }) c.requires.here in
-    omega (arith, put, same, c.limit_after-limit.ensures.steps, c.follow_capability.ensures.steps, c.follow_capability-2.ensures.steps, c.follow_capability-3.ensures.steps, c.follow.ensures.steps)
+    omega (arith, put, same, c.limit_after-limit.ensures.steps, c.follow_wants.ensures.steps, c.follow.ensures.steps)
