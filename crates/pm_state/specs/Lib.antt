@@ -1,4 +1,5 @@
 pub mod Boot
+pub mod Chip
 pub mod Choice
 pub mod Fed
 pub mod Kept

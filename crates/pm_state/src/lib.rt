@@ -2,6 +2,7 @@
 //! notes of the masters, and each change of it, one method each.
 #![tactic(auto)]
 
+mod chip;
 mod laws;
 mod load;
 mod members;

@@ -12,6 +12,7 @@ ghost use Rattle.pm_state.specs.Pairs.{seed_at_load};
 ghost use Rattle.pm_state.specs.Prims.{procs_with};
 ghost use Rattle.pm_state.specs.Sound.{IsSound};
 
+use crate::chip::Chip;
 use crate::laws::loads_are_sound;
 use crate::members::members_of;
 use crate::objects::objects_in;
@@ -59,6 +60,10 @@ fn load_tables(
 {
     let parts = parts_of(alloc, &object, attached.as_slice(), &topology);
     let ((object, attached, topology), (held, ruled)) = with((object, attached, topology), parts)?;
+    let (((object, attached), (held, ruled)), topology) = with(
+        ((object, attached), (held, ruled)),
+        Chip::load(alloc, topology),
+    )?;
     Ok(Tables {
         object,
         attached,

@@ -28,7 +28,7 @@ impl Tables {
     {
         match self.master_place(node) {
             Some(m) => Some(m),
-            None => owner_of(&self.object, &self.topology, node),
+            None => owner_of(&self.object, self.topology(), node),
         }
     }
 

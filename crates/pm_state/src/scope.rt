@@ -25,7 +25,7 @@ impl Tables {
     {
         match self.topology.kind(forced) {
             Kind::Proc(q) => p == q,
-            Kind::Power(w) => self.topology.below(w, node),
+            Kind::Power(w) => self.topology().below(w, node),
             Kind::Slave(_) | Kind::Unknown => false,
         }
     }
@@ -35,7 +35,7 @@ impl Tables {
         ensures { result ≡ spec.is_slave_under self.now.fixed.topology (kind_of self.now.fixed.topology forced) node }
     {
         match self.topology.kind(forced) {
-            Kind::Power(w) => self.topology.below(w, node),
+            Kind::Power(w) => self.topology().below(w, node),
             Kind::Proc(_) | Kind::Slave(_) | Kind::Unknown => false,
         }
     }
@@ -66,8 +66,8 @@ impl Tables {
     pub fn take_off(&mut self, scope: Scope)
         ensures { self.new ≡ changed (spec.offs self.old.fixed scope) self.old }
     {
-        for p in 0..self.topology.procs.len() {
-            let node = self.topology.procs.get(p).node;
+        for p in 0..self.topology().procs.len() {
+            let node = self.topology().procs.get(p).node;
             self.put_off(scope, p, node);
         }
     }
@@ -86,8 +86,8 @@ impl Tables {
     pub fn clear_below(&mut self, forced: NodeId)
         ensures { self.new ≡ changed (spec.clears self.old.fixed forced) self.old }
     {
-        for s in 0..self.topology.slaves.len() {
-            let node = self.topology.slaves.get(s).node;
+        for s in 0..self.topology().slaves.len() {
+            let node = self.topology().slaves.get(s).node;
             self.clear_slave(forced, s, node);
         }
     }

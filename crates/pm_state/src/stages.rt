@@ -43,7 +43,7 @@ impl Tables {
     pub fn owner(&self, p: usize) -> Option<usize>
         ensures { result ≡ owner_at self.now.fixed.object self.now.fixed.topology p }
     {
-        owner_at(&self.object, &self.topology, p)
+        owner_at(&self.object, self.topology(), p)
     }
 
     /// Whether the processor at place `p` is that of the master at place `m`.

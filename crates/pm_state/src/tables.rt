@@ -7,6 +7,7 @@ ghost use Rattle.pm_procs.specs.Pending.{pending_at};
 ghost use Rattle.pm_state.specs.State.{grants_in};
 ghost use Rattle.pm_state.specs.Values.{slave_place, master_place};
 
+use crate::chip::Chip;
 use crate::policies::Policy;
 use pm_base::{BoundedList, List, NodeId};
 use pm_grants::Grants;
@@ -30,7 +31,7 @@ pub struct Tables {
     pub(crate) policies: List<Policy>,
     pub(crate) force: usize,
     pub(crate) seeds: BoundedList<RowSeed>,
-    pub(crate) topology: Topology,
+    pub(crate) topology: Chip,
     pub(crate) rows: Rows,
     pub(crate) procs: Procs,
     pub(crate) notify: Notify,
@@ -79,7 +80,7 @@ impl Tables {
         ensures formed { IsWellFormed result.now }
         ensures topology { result.now ≡ self.now.fixed.topology }
     {
-        &self.topology
+        self.topology.topology()
     }
 
     /// The number of configured masters.
@@ -105,11 +106,7 @@ impl Tables {
     pub fn slave_place(&self, node: NodeId) -> Option<usize>
         ensures { result ≡ slave_place node self.now }
     {
-        self.topology
-            .slaves
-            .as_slice()
-            .iter()
-            .position(|slave| slave.node.0 == node.0)
+        self.topology.slave_place(node)
     }
 
     pub fn master_place(&self, node: NodeId) -> Option<usize>

@@ -35,6 +35,10 @@ book_same object attached topology force o rows a procs b lines c pending d note
     ∙ (ap (λ x. book_with object attached topology o a b x pending notes) lines_are
     ∙ (ap (λ x. book_with object attached topology o a b c x notes) pending_is ∙ ap (book_with object attached topology o a b c d) notes_are))))
 
+-- the book at load of these parts of a chip
+abbrev book_of : (Object × List Attached) × (Held × Ruled) → Topology → State
+book_of g t = book_with g.0.0 g.0.1 t (unwrap_or (slice_get g.1.1.objects 0) g.0.0) g.1.1.rows g.1.0.procs.procs g.1.0.resets g.1.0.procs.pending g.1.0.notify
+
 -- the book of what is kept at load
 loaded_book : (object : Object) (attached : List Attached) (t : Topology) (held : Held) (ruled : Ruled) → IsHeld object t held → IsRuled object attached t ruled
     → book_with object attached t (unwrap_or (slice_get ruled.objects 0) object) ruled.rows held.procs.procs held.resets held.procs.pending held.notify ≡ load_of object attached t
@@ -58,5 +62,10 @@ returns c =
     let ruled : IsRuled c.args.object c.args.attached c.args.topology given.ruled =
     subst (λ (a : List Attached). IsRuled c.args.object a c.args.topology given.ruled) c.as_slice.ensures found
     in
-    loaded_book given.object given.attached given.topology given.held given.ruled (subst Beside (sym given.ensures.0) held) (subst With (sym given.ensures.0) ruled)
+    let first = loaded_book given.object given.attached given.topology given.held given.ruled (subst Beside (sym given.ensures.0) held) (subst With (sym given.ensures.0) ruled)
     ∙ ap (λ (g : Object × List Attached × Topology). load_of g.0 g.1 g.2) given.ensures.0
+    in
+    let beside = c.in_ok-object-2 in
+    let chip : beside.topology ≡ given.topology = IfOk-at_ok (λ (t : Topology). t ≡ given.topology) beside.ensures.1 c.load.ensures in
+    ap (λ (g : (Object × List Attached) × (Held × Ruled)). book_of g beside.topology) beside.ensures.0
+    ∙ (ap (book_of ((given.object, given.attached), (given.held, given.ruled))) chip ∙ first)
