@@ -1,9 +1,10 @@
--- The places of the units of slaves, and the groups of units that rest.
+-- The places of the units of slaves, and the units that rest.
 use Rattle.std.proofs.Common.{◌≡◌, ℕ, ◌+◌, ◌<◌, ◌/◌, ◌==◌, Bool, true, false, not, if◌then◌else◌, List, [], ◌∷◌, length, map, slice_get, Option, Some, None, refl, zero, suc, arith, ap, sym, ◌∙◌, subst}
 use Rattle.std.specs.Prelude.{nat_lt, option_map, replicate, slice_set, unwrap_or}
 use Rattle.std.specs.List.{list_all}
 use Rattle.std.proofs.lemmas.Bool.{eq-eqb, eqb-true}
 use Rattle.std.proofs.lemmas.Bool.Decides.{nat_tests}
+use Rattle.std.proofs.lemmas.List.{length-replicate, length-set}
 use Rattle.std.proofs.lemmas.Option.{slice_get-map, slice_get_within}
 use Rattle.pm_base.proofs.Booleans.{both}
 use Rattle.pm_base.specs.declared.names.NodeId.{NodeId}
@@ -17,9 +18,9 @@ use Rattle.pm_topology.specs.Units.{UnitLaws, is_before, rises, units_of}
 use Rattle.pm_values.specs.declared.caches.UnitKind.{UnitKind}
 use Rattle.pm_values.specs.declared.caches.UnitKind.TheVariants.{Entry, Reset}
 use Rattle.pm_values.specs.Caches.{kind_of_unit}
-use Rattle.pm_values.specs.Kinds.{AreApart, AreHomes, AreIndexed, MayRest, may_rest, rests_at, with_home, woken_at}
+use Rattle.pm_values.specs.Kinds.{AreApart, AreGrouped, AreHomes, AreIndexed, MayRest, may_rest, rests_at, with_home, woken_at}
 
--- ---- a group that doesn't rest from now on
+-- ---- a unit that doesn't rest from now on
 
 here : (awake : List Bool) (g : ℕ) → unwrap_or (slice_get (slice_set awake g true) g) true ≡ true
 here [] g = refl
@@ -27,7 +28,7 @@ here (x ∷ xs) zero = refl
 here (x ∷ xs) (suc g) = here xs g
 
 pub woken_here : (awake : List Bool) (k : ℕ) → rests_at (woken_at k awake) k ≡ false
-woken_here awake k = ap not (here awake (k / 8))
+woken_here awake k = ap not (here awake k)
 
 other : (awake : List Bool) (g h : ℕ) → not (unwrap_or (slice_get (slice_set awake g true) h) true) ≡ true → not (unwrap_or (slice_get awake h) true) ≡ true
 other [] g h is = is
@@ -37,20 +38,70 @@ other (x ∷ xs) (suc g) zero is = is
 other (x ∷ xs) (suc g) (suc h) is = other xs g h is
 
 pub woken_other : (awake : List Bool) (k j : ℕ) → rests_at (woken_at k awake) j ≡ true → rests_at awake j ≡ true
-woken_other awake k j is = other awake (k / 8) (j / 8) is
+woken_other awake k j is = other awake k j is
 
--- where no group rests
+-- where no unit rests
 all : (n g : ℕ) → unwrap_or (slice_get (replicate n true) g) true ≡ true
 all zero g = refl
 all (suc n) zero = refl
 all (suc n) (suc g) = all n g
 
 pub none_rests : (n k : ℕ) → rests_at (replicate n true) k ≡ false
-none_rests n k = ap not (all n (k / 8))
+none_rests n k = ap not (all n k)
+
+-- ---- units in groups
 
 -- the units of one group rest together
-pub rests_alike : (awake : List Bool) (k j : ℕ) → j / 8 ≡ k / 8 → rests_at awake k ≡ true → rests_at awake j ≡ true
-rests_alike awake k j same is = ap (λ g. not (unwrap_or (slice_get awake g) true)) same ∙ is
+pub rests_alike : (units groups : List Bool) (k j : ℕ) → AreGrouped units groups → j < length units → j / 8 ≡ k / 8 → rests_at groups (k / 8) ≡ true
+    → rests_at units j ≡ true
+rests_alike units groups k j grouped within same is = grouped.whole j within (ap (rests_at groups) same ∙ is)
+
+none_marked : (n k : ℕ) → k < n → rests_at (replicate n false) k ≡ true
+none_marked zero k within = absurd (omega (arith, within))
+none_marked (suc n) zero within = refl
+none_marked (suc n) (suc k) within = none_marked n k (omega (arith, within))
+
+pub grouped_none : (n : ℕ) (units groups : List Bool) → units ≡ replicate n false → groups ≡ replicate (n / 8 + 1) false → AreGrouped units groups
+grouped_none n units groups are in_groups =
+    let count : length units ≡ n = ap length are ∙ length-replicate n false in
+    record {
+      places = ap length in_groups ∙ (length-replicate (n / 8 + 1) false ∙ ap (λ m. m / 8 + 1) (sym count));
+      whole = λ k within is. ap (λ (us : List Bool). rests_at us k) are ∙ none_marked n k (omega (arith, within, count));
+    }
+
+pub grouped_all : (n m : ℕ) (units groups : List Bool) → length groups ≡ length units / 8 + 1 → units ≡ replicate (length units) true
+    → groups ≡ replicate m true → AreGrouped units groups
+grouped_all n m units groups places are in_groups = record {
+  places = places;
+  whole = λ k within is.
+      let no : false ≡ true = sym (ap (λ (gs : List Bool). rests_at gs (k / 8)) in_groups ∙ none_rests m (k / 8)) ∙ is in
+      cc;
+}
+
+left_alone : (units : List Bool) (k j : ℕ) → (j == k) ≡ false → rests_at units j ≡ true → rests_at (woken_at k units) j ≡ true
+left_alone [] k j apart is = is
+left_alone (x ∷ xs) zero zero apart is = cc
+left_alone (x ∷ xs) zero (suc j) apart is = is
+left_alone (x ∷ xs) (suc k) zero apart is = is
+left_alone (x ∷ xs) (suc k) (suc j) apart is = left_alone xs k j (next j k apart) is
+  where
+    next : (s t : ℕ) → (suc s == suc t) ≡ false → (s == t) ≡ false
+    next s t is = grind (arith, nat_tests)
+
+pub grouped_woken : (k : ℕ) (units groups : List Bool) → AreGrouped units groups → AreGrouped (woken_at k units) (woken_at (k / 8) groups)
+grouped_woken k units groups grouped =
+    let count : length (woken_at k units) ≡ length units = length-set units k true in
+    record {
+      places = length-set groups (k / 8) true ∙ (grouped.places ∙ ap (λ n. n / 8 + 1) (sym count));
+      whole = λ j within is. by j (omega (arith, within, count)) is (j == k) refl;
+    }
+  where
+    by : (j : ℕ) → j < length units → rests_at (woken_at (k / 8) groups) (j / 8) ≡ true → (b : Bool) → (j == k) ≡ b → rests_at (woken_at k units) j ≡ true
+    by j within is true same =
+        let one : j ≡ k = eqb-true j k same in
+        let clash : false ≡ true = sym (woken_here groups (k / 8)) ∙ (ap (λ (n : ℕ). rests_at (woken_at (k / 8) groups) (n / 8)) (sym one) ∙ is) in
+        cc
+    by j within is false apart = left_alone units k j apart (grouped.whole j within (woken_other groups (k / 8) (j / 8) is))
 
 -- ---- the places of the units of slaves, unit by unit
 
@@ -112,7 +163,7 @@ homes_next slaves kinds k kind homes apart places at before = λ j s within ther
         in
         home_kept kind k s homes off ∙ before j s (earlier j k is within) there
 
--- ---- the groups that never rest, unit by unit
+-- ---- the units that never rest, unit by unit
 
 pub calm_start : (kinds : List UnitKind) (awake : List Bool) → MayRest kinds 0 awake
 calm_start kinds awake = λ k kind within at is. absurd (omega (arith, within))
@@ -136,6 +187,10 @@ calm_next kinds k kind awake false may at before = λ j next within there is. by
         let clash : false ≡ true = sym (woken_here awake k) ∙ (ap (rests_at (woken_at k awake)) (sym same) ∙ is) in
         cc
     by j next within there is false own = before j next (earlier j k own within) there (woken_other awake k j is)
+
+pub length_unless : (rests : Bool) (k : ℕ) (awake : List Bool) → length (if rests then awake else woken_at k awake) ≡ length awake
+length_unless true k awake = refl
+length_unless false k awake = length-set awake k true
 
 -- ---- each slave has one unit
 
@@ -203,7 +258,7 @@ are_apart units_hold kinds_hold t kinds are = record {
         has_slave kinds_hold t s (slice_get (units_of t) k)
         (sym (slice_get-map (kind_of_unit t) (units_of t) k) ∙ (ap (λ ks. slice_get ks k) (sym are) ∙ at))
 
--- ---- the group of the unit of a slave doesn't rest from now on
+-- ---- the unit of a slave doesn't rest from now on
 
 module _ (kinds : List UnitKind) (homes : List ℕ) (always awake : List Bool) (s home : ℕ) (after : List Bool)
     (indexed : AreIndexed kinds homes always awake) (found : home ≡ unwrap_or (slice_get homes s) 0) (woken : after ≡ woken_at home awake)

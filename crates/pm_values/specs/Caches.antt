@@ -117,7 +117,7 @@ abbrev pub is_settled : ℕ → Bool → Option (Unit × ℕ) → Bool
 is_settled value freed None = false
 is_settled value freed (Some e) = (e.1 == value) && not freed
 
--- the units of a table in groups that rest are slaves and reset lines, and nothing happened to them
+-- the units of a table that rest are slaves and reset lines, and nothing happened to them
 abbrev pub AreSettled : (UnitKind → ℕ) → (UnitKind → Bool) → List Bool → List UnitKind → List (Unit × ℕ) → Type 0
 AreSettled new freed awake kinds entries =
     (k : ℕ) (kind : UnitKind) → slice_get kinds k ≡ Some kind → rests_at awake k ≡ true

@@ -1,21 +1,26 @@
--- What the value of each unit is found by, and the groups of units that rest in a step.
-use Rattle.std.specs.Prelude.{◌≡◌, ◌<◌, ℕ, ◌/◌, Bool, true, false, not, List, length, slice_get, slice_set, unwrap_or, Some}
+-- What the value of each unit is found by, and the units that rest in a step.
+use Rattle.std.specs.Prelude.{◌≡◌, ◌<◌, ℕ, ◌+◌, ◌/◌, Bool, true, false, not, List, length, slice_get, slice_set, unwrap_or, Some}
 use Rattle.pm_topology.specs.declared.places.Kind.TheVariants.{Proc, Slave, Power, Unknown}
 use Rattle.pm_values.specs.declared.caches.UnitKind.{UnitKind}
 use Rattle.pm_values.specs.declared.caches.UnitKind.TheVariants.{Entry, Reset}
 
--- the kind of each unit by its place, and which groups of units don't rest: each eight places are a group
+-- the kind of each unit by its place, and which units don't rest
 pub record UnitKinds : Type 0 where
   pub items : List UnitKind
   pub awake : List Bool
 
--- the unit at a place is in a group that rests
+-- the unit at a place rests
 abbrev pub rests_at : List Bool → ℕ → Bool
-rests_at awake k = not (unwrap_or (slice_get awake (k / 8)) true)
+rests_at awake k = not (unwrap_or (slice_get awake k) true)
 
--- the group of the unit at a place doesn't rest from now on
+-- the unit at a place doesn't rest from now on
 abbrev pub woken_at : ℕ → List Bool → List Bool
-woken_at k awake = slice_set awake (k / 8) true
+woken_at k awake = slice_set awake k true
+
+-- each eight places are a group, and in one that rests all units do
+pub record AreGrouped (units groups : List Bool) : Type 0 where
+  pub places : length groups ≡ length units / 8 + 1
+  pub whole : (k : ℕ) → k < length units → rests_at groups (k / 8) ≡ true → rests_at units k ≡ true
 
 -- a unit of this kind may rest: it is a slave or a reset line
 abbrev pub may_rest : UnitKind → Bool
@@ -44,13 +49,14 @@ abbrev pub AreHomes : List UnitKind → ℕ → List ℕ → Type 0
 AreHomes kinds n homes =
     (k s : ℕ) → k < n → slice_get kinds k ≡ Some (Entry (Slave s)) → slice_get homes s ≡ Some k
 
--- in the groups that rest nothing stands before place n but what may rest
+-- of the units before place n none rests but what may
 abbrev pub MayRest : List UnitKind → ℕ → List Bool → Type 0
 MayRest kinds n awake =
     (k : ℕ) (kind : UnitKind) → k < n → slice_get kinds k ≡ Some kind → rests_at awake k ≡ true → may_rest kind ≡ true
 
--- the places of the units of all slaves, and the groups that never rest, by the kinds of the units
+-- the places of the units of all slaves, and the units that never rest, by the kinds of the units
 pub record AreIndexed (kinds : List UnitKind) (homes : List ℕ) (always awake : List Bool) : Type 0 where
   pub home : AreHomes kinds (length kinds) homes
   pub others : MayRest kinds (length kinds) always
-  pub groups : length awake ≡ length always
+  pub places : length awake ≡ length always
+  pub all : length always ≡ length kinds

@@ -1,6 +1,6 @@
-//! What the value of each unit is found by, and the groups of units that rest in a step.
+//! What the value of each unit is found by, and the units that rest in a step.
 
-ghost use Rattle.std.specs.Prelude.{◌≡◌, ℕ, ◌<◌, ◌≤◌, ◌/◌, IfOk, Some, false, if◌then◌else◌, length, map, slice_get, slice_set, true};
+ghost use Rattle.std.specs.Prelude.{◌≡◌, ℕ, IfOk, Some, false, if◌then◌else◌, length, map, slice_get, slice_set, true};
 ghost use Rattle.pm_topology.specs.declared.places.Kind.TheVariants.{Slave};
 ghost use Rattle.pm_topology.specs.Units.{units_of};
 ghost use Rattle.pm_values.specs.declared.caches.UnitKind.TheVariants.{Entry};
@@ -8,22 +8,20 @@ ghost use Rattle.pm_values.specs.Caches.{kind_of_unit};
 ghost use Rattle.pm_values.specs.Kinds.{AreApart, AreHomes, AreIndexed, MayRest, may_rest, rests_at, with_home, woken_at};
 
 use crate::caches::UnitKind;
+use crate::marks::Marks;
 use pm_base::{NoMemory, Unit, at_or, with};
 use pm_topology::{Kind, Topology, kinds_are_exact, units_of, units_stand_in_order};
 use std::alloc::Global;
 use std::marker::Model;
 
-/// How many units stand in a group.
-const GROUP: usize = 8;
-
-/// The kind of each unit by its place. Beside these stand the place of the unit of each slave, the groups in which a unit
-/// stands that is no slave and no reset line, which never rest, and those that don't rest in this step.
+/// The kind of each unit by its place. Beside these stand the place of the unit of each slave, the units that are no slave
+/// and no reset line, which never rest, and those that don't rest in this step.
 #[derive(Drop)]
 pub struct Kinds {
     kinds: Vec<UnitKind>,
     homes: Vec<usize>,
-    always: Vec<bool>,
-    awake: Vec<bool>,
+    always: Marks,
+    awake: Marks,
 }
 
 impl Model for Kinds {
@@ -31,9 +29,9 @@ impl Model for Kinds {
 
     ghost Value = { UnitKinds };
 
-    ghost view = { λ kinds. record { items = kinds.kinds.items; awake = kinds.awake.items } };
+    ghost view = { λ kinds. record { items = kinds.kinds.items; awake = kinds.awake } };
 
-    ghost invariant = { λ kinds. AreIndexed kinds.kinds.items kinds.homes.items kinds.always.items kinds.awake.items };
+    ghost invariant = { λ kinds. AreIndexed kinds.kinds.items kinds.homes.items kinds.always kinds.awake };
 }
 
 impl Kinds {
@@ -61,30 +59,31 @@ impl Kinds {
         &self.kinds
     }
 
-    /// Which groups of units don't rest.
-    pub(crate) fn awake(&self) -> &[bool]
-        ensures { result.now ≡ self.now.awake }
+    /// Which units don't rest.
+    pub(crate) fn awake(&self) -> &Marks
+        ensures awake { result.now ≡ self.now.awake }
+        ensures places { length result.now ≡ length self.now.items }
     {
         &self.awake
     }
 
-    /// All groups rest but for those that never do.
+    /// All units rest but for those that never do.
     pub(crate) fn rest(&mut self)
         ensures items { self.new.items ≡ self.old.items }
         ensures calm { MayRest self.old.items (length self.old.items) self.new.awake }
     {
-        self.awake.copy_from_slice(&self.always);
+        self.awake.copy_from(&self.always);
     }
 
-    /// No group rests.
+    /// No unit rests.
     pub(crate) fn wake_all(&mut self)
         ensures items { self.new.items ≡ self.old.items }
         ensures awake { (k : ℕ) → rests_at self.new.awake k ≡ false }
     {
-        self.awake.fill(true);
+        self.awake.wake_all();
     }
 
-    /// The group of the unit of the slave at a place doesn't rest from now on.
+    /// The unit of the slave at a place doesn't rest from now on.
     pub(crate) fn wake(&mut self, s: usize)
         ensures items { self.new.items ≡ self.old.items }
         ensures woken { (k : ℕ) → slice_get self.old.items k ≡ Some (Entry (Slave s))
@@ -92,39 +91,10 @@ impl Kinds {
         ensures others { (k : ℕ) → rests_at self.new.awake k ≡ true → rests_at self.old.awake k ≡ true }
     {
         let home = at_or(&self.homes, s, 0);
-        wake_at(home, &mut self.awake);
+        self.awake.wake(home);
     }
 }
 
-/// Whether the unit at a place is in a group that rests.
-pub(crate) fn rests_at(awake: &[bool], k: usize) -> bool
-    ensures { result ≡ rests_at awake.now k }
-{
-    !at_or(awake, k / GROUP, true)
-}
-
-/// The place of the first unit of the next group, and this one past the last unit.
-pub(crate) fn past_group(k: usize, units: usize) -> usize
-    requires { k < units }
-    ensures more { k < result }
-    ensures most { result ≤ units }
-    ensures same { (j : ℕ) → k ≤ j → j < result → j / 8 ≡ k / 8 }
-{
-    let left = GROUP - k % GROUP;
-    if units - k < left { units } else { k + left }
-}
-
-/// The group of the unit at a place doesn't rest from now on.
-fn wake_at(k: usize, awake: &mut [bool])
-    ensures { awake.new ≡ woken_at k awake.old }
-{
-    let group = k / GROUP;
-    if group < awake.len() {
-        awake[group] = true;
-    }
-}
-
-/// The kind of each of these units.
 /// The kinds of the units of a chip.
 fn unit_kinds(alloc: Global, t: &Topology) -> Result<Vec<UnitKind>, NoMemory>
     ensures { IfOk result (λ kinds. kinds.items ≡ map (kind_of_unit t.now) (units_of t.now)) }
@@ -133,28 +103,29 @@ fn unit_kinds(alloc: Global, t: &Topology) -> Result<Vec<UnitKind>, NoMemory>
     kinds_of(alloc, t, units.as_slice())
 }
 
-/// What stands beside the kinds: the places of the units of so many slaves, the groups that never rest, and those that
+/// What stands beside the kinds: the places of the units of so many slaves, the units that never rest, and those that
 /// don't rest in this step.
 fn beside_of(
     alloc: Global,
     slaves: usize,
     kinds: &[UnitKind],
-) -> Result<(Vec<usize>, (Vec<bool>, Vec<bool>)), NoMemory>
+) -> Result<(Vec<usize>, (Marks, Marks)), NoMemory>
     requires { AreApart slaves kinds.now }
-    ensures { IfOk result (λ beside. AreIndexed kinds.now beside.0.items beside.1.0.items beside.1.1.items) }
+    ensures { IfOk result (λ beside. AreIndexed kinds.now beside.0.items beside.1.0 beside.1.1) }
 {
     let homes = homes_of(alloc, slaves, kinds)?;
-    let groups = groups_of(alloc, kinds);
-    with(homes, groups)
+    let marks = marks_of(alloc, kinds);
+    with(homes, marks)
 }
 
-/// The groups that never rest, and room for those that don't rest in a step.
-fn groups_of(alloc: Global, kinds: &[UnitKind]) -> Result<(Vec<bool>, Vec<bool>), NoMemory>
-    ensures others { IfOk result (λ groups. MayRest kinds.now (length kinds.now) groups.0.items) }
-    ensures count { IfOk result (λ groups. length groups.1.items ≡ length groups.0.items) }
+/// The units that never rest, and room for those that don't rest in a step.
+fn marks_of(alloc: Global, kinds: &[UnitKind]) -> Result<(Marks, Marks), NoMemory>
+    ensures others { IfOk result (λ marks. MayRest kinds.now (length kinds.now) marks.0) }
+    ensures places { IfOk result (λ marks. length marks.0 ≡ length kinds.now) }
+    ensures count { IfOk result (λ marks. length marks.1 ≡ length marks.0) }
 {
     let always = always_of(alloc, kinds)?;
-    let awake = asleep(alloc, always.len());
+    let awake = Marks::load(alloc, always.len());
     with(always, awake)
 }
 
@@ -226,17 +197,18 @@ fn put_home(s: usize, k: usize, homes: &mut [usize])
     }
 }
 
-/// The groups that never rest.
-fn always_of(alloc: Global, kinds: &[UnitKind]) -> Result<Vec<bool>, NoMemory>
-    ensures { IfOk result (λ always. MayRest kinds.now (length kinds.now) always.items) }
+/// The units that never rest.
+fn always_of(alloc: Global, kinds: &[UnitKind]) -> Result<Marks, NoMemory>
+    ensures others { IfOk result (λ always. MayRest kinds.now (length kinds.now) always) }
+    ensures places { IfOk result (λ always. length always ≡ length kinds.now) }
 {
-    let mut always = asleep(alloc, kinds.len() / GROUP + 1)?;
+    let mut always = Marks::load(alloc, kinds.len())?;
     wake_others(kinds, &mut always);
     Ok(always)
 }
 
-/// The groups don't rest in which a unit stands that is no slave and no reset line.
-fn wake_others(kinds: &[UnitKind], awake: &mut [bool])
+/// The units don't rest that are no slave and no reset line.
+fn wake_others(kinds: &[UnitKind], awake: &mut Marks)
     ensures places { length awake.new ≡ length awake.old }
     ensures others { MayRest kinds.now (length kinds.now) awake.new }
 {
@@ -245,18 +217,11 @@ fn wake_others(kinds: &[UnitKind], awake: &mut [bool])
     }
 }
 
-/// The group of the unit at a place doesn't rest from now on, unless it may.
-fn wake_unless(rests: bool, k: usize, awake: &mut [bool])
+/// The unit at a place doesn't rest from now on, unless it may.
+fn wake_unless(rests: bool, k: usize, awake: &mut Marks)
     ensures { awake.new ≡ (if rests then awake.old else woken_at k awake.old) }
 {
     if !rests {
-        wake_at(k, awake);
+        awake.wake(k);
     }
-}
-
-/// So many groups, all of which rest.
-fn asleep(alloc: Global, groups: usize) -> Result<Vec<bool>, NoMemory>
-    ensures { IfOk result (λ awake. length awake.items ≡ groups) }
-{
-    Vec::from_elem(alloc, false, groups).map_err(|_| NoMemory)
 }

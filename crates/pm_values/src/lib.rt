@@ -7,6 +7,7 @@ mod caches;
 mod choice;
 mod kinds;
 mod laws;
+mod marks;
 mod moves;
 mod needs;
 mod notifications;

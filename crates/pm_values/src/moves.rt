@@ -8,7 +8,7 @@ ghost use Rattle.pm_state.specs.Values.{line_at};
 
 use crate::along::Along;
 use crate::caches::UnitKind;
-use crate::kinds::{past_group, rests_at};
+use crate::marks::Marks;
 use crate::notifications::{freed, log_notice};
 use crate::starts::{Start, log_start};
 use pm_base::{BoundedList, Unit, at_or};
@@ -26,7 +26,7 @@ pub(crate) fn log_units(
     tables: &Tables,
     along: &Along,
     kinds: &[UnitKind],
-    awake: &[bool],
+    awake: &Marks,
     states: &[u32],
     ups: &[bool],
     used: &[bool],
@@ -37,6 +37,7 @@ pub(crate) fn log_units(
 )
     requires settled { AreSettled (unit_value states.now tables.now.now.core.procs ups.now tables.now.now.core.lines)
         (freed_by used.now tables.now.now.core.rows) awake.now kinds.now values.old }
+    requires marks { length awake.now ≡ length kinds.now }
     requires places { length kinds.now ≡ length values.old }
     requires room { length moved.old.items + length values.old ≤ moved.old.room }
     requires starts { length starts.old.items
@@ -65,8 +66,8 @@ pub(crate) fn log_units(
     let rows = tables.rows();
     let mut k = 0;
     while k < kinds.len() {
-        if rests_at(awake, k) {
-            k = past_group(k, kinds.len());
+        if awake.rests(k) {
+            k = awake.past(k);
         } else {
             log_kind(
                 k, kinds[k], along, states, procs, ups, resets, used, rows, values, moved, starts,

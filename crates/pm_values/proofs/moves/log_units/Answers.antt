@@ -9,9 +9,7 @@ use Rattle.pm_values.specs.declared.caches.UnitKind.TheVariants.{Entry}
 use Rattle.pm_topology.specs.declared.places.Kind.TheVariants.{Proc}
 use Rattle.pm_topology.specs.UnitMap.{with_value_at}
 use Rattle.pm_values.specs.Caches.{freed_by, is_settled, revalued, moved_at, moved_by, noticed_at, noticed_by, starts_by, unit_value}
-use Rattle.pm_values.specs.Kinds.{rests_at}
 use Rattle.pm_base.specs.BoundedList.{Bounded}
-use Rattle.pm_values.proofs.KindsLaw.{rests_alike}
 use Rattle.pm_values.proofs.MovesLemmas.{length-written, length-moved_at, values_step, moves_step, left_written}
 use Rattle.pm_values.proofs.NoticesLaw.{noticed_step}
 use Rattle.pm_values.proofs.StartsLaw.{starts_fit, starts_step}
@@ -21,9 +19,9 @@ use Rattle.pm_procs.specs.declared.procs.Proc.{Proc as Processor}
 use Rattle.pm_notify.specs.declared.notes.Waiting.{Waiting}
 use Rattle.pm_values.proofs.moves.log_units.Goals as goal
 
--- a group that rests is passed over
-pub loop-k-preserved-then-rests_at : goal.loop-k-preserved-then-rests_at
-loop-k-preserved-then-rests_at c =
+-- units that rest are passed over
+pub loop-k-preserved-then-rests : goal.loop-k-preserved-then-rests
+loop-k-preserved-then-rests c =
     let kinds = c.args.kinds.now in
     let k = c.loop-k.k in
     let states = c.args.states.now in
@@ -33,11 +31,10 @@ loop-k-preserved-then-rests_at c =
     let procs = c.procs-procs.result.now.procs in
     let lines = c.resets-resets.result.now in
     let rows = c.rows-rows.result.now in
-    let here : rests_at c.args.awake.now k ≡ true = sym c.rests_at.ensures ∙ c.if-rests_at.true in
     passed (unit_value states procs ups lines) (freed_by used rows) c.args.along.now.downs procs kinds c.args.values.now c.args.moved.now c.args.starts.now c.args.notices.now
-    c.loop-k.values c.loop-k.moved c.loop-k.starts c.loop-k.notices k c.past_group-k.result c.past_group-k.ensures.more c.past_group-k.ensures.most
+    c.loop-k.values c.loop-k.moved c.loop-k.starts c.loop-k.notices k c.past-k.result c.past-k.ensures.more (omega (arith, c.past-k.ensures.most, c.requires.marks))
     (λ j kind from to at.
-    let still = c.requires.settled j kind at (rests_alike c.args.awake.now k j (c.past_group-k.ensures.same j from to) here) in
+    let still = c.requires.settled j kind at (c.past-k.ensures.all j from to) in
     let entry = slice_get c.args.values.now j in (
       still.0,
       ap (λ (ps : List Processor). is_settled (unit_value states ps ups lines kind) (freed_by used rows kind) entry) c.procs-procs.ensures.procs

@@ -27,6 +27,9 @@ log_units-requires-clause-starts c =
     in
     omega (arith, none, few, c.requires.room.procs)
 
+pub log_units-requires-clause-marks : goal.log_units-requires-clause-marks
+log_units-requires-clause-marks c = c.awake.ensures.places ∙ ap length (sym c.as_slice.ensures)
+
 pub log_units-requires-clause-settled : goal.log_units-requires-clause-settled
 log_units-requires-clause-settled c = λ k kind at is.
     let book = c.args.tables.now in
@@ -35,7 +38,7 @@ log_units-requires-clause-settled c = λ k kind at is.
     let same = unit_value_is book.fixed book.now.core c.deref.result.now book.now.core.procs c.ups-ups.result.now book.now.core.lines
     (c.deref.ensures.value ∙ c.requires.chosen.states) refl (c.ups-ups.ensures ∙ ap ups c.requires.chosen.power) refl kind in
     let still = c.requires.settled k kind (ap (λ (ks : List UnitKind). slice_get ks k) (sym c.as_slice.ensures) ∙ at)
-    (ap (λ (awake : List Bool). rests_at awake k) (sym c.awake.ensures) ∙ is) in (
+    (ap (λ (awake : List Bool). rests_at awake k) (sym c.awake.ensures.awake) ∙ is) in (
       still.0,
       ap (λ v. is_settled v (freed_by c.deref-2.result.now book.now.core.rows kind) entry) same
           ∙ (ap (λ (us : List Bool). is_settled (value_by book.fixed book.now.core kind) (freed_by us book.now.core.rows kind) entry) c.deref-2.ensures.value
