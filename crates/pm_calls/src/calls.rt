@@ -1,6 +1,6 @@
 //! The calls, one file each, and which of them a message makes.
 
-ghost use Rattle.std.specs.Prelude.{◌≡◌, true, Some, None, if◌then◌else◌};
+ghost use Rattle.std.specs.Prelude.{◌≡◌, true, false};
 ghost use Rattle.pm_calls.specs.Verdict.{stages_of, verdict_of};
 ghost use Rattle.pm_calls.specs.calls.{called, is_once, is_suspending, only_reads};
 ghost use Rattle.pm_state.specs.Stages.{after_stages, path_from};
@@ -49,83 +49,98 @@ pub fn serve(
         (path_from (stages_of (called master call tables.old)) tables.old) tables.new along.new }
     ensures still { is_once call ≡ true → along.new ≡ along.old }
 {
+    let mut verdict = Verdict::Dropped;
+    serve_into(tables, caches, master, &call, along, &mut verdict);
+    verdict
+}
+
+/// The same, where the verdict is left in a place of the caller.
+#[inline(never)]
+fn serve_into(
+    tables: &mut Tables,
+    caches: &Caches,
+    master: usize,
+    call: &Call,
+    along: &mut Along,
+    verdict: &mut Verdict,
+)
+    requires kept { AreKept tables.old caches.now }
+    requires along { along.old ≡ trail_from tables.old }
+    ensures verdict { verdict.new ≡ verdict_of (called master call.now tables.old) }
+    ensures book { tables.new ≡ after_stages (stages_of (called master call.now tables.old)) tables.old }
+    ensures along { Completes tables.old
+        (path_from (stages_of (called master call.now tables.old)) tables.old) tables.new along.new }
+    ensures still { is_once call.now ≡ true → along.new ≡ along.old }
+{
     match call {
         Call::ForcePowerdown { node, ack } => {
-            force_powerdown::serve(tables, master, node, ack, along)
+            force_powerdown::serve(tables, master, *node, *ack, along, verdict);
         }
         Call::SystemShutdown {
             shutdown_type,
             subtype,
-        } => system_shutdown::serve(tables, master, shutdown_type, subtype, along),
-        _ => serve_once(tables, caches, master, call),
+        } => system_shutdown::serve(tables, master, *shutdown_type, *subtype, along, verdict),
+        _ => serve_once(tables, caches, master, call, verdict),
     }
 }
 
 /// A call of one stage at most.
-fn serve_once(tables: &mut Tables, caches: &Caches, master: usize, call: Call) -> Verdict
+fn serve_once(
+    tables: &mut Tables,
+    caches: &Caches,
+    master: usize,
+    call: &Call,
+    verdict: &mut Verdict,
+)
     requires kept { AreKept tables.old caches.now }
-    requires once { is_once call ≡ true }
-    ensures verdict { result ≡ verdict_of (called master call tables.old) }
-    ensures book { tables.new ≡ after_stages (stages_of (called master call tables.old)) tables.old }
+    requires once { is_once call.now ≡ true }
+    ensures verdict { verdict.new ≡ verdict_of (called master call.now tables.old) }
+    ensures book { tables.new ≡ after_stages (stages_of (called master call.now tables.old)) tables.old }
 {
-    if let Some(verdict) = serve_reading(tables, caches, master, call) {
-        return verdict;
-    }
     match call {
-        Call::SetConfiguration(address) => set_configuration::serve(tables, master, address),
-        Call::RegisterNotifier {
-            node,
-            event,
-            enable,
-            ..
-        } => register_notifier::serve(tables, master, node, event, enable),
-        Call::SetWakeupSource {
-            target,
-            source,
-            enable,
-        } => set_wakeup_source::serve(tables, master, target, source, enable),
-        Call::RequestNode { node, caps, ack } => {
-            request_node::serve(tables, master, node, caps, ack)
-        }
-        Call::ReleaseNode { node } => release_node::serve(tables, master, node),
-        Call::SetRequirement { node, caps, ack } => {
-            set_requirement::serve(tables, master, node, caps, ack)
-        }
-        Call::SetMaxLatency { node, latency } => {
-            set_max_latency::serve(tables, master, node, latency)
-        }
-        Call::ResetAssert { line, action } => reset_assert::serve(tables, master, line, action),
-        Call::InitFinalize => init_finalize::serve(tables, master),
+        Call::GetApiVersion
+        | Call::GetNodeStatus { .. }
+        | Call::GetOpCharacteristic { .. }
+        | Call::ResetGetStatus { .. } => serve_reading(tables, caches, master, call, verdict),
         Call::RequestSuspend { .. }
         | Call::SelfSuspend { .. }
         | Call::AbortSuspend { .. }
-        | Call::RequestWakeup { .. } => serve_suspending(tables, master, call),
-        _ => Verdict::refused(NO_FEATURE),
+        | Call::RequestWakeup { .. } => serve_suspending(tables, master, call, verdict),
+        _ => serve_changing(tables, master, call, verdict),
     }
 }
 
-/// A call that only reads: none where it is another one.
-fn serve_reading(tables: &Tables, caches: &Caches, master: usize, call: Call) -> Option<Verdict>
-    requires { AreKept tables.now caches.now }
-    ensures { result ≡ (if only_reads call then Some (verdict_of (called master call tables.now)) else None) }
+/// A call that only reads.
+fn serve_reading(
+    tables: &Tables,
+    caches: &Caches,
+    master: usize,
+    call: &Call,
+    verdict: &mut Verdict,
+)
+    requires kept { AreKept tables.now caches.now }
+    requires reads { only_reads call.now ≡ true }
+    ensures { verdict.new ≡ verdict_of (called master call.now tables.now) }
 {
     match call {
-        Call::GetApiVersion => Some(get_api_version::serve()),
-        Call::GetNodeStatus { node } => Some(get_node_status::serve(tables, caches, master, node)),
+        Call::GetApiVersion => get_api_version::serve(verdict),
+        Call::GetNodeStatus { node } => {
+            get_node_status::serve(tables, caches, master, *node, verdict);
+        }
         Call::GetOpCharacteristic {
             node,
             characteristic,
-        } => Some(get_op_characteristic::serve(tables, caches, node, characteristic)),
-        Call::ResetGetStatus { line } => Some(reset_get_status::serve(tables, line)),
-        _ => None,
+        } => get_op_characteristic::serve(tables, caches, *node, *characteristic, verdict),
+        Call::ResetGetStatus { line } => reset_get_status::serve(tables, *line, verdict),
+        _ => unreachable!(),
     }
 }
 
 /// A call by which a master or a processor suspends, goes on or wakes.
-fn serve_suspending(tables: &mut Tables, master: usize, call: Call) -> Verdict
-    requires { is_suspending call ≡ true }
-    ensures verdict { result ≡ verdict_of (called master call tables.old) }
-    ensures book { tables.new ≡ after_stages (stages_of (called master call tables.old)) tables.old }
+fn serve_suspending(tables: &mut Tables, master: usize, call: &Call, verdict: &mut Verdict)
+    requires { is_suspending call.now ≡ true }
+    ensures verdict { verdict.new ≡ verdict_of (called master call.now tables.old) }
+    ensures book { tables.new ≡ after_stages (stages_of (called master call.now tables.old)) tables.old }
 {
     match call {
         Call::RequestSuspend {
@@ -133,12 +148,57 @@ fn serve_suspending(tables: &mut Tables, master: usize, call: Call) -> Verdict
             ack,
             latency,
             state,
-        } => request_suspend::serve(tables, master, node, ack, latency, state),
-        Call::SelfSuspend { node, address } => self_suspend::serve(tables, master, node, address),
-        Call::AbortSuspend { node, reason } => abort_suspend::serve(tables, master, node, reason),
+        } => request_suspend::serve(tables, master, *node, *ack, *latency, *state, verdict),
+        Call::SelfSuspend { node, address } => {
+            self_suspend::serve(tables, master, *node, *address, verdict);
+        }
+        Call::AbortSuspend { node, reason } => {
+            abort_suspend::serve(tables, master, *node, *reason, verdict);
+        }
         Call::RequestWakeup { node, address, ack } => {
-            request_wakeup::serve(tables, master, node, address, ack)
+            request_wakeup::serve(tables, master, *node, *address, *ack, verdict);
         }
         _ => unreachable!(),
+    }
+}
+
+/// Another call of one stage at most: it changes a row, a notifier, a reset line or the object in force.
+fn serve_changing(tables: &mut Tables, master: usize, call: &Call, verdict: &mut Verdict)
+    requires once { is_once call.now ≡ true }
+    requires changes { only_reads call.now ≡ false }
+    requires stays { is_suspending call.now ≡ false }
+    ensures verdict { verdict.new ≡ verdict_of (called master call.now tables.old) }
+    ensures book { tables.new ≡ after_stages (stages_of (called master call.now tables.old)) tables.old }
+{
+    match call {
+        Call::SetConfiguration(address) => {
+            set_configuration::serve(tables, master, *address, verdict);
+        }
+        Call::RegisterNotifier {
+            node,
+            event,
+            enable,
+            ..
+        } => register_notifier::serve(tables, master, *node, *event, *enable, verdict),
+        Call::SetWakeupSource {
+            target,
+            source,
+            enable,
+        } => set_wakeup_source::serve(tables, master, *target, *source, *enable, verdict),
+        Call::RequestNode { node, caps, ack } => {
+            request_node::serve(tables, master, *node, *caps, *ack, verdict);
+        }
+        Call::ReleaseNode { node } => release_node::serve(tables, master, *node, verdict),
+        Call::SetRequirement { node, caps, ack } => {
+            set_requirement::serve(tables, master, *node, *caps, *ack, verdict);
+        }
+        Call::SetMaxLatency { node, latency } => {
+            set_max_latency::serve(tables, master, *node, *latency, verdict);
+        }
+        Call::ResetAssert { line, action } => {
+            reset_assert::serve(tables, master, *line, *action, verdict);
+        }
+        Call::InitFinalize => init_finalize::serve(tables, master, verdict),
+        _ => verdict.refuse(NO_FEATURE),
     }
 }

@@ -110,6 +110,48 @@ impl Verdict {
         })
     }
 
+    /// The call is refused with this response.
+    pub(crate) fn refuse_by(&mut self, response: Response)
+        ensures { self.new ≡ verdict.Refused response }
+    {
+        *self = Verdict::Refused(response);
+    }
+
+    /// The call is refused with this status.
+    pub(crate) fn refuse(&mut self, status: u32)
+        ensures { self.new ≡ verdict.Refused (refusal status) }
+    {
+        *self = Verdict::refused(status);
+    }
+
+    /// The call tells these words.
+    pub(crate) fn tell(&mut self, words: [u32; 3])
+        ensures { self.new ≡ verdict.Accepted (told words) }
+    {
+        *self = Verdict::told(words);
+    }
+
+    /// The call is done, and tells nothing.
+    pub(crate) fn finish(&mut self)
+        ensures { self.new ≡ verdict.Accepted (saying None) }
+    {
+        *self = Verdict::done();
+    }
+
+    /// The call has the masters told this.
+    pub(crate) fn say(&mut self, say: Say)
+        ensures { self.new ≡ verdict.Accepted (saying (Some say)) }
+    {
+        *self = Verdict::saying(say);
+    }
+
+    /// The call pulses this reset line, if there is one.
+    pub(crate) fn pulse_by(&mut self, line: Option<LineId>)
+        ensures { self.new ≡ verdict.Accepted (pulsing line) }
+    {
+        *self = Verdict::pulsing(line);
+    }
+
     /// What the masters are told.
     pub fn says(&self) -> Option<Say>
         ensures { result ≡ says_of self.now }

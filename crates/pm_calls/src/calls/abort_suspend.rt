@@ -20,8 +20,8 @@ fn is_reason(reason: u32) -> bool
 }
 
 /// The caller's processor doesn't suspend any more, and a request that the caller suspends ends.
-pub fn serve(tables: &mut Tables, master: usize, node: NodeId, reason: u32) -> Verdict
-    ensures verdict { result
+pub fn serve(tables: &mut Tables, master: usize, node: NodeId, reason: u32, verdict: &mut Verdict)
+    ensures verdict { verdict.new
         ≡ verdict_of (abort_suspend master reason (is_asked master tables.old) (proc_view master node tables.old)) }
     ensures book { tables.new
         ≡ after_stages (stages_of
@@ -30,18 +30,18 @@ pub fn serve(tables: &mut Tables, master: usize, node: NodeId, reason: u32) -> V
     let view = proc_view(tables, master, node);
     let pending = is_asked(tables, master);
     let Some(p) = view.place else {
-        return Verdict::refused(INVALID_NODE);
+        return verdict.refuse(INVALID_NODE);
     };
     if !is_reason(reason) {
-        return Verdict::refused(INVALID_PARAMETER);
+        return verdict.refuse(INVALID_PARAMETER);
     }
     let Some(proc) = view.own else {
-        return Verdict::refused(NO_ACCESS);
+        return verdict.refuse(NO_ACCESS);
     };
     match proc.mode {
         Mode::Suspending => tables.proc_stage(master, p, Mode::Active, proc.address),
         Mode::Active if pending => tables.follow(),
-        Mode::Active | Mode::Off | Mode::Asleep => return Verdict::refused(FAILURE),
+        Mode::Active | Mode::Off | Mode::Asleep => return verdict.refuse(FAILURE),
     }
-    Verdict::saying(Say::Abort(master))
+    verdict.say(Say::Abort(master))
 }

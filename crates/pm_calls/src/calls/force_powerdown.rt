@@ -26,9 +26,10 @@ pub fn serve(
     node: NodeId,
     ack: u32,
     along: &mut Along,
-) -> Verdict
+    verdict: &mut Verdict,
+)
     requires { along.old ≡ trail_from tables.old }
-    ensures verdict { result ≡ verdict_of (force_powerdown (grants_in tables.old) tables.old.fixed master node ack) }
+    ensures verdict { verdict.new ≡ verdict_of (force_powerdown (grants_in tables.old) tables.old.fixed master node ack) }
     ensures book { tables.new
         ≡ after_stages (stages_of
         (force_powerdown (grants_in tables.old) tables.old.fixed master node ack)) tables.old }
@@ -37,16 +38,16 @@ pub fn serve(
         tables.new along.new }
 {
     if ack_kind(ack).is_none() {
-        return Verdict::refused(INVALID_PARAMETER);
+        return verdict.refuse(INVALID_PARAMETER);
     }
     if !can_be_forced(tables.kind(node)) {
-        return Verdict::refused(INVALID_NODE);
+        return verdict.refuse(INVALID_NODE);
     }
     if !permits_force(tables, master, node) {
-        return Verdict::refused(NO_ACCESS);
+        return verdict.refuse(NO_ACCESS);
     }
     force(tables, node, along);
-    Verdict::done()
+    verdict.finish()
 }
 
 /// Whether the object permits a master to force a node.

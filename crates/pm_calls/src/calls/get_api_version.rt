@@ -10,8 +10,8 @@ use crate::verdict::Verdict;
 const API_VERSION: u32 = 0x1_0001;
 
 /// Tells the version of the interface.
-pub fn serve() -> Verdict
-    ensures { result ≡ verdict_of get_api_version }
+pub fn serve(verdict: &mut Verdict)
+    ensures { verdict.new ≡ verdict_of get_api_version }
 {
-    Verdict::told([API_VERSION, 0, 0])
+    verdict.tell([API_VERSION, 0, 0])
 }

@@ -14,13 +14,13 @@ use pm_state::Tables;
 use pm_values::Caches;
 
 /// Tells the state of a slave, the caller's capabilities wanted, and who uses it.
-pub fn serve(tables: &Tables, caches: &Caches, master: usize, node: NodeId) -> Verdict
+pub fn serve(tables: &Tables, caches: &Caches, master: usize, node: NodeId, verdict: &mut Verdict)
     requires { AreKept tables.now caches.now }
-    ensures { result ≡ verdict_of (get_node_status (status_view master node tables.now)) }
+    ensures { verdict.new ≡ verdict_of (get_node_status (status_view master node tables.now)) }
 {
     let view = status_view(tables, caches, master, node);
     match view.state {
-        Some(state) => Verdict::told([state, view.requested.0, view.usage]),
-        None => Verdict::refused(INVALID_NODE),
+        Some(state) => verdict.tell([state, view.requested.0, view.usage]),
+        None => verdict.refuse(INVALID_NODE),
     }
 }

@@ -20,17 +20,23 @@ const TEMPERATURE: u32 = 2;
 const LATENCY: u32 = 3;
 
 /// Tells the power figure or the latency of a node as it stands. Of a temperature nothing is known.
-pub fn serve(tables: &Tables, caches: &Caches, node: NodeId, characteristic: u32) -> Verdict
+pub fn serve(
+    tables: &Tables,
+    caches: &Caches,
+    node: NodeId,
+    characteristic: u32,
+    verdict: &mut Verdict,
+)
     requires { AreKept tables.now caches.now }
-    ensures { result ≡ verdict_of (get_op_characteristic characteristic (characteristics node tables.now)) }
+    ensures { verdict.new ≡ verdict_of (get_op_characteristic characteristic (characteristics node tables.now)) }
 {
     let Some(has) = characteristics_of(tables, caches, node) else {
-        return Verdict::refused(INVALID_NODE);
+        return verdict.refuse(INVALID_NODE);
     };
     match characteristic {
-        POWER => Verdict::told([has.figure, 0, 0]),
-        TEMPERATURE => Verdict::refused(NO_FEATURE),
-        LATENCY => Verdict::told([has.latency, 0, 0]),
-        _ => Verdict::refused(INVALID_PARAMETER),
+        POWER => verdict.tell([has.figure, 0, 0]),
+        TEMPERATURE => verdict.refuse(NO_FEATURE),
+        LATENCY => verdict.tell([has.latency, 0, 0]),
+        _ => verdict.refuse(INVALID_PARAMETER),
     }
 }

@@ -9,10 +9,10 @@ use crate::verdict::Verdict;
 use pm_state::Tables;
 
 /// The caller's holds are dropped.
-pub fn serve(tables: &mut Tables, master: usize) -> Verdict
-    ensures verdict { result ≡ verdict_of (init_finalize master) }
+pub fn serve(tables: &mut Tables, master: usize, verdict: &mut Verdict)
+    ensures verdict { verdict.new ≡ verdict_of (init_finalize master) }
     ensures book { tables.new ≡ after_stages (stages_of (init_finalize master)) tables.old }
 {
     tables.settle_stage(master);
-    Verdict::done()
+    verdict.finish()
 }

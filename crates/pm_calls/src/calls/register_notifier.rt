@@ -34,23 +34,30 @@ fn may_watch(view: &Watched) -> bool
 }
 
 /// The caller is told of the event of the node from now on, or not any more.
-pub fn serve(tables: &Tables, master: usize, node: NodeId, event: u32, enable: u32) -> Verdict
-    ensures { result ≡ verdict_of (register_notifier master node event enable (watched master node tables.now)) }
+pub fn serve(
+    tables: &Tables,
+    master: usize,
+    node: NodeId,
+    event: u32,
+    enable: u32,
+    verdict: &mut Verdict,
+)
+    ensures { verdict.new ≡ verdict_of (register_notifier master node event enable (watched master node tables.now)) }
 {
     let view = watched_node(tables, master, node);
     if matches!(view, Watched::Nothing) {
-        return Verdict::refused(INVALID_NODE);
+        return verdict.refuse(INVALID_NODE);
     }
     let Some(event) = NodeEvent::from_number(event) else {
-        return Verdict::refused(INVALID_PARAMETER);
+        return verdict.refuse(INVALID_PARAMETER);
     };
     if !can_happen(event, &view) || enable > 1 {
-        return Verdict::refused(INVALID_PARAMETER);
+        return verdict.refuse(INVALID_PARAMETER);
     }
     if !may_watch(&view) {
-        return Verdict::refused(NO_ACCESS);
+        return verdict.refuse(NO_ACCESS);
     }
-    Verdict::saying(Say::Register(Notifier {
+    verdict.say(Say::Register(Notifier {
         master,
         node,
         event,

@@ -13,19 +13,19 @@ use pm_rows::Change;
 use pm_state::Tables;
 
 /// The caller doesn't use the slave any more.
-pub fn serve(tables: &mut Tables, master: usize, node: NodeId) -> Verdict
-    ensures verdict { result ≡ verdict_of (release_node (row_view master node tables.old)) }
+pub fn serve(tables: &mut Tables, master: usize, node: NodeId, verdict: &mut Verdict)
+    ensures verdict { verdict.new ≡ verdict_of (release_node (row_view master node tables.old)) }
     ensures book { tables.new ≡ after_stages (stages_of (release_node (row_view master node tables.old))) tables.old }
 {
     let Some(slave) = tables.slave_place(node) else {
-        return Verdict::refused(INVALID_NODE);
+        return verdict.refuse(INVALID_NODE);
     };
     let Some(entry) = tables.rows().entry_at(master, slave) else {
-        return Verdict::refused(NO_ACCESS);
+        return verdict.refuse(NO_ACCESS);
     };
     if !entry.row.used {
-        return Verdict::refused(NO_ACCESS);
+        return verdict.refuse(NO_ACCESS);
     }
     tables.row_stage(entry.seed.master, entry.seed.slave, Change::Release);
-    Verdict::done()
+    verdict.finish()
 }

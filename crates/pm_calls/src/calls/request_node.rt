@@ -16,29 +16,36 @@ use pm_rows::Change;
 use pm_state::Tables;
 
 /// The caller uses the slave from now on, with these capabilities.
-pub fn serve(tables: &mut Tables, master: usize, node: NodeId, caps: Caps, ack: u32) -> Verdict
-    ensures verdict { result ≡ verdict_of (request_node caps ack (row_view master node tables.old)) }
+pub fn serve(
+    tables: &mut Tables,
+    master: usize,
+    node: NodeId,
+    caps: Caps,
+    ack: u32,
+    verdict: &mut Verdict,
+)
+    ensures verdict { verdict.new ≡ verdict_of (request_node caps ack (row_view master node tables.old)) }
     ensures book { tables.new
         ≡ after_stages (stages_of (request_node caps ack (row_view master node tables.old))) tables.old }
 {
     if ack_kind(ack).is_none() {
-        return Verdict::refused(INVALID_PARAMETER);
+        return verdict.refuse(INVALID_PARAMETER);
     }
     let Some(slave) = tables.slave_place(node) else {
-        return Verdict::refused(INVALID_NODE);
+        return verdict.refuse(INVALID_NODE);
     };
     let Some(entry) = tables.rows().entry_at(master, slave) else {
-        return Verdict::refused(NO_ACCESS);
+        return verdict.refuse(NO_ACCESS);
     };
     if !entry.seed.all.contains(caps) {
-        return Verdict::refused(NO_FEATURE);
+        return verdict.refuse(NO_FEATURE);
     }
     if entry.row.used {
-        return Verdict::refused(DOUBLE_REQUEST);
+        return verdict.refuse(DOUBLE_REQUEST);
     }
     if let Some(rival) = rival_node(tables, master, slave) {
-        return Verdict::Refused(Response::used_by(rival));
+        return verdict.refuse_by(Response::used_by(rival));
     }
     tables.row_stage(entry.seed.master, entry.seed.slave, Change::Request(caps));
-    Verdict::done()
+    verdict.finish()
 }

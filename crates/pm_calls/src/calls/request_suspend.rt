@@ -22,27 +22,28 @@ pub fn serve(
     ack: u32,
     latency: u32,
     state: u32,
-) -> Verdict
-    ensures { result ≡ verdict_of
+    verdict: &mut Verdict,
+)
+    ensures { verdict.new ≡ verdict_of
         (request_suspend master node ack latency state (suspend_view master node tables.now)) }
 {
     let view = suspend_view(tables, master, node);
     let Some(ack) = ack_kind(ack) else {
-        return Verdict::refused(INVALID_PARAMETER);
+        return verdict.refuse(INVALID_PARAMETER);
     };
     if !view.named {
-        return Verdict::refused(INVALID_NODE);
+        return verdict.refuse(INVALID_NODE);
     }
     let Some(target) = view.target else {
-        return Verdict::refused(NO_ACCESS);
+        return verdict.refuse(NO_ACCESS);
     };
     if target.pending {
-        return Verdict::refused(DOUBLE_REQUEST);
+        return verdict.refuse(DOUBLE_REQUEST);
     }
     if !same_mode(target.mode, Mode::Active) {
-        return Verdict::refused(FAILURE);
+        return verdict.refuse(FAILURE);
     }
-    Verdict::saying(Say::Ask(Asked {
+    verdict.say(Say::Ask(Asked {
         target: target.master,
         request: Pending::new(master, ack, node, target.timeout),
         latency,

@@ -21,27 +21,28 @@ pub fn serve(
     node: NodeId,
     address: Option<u64>,
     ack: u32,
-) -> Verdict
-    ensures verdict { result ≡ verdict_of (request_wakeup address ack (wake_view master node tables.old)) }
+    verdict: &mut Verdict,
+)
+    ensures verdict { verdict.new ≡ verdict_of (request_wakeup address ack (wake_view master node tables.old)) }
     ensures book { tables.new
         ≡ after_stages (stages_of (request_wakeup address ack (wake_view master node tables.old))) tables.old }
 {
     let view = wake_view(tables, master, node);
     if ack_kind(ack).is_none() {
-        return Verdict::refused(INVALID_PARAMETER);
+        return verdict.refuse(INVALID_PARAMETER);
     }
     let Some(p) = view.place else {
-        return Verdict::refused(INVALID_NODE);
+        return verdict.refuse(INVALID_NODE);
     };
     let Some(target) = view.target else {
-        return Verdict::refused(NO_ACCESS);
+        return verdict.refuse(NO_ACCESS);
     };
     match target.proc.mode {
-        Mode::Active => Verdict::refused(FAILURE),
+        Mode::Active => verdict.refuse(FAILURE),
         Mode::Off | Mode::Asleep | Mode::Suspending => {
             let address = address.unwrap_or(target.proc.address);
             tables.proc_stage(target.owner, p, Mode::Active, address);
-            Verdict::done()
+            verdict.finish()
         }
     }
 }

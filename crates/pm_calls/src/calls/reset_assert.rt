@@ -36,23 +36,23 @@ fn pulsed(action: u32, line: LineId) -> Option<LineId>
 /// The line is released, asserted or pulsed. An asserted line is at 1, and a pulsed one at 0 after its
 /// pulse. The processor that an asserted or pulsed line resets, if it resets one, goes off; released
 /// it stays off. A slave that is reset keeps its state.
-pub fn serve(tables: &mut Tables, master: usize, line: LineId, action: u32) -> Verdict
-    ensures verdict { result ≡ verdict_of (reset_assert line action (line_view master line tables.old)) }
+pub fn serve(tables: &mut Tables, master: usize, line: LineId, action: u32, verdict: &mut Verdict)
+    ensures verdict { verdict.new ≡ verdict_of (reset_assert line action (line_view master line tables.old)) }
     ensures book { tables.new
         ≡ after_stages (stages_of (reset_assert line action (line_view master line tables.old))) tables.old }
 {
     let view = line_view(tables, master, line);
     let Some(place) = view.place else {
-        return Verdict::refused(INVALID_NODE);
+        return verdict.refuse(INVALID_NODE);
     };
     if !is_action(action) {
-        return Verdict::refused(INVALID_PARAMETER);
+        return verdict.refuse(INVALID_PARAMETER);
     }
     if !view.permitted {
-        return Verdict::refused(NO_ACCESS);
+        return verdict.refuse(NO_ACCESS);
     }
     reset_stage(tables, place, action, view.target);
-    Verdict::pulsing(pulsed(action, line))
+    verdict.pulse_by(pulsed(action, line))
 }
 
 /// The stage in which the line at a place takes its value, and its processor stops.

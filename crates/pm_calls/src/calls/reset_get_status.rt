@@ -12,11 +12,11 @@ use pm_ipi::status::INVALID_NODE;
 use pm_state::Tables;
 
 /// Tells the value of a reset line.
-pub fn serve(tables: &Tables, line: LineId) -> Verdict
-    ensures { result ≡ verdict_of (reset_get_status (line_status line tables.now)) }
+pub fn serve(tables: &Tables, line: LineId, verdict: &mut Verdict)
+    ensures { verdict.new ≡ verdict_of (reset_get_status (line_status line tables.now)) }
 {
     match line_status(tables, line) {
-        Some(value) => Verdict::told([value, 0, 0]),
-        None => Verdict::refused(INVALID_NODE),
+        Some(value) => verdict.tell([value, 0, 0]),
+        None => verdict.refuse(INVALID_NODE),
     }
 }

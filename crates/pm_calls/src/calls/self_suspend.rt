@@ -13,24 +13,24 @@ use pm_ipi::status::{DOUBLE_REQUEST, FAILURE, INVALID_NODE, NO_ACCESS};
 use pm_state::Tables;
 
 /// The caller's processor suspends from now on, and is to resume at the address.
-pub fn serve(tables: &mut Tables, master: usize, node: NodeId, address: u64) -> Verdict
-    ensures verdict { result ≡ verdict_of (self_suspend master address (proc_view master node tables.old)) }
+pub fn serve(tables: &mut Tables, master: usize, node: NodeId, address: u64, verdict: &mut Verdict)
+    ensures verdict { verdict.new ≡ verdict_of (self_suspend master address (proc_view master node tables.old)) }
     ensures book { tables.new
         ≡ after_stages (stages_of (self_suspend master address (proc_view master node tables.old))) tables.old }
 {
     let view = proc_view(tables, master, node);
     let Some(p) = view.place else {
-        return Verdict::refused(INVALID_NODE);
+        return verdict.refuse(INVALID_NODE);
     };
     let Some(proc) = view.own else {
-        return Verdict::refused(NO_ACCESS);
+        return verdict.refuse(NO_ACCESS);
     };
     match proc.mode {
-        Mode::Suspending => Verdict::refused(DOUBLE_REQUEST),
-        Mode::Off | Mode::Asleep => Verdict::refused(FAILURE),
+        Mode::Suspending => verdict.refuse(DOUBLE_REQUEST),
+        Mode::Off | Mode::Asleep => verdict.refuse(FAILURE),
         Mode::Active => {
             tables.proc_stage(master, p, Mode::Suspending, address);
-            Verdict::done()
+            verdict.finish()
         }
     }
 }

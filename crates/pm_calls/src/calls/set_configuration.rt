@@ -9,7 +9,6 @@ ghost use Rattle.pm_state.specs.Objects.{found_at};
 ghost use Rattle.pm_state.specs.Stages.{after_stages};
 ghost use Rattle.pm_state.specs.State.{grants_in};
 ghost use Rattle.pm_calls.specs.calls.SetConfiguration.{set_configuration};
-ghost use Rattle.pm_calls.specs.declared.verdict.Verdict.TheVariants as verdict;
 
 use crate::verdict::{Say, Verdict};
 use pm_ipi::Response;
@@ -18,8 +17,8 @@ use pm_object::ObjectFault;
 use pm_state::{Found, Tables};
 
 /// The object that is attached at the address is in force from now on, and no notifier is left.
-pub fn serve(tables: &mut Tables, master: usize, address: u32) -> Verdict
-    ensures verdict { result ≡ verdict_of
+pub fn serve(tables: &mut Tables, master: usize, address: u32, verdict: &mut Verdict)
+    ensures verdict { verdict.new ≡ verdict_of
         (set_configuration (found_at address tables.old.fixed) (permits_configure (grants_in tables.old) master)) }
     ensures book { tables.new ≡ after_stages
         (stages_of (set_configuration (found_at address tables.old.fixed)
@@ -27,27 +26,27 @@ pub fn serve(tables: &mut Tables, master: usize, address: u32) -> Verdict
         tables.old }
 {
     match tables.found(address) {
-        Found::Nothing | Found::Unusable => Verdict::refused(INVALID_PARAMETER),
-        Found::Unreadable(fault) => unreadable(fault),
+        Found::Nothing | Found::Unusable => verdict.refuse(INVALID_PARAMETER),
+        Found::Unreadable(fault) => verdict.refuse_by(unreadable(fault)),
         Found::Usable(k) => {
             if !tables.grants().permits_configure(master) {
-                return Verdict::refused(NO_ACCESS);
+                return verdict.refuse(NO_ACCESS);
             }
             tables.enforce_stage(k);
-            Verdict::saying(Say::Unwatch)
+            verdict.say(Say::Unwatch)
         }
     }
 }
 
 /// The words at the address are no object: what is wrong with them, and where.
-fn unreadable(fault: ObjectFault) -> Verdict
-    ensures { result ≡ verdict.Refused (record {
+fn unreadable(fault: ObjectFault) -> Response
+    ensures { result ≡ record {
       status = invalid_parameter;
       words = cause_number fault.cause ∷ fault.offset ∷ 0 ∷ [];
-    }) }
+    } }
 {
-    Verdict::Refused(Response {
+    Response {
         status: INVALID_PARAMETER,
         words: [fault.cause.number(), fault.offset, 0],
-    })
+    }
 }

@@ -13,20 +13,20 @@ use pm_rows::Change;
 use pm_state::Tables;
 
 /// The caller allows this latency at most of a slave that it uses.
-pub fn serve(tables: &mut Tables, master: usize, node: NodeId, latency: u32) -> Verdict
-    ensures verdict { result ≡ verdict_of (set_max_latency latency (row_view master node tables.old)) }
+pub fn serve(tables: &mut Tables, master: usize, node: NodeId, latency: u32, verdict: &mut Verdict)
+    ensures verdict { verdict.new ≡ verdict_of (set_max_latency latency (row_view master node tables.old)) }
     ensures book { tables.new
         ≡ after_stages (stages_of (set_max_latency latency (row_view master node tables.old))) tables.old }
 {
     let Some(slave) = tables.slave_place(node) else {
-        return Verdict::refused(INVALID_NODE);
+        return verdict.refuse(INVALID_NODE);
     };
     let Some(entry) = tables.rows().entry_at(master, slave) else {
-        return Verdict::refused(NO_ACCESS);
+        return verdict.refuse(NO_ACCESS);
     };
     if !entry.row.used {
-        return Verdict::refused(NO_ACCESS);
+        return verdict.refuse(NO_ACCESS);
     }
     tables.row_stage(entry.seed.master, entry.seed.slave, Change::Limit(latency));
-    Verdict::done()
+    verdict.finish()
 }

@@ -17,8 +17,15 @@ use pm_state::Tables;
 
 /// The caller requires these capabilities of a slave that it uses: at once
 /// while it is active, and from its sleep on while it is suspending.
-pub fn serve(tables: &mut Tables, master: usize, node: NodeId, caps: Caps, ack: u32) -> Verdict
-    ensures verdict { result
+pub fn serve(
+    tables: &mut Tables,
+    master: usize,
+    node: NodeId,
+    caps: Caps,
+    ack: u32,
+    verdict: &mut Verdict,
+)
+    ensures verdict { verdict.new
         ≡ verdict_of (set_requirement (mode_of_master tables.old.fixed tables.old.now.core master) caps ack
         (row_view master node tables.old)) }
     ensures book { tables.new
@@ -27,21 +34,21 @@ pub fn serve(tables: &mut Tables, master: usize, node: NodeId, caps: Caps, ack: 
         (row_view master node tables.old))) tables.old }
 {
     if ack_kind(ack).is_none() {
-        return Verdict::refused(INVALID_PARAMETER);
+        return verdict.refuse(INVALID_PARAMETER);
     }
     let Some(slave) = tables.slave_place(node) else {
-        return Verdict::refused(INVALID_NODE);
+        return verdict.refuse(INVALID_NODE);
     };
     let Some(entry) = tables.rows().entry_at(master, slave) else {
-        return Verdict::refused(NO_ACCESS);
+        return verdict.refuse(NO_ACCESS);
     };
     if !entry.seed.all.contains(caps) {
-        return Verdict::refused(NO_FEATURE);
+        return verdict.refuse(NO_FEATURE);
     }
     if !entry.row.used {
-        return Verdict::refused(NO_ACCESS);
+        return verdict.refuse(NO_ACCESS);
     }
     let mode = tables.mode_of_master(master);
     tables.row_stage(entry.seed.master, entry.seed.slave, Change::Set(mode, caps));
-    Verdict::done()
+    verdict.finish()
 }

@@ -29,8 +29,9 @@ pub fn serve(
     node: NodeId,
     slave: NodeId,
     enable: u32,
-) -> Verdict
-    ensures verdict { result
+    verdict: &mut Verdict,
+)
+    ensures verdict { verdict.new
         ≡ verdict_of (set_wakeup_source node enable (proc_view master node tables.old)
         (row_view master slave tables.old)) }
     ensures book { tables.new
@@ -40,20 +41,20 @@ pub fn serve(
 {
     let target = proc_view(tables, master, node);
     let (Some(_), Some(source)) = (target.place, tables.slave_place(slave)) else {
-        return Verdict::refused(INVALID_NODE);
+        return verdict.refuse(INVALID_NODE);
     };
     if enable > 1 {
-        return Verdict::refused(INVALID_PARAMETER);
+        return verdict.refuse(INVALID_PARAMETER);
     }
     if target.own.is_none() {
-        return Verdict::refused(NO_ACCESS);
+        return verdict.refuse(NO_ACCESS);
     }
     let Some(entry) = tables.rows().entry_at(master, source) else {
-        return Verdict::refused(NO_ACCESS);
+        return verdict.refuse(NO_ACCESS);
     };
     if !entry.seed.all.contains(Caps::WAKEUP) {
-        return Verdict::refused(NO_FEATURE);
+        return verdict.refuse(NO_FEATURE);
     }
     tables.row_stage(entry.seed.master, entry.seed.slave, arming(node, enable));
-    Verdict::done()
+    verdict.finish()
 }

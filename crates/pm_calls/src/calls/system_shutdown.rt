@@ -29,9 +29,10 @@ pub fn serve(
     shutdown_type: u32,
     subtype: u32,
     along: &mut Along,
-) -> Verdict
+    verdict: &mut Verdict,
+)
     requires { along.old ≡ trail_from tables.old }
-    ensures verdict { result
+    ensures verdict { verdict.new
         ≡ verdict_of (system_shutdown (grants_in tables.old) tables.old.fixed master shutdown_type subtype) }
     ensures book { tables.new ≡ after_stages
         (stages_of (system_shutdown (grants_in tables.old) tables.old.fixed master shutdown_type subtype)) tables.old }
@@ -40,24 +41,24 @@ pub fn serve(
         tables.old) tables.new along.new }
 {
     if shutdown_type > 2 || subtype > 2 {
-        return Verdict::refused(INVALID_PARAMETER);
+        return verdict.refuse(INVALID_PARAMETER);
     }
     if shutdown_type == SCOPE {
-        return Verdict::done();
+        return verdict.finish();
     }
     if !permits_shutdown(tables, master, subtype) {
-        return Verdict::refused(NO_ACCESS);
+        return verdict.refuse(NO_ACCESS);
     }
     if subtype == 0 {
         shut_own(tables, master, shutdown_type == RESTART, along);
-        return Verdict::done();
+        return verdict.finish();
     }
     if shutdown_type == RESTART {
         restart_all(tables, along);
-        return Verdict::saying(Say::Renew);
+        return verdict.say(Say::Renew);
     }
     stop_all(tables, along);
-    Verdict::done()
+    verdict.finish()
 }
 
 /// Whether a master may shut down what a subtype names.
