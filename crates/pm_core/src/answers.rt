@@ -15,13 +15,13 @@ use pm_tell::Served;
 use pm_values::{Caches, point};
 
 /// What the sender of a message gets by the verdict on it, in the book after it.
-pub(crate) fn answer(tables: &Tables, caches: &Caches, served: Option<Served>) -> Answer
+pub(crate) fn answer(tables: &Tables, caches: &Caches, served: &Option<Served>) -> Answer
     requires { AreKept tables.now caches.now }
-    ensures { result ≡ answer_by served tables.now }
+    ensures { result ≡ answer_by served.now tables.now }
 {
     match served {
         None => Answer::Silent,
-        Some(served) => answer_to(tables, caches, &served),
+        Some(served) => answer_to(tables, caches, served),
     }
 }
 

@@ -22,9 +22,10 @@ use pm_object::{Attached, Object};
 use pm_rows::Row;
 use pm_state::Tables;
 use pm_step::{
-    advance, begin, begin_after, books_stay_sound, leaves_values, time_of, touched_unless,
+    advance, begin, begin_after, books_stay_sound, is_idle, is_quiet, leaves_values, tell_event,
+    time_of, touched_unless,
 };
-use pm_tell::{Telling, pulse_in, tell};
+use pm_tell::{Telling, pulse_in};
 use pm_topology::{Topology, kinds_are_exact, units_stand_in_order};
 use pm_values::{Caches, point, value, values_meet};
 use std::alloc::Global;
@@ -140,14 +141,19 @@ impl Book {
         books_stay_sound();
         values_meet();
         out.clear();
-        // Nothing comes of such an event, so no mode is looked at.
-        if let Event::Pass = event {
+        let still = leaves_values(&self.tables, event);
+        // Nothing comes of such an event.
+        if is_idle(still, &self.tables, event) {
             self.stays_sound();
             return;
         }
         let count = time_of(&self.tables, event);
-        let still = leaves_values(&self.tables, event);
         let served = advance(&mut self.tables, &self.caches, event, &mut self.telling);
+        // Its sender alone is told of such a message.
+        if is_quiet(event, served, count) {
+            out.answer = answer(&self.tables, &self.caches, &served);
+            return;
+        }
         self.caches.follow(
             touched_unless(still, &self.tables, event, served),
             &self.tables,
@@ -157,7 +163,7 @@ impl Book {
             &mut out.starts,
             &mut self.telling.notices,
         );
-        tell(
+        tell_event(
             &mut self.tables,
             &self.caches,
             &mut self.telling,
@@ -168,7 +174,7 @@ impl Book {
         );
         begin_after(&self.tables, event, served, &mut self.telling);
         out.pulse = pulse_in(served);
-        out.answer = answer(&self.tables, &self.caches, served);
+        out.answer = answer(&self.tables, &self.caches, &served);
     }
 
     /// The configuration object in force.

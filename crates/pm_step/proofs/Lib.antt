@@ -4,6 +4,7 @@ pub mod EndedLaw
 pub mod ForceLaw
 pub mod QuietLaw
 pub mod Refused
+pub mod RestsLaw
 pub mod RestartLaw
 pub mod SoundSteps
 pub mod StepLaw
@@ -11,3 +12,4 @@ pub mod StillLaw
 pub mod TouchedLaw
 pub mod ModesLaw
 pub mod StaysLaw
+pub mod PlainLaw

@@ -1,5 +1,5 @@
 -- The step: what an event does to the book.
-use Rattle.std.specs.Prelude.{ℕ, ◌==◌, Bool, true, false, not, ◌&&◌, ◌||◌, List, [], Option, Some, None, option_and_then, is_some, if◌then◌else◌}
+use Rattle.std.specs.Prelude.{ℕ, ◌==◌, Bool, true, false, not, ◌&&◌, ◌||◌, List, [], Option, Some, None, option_and_then, is_none, is_some, if◌then◌else◌}
 use Rattle.std.specs.List.{list_any}
 use Rattle.pm_base.specs.declared.names.LineId.{LineId}
 use Rattle.pm_base.specs.declared.names.NodeId.{NodeId}
@@ -28,7 +28,7 @@ use Rattle.pm_values.specs.declared.touches.Touched.TheVariants.{All, Modes, Not
 use Rattle.pm_values.specs.Turns.{turns_along}
 use Rattle.pm_calls.specs.Events.{boot, wait, interrupt, raised}
 use Rattle.pm_calls.specs.Shapes.{Shape, Other_suspend, Own_abort, Own_arming, Own_notifier, Own_row, Own_suspend}
-use Rattle.pm_calls.specs.calls.{called, only_reads, shape_of}
+use Rattle.pm_calls.specs.calls.{called, is_once, only_reads, shape_of}
 use Rattle.pm_state.specs.Members.{mode_of_master}
 use Rattle.pm_values.specs.Notifications.{notifications}
 use Rattle.pm_state.specs.Prims.{Prim}
@@ -173,6 +173,19 @@ abbrev pub may_change : Event → Option Served → Bool
 may_change event None = is_action event
 may_change event (Some served) = not (is_refusal served.verdict || only_reads served.call)
 
+-- an event is no message of a call with more stages than one
+abbrev pub is_once_in : Option Served → Bool
+is_once_in None = true
+is_once_in (Some served) = is_once served.call
+
+-- an event has no stage, by the verdict on its message, and none is logged of it
+abbrev pub rests : Event → Option Served → Bool
+rests event served = not (may_change event served) && is_once_in served
+
+-- nothing comes of an event but the answer to its sender: it has no stage, and no time passes
+abbrev pub is_quiet : Event → Option Served → Option ℕ → Bool
+is_quiet event served count = rests event served && is_none count
+
 -- a call of this shape changes no value: the caller is told of a node, another master is asked to suspend, or a
 -- processor of the caller that is active starts to suspend, or goes on in place of suspending
 abbrev pub keeps_values : Shape → Bool
@@ -231,6 +244,18 @@ leaves_values (Wfi proc) book = not (is_proc_in Suspending (kind_of book.fixed.t
 leaves_values (Gic proc) book = not (is_proc_in Asleep (kind_of book.fixed.topology proc) book)
 leaves_values (Irq slave) book = not (list_any wakes book.now.core.procs)
 leaves_values _ book = false
+
+-- nothing comes of an event that is no message, as is told by the book before it: of those that change no value only an
+-- interrupt at a processor that is suspending changes anything
+abbrev pub is_idle : Event → State → Bool
+is_idle (Ipi master message) book = false
+is_idle (Tick count) book = false
+is_idle (Boot proc address) book = leaves_values (Boot proc address) book
+is_idle (Wfi proc) book = leaves_values (Wfi proc) book
+is_idle (Irq slave) book = leaves_values (Irq slave) book
+is_idle (Gic proc) book =
+    leaves_values (Gic proc) book && not (is_proc_in Suspending (kind_of book.fixed.topology proc) book)
+is_idle _ book = true
 
 -- what of a book an event may touch, where it is told by the book before whether it changes no value
 abbrev pub touched_unless : Bool → Event → Option Served → State → Touched

@@ -4,6 +4,11 @@
 
 mod laws;
 mod step;
+mod told;
 
 pub use laws::{books_stay_sound, only_one_call_configures};
-pub use step::{advance, begin, begin_after, configures, leaves_values, time_of, touched_unless};
+pub use step::{
+    advance, begin, begin_after, configures, is_idle, is_quiet, leaves_values, time_of,
+    touched_unless,
+};
+pub use told::tell_event;

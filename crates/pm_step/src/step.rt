@@ -2,10 +2,10 @@
 
 ghost use Rattle.std.specs.Prelude.{◌≡◌, false, length, true};
 ghost use Rattle.pm_topology.specs.Places.{kind_of};
-ghost use Rattle.pm_calls.specs.calls.{only_reads, shape_of};
+ghost use Rattle.pm_calls.specs.calls.{is_once, only_reads, shape_of};
 ghost use Rattle.pm_values.specs.Caches.{AreKept};
 ghost use Rattle.pm_state.specs.Stages.{after_stages, path_from};
-ghost use Rattle.pm_step.specs.Step.{call_in, configures, is_action, is_proc_in, keeps_procs, keeps_values, leaves_values, may_call, may_change, may_move, is_ipi, message_stages, path, row_node, row_place, served, stages, time_of, touched, touched_at, touched_in, touched_unless, verdict};
+ghost use Rattle.pm_step.specs.Step.{call_in, configures, is_action, is_proc_in, keeps_procs, keeps_values, leaves_values, may_call, may_change, may_move, is_idle, is_ipi, is_once_in, is_quiet, message_stages, path, rests, row_node, row_place, served, stages, time_of, touched, touched_at, touched_in, touched_unless, verdict};
 ghost use Rattle.pm_step.specs.Fresh.{IsFresh};
 ghost use Rattle.pm_tell.specs.Telling.{HasPlaces};
 ghost use Rattle.pm_values.specs.Along.{Completes, IsTrail, modes_of, trail_from};
@@ -65,8 +65,12 @@ pub fn advance(
     ensures ended { telling.new.ended ≡ telling.old.ended }
     ensures notices { telling.new.notices ≡ telling.old.notices }
     ensures fresh { may_move event.now result ≡ false → IsFresh tables.new telling.new }
+    ensures rests { rests event.now result ≡ true → IsFresh tables.new telling.new }
 {
     let served = take(tables, caches, event, &mut telling.along);
+    if rests(event, served) {
+        return served;
+    }
     if may_move(event, served) {
         telling.along.log(tables);
     }
@@ -95,15 +99,15 @@ pub fn begin_after(tables: &Tables, event: &Event, served: Option<Served>, telli
     }
 }
 
-/// Its stages and its verdict. Logging the modes after them completes what was logged along the step; where no
-/// processor moves, nothing was logged along it.
+/// Its stages and its verdict. Logging the modes after them completes what was logged along the step; where there is one
+/// stage at most, nothing was logged along it.
 fn take(tables: &mut Tables, caches: &Caches, event: &Event, along: &mut Along) -> Option<Served>
     requires kept { AreKept tables.old caches.now }
     requires along { along.old ≡ trail_from tables.old }
     ensures book { tables.new ≡ after_stages (stages event.now tables.old) tables.old }
     ensures served { result ≡ served event.now tables.old }
     ensures along { Completes tables.old (path event.now tables.old) tables.new along.new }
-    ensures still { may_move event.now result ≡ false → along.new ≡ along.old }
+    ensures still { is_once_in result ≡ true → along.new ≡ along.old }
 {
     if let Event::Ipi { master, message } = event {
         let call = decode_call(message);
@@ -149,7 +153,7 @@ fn receive(
     ensures verdict { result ≡ verdict (call_in master call tables.old) }
     ensures along { Completes tables.old
         (path_from (message_stages (call_in master call tables.old)) tables.old) tables.new along.new }
-    ensures still { keeps_procs call ≡ true → along.new ≡ along.old }
+    ensures still { is_once call ≡ true → along.new ≡ along.old }
 {
     let Some(place) = tables.master_place(master) else {
         return Verdict::Dropped;
@@ -191,7 +195,7 @@ fn only_reads(call: &Call) -> bool
 }
 
 /// Whether a call leaves all processors in their modes: it only reads the book, or changes a row of the caller.
-fn keeps_procs(call: &Call) -> bool
+pub(crate) fn keeps_procs(call: &Call) -> bool
     ensures { result ≡ keeps_procs call.now }
 {
     only_reads(call) || row_node(call).is_some()
@@ -218,6 +222,40 @@ fn may_change(event: &Event, served: Option<Served>) -> bool
     }
 }
 
+/// Whether a call has one stage at most: it is none that takes processors down.
+fn is_once(call: &Call) -> bool
+    ensures { result ≡ is_once call.now }
+{
+    !matches!(
+        call,
+        Call::ForcePowerdown { .. } | Call::SystemShutdown { .. }
+    )
+}
+
+/// Whether an event is no message of a call with more stages than one.
+fn is_once_in(served: Option<Served>) -> bool
+    ensures { result ≡ is_once_in served }
+{
+    match served {
+        Some(served) => is_once(&served.call),
+        None => true,
+    }
+}
+
+/// Whether an event has no stage, by the verdict on its message, and none is logged of it.
+fn rests(event: &Event, served: Option<Served>) -> bool
+    ensures { result ≡ rests event.now served }
+{
+    !may_change(event, served) && is_once_in(served)
+}
+
+/// Whether nothing comes of an event but the answer to its sender: it has no stage, and no time passes.
+pub fn is_quiet(event: &Event, served: Option<Served>, count: Option<u32>) -> bool
+    ensures { result ≡ is_quiet event.now served count }
+{
+    rests(event, served) && count.is_none()
+}
+
 /// Whether an event changes no value, as is told by the book before it: the processor at which it happens runs after it
 /// just as before. A boot loader starts no other than one that is off, none sleeps but one that is suspending, and
 /// none is woken but one that is asleep, or goes on in place of suspending. The interrupt of a slave wakes none where
@@ -231,6 +269,20 @@ pub fn leaves_values(tables: &Tables, event: &Event) -> bool
         Event::Gic { proc } => !is_proc_in(tables, *proc, Mode::Asleep),
         Event::Irq { .. } => !tables.procs().one_wakes(),
         _ => false,
+    }
+}
+
+/// Whether nothing comes of an event that is no message, as is told by the book before it, where it is told whether it
+/// changes no value. Of those that change none only an interrupt at a processor that is suspending changes anything.
+pub fn is_idle(still: bool, tables: &Tables, event: &Event) -> bool
+    requires { still ≡ leaves_values event.now tables.now }
+    ensures { result ≡ is_idle event.now tables.now }
+{
+    match event {
+        Event::Ipi { .. } | Event::Tick { .. } => false,
+        Event::Boot { .. } | Event::Wfi { .. } | Event::Irq { .. } => still,
+        Event::Gic { proc } => still && !is_proc_in(tables, *proc, Mode::Suspending),
+        _ => true,
     }
 }
 

@@ -9,6 +9,8 @@ use Rattle.pm_object.specs.declared.object.MasterRec.{MasterRec}
 use Rattle.pm_state.specs.Members.{mode_of_master}
 use Rattle.pm_state.specs.State.{State}
 use Rattle.pm_state.specs.Talk.{take_of}
+use Rattle.pm_values.specs.Along.{mode_logged, modes_of}
+use Rattle.pm_values.proofs.AlongLaw.{mode_is}
 use Rattle.pm_tell.specs.Callbacks.{callback_of, callbacks, callbacks_from, called_back, no_news, note_changes, note_changes_at, note_changes_from, told_if, wakes}
 
 none_changes : (k : ℕ) (was is : Mode) (notes : MasterNotes) → wakes was is ≡ false → note_changes_at no_news k was is notes ≡ []
@@ -47,3 +49,16 @@ module _ (was : ℕ → Mode) (notes : List MasterNotes) (after : State) where
 
   pub no_calls : ((m : ℕ) → m < length after.fixed.object.masters → wakes (was m) (mode_of_master after.fixed after.now.core m) ≡ false) → callbacks no_news was notes after ≡ []
   no_calls sleep = calls_from 0 after.fixed.object.masters (λ m within. sleep m (omega (arith, within)))
+
+-- a mode that stays doesn't wake
+stays_so : (mode : Mode) → wakes mode mode ≡ false
+stays_so Off = refl
+stays_so Active = refl
+stays_so Asleep = refl
+stays_so Suspending = refl
+
+-- where the modes before are those of the book, none wakes
+pub none_wakes : (book : State) (modes : List Mode) → modes ≡ modes_of book → (m : ℕ) → m < length book.fixed.object.masters → wakes (mode_logged modes m) (mode_of_master book.fixed book.now.core m) ≡ false
+none_wakes book modes are m within =
+    let mode : Mode = mode_of_master book.fixed book.now.core m in
+    ap (λ was. wakes was mode) (ap (λ ms. mode_logged ms m) are ∙ mode_is book m within) ∙ stays_so mode

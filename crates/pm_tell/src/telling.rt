@@ -1,7 +1,7 @@
 //! What is kept of a step until the masters are told of it: their modes before it, what is logged along it, and
 //! what there is to tell.
 
-ghost use Rattle.std.specs.Prelude.{◌≡◌, ◌+◌, ◌<◌, ◌≤◌, ◌++◌, IfOk, length, true};
+ghost use Rattle.std.specs.Prelude.{◌≡◌, ◌+◌, ◌<◌, ◌≤◌, ◌++◌, [], IfOk, None, length, true};
 ghost use Rattle.pm_procs.specs.Pending.{pending_at};
 ghost use Rattle.pm_values.specs.Along.{mode_logged, modes_of, trail_at_load};
 ghost use Rattle.pm_tell.specs.Ended.{ended_at, ended_from};
@@ -112,6 +112,18 @@ impl Telling {
         for m in 0..tables.masters() {
             self.log_end(tables, aborts, count, m);
         }
+    }
+
+    /// No master is asked, and no request ends.
+    pub(crate) fn clear_news(&mut self)
+        ensures modes { self.new.modes ≡ self.old.modes }
+        ensures along { self.new.along ≡ self.old.along }
+        ensures asks { self.new.asks ≡ None }
+        ensures notices { self.new.notices ≡ self.old.notices }
+        ensures ended { self.new.ended ≡ record self.old.ended { items = [] } }
+    {
+        self.asks = None;
+        self.ended.clear();
     }
 
     /// Logs the end of what is pending on the master at a place.

@@ -1,10 +1,11 @@
-use Rattle.std.proofs.Common.{◌≡◌, false, length, sym, ◌∙◌, ap, subst, arith}
-use Rattle.pm_step.specs.Step.{may_move, path}
+use Rattle.std.proofs.Common.{◌≡◌, false, true, length, sym, ◌∙◌, ap, subst, arith}
+use Rattle.pm_step.specs.Fresh.{IsFresh}
+use Rattle.pm_step.specs.Step.{may_move, path, rests}
 use Rattle.pm_state.specs.State.{Fixed, State}
 use Rattle.pm_state.specs.Units.{units}
 use Rattle.pm_values.specs.Along.{HasPlaces as HasTrail, IsTrail, Trail, modes_of, trail_from}
 use Rattle.pm_values.proofs.AlongLaw.{trailed_places}
-use Rattle.pm_step.proofs.StaysLaw.{stays_fresh, stays_logged}
+use Rattle.pm_step.proofs.StaysLaw.{moves_once, rests_fresh, rests_logged, rests_once, stays_fresh, stays_logged}
 use Rattle.pm_step.proofs.step.advance.Goals as goal
 
 -- the places of the trail stay while it is logged
@@ -34,7 +35,7 @@ stays c = sym c.may_move.ensures ∙ c.if-may_move.false
 logged : (c : goal.Else-may_move) → IsTrail c.args.tables.now (path c.args.event.now c.args.tables.now) c.take-served.new.along × (c.take-served.new.along.modes ≡ modes_of c.take-served.new.tables)
 logged c =
     stays_logged c.args.event.now c.args.tables.now c.take-served.new.tables c.take-served.result c.take-served.new.along c.take-served.ensures.served (stays c) c.take-served.ensures.book
-    (c.take-served.ensures.still (stays c) ∙ c.requires.fresh.along)
+    (c.take-served.ensures.still (moves_once c.args.event.now c.take-served.result (stays c)) ∙ c.requires.fresh.along)
 
 pub returns-else-may_move-clause-along : goal.returns-else-may_move-clause-along
 returns-else-may_move-clause-along c = (logged c).0
@@ -52,5 +53,41 @@ returns-else-may_move-clause-fresh c =
     in
     λ still. record {
       modes = c.requires.fresh.modes ∙ sym (ap (λ (t : Trail). t.modes) same);
-      along = c.take-served.ensures.still (stays c) ∙ (c.requires.fresh.along ∙ sym same);
+      along = c.take-served.ensures.still (moves_once c.args.event.now c.take-served.result (stays c)) ∙ (c.requires.fresh.along ∙ sym same);
     }
+
+-- an event without a stage leaves what is begun
+rested : (c : goal.Then-rests) → rests c.args.event.now c.take-served.result ≡ true
+rested c = sym c.rests.ensures ∙ c.if-rests.true
+
+unlogged : (c : goal.Then-rests) → c.take-served.new.along ≡ trail_from c.args.tables.now
+unlogged c = c.take-served.ensures.still (rests_once c.args.event.now c.take-served.result (rested c)) ∙ c.requires.fresh.along
+
+rest_logged : (c : goal.Then-rests) → IsTrail c.args.tables.now (path c.args.event.now c.args.tables.now) c.take-served.new.along × (c.take-served.new.along.modes ≡ modes_of c.take-served.new.tables)
+rest_logged c =
+    rests_logged c.args.event.now c.args.tables.now c.take-served.new.tables c.take-served.result c.take-served.new.along c.take-served.ensures.served (rested c) c.take-served.ensures.book
+    (unlogged c)
+
+rest_fresh : (c : goal.Then-rests) → IsFresh c.take-served.new.tables (record c.args.telling.now { along = c.take-served.new.along })
+rest_fresh c =
+    let old = c.args.tables.now in
+    let mid = c.take-served.new.tables in
+    let same : trail_from mid ≡ trail_from old =
+    rests_fresh c.args.event.now old mid c.take-served.result c.take-served.ensures.served (rested c) c.take-served.ensures.book
+    in
+    record {
+      modes = c.requires.fresh.modes ∙ sym (ap (λ (t : Trail). t.modes) same);
+      along = unlogged c ∙ sym same;
+    }
+
+pub returns-then-rests-clause-along : goal.returns-then-rests-clause-along
+returns-then-rests-clause-along c = (rest_logged c).0
+
+pub returns-then-rests-clause-now : goal.returns-then-rests-clause-now
+returns-then-rests-clause-now c = (rest_logged c).1
+
+pub returns-then-rests-clause-fresh : goal.returns-then-rests-clause-fresh
+returns-then-rests-clause-fresh c = λ still. rest_fresh c
+
+pub returns-then-rests-clause-rests : goal.returns-then-rests-clause-rests
+returns-then-rests-clause-rests c = λ rest. rest_fresh c

@@ -3,7 +3,6 @@ use Rattle.std.specs.Prelude.{option_and_then}
 use Rattle.pm_calls.specs.calls.{called}
 use Rattle.pm_step.specs.Step.{call_in, call_at, message_stages}
 use Rattle.pm_values.proofs.AlongLaw.{still_trailed}
-use Rattle.pm_step.proofs.StaysLaw.{keeps_once}
 use Rattle.pm_step.proofs.StepLaw.{nowhere}
 use Rattle.pm_step.proofs.step.receive.Goals as goal
 
@@ -25,6 +24,3 @@ returns-then-not-may_call-clause-along c =
     (ap (λ p. message_stages (option_and_then (call_at call book) p)) (sym c.master_place.ensures ∙ c.in-Some.is)
     ∙ ap (λ h. message_stages (if h then Some (called place call book) else None)) (sym c.may_call.ensures ∙ c.if-not-may_call.true))
     c.requires.along
-
-pub returns-clause-still : goal.returns-clause-still
-returns-clause-still c = λ keeps. c.serve.ensures.still (keeps_once c.args.call keeps)

@@ -1,5 +1,7 @@
-use Rattle.std.proofs.Common.{◌≡◌, ◌≤◌, ◌++◌, ◌∷◌, length, sym, ◌∙◌, ap, subst, arith}
+use Rattle.std.proofs.Common.{◌≡◌, ◌≤◌, true, ◌++◌, ◌∷◌, length, sym, ◌∙◌, ap, subst, arith}
+use Rattle.std.specs.Prelude.{is_none}
 use Rattle.std.proofs.lemmas.List.{length-map}
+use Rattle.pm_base.proofs.Booleans.{both}
 use Rattle.pm_base.specs.declared.names.Unit.{Unit}
 use Rattle.pm_notify.specs.declared.notes.Waiting.{Waiting}
 use Rattle.pm_topology.specs.declared.topology.Topology.{Topology}
@@ -9,7 +11,7 @@ use Rattle.pm_tell.specs.Callbacks.{callbacks, late_replies}
 use Rattle.pm_values.specs.Along.{IsTrail, Trail, mode_logged, modes_of, turns_logged}
 use Rattle.pm_tell.specs.Served.{pulse_in, says_in}
 use Rattle.pm_base.specs.BoundedList.{Bounded}
-use Rattle.pm_state.specs.Sound.{AreNotes, IsBook}
+use Rattle.pm_state.specs.Sound.{AreNotes, IsBook, IsSound, MeetsRequirements}
 use Rattle.pm_tell.specs.declared.callbacks.Callback.{Callback}
 use Rattle.pm_tell.specs.declared.late.Late.{Late}
 use Rattle.pm_values.specs.declared.starts.Start.{Start}
@@ -17,7 +19,7 @@ use Rattle.pm_state.specs.Stages.{after_stages}
 use Rattle.pm_values.specs.Starts.{starts, was_down}
 use Rattle.pm_state.specs.State.{State}
 use Rattle.pm_step.specs.Fresh.{IsFresh}
-use Rattle.pm_core.specs.Step.{effect, ended, served, modes_in, news, opening, outputs, path, pulse, stages, answer_by, answer_to}
+use Rattle.pm_core.specs.Step.{effect, ended, served, modes_in, news, opening, path, pulse, stages, answer_by, answer_to}
 use Rattle.pm_tell.specs.Telling.{notes_after, tellings, HasPlaces, news_in, opening_in}
 use Rattle.pm_tell.specs.Ended.{ended_from}
 use Rattle.pm_values.specs.Notifications.{notifications}
@@ -27,10 +29,12 @@ use Rattle.pm_calls.specs.Verdict.{aborted_by}
 use Rattle.pm_values.proofs.CachesLaw.{kept_places, kept_talked}
 use Rattle.pm_step.proofs.EndedLaw.{IsTold, stages_talk, step_told}
 use Rattle.pm_values.proofs.NoticesLaw.{notices_are}
-use Rattle.pm_step.proofs.Refused.{pass_stays, refused_stays}
-use Rattle.pm_core.proofs.PassLaw.{pass_puts}
-use Rattle.pm_base.specs.declared.events.Event.{Event}
-use Rattle.pm_core.specs.Outbox.{Holds}
+use Rattle.pm_step.specs.Step.{is_idle, is_quiet, rests}
+use Rattle.pm_step.proofs.QuietLaw.{idle_rests, idle_unserved}
+use Rattle.pm_step.proofs.Refused.{refused_stays}
+use Rattle.pm_step.proofs.RestsLaw.{Rests, rests_stays}
+use Rattle.pm_step.proofs.StaysLaw.{plain_is, quiet_rests}
+use Rattle.pm_core.proofs.PassLaw.{rests_puts}
 use Rattle.pm_step.proofs.TouchedLaw.{unless_touches}
 use Rattle.pm_values.specs.declared.touches.Touched.{Touched}
 use Rattle.pm_values.specs.Touches.{IsTouched}
@@ -69,23 +73,23 @@ follow-requires-clause-touched c =
     (sym c.leaves_values-still.ensures) c.advance-served.ensures.book c.advance-served.ensures.served c.self.invariant.0.sound c.self.invariant.1 c.advance-served.ensures.along
     (c.deref.ensures.value ∙ c.advance-served.ensures.modes) (c.advance-served.ensures.now ∙ ap modes_of c.advance-served.ensures.book))
 
-pub tell-requires-clause-each : goal.tell-requires-clause-each
-tell-requires-clause-each c =
+pub tell_event-requires-clause-each : goal.tell_event-requires-clause-each
+tell_event-requires-clause-each c =
     let old = c.self.inside.tables in
     ap (λ (b : State). length b.now.talk.pending) c.advance-served.ensures.book
     ∙ (ap (λ t. length t.pending) (stages_talk (stages c.args.event.now old) old)
     ∙ (c.self.invariant.0.sound.pending.each
     ∙ sym (ap (λ (b : State). length b.fixed.object.masters) c.advance-served.ensures.book)))
 
-pub tell-requires-clause-notes : goal.tell-requires-clause-notes
-tell-requires-clause-notes c =
+pub tell_event-requires-clause-notes : goal.tell_event-requires-clause-notes
+tell_event-requires-clause-notes c =
     let old = c.self.inside.tables in
     let P : State → Type 0 = λ b. AreNotes b.fixed.topology (length b.fixed.object.masters) b.now.talk.notes in
     let Q : _ → Type 0 = λ t. AreNotes old.fixed.topology (length old.fixed.object.masters) t.notes in
     subst P (sym c.advance-served.ensures.book) (subst Q (sym (stages_talk (stages c.args.event.now old) old)) c.self.invariant.0.sound.notes)
 
-pub tell-requires-clause-few : goal.tell-requires-clause-few
-tell-requires-clause-few c =
+pub tell_event-requires-clause-few : goal.tell_event-requires-clause-few
+tell_event-requires-clause-few c =
     let old = c.self.inside.tables in
     let values : length c.self.inside.caches.values ≡ length (units old) =
     ap length c.self.invariant.1.values ∙ length-map (units old) (λ u. (u, value u old))
@@ -94,8 +98,19 @@ tell-requires-clause-few c =
     let few : length (units c.advance-served.new.tables) ≤ entry_count c.advance-served.new.tables.fixed.topology = c.units_stand_in_order.ensures.few c.advance-served.new.tables.fixed.topology in
     omega (arith, values, same, few, c.follow.ensures.found.few)
 
-pub tell-requires-clause-places : goal.tell-requires-clause-places
-tell-requires-clause-places c =
+-- a call that leaves all modes has what is begun logged, and nobody told
+pub tell_event-requires-clause-plain : goal.tell_event-requires-clause-plain
+tell_event-requires-clause-plain c =
+    let event = c.args.event.now in
+    let mid = c.advance-served.new.tables in
+    let logged = c.advance-served.new.telling in
+    plain_is event c.self.inside.tables mid c.advance-served.result c.time_of-count.result (record logged { notices = c.follow.new.notices }) c.advance-served.ensures.served c.time_of-count.ensures c.advance-served.ensures.book
+    (λ still.
+    let fresh = c.advance-served.ensures.fresh still in
+    record { modes = fresh.modes; along = fresh.along })
+
+pub tell_event-requires-clause-places : goal.tell_event-requires-clause-places
+tell_event-requires-clause-places c =
     let places = c.advance-served.ensures.places in
     record {
       modes = places.modes;
@@ -105,7 +120,7 @@ tell-requires-clause-places c =
     }
 
 -- what was logged until the masters were told
-told : (c : goal.After-out-2-1) → IsTold c.args.event.now c.self.inside.tables c.advance-served.new.tables c.tell.new.tables c.advance-served.result c.time_of-count.result c.tell.new.telling
+told : (c : goal.After-out-3-1) → IsTold c.args.event.now c.self.inside.tables c.advance-served.new.tables c.tell_event.new.tables c.advance-served.result c.time_of-count.result c.tell_event.new.telling
 told c =
     let event = c.args.event.now in
     let old = c.self.inside.tables in
@@ -113,72 +128,156 @@ told c =
     let caches = c.self.inside.caches in
     let fixed : old.fixed ≡ mid.fixed = sym (ap (λ (b : State). b.fixed) c.advance-served.ensures.book) in
     let Along : Trail → Type 0 = λ n. IsTrail old (path event old) n in
-    step_told event old mid c.tell.new.tables c.advance-served.result c.time_of-count.result c.tell.new.telling
+    step_told event old mid c.tell_event.new.tables c.advance-served.result c.time_of-count.result c.tell_event.new.telling
     (record {
       mid_is = c.advance-served.ensures.book;
       served_is = c.advance-served.ensures.served;
       count_is = c.time_of-count.ensures;
-      along_is = subst Along (sym c.tell.ensures.along) c.advance-served.ensures.along;
-      modes_are = ap (λ v. v.items) c.tell.ensures.modes ∙ c.advance-served.ensures.modes;
-      asks_are = c.tell.ensures.asks;
-      ended_are = c.tell.ensures.ended
+      along_is = subst Along (sym c.tell_event.ensures.along) c.advance-served.ensures.along;
+      modes_are = ap (λ v. v.items) c.tell_event.ensures.modes ∙ c.advance-served.ensures.modes;
+      asks_are = c.tell_event.ensures.asks;
+      ended_are = c.tell_event.ensures.ended
           ∙ ap (λ (n : Trail). ended_from (λ m. turns_logged m n.turns) (aborted_by (says_in c.advance-served.result)) c.time_of-count.result 0 mid.now.talk.pending)
-          (sym c.tell.ensures.along);
-      notices_are = ap (λ (l : Bounded Waiting). l.items) (c.tell.ensures.notices ∙ c.follow.ensures.found.notices)
+          (sym c.tell_event.ensures.along);
+      notices_are = ap (λ (l : Bounded Waiting). l.items) (c.tell_event.ensures.notices ∙ c.follow.ensures.found.notices)
           ∙ (notices_are c.kinds_are_exact.ensures old mid caches.kinds.items caches.used.items caches.values fixed c.self.invariant.1.kinds c.self.invariant.1.used c.self.invariant.1.values
           ∙ ap (notifications old) c.advance-served.ensures.book);
     })
-    c.self.invariant.0.sound.pending.each c.tell.ensures.book
+    c.self.invariant.0.sound.pending.each c.tell_event.ensures.book
 
-pub answer-out-requires : goal.answer-out-requires
-answer-out-requires c =
+pub answer-out-requires-2 : goal.answer-out-requires-2
+answer-out-requires-2 c =
     let mid = c.advance-served.new.tables in
-    let telling = c.tell.new.telling in
+    let telling = c.tell_event.new.telling in
     let changes = tellings (news_in telling) (mode_logged telling.modes.items) (opening_in telling (says_in c.advance-served.result) c.time_of-count.result mid) c.advance-served.result mid in
     let P : State → Type 0 = λ b. AreKept b c.follow.new.self in
-    subst P (sym c.tell.ensures.book) (kept_talked changes mid c.follow.new.self c.follow.ensures.kept)
+    subst P (sym c.tell_event.ensures.book) (kept_talked changes mid c.follow.new.self c.follow.ensures.kept)
 
 pub begin_after-requires-clause-places : goal.begin_after-requires-clause-places
 begin_after-requires-clause-places c =
-    let Q : State → Type 0 = λ b. HasPlaces b.fixed.topology (length b.fixed.object.masters) c.tell.new.telling in
-    subst Q (sym c.tell.ensures.book) c.tell.ensures.places
+    let Q : State → Type 0 = λ b. HasPlaces b.fixed.topology (length b.fixed.object.masters) c.tell_event.new.telling in
+    subst Q (sym c.tell_event.ensures.book) c.tell_event.ensures.places
 
 -- where no processor moved, what is told leaves what is begun for the next step
 pub begin_after-requires-clause-fresh : goal.begin_after-requires-clause-fresh
 begin_after-requires-clause-fresh c =
-    let telling = c.tell.new.telling in
+    let telling = c.tell_event.new.telling in
     let P : State → Type 0 = λ b. IsFresh b telling in
     λ still.
     let fresh = c.advance-served.ensures.fresh still in
-    subst P (sym c.tell.ensures.book) (record {
-      modes = ap (λ v. v.items) c.tell.ensures.modes ∙ fresh.modes;
-      along = c.tell.ensures.along ∙ fresh.along;
+    subst P (sym c.tell_event.ensures.book) (record {
+      modes = ap (λ v. v.items) c.tell_event.ensures.modes ∙ fresh.modes;
+      along = c.tell_event.ensures.along ∙ fresh.along;
     })
 
-pub invariant_of-self : goal.invariant_of-self
-invariant_of-self c =
+pub invariant_of-self-2 : goal.invariant_of-self-2
+invariant_of-self-2 c =
     let event = c.args.event.now in
     let old = c.self.inside.tables in
     let mid = c.advance-served.new.tables in
-    let new = c.tell.new.tables in
-    let telling = c.tell.new.telling in
+    let new = c.tell_event.new.tables in
+    let telling = c.tell_event.new.telling in
     let changes = tellings (news_in telling) (mode_logged telling.modes.items) (opening_in telling (says_in c.advance-served.result) c.time_of-count.result mid) c.advance-served.result mid in
     let P : State → Type 0 = λ b. AreKept b c.follow.new.self in (
       kept_by c.books_stay_sound.ensures.step event old new (told c).book c.self.invariant.0,
-      subst P (sym c.tell.ensures.book) (kept_talked changes mid c.follow.new.self c.follow.ensures.kept),
+      subst P (sym c.tell_event.ensures.book) (kept_talked changes mid c.follow.new.self c.follow.ensures.kept),
       c.begin_after.ensures.places,
       c.begin_after.ensures.fresh,
     )
 
-pub returns-in-Pass-clause-book : goal.returns-in-Pass-clause-book
-returns-in-Pass-clause-book c = let b = c.args.self.now in sym (ap (λ e. effect e b) c.in-Pass.is ∙ pass_stays b)
+-- nothing comes of such an event
+idle : (c : goal.After-stays_sound) → Rests c.args.event.now c.self.inside.tables
+idle c =
+    idle_rests c.args.event.now c.self.inside.tables c.self.invariant.0.sound (sym c.is_idle.ensures ∙ c.if-is_idle.true)
 
-pub returns-in-Pass-clause-out : goal.returns-in-Pass-clause-out
-returns-in-Pass-clause-out c =
+pub returns-then-is_idle-clause-book : goal.returns-then-is_idle-clause-book
+returns-then-is_idle-clause-book c =
+    let P : State → Type 0 = λ b. Rests c.args.event.now b in
+    sym (rests_stays c.args.event.now c.args.self.now (subst P c.self.view_is (idle c)))
+
+pub returns-then-is_idle-clause-out : goal.returns-then-is_idle-clause-out
+returns-then-is_idle-clause-out c =
+    let event = c.args.event.now in
     let b = c.args.self.now in
-    let out = c.clear.new.self in
-    let P : Event → Type 0 = λ e. Holds (outputs e b) out in
-    subst P (sym c.in-Pass.is) (pass_puts b out c.clear.ensures.empty)
+    let P : State → Type 0 = λ b. Rests event b in
+    let rest : Rests event b = subst P c.self.view_is (idle c) in
+    let puts = rests_puts event b rest in
+    record {
+      moved = c.clear.ensures.empty.moved ∙ sym puts.moved;
+      pulse = c.clear.ensures.empty.pulse ∙ sym rest.pulse;
+      starts = c.clear.ensures.empty.starts ∙ sym puts.starts;
+      late = c.clear.ensures.empty.late ∙ sym puts.late;
+      callbacks = c.clear.ensures.empty.callbacks ∙ sym puts.callbacks;
+      answer = c.clear.ensures.empty.answer ∙ sym (ap (λ s. answer_by s (effect event b)) (idle_unserved event b (subst (λ b. is_idle event b ≡ true) c.self.view_is (sym c.is_idle.ensures ∙ c.if-is_idle.true))));
+      done = c.clear.ensures.empty.done;
+    }
+
+-- its sender alone is told of such a message
+tested : (c : goal.After-out-1) → is_quiet c.args.event.now c.advance-served.result c.time_of-count.result ≡ true
+tested c = sym c.is_quiet.ensures ∙ c.if-is_quiet.true
+
+quiet : (c : goal.After-out-1) → Rests c.args.event.now c.self.inside.tables
+quiet c =
+    quiet_rests c.args.event.now c.self.inside.tables c.advance-served.result c.time_of-count.result c.advance-served.ensures.served c.time_of-count.ensures (tested c)
+
+same : (c : goal.After-out-1) → c.advance-served.new.tables ≡ c.self.inside.tables
+same c = c.advance-served.ensures.book ∙ (quiet c).after
+
+pub answer-out-requires : goal.answer-out-requires
+answer-out-requires c =
+    let rest =
+    quiet_rests c.args.event.now c.self.inside.tables c.advance-served.result c.time_of-count.result c.advance-served.ensures.served c.time_of-count.ensures
+    (sym c.is_quiet.ensures ∙ c.if-is_quiet.true)
+    in
+    let P : State → Type 0 = λ b. AreKept b c.self.inside.caches in
+    subst P (sym (c.advance-served.ensures.book ∙ rest.after)) c.self.invariant.1
+
+pub invariant_of-self : goal.invariant_of-self
+invariant_of-self c =
+    let P : State → Type 0 = λ b. AreKept b c.self.inside.caches in
+    let still : rests c.args.event.now c.advance-served.result ≡ true =
+    (both (rests c.args.event.now c.advance-served.result) (is_none c.time_of-count.result) (tested c)).0
+    in (
+      subst IsBook (sym (same c)) c.self.invariant.0,
+      subst P (sym (same c)) c.self.invariant.1,
+      c.advance-served.ensures.places,
+      c.advance-served.ensures.rests still,
+    )
+
+pub returns-then-is_quiet-clause-book : goal.returns-then-is_quiet-clause-book
+returns-then-is_quiet-clause-book c =
+    let event = c.args.event.now in
+    same c ∙ (sym (rests_stays event c.self.inside.tables (quiet c)) ∙ ap (effect event) c.self.view_is)
+
+pub returns-then-is_quiet-clause-refused : goal.returns-then-is_quiet-clause-refused
+returns-then-is_quiet-clause-refused c = λ fails. same c ∙ c.self.view_is
+
+pub returns-then-is_quiet-clause-sound : goal.returns-then-is_quiet-clause-sound
+returns-then-is_quiet-clause-sound c = subst IsSound (sym (same c)) c.self.invariant.0.sound
+
+pub returns-then-is_quiet-clause-met : goal.returns-then-is_quiet-clause-met
+returns-then-is_quiet-clause-met c =
+    let P : State → Type 0 = λ b. MeetsRequirements b (λ u. value u b) in
+    subst P (sym (same c)) (c.values_meet.ensures.met c.self.inside.tables c.self.invariant.0.formed c.self.invariant.0.sound)
+
+pub returns-then-is_quiet-clause-out : goal.returns-then-is_quiet-clause-out
+returns-then-is_quiet-clause-out c =
+    let event = c.args.event.now in
+    let old = c.self.inside.tables in
+    let rest = quiet c in
+    let puts = rests_puts event old rest in
+    record {
+      moved = c.clear.ensures.empty.moved ∙ (sym puts.moved ∙ ap (λ (b : State). moved (λ u. value u b) (effect event b)) c.self.view_is);
+      pulse = c.clear.ensures.empty.pulse ∙ (sym rest.pulse ∙ ap (pulse event) c.self.view_is);
+      starts = c.clear.ensures.empty.starts ∙ (sym puts.starts ∙ ap (λ (b : State). starts (was_down (b ∷ path event b)) (effect event b)) c.self.view_is);
+      late = c.clear.ensures.empty.late ∙ (sym puts.late ∙ ap (λ (b : State). late_replies (ended event b) (effect event b)) c.self.view_is);
+      callbacks = c.clear.ensures.empty.callbacks
+          ∙ (sym puts.callbacks
+          ∙ ap (λ (b : State). callbacks (news event b) (modes_in b) (notes_after (opening event b) (after_stages (stages event b) b)) (effect event b)) c.self.view_is);
+      answer = c.answer-out.ensures ∙ (ap (λ h. answer_by h c.advance-served.new.tables) c.advance-served.ensures.served ∙ (
+          ap (λ b. answer_by (served event old) b) (same c ∙ sym (rests_stays event old rest)) ∙ ap (answer_to event) c.self.view_is));
+      done = c.clear.ensures.empty.done;
+    }
 
 pub returns-clause-book : goal.returns-clause-book
 returns-clause-book c = (told c).book ∙ ap (effect c.args.event.now) c.self.view_is
@@ -190,11 +289,11 @@ returns-clause-refused c =
 
 pub returns-clause-sound : goal.returns-clause-sound
 returns-clause-sound c =
-    (kept_by c.books_stay_sound.ensures.step c.args.event.now c.self.inside.tables c.tell.new.tables (told c).book c.self.invariant.0).sound
+    (kept_by c.books_stay_sound.ensures.step c.args.event.now c.self.inside.tables c.tell_event.new.tables (told c).book c.self.invariant.0).sound
 
 pub returns-clause-met : goal.returns-clause-met
 returns-clause-met c =
-    let new = c.tell.new.tables in
+    let new = c.tell_event.new.tables in
     let kept : IsBook new = kept_by c.books_stay_sound.ensures.step c.args.event.now c.self.inside.tables new (told c).book c.self.invariant.0 in
     c.values_meet.ensures.met new kept.formed kept.sound
 
@@ -202,9 +301,9 @@ pub returns-clause-out : goal.returns-clause-out
 returns-clause-out c =
     let event = c.args.event.now in
     let old = c.self.inside.tables in
-    let new = c.tell.new.tables in
+    let new = c.tell_event.new.tables in
     let mid = c.advance-served.new.tables in
-    let telling = c.tell.new.telling in
+    let telling = c.tell_event.new.telling in
     let found = telling.ended.items in
     let caches = c.self.inside.caches in
     let told_callbacks = callbacks (news_in telling) (mode_logged telling.modes.items) (notes_after (opening_in telling (says_in c.advance-served.result) c.time_of-count.result mid) mid) new in
@@ -217,16 +316,16 @@ returns-clause-out c =
       starts = ap (λ (s : Bounded Start). s.items) c.follow.ensures.found.starts
           ∙ (step_starts c.kinds_are_exact.ensures event old mid c.advance-served.new.telling.along caches.kinds.items caches.values c.advance-served.ensures.book c.advance-served.ensures.along c.self.invariant.1.kinds c.self.invariant.1.values
           ∙ ap (λ (b : State). starts (was_down (b ∷ path event b)) (effect event b)) c.self.view_is);
-      late = ap (λ (s : Bounded Late). s.items) c.tell.ensures.late
+      late = ap (λ (s : Bounded Late). s.items) c.tell_event.ensures.late
           ∙ (ap (λ xs. xs ++ late_replies found new) c.clear.ensures.empty.late
           ∙ (ap (λ es. late_replies es new) (told c).ended
           ∙ (ap (late_replies (ended event old)) (told c).book
           ∙ ap (λ (b : State). late_replies (ended event b) (effect event b)) c.self.view_is)));
-      callbacks = ap (λ (s : Bounded Callback). s.items) c.tell.ensures.callbacks
+      callbacks = ap (λ (s : Bounded Callback). s.items) c.tell_event.ensures.callbacks
           ∙ (ap (λ xs. xs ++ told_callbacks) c.clear.ensures.empty.callbacks
           ∙ ((told c).callbacks
           ∙ ap (λ (b : State). callbacks (news event b) (modes_in b) (notes_after (opening event b) (after_stages (stages event b) b)) (effect event b)) c.self.view_is));
-      answer = c.answer-out.ensures ∙ (ap (λ h. answer_by h new) c.advance-served.ensures.served ∙ (
+      answer = c.answer-out-2.ensures ∙ (ap (λ h. answer_by h new) c.advance-served.ensures.served ∙ (
           ap (λ b. answer_by (served event old) b) (told c).book ∙ ap (answer_to event) c.self.view_is));
       done = c.clear.ensures.empty.done;
     }
