@@ -1,13 +1,16 @@
 -- A unit is found by its own place.
-use Rattle.std.proofs.Common.{◌≡◌, ℕ, true, Some, None, slice_get, sym, ap, ◌∙◌}
+use Rattle.std.proofs.Common.{◌≡◌, ℕ, ◌+◌, ◌<◌, Bool, true, not, cond, nat_lt, Some, None, List, [], ◌∷◌, length, slice_get, sym, ap, ◌∙◌, zero, suc, arith}
+use Rattle.std.specs.List.{list_all, position_or_len}
+use Rattle.std.proofs.lemmas.Bool.{lt-ltb}
 use Rattle.std.proofs.lemmas.Option.{same_Some}
+use Rattle.pm_base.proofs.Booleans.{both}
 use Rattle.pm_base.proofs.Searches.{position-first}
 use Rattle.pm_base.specs.declared.names.Unit.{Unit}
 use Rattle.pm_topology.specs.UnitMap.{place_of, units_in}
-use Rattle.pm_topology.specs.Units.{UnitLaws, rises, same_unit}
+use Rattle.pm_topology.specs.Units.{UnitLaws, is_before, rises, same_unit}
 use Rattle.pm_apply.specs.declared.kept.KeptValue.{KeptValue}
 use Rattle.pm_apply.specs.Record.{Kept, kept_of}
-use Rattle.pm_apply.proofs.VisitsLemmas.{kept_at}
+use Rattle.pm_apply.proofs.VisitsLemmas.{kept_at, later_is_other}
 
 module _ (laws : UnitLaws) (u : Unit) (kept : Kept) (place : ℕ) (rising : rises (units_in kept) ≡ true) (at : place_of kept u ≡ Some place) where
   pub kept_there : (e : Unit × KeptValue) → slice_get kept place ≡ Some e → e.1 ≡ kept_of kept u
@@ -22,3 +25,32 @@ place_there u kept place at none =
     let first = position-first (λ (e : Unit × KeptValue). same_unit e.0 u) kept place at in
     let gone : None ≡ Some first.element = sym none ∙ first.here in
     cc
+
+-- ---- the place of a unit that stands there
+
+passes_at : (p : Unit → Bool) (units : List Unit) (k : ℕ) (u : Unit) → list_all p units ≡ true → slice_get units k ≡ Some u → p u ≡ true
+passes_at p [] k u all here = cc
+passes_at p (x ∷ units) zero u all here = ap p (sym (same_Some x u here)) ∙ (both (p x) (list_all p units) all).0
+passes_at p (x ∷ units) (suc k) u all here = passes_at p units k u (both (p x) (list_all p units) all).1 here
+
+stands_within : (kept : Kept) (k : ℕ) (u : Unit) → slice_get (units_in kept) k ≡ Some u → k < length kept
+stands_within [] k u here = cc
+stands_within (x ∷ kept) zero u here = omega arith
+stands_within (x ∷ kept) (suc k) u here = let later = stands_within kept k u here in omega (arith, later)
+
+stands_first : UnitLaws → (kept : Kept) (k : ℕ) (u : Unit) → rises (units_in kept) ≡ true → slice_get (units_in kept) k ≡ Some u
+    → position_or_len (λ (e : Unit × KeptValue). same_unit e.0 u) kept ≡ k
+stands_first laws [] k u rising here = cc
+stands_first laws (x ∷ kept) zero u rising here =
+    ap (λ b. cond (not b) (1 + position_or_len (λ (e : Unit × KeptValue). same_unit e.0 u) kept) 0)
+    (ap (λ x. same_unit x u) (same_Some x.0 u here) ∙ laws.itself u)
+stands_first laws (x ∷ kept) (suc k) u rising here =
+    let parts = both (list_all (is_before x.0) (units_in kept)) (rises (units_in kept)) rising in
+    let other = later_is_other x.0 u (passes_at (is_before x.0) (units_in kept) k u parts.0 here) in
+    let later = stands_first laws kept k u parts.1 here in
+    ap (λ b. cond (not b) (1 + position_or_len (λ (e : Unit × KeptValue). same_unit e.0 u) kept) 0) other ∙ omega (arith, later)
+
+pub stands_at_place : UnitLaws → (kept : Kept) (k : ℕ) (u : Unit) → rises (units_in kept) ≡ true → slice_get (units_in kept) k ≡ Some u → place_of kept u ≡ Some k
+stands_at_place laws kept k u rising here =
+    ap (λ n. cond (nat_lt n (length kept)) (Some n) None) (stands_first laws kept k u rising here)
+    ∙ ap (λ b. cond b (Some k) None) (lt-ltb k (length kept) (stands_within kept k u here))

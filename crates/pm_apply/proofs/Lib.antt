@@ -1,4 +1,5 @@
 pub mod AlikeLemmas
+pub mod ApplyLemmas
 pub mod Below
 pub mod CarryLemmas
 pub mod CountLemmas
@@ -7,6 +8,7 @@ pub mod FailingLemmas
 pub mod FoundLemmas
 pub mod GapLemmas
 pub mod IdleLemmas
+pub mod KindsLemmas
 pub mod LeftLemmas
 pub mod ListedLemmas
 pub mod MarkingLemmas
@@ -28,6 +30,7 @@ pub mod RecordLemmas
 pub mod RestsLemmas
 pub mod StepLaw
 pub mod TakesLemmas
+pub mod TakingLemmas
 pub mod TurnsLemmas
 pub mod UnmarkedLemmas
 pub mod UsedLemmas

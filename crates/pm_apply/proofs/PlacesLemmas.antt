@@ -1,5 +1,5 @@
 -- Places in rising order: where one goes in, and how many there are.
-use Rattle.std.proofs.Common.{◌≡◌, ℕ, ◌+◌, ◌<◌, ◌≤◌, ◌==◌, ◌||◌, Bool, true, false, Some, List, [], ◌∷◌, length, get_or, slice_get, nat_cmp, refl, sym, ap, subst, ◌∙◌, inl, inr, zero, suc, arith}
+use Rattle.std.proofs.Common.{◌≡◌, ℕ, ◌+◌, ◌<◌, ◌≤◌, ◌==◌, ◌||◌, Bool, true, false, Some, List, [], ◌∷◌, ◌++◌, length, get_or, slice_get, nat_cmp, refl, sym, ap, subst, ◌∙◌, inl, inr, zero, suc, arith}
 use Rattle.std.specs.Prelude.{MatchResult, Result, Ok, Err, insert, unwrap_or}
 use Rattle.std.specs.List.Sorted.{IsBinarySearchResult}
 use Rattle.std.proofs.lemmas.Bool.{cases_lt, eqb-true}
@@ -8,8 +8,8 @@ use Rattle.std.proofs.lemmas.List.Edits.{length-insert}
 use Rattle.std.proofs.lemmas.List.Folds.{list_any_none}
 use Rattle.std.proofs.lemmas.List.Sorted.{IsPermutation-insert, list_any-IsPermutation, searched}
 use Rattle.std.proofs.lemmas.List.{get_or_default}
-use Rattle.std.proofs.lemmas.Option.{slice_get_cases, slice_get-get_or}
-use Rattle.pm_apply.specs.Places.{RiseWithin, StandsBefore, has_place}
+use Rattle.std.proofs.lemmas.Option.{get_or_from_slice_get, slice_get_cases, slice_get-get_or, slice_get_within}
+use Rattle.pm_apply.specs.Places.{IsNext, RiseWithin, StandsBefore, has_place}
 
 -- ---- they rise
 
@@ -89,13 +89,13 @@ more_differs : (a b : ℕ) → b < a → (a == b) ≡ false
 more_differs a b more = grind (arith, nat_tests)
 
 -- none from this place on, up to the next one
-pub none_between : (end : ℕ) (places : List ℕ) (from i k : ℕ) → RiseWithin 0 end places → StandsBefore places from i → from ≤ k → (i < length places → k < get_or places i 0) → has_place places k ≡ false
-none_between end places from i k rise stands after before =
+none_between : (end : ℕ) (places : List ℕ) (from i k : ℕ) → RiseWithin 0 end places → ((j : ℕ) → j < i → get_or places j 0 < from) → from ≤ k → (i < length places → k < get_or places i 0) → has_place places k ≡ false
+none_between end places from i k rise first after before =
     list_any_none (λ p. p == k) places
     (λ j d within.
     ap (λ p. p == k) (get_or_default places j d 0 within)
     ∙ elim (cases_lt j i) [
-      | inl early ↦ (let less = stands.less j early in less_differs (get_or places j 0) k (omega (arith, less, after)))
+      | inl early ↦ (let less = first j early in less_differs (get_or places j 0) k (omega (arith, less, after)))
       | inr late ↦ (
           let first : k < get_or places i 0 = before (omega (arith, late, within)) in
           let up : get_or places i 0 ≤ get_or places j 0 = rises_on 0 end places rise i j late within in
@@ -108,12 +108,6 @@ below_end low end [] rise k within = absurd (omega (arith, within))
 below_end low end (p ∷ places) rise zero within = rise.1
 below_end low end (p ∷ places) rise (suc k) within = below_end (p + 1) end places rise.2 k (omega (arith, within))
 
--- the next one, and the end where there is none
-pub record IsNext (end : ℕ) (places : List ℕ) (from next : ℕ) : Type 0 where
-  pub after : from ≤ next
-  pub within : next ≤ end
-  pub none : (k : ℕ) → from ≤ k → k < next → has_place places k ≡ false
-
 pub next_at : (end : ℕ) (places : List ℕ) (from i : ℕ) → from ≤ end → RiseWithin 0 end places → StandsBefore places from i → IsNext end places from (unwrap_or (slice_get places i) end)
 next_at end places from i fits rise stands =
     elim ((slice_get_cases places i).1) [
@@ -122,11 +116,49 @@ next_at end places from i fits rise stands =
           let more = stands.more i (omega arith) there.1 in
           let low = below_end 0 end places rise i there.1 in
           subst (IsNext end places from) (sym same)
-          (record { after = omega (arith, more); within = omega (arith, low); none = λ k after before. none_between end places from i k rise stands after (λ _. before) }))
+          (record { after = omega (arith, more); within = omega (arith, low); none = λ k after before. none_between end places from i k rise stands.less after (λ _. before) }))
       | inr past ↦
           subst (IsNext end places from) (sym (ap (λ found. unwrap_or found end) past.1))
-          (record { after = fits; within = omega arith; none = λ k after before. none_between end places from i k rise stands after (λ within. absurd (omega (arith, within, past.0))) })
+          (record { after = fits; within = omega arith; none = λ k after before. none_between end places from i k rise stands.less after (λ within. absurd (omega (arith, within, past.0))) })
     ]
+
+-- the one at a place of the list is the next where those before it are less
+pub next_there : (end : ℕ) (places : List ℕ) (from i p : ℕ) → RiseWithin 0 end places → ((j : ℕ) → j < i → get_or places j 0 < from) → slice_get places i ≡ Some p → from ≤ p
+    → IsNext end places from p
+next_there end places from i p rise less here after =
+    let there = slice_get_within places i p here in
+    let same : get_or places i 0 ≡ p = get_or_from_slice_get places i p 0 here in
+    let low = below_end 0 end places rise i there in
+    record { after = after; within = omega (arith, low, same); none = λ k from before. none_between end places _ i k rise less from (λ _. omega (arith, before, same)) }
+
+-- and where all are less there is none
+pub next_nowhere : (end : ℕ) (places : List ℕ) (from i : ℕ) → from ≤ end → RiseWithin 0 end places → ((j : ℕ) → j < i → get_or places j 0 < from) → length places ≤ i
+    → IsNext end places from end
+next_nowhere end places from i fits rise less past =
+    record { after = fits; within = omega arith; none = λ k after before. none_between end places from i k rise less after (λ within. absurd (omega (arith, within, past))) }
+
+-- ---- one goes in at the end
+
+-- where the last one comes before it, all do
+pub stands_last : (end : ℕ) (places : List ℕ) (place i : ℕ) → RiseWithin 0 end places → i + 1 ≡ length places → get_or places i 0 < place → StandsBefore places place (length places)
+stands_last end places place i rise last less = record {
+  within = omega arith;
+  less = λ k before.
+      let up = rises_on 0 end places rise k i (omega (arith, before, last)) (omega (arith, last)) in
+      omega (arith, up, less);
+  more = λ k from below. absurd (omega (arith, from, below));
+}
+
+pub stands_first : (places : List ℕ) (place : ℕ) → length places ≡ 0 → StandsBefore places place (length places)
+stands_first places place none = record {
+  within = omega arith;
+  less = λ k before. absurd (omega (arith, before, none));
+  more = λ k from below. absurd (omega (arith, from, below));
+}
+
+pub insert_last : (places : List ℕ) (place : ℕ) → insert places (length places) place ≡ places ++ place ∷ []
+insert_last [] place = refl
+insert_last (p ∷ places) place = ap (λ ps. p ∷ ps) (insert_last places place)
 
 -- ---- the search
 

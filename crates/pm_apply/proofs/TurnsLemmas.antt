@@ -47,22 +47,22 @@ place_from_end n i w is =
     in
     slice_get-get_or (reverse (range_with_len 0 n)) i w (omega arith) ∙ ap Some found
 
-raise_at : (t : Topology) (w : ℕ) → w < length t.powers → slice_get (raises t) w ≡ Some (PowerOn w)
+pub raise_at : (t : Topology) (w : ℕ) → w < length t.powers → slice_get (raises t) w ≡ Some (PowerOn w)
 raise_at t w within = slice_get-map PowerOn (power_places t) w ∙ ap (option_map PowerOn) (place_at (length t.powers) w within)
 
-settle_at : (t : Topology) (k : ℕ) (unit : Unit) → slice_get (units_of t) k ≡ Some unit → slice_get (settles t) k ≡ Some (Apply unit)
+pub settle_at : (t : Topology) (k : ℕ) (unit : Unit) → slice_get (units_of t) k ≡ Some unit → slice_get (settles t) k ≡ Some (Apply unit)
 settle_at t k unit here = slice_get-map Apply (units_of t) k ∙ ap (option_map Apply) here
 
-lower_at : (t : Topology) (i w : ℕ) → i + (w + 1) ≡ length t.powers → slice_get (lowers t) i ≡ Some (PowerOff w)
+pub lower_at : (t : Topology) (i w : ℕ) → i + (w + 1) ≡ length t.powers → slice_get (lowers t) i ≡ Some (PowerOff w)
 lower_at t i w is = slice_get-map PowerOff (reverse (power_places t)) i ∙ ap (option_map PowerOff) (place_from_end (length t.powers) i w is)
 
-length-raises : (t : Topology) → length (raises t) ≡ length t.powers
+pub length-raises : (t : Topology) → length (raises t) ≡ length t.powers
 length-raises t = length-map (power_places t) PowerOn ∙ length-range_with_len 0 (length t.powers)
 
-length-settles : (t : Topology) → length (settles t) ≡ length (units_of t)
+pub length-settles : (t : Topology) → length (settles t) ≡ length (units_of t)
 length-settles t = length-map (units_of t) Apply
 
-length-lowers : (t : Topology) → length (lowers t) ≡ length t.powers
+pub length-lowers : (t : Topology) → length (lowers t) ≡ length t.powers
 length-lowers t = length-map (reverse (power_places t)) PowerOff ∙ length-reverse (power_places t) ∙ length-range_with_len 0 (length t.powers)
 
 pub length-unit_turns : (t : Topology) → length (unit_turns t) ≡ length t.powers + (length (units_of t) + length t.powers)

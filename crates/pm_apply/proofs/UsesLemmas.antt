@@ -165,7 +165,7 @@ never : (t : Topology) (unit : Unit) (v : ℕ) → IsWellFormed t → 4 ≤ v �
 never t (Node node) v well past = kind_never t (kind_of t node) v well past
 never t (Line line) v well past = refl
 
-needs_there : (t : Topology) (unit : Unit) (v : ℕ) → IsWellFormed t → unwrap_or (slice_get (supply_of t unit).powered v) false ≡ needs_power t unit v
+pub needs_there : (t : Topology) (unit : Unit) (v : ℕ) → IsWellFormed t → unwrap_or (slice_get (supply_of t unit).powered v) false ≡ needs_power t unit v
 needs_there t unit zero well = refl
 needs_there t unit (suc zero) well = refl
 needs_there t unit (suc (suc zero)) well = refl

@@ -32,7 +32,7 @@ use Rattle.pm_apply.proofs.OrdersUnits.{power_is_listed}
 -- ---- an entry of the record by its place
 
 -- what comes later in a rising list is another unit
-later_is_other : (a b : Unit) → is_before a b ≡ true → same_unit a b ≡ false
+pub later_is_other : (a b : Unit) → is_before a b ≡ true → same_unit a b ≡ false
 later_is_other (Node a) (Node b) later = grind (arith, nat_tests)
 later_is_other (Node a) (Line b) later = refl
 later_is_other (Line a) (Node b) later = cc
@@ -154,15 +154,15 @@ all_at p [] k x all here = cc
 all_at p (y ∷ xs) zero x all here = let same : y ≡ x = cc in ap p (sym same) ∙ (both (p y) (list_all p xs) all).0
 all_at p (y ∷ xs) (suc k) x all here = all_at p xs k x (both (p y) (list_all p xs) all).1 here
 
-no_raise : (places : List ℕ) → list_all no_pulse (map PowerOn places) ≡ true
+pub no_raise : (places : List ℕ) → list_all no_pulse (map PowerOn places) ≡ true
 no_raise [] = refl
 no_raise (w ∷ places) = no_raise places
 
-no_lower : (places : List ℕ) → list_all no_pulse (map PowerOff places) ≡ true
+pub no_lower : (places : List ℕ) → list_all no_pulse (map PowerOff places) ≡ true
 no_lower [] = refl
 no_lower (w ∷ places) = no_lower places
 
-no_settle : (units : List Unit) → list_all no_pulse (map Apply units) ≡ true
+pub no_settle : (units : List Unit) → list_all no_pulse (map Apply units) ≡ true
 no_settle [] = refl
 no_settle (u ∷ units) = no_settle units
 

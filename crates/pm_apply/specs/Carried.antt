@@ -8,8 +8,11 @@ use Rattle.pm_core.specs.declared.outbox.Done.{Done}
 use Rattle.pm_core.specs.declared.outbox.Outbox.{Outbox}
 use Rattle.pm_apply.specs.declared.turns.Turn.{Turn}
 use Rattle.pm_apply.specs.Part.{orders_of}
-use Rattle.pm_apply.specs.Plan.{plan, answers_of}
-use Rattle.pm_apply.specs.Record.{Kept, lags_in, kept_value}
+use Rattle.pm_state.specs.State.{State}
+use Rattle.pm_state.specs.Values.{value}
+use Rattle.pm_apply.specs.Failing.{falls_short, told_answer}
+use Rattle.pm_apply.specs.Plan.{plan, answers_of, turns_of}
+use Rattle.pm_apply.specs.Record.{Kept, lags_in, kept_value, marked}
 
 -- these turns were taken: exactly the commands of their plan were given to the device, in their order and nothing else,
 -- under the answers that it gave, and put behind those before
@@ -38,3 +41,14 @@ AreMarked t values kept = (unit : Unit) → has_unit t unit ≡ true → lags_in
 abbrev pub DifferencesAreMarked : Topology → (Unit → ℕ) → List Unit → Kept → Type 0
 DifferencesAreMarked t values moved kept = (unit : Unit) → has_unit t unit ≡ true
     → (has_in moved unit ≡ true) ⊎ ((lags_in kept unit ≡ true) ⊎ (kept_value kept unit ≡ values unit))
+
+-- the turns of a step were taken from a record that comes to the same once each unit is marked by its value, then the units
+-- were marked by their values, and the answer is by what the device did
+pub record HasCarried {D : Type 0} (Does : Act → D → D → Type 0) (book : State) (kept now : Kept) (before after : Outbox) (old new : D) : Type 0 where
+  pub start : Kept
+  pub left : Kept
+  pub alike : (values : Unit → ℕ) → marked values start ≡ marked values kept
+  pub takes : Takes Does book.fixed.topology (λ u. value u book) (turns_of book.fixed.topology before.pulse) start left before.done.items after.done.items old new
+  pub marks : now ≡ marked (λ u. value u book) left
+  pub answer : after.answer ≡ told_answer (falls_short (λ u. value u book) before.moved.items before.pulse after.done.items now) before.answer
+  pub rest : KeepsRest before (record after { answer = before.answer })

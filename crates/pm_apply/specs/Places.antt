@@ -1,5 +1,5 @@
 -- Places in rising order.
-use Rattle.std.specs.Prelude.{ℕ, ◌+◌, ◌<◌, ◌≤◌, ◌==◌, Bool, List, [], ◌∷◌, length, slice_index_or, ⊤}
+use Rattle.std.specs.Prelude.{◌≡◌, ℕ, ◌+◌, ◌<◌, ◌≤◌, ◌==◌, Bool, false, List, [], ◌∷◌, length, slice_index_or, ⊤}
 use Rattle.std.specs.List.{list_any}
 
 -- one of these places is this one
@@ -16,3 +16,9 @@ pub record StandsBefore (places : List ℕ) (place i : ℕ) : Type 0 where
   pub within : i ≤ length places
   pub less : (k : ℕ) → k < i → slice_index_or places k 0 < place
   pub more : (k : ℕ) → i ≤ k → k < length places → place < slice_index_or places k 0
+
+-- the next one, and the end where there is none
+pub record IsNext (end : ℕ) (places : List ℕ) (from next : ℕ) : Type 0 where
+  pub after : from ≤ next
+  pub within : next ≤ end
+  pub none : (k : ℕ) → from ≤ k → k < next → has_place places k ≡ false

@@ -43,6 +43,10 @@ pub record LagsNotAt (place : ℕ) (kept : Kept) : Type 0 where
 abbrev pub power_lags : Topology → Kept → ℕ → Bool
 power_lags t kept w = option_map_or (λ (p : PowerDef). lags_in kept (Node p.node)) (slice_get t.powers w) false
 
+-- no power node lags
+abbrev pub NoPowerLags : Topology → Kept → Type 0
+NoPowerLags t kept = (w : ℕ) (p : PowerDef) → slice_get t.powers w ≡ Some p → lags_in kept (Node p.node) ≡ false
+
 -- a unit of the record that doesn't lag
 pub record IsIdle (kept : Kept) (unit : Unit) : Type 0 where
   pub known : has_in (units_in kept) unit ≡ true

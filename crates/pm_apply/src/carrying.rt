@@ -124,8 +124,7 @@ impl Carrying {
             out.old.done.items out.new.done.items }
         ensures rest { KeepsRest out.old out.new }
     {
-        let from = kept.value(command.unit);
-        kept.log(command, ok);
+        let from = kept.log(command, ok);
         out.done.push(Done { command, from, ok });
         self.pass(book, out.pulse);
     }

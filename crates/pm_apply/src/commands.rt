@@ -1,23 +1,19 @@
 //! A device is made to follow the book.
 
 ghost use Rattle.std.specs.Prelude.{◌≡◌, ℕ, ◌<◌, [], true, None, length};
-ghost use Rattle.pm_topology.specs.WellFormed.{IsWellFormed};
-ghost use Rattle.pm_state.specs.Fed.{IsFed};
 ghost use Rattle.pm_core.specs.Outbox.{HasRoomFor, KeepsRoom, outputs_in};
 ghost use Rattle.pm_state.specs.Values.{value};
 ghost use Rattle.pm_device.specs.Act.{AreHarmless, Chain, ShowsAll};
-ghost use Rattle.pm_apply.specs.Carried.{AreMarked, DifferencesAreMarked, KeepsRest, Takes};
-ghost use Rattle.pm_apply.specs.Left.{turns_left};
+ghost use Rattle.pm_apply.specs.Carried.{AreMarked, DifferencesAreMarked, HasCarried};
 ghost use Rattle.pm_apply.specs.Order.{IsOrdered, LagsAreExplained};
 ghost use Rattle.pm_apply.specs.Part.{answers_in, orders_in, part_in, part_of};
-ghost use Rattle.pm_apply.specs.Plan.{turns_of};
 ghost use Rattle.pm_apply.specs.Record.{IsRecordOf, StandsAs, kept_value};
-ghost use Rattle.pm_apply.specs.Visits.{IsReady, LagsNotAt};
+ghost use Rattle.pm_apply.specs.Visits.{LagsNotAt};
 
 use crate::carrying::Carrying;
 use crate::kept::{Kept, KeptValue};
 use crate::laws::{each_part_is_safe, orders_join};
-use crate::turns::turn_count;
+use crate::taking::take_turns;
 use pm_core::{Book, Outbox};
 use pm_device::{Device, chain_shows};
 use pm_topology::{kinds_are_exact, unit_maps, units_stand_in_order};
@@ -32,8 +28,8 @@ use pm_topology::{kinds_are_exact, unit_maps, units_stand_in_order};
 ///
 /// The outbox was loaded for the book's topology and holds no command yet, and the record is one of
 /// that topology. Each unit whose value in the record isn't the book's moved in the step, or lags: turns are
-/// taken for units that moved or lag and for the line that is pulsed alone, by the list of their places. Beside them
-/// the mark of each power node is looked at. Where no unit moved or lags and no line is pulsed, nothing is done.
+/// taken for units that moved or lag and for the line that is pulsed alone, by the list of their places, and for all
+/// power nodes where one of them is marked. Where no unit moved or lags and no line is pulsed, nothing is done.
 pub fn carry<D: Device>(dev: &mut D, kept: &mut Kept, book: &Book, out: &mut Outbox)
     requires room { HasRoomFor book.now out.old }
     requires fresh { out.old.done.items ≡ [] }
@@ -78,9 +74,7 @@ pub fn carry<D: Device>(dev: &mut D, kept: &mut Kept, book: &Book, out: &mut Out
     if is_at_rest(kept, out) {
         return;
     }
-    let left = Carrying::begin(kept, book, out);
-    take_turns(dev, kept, book, out, left);
-    out.answer = Carrying::end(kept, book, out);
+    carry_on(dev, kept, book, out);
 }
 
 /// The same whatever the record marks: each unit of the chip is visited. This is for the first step, and for a
@@ -124,36 +118,20 @@ fn is_at_rest(kept: &Kept, out: &Outbox) -> bool
     out.moved.as_slice().is_empty() && out.pulse.is_none() && !kept.has_marks()
 }
 
-/// Takes the turns of a step, one after another.
-/// The turn of a unit that isn't marked is passed over, since it has no command.
-fn take_turns<D: Device>(
-    dev: &mut D,
-    kept: &mut Kept,
-    book: &Book,
-    out: &mut Outbox,
-    left: Carrying,
-)
+/// Marks the units that moved and the line that is pulsed, takes the turns of the step, and ends it.
+#[inline(never)]
+fn carry_on<D: Device>(dev: &mut D, kept: &mut Kept, book: &Book, out: &mut Outbox)
     requires room { HasRoomFor book.now out.old }
     requires fresh { out.old.done.items ≡ [] }
     requires record { IsRecordOf book.now.fixed.topology kept.old }
-    requires ready { IsReady (λ u. value u book.now) out.old.pulse kept.old }
-    requires left { turns_left book.now.fixed.topology out.old.pulse left
-        ≡ turns_of book.now.fixed.topology out.old.pulse }
-    ensures formed { IsWellFormed book.now.fixed.topology }
-    ensures fed { IsFed book.now.fixed.topology (λ u. value u book.now) }
-    ensures takes { Takes D.Does book.now.fixed.topology (λ u. value u book.now)
-        (turns_of book.now.fixed.topology out.old.pulse) kept.old kept.new out.old.done.items out.new.done.items
-        dev.old dev.new }
-    ensures ready { IsReady (λ u. value u book.now) out.old.pulse kept.new }
-    ensures rest { KeepsRest out.old out.new }
+    requires marked { DifferencesAreMarked book.now.fixed.topology
+        (λ u. value u book.now) out.old.moved.items kept.old }
+    ensures { HasCarried D.Does book.now kept.old kept.new out.old out.new dev.old dev.new }
 {
     units_stand_in_order();
     kinds_are_exact();
     unit_maps::<KeptValue>();
-    turn_count(book);
-    let mut left = left;
-    'commands: while let Some(command) = left.next_command(kept, book, out.pulse) {
-        let ok = dev.command(command).is_ok();
-        left.command_done(command, ok, kept, book, out);
-    }
+    let _left = Carrying::begin(kept, book, out);
+    take_turns(dev, kept, book, out);
+    out.answer = Carrying::end(kept, book, out);
 }

@@ -4,12 +4,14 @@ ghost use Rattle.std.specs.Prelude.{◌≡◌, ℕ, ◌<◌, ◌≤◌, ◌==◌
 ghost use Rattle.pm_base.specs.declared.names.Unit.{Unit as Part};
 ghost use Rattle.pm_topology.specs.UnitMap.{place_of, units_in, values_in};
 ghost use Rattle.pm_topology.specs.Units.{rises, units_of};
+ghost use Rattle.pm_topology.specs.WellFormed.{IsWellFormed};
 ghost use Rattle.pm_state.specs.Values.{value};
 ghost use Rattle.pm_apply.specs.Places.{has_place};
-ghost use Rattle.pm_apply.specs.Plan.{after_answer};
+ghost use Rattle.pm_apply.specs.Plan.{after_answer, is_power};
 ghost use Rattle.pm_apply.specs.Record.{CountsUses, IsAtZero, IsRecordOf, at_zero, idle, uses_power, keep, kept_of, kept_value, lags_in, mark, marked};
-ghost use Rattle.pm_apply.specs.Visits.{LagsNotAt, LagsWithin, Marks, Remakes, StandsElsewhere, with_mark, pulsed};
+ghost use Rattle.pm_apply.specs.Visits.{LagsNotAt, LagsWithin, Marks, NoPowerLags, Remakes, StandsElsewhere, with_mark, pulsed};
 
+use crate::kinds::Kinds;
 use crate::laws::at_zero_is_a_record;
 use crate::places::Places;
 use crate::supplies::{Supply, give_supplies, no_supply};
@@ -41,6 +43,8 @@ pub struct Kept {
     spare: Places,
     /// How many units use each power node.
     uses: UseCounts,
+    /// Which units are power nodes.
+    kinds: Kinds,
 }
 
 impl Model for Kept {
@@ -78,11 +82,13 @@ impl Kept {
         let marked = Places::load(alloc, end)?;
         let spare = Places::load(alloc, end)?;
         let uses = UseCounts::load(alloc, &values)?;
+        let kinds = Kinds::load(alloc, &values, t)?;
         Ok(Kept {
             values,
             marked,
             spare,
             uses,
+            kinds,
         })
     }
 
@@ -116,6 +122,50 @@ impl Kept {
         ensures { result ≡ false → (k : ℕ) → k < length self.now → LagsNotAt k self.now }
     {
         !self.marked.is_empty()
+    }
+
+    /// Whether some power node of a chip may be marked: none is where this is false. The units that are marked are looked at.
+    pub(crate) fn has_power_marks(&self, t: &Topology) -> bool
+        requires { IsWellFormed t.now }
+        ensures { result ≡ false → NoPowerLags t.now self.now }
+    {
+        units_stand_in_order();
+        kinds_are_exact();
+        unit_maps::<KeptValue>();
+        let places = self.marked.as_slice();
+        for place in places {
+            if self.has_power_at(*place, t) {
+                return true;
+            }
+        }
+        false
+    }
+
+    /// Whether there is a unit at a place, and it is a power node of a chip.
+    fn has_power_at(&self, place: usize, t: &Topology) -> bool
+        requires { IsWellFormed t.now }
+        ensures { result ≡ false → (e : Part × KeptValue) → slice_get self.now place ≡ Some e
+            → is_power t.now e.0 ≡ false }
+    {
+        match self.values.entry(place) {
+            Some((unit, _)) => self.is_power(place, unit, t),
+            None => false,
+        }
+    }
+
+    /// Whether the unit at a place, which is this one, is a power node of a chip.
+    pub(crate) fn is_power(&self, place: usize, unit: Unit, t: &Topology) -> bool
+        requires { IsWellFormed t.now }
+        ensures { result ≡ is_power t.now unit }
+    {
+        self.kinds.is_power(place, unit, t)
+    }
+
+    /// The unit at a place and what is kept of it, where there is one.
+    pub(crate) fn entry(&self, place: usize) -> Option<(Unit, KeptValue)>
+        ensures { result ≡ slice_get self.now place }
+    {
+        self.values.entry(place)
     }
 
     /// Whether some unit uses the power node at a place: it stands directly below it, and needs power at its kept value.
@@ -184,17 +234,34 @@ impl Kept {
         self.marked.insert(place);
     }
 
-    /// Takes down what a device answered to a command.
-    pub(crate) fn log(&mut self, command: Command, ok: bool)
-        ensures { self.new ≡ after_answer command ok self.old }
+    /// Takes down what a device answered to a command. The value before it comes out.
+    pub(crate) fn log(&mut self, command: Command, ok: bool) -> u32
+        ensures kept { self.new ≡ after_answer command ok self.old }
+        ensures before { result ≡ kept_value self.old command.unit }
     {
         units_stand_in_order();
         kinds_are_exact();
         unit_maps::<KeptValue>();
         if !ok {
-            return;
+            return self.value(command.unit);
         }
-        keep(&mut self.values, &mut self.uses, command);
+        keep(&mut self.values, &mut self.uses, command)
+    }
+
+    /// The same for a command on the unit at a place.
+    pub(crate) fn log_at(&mut self, place: usize, command: Command, ok: bool) -> u32
+        requires { slice_get (units_in self.old) place ≡ Some command.unit }
+        ensures kept { self.new ≡ after_answer command ok self.old }
+        ensures before { result ≡ kept_value self.old command.unit }
+    {
+        units_stand_in_order();
+        kinds_are_exact();
+        unit_maps::<KeptValue>();
+        let _units = self.values.len();
+        if !ok {
+            return self.value(command.unit);
+        }
+        keep_at(&mut self.values, &mut self.uses, command, place)
     }
 
     /// Marks exactly the units whose value isn't the book's. Each unit that isn't marked has that value, and isn't
@@ -238,32 +305,40 @@ fn kept_of(values: &UnitMap<KeptValue>, unit: Unit) -> KeptValue
     values.get(unit).unwrap_or(idle())
 }
 
-/// Keeps the value of a command for its unit, and the counts of uses. Nothing changes where the unit isn't there.
-fn keep(values: &mut UnitMap<KeptValue>, uses: &mut UseCounts, command: Command)
+/// Keeps the value of a command for its unit, and the counts of uses. Nothing changes where the unit isn't there. The value
+/// before it comes out.
+fn keep(values: &mut UnitMap<KeptValue>, uses: &mut UseCounts, command: Command) -> u32
     requires { CountsUses values.old uses.old }
     ensures entries { values.new ≡ keep command.unit command.value values.old }
+    ensures before { result ≡ kept_value values.old command.unit }
     ensures uses { CountsUses values.new uses.new }
     ensures rising { rises (units_in values.old) ≡ true }
 {
     let Some(place) = values.place(command.unit) else {
-        return;
+        return kept_of(values, command.unit).value;
     };
-    keep_at(values, uses, command, place);
+    keep_at(values, uses, command, place)
 }
 
 /// Keeps the value of a command at the place of its unit, and the counts of uses: the unit is counted out at the value
-/// before, and in at the one that the device took.
-fn keep_at(values: &mut UnitMap<KeptValue>, uses: &mut UseCounts, command: Command, place: usize)
+/// before, which comes out, and in at the one that the device took.
+fn keep_at(
+    values: &mut UnitMap<KeptValue>,
+    uses: &mut UseCounts,
+    command: Command,
+    place: usize,
+) -> u32
     requires place { place_of values.old command.unit ≡ Some place }
     requires uses { CountsUses values.old uses.old }
     ensures entries { values.new ≡ keep command.unit command.value values.old }
+    ensures before { result ≡ kept_value values.old command.unit }
     ensures uses { CountsUses values.new uses.new }
 {
     units_stand_in_order();
     unit_map_places::<KeptValue>();
     let _units = values.len();
     let Some(found) = values.entry(place) else {
-        return;
+        return 0;
     };
     let kept = KeptValue {
         value: command.value,
@@ -271,6 +346,7 @@ fn keep_at(values: &mut UnitMap<KeptValue>, uses: &mut UseCounts, command: Comma
     };
     values.set_at(place, kept);
     uses.change(found.1, kept);
+    found.1.value
 }
 
 /// Marks the unit at a place, which is this one.

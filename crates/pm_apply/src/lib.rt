@@ -6,9 +6,11 @@ mod carrying;
 mod commands;
 mod failing;
 mod kept;
+mod kinds;
 mod laws;
 mod places;
 mod supplies;
+mod taking;
 mod turns;
 mod use_counts;
 

@@ -1,11 +1,14 @@
 //! A list of places in rising order.
 
-ghost use Rattle.std.specs.Prelude.{◌≡◌, ℕ, ◌<◌, ◌≤◌, ◌==◌, ◌||◌, [], false, true, IfOk, MatchResult, slice_get, Some};
-ghost use Rattle.pm_apply.specs.Places.{StandsBefore, has_place};
+ghost use Rattle.std.specs.Prelude.{◌≡◌, ℕ, ◌<◌, ◌≤◌, ◌==◌, ◌||◌, [], false, true, IfOk, MatchResult, length, slice_get, Some};
+ghost use Rattle.pm_apply.specs.Places.{IsNext, RiseWithin, StandsBefore, has_place};
 
 use pm_base::NoMemory;
 use std::alloc::Global;
 use std::marker::Model;
+
+/// Up to so many places are looked through one after another.
+const FEW: usize = 8;
 
 /// Places below an end in rising order, each once, with room for all of them. Contracts see the list of them, and the
 /// end as its room.
@@ -60,6 +63,19 @@ impl Places {
         ensures end { result ≤ self.now.room }
         ensures none { (k : ℕ) → from ≤ k → k < result → has_place self.now.items k ≡ false }
     {
+        if self.items.len() <= FEW {
+            return first_from(self.items.as_slice(), from, self.end);
+        }
+        self.search_from(from)
+    }
+
+    /// The same, by a search in the order of the places.
+    fn search_from(&self, from: usize) -> usize
+        requires { from ≤ self.now.room }
+        ensures from { from ≤ result }
+        ensures end { result ≤ self.now.room }
+        ensures none { (k : ℕ) → from ≤ k → k < result → has_place self.now.items k ≡ false }
+    {
         match self.find(from) {
             Ok(_) => from,
             Err(i) => self.get(i).unwrap_or(self.end),
@@ -86,9 +102,47 @@ impl Places {
         ensures room { self.new.room ≡ self.old.room }
         ensures has { (k : ℕ) → has_place self.new.items k ≡ ((place == k) || has_place self.old.items k) }
     {
-        if let Err(i) = self.find(place) {
-            self.items.insert(i, place).unwrap();
+        if self.ends_before(place) {
+            self.put_last(place);
+            return;
         }
+        if let Err(i) = self.find(place) {
+            self.put_in(i, place);
+        }
+    }
+
+    /// Whether all places come before this one.
+    fn ends_before(&self, place: usize) -> bool
+        ensures { result ≡ true → StandsBefore self.now.items place (length self.now.items) }
+    {
+        let count = self.items.len();
+        if count == 0 {
+            return true;
+        }
+        let Some(last) = self.get(count - 1) else {
+            return false;
+        };
+        last < place
+    }
+
+    /// Puts a place in behind the others, which all come before it.
+    fn put_last(&mut self, place: usize)
+        requires within { place < self.old.room }
+        requires stands { StandsBefore self.old.items place (length self.old.items) }
+        ensures room { self.new.room ≡ self.old.room }
+        ensures has { (k : ℕ) → has_place self.new.items k ≡ ((place == k) || has_place self.old.items k) }
+    {
+        self.items.push(place).unwrap();
+    }
+
+    /// Puts a place in as the `i`-th, where it goes in.
+    fn put_in(&mut self, i: usize, place: usize)
+        requires within { place < self.old.room }
+        requires stands { StandsBefore self.old.items place i }
+        ensures room { self.new.room ≡ self.old.room }
+        ensures has { (k : ℕ) → has_place self.new.items k ≡ ((place == k) || has_place self.old.items k) }
+    {
+        self.items.insert(i, place).unwrap();
     }
 
     /// Where a place is, or else where it would go in.
@@ -98,4 +152,18 @@ impl Places {
     {
         self.items.as_slice().binary_search(&place)
     }
+}
+
+/// The first of some places from this one on, and the end where there is none.
+fn first_from(places: &[usize], from: usize, end: usize) -> usize
+    requires fits { from ≤ end }
+    requires rise { RiseWithin 0 end places.now }
+    ensures { IsNext end places.now from result }
+{
+    for place in places {
+        if *place >= from {
+            return *place;
+        }
+    }
+    end
 }

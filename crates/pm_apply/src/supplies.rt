@@ -1,6 +1,6 @@
 //! What the units of a chip need power for, and from where it comes.
 
-ghost use Rattle.std.specs.Prelude.{◌≡◌, Some, slice_get};
+ghost use Rattle.std.specs.Prelude.{◌≡◌, Some, false, slice_get, unwrap_or};
 ghost use Rattle.pm_base.specs.declared.names.Unit.{Unit as Part};
 ghost use Rattle.pm_topology.specs.UnitMap.{mapped, with_value_at};
 ghost use Rattle.pm_apply.specs.declared.kept.KeptValue.{KeptValue as Entry};
@@ -26,6 +26,13 @@ pub(crate) fn no_supply() -> Supply
         parent: None,
         powered: [false, false, false, false],
     }
+}
+
+/// Whether a unit with this supply needs power at a value.
+pub(crate) fn powers_at(supply: Supply, value: u32) -> bool
+    ensures { result ≡ unwrap_or (slice_get supply.powered value) false }
+{
+    supply.powered.get(value as usize).copied().unwrap_or(false)
 }
 
 /// The supply of a unit of a chip. A reset line stands below no power node.

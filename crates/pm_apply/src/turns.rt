@@ -1,6 +1,6 @@
 //! The turns of a step: each may issue one command.
 
-ghost use Rattle.std.specs.Prelude.{◌≡◌, ℕ, ◌<◌, ◌≤◌, ◌==◌, ◌&&◌, ◌||◌, false, not, length, option_to_list, slice_get, Some};
+ghost use Rattle.std.specs.Prelude.{◌≡◌, ℕ, ◌<◌, ◌≤◌, ◌==◌, ◌&&◌, ◌||◌, false, not, length, option_to_list, slice_get, unwrap_or, Some};
 ghost use Rattle.pm_base.specs.declared.names.Unit.TheVariants.{Node};
 ghost use Rattle.pm_topology.specs.WellFormed.{IsWellFormed};
 ghost use Rattle.pm_topology.specs.UnitMap.{units_in};
@@ -13,6 +13,8 @@ ghost use Rattle.pm_apply.specs.Record.{HasSupplies, kept_value};
 ghost use Rattle.pm_apply.specs.Visits.{IsIdleAt, power_lags};
 
 use crate::kept::{Kept, KeptValue};
+use crate::kinds::is_power_kind;
+use crate::supplies::powers_at;
 use pm_base::{Command, LineId, Unit};
 use pm_core::Book;
 use pm_topology::{
@@ -153,7 +155,7 @@ pub(crate) fn pulse_before(pulse: Option<LineId>, turn: Turn) -> Option<Turn>
 }
 
 /// The turn in which a unit is pulsed, where it is the reset line that is pulsed.
-fn pulse_turn(pulse: Option<LineId>, unit: Unit) -> Option<Turn>
+pub(crate) fn pulse_turn(pulse: Option<LineId>, unit: Unit) -> Option<Turn>
     ensures { option_to_list result ≡ pulse_turn pulse unit }
 {
     let line = pulse?;
@@ -249,6 +251,47 @@ fn apply(unit: Unit, book: &Book, kept: &Kept) -> Option<Command>
     )
 }
 
+/// The same for the unit at a place of the record, which is this one, by its entry and its supply there.
+pub(crate) fn apply_at(place: usize, unit: Unit, book: &Book, kept: &Kept) -> Option<Command>
+    requires units { units_in kept.now ≡ units_of book.now.fixed.topology }
+    requires supplies { HasSupplies book.now.fixed.topology kept.now }
+    requires there { slice_get (units_in kept.now) place ≡ Some unit }
+    ensures { result ≡ apply book.now.fixed.topology (λ u. value u book.now) kept.now unit }
+{
+    units_stand_in_order();
+    kinds_are_exact();
+    unit_maps::<KeptValue>();
+    book.stays_sound();
+    let Some((_, entry)) = kept.entry(place) else {
+        return None;
+    };
+    let value = book.value(unit);
+    where_due(
+        takes_at(place, unit, value, entry, book.topology(), kept),
+        Command { unit, value },
+    )
+}
+
+/// Whether the unit at a place, of which this is kept, has another value there, is no power node, and needs no power at its
+/// new value or isn't below a power node that is down in the record.
+fn takes_at(
+    place: usize,
+    unit: Unit,
+    value: u32,
+    entry: KeptValue,
+    t: &Topology,
+    kept: &Kept,
+) -> bool
+    requires { IsWellFormed t.now }
+    ensures { result ≡ (not (entry.value == value) && (not (is_power t.now unit)
+        && (not (unwrap_or (slice_get entry.supply.powered value) false)
+        || is_fed t.now kept.now entry.supply.parent))) }
+{
+    entry.value != value
+        && !kept.is_power(place, unit, t)
+        && (!powers_at(entry.supply, value) || is_fed(t, kept, entry.supply.parent))
+}
+
 /// Whether a unit is no power node, the record has another value for it, and the value doesn't need
 /// power or the power node above isn't down in the record.
 fn takes(unit: Unit, value: u32, t: &Topology, kept: &Kept) -> bool
@@ -325,11 +368,4 @@ fn power_at(t: &Topology, place: usize) -> Option<PowerDef>
     ensures { result ≡ slice_get t.now.powers place }
 {
     t.powers.as_slice().get(place).copied()
-}
-
-/// Whether nodes of this kind are power nodes.
-fn is_power_kind(kind: Kind) -> bool
-    ensures { result ≡ is_power_kind kind }
-{
-    matches!(kind, Kind::Power(_))
 }

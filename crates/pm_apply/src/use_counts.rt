@@ -6,6 +6,7 @@ ghost use Rattle.pm_apply.specs.declared.kept.KeptValue.{KeptValue as Entry};
 ghost use Rattle.pm_apply.specs.Record.{CountsUses, uses_power, needs_supply, used_by};
 
 use crate::kept::KeptValue;
+use crate::supplies::powers_at;
 use pm_base::NoMemory;
 use pm_topology::UnitMap;
 use std::alloc::Global;
@@ -149,9 +150,5 @@ fn used_by(kept: KeptValue) -> Option<usize>
 fn needs_supply(kept: KeptValue) -> bool
     ensures { result ≡ needs_supply kept }
 {
-    kept.supply
-        .powered
-        .get(kept.value as usize)
-        .copied()
-        .unwrap_or(false)
+    powers_at(kept.supply, kept.value)
 }

@@ -1,7 +1,6 @@
 use Rattle.std.proofs.Common.{ℕ, Bool, Option, List, refl, rules, subst, sym}
 use Rattle.pm_base.specs.declared.names.LineId.{LineId}
 use Rattle.pm_base.specs.declared.names.Unit.{Unit}
-use Rattle.pm_core.specs.declared.outbox.Outbox.{Outbox}
 use Rattle.pm_core.specs.Outbox.{Outputs}
 use Rattle.pm_apply.specs.Carried.{DifferencesAreMarked, Takes}
 use Rattle.pm_apply.specs.Part.{orders_in, part_of}
@@ -10,12 +9,8 @@ use Rattle.pm_state.specs.Values.{value}
 use Rattle.pm_apply.proofs.AlikeLemmas.{alike_part}
 use Rattle.pm_apply.proofs.Below.{ChipLaws}
 use Rattle.pm_apply.proofs.CarryLemmas.{IsSafe, carried, stands_then}
-use Rattle.pm_apply.proofs.FailingLemmas.{told_then}
 use Rattle.pm_apply.proofs.RestsLemmas.{rests_marked, rests_takes, rests_told}
 use Rattle.pm_apply.proofs.commands.carry.Goals as goal
-
-pub take_turns-requires-clause-ready : goal.take_turns-requires-clause-ready
-take_turns-requires-clause-ready g c = c.begin-left.ensures.followed.ready
 
 pub returns-then-is_at_rest : goal.returns-then-is_at_rest
 returns-then-is_at_rest g c =
@@ -68,12 +63,12 @@ returns-then-is_at_rest g c =
 pub returns : goal.returns
 returns g c =
     let kept = c.args.kept.now in
-    let left = c.end-out.new.kept in
+    let left = c.carry_on.new.kept in
     let book = c.args.book.now in
-    let turned = c.take_turns.new.out in
-    let out : Outbox = record turned { answer = c.end-out.result } in
+    let out = c.carry_on.new.out in
     let dev = c.args.dev.now in
-    let well = c.take_turns.ensures.formed in
+    let goes = c.carry_on.ensures in
+    let well = c.stays_sound.ensures.formed in
     let safe : (answers : List Bool) (outputs : Outputs) → IsSafe kept book (part_of kept answers book outputs) = λ answers outputs. record {
       ordered = c.each_part_is_safe.ensures.ordered kept answers book outputs well c.requires.«record»;
       explained = c.each_part_is_safe.ensures.explained kept answers book outputs well c.requires.«record»;
@@ -82,16 +77,16 @@ returns g c =
       marks = c.each_part_is_safe.ensures.marks kept answers book outputs well c.requires.«record»;
       follows = c.each_part_is_safe.ensures.values kept answers book outputs well c.requires.«record»;
     } in
-    let step = carried g.D.Device.Does kept c.begin-left.new.kept c.take_turns.new.kept left book c.args.out.now out dev c.take_turns.new.dev
-    safe (alike_part (record { units = c.units_stand_in_order.ensures; kinds = c.kinds_are_exact.ensures; table = c.unit_maps.ensures }) c.begin-left.new.kept kept book c.begin-left.ensures.alike) c.requires.fresh c.take_turns.ensures.takes
-    (told_then (λ u. value u book) c.args.out.now turned c.end-out.result left c.take_turns.ensures.rest c.end-out.ensures.answer) c.end-out.ensures.kept
+    let step = carried g.D.Device.Does kept goes.start goes.left left book c.args.out.now out dev c.carry_on.new.dev
+    safe (alike_part (record { units = c.units_stand_in_order.ensures; kinds = c.kinds_are_exact.ensures; table = c.unit_maps.ensures }) goes.start kept book goes.alike) c.requires.fresh goes.takes
+    goes.answer goes.marks
     in
-    let shown = c.chain_shows.ensures (orders_in out) dev c.take_turns.new.dev step.given in
+    let shown = c.chain_shows.ensures (orders_in out) dev c.carry_on.new.dev step.given in
     record {
       part = step.part;
       given = step.given;
       shown = shown;
-      stands = λ seen stands. stands_then (orders_in out) kept left (g.D.Device.state dev) (g.D.Device.state c.take_turns.new.dev) step.safe.follows (shown.values seen) stands;
+      stands = λ seen stands. stands_then (orders_in out) kept left (g.D.Device.state dev) (g.D.Device.state c.carry_on.new.dev) step.safe.follows (shown.values seen) stands;
       marks = step.safe.marks;
       ordered = step.safe.ordered;
       explained = step.safe.explained;
@@ -99,9 +94,9 @@ returns g c =
       «record» = step.safe.record_of;
       room = search rules;
       ready = search rules;
-      moved = search rules;
-      pulse = search rules;
-      starts = search rules;
-      late = search rules;
-      callbacks = search rules;
+      moved = goes.rest.moved;
+      pulse = goes.rest.pulse;
+      starts = goes.rest.starts;
+      late = goes.rest.late;
+      callbacks = goes.rest.callbacks;
     }

@@ -32,3 +32,7 @@ returns-clause-uses c =
     subst P (sym c.set_at.ensures.entries)
     (uses_changed c.args.values.now c.args.uses.now c.requires.uses c.args.place c.in-Some.found (sym c.entry.ensures ∙ c.in-Some.is) (record c.in-Some.found.1 { value = c.args.command.value })
     c.change.new.self c.change.ensures.room c.change.ensures.counts)
+
+pub returns-clause-before : goal.returns-clause-before
+returns-clause-before c =
+    ap (λ (k : KeptValue). k.value) (kept_there c.units_stand_in_order.ensures c.args.command.unit c.args.values.now c.args.place c.len-units.ensures.rising c.requires.place c.in-Some.found (sym c.entry.ensures ∙ c.in-Some.is))
