@@ -1,4 +1,3 @@
-pub mod DigitsLemmas
 pub mod ExitsLemmas
 pub mod LineLemmas
 pub mod ReachLemmas

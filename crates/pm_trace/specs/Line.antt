@@ -32,6 +32,15 @@ numbers values = map Number values
 abbrev pub after_space : Word → List ℕ
 after_space word = 32 ∷ word_text word
 
+-- words, each with the space before it, before what follows them
+abbrev pub spaced : List Word → List ℕ → List ℕ
+spaced [] rest = rest
+spaced (word ∷ words) rest = after_space word ++ spaced words rest
+
 -- a line: its words with one space between them, and a line feed at the end
 abbrev pub line_text : List Word → List ℕ
 line_text words = join_with_byte 32 (map word_text words) ++ 10 ∷ []
+
+-- what contracts see of a line of output: its bytes
+pub record LineBytes : Type 0 where
+  pub items : List ℕ

@@ -18,4 +18,4 @@ pub use line::{TextLine, Word, name, write_line};
 pub use notes::{busy_line, call_line, clock_line, late_line, no_task_line, task_line};
 pub use reach::reach_text;
 pub use report::refuse;
-pub use step::{StepLine, entries, entry};
+pub use step::{StepLine, answer_entry, command_entry, entries, entry, is_told};

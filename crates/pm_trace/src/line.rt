@@ -1,16 +1,58 @@
 //! A line of output, made of words.
 
-ghost use Rattle.std.specs.Prelude.{◌≡◌, ◌+◌, ◌/◌, ◌%◌, ◌<◌, ◌≤◌, ◌++◌, ◌∷◌, [], length, decimal};
-ghost use Rattle.arrayvec.specs.ArrayVec.{array_vec_len};
+ghost use Rattle.std.specs.Prelude.{◌≡◌, ◌+◌, ◌≤◌, ◌++◌, ◌∷◌, [], length, drop, decimal};
 ghost use Rattle.pm_trace.specs.declared.line.Word.TheVariants as word;
-ghost use Rattle.pm_trace.specs.Line.{word_text, line_text, numbers, width, widths};
+ghost use Rattle.pm_trace.specs.Line.{word_text, line_text, spaced, width, widths};
 
-use arrayvec::ArrayVec;
-use itoa::Buffer;
+use itoa::{Buffer, write_digits};
 use std::marker::Model;
 
-/// A line of output with its line feed.
-pub type TextLine = ArrayVec<u8, 128>;
+/// A line of output with its line feed. Contracts see its bytes.
+///
+/// It is made from its end to its front, as the digits of a number are found.
+#[derive(Drop)]
+pub struct TextLine {
+    pub(crate) text: [u8; 128],
+    pub(crate) start: usize,
+}
+
+impl Model for TextLine {
+    ghost use Rattle.std.specs.Prelude.{◌≤◌, drop};
+    ghost use Rattle.pm_trace.specs.Line.{LineBytes};
+
+    ghost Value = { LineBytes };
+
+    ghost view = { λ line. record { items = drop line.start line.text } };
+
+    ghost invariant = { λ line. line.start ≤ 128 };
+}
+
+impl TextLine {
+    /// A line without bytes.
+    pub fn new() -> TextLine
+        ensures { result.items ≡ [] }
+    {
+        TextLine {
+            text: [0; 128],
+            start: 128,
+        }
+    }
+
+    /// Its bytes.
+    pub fn as_slice(&self) -> &[u8]
+        ensures value { result.now ≡ self.now.items }
+        ensures fits { length result.now ≤ 128 }
+    {
+        &self.text[self.start..]
+    }
+
+    /// Takes all bytes out of it.
+    pub fn clear(&mut self)
+        ensures { self.new.items ≡ [] }
+    {
+        self.start = 128;
+    }
+}
 
 /// A text that the program itself holds. In a contract it is its bytes.
 #[derive(Drop)]
@@ -50,119 +92,130 @@ pub fn name(text: &'static [u8]) -> Word
 }
 
 /// Leaves a line of these words, with one space between them and a line feed at the end.
+#[tactic(auto, using(crate::proofs::LineLemmas::line_is))]
 pub fn write_line(line: &mut TextLine, first: Word, rest: &[Word])
     requires room { widths (first ∷ rest.now) ≤ 127 }
     ensures { line.new.items ≡ line_text (first ∷ rest.now) }
 {
-    line.clear();
-    push_word(line, &first);
-    for word in rest {
-        line.push(b' ');
-        push_word(line, word);
-    }
-    line.push(b'\n');
+    let at = put_words(&mut line.text, rest);
+    line.start = put_word(&mut line.text, at, &first);
 }
 
-/// Leaves a line of a number, a name and more numbers, with one space between them and a line feed at the end.
-pub fn write_numbers(line: &mut TextLine, n: u32, kind: &'static [u8], rest: &[u32])
-    requires short { length kind.now ≤ 8 }
-    requires few { length rest.now ≤ 9 }
-    ensures { line.new.items ≡ line_text (word.Number n ∷ word.Name kind.now ∷ numbers rest.now) }
+/// Puts words, each with a space before it, before the line feed at the end of a line. Answers where they begin.
+fn put_words(text: &mut [u8; 128], words: &[Word]) -> usize
+    requires room { widths words.now ≤ 127 }
+    ensures room { 127 ≤ result + widths words.now }
+    ensures within { result ≤ 127 }
+    ensures text { drop result text.new ≡ spaced words.now (10 ∷ []) }
 {
-    line.clear();
-    push_number(line, n);
-    line.push(b' ');
-    push_text(line, kind);
-    for number in rest {
-        line.push(b' ');
-        push_number(line, *number);
-    }
-    line.push(b'\n');
-}
-
-/// Puts a word at the end of a line.
-fn push_word(line: &mut TextLine, word: &Word)
-    requires room { array_vec_len line.old + width word.now ≤ 128 }
-    ensures items { line.new.items ≡ line.old.items ++ word_text word.now }
-    ensures len { array_vec_len line.new ≤ array_vec_len line.old + width word.now }
-{
-    match word {
-        Word::Number(n) => push_number(line, *n),
-        _ => push_other(line, word),
-    }
-}
-
-/// Puts a word that is no number of 32 bits at the end of a line.
-fn push_other(line: &mut TextLine, word: &Word)
-    requires room { array_vec_len line.old + width word.now ≤ 128 }
-    ensures items { line.new.items ≡ line.old.items ++ word_text word.now }
-    ensures len { array_vec_len line.new ≤ array_vec_len line.old + width word.now }
-{
-    match word {
-        Word::Name(text) => push_text(line, text.bytes()),
-        _ => {
-            let mut buffer = Buffer::new();
-            push_text(line, text_of(word, &mut buffer));
+    match words {
+        [] => put_feed(text),
+        [word, rest @ ..] => {
+            let at = put_words(text, rest);
+            let at = put_word(text, at, word);
+            put_space(text, at)
         }
     }
 }
 
-/// Puts a number at the end of a line.
-fn push_number(line: &mut TextLine, n: u32)
-    requires room { array_vec_len line.old + 10 ≤ 128 }
-    ensures items { line.new.items ≡ line.old.items ++ decimal n }
-    ensures len { array_vec_len line.new ≤ array_vec_len line.old + 10 }
+/// Puts a word before what stands from `at` on. Answers where it begins.
+fn put_word(text: &mut [u8; 128], at: usize, word: &Word) -> usize
+    requires room { width word.now ≤ at }
+    requires within { at ≤ 128 }
+    ensures room { at ≤ result + width word.now }
+    ensures within { result ≤ at }
+    ensures text { drop result text.new ≡ word_text word.now ++ drop at text.old }
+{
+    let mut buffer = Buffer::new();
+    put_text(text, at, text_of(word, &mut buffer))
+}
+
+/// Puts bytes before what stands from `at` on. Answers where they begin.
+fn put_text(text: &mut [u8; 128], at: usize, bytes: &[u8]) -> usize
+    requires room { length bytes.now ≤ at }
+    requires within { at ≤ 128 }
+    ensures room { result + length bytes.now ≡ at }
+    ensures text { drop result text.new ≡ bytes.now ++ drop at text.old }
+{
+    let from = at - bytes.len();
+    text[from..at].copy_from_slice(bytes);
+    from
+}
+
+/// Puts the line feed at the end of a line. Answers where it stands.
+pub(crate) fn put_feed(text: &mut [u8; 128]) -> usize
+    ensures at { result ≡ 127 }
+    ensures text { drop result text.new ≡ 10 ∷ [] }
+{
+    text[127] = b'\n';
+    127
+}
+
+/// Puts a space before what stands from `at` on. Answers where it stands.
+fn put_space(text: &mut [u8; 128], at: usize) -> usize
+    requires room { 1 ≤ at }
+    requires within { at ≤ 128 }
+    ensures room { result + 1 ≡ at }
+    ensures text { drop result text.new ≡ 32 ∷ drop at text.old }
+{
+    text[at - 1] = b' ';
+    at - 1
+}
+
+/// Puts a number, with a space before it, before what stands from `at` on. Answers where the space stands.
+pub(crate) fn put_number(text: &mut [u8; 128], at: usize, n: u32) -> usize
+    requires room { 11 ≤ at }
+    requires within { at ≤ 128 }
+    ensures room { at ≤ result + 11 }
+    ensures within { result ≤ at }
+    ensures text { drop result text.new ≡ 32 ∷ (decimal n ++ drop at text.old) }
+{
+    let at = put_digits(text, at, n);
+    put_space(text, at)
+}
+
+/// Puts an address, with a space before it, before what stands from `at` on. Answers where the space stands.
+pub(crate) fn put_address(text: &mut [u8; 128], at: usize, address: u64) -> usize
+    requires room { 21 ≤ at }
+    requires within { at ≤ 128 }
+    ensures room { at ≤ result + 21 }
+    ensures within { result ≤ at }
+    ensures text { drop result text.new ≡ 32 ∷ (decimal address ++ drop at text.old) }
+{
+    let at = write_digits(address, text, at);
+    put_space(text, at)
+}
+
+/// Puts the digits of a number before what stands from `at` on. Answers where they begin.
+pub(crate) fn put_digits(text: &mut [u8; 128], at: usize, n: u32) -> usize
+    requires room { 10 ≤ at }
+    requires within { at ≤ 128 }
+    ensures room { at ≤ result + 10 }
+    ensures within { result ≤ at }
+    ensures text { drop result text.new ≡ decimal n ++ drop at text.old }
 {
     if n < 10 {
-        line.push(digit(n));
+        text[at - 1] = b'0' + n as u8;
+        at - 1
     } else {
-        push_digits(line, n);
+        write_digits(n as u64, text, at)
     }
 }
 
-/// Puts the digits of a number at the end of a line, two at a time.
-#[tactic(auto, using(std::proofs::lemmas::Fmt::decimal_digit))]
-fn push_digits(line: &mut TextLine, n: u32)
-    requires room { array_vec_len line.old + length (decimal n) ≤ 128 }
-    ensures items { line.new.items ≡ line.old.items ++ decimal n }
-    ensures len { array_vec_len line.new ≡ array_vec_len line.old + length (decimal n) }
+/// Puts a name before what stands from `at` on. Answers where it begins.
+pub(crate) fn put_name<const N: usize>(text: &mut [u8; 128], at: usize, name: &[u8; N]) -> usize
+    requires room { N ≤ at }
+    requires within { at ≤ 128 }
+    ensures room { result + N ≡ at }
+    ensures text { drop result text.new ≡ name.now ++ drop at text.old }
 {
-    match n {
-        0..=9 => line.push(digit(n)),
-        10..=99 => push_pair(line, n),
-        _ => {
-            push_digits(line, n / 100);
-            push_pair(line, n % 100);
-        }
+    let from = at - N;
+    let mut left = N;
+    while left > 0 {
+        left -= 1;
+        text[from + left] = name[left];
     }
-}
-
-/// Puts two digits at the end of a line.
-fn push_pair(line: &mut TextLine, n: u32)
-    requires small { n < 100 }
-    requires room { array_vec_len line.old + 2 ≤ 128 }
-    ensures items { line.new.items ≡ line.old.items ++ (48 + n / 10) ∷ (48 + n % 10) ∷ [] }
-    ensures len { array_vec_len line.new ≡ array_vec_len line.old + 2 }
-{
-    line.push(digit(n / 10));
-    line.push(digit(n % 10));
-}
-
-/// The byte of a digit.
-fn digit(n: u32) -> u8
-    requires { n < 10 }
-    ensures { result ≡ 48 + n }
-{
-    b'0' + n as u8
-}
-
-/// Puts bytes at the end of a line.
-fn push_text(line: &mut TextLine, text: &[u8])
-    requires room { array_vec_len line.old + length text.now ≤ 128 }
-    ensures items { line.new.items ≡ line.old.items ++ text.now }
-    ensures len { array_vec_len line.new ≡ array_vec_len line.old + length text.now }
-{
-    line.try_extend_from_slice(text).unwrap();
+    from
 }
 
 /// The bytes of a word. The buffer holds those of a number.

@@ -1,15 +1,15 @@
 //! The lines of one core step.
 
-ghost use Rattle.std.specs.Prelude.{◌≡◌, ◌<◌, ◌≤◌, ◌+◌, ◌-◌, ◌∷◌, [], Some, None, IfSome, IsTrue, MatchResult, is_some, length, map, slice_get};
-ghost use Rattle.pm_trace.specs.declared.line.Word.TheVariants as word;
+ghost use Rattle.std.specs.Prelude.{◌≡◌, ◌<◌, ◌≤◌, ◌+◌, ◌-◌, ◌++◌, ◌∷◌, [], Some, None, IfSome, IsTrue, MatchResult, decimal, drop, is_some, length, map, slice_get};
+ghost use Rattle.pm_trace.specs.Line.{spaced};
 ghost use Rattle.pm_trace.specs.declared.step.StepLine.TheVariants as told;
 ghost use Rattle.pm_trace.specs.Step.{answer_line, command_name, core_lines, late_line, notices_in, numbered_line, output_words, step_words};
 
-use crate::line::{TextLine, Word, name, write_line, write_numbers};
+use crate::line::{TextLine, put_address, put_digits, put_feed, put_name, put_number};
 use pm_base::{NodeId, Unit};
 use pm_core::{Answer, Callback, Done, Late, Outbox, Start};
+use pm_ipi::Response;
 use pm_ipi::callbacks::ACKNOWLEDGE;
-use pm_ipi::{Response, callback_words, respond};
 
 /// What one line of a core step tells. Contracts speak of lines by it.
 #[derive(Clone, Copy, Debug, PartialEq, Eq)]
@@ -43,145 +43,194 @@ pub fn entry(n: u32, out: &Outbox, answer: &Answer, k: usize, line: &mut TextLin
     requires place { k < length (output_words out.now.done.items (notices_in out.now) answer.now) }
     ensures { slice_get (core_lines n out.now.done.items (notices_in out.now) answer.now) k ≡ Some line.new.items }
 {
+    line.start = put_entry(&mut line.text, n, out, answer, k);
+}
+
+/// Leaves in `line` the line of a command that was issued in a core step of script line `n`, with its line feed.
+pub fn command_entry(n: u32, done: &Done, line: &mut TextLine)
+    ensures { line.new.items ≡ numbered_line n (step_words (told.Command done.now)) }
+{
+    line.start = put_command(&mut line.text, n, done);
+}
+
+/// Leaves in `line` the line of an answer of which one is written, to a core step of script line `n`, with its line feed.
+pub fn answer_entry(n: u32, answer: &Answer, line: &mut TextLine)
+    requires { IsTrue (is_some (answer_line answer.now)) }
+    ensures { IfSome (answer_line answer.now) (λ told. line.new.items ≡ numbered_line n (step_words told)) }
+{
+    line.start = put_answer(&mut line.text, n, answer);
+}
+
+/// Puts the `k`-th line of a core step at the end of a text. Answers where it begins.
+fn put_entry(text: &mut [u8; 128], n: u32, out: &Outbox, answer: &Answer, k: usize) -> usize
+    requires place { k < length (output_words out.now.done.items (notices_in out.now) answer.now) }
+    ensures within { result ≤ 128 }
+    ensures text { slice_get (core_lines n out.now.done.items (notices_in out.now) answer.now) k ≡ Some (drop result text.new) }
+{
     let k = match at(out.done.as_slice(), k) {
-        Ok(done) => return write_command(n, done, line),
+        Ok(done) => return put_command(text, n, done),
         Err(k) => k,
     };
     let k = match at(out.starts.as_slice(), k) {
-        Ok(start) => return write_start(n, start, line),
+        Ok(start) => return put_start(text, n, start),
         Err(k) => k,
     };
     let k = match at(out.late.as_slice(), k) {
-        Ok(late) => return write_late(n, late, line),
+        Ok(late) => return put_late(text, n, late),
         Err(k) => k,
     };
     match at(out.callbacks.as_slice(), k) {
-        Ok(callback) => write_call(n, callback, line),
-        Err(_) => write_answer(n, answer, line),
+        Ok(call) => put_call(text, n, call.master, call.id, &call.args),
+        Err(_) => put_answer(text, n, answer),
     }
 }
 
 /// The element at a place, or else how far the place is past the last one.
-fn at<T: Copy>(items: &[T], k: usize) -> Result<T, usize>
-    ensures { MatchResult result (λ item. slice_get items.now k ≡ Some item) (λ past. (slice_get items.now k ≡ None)
+fn at<T>(items: &[T], k: usize) -> Result<&T, usize>
+    ensures { MatchResult result (λ item. slice_get items.now k ≡ Some item.now) (λ past. (slice_get items.now k ≡ None)
         × (past ≡ k - length items.now)) }
 {
     match items.get(k) {
-        Some(item) => Ok(*item),
+        Some(item) => Ok(item),
         None => Err(k - items.len()),
     }
 }
 
 /// Whether a line is written of an answer.
-fn is_told(answer: &Answer) -> bool
+pub fn is_told(answer: &Answer) -> bool
     ensures { result ≡ is_some (answer_line answer.now) }
 {
     !matches!(answer, Answer::Silent | Answer::Ack { shown: false, .. })
 }
 
-/// Leaves in `line` the line of an answer of which one is written.
-fn write_answer(n: u32, answer: &Answer, line: &mut TextLine)
+/// Puts the line of an answer of which one is written. Answers where it begins.
+fn put_answer(text: &mut [u8; 128], n: u32, answer: &Answer) -> usize
     requires { IsTrue (is_some (answer_line answer.now)) }
-    ensures { IfSome (answer_line answer.now) (λ told. line.new.items ≡ numbered_line n (step_words told)) }
+    ensures within { result ≤ 128 }
+    ensures text { IfSome (answer_line answer.now) (λ told. drop result text.new ≡ numbered_line n (step_words told)) }
 {
-    match *answer {
-        Answer::Silent => {}
-        Answer::Drop { master } => write_numbers(line, n, b"drop", &[master.0]),
-        Answer::Reply { master, response } => write_reply(n, master, &response, line),
+    match answer {
+        Answer::Silent => 128,
+        Answer::Drop { master } => put_drop(text, n, *master),
+        Answer::Reply { master, response } => put_reply(text, n, *master, response),
         Answer::Ack {
             master,
             node,
             status,
             point,
             ..
-        } => write_call(
-            n,
-            Callback {
-                master,
-                id: ACKNOWLEDGE,
-                args: [node.0, status, point, 0],
-            },
-            line,
-        ),
+        } => put_call(text, n, *master, ACKNOWLEDGE, &[node.0, *status, *point, 0]),
     }
 }
 
-/// Leaves in `line` the line of a processor that starts.
-fn write_start(n: u32, start: Start, line: &mut TextLine)
-    ensures { line.new.items ≡ numbered_line n (step_words (told.Start start)) }
+/// Puts the line of a processor that starts. Answers where it begins.
+#[tactic(auto, using(crate::proofs::LineLemmas::line_is))]
+fn put_start(text: &mut [u8; 128], n: u32, start: &Start) -> usize
+    ensures within { result ≤ 128 }
+    ensures text { drop result text.new ≡ numbered_line n (step_words (told.Start start.now)) }
 {
-    write_line(
-        line,
-        Word::Number(n),
-        &[
-            name(b"run"),
-            Word::Number(start.proc.0),
-            Word::Address(start.address),
-        ],
-    );
+    let at = put_feed(text);
+    let at = put_address(text, at, start.address);
+    let at = put_number(text, at, start.proc.0);
+    let at = put_name(text, at, b" run");
+    put_digits(text, at, n)
 }
 
-/// Leaves in `line` the line of a late reply, which tells its status alone.
-fn write_late(n: u32, late: Late, line: &mut TextLine)
-    ensures { line.new.items ≡ numbered_line n (step_words (late_line late)) }
+/// Puts the line of a late reply, which tells its status alone. Answers where it begins.
+fn put_late(text: &mut [u8; 128], n: u32, late: &Late) -> usize
+    ensures within { result ≤ 128 }
+    ensures text { drop result text.new ≡ numbered_line n (step_words (late_line late.now)) }
 {
     let response = Response {
         status: late.status,
         words: [0; 3],
     };
-    write_reply(n, late.master, &response, line);
+    put_reply(text, n, late.master, &response)
 }
 
-/// Leaves in `line` the line of a command that was issued.
-fn write_command(n: u32, done: Done, line: &mut TextLine)
-    ensures { line.new.items ≡ numbered_line n (step_words (told.Command done)) }
+/// Puts the line of a command that was issued. Answers where it begins.
+fn put_command(text: &mut [u8; 128], n: u32, done: &Done) -> usize
+    ensures within { result ≤ 128 }
+    ensures text { drop result text.new ≡ numbered_line n (step_words (told.Command done.now)) }
 {
-    let (kind, number) = command_name(done.command.unit, done.ok);
-    write_numbers(line, n, kind, &[number, done.from, done.command.value]);
+    let at = put_feed(text);
+    let at = put_number(text, at, done.command.value);
+    let at = put_number(text, at, done.from);
+    let at = put_unit(text, at, done.command.unit, done.ok);
+    put_digits(text, at, n)
 }
 
-/// What a command is called, by its unit and whether the device took it, and the number of the unit.
-fn command_name(unit: Unit, ok: bool) -> (&'static [u8], u32)
-    ensures words { command_name unit ok ≡ word.Name result.0.now ∷ word.Number result.1 ∷ [] }
-    ensures short { length result.0.now ≤ 8 }
+/// Puts what a command is called, by its unit and whether the device took it, and the number of the unit, before what
+/// stands from `at` on. Answers where it begins.
+fn put_unit(text: &mut [u8; 128], at: usize, unit: Unit, ok: bool) -> usize
+    requires room { 20 ≤ at }
+    requires within { at ≤ 128 }
+    ensures room { at ≤ result + 20 }
+    ensures within { result ≤ at }
+    ensures text { drop result text.new ≡ spaced (command_name unit ok) (drop at text.old) }
 {
     match (unit, ok) {
-        (Unit::Node(node), true) => (b"set", node.0),
-        (Unit::Node(node), false) => (b"fail", node.0),
-        (Unit::Line(reset), true) => (b"line", reset.0),
-        (Unit::Line(reset), false) => (b"linefail", reset.0),
+        (Unit::Node(node), true) => put_named(text, at, b" set", node.0),
+        (Unit::Node(node), false) => put_named(text, at, b" fail", node.0),
+        (Unit::Line(reset), true) => put_named(text, at, b" line", reset.0),
+        (Unit::Line(reset), false) => put_named(text, at, b" linefail", reset.0),
     }
 }
 
-/// Leaves in `line` the line of a reply.
-fn write_reply(n: u32, master: NodeId, response: &Response, line: &mut TextLine)
-    ensures { line.new.items ≡ numbered_line n (step_words (told.Reply master response.now)) }
+/// Puts a name and a number before what stands from `at` on. Answers where the name begins.
+fn put_named<const N: usize>(text: &mut [u8; 128], at: usize, name: &[u8; N], number: u32) -> usize
+    requires short { N ≤ 9 }
+    requires room { 20 ≤ at }
+    requires within { at ≤ 128 }
+    ensures room { at ≤ result + 20 }
+    ensures within { result ≤ at }
+    ensures text { drop result text.new ≡ name.now ++ 32 ∷ (decimal number ++ drop at text.old) }
 {
-    let words = respond(response);
-    write_numbers(
-        line,
-        n,
-        b"reply",
-        &[master.0, words[0], words[1], words[2], words[3]],
-    );
+    let at = put_number(text, at, number);
+    put_name(text, at, name)
 }
 
-/// Leaves in `line` the line of a callback.
-fn write_call(n: u32, callback: Callback, line: &mut TextLine)
-    ensures { line.new.items ≡ numbered_line n (step_words (told.Call callback)) }
+/// Puts the line of a reply. Answers where it begins.
+#[tactic(auto, using(crate::proofs::LineLemmas::line_is))]
+fn put_reply(text: &mut [u8; 128], n: u32, master: NodeId, response: &Response) -> usize
+    ensures within { result ≤ 128 }
+    ensures text { drop result text.new ≡ numbered_line n (step_words (told.Reply master response.now)) }
 {
-    let words = callback_words(callback.id, callback.args);
-    write_numbers(
-        line,
-        n,
-        b"call",
-        &[
-            callback.master.0,
-            words[0],
-            words[1],
-            words[2],
-            words[3],
-            words[4],
-        ],
-    );
+    let at = put_feed(text);
+    let at = put_number(text, at, response.words[2]);
+    let at = put_number(text, at, response.words[1]);
+    let at = put_number(text, at, response.words[0]);
+    let at = put_number(text, at, response.status);
+    let at = put_number(text, at, master.0);
+    let at = put_name(text, at, b" reply");
+    put_digits(text, at, n)
+}
+
+/// Puts the line of a message that is dropped. Answers where it begins.
+#[tactic(auto, using(crate::proofs::LineLemmas::line_is))]
+fn put_drop(text: &mut [u8; 128], n: u32, master: NodeId) -> usize
+    ensures within { result ≤ 128 }
+    ensures text { drop result text.new ≡ numbered_line n (step_words (told.Drop master)) }
+{
+    let at = put_feed(text);
+    let at = put_number(text, at, master.0);
+    let at = put_name(text, at, b" drop");
+    put_digits(text, at, n)
+}
+
+/// Puts the line of a callback, of which these are the number and the arguments. Answers where it begins.
+fn put_call(text: &mut [u8; 128], n: u32, master: NodeId, id: u32, args: &[u32; 4]) -> usize
+    ensures within { result ≤ 128 }
+    ensures text { drop result text.new
+        ≡ numbered_line n (step_words (told.Call (record { master = master; id = id; args = args.now }))) }
+{
+    let at = put_feed(text);
+    let at = put_number(text, at, args[3]);
+    let at = put_number(text, at, args[2]);
+    let at = put_number(text, at, args[1]);
+    let at = put_number(text, at, args[0]);
+    let at = put_number(text, at, id);
+    let at = put_number(text, at, master.0);
+    let at = put_name(text, at, b" call");
+    put_digits(text, at, n)
 }

@@ -4,56 +4,56 @@ use Rattle.pm_trace.specs.declared.step.StepLine.{StepLine}
 use Rattle.pm_trace.specs.declared.step.StepLine.TheVariants as told
 use Rattle.pm_trace.specs.Step.{answer_line, late_line, notices_in, step_words, told_lines}
 use Rattle.pm_trace.proofs.StepLemmas.{in_items, last_told, line_told, past_items, some_last}
-use Rattle.pm_trace.proofs.step.entry.Goals as goal
+use Rattle.pm_trace.proofs.step.put_entry.Goals as goal
 
-pub returns-in-Ok : goal.returns-in-Ok
-returns-in-Ok c =
+pub returns-in-Ok-clause-text : goal.returns-in-Ok-clause-text
+returns-in-Ok-clause-text c =
     let out = c.args.out.now in
     let answers : List StepLine = option_to_list (answer_line c.args.answer.now) in
     let calls : List StepLine = map told.Call out.callbacks.items ++ answers in
     let late : List StepLine = map late_line out.late.items ++ calls in
     let starts : List StepLine = map told.Start out.starts.items ++ late in
-    line_told c.args.n (told_lines out.done.items (notices_in out) c.args.answer.now) c.args.k (told.Command c.in-Ok.done) _
-    (in_items told.Command out.done.items _ starts c.args.k c.in-Ok.done c.as_slice.ensures c.in-Ok.ensures) c.write_command.ensures
+    line_told c.args.n (told_lines out.done.items (notices_in out) c.args.answer.now) c.args.k (told.Command c.in-Ok.done.now) _
+    (in_items told.Command out.done.items _ starts c.args.k c.in-Ok.done.now c.as_slice.ensures c.in-Ok.ensures) c.put_command.ensures.text
 
-pub returns-in-Ok-at : goal.returns-in-Ok-at
-returns-in-Ok-at c =
+pub returns-in-Ok-at-clause-text : goal.returns-in-Ok-at-clause-text
+returns-in-Ok-at-clause-text c =
     let out = c.args.out.now in
     let answers : List StepLine = option_to_list (answer_line c.args.answer.now) in
     let calls : List StepLine = map told.Call out.callbacks.items ++ answers in
     let late : List StepLine = map late_line out.late.items ++ calls in
     let starts : List StepLine = map told.Start out.starts.items ++ late in
-    line_told c.args.n (told_lines out.done.items (notices_in out) c.args.answer.now) c.args.k (told.Start c.in-Ok-at.start) _
-    (in_items told.Start out.starts.items _ late c.in-Err.k c.in-Ok-at.start c.as_slice-2.ensures c.in-Ok-at.ensures
-    ∙ past_items told.Command out.done.items _ starts c.args.k c.in-Err.k c.as_slice.ensures c.in-Err.ensures.0 c.in-Err.ensures.1) c.write_start.ensures
+    line_told c.args.n (told_lines out.done.items (notices_in out) c.args.answer.now) c.args.k (told.Start c.in-Ok-at.start.now) _
+    (in_items told.Start out.starts.items _ late c.in-Err.k c.in-Ok-at.start.now c.as_slice-2.ensures c.in-Ok-at.ensures
+    ∙ past_items told.Command out.done.items _ starts c.args.k c.in-Err.k c.as_slice.ensures c.in-Err.ensures.0 c.in-Err.ensures.1) c.put_start.ensures.text
 
-pub returns-in-Ok-at-2 : goal.returns-in-Ok-at-2
-returns-in-Ok-at-2 c =
+pub returns-in-Ok-at-2-clause-text : goal.returns-in-Ok-at-2-clause-text
+returns-in-Ok-at-2-clause-text c =
     let out = c.args.out.now in
     let answers : List StepLine = option_to_list (answer_line c.args.answer.now) in
     let calls : List StepLine = map told.Call out.callbacks.items ++ answers in
     let late : List StepLine = map late_line out.late.items ++ calls in
     let starts : List StepLine = map told.Start out.starts.items ++ late in
-    line_told c.args.n (told_lines out.done.items (notices_in out) c.args.answer.now) c.args.k (late_line c.in-Ok-at-2.late) _
-    (in_items late_line out.late.items _ calls c.in-Err-at.k c.in-Ok-at-2.late c.as_slice-3.ensures c.in-Ok-at-2.ensures
+    line_told c.args.n (told_lines out.done.items (notices_in out) c.args.answer.now) c.args.k (late_line c.in-Ok-at-2.late.now) _
+    (in_items late_line out.late.items _ calls c.in-Err-at.k c.in-Ok-at-2.late.now c.as_slice-3.ensures c.in-Ok-at-2.ensures
     ∙ (past_items told.Start out.starts.items _ late c.in-Err.k c.in-Err-at.k c.as_slice-2.ensures c.in-Err-at.ensures.0 c.in-Err-at.ensures.1
-    ∙ past_items told.Command out.done.items _ starts c.args.k c.in-Err.k c.as_slice.ensures c.in-Err.ensures.0 c.in-Err.ensures.1)) c.write_late.ensures
+    ∙ past_items told.Command out.done.items _ starts c.args.k c.in-Err.k c.as_slice.ensures c.in-Err.ensures.0 c.in-Err.ensures.1)) c.put_late.ensures.text
 
-pub returns-in-Ok-at-3 : goal.returns-in-Ok-at-3
-returns-in-Ok-at-3 c =
+pub returns-in-Ok-at-3-clause-text : goal.returns-in-Ok-at-3-clause-text
+returns-in-Ok-at-3-clause-text c =
     let out = c.args.out.now in
     let answers : List StepLine = option_to_list (answer_line c.args.answer.now) in
     let calls : List StepLine = map told.Call out.callbacks.items ++ answers in
     let late : List StepLine = map late_line out.late.items ++ calls in
     let starts : List StepLine = map told.Start out.starts.items ++ late in
-    line_told c.args.n (told_lines out.done.items (notices_in out) c.args.answer.now) c.args.k (told.Call c.in-Ok-at-3.callback) _
-    (in_items told.Call out.callbacks.items _ answers c.in-Err-at-2.k c.in-Ok-at-3.callback c.as_slice-4.ensures c.in-Ok-at-3.ensures
+    line_told c.args.n (told_lines out.done.items (notices_in out) c.args.answer.now) c.args.k (told.Call c.in-Ok-at-3.call.now) _
+    (in_items told.Call out.callbacks.items _ answers c.in-Err-at-2.k c.in-Ok-at-3.call.now c.as_slice-4.ensures c.in-Ok-at-3.ensures
     ∙ (past_items late_line out.late.items _ calls c.in-Err-at.k c.in-Err-at-2.k c.as_slice-3.ensures c.in-Err-at-2.ensures.0 c.in-Err-at-2.ensures.1
     ∙ (past_items told.Start out.starts.items _ late c.in-Err.k c.in-Err-at.k c.as_slice-2.ensures c.in-Err-at.ensures.0 c.in-Err-at.ensures.1
-    ∙ past_items told.Command out.done.items _ starts c.args.k c.in-Err.k c.as_slice.ensures c.in-Err.ensures.0 c.in-Err.ensures.1))) c.write_call.ensures
+    ∙ past_items told.Command out.done.items _ starts c.args.k c.in-Err.k c.as_slice.ensures c.in-Err.ensures.0 c.in-Err.ensures.1))) c.put_call.ensures.text
 
-pub write_answer-requires : goal.write_answer-requires
-write_answer-requires c =
+pub put_answer-requires : goal.put_answer-requires
+put_answer-requires c =
     let out = c.args.out.now in
     let answers : List StepLine = option_to_list (answer_line c.args.answer.now) in
     let calls : List StepLine = map told.Call out.callbacks.items ++ answers in
@@ -67,8 +67,8 @@ write_answer-requires c =
     in
     there.1
 
-pub returns-in-Err-at-3 : goal.returns-in-Err-at-3
-returns-in-Err-at-3 c =
+pub returns-in-Err-at-3-clause-text : goal.returns-in-Err-at-3-clause-text
+returns-in-Err-at-3-clause-text c =
     let out = c.args.out.now in
     let answers : List StepLine = option_to_list (answer_line c.args.answer.now) in
     let calls : List StepLine = map told.Call out.callbacks.items ++ answers in
@@ -80,4 +80,4 @@ returns-in-Err-at-3 c =
     ∙ (past_items told.Start out.starts.items _ late c.in-Err.k c.in-Err-at.k c.as_slice-2.ensures c.in-Err-at.ensures.0 c.in-Err-at.ensures.1
     ∙ past_items told.Command out.done.items _ starts c.args.k c.in-Err.k c.as_slice.ensures c.in-Err.ensures.0 c.in-Err.ensures.1))) c.requires.place
     in
-    last_told c.args.n (told_lines out.done.items (notices_in out) c.args.answer.now) c.args.k (answer_line c.args.answer.now) _ there c.write_answer.ensures
+    last_told c.args.n (told_lines out.done.items (notices_in out) c.args.answer.now) c.args.k (answer_line c.args.answer.now) _ there c.put_answer.ensures.text

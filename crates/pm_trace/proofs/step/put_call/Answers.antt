@@ -1,0 +1,22 @@
+use Rattle.std.proofs.Common.{refl}
+use Rattle.pm_trace.specs.declared.line.Word.TheVariants as word
+use Rattle.pm_trace.specs.declared.step.StepLine.TheVariants as told
+use Rattle.pm_trace.specs.Step.{step_words}
+use Rattle.pm_trace.proofs.LineLemmas.{line_is}
+use Rattle.pm_trace.proofs.step.put_call.Goals as goal
+
+pub returns-clause-text : goal.returns-clause-text
+returns-clause-text c =
+    let words = step_words (told.Call (record { master = c.args.master; id = c.args.id; args = c.args.args.now })) in
+    rw (
+      line_is (word.Number c.args.n) words,
+      c.put_digits.ensures.text,
+      c.put_name-at.ensures.text,
+      c.put_number-at-6.ensures.text,
+      c.put_number-at-5.ensures.text,
+      c.put_number-at-4.ensures.text,
+      c.put_number-at-3.ensures.text,
+      c.put_number-at-2.ensures.text,
+      c.put_number-at.ensures.text,
+      c.put_feed-at.ensures.text,
+    ) refl
