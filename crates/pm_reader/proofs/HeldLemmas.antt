@@ -83,19 +83,20 @@ feed_at held text front at is front_is found =
     let size : length text ≡ length (within held) = ap (λ (xs : List ℕ). length xs) is in
     record { found = all.0; short = all.1; inside = all.2; fits = omega (arith, all.2, size, most_within held.credit held.bytes) }
 
-pub gave_by_feed : (held new : Held) (text line : List ℕ) (at : ℕ) → text ≡ within held → FeedAt held text at → line ≡ take at text → new.bytes ≡ drop (at + 1) held.bytes → new.credit ≡ held.credit → new.ended ≡ held.ended → GaveByFeed held line new
-gave_by_feed held new text line at is feed line_is bytes credit ended =
-    let size : length line ≡ at = ap (λ (xs : List ℕ). length xs) line_is ∙ length-take-le at text (omega (arith, feed.inside)) in
+pub gave_by_feed : (held new : Held) (text line : List ℕ) (at : ℕ) → text ≡ within held → position is_feed text ≡ Some at → line ≡ take at text → new.bytes ≡ drop (at + 1) held.bytes → new.credit ≡ held.credit → new.ended ≡ held.ended → GaveByFeed held line new
+gave_by_feed held new text line at is found line_is bytes credit ended =
+    let inside : at < length text = (position-Some is_feed text at 0 found).0 in
+    let size : length line ≡ at = ap (λ (xs : List ℕ). length xs) line_is ∙ length-take-le at text (omega (arith, inside)) in
     let length_is : length text ≡ length (within held) = ap (λ (xs : List ℕ). length xs) is in
-    let inside : at + 1 ≤ length (within held) = omega (arith, feed.inside, length_is) in
+    let fits : at + 1 ≤ length (within held) = omega (arith, inside, length_is) in
     let behind : length line + 1 ≡ at + 1 = omega (arith, size) in
     record {
-      place = ap (λ (xs : List ℕ). position is_feed xs) (sym is) ∙ (feed.found ∙ ap (λ (n : ℕ). Some n) (sym size));
+      place = ap (λ (xs : List ℕ). position is_feed xs) (sym is) ∙ (found ∙ ap (λ (n : ℕ). Some n) (sym size));
       front = line_is ∙ (ap (λ (xs : List ℕ). take at xs) is ∙ ap (λ (n : ℕ). take n (within held)) (sym size));
       rest = ap (λ (xs : List ℕ). within_limit new.credit xs) bytes
           ∙ (ap (λ (n : ℕ). within_limit n (drop (at + 1) held.bytes)) credit
-          ∙ (drop_within held.credit (at + 1) held.bytes inside ∙ ap (λ (n : ℕ). drop n (within held)) (sym behind)));
-      fewer = (let left : length new.bytes ≡ length (drop (at + 1) held.bytes) = ap (λ (xs : List ℕ). length xs) bytes in omega (arith, left, length-drop (at + 1) held.bytes, feed.fits));
+          ∙ (drop_within held.credit (at + 1) held.bytes fits ∙ ap (λ (n : ℕ). drop n (within held)) (sym behind)));
+      fewer = (let left : length new.bytes ≡ length (drop (at + 1) held.bytes) = ap (λ (xs : List ℕ). length xs) bytes in omega (arith, left, length-drop (at + 1) held.bytes, fits, most_within held.credit held.bytes));
       credit = credit;
       ended = ended;
     }

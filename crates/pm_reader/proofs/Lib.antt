@@ -7,5 +7,6 @@ pub mod Future
 pub mod FollowLemmas
 pub mod FrontLemmas
 pub mod StandsLemmas
+pub mod MeantLemmas
 pub mod Named
 pub mod AheadLemmas

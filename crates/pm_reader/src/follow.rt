@@ -9,11 +9,12 @@ ghost use Rattle.pm_block.specs.Pieces.{kept};
 ghost use Rattle.pm_reader.specs.Follow.{FollowedFront, FollowedInput, FollowedOne, IsBrokenOff, ReadsLines};
 ghost use Rattle.pm_reader.specs.Front.{Ahead, AttachedOne, Attaches, ReadAhead, WasReadAhead};
 
+use crate::meant::{Meant, meant_of};
 use crate::reader::{LineBuf, LineReader, Taken};
 use pm_base::{Event, Failed, NoMemory};
 use pm_block::Block;
 use pm_io::{Inputs, StopReason};
-use pm_script::{LineFault, SCRIPT_LIMIT, parse_line, read_line};
+use pm_script::{LineFault, SCRIPT_LIMIT, parse_line};
 use std::alloc::Global;
 
 /// What carries out the lines of a script, one after another.
@@ -118,25 +119,20 @@ impl Front {
     {
         follow_passed(self.lines, follower)?;
         let mut count = self.lines;
-        let mut taken = self.taken;
         let mut event = Event::Pass;
+        let mut meant = meant_of(self.taken, self.line.as_slice(), &mut event);
         'lines: loop {
-            let stop = match taken {
-                Taken::Line => {
-                    match read_line(self.line.as_slice(), &mut event) {
-                        Ok(()) => follow_one(count + 1, &event, follower)?,
-                        Err(cause) => return Err(LineStop::Bad(count + 1, cause)),
-                    }
+            match meant {
+                Meant::Event => {
+                    follow_one(count + 1, &event, follower)?;
                     count += 1;
-                    taken = self.reader.next(inputs, id, &mut self.line);
-                    continue;
+                    meant = self
+                        .reader
+                        .next_meant(inputs, id, &mut self.line, &mut event);
                 }
-                Taken::Long => return Err(LineStop::Bad(count + 1, LineFault::Long)),
-                Taken::End => StopReason::End,
-                Taken::Over => StopReason::Limit,
-                Taken::Fault => StopReason::Failure,
-            };
-            return Ok(LinesEnd { count, stop });
+                Meant::Bad(cause) => return Err(LineStop::Bad(count + 1, cause)),
+                Meant::Over(stop) => return Ok(LinesEnd { count, stop }),
+            }
         }
     }
 }

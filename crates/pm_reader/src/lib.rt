@@ -2,6 +2,7 @@
 #![tactic(auto)]
 
 pub mod follow;
+mod meant;
 pub mod reader;
 pub mod window;
 

@@ -1,16 +1,18 @@
 //! The lines of an input are read through a window.
 
-ghost use Rattle.std.specs.Prelude.{◌≡◌, ◌≢◌, ◌+◌, ◌<◌, ◌≤◌, ◌==◌, [], None, false, length, position, take, IfSome, MatchOption, MatchResult, IsErr, IsTrue, OnOk};
+ghost use Rattle.std.specs.Prelude.{◌≡◌, ◌≢◌, ◌+◌, ◌<◌, ◌≤◌, ◌==◌, [], ◌∷◌, None, false, length, position, take, IfSome, MatchOption, MatchResult, IsErr, IsTrue, OnOk};
 ghost use Rattle.arrayvec.specs.ArrayVec.{array_vec_len};
 ghost use Rattle.pm_io.specs.Calls.{Read};
 ghost use Rattle.pm_base.specs.Faults.{HasCause, Rose};
 ghost use Rattle.pm_io.specs.Inputs.{Adds, IsStuck, Took};
 ghost use Rattle.pm_io.specs.Readings.{Meanwhile};
+ghost use Rattle.pm_reader.specs.Meant.{GaveMeant, ReadMeant};
 ghost use Rattle.pm_reader.specs.Reader.{ComesOn, Gives, Grew, HasRead, IsOpen, KnowsEnd, NeedsMore, Turn, within};
 
+use crate::meant::{Meant, meant_by, meant_of};
 use crate::window::Window;
 use arrayvec::ArrayVec;
-use pm_base::Failed;
+use pm_base::{Event, Failed};
 use pm_io::{Inputs, TOO_LONG};
 use std::marker::Model;
 
@@ -87,6 +89,56 @@ impl LineReader {
                 return Taken::Fault;
             }
         }
+    }
+
+    /// Takes the next line as `next` does, and leaves its event. `line` is used where the line isn't held whole.
+    #[inline]
+    pub(crate) fn next_meant<I: Inputs>(
+        &mut self,
+        inputs: &mut I,
+        id: u32,
+        line: &mut LineBuf,
+        event: &mut Event,
+    ) -> Meant
+        ensures { ReadMeant I.observable id (I.state inputs.old) (I.state inputs.new)
+            self.old self.new result event.new }
+    {
+        if let Some(meant) = self.give_meant(event) {
+            return meant;
+        }
+        self.take_meant(inputs, id, line, event)
+    }
+
+    /// The event of the next line, read where the line stands, if it is held whole and no byte past the limit came. So most
+    /// lines are never copied.
+    #[inline]
+    fn give_meant(&mut self, event: &mut Event) -> Option<Meant>
+        ensures { MatchOption result (self.new ≡ self.old) (λ meant. GaveMeant self.old self.new meant event.new) }
+    {
+        if self.credit == 0 {
+            return None;
+        }
+        let bytes = self.window.bytes();
+        let feed = first_feed(bytes)?;
+        let meant = meant_by(&bytes[..feed], event);
+        self.window.consume(feed + 1);
+        Some(meant)
+    }
+
+    /// The same of any line, which is taken into `line` first.
+    #[inline(never)]
+    fn take_meant<I: Inputs>(
+        &mut self,
+        inputs: &mut I,
+        id: u32,
+        line: &mut LineBuf,
+        event: &mut Event,
+    ) -> Meant
+        ensures { ReadMeant I.observable id (I.state inputs.old) (I.state inputs.new)
+            self.old self.new result event.new }
+    {
+        let taken = self.next(inputs, id, line);
+        meant_of(taken, line.as_slice(), event)
     }
 
     /// The answer, where what is held decides it.
@@ -192,7 +244,46 @@ fn front(text: &[u8]) -> &[u8]
 fn first_feed(text: &[u8]) -> Option<usize>
     ensures { result ≡ position (λ byte. byte == 10) text.now }
 {
+    let mut at = 0;
+    let mut left = text;
+    'eights: while let [a, b, c, d, e, f, g, h, later @ ..] = left {
+        if let Some(k) = feed_among(*a, *b, *c, *d) {
+            return Some(at + k);
+        }
+        if let Some(k) = feed_among(*e, *f, *g, *h) {
+            return Some(at + 4 + k);
+        }
+        at += 8;
+        left = later;
+    }
+    match feed_in(left) {
+        Some(k) => Some(at + k),
+        None => None,
+    }
+}
+
+/// The same of a few bytes, one after another.
+fn feed_in(text: &[u8]) -> Option<usize>
+    ensures { result ≡ position (λ byte. byte == 10) text.now }
+{
     text.iter().position(|byte| *byte == b'\n')
+}
+
+/// The place of the first line feed among four bytes.
+fn feed_among(a: u8, b: u8, c: u8, d: u8) -> Option<usize>
+    ensures { result ≡ position (λ byte. byte == 10) (a ∷ b ∷ c ∷ d ∷ []) }
+{
+    if a == b'\n' {
+        Some(0)
+    } else if b == b'\n' {
+        Some(1)
+    } else if c == b'\n' {
+        Some(2)
+    } else if d == b'\n' {
+        Some(3)
+    } else {
+        None
+    }
 }
 
 /// Puts bytes into an empty line.

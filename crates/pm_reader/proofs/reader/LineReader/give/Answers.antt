@@ -29,7 +29,7 @@ consume-requires c =
 pub returns-in-Some-clause-gives : goal.returns-in-Some-clause-gives
 returns-in-Some-clause-gives c =
     let feed = feed_at c.args.self.now c.within-text.result.now c.front.result.now c.in-Some.at c.within-text.ensures c.front.ensures (sym c.first_feed.ensures ∙ c.in-Some.is) in
-    inl (gave_by_feed c.args.self.now _ c.within-text.result.now c.put.new.line.items c.in-Some.at c.within-text.ensures feed c.put.ensures
+    inl (gave_by_feed c.args.self.now _ c.within-text.result.now c.put.new.line.items c.in-Some.at c.within-text.ensures feed.found c.put.ensures
     (c.consume.ensures ∙ ap (λ (h : Held). drop (c.in-Some.at + 1) h.bytes) c.self.view_is)
     (ap (λ (h : Held). h.credit) c.self.view_is)
     (ap (λ (h : Held). h.ended) c.self.view_is))
