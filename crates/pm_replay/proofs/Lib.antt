@@ -1,5 +1,6 @@
 pub mod ClocksLemmas
 pub mod CoresLemmas
+pub mod AloneLemmas
 pub mod DriveLemmas
 pub mod LeavesLemmas
 pub mod LinesLemmas
@@ -7,3 +8,4 @@ pub mod NoticesLemmas
 pub mod ReplayLemmas
 pub mod RestLemmas
 pub mod TasksLemmas
+pub mod WritingLemmas

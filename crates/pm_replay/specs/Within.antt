@@ -1,9 +1,10 @@
 -- What the parts of a run do: what they write, what they do to the device, and how they end. No call of this crate's users
 -- speaks of these words.
-use Rattle.std.specs.Prelude.{◌≡◌, ℕ, ◌+◌, Bool, List, [], ◌∷◌, ◌++◌, length, Option, Some, None, Result, Ok, Err, ⊤}
+use Rattle.std.specs.Prelude.{◌≡◌, ℕ, ◌+◌, Bool, true, false, List, [], ◌∷◌, ◌++◌, length, Option, Some, None, Result, Ok, Err, ⊤}
 use Rattle.pm_base.specs.declared.errors.Exit.{Exit}
 use Rattle.pm_base.specs.declared.errors.Failed.{Failed}
 use Rattle.pm_base.specs.declared.events.Event.{Event}
+use Rattle.pm_base.specs.declared.events.Event.TheVariants.{Post, Serve, Smc, Attach, Break, Mend}
 use Rattle.pm_io.specs.declared.sink.Sink as Sink
 use Rattle.pm_io.specs.Sink.{Wrote}
 use Rattle.pm_io.specs.Writing.{BreaksIn, Leaves}
@@ -39,6 +40,17 @@ use Rattle.pm_drive.specs.Tasks.{task_notes}
 use Rattle.pm_drive.specs.Text.{given_text, reply_after, texts}
 use Rattle.pm_replay.specs.Controls.{AreOf, Controls, stand_in}
 use Rattle.pm_replay.specs.Replay.{run_report}
+
+-- a line of this event has no core event but it, no note of its own, no act on the device beside its commands, and no answer to
+-- a power call
+abbrev pub is_alone : Event → Bool
+is_alone (Post master message) = false
+is_alone Serve = false
+is_alone (Smc proc function args) = false
+is_alone (Attach address words) = false
+is_alone (Break node) = false
+is_alone (Mend node) = false
+is_alone event = true
 
 -- all is as at load, before the device is given anything
 pub record IsLoaded (c : Controls) : Type 0 where

@@ -15,6 +15,7 @@ use pm_io::Sink;
 /// Writes the lines of the clocks that began or ceased to run in a script line, all core steps of which were carried out.
 /// They are told of then. A sink that has failed before within the line is given nothing more. In a line that can't have
 /// changed a clock none is looked at.
+#[inline]
 pub(crate) fn clocks_on<O: Sink>(
     written: Result<(), Failed>,
     number: u32,
@@ -28,6 +29,21 @@ pub(crate) fn clocks_on<O: Sink>(
     if !controller.clocks().has_changes() {
         return written;
     }
+    told_on(written, number, controller, out)
+}
+
+/// The same of any line.
+#[inline(never)]
+fn told_on<O: Sink>(
+    written: Result<(), Failed>,
+    number: u32,
+    controller: &mut Controller,
+    out: &mut O,
+) -> Result<(), Failed>
+    ensures clocks { controller.new ≡ record controller.old { clocks = told controller.old.clocks } }
+    ensures writes { WritesOn O.Sink (notes_text number (map clock_note (changes controller.old.clocks)))
+        written result out.old out.new }
+{
     let result = changes_on(written, number, controller.clocks(), out);
     controller.tell_clocks();
     result

@@ -215,6 +215,7 @@ fn answer(clocks: &mut Clocks, event: &Event, runner: &mut Runner)
 
 /// Makes the device follow the book. Where it isn't known that the record marks each unit that lags, each unit is
 /// visited.
+#[inline]
 fn follow<D: Device>(dev: &mut D, kept: &mut Kept, runner: &mut Runner, is_marked: bool)
     requires record { IsRecordOf runner.old.book.fixed.topology kept.old }
     requires fresh { runner.old.outbox.done.items ≡ [] }

@@ -1,6 +1,6 @@
 //! The lines of a script are run one after another.
 
-ghost use Rattle.std.specs.Prelude.{◌≡◌, ◌≢◌, ◌∷◌, [], IfOk};
+ghost use Rattle.std.specs.Prelude.{◌≡◌, ◌≢◌, ◌∷◌, [], true, unwrap_or, IfOk};
 ghost use Rattle.pm_base.specs.Faults.{Rose};
 ghost use Rattle.pm_io.specs.declared.prefix.StopReason.TheVariants.{Failure, Unbegun};
 ghost use Rattle.pm_io.specs.Readings.{Meanwhile};
@@ -16,7 +16,7 @@ ghost use Rattle.pm_drive.specs.Heard.{heard};
 ghost use Rattle.pm_drive.specs.Text.{later_reply};
 ghost use Rattle.pm_trace.specs.Notes.{notes_text};
 ghost use Rattle.pm_trace.specs.Step.{notices_in, step_text};
-ghost use Rattle.pm_replay.specs.Within.{AreTold, RanLine, RanLines, WritesOn};
+ghost use Rattle.pm_replay.specs.Within.{AreTold, RanLine, RanLines, Writes, WritesOn, is_alone};
 
 use crate::clocks::clocks_on;
 use crate::controller::Controller;
@@ -102,11 +102,90 @@ pub(crate) fn run_lines<I: Inputs, O: Sink, D: Device, H: Responder, T: Handler>
     front.follow(inputs, id, &mut player)
 }
 
+/// Carries a line out to its end, and writes its text while the sink takes it.
+fn run_line<O: Sink, D: Device, H: Responder, T: Handler>(
+    number: u32,
+    event: &Event,
+    controller: &mut Controller,
+    out: &mut O,
+    dev: &mut D,
+    modules: &ModulesOf<H>,
+    tasks: &mut TasksOf<T>,
+    made: &mut Event,
+) -> Result<(), Failed>
+    ensures { (c : Setup) → setup_of controller.old.book ≡ c → AreTold controller.old.clocks
+        → RanLine O.Sink D.Device c number event.now controller.old controller.new out.old out.new dev.old dev.new
+        (standing H.Responder T.Handler modules.now tasks.old)
+        (standing H.Responder T.Handler modules.now tasks.new) result }
+{
+    if is_alone(event) {
+        run_alone(number, event, controller, out, dev, modules, tasks)
+    } else {
+        run_split(number, event, controller, out, dev, modules, tasks, made)
+    }
+}
+
+/// Whether a line is nothing but its own core event: it has no other one and no note of its own, does nothing to the device
+/// beside it, and no power call is answered in it.
+fn is_alone(event: &Event) -> bool
+    ensures { result ≡ is_alone event.now }
+{
+    !matches!(
+        event,
+        Event::Post { .. }
+            | Event::Serve
+            | Event::Smc { .. }
+            | Event::Attach { .. }
+            | Event::Break { .. }
+            | Event::Mend { .. }
+    )
+}
+
+/// The same of a line that is nothing but its own core event, as most lines are.
+fn run_alone<O: Sink, D: Device, H: Responder, T: Handler>(
+    number: u32,
+    event: &Event,
+    controller: &mut Controller,
+    out: &mut O,
+    dev: &mut D,
+    modules: &ModulesOf<H>,
+    tasks: &mut TasksOf<T>,
+) -> Result<(), Failed>
+    requires { is_alone event.now ≡ true }
+    ensures { (c : Setup) → setup_of controller.old.book ≡ c → AreTold controller.old.clocks
+        → RanLine O.Sink D.Device c number event.now controller.old controller.new out.old out.new dev.old dev.new
+        (standing H.Responder T.Handler modules.now tasks.old)
+        (standing H.Responder T.Handler modules.now tasks.new) result }
+{
+    controller.step(event, dev);
+    let written = write_heard(number, event, controller.outbox(), modules, out);
+    let clocked = clocks_on(written, number, controller, out);
+    tasks_on(clocked, number, event, tasks, out)
+}
+
+/// Writes the lines of the core step of an event, with its answer as it is told.
+fn write_heard<O: Sink, H: Responder>(
+    number: u32,
+    event: &Event,
+    outbox: &Outbox,
+    modules: &ModulesOf<H>,
+    out: &mut O,
+) -> Result<(), Failed>
+    ensures { Writes O.Sink (step_text number outbox.now.done.items (notices_in outbox.now)
+        (heard (ranges H.Responder modules.now) event.now outbox.now.answer)) out.old out.new result }
+{
+    match said(modules, event, &outbox.answer) {
+        None => write_step(number, outbox, &outbox.answer, out),
+        Some(answer) => write_step(number, outbox, &answer, out),
+    }
+}
+
 /// Breaks or mends a node of the device where the line asks for that, carries out the core events of the line to the
 /// last one, and writes the text of each, and then the line's own, those of clocks and of tasks, and the answer to its
 /// power call, while the sink takes it. Where the book replies to a call on a clock, the clocks' reply is told, and where
 /// it replies to a message whose API word is a module's, the module's response.
-fn run_line<O: Sink, D: Device, H: Responder, T: Handler>(
+#[inline(never)]
+fn run_split<O: Sink, D: Device, H: Responder, T: Handler>(
     number: u32,
     event: &Event,
     controller: &mut Controller,
@@ -146,12 +225,22 @@ fn run_line<O: Sink, D: Device, H: Responder, T: Handler>(
 fn heard<H: Responder>(modules: &ModulesOf<H>, event: &Event, answer: &Answer) -> Answer
     ensures { result ≡ heard (ranges H.Responder modules.now) event.now answer.now }
 {
-    match (event, *answer) {
-        (Event::Ipi { message, .. }, Answer::Reply { master, response }) => Answer::Reply {
-            master,
-            response: modules.answer(message).unwrap_or(response),
-        },
-        (_, answer) => answer,
+    said(modules, event, answer).unwrap_or(*answer)
+}
+
+/// The answer to a core event, where a module says it.
+fn said<H: Responder>(modules: &ModulesOf<H>, event: &Event, answer: &Answer) -> Option<Answer>
+    ensures { heard (ranges H.Responder modules.now) event.now answer.now ≡ unwrap_or result answer.now }
+{
+    match (event, answer) {
+        (Event::Ipi { message, .. }, Answer::Reply { master, .. }) => {
+            let response = modules.answer(message)?;
+            Some(Answer::Reply {
+                master: *master,
+                response,
+            })
+        }
+        _ => None,
     }
 }
 

@@ -15,8 +15,41 @@ use pm_io::Sink;
 use pm_tasks::{Fired, Handler, TasksOf};
 
 /// Carries out what a line does to tasks, to its end, and writes the lines of it. A sink that has failed before within
-/// the line is given nothing more.
+/// the line is given nothing more. Most lines do nothing to tasks.
+#[inline]
 pub(crate) fn tasks_on<O: Sink, T: Handler>(
+    written: Result<(), Failed>,
+    number: u32,
+    event: &Event,
+    tasks: &mut TasksOf<T>,
+    out: &mut O,
+) -> Result<(), Failed>
+    ensures tasks { timetable T.Handler tasks.new
+        ≡ settled (begun event.now (settled (timetable T.Handler tasks.old))) }
+    ensures writes { WritesOn O.Sink (notes_text number (task_notes event.now (timetable T.Handler tasks.old)))
+        written result out.old out.new }
+{
+    match event {
+        Event::Task { .. } | Event::Cancel { .. } | Event::Tick { .. } => {
+            timed_on(written, number, event, tasks, out)
+        }
+        _ => {
+            settle(tasks);
+            written
+        }
+    }
+}
+
+/// Makes the calls that are left from an earlier line, if there are any.
+fn settle<T: Handler>(tasks: &mut TasksOf<T>)
+    ensures { timetable T.Handler tasks.new ≡ settled (timetable T.Handler tasks.old) }
+{
+    'calls: while let Some(_) = tasks.take() {}
+}
+
+/// What `tasks_on` does, for any line.
+#[inline(never)]
+fn timed_on<O: Sink, T: Handler>(
     written: Result<(), Failed>,
     number: u32,
     event: &Event,

@@ -10,7 +10,7 @@ ghost use Rattle.pm_drive.specs.Clocks.{clock_note, end_line, ends_text, table_t
 ghost use Rattle.pm_drive.specs.Tasks.{fired_note};
 ghost use Rattle.pm_trace.specs.Notes.{notes_text};
 ghost use Rattle.pm_trace.specs.Closing.{closing_lines, closing_text};
-ghost use Rattle.pm_trace.specs.Step.{notices_in, step_text};
+ghost use Rattle.pm_trace.specs.Step.{notices_in, output_words, step_text};
 ghost use Rattle.pm_replay.specs.Within.{Writes, WritesOn};
 
 use crate::controller::Controller;
@@ -20,11 +20,12 @@ use pm_core::{Answer, Outbox};
 use pm_io::{Sink, write_all};
 use pm_tasks::Fired;
 use pm_trace::{
-    TextLine, busy_line, call_line, clock_closing, clock_line, closing, entries, entry, late_line,
-    no_task_line, task_line,
+    TextLine, answer_entry, busy_line, call_line, clock_closing, clock_line, closing,
+    command_entry, entries, entry, is_told, late_line, no_task_line, task_line,
 };
 
 /// Writes the lines of a step that is answered so.
+#[inline]
 pub(crate) fn write_step<O: Sink>(
     number: u32,
     outbox: &Outbox,
@@ -34,10 +35,39 @@ pub(crate) fn write_step<O: Sink>(
     ensures { Writes O.Sink (step_text number outbox.now.done.items
         (notices_in outbox.now) answer.now) out.old out.new result }
 {
+    match entries(outbox, answer) {
+        0 => Ok(()),
+        count => write_entries(number, outbox, answer, count, out),
+    }
+}
+
+/// Writes the lines of a step that is answered so, of which there are so many.
+#[inline(never)]
+fn write_entries<O: Sink>(
+    number: u32,
+    outbox: &Outbox,
+    answer: &Answer,
+    count: usize,
+    out: &mut O,
+) -> Result<(), Failed>
+    requires { count ≡ length (output_words outbox.now.done.items (notices_in outbox.now) answer.now) }
+    ensures { Writes O.Sink (step_text number outbox.now.done.items
+        (notices_in outbox.now) answer.now) out.old out.new result }
+{
+    let commands = outbox.done.as_slice();
+    let told = is_told(answer);
     let mut line = TextLine::new();
-    for k in 0..entries(outbox, answer) {
+    for done in commands {
+        command_entry(number, done, &mut line);
+        write_all(out, line.as_slice())?;
+    }
+    for k in commands.len()..count - usize::from(told) {
         entry(number, outbox, answer, k, &mut line);
         write_all(out, line.as_slice())?;
+    }
+    if told {
+        answer_entry(number, answer, &mut line);
+        return write_all(out, line.as_slice());
     }
     Ok(())
 }

@@ -1,17 +1,19 @@
-use Rattle.std.proofs.Common.{◌∙◌, sym, ap, Some, List, ℕ}
-use Rattle.std.proofs.lemmas.Result.{err_from_is_err_and}
-use Rattle.pm_io.proofs.SinkLemmas.{BreaksIn-joined, BreaksIn-piece, Wrote-piece}
-use Rattle.pm_trace.specs.Step.{core_lines, notices_in}
+use Rattle.std.proofs.Common.{◌≡◌, ◌∙◌, ℕ, List, [], ◌∷◌, length, map, refl, sym, subst, arith}
+use Rattle.std.specs.List.{concat}
+use Rattle.pm_io.specs.Sink.{Wrote}
+use Rattle.pm_io.proofs.SinkLemmas.{Wrote-refl}
+use Rattle.pm_trace.specs.declared.line.Word.{Word}
+use Rattle.pm_trace.specs.Step.{notices_in, numbered_line, output_words}
 use Rattle.pm_replay.proofs.writing.write_step.Goals as goal
 
-pub returns-in_err-write_all : goal.returns-in_err-write_all
-returns-in_err-write_all g c =
-    let all : List (List ℕ) = core_lines c.args.number c.args.outbox.now.done.items (notices_in c.args.outbox.now) c.args.answer.now in
-    let first = c.args.out.now in
-    let mid = c.loop-k.out in
-    let last = c.write_all.new.sink in
-    let p = err_from_is_err_and c.from_residual.result c.from_residual.ensures.1 in
-    rw p.1 (BreaksIn-joined g.O.Sink all c.loop-k.k first last (BreaksIn-piece g.O.Sink all c.loop-k.k c.as_slice.result.now first mid last (c.entry.ensures ∙ ap (λ (line : List ℕ). Some line) (sym c.as_slice.ensures.value)) c.loop-k.invariant c.in_err-write_all.ensures.short))
+-- a step without lines has no text
+no_text : (n : ℕ) (lines : List (List Word)) → length lines ≡ 0 → concat (map (numbered_line n) lines) ≡ []
+no_text n [] none = refl
+no_text n (words ∷ lines) none = absurd (omega (arith, none))
 
-pub loop-k-preserved : goal.loop-k-preserved
-loop-k-preserved g c = Wrote-piece g.O.Sink.observable (core_lines c.args.number c.args.outbox.now.done.items (notices_in c.args.outbox.now) c.args.answer.now) c.loop-k.k c.as_slice.result.now (g.O.Sink.state c.args.out.now) (g.O.Sink.state c.loop-k.out) (g.O.Sink.state c.write_all.new.sink) (c.entry.ensures ∙ ap (λ (line : List ℕ). Some line) (sym c.as_slice.ensures.value)) c.loop-k.invariant c.in_ok-write_all.ensures.written
+pub returns-in-0 : goal.returns-in-0
+returns-in-0 g c =
+    let now = g.O.Sink.state c.args.out.now in
+    let lines = output_words c.args.outbox.now.done.items (notices_in c.args.outbox.now) c.args.answer.now in
+    let P : List ℕ → Type 0 = λ text. Wrote g.O.Sink.observable text now now in
+    subst P (sym (no_text c.args.number lines (sym c.entries.ensures ∙ c.in-0.is))) (Wrote-refl g.O.Sink.observable now)

@@ -6,7 +6,7 @@ use Rattle.pm_trace.specs.Notes.{notes_text}
 use Rattle.pm_drive.specs.Tasks.{fired_note, key_notes, refusal_notes}
 use Rattle.pm_replay.specs.Within.{WritesOn}
 use Rattle.pm_replay.proofs.TasksLemmas.{notes_on}
-use Rattle.pm_replay.proofs.tasks.tasks_on.Goals as goal
+use Rattle.pm_replay.proofs.tasks.timed_on.Goals as goal
 
 pub returns-clause-writes : goal.returns-clause-writes
 returns-clause-writes g c =

@@ -24,7 +24,7 @@ use Rattle.pm_replay.specs.Controls.{Controls, stand_in}
 use Rattle.pm_replay.specs.Within.{RanCore, WritesOn}
 use Rattle.pm_replay.proofs.CoresLemmas.{IsUnderWay, line_ran, none_yet, one_more}
 use Rattle.pm_replay.proofs.TasksLemmas.{notes_on}
-use Rattle.pm_replay.proofs.lines.run_line.Goals as goal
+use Rattle.pm_replay.proofs.lines.run_split.Goals as goal
 
 pub loop-core-init : goal.loop-core-init
 loop-core-init g c =

@@ -2,7 +2,7 @@ use Rattle.std.proofs.Common.{length}
 use Rattle.pm_modules.specs.Modules.{ranges}
 use Rattle.pm_split.specs.Left.{events_left}
 use Rattle.pm_replay.proofs.CoresLemmas.{IsUnderWay}
-use Rattle.pm_replay.proofs.lines.run_line.Given as goal
+use Rattle.pm_replay.proofs.lines.run_split.Given as goal
 
 abbrev pub invariant-loop-core : goal.invariant-loop-core
 invariant-loop-core g l = IsUnderWay g.O.Sink g.D.Device l.number l.event (ranges g.H.Responder l.modules) l.left l.fn.controller l.controller l.reply l.written l.fn.out l.out l.initial.dev l.dev
