@@ -1,7 +1,7 @@
 -- The core events of a line are carried out one after another.
-use Rattle.std.proofs.Common.{◌≡◌, List, [], ◌∷◌, refl, sym, ◌∙◌, ap, subst}
+use Rattle.std.proofs.Common.{◌≡◌, true, List, [], ◌∷◌, refl, sym, ◌∙◌, ap, subst}
 use Rattle.pm_base.specs.declared.events.Event.{Event}
-use Rattle.pm_base.specs.declared.events.Event.TheVariants.{Pass}
+use Rattle.pm_base.specs.declared.events.Event.TheVariants.{Pass, Post, Serve, Smc}
 use Rattle.pm_object.specs.declared.object.Object.{Object}
 use Rattle.pm_topology.specs.declared.topology.Topology.{Topology}
 use Rattle.pm_state.specs.State.{Fixed, State}
@@ -11,12 +11,19 @@ use Rattle.pm_split.specs.declared.cores.CoreEvents.{CoreEvents}
 use Rattle.pm_split.specs.Boxes.{Boxes}
 use Rattle.pm_split.specs.Left.{boxes_left, events_left}
 use Rattle.pm_run.specs.Run.{Stand, book_after, setup_of, split}
-use Rattle.pm_isolate.specs.Within.{line_after}
+use Rattle.pm_isolate.specs.Within.{is_own, line_after}
 
 -- the book and the boxes are all that a run stands at
-stand_is : (a b : Stand) → a.book ≡ b.book → a.boxes ≡ b.boxes → a ≡ b
+pub stand_is : (a b : Stand) → a.book ≡ b.book → a.boxes ≡ b.boxes → a ≡ b
 stand_is a b book boxes =
     ap (λ (s : State). record { book = s; boxes = a.boxes }) book ∙ ap (λ (bs : Boxes). record { book = b.book; boxes = bs }) boxes
+
+-- a line of its own event has no other, and leaves the boxes
+pub own_split : (event : Event) (stand : Stand) → is_own event ≡ true → ((split (setup_of stand.book) event stand).events ≡ event ∷ []) × ((split (setup_of stand.book) event stand).boxes ≡ stand.boxes)
+own_split (Post master message) stand own = cc
+own_split Serve stand own = cc
+own_split (Smc proc function args) stand own = cc
+own_split event stand own = (refl, refl)
 
 -- part of the way: the events that are left lead to the end of the line
 pub record IsUnderWay (event : Event) (left : CoreEvents) (start now : Stand) : Type 0 where

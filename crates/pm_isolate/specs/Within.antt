@@ -1,8 +1,9 @@
 -- What the parts of a comparison do. No user of this crate speaks of these words.
-use Rattle.std.specs.Prelude.{◌≡◌, ℕ, ◌+◌, ◌==◌, ◌||◌, not, Bool, false, if◌then◌else◌, List, [], ◌∷◌, ◌++◌, length, map, Result, Ok, Err, ⊤}
+use Rattle.std.specs.Prelude.{◌≡◌, ℕ, ◌+◌, ◌==◌, ◌||◌, not, Bool, true, false, if◌then◌else◌, List, [], ◌∷◌, ◌++◌, length, map, Result, Ok, Err, ⊤}
 use Rattle.std.specs.List.{concat}
 use Rattle.pm_base.specs.declared.errors.Failed.{Failed}
 use Rattle.pm_base.specs.declared.events.Event.{Event}
+use Rattle.pm_base.specs.declared.events.Event.TheVariants.{Post, Serve, Smc}
 use Rattle.pm_base.specs.declared.names.NodeId.{NodeId}
 use Rattle.pm_base.specs.declared.names.Unit.{Unit}
 use Rattle.pm_io.specs.declared.sink.Sink as Sink
@@ -63,6 +64,14 @@ begun c = record {
 -- where a run stands after a script line, whose core events are carried out one after another
 abbrev pub line_after : Event → Stand → Stand
 line_after event stand = (line_of (setup_of stand.book) event stand).after
+
+-- a line of this event has no other core event, and leaves the boxes: it puts no message into a box and serves none, and is
+-- no power call
+abbrev pub is_own : Event → Bool
+is_own (Post master message) = false
+is_own Serve = false
+is_own (Smc proc function args) = false
+is_own event = true
 
 -- one more line in both, but for a message of the master, which is left out of the quiet one
 abbrev pub stepped : NodeId → Event → Sides → Sides

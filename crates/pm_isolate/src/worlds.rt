@@ -8,7 +8,7 @@ ghost use Rattle.pm_state.specs.State.{objects_of};
 ghost use Rattle.pm_run.specs.Run.{loaded, setup};
 ghost use Rattle.pm_isolate.specs.Marks.{proc_places};
 ghost use Rattle.pm_isolate.specs.Moves.{line_moves};
-ghost use Rattle.pm_isolate.specs.Within.{begun, line_after, stepped};
+ghost use Rattle.pm_isolate.specs.Within.{begun, is_own, line_after, stepped};
 
 use crate::boxed_run::BoxedRun;
 use crate::marks::{log, mark_at, proc_places};
@@ -31,11 +31,15 @@ pub struct Worlds {
     differs: UnitMap<bool>,
     procs: Vec<usize>,
     moves: Moves,
+    /// Where the core events stand that a line makes.
     made: Event,
+    /// An event in which nothing happens.
+    pass: Event,
 }
 
 impl Model for Worlds {
     ghost use Rattle.std.specs.Prelude.{◌≡◌};
+    ghost use Rattle.pm_base.specs.declared.events.Event.TheVariants.{Pass};
     ghost use Rattle.pm_state.specs.Units.{units};
     ghost use Rattle.pm_isolate.specs.Marks.{proc_places};
     ghost use Rattle.pm_isolate.specs.Sides.{AreMarked, Sides};
@@ -45,7 +49,8 @@ impl Model for Worlds {
     ghost view = { λ w. record { loud = w.loud; quiet = w.quiet; differs = w.differs } };
 
     ghost invariant = { λ w. AreMarked w.loud.book w.quiet.book w.differs
-        × (w.procs.items ≡ proc_places w.loud.book.fixed.topology 0 (units w.loud.book)) };
+        × (w.procs.items ≡ proc_places w.loud.book.fixed.topology 0 (units w.loud.book))
+        × (w.pass ≡ Pass) };
 }
 
 impl Worlds {
@@ -75,6 +80,7 @@ impl Worlds {
             procs: looked.procs,
             moves: looked.moves,
             made: Event::Pass,
+            pass: Event::Pass,
         })
     }
 
@@ -85,8 +91,7 @@ impl Worlds {
     {
         units_stand_in_order();
         unit_map_places::<bool>();
-        let pass = Event::Pass;
-        let heard = quiet_event(m, event, &pass);
+        let heard = quiet_event(m, event, &self.pass);
         self.moves.clear();
         step_line(
             &mut self.loud,
@@ -233,6 +238,32 @@ fn step_line(
     if let Event::Pass = event {
         return;
     }
+    if is_own(event) {
+        runner.step(event, marks, moves);
+    } else {
+        step_more(runner, event, marks, moves, made);
+    }
+}
+
+/// Whether an event is the only core event of its line.
+fn is_own(event: &Event) -> bool
+    ensures { result ≡ is_own event.now }
+{
+    !matches!(event, Event::Post { .. } | Event::Serve | Event::Smc { .. })
+}
+
+/// The same of any line, by the core events that it is split into. (Most lines are their own event, and need no such loop.)
+#[inline(never)]
+fn step_more(
+    runner: &mut BoxedRun,
+    event: &Event,
+    marks: &UnitMap<bool>,
+    moves: &mut Moves,
+    made: &mut Event,
+)
+    ensures stand { runner.new ≡ line_after event.now runner.old }
+    ensures moves { moves.new ≡ line_moves marks.now event.now runner.old moves.old }
+{
     let parts = runner.split(event);
     let mut left = parts.cores;
     while let Some(core) = runner.next(&mut left, made) {

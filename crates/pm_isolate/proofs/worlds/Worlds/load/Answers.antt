@@ -1,4 +1,4 @@
-use Rattle.std.proofs.Common.{◌≡◌, ◌∙◌, List, ap, false, subst, sym}
+use Rattle.std.proofs.Common.{◌≡◌, ◌∙◌, List, ap, false, refl, subst, sym}
 use Rattle.std.proofs.lemmas.Result.{IfOk-at_ok}
 use Rattle.pm_object.specs.declared.attached.Attached.{Attached}
 use Rattle.pm_object.specs.declared.object.Object.{Object}
@@ -59,6 +59,7 @@ invariant_of-result c =
       load_marked o a t c.in_ok-looked.loud c.in_ok-looked.quiet c.in_ok-looked.looked.differs loud
           (ap (λ (p : Looked × Stand). p.1) pair.0 ∙ quiet) (ap (λ (p : Looked × Stand). p.0.differs) pair.0 ∙ differs),
       load_procs o a t c.in_ok-looked.loud c.in_ok-looked.looked.procs.items loud (ap (λ (p : Looked × Stand). p.0.procs.items) pair.0 ∙ procs),
+      refl,
     )
 
 pub load-loud-requires : goal.load-loud-requires

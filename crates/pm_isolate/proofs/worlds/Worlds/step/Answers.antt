@@ -36,4 +36,5 @@ invariant_of-self c =
           c.self.invariant.0 c.self.invariant.1 c.quiet_event-heard.ensures c.clear.ensures c.step_line.ensures.stand c.step_line.ensures.moves c.step_line-2.ensures.stand c.step_line-2.ensures.moves notes,
       step_procs c.units_stand_in_order.ensures c.unit_map_places.ensures c.args.m c.args.event.now c.quiet_event-heard.result.now i.loud i.quiet a b i.differs c.log.new.marks i.moves c.clear.new.self c.step_line.new.moves m i.procs.items
           c.self.invariant.0 c.self.invariant.1 c.quiet_event-heard.ensures c.clear.ensures c.step_line.ensures.stand c.step_line.ensures.moves c.step_line-2.ensures.stand c.step_line-2.ensures.moves notes,
+      c.self.invariant.2,
     )

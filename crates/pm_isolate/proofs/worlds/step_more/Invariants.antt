@@ -2,7 +2,7 @@ use Rattle.std.proofs.Common.{◌≡◌, length}
 use Rattle.pm_split.specs.Left.{events_left}
 use Rattle.pm_isolate.specs.Moves.{line_moves, logged_along}
 use Rattle.pm_isolate.proofs.StandLemmas.{IsUnderWay}
-use Rattle.pm_isolate.proofs.worlds.step_line.Given as goal
+use Rattle.pm_isolate.proofs.worlds.step_more.Given as goal
 
 -- the core events that are left lead to the end of the line, and log what it moves
 abbrev pub invariant-loop-core : goal.invariant-loop-core
