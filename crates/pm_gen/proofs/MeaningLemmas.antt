@@ -47,7 +47,7 @@ abbrev has_event : Result Event LineFault → Bool
 has_event (Ok event) = true
 has_event (Err fault) = false
 
-abbrev no_feed : List ℕ → Bool
+abbrev pub no_feed : List ℕ → Bool
 no_feed bytes = list_all (λ byte. not (is_feed byte)) bytes
 
 -- a text is one line of at most 18 bytes, with a meaning
@@ -116,7 +116,7 @@ more_parts : (part : List ℕ) (parts : List (List ℕ)) → 0 < length parts �
 more_parts part [] some = absurd (omega arith)
 more_parts part (next ∷ parts) some = refl
 
-lines_after : (bytes rest : List ℕ) → no_feed bytes ≡ true → lines_of (bytes ++ 10 ∷ rest) ≡ bytes ∷ lines_of rest
+pub lines_after : (bytes rest : List ℕ) → no_feed bytes ≡ true → lines_of (bytes ++ 10 ∷ rest) ≡ bytes ∷ lines_of rest
 lines_after bytes rest one =
     let some : 0 < length (parts_of rest) = omega (arith, length-slice_split is_feed rest) in
     ap (lines_of_parts 1) (parts_after bytes rest one) ∙ more_parts bytes (parts_of rest) some

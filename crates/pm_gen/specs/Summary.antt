@@ -1,10 +1,13 @@
 -- What is said of the run of a script that was made: how many lines the script has, and how many lines of the run's text have
 -- each of five names.
-use Rattle.std.specs.Prelude.{ℕ, ◌+◌, ◌^◌, ◌<◌, if◌then◌else◌, Bool, false, List, [], ◌∷◌, ◌++◌, codes, count_by, decimal, slice_get, Option, Some, None}
+use Rattle.std.specs.Prelude.{ℕ, ◌≡◌, ◌+◌, ◌^◌, ◌<◌, ◌==◌, nat_le, not, if◌then◌else◌, Bool, true, false, List, [], ◌∷◌, ◌++◌, codes, count_by, decimal, length, slice_get, Option, Some, None}
+use Rattle.std.specs.List.{list_all}
 use Rattle.std.specs.Str.{bytes_eq}
-use Rattle.pm_io.specs.Lines.{parts_of}
+use Rattle.pm_io.specs.Lines.{lines_of, parts_of}
 use Rattle.pm_io.specs.Words.{word_texts}
 use Rattle.pm_gen.specs.declared.summary.Counts.{Counts}
+use Rattle.pm_gen.specs.declared.summary.Name.{Name}
+use Rattle.pm_gen.specs.declared.summary.Name.TheVariants.{Set, Run, Reply, Drop, Call}
 
 -- a word is this name
 abbrev pub is_name : List ℕ → Option (List ℕ) → Bool
@@ -53,6 +56,22 @@ with_word counts word = record {
 abbrev pub with_line : Counts → List ℕ → Counts
 with_line counts line = with_word counts (slice_get (word_texts line) 1)
 
+-- how a name is spelled
+abbrev pub spelled : Name → List ℕ
+spelled Set = codes "set"
+spelled Run = codes "run"
+spelled Reply = codes "reply"
+spelled Drop = codes "drop"
+spelled Call = codes "call"
+
+-- the counts with one more line of a name
+abbrev pub with_name : Counts → Name → Counts
+with_name counts Set = record counts { sets = counts.sets + 1 }
+with_name counts Run = record counts { runs = counts.runs + 1 }
+with_name counts Reply = record counts { replies = counts.replies + 1 }
+with_name counts Drop = record counts { drops = counts.drops + 1 }
+with_name counts Call = record counts { calls = counts.calls + 1 }
+
 -- how many lines of a text have each name
 abbrev pub counts_of : List ℕ → Counts
 counts_of text = record {
@@ -72,3 +91,28 @@ HasRoom counts = record {
   drops : counts.drops + 1 < 2 ^ 64;
   calls : counts.calls + 1 < 2 ^ 64;
 }
+
+-- the first line of a text was counted, and this is left after it
+pub record HasCounted (old new : Counts) (text after : List ℕ) : Type 0 where
+  pub line : List ℕ
+  pub lines : lines_of text ≡ line ∷ lines_of after
+  pub counts : new ≡ with_line old line
+
+-- a text begins with a word, of bytes behind the number sign, and a space, and this stands behind them
+pub record IsBehindWord (text behind : List ℕ) : Type 0 where
+  pub word : List ℕ
+  pub begun : 0 < length word
+  pub plain : list_all (λ byte. not (nat_le byte 35)) word ≡ true
+  pub is : text ≡ word ++ 32 ∷ behind
+
+-- this stands behind the first line feed of a text
+pub record IsBehindFeed (text behind : List ℕ) : Type 0 where
+  pub front : List ℕ
+  pub unfed : list_all (λ byte. not (byte == 10)) front ≡ true
+  pub is : text ≡ front ++ 10 ∷ behind
+
+-- the second word of the first line of a text is this name, and this is left after that line
+pub record IsNamed (name : Name) (text after : List ℕ) : Type 0 where
+  pub line : List ℕ
+  pub lines : lines_of text ≡ line ∷ lines_of after
+  pub second : slice_get (word_texts line) 1 ≡ Some (spelled name)

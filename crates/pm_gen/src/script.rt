@@ -1,14 +1,14 @@
 //! A script of any length, made from a number.
 
-ghost use Rattle.std.specs.Prelude.{◌≡◌, ◌+◌, ◌*◌, ◌++◌, ◌<◌, ◌≤◌, length, IfOk, OnOk};
+ghost use Rattle.std.specs.Prelude.{◌≡◌, ◌+◌, ◌*◌, ◌++◌, ◌<◌, ◌≤◌, codes, decimal, length, IfOk, OnOk};
 ghost use Rattle.pm_gen.specs.Script.{HasMeaning, about, device_at, line_by, line_of, made, next};
 
 use itoa::Buffer;
 use pm_base::NoMemory;
 use std::alloc::Global;
 
-/// The slaves that lines name.
-const DEVICES: [u32; 5] = [11, 28, 33, 39, 46];
+/// The numbers of the slaves that lines name, in decimal.
+const DEVICES: [[u8; 2]; 5] = [*b"11", *b"28", *b"33", *b"39", *b"46"];
 
 /// The first two lines: the configuration is said to be set, and processor 7 starts.
 const OPENING: &[u8] = b"ipi 1 21\nboot 7 0\n";
@@ -53,36 +53,49 @@ fn put_kind(text: &mut Vec<u8>, kind: u64, rest: u64) -> Result<(), NoMemory>
     ensures { OnOk result (text.new.items ≡ text.old.items ++ line_by kind rest) }
 {
     match kind {
-        0 | 1 => put_about(text, b"ipi 1 13 ", device(rest), b" 1 0 2\n"),
-        2 | 3 => put_about(text, b"ipi 1 14 ", device(rest), b"\n"),
-        4 | 5 => put_about(text, b"ipi 7 13 ", device(rest), b" 1 0 2\n"),
-        6 => put_about(text, b"ipi 7 14 ", device(rest), b"\n"),
+        0 | 1 => put_about(text, b"ipi 1 13 ", &device(rest), b" 1 0 2\n"),
+        2 | 3 => put_about(text, b"ipi 1 14 ", &device(rest), b"\n"),
+        4 | 5 => put_about(text, b"ipi 7 13 ", &device(rest), b" 1 0 2\n"),
+        6 => put_about(text, b"ipi 7 14 ", &device(rest), b"\n"),
         7 => put(text, b"ipi 1 11 2 46 1\n"),
         8 => put(text, b"ipi 1 7 2 0 0 0 0\n"),
         9 => put(text, b"wfi 2\n"),
         10 => put(text, b"irq 46\n"),
         11 => put(text, b"gic 2\n"),
-        12 => put_about(text, b"ipi 1 15 ", device(rest), b" 0 0 2\n"),
-        13 => put_about(text, b"ipi 7 15 ", device(rest), b" 1 0 2\n"),
-        14 => put_about(text, b"tick ", (rest % 50) as u32, b"\n"),
+        12 => put_about(text, b"ipi 1 15 ", &device(rest), b" 0 0 2\n"),
+        13 => put_about(text, b"ipi 7 15 ", &device(rest), b" 1 0 2\n"),
+        14 => put_tick(text, (rest % 50) as u32),
         _ => put(text, b"boot 7 0\n"),
     }
 }
 
-/// The slave that a number names.
-fn device(rest: u64) -> u32
-    ensures { result ≡ device_at rest }
+/// The number of the slave that a number names, in decimal.
+fn device(rest: u64) -> [u8; 2]
+    ensures { result ≡ decimal (device_at rest) }
 {
     DEVICES[(rest % 5) as usize]
 }
 
-/// Puts a number between two texts at the end.
-fn put_about(text: &mut Vec<u8>, before: &[u8], number: u32, after: &[u8]) -> Result<(), NoMemory>
-    ensures { OnOk result (text.new.items ≡ text.old.items ++ about before.now number after.now) }
+/// Puts the line of a tick at the end.
+#[inline(never)]
+fn put_tick(text: &mut Vec<u8>, length: u32) -> Result<(), NoMemory>
+    ensures { OnOk result (text.new.items ≡ text.old.items ++ about (codes "tick ") length (codes "\n")) }
 {
-    let mut buffer = Buffer::new();
+    put_about(
+        text,
+        b"tick ",
+        Buffer::new().format(length).as_bytes(),
+        b"\n",
+    )
+}
+
+/// Puts a number, in decimal, between two texts at the end.
+#[inline]
+fn put_about(text: &mut Vec<u8>, before: &[u8], number: &[u8], after: &[u8]) -> Result<(), NoMemory>
+    ensures { OnOk result (text.new.items ≡ text.old.items ++ before.now ++ number.now ++ after.now) }
+{
     put(text, before)?;
-    put(text, buffer.format(number).as_bytes())?;
+    put(text, number)?;
     put(text, after)
 }
 
