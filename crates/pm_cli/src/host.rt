@@ -108,7 +108,10 @@ enum Handed {
 #[derive(Drop)]
 pub struct HostSink<W: Write + Drop> {
     writer: W,
-    gathered: Vec<u8>,
+    /// The bytes that are gathered are its first ones.
+    room: Vec<u8>,
+    /// How many bytes are gathered.
+    gathered: usize,
     /// How many of the gathered bytes came before the last piece.
     before: usize,
     /// Whether a byte was lost that came before the last piece.
@@ -120,10 +123,12 @@ pub struct HostSink<W: Write + Drop> {
 impl<W: Write + Drop> HostSink<W> {
     /// All memory that the sink takes.
     pub fn new(alloc: Global, writer: W) -> Result<Self, NoMemory> {
-        let gathered = Vec::with_capacity(alloc, ROOM).map_err(|_| NoMemory)?;
+        let mut room = Vec::with_capacity(alloc, ROOM).map_err(|_| NoMemory)?;
+        room.resize(ROOM, 0).map_err(|_| NoMemory)?;
         Ok(HostSink {
             writer,
-            gathered,
+            room,
+            gathered: 0,
             before: 0,
             lost: false,
             faults: 0,
@@ -146,24 +151,42 @@ impl<W: Write + Drop> HostSink<W> {
     }
 
     /// Takes first bytes of a piece, or fails. It takes 0 where the writer took 0.
+    #[inline]
     fn take(&mut self, piece: &[u8]) -> Option<usize>
         ensures faults { self.new.faults ≡ self.old.faults }
         ensures stalls { self.new.stalls ≡ self.old.stalls }
         ensures bound { IfSome result (λ count. count ≤ length piece.now) }
     {
-        if piece.len() > ROOM.saturating_sub(self.gathered.len()) {
-            self.before = self.gathered.len();
-            match self.hand_on() {
-                Handed::All => {}
-                Handed::Stalled => return Some(0),
-                Handed::Failed => return None,
-            }
+        let from = self.gathered;
+        if self.room.len() < from || self.room.len() - from < piece.len() {
+            return self.take_anew(piece);
         }
-        self.before = self.gathered.len();
-        if piece.len() > ROOM {
+        let end = from + piece.len();
+        self.room[from..end].copy_from_slice(piece);
+        self.before = from;
+        self.gathered = end;
+        Some(piece.len())
+    }
+
+    /// The same of a piece that has no room beside those before it: these are handed on first.
+    #[inline(never)]
+    fn take_anew(&mut self, piece: &[u8]) -> Option<usize>
+        ensures faults { self.new.faults ≡ self.old.faults }
+        ensures stalls { self.new.stalls ≡ self.old.stalls }
+        ensures bound { IfSome result (λ count. count ≤ length piece.now) }
+    {
+        self.before = self.gathered;
+        match self.hand_on() {
+            Handed::All => {}
+            Handed::Stalled => return Some(0),
+            Handed::Failed => return None,
+        }
+        self.before = 0;
+        if piece.len() > self.room.len() {
             return self.writer.write(piece).ok();
         }
-        self.gathered.extend_from_slice(piece).ok()?;
+        self.room[..piece.len()].copy_from_slice(piece);
+        self.gathered = piece.len();
         Some(piece.len())
     }
 
@@ -172,11 +195,12 @@ impl<W: Write + Drop> HostSink<W> {
         ensures faults { self.new.faults ≡ self.old.faults }
         ensures stalls { self.new.stalls ≡ self.old.stalls }
     {
-        let (count, handed) = write_on(&mut self.writer, self.gathered.as_slice());
+        let end = self.gathered.min(self.room.len());
+        let (count, handed) = write_on(&mut self.writer, &self.room[..end]);
         if count < self.before {
             self.lost = true;
         }
-        self.gathered.clear();
+        self.gathered = 0;
         handed
     }
 }
