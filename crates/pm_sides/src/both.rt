@@ -359,6 +359,25 @@ fn are_alike(loud: &Book, quiet: &Book, nodes: &[u32]) -> bool {
     true
 }
 
+/// Whether a line puts out its text in each book, and all that is beyond is alike after it.
+fn is_right(
+    alloc: Global,
+    loud: &mut Desk,
+    quiet: &mut Desk,
+    m: NodeId,
+    turn: &Turn,
+    beyond: &[u32],
+) -> Result<bool, Fail>
+    requires { AreSides m loud.old.book quiet.old.book }
+    ensures { AreSides m loud.new.book quiet.new.book }
+{
+    let (number, line, of_loud, of_quiet) = turn;
+    step_line(loud, quiet, m, line)?;
+    let is_told = writes(alloc, *number, &loud.out, of_loud)?
+        && writes(alloc, *number, &quiet.out, of_quiet)?;
+    Ok(is_told && are_alike(&loud.book, &quiet.book, beyond))
+}
+
 /// The first line of these of which not that is put out, or after which not all that is beyond is alike.
 fn wrong_turn(
     alloc: Global,
@@ -371,12 +390,9 @@ fn wrong_turn(
     requires { AreSides m loud.old.book quiet.old.book }
     ensures { AreSides m loud.new.book quiet.new.book }
 {
-    for (number, line, of_loud, of_quiet) in turns {
-        step_line(loud, quiet, m, line)?;
-        let told = writes(alloc, *number, &loud.out, of_loud)?
-            && writes(alloc, *number, &quiet.out, of_quiet)?;
-        if !told || !are_alike(&loud.book, &quiet.book, beyond) {
-            return Ok(Some(*number));
+    for turn in turns {
+        if !is_right(alloc, loud, quiet, m, turn, beyond)? {
+            return Ok(Some(turn.0));
         }
     }
     Ok(None)

@@ -1,6 +1,6 @@
 //! A small chip, in which number 8 is that of a master and of a power node that is none of its parts.
 
-ghost use Rattle.std.specs.Prelude.{◌≡◌, ◌∷◌, [], None, IfOk};
+ghost use Rattle.std.specs.Prelude.{◌≡◌, ◌++◌, ◌∷◌, [], None, IfOk};
 ghost use Rattle.pm_chip.specs.Chip.{master, power, proc};
 ghost use Rattle.pm_topology.specs.WellFormed.{IsWellFormed};
 ghost use Rattle.pm_sides.specs.Table.{masters, powers, procs, slaves, small};
@@ -98,11 +98,23 @@ fn masters(alloc: Global) -> Result<List<MasterDef>, NoMemory>
     ensures { IfOk result (λ list. list ≡ masters) }
 {
     let mut masters = List::new(alloc);
-    masters.push(master(alloc, 1, 2)?)?;
-    masters.push(master(alloc, 6, 107)?)?;
-    masters.push(master(alloc, 7, 107)?)?;
-    masters.push(master(alloc, 8, 108)?)?;
+    push_master(alloc, &mut masters, 1, 2)?;
+    push_master(alloc, &mut masters, 6, 107)?;
+    push_master(alloc, &mut masters, 7, 107)?;
+    push_master(alloc, &mut masters, 8, 108)?;
     Ok(masters)
+}
+
+/// Puts a master of one processor behind these, by the numbers of both.
+fn push_master(
+    alloc: Global,
+    masters: &mut List<MasterDef>,
+    number: u32,
+    proc: u32,
+) -> Result<(), NoMemory>
+    ensures { IfOk result (λ _. masters.new ≡ masters.old ++ master number (record { 0 = proc } ∷ []) ∷ []) }
+{
+    masters.push(master(alloc, number, proc)?)
 }
 
 /// A master of one processor, by the numbers of both.

@@ -59,11 +59,21 @@ fn started<D: Device>(
     }
 }
 
+/// The same over the chip.
+fn started_over<D: Device>(alloc: Global, object: Object, dev: &mut D) -> Result<Drive, NoMemory> {
+    match chip(alloc) {
+        Ok(chip) => started(alloc, object, chip, dev),
+        Err(error) => {
+            drop(object);
+            Err(error)
+        }
+    }
+}
+
 /// The same once master 7 is started.
 fn drive_of<D: Device>(alloc: Global, dev: &mut D) -> Result<Box<Drive>, Fail> {
     let object = object_of(alloc, OBJECT)?;
-    let chip = chip(alloc)?;
-    let drive = started(alloc, Box::into_inner(object), chip, dev)?;
+    let drive = started_over(alloc, Box::into_inner(object), dev)?;
     let mut drive = boxed(alloc, drive)?;
     drive.take(&event_of(Trigger::Boot(7, 0)), dev);
     Ok(drive)
@@ -253,15 +263,22 @@ static TOLD: [Told; 4] = [
     (false, REQUEST, 2004, [0, 0, 0]),
 ];
 
+fn wrong_told<D: Device>(drive: &mut Drive, dev: &mut D, turns: &[Told]) -> Option<usize> {
+    for (place, (broken, api, status, words)) in turns.iter().enumerate() {
+        dev.rig(NodeId(28), *broken);
+        drive.take(&call(*api), dev);
+        if told(&drive.desk.out) != (*status, *words) {
+            return Some(place);
+        }
+    }
+    None
+}
+
 #[test]
 fn a_device_that_does_not_follow_is_an_internal_error(rt: HostRuntime) -> Result<(), Fail> {
     let mut dev = model(rt.alloc())?;
     let mut drive = drive_of(rt.alloc(), &mut *dev)?;
-    for (broken, api, status, words) in &TOLD {
-        dev.rig(NodeId(28), *broken);
-        drive.take(&call(*api), &mut *dev);
-        assert!(rt; told(&drive.desk.out) == (*status, *words));
-    }
+    all_right(&rt, wrong_told(&mut drive, &mut *dev, &TOLD));
     Ok(())
 }
 

@@ -134,6 +134,7 @@ static STARTED_ROWS: [RowCase; 3] = [
 fn the_first_preallocation_of_a_pair_counts(rt: HostRuntime) -> Result<(), Fail> {
     let desk = desk_of(rt.alloc(), &PREALLOCATED)?;
     all_right(&rt, wrong_row(&desk.book, &LOADED_ROWS));
+    drop(desk);
     let desk = settled(rt.alloc(), &PREALLOCATED)?;
     all_right(&rt, wrong_row(&desk.book, &STARTED_ROWS));
     Ok(())
