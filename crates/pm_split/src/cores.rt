@@ -95,7 +95,7 @@ pub fn split_event<'e>(
     }
 }
 
-/// The same of a line that isn't its own event alone. (Most lines are, and they are split where that is asked for.)
+/// The same of a line that isn't its own event alone.
 #[inline(never)]
 fn split_more<'e>(object: &Object, t: &Topology, boxes: &mut Mail, event: &'e Event) -> Split<'e>
     requires { length boxes.old ≡ length object.now.masters }
