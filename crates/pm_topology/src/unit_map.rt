@@ -49,17 +49,19 @@ impl<T> UnitMap<T> {
     }
 
     /// The place of a unit, counted from 0, where it is there.
+    #[inline]
     pub fn place(&self, unit: Unit) -> Option<usize>
         ensures place { result ≡ place_of self.now unit }
         ensures rising { rises (units_in self.now) ≡ true }
     {
         match self.kept_place(unit) {
             Some(place) => Some(place),
-            None => self.entries.get_index_of(&unit),
+            None => searched_place(&self.entries, unit),
         }
     }
 
     /// The place that is kept for a unit, if one is.
+    #[inline]
     fn kept_place(&self, unit: Unit) -> Option<usize>
         ensures { IfSome result (λ place. place_of self.now unit ≡ Some place) }
     {
@@ -68,6 +70,14 @@ impl<T> UnitMap<T> {
             Unit::Line(_) => None,
         }
     }
+}
+
+/// The place of a unit by hash. It stands apart, so that the look-up of a unit whose place is kept needs no call.
+#[inline(never)]
+fn searched_place<T>(entries: &IndexMap<Unit, T>, unit: Unit) -> Option<usize>
+    ensures { result ≡ place_of entries.now.entries unit }
+{
+    entries.get_index_of(&unit)
 }
 
 impl<T: Copy + Drop> UnitMap<T> {

@@ -1,16 +1,12 @@
--- The place is kept, or the hash table has the unit there.
+-- The place is kept, or a search finds it.
 use Rattle.std.proofs.Common.{◌≡◌, Some, ap, sym, ◌∙◌, subst}
 use Rattle.std.specs.Prelude.{IfSome}
 use Rattle.pm_topology.specs.Units.{rises}
 use Rattle.pm_topology.specs.UnitMap.{place_of, units_in}
-use Rattle.pm_topology.proofs.UnitMapLaw.{place_of-is}
 use Rattle.pm_topology.proofs.unit_map.UnitMap.place.Goals as goal
 
 pub returns-in-None-clause-place : goal.returns-in-None-clause-place
-returns-in-None-clause-place g c =
-    c.get_index_of.ensures.index
-    ∙ place_of-is c.args.unit c.self.inside.entries.entries
-    ∙ ap (λ entries. place_of entries c.args.unit) c.self.view_is
+returns-in-None-clause-place g c = c.searched_place.ensures ∙ ap (λ entries. place_of entries c.args.unit) c.self.view_is
 
 pub returns-in-None-clause-rising : goal.returns-in-None-clause-rising
 returns-in-None-clause-rising g c = ap (λ entries. rises (units_in entries)) (sym c.self.view_is) ∙ c.self.invariant.0
