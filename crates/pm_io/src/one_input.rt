@@ -37,11 +37,19 @@ impl OneInput {
         ensures unbegun { IfOk result (λ input. (id : ℕ) → rest ((moment_of input).input id) ≡ []) }
     {
         let content = Vec::from_slice(alloc, content).map_err(|_| NoMemory)?;
-        Ok(OneInput {
+        Ok(OneInput::of(content))
+    }
+
+    /// An input that has these bytes, which are not copied, and was not begun: no number has anything left to read.
+    pub fn of(content: Vec<u8>) -> OneInput
+        ensures made { result ≡ record { bytes = content.items; place = None; calls = [] } }
+        ensures unbegun { (id : ℕ) → rest ((moment_of result).input id) ≡ [] }
+    {
+        OneInput {
             content,
             place: None,
             log: CallLog::new(),
-        })
+        }
     }
 }
 

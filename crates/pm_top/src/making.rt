@@ -105,9 +105,8 @@ fn script_and_sink(alloc: Global, lines: u32) -> Result<(OneInput, MemSink), NoM
     ensures sink { IfOk result (λ both. both.1 ≡ record { bytes = []; room = None; faults = 0 }) }
 {
     let script = make(alloc, lines)?;
-    let inputs = OneInput::new(alloc, script.as_slice())?;
     let text = MemSink::new(alloc, None)?;
-    Ok((inputs, text))
+    Ok((OneInput::of(script), text))
 }
 
 /// The summary of the run of a script that is made, over an object and a topology. The run's text is kept in memory, so
