@@ -1,12 +1,16 @@
 -- A calm change of a master's mode leaves the rows that rest.
 use Rattle.std.proofs.Common.{◌≡◌, ℕ, ◌+◌, ◌<◌, ◌^◌, ◌==◌, ◌&&◌, Bool, true, false, not, if◌then◌else◌, List, length, Some, refl, sym, ◌∙◌, ap, subst, arith}
-use Rattle.std.specs.Prelude.{◌||◌, is_some, slice_get}
+use Rattle.std.specs.Prelude.{◌||◌, bit_and, is_some, slice_get}
 use Rattle.std.proofs.lemmas.Bool.{eqb-true}
 use Rattle.pm_base.specs.declared.names.Mode.{Mode}
 use Rattle.pm_base.specs.declared.names.Mode.TheVariants.{Off, Active, Asleep, Suspending}
+use Rattle.pm_rows.specs.declared.row.Pair.{Pair}
 use Rattle.pm_rows.specs.declared.row.Row.{Row}
 use Rattle.pm_rows.specs.declared.row.Entry.{Entry}
-use Rattle.pm_rows.specs.Wanted.{required_by}
+use Rattle.pm_base.specs.declared.caps.Caps.{Caps}
+use Rattle.pm_rows.specs.Modes.{mode_in}
+use Rattle.pm_rows.specs.Rows.{no_caps}
+use Rattle.pm_rows.specs.Wanted.{arming_differs, both, by_hold, by_use, required_by, wakeup, while_asleep}
 use Rattle.pm_rows.specs.Shift.{exchanged, is_calm, restored, shifted_row, unscheduled}
 use Rattle.pm_rows.specs.Counted.{Table, counted, counted_in}
 use Rattle.pm_rows.specs.Passes.{rests}
@@ -14,10 +18,12 @@ use Rattle.pm_rows.specs.Passing.{IsPut, MayPutAt}
 use Rattle.pm_rows.proofs.Tallies.{moved_same, set_same}
 
 -- where a row that rests is used, it wants now what it wants next
-wants_next : (x : Entry) → rests x ≡ true → x.row.used ≡ true → x.row.now ≡ x.row.next
-wants_next x resting used =
-    let same : (x.row.now.0 == x.row.next.0) ≡ true = at (is_some x.row.armed) x.row.used (x.row.now.0 == x.row.next.0) resting used in
-    ap (λ n. record { 0 = n }) (eqb-true x.row.now.0 x.row.next.0 same)
+wants_next : (differs : Bool) (x : Entry) → rests differs x ≡ true → x.row.used ≡ true → x.row.now ≡ x.row.next
+wants_next differs x resting used =
+    let same : (x.row.next.0 == x.row.now.0) ≡ true =
+    at (differs && is_some x.row.armed) x.row.used (x.row.next.0 == x.row.now.0) resting used
+    in
+    sym (ap (λ n. record { 0 = n }) (eqb-true x.row.next.0 x.row.now.0 same))
   where
     at : (armed used alike : Bool) → (not armed && (not used || alike)) ≡ true → used ≡ true → alike ≡ true
     at true used alike is on = cc
@@ -59,32 +65,79 @@ module _ (row : Row) (same : row.used ≡ true → row.now ≡ row.next) where
   stays Suspending Asleep taken calm = swapped row.used refl
   stays Suspending Suspending taken calm = refl
 
--- a row that rests wants the same in each mode of its master
-wants_same : (m n : Mode) (x : Entry) → rests x ≡ true → required_by m x ≡ required_by n x
-wants_same m n x resting = at (is_some x.row.armed) refl
+-- neither of two modes is sleep
+awake_both : (m n : Mode) (caps : Caps) → arming_differs m n ≡ false → while_asleep m caps ≡ while_asleep n caps
+awake_both Off Off caps is = refl
+awake_both Off Active caps is = refl
+awake_both Off Asleep caps is = cc
+awake_both Off Suspending caps is = refl
+awake_both Active Off caps is = refl
+awake_both Active Active caps is = refl
+awake_both Active Asleep caps is = cc
+awake_both Active Suspending caps is = refl
+awake_both Asleep Off caps is = cc
+awake_both Asleep Active caps is = cc
+awake_both Asleep Asleep caps is = refl
+awake_both Asleep Suspending caps is = cc
+awake_both Suspending Off caps is = refl
+awake_both Suspending Active caps is = refl
+awake_both Suspending Asleep caps is = cc
+awake_both Suspending Suspending caps is = refl
+
+-- a row that rests wants the same in both modes of its master
+wants_same : (m n : Mode) (x : Entry) → rests (arming_differs m n) x ≡ true → required_by m x ≡ required_by n x
+wants_same m n x resting = at (is_some x.row.armed) refl (arming_differs m n) refl
   where
-    at : (armed : Bool) → is_some x.row.armed ≡ armed → required_by m x ≡ required_by n x
-    at true is = let none : rests x ≡ false = rw is refl in cc
-    at false is = rw is refl
+    at : (armed : Bool) → is_some x.row.armed ≡ armed → (differs : Bool) → arming_differs m n ≡ differs
+        → required_by m x ≡ required_by n x
+    at true is true differs = let none : rests (arming_differs m n) x ≡ false = rw (differs, is) refl in cc
+    at true is false differs =
+        let alike = awake_both m n (record { 0 = bit_and wakeup.0 x.seed.all.0 }) differs in
+        ap (λ caps. both (by_use x) (both (if is_some x.row.armed then caps else no_caps) (by_hold x))) alike
+    at false is differs so = rw is refl
 
 -- so nothing is to be done for it
-pub rest_put : (k : ℕ) (known : List Mode) (mode from to : Mode) (taken : Bool) (table : Table) (start steps : ℕ) (x entry : Entry)
-    → slice_get table.entries k ≡ Some x → slice_get table.entries k ≡ Some entry → rests entry ≡ true → is_calm from to ≡ true
-    → entry.seed.slave < length table.tally.users → length table.entries < 2 ^ 31 → MayPutAt known k table → steps ≡ start + 1
-    → IsPut k (counted known x) (counted_in mode (record x { row = shifted_row from to taken x.row })) table start table steps
-rest_put k known mode from to taken table start steps x entry at here resting calm placed few may reads =
+pub rest_put : (k : ℕ) (known : List Mode) (from to : Mode) (taken : Bool) (table : Table) (start steps : ℕ) (x entry : Entry)
+    → slice_get table.entries k ≡ Some x → slice_get table.entries k ≡ Some entry → rests (arming_differs from to) entry ≡ true
+    → is_calm from to ≡ true → entry.seed.slave < length table.tally.users → length table.entries < 2 ^ 31 → MayPutAt known k table
+    → mode_in x.seed.master known ≡ from → steps ≡ start + 1
+    → IsPut k (counted known x) (counted_in to (record x { row = shifted_row from to taken x.row })) table start table steps
+rest_put k known from to taken table start steps x entry at here resting calm placed few may mode reads =
     let both : Some entry ≡ Some x = sym here ∙ at in
     let same : entry ≡ x = cc in
-    let own : rests x ≡ true = ap rests (sym same) ∙ resting in
+    let own : rests (arming_differs from to) x ≡ true = ap (rests (arming_differs from to)) (sym same) ∙ resting in
     let room : x.seed.slave < length table.tally.users = subst (λ (e : Entry). e.seed.slave < length table.tally.users) same placed in
-    let left : shifted_row from to taken x.row ≡ x.row = stays x.row (wants_next x own) from to taken calm in
-    let P : Row → Type 0 = λ row. IsPut k (counted known x) (counted_in mode (record x { row = row })) table start table steps in
+    let left : shifted_row from to taken x.row ≡ x.row = stays x.row (wants_next (arming_differs from to) x own) from to taken calm in
+    let P : Row → Type 0 = λ row. IsPut k (counted known x) (counted_in to (record x { row = row })) table start table steps in
     subst P (sym left) (record {
       placed = room;
       entries = sym (set_same table.entries k x at);
-      tally = sym (moved_same (counted known x) (counted_in mode x) table.entries table.tally refl
-          (wants_same mode (counted known x).mode x own) (may x at room few).limit);
+      tally = sym (moved_same (counted known x) (counted_in to x) table.entries table.tally refl
+          (sym (ap (λ m. required_by m x) mode ∙ wants_same from to x own)) (may x at room few).limit);
       slaves = refl;
       room = refl;
       cost = omega (arith, reads);
     })
+
+-- what a row requires, by what it requires by
+abbrev needs : Bool → Caps → Bool → Mode → Caps → Bool → Caps
+needs used now armed mode all hold =
+    both (if used then now else no_caps)
+    (both (if armed then while_asleep mode (record { 0 = bit_and wakeup.0 all.0 }) else no_caps) (if hold then all else no_caps))
+
+-- a row put in place of one that is used, armed and held alike, and wants the same now, requires the same
+pub needs_same : (m n : Mode) (x y : Entry) → y.seed ≡ x.seed → y.row.used ≡ x.row.used → y.row.now ≡ x.row.now → y.row.hold ≡ x.row.hold
+    → is_some y.row.armed ≡ is_some x.row.armed → (is_some x.row.armed && arming_differs m n) ≡ false
+    → required_by n y ≡ required_by m x
+needs_same m n x y seed used now hold armed quiet =
+    ap (λ (u : Bool). needs u y.row.now (is_some y.row.armed) n y.seed.all y.row.hold) used
+    ∙ (ap (λ (c : Caps). needs x.row.used c (is_some y.row.armed) n y.seed.all y.row.hold) now
+    ∙ (ap (λ (a : Bool). needs x.row.used x.row.now a n y.seed.all y.row.hold) armed
+    ∙ (ap (λ (s : Pair). needs x.row.used x.row.now (is_some x.row.armed) n s.all y.row.hold) seed
+    ∙ (ap (λ (h : Bool). needs x.row.used x.row.now (is_some x.row.armed) n x.seed.all h) hold ∙ at (is_some x.row.armed) quiet))))
+  where
+    at : (armed : Bool) → (armed && arming_differs m n) ≡ false
+        → needs x.row.used x.row.now armed n x.seed.all x.row.hold ≡ needs x.row.used x.row.now armed m x.seed.all x.row.hold
+    at true is =
+        ap (λ (c : Caps). both (by_use x) (both c (by_hold x))) (sym (awake_both m n (record { 0 = bit_and wakeup.0 x.seed.all.0 }) is))
+    at false is = refl

@@ -190,6 +190,23 @@ any_found p (x ∷ xs) = at (p x) (any_found p xs)
     at true later = refl
     at false later = later
 
+-- whether one was there before this place or is from here on, once the element here is looked at
+pub any_next : {X : Type 0} (p : X → Bool) (xs : List X) (k : ℕ) (x : X) (before now : Bool) → slice_get xs k ≡ Some x
+    → now ≡ (before || p x) → (now || is_some (find p (drop (k + 1) xs))) ≡ (before || is_some (find p (drop k xs)))
+any_next {X = X} p xs k x before now at is =
+    ap (λ b. b || is_some (find p (drop (k + 1) xs))) is
+    ∙ (along before (p x) (find p (drop (k + 1) xs)) ∙ ap (λ o. before || is_some o) (sym (ap (find p) (drop_found xs k x at))))
+  where
+    along : (a b : Bool) (o : Option X) → ((a || b) || is_some o) ≡ (a || is_some (cond b (Some x) o))
+    along true b o = refl
+    along false true o = refl
+    along false false o = refl
+
+-- where none is from here on, one was there before or not
+pub or_none : {X : Type 0} (before : Bool) (o : Option X) → o ≡ None → (before || is_some o) ≡ before
+or_none true o none = refl
+or_none false o none = ap is_some none
+
 -- ---- the rows on a slave
 
 apart : (m n : ℕ) → (m ≡ n → ⊥) → (m == n) ≡ false

@@ -4,7 +4,7 @@ use Rattle.std.specs.Prelude.{slice_get, slice_set, sum_by, count_by}
 use Rattle.std.specs.List.{list_any}
 use Rattle.std.specs.Option.{option_map}
 use Rattle.std.proofs.lemmas.Bool.{eqb-true, eq-eqb}
-use Rattle.std.proofs.lemmas.List.{get_or-set_other}
+use Rattle.std.proofs.lemmas.List.{get_or-set_other, get_or-set_same}
 use Rattle.std.proofs.lemmas.List.Sums.{sum_by-cons}
 use Rattle.std.proofs.lemmas.Option.{unwrap_or-slice_get}
 use Rattle.pm_base.proofs.ListLemmas.{drop_found}
@@ -23,7 +23,7 @@ use Rattle.pm_rows.specs.Shift.{shifted_row, is_taken}
 use Rattle.pm_rows.specs.Counted.{Counted, Table, Tally, AreTallied, AreReady, counted, counted_in, entry_in, is_on, permitted_on, limit_of, moved}
 use Rattle.pm_rows.specs.Passes.{touches, row_after, passed, known_after, cost_of}
 use Rattle.pm_cells.specs.Midway.{midway}
-use Rattle.pm_rows.specs.Passing.{same, done, IsPassing, MayPut, PutsAt}
+use Rattle.pm_rows.specs.Passing.{same, done, IsPassing, MayPut, PutsAt, Turns}
 use Rattle.pm_cells.proofs.Midway.{midway_get, midway_set, midway_same, midway_map, midway_len, midway_count, midway_any, map_same, midway_end, there}
 use Rattle.pm_cells.proofs.Counting.{one_if}
 use Rattle.pm_rows.proofs.Tallies.{tallied_moved, tallied_ready, tallied_limit}
@@ -336,3 +336,16 @@ change_costs m s by rows once =
         → sum_by (cost_of (One m s by) rows) rows ≤ 2 * permitted_on s rows + 4
     at zero is few most nothing some = let none = nothing is in omega arith
     at (suc n) is few most nothing some = omega arith
+
+-- the master of a row changes from the one mode to the other where it is the one at place m
+pub turns_here : (known : List Mode) (m : ℕ) (from to : Mode) (k : ℕ) (table : Table) (seed : Pair)
+    → option_map (λ (e : Entry). e.seed) (slice_get table.entries k) ≡ Some seed → seed.master ≡ m
+    → mode_in m known ≡ from → m < length known → Turns known m from to k table
+turns_here known m from to k table seed pair own mode within x at =
+    let both : Some x.seed ≡ Some seed = ap (option_map (λ (e : Entry). e.seed)) (sym at) ∙ pair in
+    let same_pair : x.seed ≡ seed = cc in
+    let master : x.seed.master ≡ m = ap (λ (s : Pair). s.master) same_pair ∙ own in (
+      ap (λ n. mode_in n known) master ∙ mode,
+      ap (λ n. mode_in n (slice_set known m to)) master
+          ∙ (unwrap_or-slice_get (slice_set known m to) m Off ∙ get_or-set_same known m to Off within),
+    )

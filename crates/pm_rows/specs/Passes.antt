@@ -1,5 +1,5 @@
 -- A pass over all rows: which rows it touches, what it makes of them, and which modes are known afterwards.
-use Rattle.std.specs.Prelude.{ℕ, ◌+◌, Bool, true, false, ◌&&◌, ◌||◌, not, is_some, ◌==◌, if◌then◌else◌, List, slice_set, cond}
+use Rattle.std.specs.Prelude.{ℕ, ◌+◌, Bool, true, false, ◌&&◌, not, is_some, ◌==◌, if◌then◌else◌, List, slice_set, cond}
 use Rattle.pm_base.specs.declared.names.Mode.{Mode}
 use Rattle.pm_rows.specs.declared.row.Pair.{Pair}
 use Rattle.pm_rows.specs.declared.row.Row.{Row}
@@ -8,6 +8,7 @@ use Rattle.pm_rows.specs.declared.passes.Pass.{Pass}
 use Rattle.pm_rows.specs.declared.passes.Pass.TheVariants.{One, Settle, Shift, DropSlave, Clear}
 use Rattle.pm_rows.specs.Rows.{applied, cleared}
 use Rattle.pm_rows.specs.Shift.{shifted_row, is_taken}
+use Rattle.pm_rows.specs.Sound.{is_plain}
 use Rattle.pm_rows.specs.Counted.{permitted_on}
 
 -- the rows of these pairs change
@@ -26,9 +27,9 @@ row_after (Shift m from to) entries entry = shifted_row from to (is_taken entrie
 row_after (DropSlave s) entries entry = cleared entry.row
 row_after Clear entries entry = cleared entry.row
 
--- a row that is not armed, and for which nothing else is scheduled where it is used
-abbrev pub rests : Entry → Bool
-rests entry = not (is_some entry.row.armed) && (not entry.row.used || (entry.row.now.0 == entry.row.next.0))
+-- a row that is not armed where that differs, and in which nothing is scheduled
+abbrev pub rests : Bool → Entry → Bool
+rests differs entry = not (differs && is_some entry.row.armed) && is_plain entry.row
 
 -- each row after the pass
 abbrev pub passed : Pass → List Entry → Entry → Entry

@@ -49,3 +49,10 @@ pub record IsPassing (pass : Pass) (known : List Mode) (rows : List Entry) (star
   pub changed : table.entries ≡ midway (passed pass rows) same k rows
   pub kept : AreTallied (midway (done pass known rows) (counted known) k rows) table.tally
   pub cost : steps + sum_by (cost_of pass rows) (drop k rows) ≤ start + sum_by (cost_of pass rows) rows
+
+-- the master of the row at place k is in one mode where these are known, and in another where that of the master at place m is
+-- set to it
+abbrev pub Turns : List Mode → ℕ → Mode → Mode → ℕ → Table → Type 0
+Turns known m from to k table =
+    (x : Entry) → slice_get table.entries k ≡ Some x
+    → (mode_in x.seed.master known ≡ from) × (mode_in x.seed.master (slice_set known m to) ≡ to)

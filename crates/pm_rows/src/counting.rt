@@ -1,10 +1,13 @@
 //! One count that follows whether a row passes a test.
 
-ghost use Rattle.std.specs.Prelude.{◌≡◌, ◌+◌, ◌≤◌, ◌==◌, ◌<◌, length};
+ghost use Rattle.std.specs.Prelude.{◌≡◌, ◌+◌, ◌≤◌, ◌==◌, ◌&&◌, ◌<◌, false, is_some, length, true};
 ghost use Rattle.std.specs.Int.{bit_at};
 ghost use Rattle.pm_rows.specs.Counted.{IsReady, flag, has, moved_count};
+ghost use Rattle.pm_rows.specs.Wanted.{arming_differs, required_by};
 
-use pm_base::{Caps, Steps};
+use crate::row::Entry;
+use crate::wanted::arming_differs;
+use pm_base::{Caps, Mode, Steps};
 use pm_cells::Counts;
 use std::sync::ledger::Ledger;
 
@@ -77,6 +80,87 @@ pub(crate) fn follow_wants<L: Ledger>(
         follow_capability(access, place, 0, before, after, steps);
         follow_capability(context, place, 1, before, after, steps);
         follow_capability(wakeup, place, 2, before, after, steps);
+    }
+}
+
+/// Whether two are the same.
+fn is_same(before: bool, after: bool) -> bool
+    ensures { result ≡ true → after ≡ before }
+{
+    match (before, after) {
+        (true, true) | (false, false) => true,
+        (true, false) | (false, true) => false,
+    }
+}
+
+/// Whether a row that is put in place of another is used as that one, wants the same now, and is held as that one.
+fn uses_alike(before: Entry, after: Entry) -> bool
+    ensures { result ≡ true → (after.row.used ≡ before.row.used)
+        × (after.row.now ≡ before.row.now) × (after.row.hold ≡ before.row.hold) }
+{
+    is_same(before.row.used, after.row.used)
+        && before.row.now.0 == after.row.now.0
+        && is_same(before.row.hold, after.row.hold)
+}
+
+/// Whether it is armed as that one, and what an armed row requires doesn't differ in the two modes.
+fn arms_alike(before: Entry, from: Mode, after: Entry, to: Mode) -> bool
+    ensures { result ≡ true → (is_some after.row.armed ≡ is_some before.row.armed)
+        × ((is_some before.row.armed && arming_differs from to) ≡ false) }
+{
+    is_same(before.row.armed.is_some(), after.row.armed.is_some())
+        && !(before.row.armed.is_some() && arming_differs(from, to))
+}
+
+/// Whether a row that is put in place of another plainly requires what that one did.
+fn needs_alike(before: Entry, from: Mode, after: Entry, to: Mode) -> bool
+    requires { after.seed ≡ before.seed }
+    ensures { result ≡ true → required_by to after ≡ required_by from before }
+{
+    if uses_alike(before, after) {
+        arms_alike(before, from, after, to)
+    } else {
+        false
+    }
+}
+
+/// Counts a row that is put in place of another, by each capability that is counted. What they require is found where
+/// it may differ.
+#[inline(always)]
+pub(crate) fn follow_needs<L: Ledger>(
+    access: &mut Counts,
+    context: &mut Counts,
+    wakeup: &mut Counts,
+    before: Entry,
+    from: Mode,
+    after: Entry,
+    to: Mode,
+    steps: &mut Steps<L>,
+)
+    requires same { after.seed ≡ before.seed }
+    requires access { IsReady before.seed.slave (has 0 (required_by from before)) access.old }
+    requires context { IsReady before.seed.slave (has 1 (required_by from before)) context.old }
+    requires wakeup { IsReady before.seed.slave (has 2 (required_by from before)) wakeup.old }
+    ensures access { access.new
+        ≡ moved_count before.seed.slave (has 0 (required_by from before)) (has 0 (required_by to after)) access.old }
+    ensures context { context.new
+        ≡ moved_count before.seed.slave (has 1 (required_by from before)) (has 1 (required_by to after)) context.old }
+    ensures wakeup { wakeup.new
+        ≡ moved_count before.seed.slave (has 2 (required_by from before)) (has 2 (required_by to after)) wakeup.old }
+    ensures steps { steps.new ≤ steps.old + 3 }
+{
+    if !needs_alike(before, from, after, to) {
+        let needed = before.required_by(from);
+        let needs = after.required_by(to);
+        follow_wants(
+            access,
+            context,
+            wakeup,
+            before.seed.slave,
+            needed,
+            needs,
+            steps,
+        );
     }
 }
 

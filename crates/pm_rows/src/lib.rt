@@ -17,6 +17,7 @@ mod seeking;
 mod shift;
 mod spans;
 mod table;
+mod turning;
 pub mod wanted;
 
 pub use laws::{rows_know_modes, rows_stay_sound, shifts_leave_others};

@@ -1,10 +1,10 @@
 //! A pass over all rows, which keeps the counts.
 
-ghost use Rattle.std.specs.Prelude.{◌≡◌, ℕ, ◌+◌, ◌<◌, ◌≤◌, length, map, slice_set, sum_by, true};
-ghost use Rattle.pm_rows.specs.declared.passes.Pass.TheVariants.{One, Shift};
-ghost use Rattle.pm_rows.specs.declared.row.Change.TheVariants.{Arm, Set};
+ghost use Rattle.std.specs.Prelude.{◌≡◌, ℕ, ◌+◌, ◌<◌, ◌≤◌, length, map, slice_set, sum_by};
+ghost use Rattle.pm_rows.specs.declared.passes.Pass.TheVariants.{One};
+ghost use Rattle.pm_rows.specs.declared.row.Change.TheVariants.{Arm, Limit, Release, Request, Set};
 ghost use Rattle.pm_rows.specs.Modes.{mode_in};
-ghost use Rattle.pm_rows.specs.Shift.{is_calm, is_taken, shifted_row};
+ghost use Rattle.pm_rows.specs.Shift.{is_taken, shifted_row};
 ghost use Rattle.pm_rows.specs.Counted.{AreTallied, counted};
 ghost use Rattle.pm_rows.specs.Passes.{cost_of, known_after, passed, row_after};
 ghost use Rattle.pm_rows.specs.Passing.{MayPutAt, PutsAt};
@@ -14,7 +14,7 @@ use crate::modes::mode_in;
 use crate::passes::Pass;
 use crate::row::{Change, Entry, Row};
 use crate::seeking::{Sought, is_found};
-use crate::shift::{is_calm, is_start, shifted_row, turned_row};
+use crate::shift::{is_start, shifted_row};
 use crate::table::Table;
 use pm_base::{Caps, Mode, NodeId, Steps};
 use std::marker::Brand;
@@ -75,43 +75,21 @@ fn row_after(table: &Table, entry: Entry, pass: Pass) -> Row
 }
 
 /// Puts the row at a place as a pass asks, and counts it in the mode that its master has afterwards.
-fn put_at<L: Ledger>(table: &mut Table, k: usize, known: &[Mode], pass: &Pass, steps: &mut Steps<L>)
+#[inline(never)]
+fn put_at<L: Ledger>(table: &mut Table, k: usize, known: &[Mode], pass: Pass, steps: &mut Steps<L>)
     requires within { k < length table.old.entries }
     requires ready { MayPutAt known.now k table.old }
-    ensures { PutsAt pass.now known.now k table.old steps.old table.new steps.new }
+    ensures { PutsAt pass known.now k table.old steps.old table.new steps.new }
 {
     let entry = table.entry(k, steps);
-    let row = row_after(table, entry, *pass);
+    let row = row_after(table, entry, pass);
     let from = mode_in(known, entry.seed.master);
-    let to = mode_after(known, *pass, entry.seed.master);
+    let to = mode_after(known, pass, entry.seed.master);
     table.put(k, entry, from, row, to, steps);
 }
 
-/// The same where the mode of the master at place `m` changes calmly: a row that rests is left.
-fn turn_at<L: Ledger>(
-    table: &mut Table,
-    k: usize,
-    known: &[Mode],
-    m: usize,
-    from: Mode,
-    to: Mode,
-    steps: &mut Steps<L>,
-)
-    requires calm { is_calm from to ≡ true }
-    requires within { k < length table.old.entries }
-    requires ready { MayPutAt known.now k table.old }
-    ensures { PutsAt (Shift m from to) known.now k table.old steps.old table.new steps.new }
-{
-    let entry = table.entry(k, steps);
-    if !entry.rests() {
-        let row = turned_row(from, to, entry.row);
-        let was = mode_in(known, entry.seed.master);
-        let is = mode_set(known, m, to, entry.seed.master);
-        table.put_alike(k, entry, was, row, is, steps);
-    }
-}
-
 /// The same where the requirement of a row is set.
+#[inline(always)]
 fn set_at<L: Ledger>(
     table: &mut Table,
     k: usize,
@@ -122,7 +100,8 @@ fn set_at<L: Ledger>(
 )
     requires within { k < length table.old.entries }
     requires ready { MayPutAt known.now k table.old }
-    ensures { (master slave : ℕ) → PutsAt (One master slave (Set mode caps)) known.now k table.old steps.old table.new steps.new }
+    ensures { (master slave : ℕ) →
+        PutsAt (One master slave (Set mode caps)) known.now k table.old steps.old table.new steps.new }
 {
     let entry = table.entry(k, steps);
     let row = entry.row.set_in(mode, caps);
@@ -131,6 +110,7 @@ fn set_at<L: Ledger>(
 }
 
 /// The same where a row is armed or disarmed.
+#[inline(always)]
 fn arm_at<L: Ledger>(
     table: &mut Table,
     k: usize,
@@ -140,7 +120,8 @@ fn arm_at<L: Ledger>(
 )
     requires within { k < length table.old.entries }
     requires ready { MayPutAt known.now k table.old }
-    ensures { (master slave : ℕ) → PutsAt (One master slave (Arm target)) known.now k table.old steps.old table.new steps.new }
+    ensures { (master slave : ℕ) →
+        PutsAt (One master slave (Arm target)) known.now k table.old steps.old table.new steps.new }
 {
     let entry = table.entry(k, steps);
     let row = entry.row.armed_by(target);
@@ -148,7 +129,62 @@ fn arm_at<L: Ledger>(
     table.put_alike(k, entry, is, row, is, steps);
 }
 
+/// The same where a row is used from now on.
+#[inline(always)]
+fn request_at<L: Ledger>(
+    table: &mut Table,
+    k: usize,
+    known: &[Mode],
+    caps: Caps,
+    steps: &mut Steps<L>,
+)
+    requires within { k < length table.old.entries }
+    requires ready { MayPutAt known.now k table.old }
+    ensures { (master slave : ℕ) →
+        PutsAt (One master slave (Request caps)) known.now k table.old steps.old table.new steps.new }
+{
+    let entry = table.entry(k, steps);
+    let row = entry.row.requested(caps);
+    let is = mode_in(known, entry.seed.master);
+    table.put(k, entry, is, row, is, steps);
+}
+
+/// The same where a row isn't used any more.
+#[inline(always)]
+fn release_at<L: Ledger>(table: &mut Table, k: usize, known: &[Mode], steps: &mut Steps<L>)
+    requires within { k < length table.old.entries }
+    requires ready { MayPutAt known.now k table.old }
+    ensures { (master slave : ℕ) →
+        PutsAt (One master slave Release) known.now k table.old steps.old table.new steps.new }
+{
+    let entry = table.entry(k, steps);
+    let row = entry.row.released();
+    let is = mode_in(known, entry.seed.master);
+    table.put(k, entry, is, row, is, steps);
+}
+
+/// The same where a row allows a latency.
+#[inline(always)]
+fn limit_at<L: Ledger>(
+    table: &mut Table,
+    k: usize,
+    known: &[Mode],
+    latency: u32,
+    steps: &mut Steps<L>,
+)
+    requires within { k < length table.old.entries }
+    requires ready { MayPutAt known.now k table.old }
+    ensures { (master slave : ℕ) →
+        PutsAt (One master slave (Limit latency)) known.now k table.old steps.old table.new steps.new }
+{
+    let entry = table.entry(k, steps);
+    let row = entry.row.limited(latency);
+    let is = mode_in(known, entry.seed.master);
+    table.put(k, entry, is, row, is, steps);
+}
+
 /// The same of any change of the row of a pair.
+#[inline(always)]
 fn change_at<L: Ledger>(
     table: &mut Table,
     k: usize,
@@ -165,34 +201,24 @@ fn change_at<L: Ledger>(
     match by {
         Change::Set(mode, caps) => set_at(table, k, known, mode, caps, steps),
         Change::Arm(target) => arm_at(table, k, known, target, steps),
-        Change::Request(_) | Change::Release | Change::Limit(_) => {
-            put_at(table, k, known, &Pass::One(master, slave, by), steps)
-        }
+        Change::Request(caps) => request_at(table, k, known, caps, steps),
+        Change::Release => release_at(table, k, known, steps),
+        Change::Limit(latency) => limit_at(table, k, known, latency, steps),
     }
 }
 
 /// The same of any pass.
-fn pass_at<L: Ledger>(
-    table: &mut Table,
-    k: usize,
-    known: &[Mode],
-    pass: &Pass,
-    steps: &mut Steps<L>,
-)
+#[inline(always)]
+fn pass_at<L: Ledger>(table: &mut Table, k: usize, known: &[Mode], pass: Pass, steps: &mut Steps<L>)
     requires within { k < length table.old.entries }
     requires ready { MayPutAt known.now k table.old }
-    ensures { PutsAt pass.now known.now k table.old steps.old table.new steps.new }
+    ensures { PutsAt pass known.now k table.old steps.old table.new steps.new }
 {
-    match *pass {
+    match pass {
         Pass::One(master, slave, by) => change_at(table, k, known, master, slave, by, steps),
-        Pass::Shift(m, from, to) => {
-            if is_calm(from, to) {
-                turn_at(table, k, known, m, from, to, steps)
-            } else {
-                put_at(table, k, known, pass, steps)
-            }
+        Pass::Settle(_) | Pass::Shift(_, _, _) | Pass::DropSlave(_) | Pass::Clear => {
+            put_at(table, k, known, pass, steps)
         }
-        Pass::Settle(_) | Pass::DropSlave(_) | Pass::Clear => put_at(table, k, known, pass, steps),
     }
 }
 
@@ -207,7 +233,8 @@ fn cover(table: &Table, pass: Pass) -> (usize, usize)
 }
 
 /// Changes the rows that a pass touches, one after another, and counts them in the modes that their masters
-/// have afterwards.
+/// have afterwards. Each caller names its pass, and what the pass doesn't do falls away there.
+#[inline(always)]
 pub(crate) fn pass_over<L: Ledger>(
     table: &mut Table,
     known: &[Mode],
@@ -225,12 +252,13 @@ pub(crate) fn pass_over<L: Ledger>(
     for k in first..past {
         let seed = table.seed(k);
         if pass.touches(seed) {
-            pass_at(table, k, known, &pass, steps);
+            pass_at(table, k, known, pass, steps);
         }
     }
 }
 
 /// The same with a counter that is thrown away.
+#[inline(always)]
 fn pass_uncounted<L: Ledger>(table: &mut Table, known: &[Mode], pass: Pass, blank: Blank)
     requires counted { AreTallied (map (counted known.now) table.old.entries) table.old.tally }
     requires name { blank.name ≡ L.name }
@@ -245,6 +273,7 @@ fn pass_uncounted<L: Ledger>(table: &mut Table, known: &[Mode], pass: Pass, blan
 }
 
 /// The same where nothing bounds how many rows are read.
+#[inline(always)]
 pub(crate) fn pass_all(table: &mut Table, known: &[Mode], pass: Pass)
     requires { AreTallied (map (counted known.now) table.old.entries) table.old.tally }
     ensures rows { table.new.entries ≡ map (passed pass table.old.entries) table.old.entries }

@@ -1,6 +1,7 @@
 //! One row: what a master requires of a slave.
 
 ghost use Rattle.std.specs.Prelude.{◌≡◌, false};
+ghost use Rattle.pm_rows.specs.declared.row.Change.TheVariants.{Request, Release, Limit};
 ghost use Rattle.pm_rows.specs.Passes.{rests};
 ghost use Rattle.pm_rows.specs.Rows as spec;
 ghost use Rattle.pm_rows.specs.Rows.{applied, pair_of, set_in, is_at, is_of_other, is_rival, is_user};
@@ -96,18 +97,58 @@ impl Row {
         }
     }
 
+    /// What the row requires now and next with its requirement set.
+    fn caps_in(self, mode: Mode, caps: Caps) -> (Caps, Caps)
+        ensures { record self { now = result.0; next = result.1 } ≡ set_in mode caps self }
+    {
+        match mode {
+            Mode::Active => (caps, caps),
+            Mode::Suspending => (self.now, caps),
+            Mode::Asleep | Mode::Off => (self.now, self.next),
+        }
+    }
+
     /// The row with its requirement set.
     pub(crate) fn set_in(self, mode: Mode, caps: Caps) -> Row
         ensures { result ≡ set_in mode caps self }
     {
-        match mode {
-            Mode::Active => Row {
-                now: caps,
-                next: caps,
-                ..self
-            },
-            Mode::Suspending => Row { next: caps, ..self },
-            Mode::Asleep | Mode::Off => self,
+        let (now, next) = self.caps_in(mode, caps);
+        Row { now, next, ..self }
+    }
+
+    /// The row used from now on, with these capabilities.
+    pub(crate) fn requested(self, caps: Caps) -> Row
+        ensures { result ≡ applied (Request caps) self }
+    {
+        Row {
+            used: true,
+            now: caps,
+            next: caps,
+            latency: None,
+            ..self
+        }
+    }
+
+    /// The row that isn't used any more.
+    pub(crate) fn released(self) -> Row
+        ensures { result ≡ applied Release self }
+    {
+        Row {
+            used: false,
+            now: Caps(0),
+            next: Caps(0),
+            latency: None,
+            ..self
+        }
+    }
+
+    /// The row with the greatest latency that it allows.
+    pub(crate) fn limited(self, latency: u32) -> Row
+        ensures { result ≡ applied (Limit latency) self }
+    {
+        Row {
+            latency: Some(latency),
+            ..self
         }
     }
 
@@ -126,25 +167,10 @@ impl Row {
         ensures { result ≡ applied by self }
     {
         match by {
-            Change::Request(caps) => Row {
-                used: true,
-                now: caps,
-                next: caps,
-                latency: None,
-                ..self
-            },
-            Change::Release => Row {
-                used: false,
-                now: Caps(0),
-                next: Caps(0),
-                latency: None,
-                ..self
-            },
+            Change::Request(caps) => self.requested(caps),
+            Change::Release => self.released(),
             Change::Set(mode, caps) => self.set_in(mode, caps),
-            Change::Limit(latency) => Row {
-                latency: Some(latency),
-                ..self
-            },
+            Change::Limit(latency) => self.limited(latency),
             Change::Arm(target) => self.armed_by(target),
         }
     }
@@ -206,12 +232,13 @@ impl Entry {
         self.is_of_other(master, slave) && self.row.used && !self.seed.shareable
     }
 
-    /// Whether the row stays as it is while the mode of its master changes, and wants the same in each of them: it isn't armed,
-    /// and where it is used, nothing else is scheduled.
-    pub(crate) fn rests(&self) -> bool
-        ensures { result ≡ rests self.now }
+    /// Whether the row stays as it is while the mode of its master changes, and wants the same in both: it isn't armed
+    /// where that differs in them, and nothing is scheduled.
+    pub(crate) fn rests(&self, differs: bool) -> bool
+        ensures { result ≡ rests differs self.now }
     {
-        self.row.armed.is_none() && (!self.row.used || self.row.now.0 == self.row.next.0)
+        !(differs && self.row.armed.is_some())
+            && (!self.row.used || self.row.next.0 == self.row.now.0)
     }
 
     /// Whether a master uses the slave by this row.

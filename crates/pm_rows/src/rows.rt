@@ -5,7 +5,6 @@ ghost use Rattle.std.specs.List.{list_all};
 ghost use Rattle.pm_rows.specs.declared.row.Change.TheVariants.{Request, Release, Set, Limit, Arm};
 ghost use Rattle.pm_rows.specs.Cost.{IsCheap};
 ghost use Rattle.pm_rows.specs.Counted.{is_placed_seed};
-ghost use Rattle.pm_rows.specs.Rows as spec;
 ghost use Rattle.pm_rows.specs.Rows.{mode_of, loaded_rows, remade, row_changed, settled, slave_dropped, all_cleared, entry_at, row_at, rival_of, users_of, usage_of};
 ghost use Rattle.pm_rows.specs.Shift.{shifted};
 ghost use Rattle.pm_rows.specs.Wanted.{wanted_of};
@@ -15,8 +14,9 @@ use crate::modes::{loaded_modes, mode_in, set_mode};
 use crate::passes::Pass;
 use crate::passing::{pass_all, pass_over};
 use crate::row::{Change, Entry, Row, RowSeed};
-use crate::seeking::{Sought, found, is_found};
+use crate::seeking::{Sought, found, users};
 use crate::table::Table;
+use crate::turning::shift_all;
 use crate::wanted::Wanted;
 use pm_base::{Caps, Mode, NoMemory, NodeId, Steps};
 use std::alloc::Global;
@@ -135,6 +135,7 @@ impl Rows {
 
     /// Changes the row of a pair, where it is there, and no other. Each row that is read and each count that
     /// changes is a step.
+    #[inline(always)]
     pub fn change<L: Ledger>(
         &mut self,
         master: usize,
@@ -224,7 +225,7 @@ impl Rows {
         ensures { self.new ≡ shifted master to self.old }
     {
         let from = mode_in(&self.known, master);
-        pass_all(&mut self.table, &self.known, Pass::Shift(master, from, to));
+        shift_all(&mut self.table, &self.known, master, from, to);
         set_mode(&mut self.known, master, to);
     }
 
@@ -267,27 +268,12 @@ impl Rows {
         self.table.users(slave)
     }
 
-    fn is_used_by(&self, master: usize, slave: usize) -> bool
-        ensures { result ≡ spec.is_used_by master slave self.now }
-    {
-        is_found(&self.table, Sought::Use(master, slave))
-    }
-
-    fn is_used_by_others(&self, master: usize, slave: usize) -> bool
-        ensures { result ≡ spec.is_used_by_others master slave self.now }
-    {
-        is_found(&self.table, Sought::OtherUse(master, slave))
-    }
-
     /// Who uses a slave, as a master is told it: 0 nobody, 1 only that master, 2 only others, 3 both
     /// (UG1200, node status).
     pub fn usage(&self, master: usize, slave: usize) -> u32
         ensures { result ≡ usage_of master slave self.now }
     {
-        match (
-            self.is_used_by(master, slave),
-            self.is_used_by_others(master, slave),
-        ) {
+        match users(&self.table, master, slave) {
             (false, false) => 0,
             (true, false) => 1,
             (false, true) => 2,

@@ -1,7 +1,8 @@
 //! The first row of a slave that is looked for.
 
-ghost use Rattle.std.specs.Prelude.{◌≡◌, find};
+ghost use Rattle.std.specs.Prelude.{◌≡◌, ◌||◌, find};
 ghost use Rattle.std.specs.List.{list_any};
+ghost use Rattle.pm_rows.specs.declared.seeking.Sought.TheVariants.{OtherUse, Use};
 ghost use Rattle.pm_rows.specs.Seeking.{is_sought, slave_of};
 
 use crate::row::Entry;
@@ -57,8 +58,31 @@ pub(crate) fn found(table: &Table, sought: Sought) -> Option<Entry>
 }
 
 /// Whether one is there.
+#[inline(always)]
 pub(crate) fn is_found(table: &Table, sought: Sought) -> bool
     ensures { result ≡ list_any (is_sought sought) table.now.entries }
 {
     found(table, sought).is_some()
+}
+
+fn either(a: bool, b: bool) -> bool
+    ensures { result ≡ (a || b) }
+{
+    a || b
+}
+
+/// Whether this master uses a slave, and whether any other does.
+pub(crate) fn users(table: &Table, master: usize, slave: usize) -> (bool, bool)
+    ensures own { result.0 ≡ list_any (is_sought (Use master slave)) table.now.entries }
+    ensures other { result.1 ≡ list_any (is_sought (OtherUse master slave)) table.now.entries }
+{
+    let (first, past) = table.span(slave);
+    let mut own = false;
+    let mut other = false;
+    for k in first..past {
+        let entry = table.peek(k);
+        own = either(own, Sought::Use(master, slave).is(&entry));
+        other = either(other, Sought::OtherUse(master, slave).is(&entry));
+    }
+    (own, other)
 }

@@ -8,7 +8,7 @@ ghost use Rattle.pm_rows.specs.Rows.{pair_of};
 ghost use Rattle.pm_rows.specs.Spans.{IsSpan};
 ghost use Rattle.pm_rows.specs.Wanted.{nothing_wanted, with_row};
 
-use crate::counting::{flag, follow, follow_wants};
+use crate::counting::{flag, follow, follow_needs, follow_wants};
 use crate::peek::peek;
 use crate::row::{Entry, Pair, Row, RowSeed};
 use crate::spans::Spans;
@@ -346,13 +346,14 @@ impl Table {
         let put = Entry { row, ..entry };
         self.cells.write(k, row);
         self.narrow = stays_narrow(self.narrow, row.now);
-        follow_wants(
+        follow_needs(
             &mut self.access,
             &mut self.context,
             &mut self.wakeup,
-            entry.seed.slave,
-            entry.required_by(from),
-            put.required_by(to),
+            entry,
+            from,
+            put,
+            to,
             steps,
         );
     }

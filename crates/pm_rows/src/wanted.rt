@@ -1,7 +1,7 @@
 //! The requirements in force on a slave.
 
 ghost use Rattle.std.specs.Prelude.{◌≡◌};
-ghost use Rattle.pm_rows.specs.Wanted.{least, both, by_use, by_arming, by_hold, limit_by, required_by, with_row};
+ghost use Rattle.pm_rows.specs.Wanted.{arming_differs, least, both, by_use, by_arming, by_hold, limit_by, required_by, with_row};
 
 use crate::row::Entry;
 use pm_base::{Caps, Mode, at_or};
@@ -28,6 +28,13 @@ fn both(a: Caps, b: Caps) -> Caps
     ensures { result ≡ both a b }
 {
     Caps(a.0 | b.0)
+}
+
+/// Whether what a row requires by its arming may differ in two modes of its master: one of them is sleep.
+pub(crate) fn arming_differs(from: Mode, to: Mode) -> bool
+    ensures { result ≡ arming_differs from to }
+{
+    matches!(from, Mode::Asleep) || matches!(to, Mode::Asleep)
 }
 
 impl Entry {

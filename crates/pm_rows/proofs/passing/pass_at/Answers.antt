@@ -7,11 +7,3 @@ pub returns-in-One : goal.returns-in-One
 returns-in-One g c =
     let P : Pass → Type 0 = λ pass. PutsAt pass c.args.known.now c.args.k c.args.table.now c.args.steps.now c.change_at.new.table c.change_at.new.steps in
     subst P (sym c.in-One.is) c.change_at.ensures
-
-pub returns-then-is_calm : goal.returns-then-is_calm
-returns-then-is_calm g c =
-    let P : Pass → Type 0 = λ pass. PutsAt pass c.args.known.now c.args.k c.args.table.now c.args.steps.now c.turn_at.new.table c.turn_at.new.steps in
-    subst P (sym c.in-Shift.is) c.turn_at.ensures
-
-pub returns-else-is_calm : goal.returns-else-is_calm
-returns-else-is_calm g c = c.put_at.ensures

@@ -1,9 +1,7 @@
 use Rattle.std.proofs.Common.{◌∙◌, Some, ap, length, refl, slice_get, sym}
 use Rattle.std.proofs.lemmas.List.{length-set}
 use Rattle.std.proofs.lemmas.Option.{slice_get_within}
-use Rattle.pm_base.specs.declared.caps.Caps.{Caps}
-use Rattle.pm_rows.specs.Counted.{Table, counted_in, entries_of, has, limit_of, moved, moved_count}
-use Rattle.pm_rows.specs.Wanted.{required_by}
+use Rattle.pm_rows.specs.Counted.{Table, counted_in, entries_of, limit_of, moved}
 use Rattle.pm_rows.proofs.Cells.{seen_cell, seen_put, kept_put}
 use Rattle.pm_rows.proofs.Tallies.{limit_alike, limit_same, wants_moved}
 use Rattle.pm_rows.proofs.table.Table.put_alike.Goals as goal
@@ -45,15 +43,7 @@ returns-clause-tally g c =
     in
     wants_moved x y (entries_of c.self.inside.seeds.items c.write.new.self)
     (record { access = old.access; context = old.context; wakeup = old.wakeup; users = old.users; limits = old.limits })
-    c.follow_wants.new.access c.follow_wants.new.context c.follow_wants.new.wakeup
-    (c.follow_wants.ensures.access
-    ∙ (ap (λ (caps : Caps). moved_count s (has 0 caps) (has 0 c.required_by-2.result) old.access) c.required_by.ensures
-    ∙ ap (λ (caps : Caps). moved_count s (has 0 (required_by c.args.from c.args.entry)) (has 0 caps) old.access) c.required_by-2.ensures))
-    (c.follow_wants.ensures.context
-    ∙ (ap (λ (caps : Caps). moved_count s (has 1 caps) (has 1 c.required_by-2.result) old.context) c.required_by.ensures
-    ∙ ap (λ (caps : Caps). moved_count s (has 1 (required_by c.args.from c.args.entry)) (has 1 caps) old.context) c.required_by-2.ensures))
-    (c.follow_wants.ensures.wakeup
-    ∙ (ap (λ (caps : Caps). moved_count s (has 2 caps) (has 2 c.required_by-2.result) old.wakeup) c.required_by.ensures
-    ∙ ap (λ (caps : Caps). moved_count s (has 2 (required_by c.args.from c.args.entry)) (has 2 caps) old.wakeup) c.required_by-2.ensures))
+    c.follow_needs.new.access c.follow_needs.new.context c.follow_needs.new.wakeup
+    c.follow_needs.ensures.access c.follow_needs.ensures.context c.follow_needs.ensures.wakeup
     c.requires.used limit
     ∙ ap (λ (t : Table). moved x y (entries_of c.self.inside.seeds.items c.write.new.self) t.tally) c.self.view_is
