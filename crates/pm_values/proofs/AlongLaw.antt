@@ -1,6 +1,6 @@
 -- What is logged along a step is what became of the modes along its books, and which processors were down in them.
-use Rattle.std.proofs.Common.{◌≡◌, ℕ, ◌<◌, Bool, true, false, not, ◌||◌, ◌&&◌, List, [], ◌∷◌, length, map, slice_get, refl, sym, ap, ◌∙◌, subst, inl, inr, arith}
-use Rattle.std.specs.Prelude.{⊤, option_map, replicate, unwrap_or}
+use Rattle.std.proofs.Common.{◌≡◌, ℕ, ◌<◌, Bool, true, false, not, ◌||◌, ◌&&◌, List, [], ◌∷◌, length, map, slice_get, refl, zero, suc, sym, ap, ◌∙◌, subst, inl, inr, arith}
+use Rattle.std.specs.Prelude.{⊤, option_map, replicate, slice_set, unwrap_or}
 use Rattle.std.proofs.lemmas.List.{get_or-replicate, length-replicate}
 use Rattle.std.proofs.lemmas.Option.{slice_get_cases, unwrap_or-slice_get}
 use Rattle.pm_base.specs.declared.names.Mode.{Mode}
@@ -20,6 +20,49 @@ use Rattle.pm_state.proofs.PlacedLemmas.{length-placed, slice_get-placed}
 abbrev pub HasOneAtMost : {X : Type 0} → List X → Type 0
 HasOneAtMost [] = ⊤
 HasOneAtMost (x ∷ xs) = xs ≡ []
+
+-- ---- a mode that stays
+
+or_none : (b : Bool) → (b || false) ≡ b
+or_none true = refl
+or_none false = refl
+
+-- nothing becomes of a mode that stays
+pub unturned : (turns : Turns) (before now : Mode) → same_mode before now ≡ true → turns ≡ both_turns turns (turns_of before (now ∷ []))
+unturned turns before now same =
+    let by : Bool → Turns = λ s. record {
+      down = turns.down || ((not s && goes_down before now) || false);
+      on = turns.on || ((not s && goes_on before now) || false);
+      off = turns.off || ((not s && goes_off before now) || false);
+    } in
+    let none : by true ≡ turns =
+    ap (λ d. record { down = d; on = turns.on || false; off = turns.off || false }) (or_none turns.down)
+    ∙ (ap (λ o. record { down = turns.down; on = o; off = turns.off || false }) (or_none turns.on)
+    ∙ ap (λ o. record { down = turns.down; on = turns.on; off = o }) (or_none turns.off))
+    in
+    sym (ap by same ∙ none)
+
+-- an item that is put where it stands changes nothing
+put_same : {X : Type 0} (xs : List X) (k : ℕ) (other : X) → k < length xs → slice_set xs k (unwrap_or (slice_get xs k) other) ≡ xs
+put_same [] k other within = absurd (omega (arith, within))
+put_same (x ∷ xs) zero other within = refl
+put_same (x ∷ xs) (suc k) other within = ap (λ ys. x ∷ ys) (put_same xs k other (omega (arith, within)))
+
+-- so what became of it is as it was logged
+pub turns_stay : (turns : List Turns) (m : ℕ) (before now : Mode) → m < length turns → same_mode before now ≡ true
+    → turns ≡ slice_set turns m (both_turns (turns_logged m turns) (turns_of before (now ∷ [])))
+turns_stay turns m before now within same =
+    sym (ap (λ (t : Turns). slice_set turns m t) (sym (unturned (turns_logged m turns) before now same)) ∙ put_same turns m no_turns within)
+
+-- a processor that was down stays as it was logged
+pub down_stays : (downs : List Bool) (p : ℕ) (now : Bool) → p < length downs → down_logged p downs ≡ true
+    → downs ≡ slice_set downs p (down_logged p downs || now)
+down_stays downs p now within was =
+    sym (ap (λ (b : Bool). slice_set downs p b) (by (down_logged p downs) was) ∙ put_same downs p true within)
+  where
+    by : (b : Bool) → b ≡ true → (b || now) ≡ b
+    by true is = refl
+    by false is = cc
 
 -- ---- what stands at a place
 

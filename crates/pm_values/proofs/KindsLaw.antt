@@ -1,10 +1,10 @@
 -- The places of the units of slaves, and the units that rest.
-use Rattle.std.proofs.Common.{◌≡◌, ℕ, ◌+◌, ◌<◌, ◌/◌, ◌==◌, Bool, true, false, not, if◌then◌else◌, List, [], ◌∷◌, length, map, slice_get, Option, Some, None, refl, zero, suc, arith, ap, sym, ◌∙◌, subst}
+use Rattle.std.proofs.Common.{◌≡◌, ℕ, ◌+◌, ◌<◌, ◌==◌, Bool, true, false, not, if◌then◌else◌, List, [], ◌∷◌, length, map, slice_get, Option, Some, None, refl, zero, suc, arith, ap, sym, ◌∙◌, subst}
 use Rattle.std.specs.Prelude.{nat_lt, option_map, replicate, slice_set, unwrap_or}
 use Rattle.std.specs.List.{list_all}
 use Rattle.std.proofs.lemmas.Bool.{eq-eqb, eqb-true}
 use Rattle.std.proofs.lemmas.Bool.Decides.{nat_tests}
-use Rattle.std.proofs.lemmas.List.{length-replicate, length-set}
+use Rattle.std.proofs.lemmas.List.{length-set}
 use Rattle.std.proofs.lemmas.Option.{slice_get-map, slice_get_within}
 use Rattle.pm_base.proofs.Booleans.{both}
 use Rattle.pm_base.specs.declared.names.NodeId.{NodeId}
@@ -17,8 +17,9 @@ use Rattle.pm_topology.specs.Places.{IsKind, KindLaws, kind_of}
 use Rattle.pm_topology.specs.Units.{UnitLaws, is_before, rises, units_of}
 use Rattle.pm_values.specs.declared.caches.UnitKind.{UnitKind}
 use Rattle.pm_values.specs.declared.caches.UnitKind.TheVariants.{Entry, Reset}
+use Rattle.pm_values.specs.declared.kinds.Other.{Other}
 use Rattle.pm_values.specs.Caches.{kind_of_unit}
-use Rattle.pm_values.specs.Kinds.{AreApart, AreGrouped, AreHomes, AreIndexed, MayRest, may_rest, rests_at, with_home, woken_at}
+use Rattle.pm_values.specs.Kinds.{AreApart, AreHomes, AreIndexed, rests_at, with_home, woken_at}
 
 -- ---- a unit that doesn't rest from now on
 
@@ -49,36 +50,14 @@ all (suc n) (suc g) = all n g
 pub none_rests : (n k : ℕ) → rests_at (replicate n true) k ≡ false
 none_rests n k = ap not (all n k)
 
--- ---- units in groups
+-- ---- units of which none is marked
 
--- the units of one group rest together
-pub rests_alike : (units groups : List Bool) (k j : ℕ) → AreGrouped units groups → j < length units → j / 8 ≡ k / 8 → rests_at groups (k / 8) ≡ true
-    → rests_at units j ≡ true
-rests_alike units groups k j grouped within same is = grouped.whole j within (ap (rests_at groups) same ∙ is)
-
-none_marked : (n k : ℕ) → k < n → rests_at (replicate n false) k ≡ true
+pub none_marked : (n k : ℕ) → k < n → rests_at (replicate n false) k ≡ true
 none_marked zero k within = absurd (omega (arith, within))
 none_marked (suc n) zero within = refl
 none_marked (suc n) (suc k) within = none_marked n k (omega (arith, within))
 
-pub grouped_none : (n : ℕ) (units groups : List Bool) → units ≡ replicate n false → groups ≡ replicate (n / 8 + 1) false → AreGrouped units groups
-grouped_none n units groups are in_groups =
-    let count : length units ≡ n = ap length are ∙ length-replicate n false in
-    record {
-      places = ap length in_groups ∙ (length-replicate (n / 8 + 1) false ∙ ap (λ m. m / 8 + 1) (sym count));
-      whole = λ k within is. ap (λ (us : List Bool). rests_at us k) are ∙ none_marked n k (omega (arith, within, count));
-    }
-
-pub grouped_all : (n m : ℕ) (units groups : List Bool) → length groups ≡ length units / 8 + 1 → units ≡ replicate (length units) true
-    → groups ≡ replicate m true → AreGrouped units groups
-grouped_all n m units groups places are in_groups = record {
-  places = places;
-  whole = λ k within is.
-      let no : false ≡ true = sym (ap (λ (gs : List Bool). rests_at gs (k / 8)) in_groups ∙ none_rests m (k / 8)) ∙ is in
-      cc;
-}
-
-left_alone : (units : List Bool) (k j : ℕ) → (j == k) ≡ false → rests_at units j ≡ true → rests_at (woken_at k units) j ≡ true
+pub left_alone : (units : List Bool) (k j : ℕ) → (j == k) ≡ false → rests_at units j ≡ true → rests_at (woken_at k units) j ≡ true
 left_alone [] k j apart is = is
 left_alone (x ∷ xs) zero zero apart is = cc
 left_alone (x ∷ xs) zero (suc j) apart is = is
@@ -87,21 +66,6 @@ left_alone (x ∷ xs) (suc k) (suc j) apart is = left_alone xs k j (next j k apa
   where
     next : (s t : ℕ) → (suc s == suc t) ≡ false → (s == t) ≡ false
     next s t is = grind (arith, nat_tests)
-
-pub grouped_woken : (k : ℕ) (units groups : List Bool) → AreGrouped units groups → AreGrouped (woken_at k units) (woken_at (k / 8) groups)
-grouped_woken k units groups grouped =
-    let count : length (woken_at k units) ≡ length units = length-set units k true in
-    record {
-      places = length-set groups (k / 8) true ∙ (grouped.places ∙ ap (λ n. n / 8 + 1) (sym count));
-      whole = λ j within is. by j (omega (arith, within, count)) is (j == k) refl;
-    }
-  where
-    by : (j : ℕ) → j < length units → rests_at (woken_at (k / 8) groups) (j / 8) ≡ true → (b : Bool) → (j == k) ≡ b → rests_at (woken_at k units) j ≡ true
-    by j within is true same =
-        let one : j ≡ k = eqb-true j k same in
-        let clash : false ≡ true = sym (woken_here groups (k / 8)) ∙ (ap (λ (n : ℕ). rests_at (woken_at (k / 8) groups) (n / 8)) (sym one) ∙ is) in
-        cc
-    by j within is false apart = left_alone units k j apart (grouped.whole j within (woken_other groups (k / 8) (j / 8) is))
 
 -- ---- the places of the units of slaves, unit by unit
 
@@ -141,7 +105,7 @@ homes_start kinds homes = λ k s within at. absurd (omega (arith, within))
 not_both : (b : Bool) → b ≡ false → b ≡ true → ⊥
 not_both b fails holds = let both_are : false ≡ true = sym fails ∙ holds in cc
 
-earlier : (j k : ℕ) → (j == k) ≡ false → j < k + 1 → j < k
+pub earlier : (j k : ℕ) → (j == k) ≡ false → j < k + 1 → j < k
 earlier j k apart within = grind (arith, nat_tests)
 
 pub homes_next : (slaves : ℕ) (kinds : List UnitKind) (k : ℕ) (kind : UnitKind) (homes : List ℕ) → AreApart slaves kinds → length homes ≡ slaves → slice_get kinds k ≡ Some kind → AreHomes kinds k homes → AreHomes kinds (k + 1) (with_home kind k homes)
@@ -163,30 +127,7 @@ homes_next slaves kinds k kind homes apart places at before = λ j s within ther
         in
         home_kept kind k s homes off ∙ before j s (earlier j k is within) there
 
--- ---- the units that never rest, unit by unit
-
-pub calm_start : (kinds : List UnitKind) (awake : List Bool) → MayRest kinds 0 awake
-calm_start kinds awake = λ k kind within at is. absurd (omega (arith, within))
-
-pub calm_next : (kinds : List UnitKind) (k : ℕ) (kind : UnitKind) (awake : List Bool) (rests : Bool) → rests ≡ may_rest kind → slice_get kinds k ≡ Some kind → MayRest kinds k awake
-    → MayRest kinds (k + 1) (if rests then awake else woken_at k awake)
-calm_next kinds k kind awake true may at before = λ j next within there is. by j next within there is (j == k) refl
-  where
-    by : (j : ℕ) (next : UnitKind) → j < k + 1 → slice_get kinds j ≡ Some next → rests_at awake j ≡ true → (b : Bool) → (j == k) ≡ b → may_rest next ≡ true
-    by j next within there is true own =
-        let same : j ≡ k = eqb-true j k own in
-        let both_here : Some kind ≡ Some next = sym at ∙ (ap (slice_get kinds) (sym same) ∙ there) in
-        let alike : kind ≡ next = cc in
-        ap may_rest (sym alike) ∙ sym may
-    by j next within there is false own = before j next (earlier j k own within) there is
-calm_next kinds k kind awake false may at before = λ j next within there is. by j next within there is (j == k) refl
-  where
-    by : (j : ℕ) (next : UnitKind) → j < k + 1 → slice_get kinds j ≡ Some next → rests_at (woken_at k awake) j ≡ true → (b : Bool) → (j == k) ≡ b → may_rest next ≡ true
-    by j next within there is true own =
-        let same : j ≡ k = eqb-true j k own in
-        let clash : false ≡ true = sym (woken_here awake k) ∙ (ap (rests_at (woken_at k awake)) (sym same) ∙ is) in
-        cc
-    by j next within there is false own = before j next (earlier j k own within) there (woken_other awake k j is)
+-- ---- the units that don't rest from now on, unless they may
 
 pub length_unless : (rests : Bool) (k : ℕ) (awake : List Bool) → length (if rests then awake else woken_at k awake) ≡ length awake
 length_unless true k awake = refl
@@ -260,8 +201,8 @@ are_apart units_hold kinds_hold t kinds are = record {
 
 -- ---- the unit of a slave doesn't rest from now on
 
-module _ (kinds : List UnitKind) (homes : List ℕ) (always awake : List Bool) (s home : ℕ) (after : List Bool)
-    (indexed : AreIndexed kinds homes always awake) (found : home ≡ unwrap_or (slice_get homes s) 0) (woken : after ≡ woken_at home awake)
+module _ (kinds : List UnitKind) (homes : List ℕ) (others : List Other) (awake : List Bool) (s home : ℕ) (after : List Bool)
+    (indexed : AreIndexed kinds homes others awake) (found : home ≡ unwrap_or (slice_get homes s) 0) (woken : after ≡ woken_at home awake)
   where
     pub wakes_own : (k : ℕ) → slice_get kinds k ≡ Some (Entry (Slave s)) → rests_at after k ≡ false
     wakes_own k at =

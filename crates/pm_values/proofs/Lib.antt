@@ -18,3 +18,5 @@ pub mod ModesLaw
 pub mod FollowLaw
 pub mod KindsLaw
 pub mod UnderWay
+pub mod WordsLaw
+pub mod OthersLaw

@@ -1,8 +1,8 @@
 -- After a step that changed modes, and rows of the masters whose mode turned, all other slaves and all reset lines are as before.
-use Rattle.std.proofs.Common.{◌≡◌, ℕ, ◌==◌, ◌&&◌, Bool, true, false, not, List, length, slice_get, unwrap_or, Option, Some, None, refl, arith, ap, sym, ◌∙◌, subst}
+use Rattle.std.proofs.Common.{◌≡◌, ℕ, ◌==◌, ◌&&◌, Bool, true, false, not, List, [], length, slice_get, unwrap_or, Option, Some, None, refl, arith, ap, sym, ◌∙◌, subst}
 use Rattle.std.specs.Prelude.{option_map}
 use Rattle.std.proofs.lemmas.Bool.{eq-eqb}
-use Rattle.std.proofs.lemmas.Option.{slice_get-map, slice_get_within}
+use Rattle.std.proofs.lemmas.Option.{slice_get-map}
 use Rattle.pm_base.specs.declared.names.Mode.{Mode}
 use Rattle.pm_base.specs.declared.names.Unit.{Unit}
 use Rattle.pm_topology.specs.declared.places.Kind.TheVariants.{Proc, Slave, Power, Unknown}
@@ -18,11 +18,14 @@ use Rattle.pm_values.specs.declared.caches.Caches.{Caches}
 use Rattle.pm_values.specs.declared.caches.UnitKind.{UnitKind}
 use Rattle.pm_values.specs.declared.caches.UnitKind.TheVariants.{Entry, Reset}
 use Rattle.pm_values.specs.Along.{Trail}
-use Rattle.pm_values.specs.Caches.{AreSettled, IsChosen, freed_by, is_settled, kind_of_unit, use_of, value_by}
-use Rattle.pm_values.specs.Kinds.{MayRest, may_rest, rests_at}
+use Rattle.pm_values.specs.Caches.{AreSettled, IsChosen, OthersStay, freed_by, is_settled, kind_of_unit, started_at, use_of, value_by}
+use Rattle.pm_values.specs.Kinds.{may_rest, rests_at}
 use Rattle.pm_values.specs.Notifications.{is_used}
 use Rattle.pm_values.specs.Touches.{ChangesModes, IsOfModes, is_among, turned, with_core}
-use Rattle.pm_values.proofs.CachesLaw.{value_by_is}
+use Rattle.pm_power.specs.Forest.{ups}
+use Rattle.pm_values.proofs.CachesLaw.{unit_value_is, value_by_is}
+use Rattle.pm_values.proofs.OthersLaw.{stayed}
+use Rattle.pm_values.proofs.SettledLaw.{rest_starts}
 
 -- ---- a slave on which no such master has a row
 
@@ -88,25 +91,49 @@ module _ (modes now : List Mode) (fixed : Fixed) (before after : CoreHalf) (used
         subst R (sym (are u ∙ ap (value_by fixed before) same)) (kind_settled u kind may clear)
 
 pub modes_settled : (modes : List Mode) (book : State) (along : Trail) (old new : Caches) → IsOfModes modes book along old → IsChosen book old new
-    → MayRest new.kinds.items (length new.kinds.items) new.kinds.awake
+    → OthersStay book along.downs new
     → ((k s : ℕ) → slice_get new.kinds.items k ≡ Some (Entry (Slave s)) → rests_at new.kinds.awake k ≡ true → is_among (turned modes along.modes) book.now.core.rows.entries s ≡ false)
-    → AreSettled (value_by book.fixed book.now.core) (freed_by new.used.items book.now.core.rows) new.kinds.awake new.kinds.items new.values
-modes_settled modes book along old new of_modes chosen_by calm resting = λ k kind at is.
-    let before : CoreHalf = of_modes.before in
-    let was : State = with_core before book in
-    let t : Topology = book.fixed.topology in
-    let us : List Unit = units book in
-    let u : Option Unit = slice_get us k in
-    let found : option_map (kind_of_unit t) u ≡ Some kind =
-    sym (slice_get-map (kind_of_unit t) us k) ∙ (ap (λ ks. slice_get ks k) (sym (chosen_by.kinds ∙ of_modes.kept.kinds)) ∙ at)
-    in
-    let entry : slice_get new.values k ≡ option_map (λ u. (u, value u was)) u =
-    ap (λ es. slice_get es k) (chosen_by.values ∙ of_modes.kept.values) ∙ slice_get-map (λ u. (u, value u was)) us k
-    in
-    let may : may_rest kind ≡ true = calm k kind (slice_get_within new.kinds.items k kind at) at is in (
-      may,
-      ap (is_settled (value_by book.fixed book.now.core kind) (freed_by new.used.items book.now.core.rows kind)) entry
-          ∙ unit_settled modes along.modes book.fixed before book.now.core new.used.items of_modes.changes (chosen_by.used ∙ of_modes.kept.used)
-          t (λ u. value u was) u kind (λ u. sym (value_by_is was u)) found may
-          (λ s slave. resting k s (at ∙ ap (λ x. Some x) slave) is),
-    )
+    → AreSettled (value_by book.fixed book.now.core) (freed_by new.used.items book.now.core.rows) along.downs book.now.core.procs new.kinds.awake new.kinds.items new.values
+modes_settled modes book along old new of_modes chosen_by stay resting = λ k kind at is. by k kind at is (may_rest kind) refl
+  where
+    by : (k : ℕ) (kind : UnitKind) → slice_get new.kinds.items k ≡ Some kind → rests_at new.kinds.awake k ≡ true → (b : Bool) → may_rest kind ≡ b
+        → (started_at along.downs book.now.core.procs kind (slice_get new.values k) ≡ [])
+        × (is_settled (value_by book.fixed book.now.core kind) (freed_by new.used.items book.now.core.rows kind) (slice_get new.values k) ≡ true)
+    by k kind at is true may =
+        let before : CoreHalf = of_modes.before in
+        let was : State = with_core before book in
+        let t : Topology = book.fixed.topology in
+        let us : List Unit = units book in
+        let u : Option Unit = slice_get us k in
+        let found : option_map (kind_of_unit t) u ≡ Some kind =
+        sym (slice_get-map (kind_of_unit t) us k) ∙ (ap (λ ks. slice_get ks k) (sym (chosen_by.kinds ∙ of_modes.kept.kinds)) ∙ at)
+        in
+        let entry : slice_get new.values k ≡ option_map (λ u. (u, value u was)) u =
+        ap (λ es. slice_get es k) (chosen_by.values ∙ of_modes.kept.values) ∙ slice_get-map (λ u. (u, value u was)) us k
+        in (
+          rest_starts along.downs book.now.core.procs kind (slice_get new.values k) may,
+          ap (is_settled (value_by book.fixed book.now.core kind) (freed_by new.used.items book.now.core.rows kind)) entry
+              ∙ unit_settled modes along.modes book.fixed before book.now.core new.used.items of_modes.changes (chosen_by.used ∙ of_modes.kept.used)
+              t (λ u. value u was) u kind (λ u. sym (value_by_is was u)) found may
+              (λ s slave. resting k s (at ∙ ap (λ x. Some x) slave) is),
+        )
+    by k kind at is false may =
+        let core : CoreHalf = book.now.core in
+        let entry : Option (Unit × ℕ) = slice_get new.values k in
+        let still = stayed along.downs core.procs (ups new.power) core.lines new.used.items core.rows new.states.items kind entry (stay k kind at may is) in
+        let same = unit_value_is book.fixed core new.states.items core.procs (ups new.power) core.lines chosen_by.states refl (ap ups chosen_by.power) refl kind in (
+          still.0,
+          ap (λ v. is_settled v (freed_by new.used.items core.rows kind) entry) (sym same) ∙ still.1,
+        )
+
+-- chosen by this book at once and once more
+pub chosen_on : (book : State) (one two three : Caches) → IsChosen book one two → IsChosen book two three → IsChosen book one three
+chosen_on book one two three first later = record {
+  states = later.states;
+  needs = later.needs;
+  runs = later.runs;
+  power = later.power;
+  kinds = later.kinds ∙ first.kinds;
+  used = later.used ∙ first.used;
+  values = later.values ∙ first.values;
+}

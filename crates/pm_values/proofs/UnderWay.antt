@@ -1,4 +1,4 @@
--- The walk over the units, which passes over the groups that rest.
+-- The walk over the units, which passes over those that rest.
 use Rattle.std.proofs.Common.{◌≡◌, ℕ, ◌+◌, ◌-◌, ◌*◌, ◌<◌, ◌≤◌, ◌++◌, Bool, true, List, [], length, take, drop, get_or, slice_get, append-nil, Some, refl, zero, suc, arith, ap, sym, ◌∙◌, subst}
 use Rattle.std.proofs.lemmas.Grind.{drop_more_same}
 use Rattle.std.proofs.lemmas.List.{length-drop}
@@ -13,10 +13,9 @@ use Rattle.pm_values.specs.declared.caches.UnitKind.{UnitKind}
 use Rattle.pm_values.specs.declared.caches.UnitKind.TheVariants.{Entry}
 use Rattle.pm_values.specs.declared.starts.Start.{Start}
 use Rattle.pm_values.specs.Caches.{is_settled, moved_at, moved_by, noticed_at, noticed_by, revalued, started_at, starts_by}
-use Rattle.pm_values.specs.Kinds.{may_rest}
 use Rattle.pm_values.proofs.MovesLemmas.{moves_step, values_step}
 use Rattle.pm_values.proofs.NoticesLaw.{noticed_step}
-use Rattle.pm_values.proofs.SettledLaw.{rest_starts, same_ahead, settles}
+use Rattle.pm_values.proofs.SettledLaw.{same_ahead, settles}
 use Rattle.pm_values.proofs.StartsLaw.{starts_step}
 
 module _ (new : UnitKind → ℕ) (freed : UnitKind → Bool) (downs : List Bool) (procs : List Processor) (kinds : List UnitKind)
@@ -40,12 +39,12 @@ module _ (new : UnitKind → ℕ) (freed : UnitKind → Bool) (downs : List Bool
 
     module _ (values : List (Unit × ℕ)) (moved : Bounded Unit) (starts : Bounded Start) (notices : Bounded Waiting) where
       -- a unit that rests is passed over
-      pass_one : (k : ℕ) (kind : UnitKind) → slice_get kinds k ≡ Some kind → k < length kinds → may_rest kind ≡ true → is_settled (new kind) (freed kind) (slice_get before k) ≡ true
+      pass_one : (k : ℕ) (kind : UnitKind) → slice_get kinds k ≡ Some kind → k < length kinds → started_at downs procs kind (slice_get before k) ≡ [] → is_settled (new kind) (freed kind) (slice_get before k) ≡ true
           → IsUnderWay k values moved starts notices → IsUnderWay (k + 1) values moved starts notices
-      pass_one k kind at inside may is way =
+      pass_one k kind at inside calm is way =
           let own : is_settled (new kind) (freed kind) (slice_get values k) ≡ true = ap (is_settled (new kind) (freed kind)) (same_ahead values before k way.ahead) ∙ is in
           let nothing = settles k (new kind) (freed kind) values (slice_get values k) refl own in
-          let none : started_at downs procs kind (slice_get values k) ≡ [] = rest_starts downs procs kind (slice_get values k) may in
+          let none : started_at downs procs kind (slice_get values k) ≡ [] = ap (started_at downs procs kind) (same_ahead values before k way.ahead) ∙ calm in
           let within : k < length values = omega (arith, inside, way.places) in
           let Values : List (Unit × ℕ) → Type 0 = λ es. take (k + 1) es ++ revalued new (drop (k + 1) kinds) (drop (k + 1) es) ≡ revalued new kinds before in
           let Moved : List (Unit × ℕ) → Type 0 = λ es. moved.items ++ moved_by new (drop (k + 1) kinds) (drop (k + 1) es) ≡ moved_before.items ++ moved_by new kinds before in
@@ -74,7 +73,7 @@ module _ (new : UnitKind → ℕ) (freed : UnitKind → Bool) (downs : List Bool
 
       -- so many units that rest are passed over
       pass_more : (n k : ℕ) → k + n ≤ length kinds
-          → ((j : ℕ) (kind : UnitKind) → k ≤ j → j < k + n → slice_get kinds j ≡ Some kind → (may_rest kind ≡ true) × (is_settled (new kind) (freed kind) (slice_get before j) ≡ true))
+          → ((j : ℕ) (kind : UnitKind) → k ≤ j → j < k + n → slice_get kinds j ≡ Some kind → (started_at downs procs kind (slice_get before j) ≡ []) × (is_settled (new kind) (freed kind) (slice_get before j) ≡ true))
           → IsUnderWay k values moved starts notices → IsUnderWay (k + n) values moved starts notices
       pass_more zero k most settled way =
           let P : ℕ → Type 0 = λ j. IsUnderWay j values moved starts notices in
@@ -90,9 +89,9 @@ module _ (new : UnitKind → ℕ) (freed : UnitKind → Bool) (downs : List Bool
           subst P next (pass_one (k + n) kind at inside still.0 still.1
           (pass_more n k (omega (arith, most)) (λ j kind from to at. settled j kind from (omega (arith, to)) at) way))
 
-      -- up to the place of the first unit of another group
-      pub passed : (k past : ℕ) → k < past → past ≤ length kinds
-          → ((j : ℕ) (kind : UnitKind) → k ≤ j → j < past → slice_get kinds j ≡ Some kind → (may_rest kind ≡ true) × (is_settled (new kind) (freed kind) (slice_get before j) ≡ true))
+      -- up to the place where the walk goes on
+      pub passed : (k past : ℕ) → k ≤ past → past ≤ length kinds
+          → ((j : ℕ) (kind : UnitKind) → k ≤ j → j < past → slice_get kinds j ≡ Some kind → (started_at downs procs kind (slice_get before j) ≡ []) × (is_settled (new kind) (freed kind) (slice_get before j) ≡ true))
           → IsUnderWay k values moved starts notices → IsUnderWay past values moved starts notices
       passed k past more most settled way =
           let P : ℕ → Type 0 = λ j. IsUnderWay j values moved starts notices in

@@ -1,5 +1,5 @@
 -- What a book keeps of its values, so that they needn't be found again. Each of it is a function of the book.
-use Rattle.std.specs.Prelude.{◌≡◌, ◌≤◌, ℕ, ◌+◌, ◌==◌, ◌&&◌, Bool, true, false, not, cond, if◌then◌else◌, List, [], ◌∷◌, ◌++◌, map, length, slice_get, slice_set, unwrap_or, Option, Some, None}
+use Rattle.std.specs.Prelude.{◌≡◌, ◌<◌, ◌≤◌, ℕ, ◌+◌, ◌==◌, ◌&&◌, Bool, true, false, not, cond, if◌then◌else◌, List, [], ◌∷◌, ◌++◌, map, length, slice_get, slice_set, unwrap_or, Option, Some, None}
 use Rattle.pm_base.specs.BoundedList.{Bounded}
 use Rattle.pm_base.specs.declared.names.Unit.{Unit}
 use Rattle.pm_base.specs.declared.names.Unit.TheVariants.{Node, Line}
@@ -11,7 +11,7 @@ use Rattle.pm_topology.specs.Places.{kind_of, line_place}
 use Rattle.pm_topology.specs.Units.{units_of}
 use Rattle.pm_topology.specs.UnitMap.{units_in, value_of}
 use Rattle.pm_power.specs.declared.child.Child.{Child}
-use Rattle.pm_power.specs.Forest.{Needs}
+use Rattle.pm_power.specs.Forest.{Needs, ups}
 use Rattle.pm_power.specs.Needs.{child, children_of, with_needs}
 use Rattle.pm_base.specs.declared.names.Mode.TheVariants.{Active}
 use Rattle.pm_procs.specs.declared.procs.Proc.{Proc as Processor}
@@ -20,6 +20,7 @@ use Rattle.pm_procs.specs.Procs.{mode_at, proc_at}
 use Rattle.pm_values.specs.declared.caches.Caches.{Caches}
 use Rattle.pm_values.specs.declared.caches.UnitKind.{UnitKind}
 use Rattle.pm_values.specs.declared.caches.UnitKind.TheVariants.{Entry, Reset}
+use Rattle.pm_values.specs.declared.kinds.Other.{Other}
 use Rattle.pm_values.specs.declared.starts.Start.{Start}
 use Rattle.pm_notify.specs.declared.notes.Waiting.{Waiting}
 use Rattle.pm_rows.specs.Rows.{Rows}
@@ -117,11 +118,33 @@ abbrev pub is_settled : ℕ → Bool → Option (Unit × ℕ) → Bool
 is_settled value freed None = false
 is_settled value freed (Some e) = (e.1 == value) && not freed
 
--- the units of a table that rest are slaves and reset lines, and nothing happened to them
-abbrev pub AreSettled : (UnitKind → ℕ) → (UnitKind → Bool) → List Bool → List UnitKind → List (Unit × ℕ) → Type 0
-AreSettled new freed awake kinds entries =
+-- the units of a table that rest don't start, and nothing happened to them
+abbrev pub AreSettled : (UnitKind → ℕ) → (UnitKind → Bool) → List Bool → List Processor → List Bool → List UnitKind
+    → List (Unit × ℕ) → Type 0
+AreSettled new freed downs procs awake kinds entries =
     (k : ℕ) (kind : UnitKind) → slice_get kinds k ≡ Some kind → rests_at awake k ≡ true
-    → (may_rest kind ≡ true) × (is_settled (new kind) (freed kind) (slice_get entries k) ≡ true)
+    → (started_at downs procs kind (slice_get entries k) ≡ []) × (is_settled (new kind) (freed kind) (slice_get entries k) ≡ true)
+
+-- nothing happened to a processor or a power node of this kind, by its entry, and it doesn't start
+abbrev pub has_stayed : List Bool → List Processor → List Bool → UnitKind → Option (Unit × ℕ) → Bool
+has_stayed downs procs up (Entry (Proc p)) entry =
+    is_settled (kind_value [] procs up (Proc p)) false entry && not (down_logged p downs && same_mode (mode_at p procs) Active)
+has_stayed downs procs up (Entry (Power w)) entry = is_settled (kind_value [] procs up (Power w)) false entry
+has_stayed downs procs up (Entry (Slave s)) entry = false
+has_stayed downs procs up (Entry Unknown) entry = false
+has_stayed downs procs up (Reset place) entry = false
+
+-- of the first n units of a list those rest to which nothing happened
+abbrev pub ListedStay : List Bool → List Processor → List Bool → List Bool → List Other → ℕ → List (Unit × ℕ) → Type 0
+ListedStay downs procs up awake others n entries =
+    (i : ℕ) (other : Other) → i < n → slice_get others i ≡ Some other → rests_at awake other.unit ≡ true
+    → has_stayed downs procs up other.kind (slice_get entries other.unit) ≡ true
+
+-- of the units that are no slave and no reset line those rest to which nothing happened
+abbrev pub HaveStayed : List Bool → List Processor → List Bool → List Bool → List UnitKind → List (Unit × ℕ) → Type 0
+HaveStayed downs procs up awake kinds entries =
+    (k : ℕ) (kind : UnitKind) → slice_get kinds k ≡ Some kind → may_rest kind ≡ false → rests_at awake k ≡ true
+    → has_stayed downs procs up kind (slice_get entries k) ≡ true
 
 -- what happened to the units of a table
 abbrev pub noticed_by : (UnitKind → ℕ) → (UnitKind → Bool) → List UnitKind → List (Unit × ℕ) → List Waiting
@@ -248,3 +271,8 @@ pub record Finds (book : State) (downs : List Bool) (caches : Caches) (moved_bef
         caches.kinds.items caches.values;
   }
   pub few : length notices_after.items ≤ notice_count (length caches.values)
+
+-- the same of what is kept, by the processors and the power nodes of a book
+abbrev pub OthersStay : State → List Bool → Caches → Type 0
+OthersStay book downs caches =
+    HaveStayed downs book.now.core.procs (ups caches.power) caches.kinds.awake caches.kinds.items caches.values

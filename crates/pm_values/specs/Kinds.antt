@@ -1,7 +1,9 @@
 -- What the value of each unit is found by, and the units that rest in a step.
-use Rattle.std.specs.Prelude.{◌≡◌, ◌<◌, ℕ, ◌+◌, ◌/◌, Bool, true, false, not, List, length, slice_get, slice_set, unwrap_or, Some}
+use Rattle.std.specs.Prelude.{◌≡◌, ◌<◌, ℕ, ◌+◌, ◌*◌, ◌/◌, ◌%◌, ◌^◌, bit_or, Bool, true, false, not, List, length, slice_get, slice_set, unwrap_or, Some}
+use Rattle.std.specs.Int.{bit_at}
 use Rattle.pm_topology.specs.declared.places.Kind.TheVariants.{Proc, Slave, Power, Unknown}
 use Rattle.pm_values.specs.declared.caches.UnitKind.{UnitKind}
+use Rattle.pm_values.specs.declared.kinds.Other.{Other}
 use Rattle.pm_values.specs.declared.caches.UnitKind.TheVariants.{Entry, Reset}
 
 -- the kind of each unit by its place, and which units don't rest
@@ -17,12 +19,18 @@ rests_at awake k = not (unwrap_or (slice_get awake k) true)
 abbrev pub woken_at : ℕ → List Bool → List Bool
 woken_at k awake = slice_set awake k true
 
--- each eight places are a group, and in one that rests all units do
-pub record AreGrouped (units groups : List Bool) : Type 0 where
-  pub places : length groups ≡ length units / 8 + 1
-  pub whole : (k : ℕ) → k < length units → rests_at groups (k / 8) ≡ true → rests_at units k ≡ true
+-- the bit of a place is set in the words, where each has sixty-four places
+abbrev pub with_bit : ℕ → List ℕ → List ℕ
+with_bit k words =
+    slice_set words (k / 64) (bit_or (unwrap_or (slice_get words (k / 64)) 0) (1 * 2 ^ (k % 64) % 2 ^ 64))
 
--- a unit of this kind may rest: it is a slave or a reset line
+-- each sixty-four places have a word, and each unit rests whose bit isn't set in it
+pub record AreInWords (units : List Bool) (words : List ℕ) : Type 0 where
+  pub places : length words ≡ length units / 64 + 1
+  pub clear : (k : ℕ) → k < length units → bit_at (unwrap_or (slice_get words (k / 64)) 0) (k % 64) ≡ 0
+      → rests_at units k ≡ true
+
+-- a unit of this kind is a slave or a reset line
 abbrev pub may_rest : UnitKind → Bool
 may_rest (Entry (Slave s)) = true
 may_rest (Entry (Proc p)) = false
@@ -49,14 +57,25 @@ abbrev pub AreHomes : List UnitKind → ℕ → List ℕ → Type 0
 AreHomes kinds n homes =
     (k s : ℕ) → k < n → slice_get kinds k ≡ Some (Entry (Slave s)) → slice_get homes s ≡ Some k
 
--- of the units before place n none rests but what may
-abbrev pub MayRest : List UnitKind → ℕ → List Bool → Type 0
-MayRest kinds n awake =
-    (k : ℕ) (kind : UnitKind) → k < n → slice_get kinds k ≡ Some kind → rests_at awake k ≡ true → may_rest kind ≡ true
+-- the unit at place k, of this kind, stands in a list
+pub record StandsIn (k : ℕ) (kind : UnitKind) (others : List Other) : Type 0 where
+  pub place : ℕ
+  pub other : Other
+  pub at : slice_get others place ≡ Some other
+  pub number : other.unit ≡ k
+  pub alike : other.kind ≡ kind
 
--- the places of the units of all slaves, and the units that never rest, by the kinds of the units
-pub record AreIndexed (kinds : List UnitKind) (homes : List ℕ) (always awake : List Bool) : Type 0 where
+-- of the units before place n those stand in the list that are no slave and no reset line
+abbrev pub AreListed : List UnitKind → ℕ → List Other → Type 0
+AreListed kinds n others =
+    (k : ℕ) (kind : UnitKind) → k < n → slice_get kinds k ≡ Some kind → may_rest kind ≡ false → StandsIn k kind others
+
+-- each unit rests after it that rested before, and no other
+abbrev pub RestLess : List Bool → List Bool → Type 0
+RestLess before after = (k : ℕ) → rests_at after k ≡ true → rests_at before k ≡ true
+
+-- the places of the units of all slaves, and the units that are no slave and no reset line, by the kinds of the units
+pub record AreIndexed (kinds : List UnitKind) (homes : List ℕ) (others : List Other) (awake : List Bool) : Type 0 where
   pub home : AreHomes kinds (length kinds) homes
-  pub others : MayRest kinds (length kinds) always
-  pub places : length awake ≡ length always
-  pub all : length always ≡ length kinds
+  pub listed : AreListed kinds (length kinds) others
+  pub places : length awake ≡ length kinds

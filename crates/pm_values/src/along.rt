@@ -1,6 +1,6 @@
 //! What is logged along a step: what becomes of the mode of each master, and which processors were down.
 
-ghost use Rattle.std.specs.Prelude.{◌≡◌, ◌∷◌, ◌||◌, [], IfOk, length, map};
+ghost use Rattle.std.specs.Prelude.{◌≡◌, ◌∷◌, ◌||◌, ◌<◌, [], IfOk, length, map, slice_set};
 ghost use Rattle.pm_values.specs.Turns.{turns_of};
 ghost use Rattle.pm_state.specs.Members.{mode_of_master};
 ghost use Rattle.pm_values.specs.Along as spec;
@@ -9,7 +9,7 @@ ghost use Rattle.pm_state.specs.Values.{placed};
 
 use crate::turns::{Turns, turns_between};
 use pm_base::{Mode, NoMemory, at_or};
-use pm_procs::is_awake;
+use pm_procs::{is_awake, same_mode};
 use pm_state::Tables;
 use std::alloc::Global;
 use std::marker::Model;
@@ -116,8 +116,22 @@ fn log_turns(tables: &Tables, modes: &[Mode], turns: &mut [Turns])
     ensures { turns.new ≡ placed (spec.turns_after modes.now turns.old tables.now) 0 tables.now.fixed.object.masters }
 {
     for m in 0..tables.masters() {
-        turns[m] = turns_after(tables, modes, turns, m);
+        add_turns(tables, modes, turns, m);
     }
+}
+
+/// Adds what became of the mode of the master at a place since this was logged.
+fn add_turns(tables: &Tables, modes: &[Mode], turns: &mut [Turns], m: usize)
+    requires { m < length turns.old }
+    ensures { turns.new ≡ slice_set turns.old m (both_turns (turns_logged m turns.old)
+        (turns_of (mode_logged modes.now m) (mode_of_master tables.now.fixed tables.now.now.core m ∷ []))) }
+{
+    let before = at_or(modes, m, Mode::Off);
+    let now = tables.mode_of_master(m);
+    if same_mode(before, now) {
+        return;
+    }
+    turns[m] = turns_after(tables, modes, turns, m);
 }
 
 /// What became of the mode of the master at a place, by what was logged of it.
@@ -147,8 +161,19 @@ fn add_downs(tables: &Tables, downs: &mut [bool])
 {
     let t = tables.topology();
     for p in 0..t.procs.len() {
-        downs[p] = down_after(tables, downs, p);
+        add_down(tables, downs, p);
     }
+}
+
+/// Adds the processor at a place, if it is down, to those that were.
+fn add_down(tables: &Tables, downs: &mut [bool], p: usize)
+    requires { p < length downs.old }
+    ensures { downs.new ≡ slice_set downs.old p (down_logged p downs.old || spec.is_down tables.now p) }
+{
+    if at_or(downs, p, true) {
+        return;
+    }
+    downs[p] = down_after(tables, downs, p);
 }
 
 /// Whether the processor at a place is down, or was so.

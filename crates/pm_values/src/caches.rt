@@ -6,11 +6,11 @@ ghost use Rattle.pm_topology.specs.declared.places.Kind.TheVariants.{Slave};
 ghost use Rattle.pm_topology.specs.Units.{units_of};
 ghost use Rattle.pm_topology.specs.WellFormed.{IsWellFormed};
 ghost use Rattle.pm_power.specs.Needs.{needs_of};
-ghost use Rattle.pm_state.specs.Values.{value};
+ghost use Rattle.pm_state.specs.Values.{chosen, state_at, value};
 ghost use Rattle.pm_values.specs.declared.caches.UnitKind.TheVariants.{Entry};
 ghost use Rattle.pm_topology.specs.UnitMap.{all_at};
-ghost use Rattle.pm_values.specs.Caches.{AreChosen, AreKept, AreSettled, Finds, HasPlaces, HasRoom, IsChosen, IsWritten, freed_by, kind_of_unit, moved_at, noticed_at, value_by, value_kept};
-ghost use Rattle.pm_values.specs.Kinds.{MayRest, rests_at};
+ghost use Rattle.pm_values.specs.Caches.{AreChosen, AreKept, AreSettled, Finds, HasPlaces, HasRoom, IsChosen, IsWritten, OthersStay, freed_by, kind_of_unit, moved_at, noticed_at, value_by, value_kept};
+ghost use Rattle.pm_values.specs.Kinds.{RestLess, rests_at};
 ghost use Rattle.pm_values.specs.Touches.{IsBefore, IsLogged, IsOfModes, IsOfRows, IsTouched, is_among, rests, turned};
 
 use crate::along::Along;
@@ -151,8 +151,8 @@ impl Caches {
         requires room { HasRoom tables.now.fixed.topology self.old moved.old starts.old notices.old }
         requires chosen { AreChosen tables.now self.old }
         requires settled { AreSettled (value_by tables.now.fixed tables.now.now.core)
-            (freed_by self.old.used.items tables.now.now.core.rows) self.old.kinds.awake self.old.kinds.items
-            self.old.values }
+            (freed_by self.old.used.items tables.now.now.core.rows) along.now.downs tables.now.now.core.procs
+            self.old.kinds.awake self.old.kinds.items self.old.values }
         ensures kept { AreKept tables.now self.new }
         ensures found { Finds tables.now along.now.downs self.old moved.old moved.new starts.old starts.new
             notices.old notices.new }
@@ -173,8 +173,8 @@ impl Caches {
         requires room { HasRoom tables.now.fixed.topology self.old moved.old starts.old notices.old }
         requires chosen { AreChosen tables.now self.old }
         requires settled { AreSettled (value_by tables.now.fixed tables.now.now.core)
-            (freed_by self.old.used.items tables.now.now.core.rows) self.old.kinds.awake self.old.kinds.items
-            self.old.values }
+            (freed_by self.old.used.items tables.now.now.core.rows) along.now.downs tables.now.now.core.procs
+            self.old.kinds.awake self.old.kinds.items self.old.values }
         ensures written { IsWritten tables.now self.old self.new }
         ensures found { Finds tables.now along.now.downs self.old moved.old moved.new starts.old starts.new
             notices.old notices.new }
@@ -225,8 +225,8 @@ impl Caches {
         }
     }
 
-    /// The same after a step that changed modes of processors, and rows of the masters whose mode turned: reset lines and
-    /// the slaves on which none of these masters has a row may rest.
+    /// The same after a step that changed modes of processors, and rows of the masters whose mode turned: reset lines,
+    /// the slaves on which none of these masters has a row, and the processors and power nodes that stay as they were, rest.
     fn follow_modes(
         &mut self,
         tables: &Tables,
@@ -243,17 +243,17 @@ impl Caches {
             notices.old notices.new }
     {
         self.choose_turned(tables, along, modes);
+        self.wake_changed(tables, along);
         self.log_values(tables, along, moved, starts, notices);
         log_turned_uses(tables, along, modes, &mut self.used);
     }
 
     /// Chooses the states of the slaves on which a master has a row whose mode turned, and finds which power nodes are up by
-    /// that and by the processors that run. All other slaves may rest.
+    /// that and by the processors that run. All other units rest.
     fn choose_turned(&mut self, tables: &Tables, along: &Along, modes: &[Mode])
         requires places { HasPlaces tables.now.fixed.topology self.old }
         requires of_modes { IsOfModes modes.now tables.now along.now self.old }
         ensures chosen { IsChosen tables.now self.old self.new }
-        ensures calm { MayRest self.new.kinds.items (length self.new.kinds.items) self.new.kinds.awake }
         ensures rests { (k s : ℕ) → slice_get self.new.kinds.items k ≡ Some (Entry (Slave s))
             → rests_at self.new.kinds.awake k ≡ true
             → is_among (turned modes.now along.now.modes) tables.now.now.core.rows.entries s ≡ false }
@@ -268,6 +268,17 @@ impl Caches {
             &mut self.power,
         );
         follow_runs(tables, &mut self.runs, &mut self.power);
+    }
+
+    /// The processors and power nodes to which something happened don't rest from now on.
+    fn wake_changed(&mut self, tables: &Tables, along: &Along)
+        requires { AreChosen tables.now self.old }
+        ensures chosen { IsChosen tables.now self.old self.new }
+        ensures stay { OthersStay tables.now along.now.downs self.new }
+        ensures less { RestLess self.old.kinds.awake self.new.kinds.awake }
+    {
+        self.kinds
+            .wake_changed(along, tables.procs(), self.power.ups(), &self.values);
     }
 
     /// The same after a step that changed the rows on one slave alone: where that rests, all values do.
@@ -287,18 +298,21 @@ impl Caches {
             notices.old notices.new }
     {
         kinds_are_exact();
-        if self.rests(s, tables) {
+        let state = state_of(tables, s);
+        if self.rests(s, state, tables) {
             notices.clear();
             log_use(tables, s, &mut self.used);
         } else {
-            self.follow_slave(s, tables, along, moved, starts, notices);
+            self.follow_slave(s, state, tables, along, moved, starts, notices);
         }
     }
 
-    /// The same where the slave doesn't rest: it alone changes unless the power node above it goes up or down.
+    /// The same where the slave doesn't rest, and this state is chosen for it: it alone changes unless the power node above
+    /// it goes up or down.
     fn follow_slave(
         &mut self,
         s: usize,
+        state: u32,
         tables: &Tables,
         along: &Along,
         moved: &mut BoundedList<Unit>,
@@ -307,6 +321,7 @@ impl Caches {
     )
         requires room { HasRoom tables.now.fixed.topology self.old moved.old starts.old notices.old }
         requires rows { IsOfRows s tables.now along.now self.old }
+        requires state { state ≡ state_at s (slice_get tables.now.fixed.topology.slaves s) tables.now.now.core }
         ensures kept { AreKept tables.now self.new }
         ensures found { Finds tables.now along.now.downs self.old moved.old moved.new starts.old starts.new
             notices.old notices.new }
@@ -316,7 +331,7 @@ impl Caches {
         match slave_at(tables.topology().slaves.as_slice(), s) {
             Some(slave) => {
                 let was_up = at_or(self.power.ups(), slave.parent, false);
-                self.choose_slave(s, slave, tables);
+                self.choose_slave(s, state, slave, tables);
                 if at_or(self.power.ups(), slave.parent, false) == was_up {
                     self.log_slave(s, slave.node, tables, moved, notices);
                 } else {
@@ -327,13 +342,14 @@ impl Caches {
         }
     }
 
-    /// Chooses the state of the slave at a place, and finds which power nodes are up by that.
-    fn choose_slave(&mut self, s: usize, slave: &SlaveDef, tables: &Tables)
+    /// Writes the state that is chosen for the slave at a place, and finds which power nodes are up by that.
+    fn choose_slave(&mut self, s: usize, state: u32, slave: &SlaveDef, tables: &Tables)
         requires there { slice_get tables.now.fixed.topology.slaves s ≡ Some slave.now }
         requires rows { IsBefore s tables.now self.old }
+        requires state { state ≡ chosen tables.now.now.core s slave.now }
         ensures { IsChosen tables.now self.old self.new }
     {
-        let need = choose_one(tables, s, slave, &mut self.states, &mut self.needs);
+        let need = choose_one(tables, s, state, slave, &mut self.states, &mut self.needs);
         self.power.put(s, need);
     }
 
@@ -375,11 +391,13 @@ impl Caches {
         log_use(tables, s, &mut self.used);
     }
 
-    /// Whether the slave at a place is in the state that is kept, and wasn't left without users.
-    fn rests(&self, s: usize, tables: &Tables) -> bool
+    /// Whether the slave at a place, for which this state is chosen, is in the state that is kept, and wasn't left without
+    /// users.
+    fn rests(&self, s: usize, state: u32, tables: &Tables) -> bool
+        requires { state ≡ state_at s (slice_get tables.now.fixed.topology.slaves s) tables.now.now.core }
         ensures { result ≡ rests s tables.now self.now }
     {
-        state_of(tables, s) == at_or(&self.states, s, 0)
+        state == at_or(&self.states, s, 0)
             && !freed(UnitKind::Entry(Kind::Slave(s)), &self.used, tables.rows())
     }
 }

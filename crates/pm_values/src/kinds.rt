@@ -1,26 +1,36 @@
 //! What the value of each unit is found by, and the units that rest in a step.
 
-ghost use Rattle.std.specs.Prelude.{◌≡◌, ℕ, IfOk, Some, false, if◌then◌else◌, length, map, slice_get, slice_set, true};
+ghost use Rattle.std.specs.Prelude.{◌≡◌, ℕ, ◌<◌, ◌++◌, ◌∷◌, [], IfOk, Some, false, if◌then◌else◌, length, map, slice_get, slice_set, true};
 ghost use Rattle.pm_topology.specs.declared.places.Kind.TheVariants.{Slave};
 ghost use Rattle.pm_topology.specs.Units.{units_of};
 ghost use Rattle.pm_values.specs.declared.caches.UnitKind.TheVariants.{Entry};
-ghost use Rattle.pm_values.specs.Caches.{kind_of_unit};
-ghost use Rattle.pm_values.specs.Kinds.{AreApart, AreHomes, AreIndexed, MayRest, may_rest, rests_at, with_home, woken_at};
+ghost use Rattle.pm_values.specs.Caches.{HaveStayed, ListedStay, has_stayed, kind_of_unit};
+ghost use Rattle.pm_values.specs.Kinds.{AreApart, AreHomes, AreIndexed, AreListed, RestLess, may_rest, rests_at, with_home, woken_at};
 
+use crate::along::Along;
 use crate::caches::UnitKind;
 use crate::marks::Marks;
-use pm_base::{NoMemory, Unit, at_or, with};
-use pm_topology::{Kind, Topology, kinds_are_exact, units_of, units_stand_in_order};
+use crate::moves::{is_settled, kind_value};
+use pm_base::{Mode, NoMemory, Unit, at_or, with};
+use pm_procs::{Procs, same_mode};
+use pm_topology::{Kind, Topology, UnitMap, kinds_are_exact, units_of, units_stand_in_order};
 use std::alloc::Global;
 use std::marker::Model;
 
+/// A unit that is no slave and no reset line: its place, and its kind.
+#[derive(Clone, Copy, Debug, PartialEq, Eq)]
+pub struct Other {
+    pub unit: usize,
+    pub kind: UnitKind,
+}
+
 /// The kind of each unit by its place. Beside these stand the place of the unit of each slave, the units that are no slave
-/// and no reset line, which never rest, and those that don't rest in this step.
+/// and no reset line, and those that don't rest in this step.
 #[derive(Drop)]
 pub struct Kinds {
     kinds: Vec<UnitKind>,
     homes: Vec<usize>,
-    always: Marks,
+    others: Vec<Other>,
     awake: Marks,
 }
 
@@ -31,7 +41,7 @@ impl Model for Kinds {
 
     ghost view = { λ kinds. record { items = kinds.kinds.items; awake = kinds.awake } };
 
-    ghost invariant = { λ kinds. AreIndexed kinds.kinds.items kinds.homes.items kinds.always kinds.awake };
+    ghost invariant = { λ kinds. AreIndexed kinds.kinds.items kinds.homes.items kinds.others.items kinds.awake };
 }
 
 impl Kinds {
@@ -43,11 +53,11 @@ impl Kinds {
         kinds_are_exact();
         let kinds = unit_kinds(alloc, t)?;
         let beside = beside_of(alloc, t.slaves.len(), &kinds);
-        let (kinds, (homes, (always, awake))) = with(kinds, beside)?;
+        let (kinds, (homes, (others, awake))) = with(kinds, beside)?;
         Ok(Kinds {
             kinds,
             homes,
-            always,
+            others,
             awake,
         })
     }
@@ -67,12 +77,27 @@ impl Kinds {
         &self.awake
     }
 
-    /// All units rest but for those that never do.
+    /// All units rest.
     pub(crate) fn rest(&mut self)
-        ensures items { self.new.items ≡ self.old.items }
-        ensures calm { MayRest self.old.items (length self.old.items) self.new.awake }
+        ensures { self.new.items ≡ self.old.items }
     {
-        self.awake.copy_from(&self.always);
+        self.awake.rest_all();
+    }
+
+    /// Of the units that are no slave and no reset line, those don't rest from now on to which something happened by the
+    /// processors and the power nodes that are up, and those that start.
+    pub(crate) fn wake_changed(
+        &mut self,
+        along: &Along,
+        procs: &Procs,
+        ups: &[bool],
+        values: &UnitMap<u32>,
+    )
+        ensures items { self.new.items ≡ self.old.items }
+        ensures stay { HaveStayed along.now.downs procs.now.procs ups.now self.new.awake self.new.items values.now }
+        ensures less { RestLess self.old.awake self.new.awake }
+    {
+        wake_changed(&self.others, along, procs, ups, values, &mut self.awake);
     }
 
     /// No unit rests.
@@ -103,30 +128,29 @@ fn unit_kinds(alloc: Global, t: &Topology) -> Result<Vec<UnitKind>, NoMemory>
     kinds_of(alloc, t, units.as_slice())
 }
 
-/// What stands beside the kinds: the places of the units of so many slaves, the units that never rest, and those that
-/// don't rest in this step.
+/// What stands beside the kinds: the places of the units of so many slaves, the units that are no slave and no reset line,
+/// and room for those that don't rest in a step.
 fn beside_of(
     alloc: Global,
     slaves: usize,
     kinds: &[UnitKind],
-) -> Result<(Vec<usize>, (Marks, Marks)), NoMemory>
+) -> Result<(Vec<usize>, (Vec<Other>, Marks)), NoMemory>
     requires { AreApart slaves kinds.now }
-    ensures { IfOk result (λ beside. AreIndexed kinds.now beside.0.items beside.1.0 beside.1.1) }
+    ensures { IfOk result (λ beside. AreIndexed kinds.now beside.0.items beside.1.0.items beside.1.1) }
 {
     let homes = homes_of(alloc, slaves, kinds)?;
     let marks = marks_of(alloc, kinds);
     with(homes, marks)
 }
 
-/// The units that never rest, and room for those that don't rest in a step.
-fn marks_of(alloc: Global, kinds: &[UnitKind]) -> Result<(Marks, Marks), NoMemory>
-    ensures others { IfOk result (λ marks. MayRest kinds.now (length kinds.now) marks.0) }
-    ensures places { IfOk result (λ marks. length marks.0 ≡ length kinds.now) }
-    ensures count { IfOk result (λ marks. length marks.1 ≡ length marks.0) }
+/// The units that are no slave and no reset line, and room for those that don't rest in a step.
+fn marks_of(alloc: Global, kinds: &[UnitKind]) -> Result<(Vec<Other>, Marks), NoMemory>
+    ensures listed { IfOk result (λ marks. AreListed kinds.now (length kinds.now) marks.0.items) }
+    ensures places { IfOk result (λ marks. length marks.1 ≡ length kinds.now) }
 {
-    let always = always_of(alloc, kinds)?;
-    let awake = Marks::load(alloc, always.len());
-    with(always, awake)
+    let others = others_of(alloc, kinds)?;
+    let awake = Marks::load(alloc, kinds.len());
+    with(others, awake)
 }
 
 fn kinds_of(alloc: Global, t: &Topology, units: &[Unit]) -> Result<Vec<UnitKind>, NoMemory>
@@ -148,7 +172,7 @@ fn kind_of_unit(t: &Topology, unit: Unit) -> UnitKind
     }
 }
 
-/// Whether a unit of this kind may rest: it is a slave or a reset line.
+/// Whether a unit of this kind is a slave or a reset line.
 fn may_rest(kind: UnitKind) -> bool
     ensures { result ≡ may_rest kind }
 {
@@ -197,23 +221,76 @@ fn put_home(s: usize, k: usize, homes: &mut [usize])
     }
 }
 
-/// The units that never rest.
-fn always_of(alloc: Global, kinds: &[UnitKind]) -> Result<Marks, NoMemory>
-    ensures others { IfOk result (λ always. MayRest kinds.now (length kinds.now) always) }
-    ensures places { IfOk result (λ always. length always ≡ length kinds.now) }
+/// The units that are no slave and no reset line.
+fn others_of(alloc: Global, kinds: &[UnitKind]) -> Result<Vec<Other>, NoMemory>
+    ensures { IfOk result (λ others. AreListed kinds.now (length kinds.now) others.items) }
 {
-    let mut always = Marks::load(alloc, kinds.len())?;
-    wake_others(kinds, &mut always);
-    Ok(always)
+    let mut others = Vec::new(alloc);
+    for (k, kind) in kinds.iter().enumerate() {
+        list_unless(may_rest(*kind), k, *kind, &mut others)?;
+    }
+    Ok(others)
 }
 
-/// The units don't rest that are no slave and no reset line.
-fn wake_others(kinds: &[UnitKind], awake: &mut Marks)
-    ensures places { length awake.new ≡ length awake.old }
-    ensures others { MayRest kinds.now (length kinds.now) awake.new }
+/// Puts the unit at a place, of this kind, behind the others, unless it is a slave or a reset line.
+fn list_unless(may: bool, k: usize, kind: UnitKind, others: &mut Vec<Other>) -> Result<(), NoMemory>
+    ensures { IfOk result (λ _. others.new.items
+        ≡ (if may then others.old.items else others.old.items ++ record { unit = k; kind = kind } ∷ [])) }
 {
-    for (k, kind) in kinds.iter().enumerate() {
-        wake_unless(may_rest(*kind), k, awake);
+    if may {
+        return Ok(());
+    }
+    others.push(Other { unit: k, kind }).map_err(|_| NoMemory)
+}
+
+/// Of these units, those don't rest from now on to which something happened.
+fn wake_changed(
+    others: &[Other],
+    along: &Along,
+    procs: &Procs,
+    ups: &[bool],
+    values: &UnitMap<u32>,
+    awake: &mut Marks,
+)
+    ensures places { length awake.new ≡ length awake.old }
+    ensures stay { ListedStay along.now.downs procs.now.procs ups.now awake.new others.now (length others.now)
+        values.now }
+    ensures less { RestLess awake.old awake.new }
+{
+    for i in 0..others.len() {
+        let other = other_at(others, i);
+        let stays = has_stayed(other.kind, along, procs, ups, values.entry(other.unit));
+        wake_unless(stays, other.unit, awake);
+    }
+}
+
+fn other_at(others: &[Other], i: usize) -> Other
+    requires { i < length others.now }
+    ensures { slice_get others.now i ≡ Some result }
+{
+    others[i]
+}
+
+/// Whether nothing happened to a processor or a power node of this kind, by its entry, and it doesn't start.
+fn has_stayed(
+    kind: UnitKind,
+    along: &Along,
+    procs: &Procs,
+    ups: &[bool],
+    entry: Option<(Unit, u32)>,
+) -> bool
+    ensures { result ≡ has_stayed along.now.downs procs.now.procs ups.now kind entry }
+{
+    match kind {
+        UnitKind::Entry(Kind::Proc(p)) => {
+            is_settled(entry, kind_value(Kind::Proc(p), &[], procs, ups), false)
+                && !(along.was_down(p) && same_mode(procs.mode(p), Mode::Active))
+        }
+        UnitKind::Entry(Kind::Power(w)) => {
+            is_settled(entry, kind_value(Kind::Power(w), &[], procs, ups), false)
+        }
+        UnitKind::Entry(Kind::Slave(_) | Kind::Unknown) => false,
+        UnitKind::Reset(_) => false,
     }
 }
 

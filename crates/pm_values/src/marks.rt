@@ -1,32 +1,33 @@
-//! Marks of units, in groups.
+//! Marks of units, a bit for each.
 
-ghost use Rattle.std.specs.Prelude.{◌≡◌, ℕ, ◌+◌, ◌<◌, ◌≤◌, ◌/◌, IfOk, false, length, replicate, true};
-ghost use Rattle.pm_values.specs.Kinds.{rests_at, woken_at};
+ghost use Rattle.std.specs.Prelude.{◌≡◌, ℕ, ◌+◌, ◌<◌, ◌≤◌, ◌/◌, ◌%◌, IfOk, false, length, replicate, true};
+ghost use Rattle.std.specs.Int.{bit_at};
+ghost use Rattle.pm_values.specs.Kinds.{rests_at, with_bit, woken_at};
 
 use pm_base::{NoMemory, at_or, with};
 use std::alloc::Global;
 use std::marker::Model;
 
-/// How many units stand in a group.
-const GROUP: usize = 8;
+/// How many units have their bits in one word.
+const WORD: usize = 64;
 
-/// Which units don't rest, by their places, and beside these the groups in which one stands: a walk over the units passes
-/// over all others. Contracts see the marks of the units.
+/// Which units don't rest, by their places, and beside these the same as bits of words: a walk over the units passes
+/// over those whose bit isn't set. Contracts see the marks of the units.
 #[derive(Drop)]
 pub struct Marks {
     units: Vec<bool>,
-    groups: Vec<bool>,
+    words: Vec<u64>,
 }
 
 impl Model for Marks {
     ghost use Rattle.std.specs.Prelude.{Bool, List as Sequence};
-    ghost use Rattle.pm_values.specs.Kinds.{AreGrouped};
+    ghost use Rattle.pm_values.specs.Kinds.{AreInWords};
 
     ghost Value = { Sequence Bool };
 
     ghost view = { λ marks. marks.units.items };
 
-    ghost invariant = { λ marks. AreGrouped marks.units.items marks.groups.items };
+    ghost invariant = { λ marks. AreInWords marks.units.items marks.words.items };
 }
 
 impl Marks {
@@ -35,9 +36,9 @@ impl Marks {
         ensures { IfOk result (λ marks. marks ≡ replicate units false) }
     {
         let marks = unmarked(alloc, units)?;
-        let groups = unmarked(alloc, units / GROUP + 1);
-        let (units, groups) = with(marks, groups)?;
-        Ok(Marks { units, groups })
+        let words = no_bits(alloc, units / WORD + 1);
+        let (units, words) = with(marks, words)?;
+        Ok(Marks { units, words })
     }
 
     /// The number of units.
@@ -52,7 +53,7 @@ impl Marks {
         ensures { self.new ≡ woken_at k self.old }
     {
         mark(k, &mut self.units);
-        mark(k / GROUP, &mut self.groups);
+        set_bit(k, &mut self.words);
     }
 
     /// No unit rests.
@@ -60,58 +61,54 @@ impl Marks {
         ensures { self.new ≡ replicate (length self.old) true }
     {
         self.units.fill(true);
-        self.groups.fill(true);
+        self.words.fill(u64::MAX);
     }
 
-    /// Those units rest that rest in others.
-    pub(crate) fn copy_from(&mut self, from: &Marks)
-        requires { length self.old ≡ length from.now }
-        ensures { self.new ≡ from.now }
+    /// All units rest.
+    pub(crate) fn rest_all(&mut self)
+        ensures { self.new ≡ replicate (length self.old) false }
     {
-        self.units.copy_from_slice(&from.units);
-        self.groups.copy_from_slice(&from.groups);
+        self.units.fill(false);
+        self.words.fill(0);
     }
 
-    /// Whether the unit at a place rests.
-    pub(crate) fn rests(&self, k: usize) -> bool
-        requires { k < length self.now }
-        ensures { result ≡ rests_at self.now k }
-    {
-        rests_at(&self.units, k)
-    }
-
-    /// The place where the walk over the units goes on behind one that rests: all units from this one up to there rest.
+    /// The place where the walk over the units goes on behind this one: all units between them rest.
     pub(crate) fn past(&self, k: usize) -> usize
-        requires within { k < length self.now }
-        requires rests { rests_at self.now k ≡ true }
+        requires { k < length self.now }
         ensures more { k < result }
         ensures most { result ≤ length self.now }
-        ensures all { (j : ℕ) → k ≤ j → j < result → rests_at self.now j ≡ true }
+        ensures all { (j : ℕ) → k < j → j < result → rests_at self.now j ≡ true }
     {
-        if rests_at(&self.groups, k / GROUP) {
-            past_group(k, self.units.len())
-        } else {
-            k + 1
-        }
+        let units = self.units.len();
+        let next = k + 1;
+        past_bits(next, at_or(&self.words, next / WORD, 0), units)
     }
 }
 
-/// Whether there is a place in these marks that isn't marked.
-fn rests_at(marks: &[bool], k: usize) -> bool
-    ensures { result ≡ rests_at marks.now k }
+/// The first place from this one on whose bit is set in the word of this place, and past the last bit of the word or the
+/// last unit if none is.
+fn past_bits(k: usize, word: u64, units: usize) -> usize
+    requires { k ≤ units }
+    ensures more { k ≤ result }
+    ensures most { result ≤ units }
+    ensures clear { (j : ℕ) → k ≤ j → j < result → (j / 64 ≡ k / 64) × (bit_at word (j % 64) ≡ 0) }
 {
-    !at_or(marks, k, true)
+    let clear = clear_from(word, k % WORD);
+    if units - k < clear { units } else { k + clear }
 }
 
-/// The place of the first unit of the next group, and this one past the last unit.
-fn past_group(k: usize, units: usize) -> usize
-    requires { k < units }
-    ensures more { k < result }
-    ensures most { result ≤ units }
-    ensures same { (j : ℕ) → k ≤ j → j < result → j / 8 ≡ k / 8 }
+/// How many bits of a word from this one on aren't set, up to the first one that is.
+fn clear_from(word: u64, bit: usize) -> usize
+    requires { bit < 64 }
+    ensures within { bit + result ≤ 64 }
+    ensures clear { (i : ℕ) → bit ≤ i → i < bit + result → bit_at word i ≡ 0 }
 {
-    let left = GROUP - k % GROUP;
-    if units - k < left { units } else { k + left }
+    let left = word >> bit;
+    if left == 0 {
+        WORD - bit
+    } else {
+        left.trailing_zeros() as usize
+    }
 }
 
 /// Marks a place, if it is there.
@@ -121,6 +118,23 @@ fn mark(k: usize, marks: &mut [bool])
     if k < marks.len() {
         marks[k] = true;
     }
+}
+
+/// Sets the bit of a place, if its word is there.
+fn set_bit(k: usize, words: &mut [u64])
+    ensures { words.new ≡ with_bit k words.old }
+{
+    let place = k / WORD;
+    if place < words.len() {
+        words[place] |= 1u64 << (k % WORD);
+    }
+}
+
+/// So many words, none of whose bits is set.
+fn no_bits(alloc: Global, words: usize) -> Result<Vec<u64>, NoMemory>
+    ensures { IfOk result (λ bits. bits.items ≡ replicate words 0) }
+{
+    Vec::from_elem(alloc, 0, words).map_err(|_| NoMemory)
 }
 
 /// So many places, none of which is marked.

@@ -36,7 +36,8 @@ pub(crate) fn log_units(
     notices: &mut BoundedList<Waiting>,
 )
     requires settled { AreSettled (unit_value states.now tables.now.now.core.procs ups.now tables.now.now.core.lines)
-        (freed_by used.now tables.now.now.core.rows) awake.now kinds.now values.old }
+        (freed_by used.now tables.now.now.core.rows) along.now.downs tables.now.now.core.procs awake.now kinds.now
+        values.old }
     requires marks { length awake.now ≡ length kinds.now }
     requires places { length kinds.now ≡ length values.old }
     requires room { length moved.old.items + length values.old ≤ moved.old.room }
@@ -66,15 +67,11 @@ pub(crate) fn log_units(
     let rows = tables.rows();
     let mut k = 0;
     while k < kinds.len() {
-        if awake.rests(k) {
-            k = awake.past(k);
-        } else {
-            log_kind(
-                k, kinds[k], along, states, procs, ups, resets, used, rows, values, moved, starts,
-                notices,
-            );
-            k += 1;
-        }
+        log_kind(
+            k, kinds[k], along, states, procs, ups, resets, used, rows, values, moved, starts,
+            notices,
+        );
+        k = awake.past(k);
     }
 }
 
@@ -143,18 +140,20 @@ fn log_unit(
     if is_settled(entry, value, freed) {
         return;
     }
-    log_change(k, value, freed, values, moved, notices);
+    log_change(k, entry, value, freed, values, moved, notices);
 }
 
-/// The same of a unit to which something happened.
+/// The same of a unit to which something happened, by its entry.
 fn log_change(
     k: usize,
+    entry: Option<(Unit, u32)>,
     value: u32,
     freed: bool,
     values: &mut UnitMap<u32>,
     moved: &mut BoundedList<Unit>,
     notices: &mut BoundedList<Waiting>,
 )
+    requires entry { entry ≡ slice_get values.old k }
     requires room { length moved.old.items < moved.old.room }
     requires notices { length notices.old.items + 2 ≤ notices.old.room }
     ensures values { values.new ≡ with_value_at k value values.old }
@@ -164,12 +163,13 @@ fn log_change(
         ≡ record notices.old { items = notices.old.items ++ noticed_at value freed (slice_get values.old k) } }
     ensures few { length notices.new.items ≤ length notices.old.items + 2 }
 {
-    log_notice(values.entry(k), value, freed, notices);
-    log_move(k, value, values, moved);
+    log_notice(entry, value, freed, notices);
+    log_move(entry, value, moved);
+    values.set_at(k, value);
 }
 
 /// Whether nothing happened to the unit of an entry: its value is the one before, and it wasn't left without users.
-fn is_settled(entry: Option<(Unit, u32)>, value: u32, freed: bool) -> bool
+pub(crate) fn is_settled(entry: Option<(Unit, u32)>, value: u32, freed: bool) -> bool
     ensures { result ≡ is_settled value freed entry }
 {
     match entry {
@@ -178,19 +178,16 @@ fn is_settled(entry: Option<(Unit, u32)>, value: u32, freed: bool) -> bool
     }
 }
 
-/// Writes the value of the unit at a place, and puts the unit into `moved` if that isn't the one before.
-fn log_move(k: usize, value: u32, values: &mut UnitMap<u32>, moved: &mut BoundedList<Unit>)
+/// Puts the unit of an entry into `moved` if this value isn't the one before.
+fn log_move(entry: Option<(Unit, u32)>, value: u32, moved: &mut BoundedList<Unit>)
     requires { length moved.old.items < moved.old.room }
-    ensures values { values.new ≡ with_value_at k value values.old }
-    ensures moved { moved.new
-        ≡ record moved.old { items = moved.old.items ++ moved_at value (slice_get values.old k) } }
+    ensures { moved.new ≡ record moved.old { items = moved.old.items ++ moved_at value entry } }
 {
-    if let Some((unit, before)) = values.entry(k) {
+    if let Some((unit, before)) = entry {
         if before != value {
             moved.push(unit);
         }
     }
-    values.set_at(k, value);
 }
 
 /// The value of a unit of this kind.
@@ -220,7 +217,7 @@ fn line_at(place: Option<usize>, resets: &Resets) -> u32
 
 /// The value of a node of this kind: the state of a slave, 1 for a processor that runs and for a power
 /// node that is up, and else 0.
-fn kind_value(kind: Kind, states: &[u32], procs: &Procs, ups: &[bool]) -> u32
+pub(crate) fn kind_value(kind: Kind, states: &[u32], procs: &Procs, ups: &[bool]) -> u32
     ensures { result ≡ kind_value states.now procs.now.procs ups.now kind }
 {
     match kind {

@@ -4,9 +4,10 @@ ghost use Rattle.std.specs.Prelude.{◌≡◌, ◌<◌, Some, ℕ, false, true, 
 ghost use Rattle.pm_topology.specs.declared.places.Kind.TheVariants.{Slave};
 ghost use Rattle.pm_values.specs.Caches.{FollowNeeds, FollowRuns, renewed, renewed_at};
 ghost use Rattle.pm_values.specs.declared.caches.UnitKind.TheVariants.{Entry};
-ghost use Rattle.pm_values.specs.Kinds.{MayRest, rests_at};
+ghost use Rattle.pm_values.specs.Kinds.{rests_at};
 ghost use Rattle.pm_values.specs.Touches.{is_among, turned};
 ghost use Rattle.std.specs.Option.{option_copied};
+ghost use Rattle.pm_state.specs.Values as spec;
 ghost use Rattle.pm_state.specs.Values.{state_at, placed, chosen, need_of, run_of};
 
 use crate::along::Along;
@@ -26,6 +27,7 @@ pub(crate) fn slave_at(slaves: &[SlaveDef], place: usize) -> Option<&SlaveDef>
 }
 
 /// The chosen state of the slave at a place, and 0 past the last one.
+#[inline]
 pub(crate) fn state_of(tables: &Tables, place: usize) -> u32
     ensures { result ≡ state_at place (slice_get tables.now.fixed.topology.slaves place) tables.now.now.core }
 {
@@ -50,10 +52,11 @@ pub(crate) fn choose(tables: &Tables, states: &mut [u32], needs: &mut [bool])
     }
 }
 
-/// The same of the slave at a place: whether it needs its power node then.
+/// The same of the slave at a place, for which this state is chosen: whether it needs its power node then.
 pub(crate) fn choose_one(
     tables: &Tables,
     s: usize,
+    chosen: u32,
     slave: &SlaveDef,
     states: &mut [u32],
     needs: &mut [bool],
@@ -61,11 +64,11 @@ pub(crate) fn choose_one(
     requires there { slice_get tables.now.fixed.topology.slaves s ≡ Some slave.now }
     requires states { length states.old ≡ length tables.now.fixed.topology.slaves }
     requires needs { length needs.old ≡ length tables.now.fixed.topology.slaves }
-    ensures states { states.new ≡ slice_set states.old s (chosen tables.now.now.core s slave.now) }
+    requires chosen { chosen ≡ spec.chosen tables.now.now.core s slave.now }
+    ensures states { states.new ≡ slice_set states.old s (spec.chosen tables.now.now.core s slave.now) }
     ensures needs { needs.new ≡ slice_set needs.old s (need_of tables.now.now.core s slave.now) }
     ensures need { result ≡ need_of tables.now.now.core s slave.now }
 {
-    let chosen = state_of(tables, s);
     let need = needs_in(slave, chosen);
     states[s] = chosen;
     needs[s] = need;
@@ -73,7 +76,7 @@ pub(crate) fn choose_one(
 }
 
 /// Chooses the states of the slaves on which a master has a row whose mode turned, and whether they need their power nodes
-/// then, which follow that. All other slaves may rest.
+/// then, which follow that. All other units rest.
 pub(crate) fn choose_turned(
     tables: &Tables,
     along: &Along,
@@ -93,7 +96,6 @@ pub(crate) fn choose_turned(
         ≡ renewed (is_among (turned modes.now along.now.modes) tables.now.now.core.rows.entries)
         (need_of tables.now.now.core) 0 tables.now.fixed.topology.slaves needs.old }
     ensures kinds { kinds.new.items ≡ kinds.old.items }
-    ensures calm { MayRest kinds.old.items (length kinds.old.items) kinds.new.awake }
     ensures rests { (k s : ℕ) → slice_get kinds.old.items k ≡ Some (Entry (Slave s)) → rests_at kinds.new.awake k ≡ true
         → is_among (turned modes.now along.now.modes) tables.now.now.core.rows.entries s ≡ false }
 {
@@ -153,7 +155,8 @@ fn choose_at(tables: &Tables, s: usize, states: &mut [u32], needs: &mut [bool], 
         (slice_get tables.now.fixed.topology.slaves s) needs.old }
 {
     if let Some(slave) = slave_at(tables.topology().slaves.as_slice(), s) {
-        let need = choose_one(tables, s, slave, states, needs);
+        let chosen = state_of(tables, s);
+        let need = choose_one(tables, s, chosen, slave, states, needs);
         power.put(s, need);
     }
 }

@@ -34,6 +34,7 @@ fn is_used(s: usize, rows: &Rows) -> bool
 }
 
 /// Puts what happened to the unit of an entry into `notices`, by its value before.
+#[inline(always)]
 pub(crate) fn log_notice(
     entry: Option<(Unit, u32)>,
     value: u32,

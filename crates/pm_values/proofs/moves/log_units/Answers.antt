@@ -8,41 +8,16 @@ use Rattle.pm_values.specs.declared.caches.UnitKind.{UnitKind}
 use Rattle.pm_values.specs.declared.caches.UnitKind.TheVariants.{Entry}
 use Rattle.pm_topology.specs.declared.places.Kind.TheVariants.{Proc}
 use Rattle.pm_topology.specs.UnitMap.{with_value_at}
-use Rattle.pm_values.specs.Caches.{freed_by, is_settled, revalued, moved_at, moved_by, noticed_at, noticed_by, starts_by, unit_value}
+use Rattle.pm_values.specs.Caches.{freed_by, is_settled, revalued, moved_at, moved_by, noticed_at, noticed_by, started_at, starts_by, unit_value}
 use Rattle.pm_base.specs.BoundedList.{Bounded}
 use Rattle.pm_values.proofs.MovesLemmas.{length-written, length-moved_at, values_step, moves_step, left_written}
 use Rattle.pm_values.proofs.NoticesLaw.{noticed_step}
 use Rattle.pm_values.proofs.StartsLaw.{starts_fit, starts_step}
-use Rattle.pm_values.proofs.UnderWay.{passed}
+use Rattle.pm_values.proofs.UnderWay.{IsUnderWay, passed}
 use Rattle.pm_values.specs.declared.starts.Start.{Start}
 use Rattle.pm_procs.specs.declared.procs.Proc.{Proc as Processor}
 use Rattle.pm_notify.specs.declared.notes.Waiting.{Waiting}
 use Rattle.pm_values.proofs.moves.log_units.Goals as goal
-
--- units that rest are passed over
-pub loop-k-preserved-then-rests : goal.loop-k-preserved-then-rests
-loop-k-preserved-then-rests c =
-    let kinds = c.args.kinds.now in
-    let k = c.loop-k.k in
-    let states = c.args.states.now in
-    let ups = c.args.ups.now in
-    let used = c.args.used.now in
-    let core = c.args.tables.now.now.core in
-    let procs = c.procs-procs.result.now.procs in
-    let lines = c.resets-resets.result.now in
-    let rows = c.rows-rows.result.now in
-    passed (unit_value states procs ups lines) (freed_by used rows) c.args.along.now.downs procs kinds c.args.values.now c.args.moved.now c.args.starts.now c.args.notices.now
-    c.loop-k.values c.loop-k.moved c.loop-k.starts c.loop-k.notices k c.past-k.result c.past-k.ensures.more (omega (arith, c.past-k.ensures.most, c.requires.marks))
-    (λ j kind from to at.
-    let still = c.requires.settled j kind at (c.past-k.ensures.all j from to) in
-    let entry = slice_get c.args.values.now j in (
-      still.0,
-      ap (λ (ps : List Processor). is_settled (unit_value states ps ups lines kind) (freed_by used rows kind) entry) c.procs-procs.ensures.procs
-          ∙ (ap (λ (ls : List Bool). is_settled (unit_value states core.procs ups ls kind) (freed_by used rows kind) entry) c.resets-resets.ensures
-          ∙ (ap (λ (rs : Rows). is_settled (unit_value states core.procs ups core.lines kind) (freed_by used rs kind) entry) c.rows-rows.ensures
-          ∙ still.1)),
-    ))
-    c.loop-k.invariant
 
 pub log_kind-requires-clause-starts : goal.log_kind-requires-clause-starts
 log_kind-requires-clause-starts c =
@@ -61,6 +36,7 @@ log_kind-requires-clause-starts c =
     let within : k < length c.loop-k.values = omega (arith, c.loop-k-test.true, c.loop-k.invariant.places) in
     starts_fit downs procs kinds k kind c.loop-k.values c.loop-k.starts.items _ c.loop-k.starts.room at within c.loop-k.invariant.started fits
 
+-- the walk goes on behind the unit at a place, and passes over units that rest
 pub loop-k-preserved : goal.loop-k-preserved
 loop-k-preserved c =
     let kinds = c.args.kinds.now in
@@ -94,6 +70,7 @@ loop-k-preserved c =
     (ap (λ (s : Bounded Start). s.items) c.log_kind.ensures.starts) c.loop-k.invariant.started
     in
     let Started : List (Unit × ℕ) → Type 0 = λ es. c.log_kind.new.starts.items ++ starts_by downs procs (drop (k + 1) kinds) es ≡ c.args.starts.now.items ++ starts_by downs procs kinds c.args.values.now in
+    let one : IsUnderWay new freed downs procs kinds c.args.values.now c.args.moved.now c.args.starts.now c.args.notices.now (k + 1) c.log_kind.new.values c.log_kind.new.moved c.log_kind.new.starts c.log_kind.new.notices =
     record {
       most = omega (arith, c.loop-k-test.true);
       places = places ∙ c.loop-k.invariant.places;
@@ -109,3 +86,22 @@ loop-k-preserved c =
       few = omega (arith, c.log_kind.ensures.few, c.loop-k.invariant.few);
       noticed = subst Noticed (sym (ap (drop (k + 1)) written ∙ left_written k (new kind) c.loop-k.values)) noticed;
     }
+    in
+    let states = c.args.states.now in
+    let ups = c.args.ups.now in
+    let used = c.args.used.now in
+    let core = c.args.tables.now.now.core in
+    let lines = c.resets-resets.result.now in
+    let rows = c.rows-rows.result.now in
+    passed new freed downs procs kinds c.args.values.now c.args.moved.now c.args.starts.now c.args.notices.now
+    c.log_kind.new.values c.log_kind.new.moved c.log_kind.new.starts c.log_kind.new.notices (k + 1) c.past-k.result (omega (arith, c.past-k.ensures.more)) (omega (arith, c.past-k.ensures.most, c.requires.marks))
+    (λ j kind from to at.
+    let still = c.requires.settled j kind at (c.past-k.ensures.all j (omega (arith, from)) to) in
+    let entry = slice_get c.args.values.now j in (
+      ap (λ (ps : List Processor). started_at downs ps kind entry) c.procs-procs.ensures.procs ∙ still.0,
+      ap (λ (ps : List Processor). is_settled (unit_value states ps ups lines kind) (freed_by used rows kind) entry) c.procs-procs.ensures.procs
+          ∙ (ap (λ (ls : List Bool). is_settled (unit_value states core.procs ups ls kind) (freed_by used rows kind) entry) c.resets-resets.ensures
+          ∙ (ap (λ (rs : Rows). is_settled (unit_value states core.procs ups core.lines kind) (freed_by used rs kind) entry) c.rows-rows.ensures
+          ∙ still.1)),
+    ))
+    one

@@ -17,8 +17,7 @@ loop-k-init c =
     record {
       states_places = c.requires.states;
       needs_places = c.requires.needs;
-      kinds = c.rest.ensures.items;
-      calm = c.rest.ensures.calm;
+      kinds = c.rest.ensures;
       states = sym (renewed_none (chosen core) 0 slaves c.args.states.now c.requires.states);
       needs = sym (renewed_none (need_of core) 0 slaves c.args.needs.now c.requires.needs);
       follow = no_need c.args.needs.now c.args.power.now;
@@ -38,7 +37,6 @@ loop-k-preserved c =
       states_places = c.choose_if.auto.states ∙ c.loop-k.invariant.states_places;
       needs_places = c.choose_if.auto.needs ∙ c.loop-k.invariant.needs_places;
       kinds = c.choose_if.ensures.kinds ∙ c.loop-k.invariant.kinds;
-      calm = λ j kind within there is. c.loop-k.invariant.calm j kind within there (c.choose_if.ensures.others j is);
       states = renewed_next (chosen core) test entries k entry slaves c.args.states.now c.loop-k.states c.choose_if.new.states c.has_turned-turns.result at
           c.has_turned-turns.ensures c.loop-k.invariant.states c.choose_if.ensures.states;
       needs = renewed_next (need_of core) test entries k entry slaves c.args.needs.now c.loop-k.needs c.choose_if.new.needs c.has_turned-turns.result at

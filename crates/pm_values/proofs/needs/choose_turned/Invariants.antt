@@ -3,7 +3,7 @@ use Rattle.pm_topology.specs.declared.places.Kind.TheVariants.{Slave}
 use Rattle.pm_state.specs.Values.{chosen, need_of}
 use Rattle.pm_values.specs.Caches.{FollowNeeds, renewed}
 use Rattle.pm_values.specs.declared.caches.UnitKind.TheVariants.{Entry}
-use Rattle.pm_values.specs.Kinds.{MayRest, rests_at}
+use Rattle.pm_values.specs.Kinds.{rests_at}
 use Rattle.pm_values.specs.Touches.{is_among, turned}
 use Rattle.pm_values.proofs.needs.choose_turned.Given as goal
 
@@ -14,7 +14,6 @@ invariant-loop-k l = record {
   states_places : length l.states ≡ length l.tables.fixed.topology.slaves;
   needs_places : length l.needs ≡ length l.tables.fixed.topology.slaves;
   kinds : l.kinds.items ≡ l.fn.kinds.items;
-  calm : MayRest l.fn.kinds.items (length l.fn.kinds.items) l.kinds.awake;
   states : l.states ≡ renewed (is_among (turned l.modes l.along.modes) (take l.k l.tables.now.core.rows.entries)) (chosen l.tables.now.core) 0 l.tables.fixed.topology.slaves l.fn.states;
   needs : l.needs ≡ renewed (is_among (turned l.modes l.along.modes) (take l.k l.tables.now.core.rows.entries)) (need_of l.tables.now.core) 0 l.tables.fixed.topology.slaves l.fn.needs;
   follow : FollowNeeds l.fn.needs l.needs l.fn.power l.power;

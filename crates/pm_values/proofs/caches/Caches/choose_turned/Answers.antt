@@ -2,7 +2,6 @@ use Rattle.std.proofs.Common.{◌≡◌, ◌++◌, ℕ, Bool, List, length, take
 use Rattle.pm_state.specs.Values.{forest, placed, chosen, need_of, run_of}
 use Rattle.pm_values.specs.Caches.{renewed}
 use Rattle.pm_values.specs.declared.caches.UnitKind.{UnitKind}
-use Rattle.pm_values.specs.Kinds.{MayRest}
 use Rattle.pm_values.specs.Touches.{is_among, turned}
 use Rattle.pm_values.proofs.CachesLaw.{written_back}
 use Rattle.pm_values.proofs.FollowLaw.{followed_is}
@@ -66,11 +65,6 @@ returns-clause-chosen c = record {
   used = refl;
   values = refl;
 }
-
-pub returns-clause-calm : goal.returns-clause-calm
-returns-clause-calm c =
-    let P : List UnitKind → Type 0 = λ ks. MayRest ks (length ks) c.choose_turned.new.kinds.awake in
-    subst P (sym c.choose_turned.ensures.kinds) c.choose_turned.ensures.calm
 
 pub returns-clause-rests : goal.returns-clause-rests
 returns-clause-rests c = λ k s there is.

@@ -1,15 +1,16 @@
-use Rattle.std.proofs.Common.{◌≡◌, ◌<◌, ◌++◌, List, [], ◌∷◌, Some, length, arith, sym, ◌∙◌, ap, subst}
+use Rattle.std.proofs.Common.{◌≡◌, ◌<◌, ◌++◌, List, [], ◌∷◌, Some, length, slice_get, arith, sym, ◌∙◌, ap, subst}
 use Rattle.std.specs.Prelude.{slice_set}
 use Rattle.pm_base.specs.BoundedList.{Bounded}
 use Rattle.pm_base.specs.declared.names.Unit.{Unit}
 use Rattle.pm_base.specs.declared.names.Unit.TheVariants.{Node}
 use Rattle.pm_notify.specs.declared.notes.Waiting.{Waiting}
 use Rattle.pm_topology.specs.declared.places.Kind.TheVariants.{Slave}
+use Rattle.pm_topology.specs.declared.topology.SlaveDef.{SlaveDef}
 use Rattle.pm_topology.specs.declared.topology.Topology.{Topology}
 use Rattle.pm_topology.specs.Places.{IsKind}
 use Rattle.pm_topology.specs.UnitMap.{with_value}
 use Rattle.pm_state.specs.Units.{units}
-use Rattle.pm_state.specs.Values.{value}
+use Rattle.pm_state.specs.Values.{state_at, value}
 use Rattle.pm_values.specs.declared.caches.UnitKind.TheVariants.{Entry}
 use Rattle.pm_values.specs.Caches.{freed_by, moved_at, noticed_at, value_kept}
 use Rattle.pm_values.specs.Notifications.{is_used}
@@ -20,6 +21,13 @@ use Rattle.pm_values.proofs.RestLaw.{none_start_among, starts_all, there}
 use Rattle.pm_values.proofs.SlaveLaw.{alone_by, one_moved, one_noticed, own_state, same_from_test, some_values, values_one}
 use Rattle.pm_values.proofs.TouchesLaw.{uses_same}
 use Rattle.pm_values.proofs.caches.Caches.follow_slave.Goals as goal
+
+pub choose_slave-requires-clause-state : goal.choose_slave-requires-clause-state
+choose_slave-requires-clause-state c =
+    let core = c.args.tables.now.now.core in
+    c.requires.state
+    ∙ sym (ap (λ o. state_at c.args.s o core)
+    (c.in-Some.ensures ∙ (ap (λ (xs : List SlaveDef). slice_get xs c.args.s) c.as_slice.ensures ∙ ap (λ (t : Topology). slice_get t.slaves c.args.s) c.topology.ensures.topology)))
 
 pub log_slave-requires-clause-moved : goal.log_slave-requires-clause-moved
 log_slave-requires-clause-moved c =

@@ -22,6 +22,6 @@ returns c = ap (λ k. k.items) c.in_ok-kinds-2.ensures.0 ∙ c.in_ok-kinds.ensur
 pub invariant_of-result : goal.invariant_of-result
 invariant_of-result c =
     let found = c.in_ok-kinds-2 in
-    let Over : List UnitKind → Type 0 = λ kinds. AreIndexed kinds found.homes.items found.always found.awake in
+    let Over : List UnitKind → Type 0 = λ kinds. AreIndexed kinds found.homes.items found.others.items found.awake in
     let same : c.deref.result.now ≡ found.kinds.items = c.deref.ensures.value ∙ ap (λ k. k.items) (sym found.ensures.0) in
-    subst Over same (IfOk-at_ok (λ b. AreIndexed c.deref.result.now b.0.items b.1.0 b.1.1) found.ensures.1 c.beside_of-beside.ensures)
+    subst Over same (IfOk-at_ok (λ b. AreIndexed c.deref.result.now b.0.items b.1.0.items b.1.1) found.ensures.1 c.beside_of-beside.ensures)
