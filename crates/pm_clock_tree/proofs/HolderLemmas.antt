@@ -1,5 +1,5 @@
 -- What a master enables, clock by clock.
-use Rattle.std.proofs.Common.{◌≡◌, ℕ, ◌+◌, ◌<◌, Bool, true, false, ◌&&◌, ◌||◌, List, [], ◌∷◌, ◌++◌, length, get_or, set, take, drop, refl, ap, ◌∙◌, sym, append_assoc, arith}
+use Rattle.std.proofs.Common.{◌≡◌, ℕ, ◌+◌, ◌<◌, Bool, true, false, ◌&&◌, ◌||◌, List, [], ◌∷◌, ◌++◌, length, map, get_or, set, take, drop, refl, ap, ◌∙◌, sym, append_assoc, arith}
 use Rattle.std.specs.Prelude.{if◌then◌else◌, replicate}
 use Rattle.std.proofs.lemmas.List.{drop-set-lt, set-get_or, take_more_set}
 use Rattle.pm_base.proofs.Booleans.{neither}
@@ -8,7 +8,7 @@ use Rattle.pm_base.specs.declared.names.NodeId.{NodeId}
 use Rattle.pm_clock_tree.specs.declared.table.ClockDef.{ClockDef}
 use Rattle.pm_clock_tree.specs.Followed.{emptied, permitted, reviewed, settled_holder}
 use Rattle.pm_clock_tree.specs.Table.{clocks}
-use Rattle.pm_clock_tree.specs.Tree.{Holder, Seen}
+use Rattle.pm_clock_tree.specs.Tree.{Holder, Seen, idle_holder}
 
 -- enables of which there is none are all false
 pub all_false : (enables : List Bool) → list_any (λ on. on) enables ≡ false → replicate (length enables) false ≡ enables
@@ -59,3 +59,19 @@ pub same_step : (holders all : List Holder) (k : ℕ) (new : Holder) (changed on
 same_step holders all k new changed one same kept none =
     let parts = neither changed one none in
     ap (λ it. set holders k it) (kept parts.1) ∙ set-get_or holders k new ∙ same parts.0
+
+-- so where no master enables anything, all are settled
+pub all_settled : (seen : Seen) (holders : List Holder)
+    → list_any (λ (holder : Holder). list_any (λ on. on) holder.enables) holders ≡ false
+    → holders ≡ map (settled_holder seen) holders
+all_settled seen [] none = refl
+all_settled seen (holder ∷ holders) none =
+    let parts = neither (list_any (λ on. on) holder.enables) (list_any (λ (holder : Holder). list_any (λ on. on) holder.enables) holders) none in
+    ap (λ rest. holder ∷ rest) (all_settled seen holders parts.1)
+    ∙ ap (λ one. one ∷ map (settled_holder seen) holders) (idle_settled seen holder parts.0)
+
+-- at load no master enables anything
+pub idle_enables : (masters : List NodeId)
+    → list_any (λ (holder : Holder). list_any (λ on. on) holder.enables) (map idle_holder masters) ≡ false
+idle_enables [] = refl
+idle_enables (master ∷ masters) = idle_enables masters

@@ -212,6 +212,7 @@ impl ClockTree {
 }
 
 /// Finds which clocks run: the roots, and then each other clock by its parent, which has a lower number.
+#[inline(never)]
 fn find_running(tree: &Tree, running: &mut BoundedList<bool>)
     requires room { root_count + clock_count ≤ running.old.room }
     ensures running { running.new ≡ record running.old { items = spec.running tree.now } }

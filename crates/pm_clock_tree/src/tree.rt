@@ -26,16 +26,19 @@ pub struct Setting {
     pub index: u32,
 }
 
-/// The masters with what they enable, the settings of the clocks that are no roots, and which roots run.
+/// The masters with what they enable, the settings of the clocks that are no roots, and which roots run. It also keeps
+/// whether there may be an enable, so that where none was made no master is looked at.
 #[derive(Drop)]
 pub struct Tree {
     holders: Vec<Holder>,
     settings: Vec<Setting>,
     roots: BoundedList<bool>,
+    used: bool,
 }
 
 impl Model for Tree {
-    ghost use Rattle.std.specs.Prelude.{◌≤◌};
+    ghost use Rattle.std.specs.Prelude.{◌≡◌, ◌≤◌, false};
+    ghost use Rattle.std.specs.List.{list_any};
     ghost use Rattle.pm_clock_tree.specs.Table.{root_count};
     ghost use Rattle.pm_clock_tree.specs.Tree as spec;
 
@@ -52,7 +55,9 @@ impl Model for Tree {
       settings = tree.settings.items;
       roots = tree.roots.items;
     })
-        × (root_count ≤ tree.roots.room) };
+        × (root_count ≤ tree.roots.room)
+        × (tree.used ≡ false
+        → list_any (λ (holder : spec.Holder). list_any (λ on. on) holder.enables) tree.holders.items ≡ false) };
 }
 
 impl Tree {
@@ -74,6 +79,7 @@ impl Tree {
             holders: holders_of(alloc, masters)?,
             settings: first_settings(alloc)?,
             roots: seen,
+            used: false,
         })
     }
 
@@ -185,6 +191,7 @@ impl Tree {
     fn change_at(&mut self, master: NodeId, act: ClockAct, k: usize)
         ensures { self.new ≡ changed master act k self.old }
     {
+        self.used = true;
         match act {
             ClockAct::Enable => put_enables(&mut self.holders, master, k, true),
             ClockAct::Disable => put_enables(&mut self.holders, master, k, false),
@@ -217,6 +224,9 @@ impl Tree {
         ensures tree { self.new ≡ settled (S.seen scene.now) self.old }
         ensures same { result ≡ false → self.new ≡ self.old }
     {
+        if !self.used {
+            return false;
+        }
         settle_holders(&mut self.holders, scene, kept)
     }
 
@@ -258,6 +268,7 @@ fn first_settings(alloc: Global) -> Result<Vec<Setting>, NoMemory>
 }
 
 /// Which roots run as their slaves stand.
+#[inline(never)]
 fn see_roots<S: Scene>(seen: &mut BoundedList<bool>, scene: &S)
     requires room { root_count ≤ seen.old.room }
     ensures { seen.new ≡ record seen.old { items = roots_seen (S.seen scene.now) } }
@@ -293,6 +304,7 @@ fn put_enables(holders: &mut [Holder], master: NodeId, k: usize, on: bool)
     }
 }
 
+#[inline(never)]
 fn settle_holders<S: Scene>(holders: &mut [Holder], scene: &S, kept: bool) -> bool
     requires kept { kept ≡ true → AreHoldersPermitted (S.seen scene.now) holders.old }
     ensures holders { holders.new ≡ map (settled_holder (S.seen scene.now)) holders.old }

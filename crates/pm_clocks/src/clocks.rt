@@ -1,8 +1,9 @@
 //! The clocks of a book, step by step.
 
 ghost use Rattle.std.specs.Prelude.{◌≡◌, ◌↔◌, IfOk, IsTrue, [], false, map};
-ghost use Rattle.pm_clocks.specs.Clocked.{HasStepped, StandsOver, clock_answer, clocks_of, made, masters_of, node_of, tree_after, view_of};
+ghost use Rattle.pm_clocks.specs.Clocked.{HasStepped, StandsOver, clock_answer, clocks_of, made, masters_of, node_of, tree_after, view_of, with_response};
 ghost use Rattle.pm_clock_tree.specs.Followed.{served_by};
+ghost use Rattle.pm_clock_tree.specs.Served.{response, served};
 ghost use Rattle.pm_clock_tree.specs.Told.{change_at, changes, end_at, told};
 ghost use Rattle.pm_clock_tree.specs.Tree as spec;
 ghost use Rattle.pm_clock_tree.specs.Tree.{Runs};
@@ -11,7 +12,7 @@ use crate::replies::{made, with_response};
 use crate::scene::BookScene;
 use pm_base::{Event, List, NoMemory, NodeId};
 use pm_clock_tree::{
-    ClockChange, ClockEnd, ClockTree, clocks_stand_after_steps, enables_stay_permitted,
+    ClockCall, ClockChange, ClockEnd, ClockTree, clocks_stand_after_steps, enables_stay_permitted,
 };
 use pm_core::{Answer, Book, Outbox, configures, only_one_call_configures};
 use pm_object::MasterRec;
@@ -60,6 +61,7 @@ impl Clocks {
     /// Then the enables of masters that are off are dropped, and after the call that puts an object in force those that the
     /// object in force doesn't permit; and the roots follow their slaves. After an event of which nothing comes no clock is
     /// looked at.
+    #[inline(always)]
     pub fn answer(&mut self, book: &Book, event: &Event, out: &mut Outbox)
         requires stepped { HasStepped event.now out.old.moved.items self.old.tree book.now }
         ensures clocks { self.new
@@ -77,25 +79,42 @@ impl Clocks {
             return;
         }
         let scene = BookScene { book };
-        out.answer = self.serve(&scene, event, out.answer);
+        self.serve(&scene, event, &mut out.answer);
         self.tree
             .follow(&scene, out.moved.as_slice(), !configures(event));
     }
 
-    /// Serves the call on a clock that an event makes, if the book replied to it. Answers what is told in place of the
+    /// Serves the call on a clock that an event makes, if the book replied to it. What is told then is in place of the
     /// book's answer.
-    fn serve(&mut self, scene: &BookScene, event: &Event, answer: Answer) -> Answer
+    #[inline]
+    fn serve(&mut self, scene: &BookScene, event: &Event, answer: &mut Answer)
         ensures clocks { self.new
-            ≡ record self.old { tree = served_by (view_of scene.now.book.now) (made event.now answer) self.old.tree } }
-        ensures answer { result ≡ clock_answer event.now answer scene.now.book.now self.old.tree }
+            ≡ record self.old {
+              tree = served_by (view_of scene.now.book.now) (made event.now answer.old) self.old.tree;
+            } }
+        ensures answer { answer.new ≡ clock_answer event.now answer.old scene.now.book.now self.old.tree }
     {
-        match made(event, answer) {
-            Some((master, call)) => {
-                let response = self.tree.serve(scene, master, &call);
-                with_response(response, answer)
-            }
-            None => answer,
+        if let Some((master, call)) = made(event, answer) {
+            self.serve_call(scene, master, &call, answer);
         }
+    }
+
+    /// Serves a call of a master on a clock. What is told is in place of the book's answer.
+    #[inline(never)]
+    fn serve_call(
+        &mut self,
+        scene: &BookScene,
+        master: NodeId,
+        call: &ClockCall,
+        answer: &mut Answer,
+    )
+        ensures clocks { self.new
+            ≡ record self.old { tree = served (view_of scene.now.book.now) master call.now self.old.tree } }
+        ensures answer { answer.new
+            ≡ with_response (response (view_of scene.now.book.now) master call.now self.old.tree) answer.old }
+    {
+        let response = self.tree.serve(scene, master, call);
+        *answer = with_response(response, *answer);
     }
 
     /// Whether a clock runs, as the book was that `load` or `answer` was last given: false where there is no such clock.

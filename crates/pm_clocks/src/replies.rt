@@ -9,8 +9,9 @@ use pm_core::Answer;
 use pm_ipi::Response;
 
 /// The call on a clock that an event makes, with its sender, if the book replies to it.
-pub(crate) fn made(event: &Event, answer: Answer) -> Option<(NodeId, ClockCall)>
-    ensures { result ≡ made event.now answer }
+#[inline]
+pub(crate) fn made(event: &Event, answer: &Answer) -> Option<(NodeId, ClockCall)>
+    ensures { result ≡ made event.now answer.now }
 {
     match event {
         Event::Ipi { master, message } => match answer {

@@ -20,7 +20,7 @@ pub follow-requires : goal.follow-requires
 follow-requires c =
     let tree : Tree = c.args.self.now.tree in
     let is : c.self.inside.tree.tree ≡ served_by (view_of c.args.book.now) (made c.args.event.now c.args.out.now.answer) tree =
-    ap (λ (it : Clocked). it.tree) (c.self.view_is ∙ c.serve-out.ensures.clocks) in
+    ap (λ (it : Clocked). it.tree) (c.self.view_is ∙ c.serve.ensures.clocks) in
     record {
       kept = λ yes. subst (λ it. ArePermitted (view_of c.args.book.now) it) (sym is)
           (served_permitted c.enables_stay_permitted.ensures (view_of c.args.book.now) (made c.args.event.now c.args.out.now.answer) tree
