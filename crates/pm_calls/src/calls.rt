@@ -33,30 +33,10 @@ use pm_ipi::status::NO_FEATURE;
 use pm_state::Tables;
 use pm_values::{Along, Caches};
 
-/// One call. The modes are logged between its stages: a call of one stage at most logs nothing.
-pub fn serve(
-    tables: &mut Tables,
-    caches: &Caches,
-    master: usize,
-    call: Call,
-    along: &mut Along,
-) -> Verdict
-    requires kept { AreKept tables.old caches.now }
-    requires along { along.old ≡ trail_from tables.old }
-    ensures verdict { result ≡ verdict_of (called master call tables.old) }
-    ensures book { tables.new ≡ after_stages (stages_of (called master call tables.old)) tables.old }
-    ensures along { Completes tables.old
-        (path_from (stages_of (called master call tables.old)) tables.old) tables.new along.new }
-    ensures still { is_once call ≡ true → along.new ≡ along.old }
-{
-    let mut verdict = Verdict::Dropped;
-    serve_into(tables, caches, master, &call, along, &mut verdict);
-    verdict
-}
-
-/// The same, where the verdict is left in a place of the caller.
+/// One call, where the verdict is left in a place of the caller. The modes are logged between its stages: a call of one
+/// stage at most logs nothing.
 #[inline(never)]
-fn serve_into(
+pub fn serve(
     tables: &mut Tables,
     caches: &Caches,
     master: usize,

@@ -102,6 +102,7 @@ pub(crate) fn rival_node(tables: &Tables, master: usize, slave: usize) -> Option
     }
 }
 
+#[inline(always)]
 pub(crate) fn proc_view(tables: &Tables, master: usize, node: NodeId) -> ProcView
     ensures { result ≡ proc_view master node tables.now }
 {

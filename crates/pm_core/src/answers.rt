@@ -14,28 +14,30 @@ use pm_state::Tables;
 use pm_tell::Served;
 use pm_values::{Caches, point};
 
-/// What the sender of a message gets by the verdict on it, in the book after it.
-pub(crate) fn answer(tables: &Tables, caches: &Caches, served: &Option<Served>) -> Answer
+/// What the sender of a message gets by the verdict on it, in the book after it. It is left in a place of the caller.
+#[inline(always)]
+pub(crate) fn answer(tables: &Tables, caches: &Caches, served: &Option<Served>, place: &mut Answer)
     requires { AreKept tables.now caches.now }
-    ensures { result ≡ answer_by served.now tables.now }
+    ensures { place.new ≡ answer_by served.now tables.now }
 {
     match served {
-        None => Answer::Silent,
-        Some(served) => answer_to(tables, caches, served),
+        None => *place = Answer::Silent,
+        Some(served) => answer_to(tables, caches, served, place),
     }
 }
 
-fn answer_to(tables: &Tables, caches: &Caches, served: &Served) -> Answer
+fn answer_to(tables: &Tables, caches: &Caches, served: &Served, place: &mut Answer)
     requires { AreKept tables.now caches.now }
-    ensures { result ≡ answer_of served.now.verdict served.now.master served.now.call tables.now }
+    ensures { place.new ≡ answer_of served.now.verdict served.now.master served.now.call tables.now }
 {
     let master = served.master;
     if matches!(served.verdict, Verdict::Dropped) {
-        return Answer::Drop { master };
+        *place = Answer::Drop { master };
+        return;
     }
     match served.verdict.response() {
-        Some(response) => acknowledge(tables, caches, master, &served.call, response),
-        None => Answer::Silent,
+        Some(response) => acknowledge(tables, caches, master, &served.call, response, place),
+        None => *place = Answer::Silent,
     }
 }
 
@@ -45,19 +47,22 @@ fn acknowledge(
     master: NodeId,
     call: &Call,
     response: Response,
-) -> Answer
+    place: &mut Answer,
+)
     requires { AreKept tables.now caches.now }
-    ensures { result ≡ acknowledged (ack_of call.now) master (node_of call.now) response tables.now }
+    ensures { place.new ≡ acknowledged (ack_of call.now) master (node_of call.now) response tables.now }
 {
     match call.ack() {
-        AckKind::No => Answer::Silent,
-        AckKind::Blocking => Answer::Reply { master, response },
-        AckKind::NonBlocking => Answer::Ack {
-            master,
-            node: call.node(),
-            status: response.status,
-            point: point(tables, caches, call.node()),
-            shown: is_awake(tables.master_mode(master)),
-        },
+        AckKind::No => *place = Answer::Silent,
+        AckKind::Blocking => *place = Answer::Reply { master, response },
+        AckKind::NonBlocking => {
+            *place = Answer::Ack {
+                master,
+                node: call.node(),
+                status: response.status,
+                point: point(tables, caches, call.node()),
+                shown: is_awake(tables.master_mode(master)),
+            };
+        }
     }
 }

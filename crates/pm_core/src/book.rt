@@ -25,7 +25,7 @@ use pm_step::{
     advance, begin, begin_after, books_stay_sound, is_idle, is_quiet, leaves_values, tell_event,
     time_of, touched_unless,
 };
-use pm_tell::{Telling, pulse_in};
+use pm_tell::{Served, Telling, pulse_in};
 use pm_topology::{Topology, kinds_are_exact, units_stand_in_order};
 use pm_values::{Caches, point, value, values_meet};
 use std::alloc::Global;
@@ -35,12 +35,14 @@ use std::marker::Model;
 /// of a master and a slave, the mode and resume address of each processor, whether each reset line is
 /// asserted, whether all is halted, and for each master the request to suspend that is pending on it and
 /// its notes about each unit of the chip. These contracts see. It also keeps what is found of the values,
-/// and what is logged of a step until the masters are told of it.
+/// what is logged of a step until the masters are told of it, and the place in which the last message stands with the
+/// verdict on it.
 #[derive(Drop)]
 pub struct Book {
     pub(crate) tables: Tables,
     pub(crate) caches: Caches,
     pub(crate) telling: Telling,
+    pub(crate) served: Option<Served>,
 }
 
 impl Model for Book {
@@ -110,6 +112,7 @@ impl Book {
             tables,
             caches,
             telling,
+            served: None,
         })
     }
 
@@ -148,14 +151,20 @@ impl Book {
             return;
         }
         let count = time_of(&self.tables, event);
-        let served = advance(&mut self.tables, &self.caches, event, &mut self.telling);
+        advance(
+            &mut self.tables,
+            &self.caches,
+            event,
+            &mut self.telling,
+            &mut self.served,
+        );
         // Its sender alone is told of such a message.
-        if is_quiet(event, served, count) {
-            out.answer = answer(&self.tables, &self.caches, &served);
+        if is_quiet(event, &self.served, count) {
+            answer(&self.tables, &self.caches, &self.served, &mut out.answer);
             return;
         }
         self.caches.follow(
-            touched_unless(still, &self.tables, event, served),
+            touched_unless(still, &self.tables, event, &self.served),
             &self.tables,
             &self.telling.along,
             &self.telling.modes,
@@ -168,13 +177,13 @@ impl Book {
             &self.caches,
             &mut self.telling,
             count,
-            served,
+            &self.served,
             &mut out.late,
             &mut out.callbacks,
         );
-        begin_after(&self.tables, event, served, &mut self.telling);
-        out.pulse = pulse_in(served);
-        out.answer = answer(&self.tables, &self.caches, &served);
+        begin_after(&self.tables, event, &self.served, &mut self.telling);
+        out.pulse = pulse_in(&self.served);
+        answer(&self.tables, &self.caches, &self.served, &mut out.answer);
     }
 
     /// The configuration object in force.

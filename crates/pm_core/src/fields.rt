@@ -20,6 +20,7 @@ fn take_apart(book: &Book) {
         tables: _,
         caches: _,
         telling: _,
+        served: _,
     } = book;
 }
 

@@ -1,6 +1,6 @@
 //! What one event does to the book, and how it is answered.
 
-ghost use Rattle.std.specs.Prelude.{◌≡◌, false, length, true};
+ghost use Rattle.std.specs.Prelude.{◌≡◌, false, is_some, length, true};
 ghost use Rattle.pm_topology.specs.Places.{kind_of};
 ghost use Rattle.pm_calls.specs.calls.{is_once, only_reads, shape_of};
 ghost use Rattle.pm_values.specs.Caches.{AreKept};
@@ -52,29 +52,29 @@ pub fn advance(
     caches: &Caches,
     event: &Event,
     telling: &mut Telling,
-) -> Option<Served>
+    taken: &mut Option<Served>,
+)
     requires kept { AreKept tables.old caches.now }
     requires places { HasPlaces tables.old.fixed.topology (length tables.old.fixed.object.masters) telling.old }
     requires fresh { IsFresh tables.old telling.old }
     ensures book { tables.new ≡ after_stages (stages event.now tables.old) tables.old }
-    ensures served { result ≡ served event.now tables.old }
+    ensures served { taken.new ≡ served event.now tables.old }
     ensures modes { telling.new.modes.items ≡ modes_of tables.old }
     ensures along { IsTrail tables.old (path event.now tables.old) telling.new.along }
     ensures now { telling.new.along.modes ≡ modes_of tables.new }
     ensures places { HasPlaces tables.new.fixed.topology (length tables.new.fixed.object.masters) telling.new }
     ensures ended { telling.new.ended ≡ telling.old.ended }
     ensures notices { telling.new.notices ≡ telling.old.notices }
-    ensures fresh { may_move event.now result ≡ false → IsFresh tables.new telling.new }
-    ensures rests { rests event.now result ≡ true → IsFresh tables.new telling.new }
+    ensures fresh { may_move event.now taken.new ≡ false → IsFresh tables.new telling.new }
+    ensures rests { rests event.now taken.new ≡ true → IsFresh tables.new telling.new }
 {
-    let served = take(tables, caches, event, &mut telling.along);
-    if rests(event, served) {
-        return served;
+    take(tables, caches, event, &mut telling.along, taken);
+    if rests(event, taken) {
+        return;
     }
-    if may_move(event, served) {
+    if may_move(event, taken) {
         telling.along.log(tables);
     }
-    served
 }
 
 /// Begins what is logged of the next step: the modes of the masters before it, and its first moment.
@@ -88,9 +88,9 @@ pub fn begin(tables: &Tables, telling: &mut Telling)
 }
 
 /// The same behind an event. Where that moved no processor, what is logged is as it was before it.
-pub fn begin_after(tables: &Tables, event: &Event, served: Option<Served>, telling: &mut Telling)
+pub fn begin_after(tables: &Tables, event: &Event, served: &Option<Served>, telling: &mut Telling)
     requires places { HasPlaces tables.now.fixed.topology (length tables.now.fixed.object.masters) telling.old }
-    requires fresh { may_move event.now served ≡ false → IsFresh tables.now telling.old }
+    requires fresh { may_move event.now served.now ≡ false → IsFresh tables.now telling.old }
     ensures fresh { IsFresh tables.now telling.new }
     ensures places { HasPlaces tables.now.fixed.topology (length tables.now.fixed.object.masters) telling.new }
 {
@@ -101,25 +101,46 @@ pub fn begin_after(tables: &Tables, event: &Event, served: Option<Served>, telli
 
 /// Its stages and its verdict. Logging the modes after them completes what was logged along the step; where there is one
 /// stage at most, nothing was logged along it.
-fn take(tables: &mut Tables, caches: &Caches, event: &Event, along: &mut Along) -> Option<Served>
+fn take(
+    tables: &mut Tables,
+    caches: &Caches,
+    event: &Event,
+    along: &mut Along,
+    taken: &mut Option<Served>,
+)
     requires kept { AreKept tables.old caches.now }
     requires along { along.old ≡ trail_from tables.old }
     ensures book { tables.new ≡ after_stages (stages event.now tables.old) tables.old }
-    ensures served { result ≡ served event.now tables.old }
+    ensures served { taken.new ≡ served event.now tables.old }
     ensures along { Completes tables.old (path event.now tables.old) tables.new along.new }
-    ensures still { is_once_in result ≡ true → along.new ≡ along.old }
+    ensures still { is_once_in taken.new ≡ true → along.new ≡ along.old }
 {
     if let Event::Ipi { master, message } = event {
-        let call = decode_call(message);
-        let verdict = receive(tables, caches, *master, call, along);
-        return Some(Served {
-            master: *master,
-            call,
-            verdict,
+        make_place(taken);
+        if let Some(served) = taken {
+            served.master = *master;
+            served.call = decode_call(message);
+            let place = &mut served.verdict;
+            receive(tables, caches, *master, &served.call, along, place);
+        }
+        return;
+    }
+    *taken = None;
+    happen(tables, event);
+}
+
+/// A place for a message with the verdict on it: that of the last one, where there is one, so that it isn't made
+/// anew for each.
+fn make_place(taken: &mut Option<Served>)
+    ensures { is_some taken.new ≡ true }
+{
+    if taken.is_none() {
+        *taken = Some(Served {
+            master: NodeId(0),
+            call: Call::GetApiVersion,
+            verdict: Verdict::Dropped,
         });
     }
-    happen(tables, event);
-    None
 }
 
 /// An event that is no message. Nothing happens while the book is halted.
@@ -127,7 +148,8 @@ fn happen(tables: &mut Tables, event: &Event)
     requires { is_ipi event.now ≡ false }
     ensures { tables.new ≡ after_stages (stages event.now tables.old) tables.old }
 {
-    if tables.is_halted() {
+    let halted = tables.is_halted();
+    if halted {
         return;
     }
     match event {
@@ -144,24 +166,27 @@ fn receive(
     tables: &mut Tables,
     caches: &Caches,
     master: NodeId,
-    call: Call,
+    call: &Call,
     along: &mut Along,
-) -> Verdict
+    place: &mut Verdict,
+)
     requires kept { AreKept tables.old caches.now }
     requires along { along.old ≡ trail_from tables.old }
-    ensures book { tables.new ≡ after_stages (message_stages (call_in master call tables.old)) tables.old }
-    ensures verdict { result ≡ verdict (call_in master call tables.old) }
+    ensures book { tables.new ≡ after_stages (message_stages (call_in master call.now tables.old)) tables.old }
+    ensures verdict { place.new ≡ verdict (call_in master call.now tables.old) }
     ensures along { Completes tables.old
-        (path_from (message_stages (call_in master call tables.old)) tables.old) tables.new along.new }
-    ensures still { is_once call ≡ true → along.new ≡ along.old }
+        (path_from (message_stages (call_in master call.now tables.old)) tables.old) tables.new along.new }
+    ensures still { is_once call.now ≡ true → along.new ≡ along.old }
 {
-    let Some(place) = tables.master_place(master) else {
-        return Verdict::Dropped;
-    };
-    if !may_call(tables, place) {
-        return Verdict::Dropped;
+    if let Some(m) = tables.master_place(master) {
+        if may_call(tables, m) {
+            serve(tables, caches, m, call, along, place);
+        } else {
+            *place = Verdict::Dropped;
+        }
+    } else {
+        *place = Verdict::Dropped;
     }
-    serve(tables, caches, place, call, along)
 }
 
 /// Whether a master may call: it is active or suspending, and the book isn't halted.
@@ -202,8 +227,8 @@ pub(crate) fn keeps_procs(call: &Call) -> bool
 }
 
 /// Whether an event may change the mode of a processor.
-fn may_move(event: &Event, served: Option<Served>) -> bool
-    ensures { result ≡ may_move event.now served }
+fn may_move(event: &Event, served: &Option<Served>) -> bool
+    ensures { result ≡ may_move event.now served.now }
 {
     match served {
         Some(served) => !keeps_procs(&served.call),
@@ -213,8 +238,8 @@ fn may_move(event: &Event, served: Option<Served>) -> bool
 
 /// Whether an event may have stages, by the verdict on its message. Where it may not, the book stays but for
 /// what is told.
-fn may_change(event: &Event, served: Option<Served>) -> bool
-    ensures { result ≡ may_change event.now served }
+fn may_change(event: &Event, served: &Option<Served>) -> bool
+    ensures { result ≡ may_change event.now served.now }
 {
     match served {
         Some(served) => matches!(served.verdict, Verdict::Accepted(_)) && !only_reads(&served.call),
@@ -233,8 +258,8 @@ fn is_once(call: &Call) -> bool
 }
 
 /// Whether an event is no message of a call with more stages than one.
-fn is_once_in(served: Option<Served>) -> bool
-    ensures { result ≡ is_once_in served }
+fn is_once_in(served: &Option<Served>) -> bool
+    ensures { result ≡ is_once_in served.now }
 {
     match served {
         Some(served) => is_once(&served.call),
@@ -243,15 +268,15 @@ fn is_once_in(served: Option<Served>) -> bool
 }
 
 /// Whether an event has no stage, by the verdict on its message, and none is logged of it.
-fn rests(event: &Event, served: Option<Served>) -> bool
-    ensures { result ≡ rests event.now served }
+fn rests(event: &Event, served: &Option<Served>) -> bool
+    ensures { result ≡ rests event.now served.now }
 {
     !may_change(event, served) && is_once_in(served)
 }
 
 /// Whether nothing comes of an event but the answer to its sender: it has no stage, and no time passes.
-pub fn is_quiet(event: &Event, served: Option<Served>, count: Option<u32>) -> bool
-    ensures { result ≡ is_quiet event.now served count }
+pub fn is_quiet(event: &Event, served: &Option<Served>, count: Option<u32>) -> bool
+    ensures { result ≡ is_quiet event.now served.now count }
 {
     rests(event, served) && count.is_none()
 }
@@ -301,9 +326,9 @@ pub fn touched_unless(
     still: bool,
     tables: &Tables,
     event: &Event,
-    served: Option<Served>,
+    served: &Option<Served>,
 ) -> Touched
-    ensures { result ≡ touched_unless still event.now served tables.now }
+    ensures { result ≡ touched_unless still event.now served.now tables.now }
 {
     if still {
         Touched::Nothing
@@ -314,8 +339,8 @@ pub fn touched_unless(
 
 /// What of a book an event may touch, by the verdict on its message: nothing that changes a value, the rows on one
 /// slave, modes of processors with the rows of the masters whose mode turns, or anything.
-fn touched(tables: &Tables, event: &Event, served: Option<Served>) -> Touched
-    ensures { result ≡ touched event.now served tables.now }
+fn touched(tables: &Tables, event: &Event, served: &Option<Served>) -> Touched
+    ensures { result ≡ touched event.now served.now tables.now }
 {
     if !may_change(event, served) {
         return Touched::Nothing;

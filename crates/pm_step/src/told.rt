@@ -21,8 +21,8 @@ use pm_tell::{Callback, Late, Served, Telling, tell, tell_notices};
 use pm_values::Caches;
 
 /// Whether an event is a message whose call leaves all processors in their modes.
-fn is_plain(served: Option<Served>) -> bool
-    ensures { result ≡ is_plain served }
+fn is_plain(served: &Option<Served>) -> bool
+    ensures { result ≡ is_plain served.now }
 {
     match served {
         Some(served) => keeps_procs(&served.call),
@@ -37,7 +37,7 @@ pub fn tell_event(
     caches: &Caches,
     telling: &mut Telling,
     count: Option<u32>,
-    served: Option<Served>,
+    served: &Option<Served>,
     late: &mut BoundedList<Late>,
     callbacks: &mut BoundedList<Callback>,
 )
@@ -48,21 +48,21 @@ pub fn tell_event(
     requires few { length telling.old.notices.items ≤ notice_count (unit_count tables.old.fixed.topology) }
     requires late { length late.old.items + length tables.old.fixed.object.masters ≤ late.old.room }
     requires callbacks { length callbacks.old.items + callbacks_at_most tables.old ≤ callbacks.old.room }
-    requires plain { is_plain served ≡ true → IsPlain served count tables.old telling.old }
+    requires plain { is_plain served.now ≡ true → IsPlain served.now count tables.old telling.old }
     ensures modes { telling.new.modes ≡ telling.old.modes }
     ensures along { telling.new.along ≡ telling.old.along }
-    ensures asks { telling.new.asks ≡ asked_by (says_in served) }
+    ensures asks { telling.new.asks ≡ asked_by (says_in served.now) }
     ensures notices { telling.new.notices ≡ telling.old.notices }
     ensures ended { telling.new.ended.items
-        ≡ ended_from (turns_in telling.old) (aborted_by (says_in served)) count 0 tables.old.now.talk.pending }
+        ≡ ended_from (turns_in telling.old) (aborted_by (says_in served.now)) count 0 tables.old.now.talk.pending }
     ensures places { HasPlaces tables.old.fixed.topology (length tables.old.fixed.object.masters) telling.new }
     ensures book { tables.new ≡ talked (tellings (news_in telling.new) (mode_before telling.new)
-        (opening_in telling.new (says_in served) count tables.old) served tables.old) tables.old }
+        (opening_in telling.new (says_in served.now) count tables.old) served.now tables.old) tables.old }
     ensures late { late.new
         ≡ record late.old { items = late.old.items ++ spec.late_replies telling.new.ended.items tables.new } }
     ensures callbacks { callbacks.new ≡ record callbacks.old {
       items = callbacks.old.items ++ spec.callbacks (news_in telling.new) (mode_before telling.new)
-          (notes_after (opening_in telling.new (says_in served) count tables.old) tables.old) tables.new;
+          (notes_after (opening_in telling.new (says_in served.now) count tables.old) tables.old) tables.new;
     } }
 {
     if is_plain(served) {

@@ -13,6 +13,7 @@ use pm_notify::{NodeEvent, Note, Waiting, notifiers_are_kept};
 use pm_state::Tables;
 
 /// Whether the master at a place has asked to be told this of a node.
+#[inline(always)]
 pub(crate) fn is_wanted(tables: &Tables, k: usize, notice: Waiting) -> bool
     ensures { result ≡ spec.is_wanted (notes_of_master k tables.now) notice notice.note }
 {

@@ -2,10 +2,12 @@
 
 ghost use Rattle.std.specs.Prelude.{◌≡◌};
 ghost use Rattle.pm_tell.specs.Opening.{ends, forget_at, forgets_from, lower_by, sweep_by, say_by};
+ghost use Rattle.pm_tell.specs.Served.{says_in};
 ghost use Rattle.pm_state.specs.Talk.{talked};
 ghost use Rattle.pm_tell.specs.Telling.{opening_in, turns_in};
 
 use crate::ended::Ended;
+use crate::served::{Served, says_in};
 use crate::telling::Telling;
 use pm_calls::Say;
 use pm_state::Tables;
@@ -13,12 +15,17 @@ use pm_state::Tables;
 /// What is done before any master is told: all is as at load, if all is restarted, or no notifier is left, if another
 /// object is in force; masters that became off forget what they asked for, a notifier is put or a master is asked,
 /// time passes, and requests end.
-pub(crate) fn open(tables: &mut Tables, telling: &Telling, says: Option<Say>, count: Option<u32>)
-    ensures { tables.new ≡ talked (opening_in telling.now says count tables.old) tables.old }
+pub(crate) fn open(
+    tables: &mut Tables,
+    telling: &Telling,
+    served: &Option<Served>,
+    count: Option<u32>,
+)
+    ensures { tables.new ≡ talked (opening_in telling.now (says_in served.now) count tables.old) tables.old }
 {
-    renew(tables, says);
+    renew(tables, says_in(served));
     forget(tables, telling);
-    say(tables, says);
+    say(tables, says_in(served));
     pass_time(tables, count);
     end_requests(tables, telling.ended());
 }

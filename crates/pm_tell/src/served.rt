@@ -21,8 +21,8 @@ pub struct Served {
 }
 
 /// What the masters are told by a message, if there is one.
-pub(crate) fn says_in(served: Option<Served>) -> Option<Say>
-    ensures { result ≡ says_in served }
+pub(crate) fn says_in(served: &Option<Served>) -> Option<Say>
+    ensures { result ≡ says_in served.now }
 {
     match served {
         Some(served) => served.verdict.says(),
@@ -31,8 +31,8 @@ pub(crate) fn says_in(served: Option<Served>) -> Option<Say>
 }
 
 /// The reset line that is pulsed by it.
-pub fn pulse_in(served: Option<Served>) -> Option<LineId>
-    ensures { result ≡ pulse_in served }
+pub fn pulse_in(served: &Option<Served>) -> Option<LineId>
+    ensures { result ≡ pulse_in served.now }
 {
     match served {
         Some(served) => served.verdict.pulse(),
@@ -41,8 +41,8 @@ pub fn pulse_in(served: Option<Served>) -> Option<LineId>
 }
 
 /// What waits for the sender of a message that is asleep after it: the acknowledgement of its call.
-pub(crate) fn keep_own(tables: &mut Tables, served: Option<Served>)
-    ensures { tables.new ≡ talked (kept_of served tables.old) tables.old }
+pub(crate) fn keep_own(tables: &mut Tables, served: &Option<Served>)
+    ensures { tables.new ≡ talked (kept_of served.now tables.old) tables.old }
 {
     let Some(served) = served else {
         return;

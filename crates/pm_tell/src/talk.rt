@@ -31,7 +31,7 @@ pub fn tell(
     caches: &Caches,
     telling: &mut Telling,
     count: Option<u32>,
-    served: Option<Served>,
+    served: &Option<Served>,
     late: &mut BoundedList<Late>,
     callbacks: &mut BoundedList<Callback>,
 )
@@ -44,24 +44,24 @@ pub fn tell(
     requires callbacks { length callbacks.old.items + callbacks_at_most tables.old ≤ callbacks.old.room }
     ensures modes { telling.new.modes ≡ telling.old.modes }
     ensures along { telling.new.along ≡ telling.old.along }
-    ensures asks { telling.new.asks ≡ asked_by (says_in served) }
+    ensures asks { telling.new.asks ≡ asked_by (says_in served.now) }
     ensures notices { telling.new.notices ≡ telling.old.notices }
     ensures ended { telling.new.ended.items
-        ≡ ended_from (turns_in telling.old) (aborted_by (says_in served)) count 0 tables.old.now.talk.pending }
+        ≡ ended_from (turns_in telling.old) (aborted_by (says_in served.now)) count 0 tables.old.now.talk.pending }
     ensures places { HasPlaces tables.old.fixed.topology (length tables.old.fixed.object.masters) telling.new }
     ensures book { tables.new ≡ talked (tellings (news_in telling.new) (mode_before telling.new)
-        (opening_in telling.new (says_in served) count tables.old) served tables.old) tables.old }
+        (opening_in telling.new (says_in served.now) count tables.old) served.now tables.old) tables.old }
     ensures late { late.new
         ≡ record late.old { items = late.old.items ++ spec.late_replies telling.new.ended.items tables.new } }
     ensures callbacks { callbacks.new ≡ record callbacks.old {
       items = callbacks.old.items ++ spec.callbacks (news_in telling.new) (mode_before telling.new)
-          (notes_after (opening_in telling.new (says_in served) count tables.old) tables.old) tables.new;
+          (notes_after (opening_in telling.new (says_in served.now) count tables.old) tables.old) tables.new;
     } }
 {
     notes_stand_in_order();
     let says = says_in(served);
     telling.log_ended(tables, says, count);
-    open(tables, telling, says, count);
+    open(tables, telling, served, count);
     tell_masters(tables, caches, telling, callbacks);
     keep_own(tables, served);
     tell_late(tables, telling.ended(), late);

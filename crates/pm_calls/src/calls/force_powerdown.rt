@@ -29,7 +29,8 @@ pub fn serve(
     verdict: &mut Verdict,
 )
     requires { along.old ≡ trail_from tables.old }
-    ensures verdict { verdict.new ≡ verdict_of (force_powerdown (grants_in tables.old) tables.old.fixed master node ack) }
+    ensures verdict { verdict.new
+        ≡ verdict_of (force_powerdown (grants_in tables.old) tables.old.fixed master node ack) }
     ensures book { tables.new
         ≡ after_stages (stages_of
         (force_powerdown (grants_in tables.old) tables.old.fixed master node ack)) tables.old }

@@ -11,31 +11,31 @@ use Rattle.pm_step.proofs.step.advance.Goals as goal
 -- the places of the trail stay while it is logged
 pub log-requires : goal.log-requires
 log-requires c =
-    let Q : Fixed → Type 0 = λ f. HasTrail (length f.object.masters) (length f.topology.procs) c.take-served.new.along in
-    subst Q (sym (ap (λ (b : State). b.fixed) c.take-served.ensures.book)) c.take-served.ensures.along.places
+    let Q : Fixed → Type 0 = λ f. HasTrail (length f.object.masters) (length f.topology.procs) c.take.new.along in
+    subst Q (sym (ap (λ (b : State). b.fixed) c.take.ensures.book)) c.take.ensures.along.places
 
 pub returns-then-may_move-clause-places : goal.returns-then-may_move-clause-places
 returns-then-may_move-clause-places c =
     let old = c.args.tables.now in
-    let mid = c.take-served.new.tables in
-    let count : length mid.fixed.object.masters ≡ length old.fixed.object.masters = ap (λ (b : State). length b.fixed.object.masters) c.take-served.ensures.book in
-    let all : length (units mid) ≡ length (units old) = ap (λ (b : State). length (units b)) c.take-served.ensures.book in
+    let mid = c.take.new.tables in
+    let count : length mid.fixed.object.masters ≡ length old.fixed.object.masters = ap (λ (b : State). length b.fixed.object.masters) c.take.ensures.book in
+    let all : length (units mid) ≡ length (units old) = ap (λ (b : State). length (units b)) c.take.ensures.book in
     let Q : Trail → Type 0 = λ n. HasTrail (length mid.fixed.object.masters) (length mid.fixed.topology.procs) n in
     record {
       modes = c.requires.places.modes ∙ sym count;
-      along = subst Q (sym c.log.ensures) (trailed_places mid c.take-served.new.along);
+      along = subst Q (sym c.log.ensures) (trailed_places mid c.take.new.along);
       ended = omega (arith, count, c.requires.places.ended);
       notices = omega (arith, all, c.requires.places.notices);
     }
 
 -- no processor moves, and nothing is logged behind the first moment
-stays : (c : goal.Else-may_move) → may_move c.args.event.now c.take-served.result ≡ false
+stays : (c : goal.Else-may_move) → may_move c.args.event.now c.take.new.taken ≡ false
 stays c = sym c.may_move.ensures ∙ c.if-may_move.false
 
-logged : (c : goal.Else-may_move) → IsTrail c.args.tables.now (path c.args.event.now c.args.tables.now) c.take-served.new.along × (c.take-served.new.along.modes ≡ modes_of c.take-served.new.tables)
+logged : (c : goal.Else-may_move) → IsTrail c.args.tables.now (path c.args.event.now c.args.tables.now) c.take.new.along × (c.take.new.along.modes ≡ modes_of c.take.new.tables)
 logged c =
-    stays_logged c.args.event.now c.args.tables.now c.take-served.new.tables c.take-served.result c.take-served.new.along c.take-served.ensures.served (stays c) c.take-served.ensures.book
-    (c.take-served.ensures.still (moves_once c.args.event.now c.take-served.result (stays c)) ∙ c.requires.fresh.along)
+    stays_logged c.args.event.now c.args.tables.now c.take.new.tables c.take.new.taken c.take.new.along c.take.ensures.served (stays c) c.take.ensures.book
+    (c.take.ensures.still (moves_once c.args.event.now c.take.new.taken (stays c)) ∙ c.requires.fresh.along)
 
 pub returns-else-may_move-clause-along : goal.returns-else-may_move-clause-along
 returns-else-may_move-clause-along c = (logged c).0
@@ -47,33 +47,33 @@ returns-else-may_move-clause-now c = (logged c).1
 pub returns-else-may_move-clause-fresh : goal.returns-else-may_move-clause-fresh
 returns-else-may_move-clause-fresh c =
     let old = c.args.tables.now in
-    let mid = c.take-served.new.tables in
+    let mid = c.take.new.tables in
     let same : trail_from mid ≡ trail_from old =
-    stays_fresh c.args.event.now old mid c.take-served.result c.take-served.ensures.served (stays c) c.take-served.ensures.book
+    stays_fresh c.args.event.now old mid c.take.new.taken c.take.ensures.served (stays c) c.take.ensures.book
     in
     λ still. record {
       modes = c.requires.fresh.modes ∙ sym (ap (λ (t : Trail). t.modes) same);
-      along = c.take-served.ensures.still (moves_once c.args.event.now c.take-served.result (stays c)) ∙ (c.requires.fresh.along ∙ sym same);
+      along = c.take.ensures.still (moves_once c.args.event.now c.take.new.taken (stays c)) ∙ (c.requires.fresh.along ∙ sym same);
     }
 
 -- an event without a stage leaves what is begun
-rested : (c : goal.Then-rests) → rests c.args.event.now c.take-served.result ≡ true
+rested : (c : goal.Then-rests) → rests c.args.event.now c.take.new.taken ≡ true
 rested c = sym c.rests.ensures ∙ c.if-rests.true
 
-unlogged : (c : goal.Then-rests) → c.take-served.new.along ≡ trail_from c.args.tables.now
-unlogged c = c.take-served.ensures.still (rests_once c.args.event.now c.take-served.result (rested c)) ∙ c.requires.fresh.along
+unlogged : (c : goal.Then-rests) → c.take.new.along ≡ trail_from c.args.tables.now
+unlogged c = c.take.ensures.still (rests_once c.args.event.now c.take.new.taken (rested c)) ∙ c.requires.fresh.along
 
-rest_logged : (c : goal.Then-rests) → IsTrail c.args.tables.now (path c.args.event.now c.args.tables.now) c.take-served.new.along × (c.take-served.new.along.modes ≡ modes_of c.take-served.new.tables)
+rest_logged : (c : goal.Then-rests) → IsTrail c.args.tables.now (path c.args.event.now c.args.tables.now) c.take.new.along × (c.take.new.along.modes ≡ modes_of c.take.new.tables)
 rest_logged c =
-    rests_logged c.args.event.now c.args.tables.now c.take-served.new.tables c.take-served.result c.take-served.new.along c.take-served.ensures.served (rested c) c.take-served.ensures.book
+    rests_logged c.args.event.now c.args.tables.now c.take.new.tables c.take.new.taken c.take.new.along c.take.ensures.served (rested c) c.take.ensures.book
     (unlogged c)
 
-rest_fresh : (c : goal.Then-rests) → IsFresh c.take-served.new.tables (record c.args.telling.now { along = c.take-served.new.along })
+rest_fresh : (c : goal.Then-rests) → IsFresh c.take.new.tables (record c.args.telling.now { along = c.take.new.along })
 rest_fresh c =
     let old = c.args.tables.now in
-    let mid = c.take-served.new.tables in
+    let mid = c.take.new.tables in
     let same : trail_from mid ≡ trail_from old =
-    rests_fresh c.args.event.now old mid c.take-served.result c.take-served.ensures.served (rested c) c.take-served.ensures.book
+    rests_fresh c.args.event.now old mid c.take.new.taken c.take.ensures.served (rested c) c.take.ensures.book
     in
     record {
       modes = c.requires.fresh.modes ∙ sym (ap (λ (t : Trail). t.modes) same);

@@ -9,18 +9,18 @@ use Rattle.pm_step.proofs.step.receive.Goals as goal
 pub returns-in_default-clause-along : goal.returns-in_default-clause-along
 returns-in_default-clause-along c =
     let book = c.args.tables.now in
-    let call = c.args.call in
+    let call = c.args.call.now in
     still_trailed (message_stages (call_in c.args.master call book)) book c.args.along.now
     (ap (λ p. message_stages (option_and_then (call_at call book) p))
     (sym c.master_place.ensures ∙ nowhere c.master_place.result c.in_default.not-Some))
     c.requires.along
 
-pub returns-then-not-may_call-clause-along : goal.returns-then-not-may_call-clause-along
-returns-then-not-may_call-clause-along c =
+pub returns-else-may_call-clause-along : goal.returns-else-may_call-clause-along
+returns-else-may_call-clause-along c =
     let book = c.args.tables.now in
-    let call = c.args.call in
-    let place = c.in-Some.place in
+    let call = c.args.call.now in
+    let place = c.in-Some.m in
     still_trailed (message_stages (call_in c.args.master call book)) book c.args.along.now
     (ap (λ p. message_stages (option_and_then (call_at call book) p)) (sym c.master_place.ensures ∙ c.in-Some.is)
-    ∙ ap (λ h. message_stages (if h then Some (called place call book) else None)) (sym c.may_call.ensures ∙ c.if-not-may_call.true))
+    ∙ ap (λ h. message_stages (if h then Some (called place call book) else None)) (sym c.may_call.ensures ∙ c.if-may_call.false))
     c.requires.along

@@ -12,7 +12,7 @@ use Rattle.pm_step.specs.Fresh.{IsPlain}
 use Rattle.pm_step.proofs.PlainLaw.{ends_none, opens_none, tells_notices}
 use Rattle.pm_step.proofs.told.tell_event.Goals as goal
 
-plain : (c : goal.After-tell_notices) → IsPlain c.args.served c.args.count c.args.tables.now c.args.telling.now
+plain : (c : goal.After-tell_notices) → IsPlain c.args.served.now c.args.count c.args.tables.now c.args.telling.now
 plain c = c.requires.plain (sym c.is_plain.ensures ∙ c.if-is_plain.true)
 
 pub returns-then-is_plain-clause-asks : goal.returns-then-is_plain-clause-asks
@@ -21,7 +21,7 @@ returns-then-is_plain-clause-asks c = c.tell_notices.ensures.asks ∙ sym (ap as
 pub returns-then-is_plain-clause-ended : goal.returns-then-is_plain-clause-ended
 returns-then-is_plain-clause-ended c =
     c.tell_notices.ensures.ended
-    ∙ sym (ends_none c.args.served c.args.count c.args.tables.now c.args.telling.now (plain c) c.tell_notices.new.telling c.tell_notices.ensures.along)
+    ∙ sym (ends_none c.args.served.now c.args.count c.args.tables.now c.args.telling.now (plain c) c.tell_notices.new.telling c.tell_notices.ensures.along)
 
 pub returns-then-is_plain-clause-book : goal.returns-then-is_plain-clause-book
 returns-then-is_plain-clause-book c =
@@ -29,7 +29,7 @@ returns-then-is_plain-clause-book c =
     let telling = c.tell_notices.new.telling in
     c.tell_notices.ensures.book
     ∙ ap (λ told. talked told old)
-    (sym (tells_notices c.args.served c.args.count old c.args.telling.now (plain c) telling c.tell_notices.ensures.along (news_in telling) (mode_logged telling.modes.items) c.tell_notices.ensures.ended))
+    (sym (tells_notices c.args.served.now c.args.count old c.args.telling.now (plain c) telling c.tell_notices.ensures.along (news_in telling) (mode_logged telling.modes.items) c.tell_notices.ensures.ended))
 
 pub returns-then-is_plain-clause-late : goal.returns-then-is_plain-clause-late
 returns-then-is_plain-clause-late c =
@@ -51,4 +51,4 @@ returns-then-is_plain-clause-callbacks c =
     ∙ (ap with_calls (sym (callbacks_told news was notes told old 0 old.fixed.object.masters))
     ∙ (ap (λ (b : State). with_calls (callbacks news was notes b)) (sym c.tell_notices.ensures.book)
     ∙ ap (λ first. with_calls (callbacks news was (notes_after first old) c.tell_notices.new.tables))
-    (sym (opens_none c.args.served c.args.count old c.args.telling.now (plain c) telling c.tell_notices.ensures.along c.tell_notices.ensures.ended))))
+    (sym (opens_none c.args.served.now c.args.count old c.args.telling.now (plain c) telling c.tell_notices.ensures.along c.tell_notices.ensures.ended))))

@@ -18,13 +18,13 @@ use Rattle.pm_tell.proofs.talk.tell.Goals as goal
 pub tell_masters-requires-clause-kept : goal.tell_masters-requires-clause-kept
 tell_masters-requires-clause-kept c =
     let P : State → Type 0 = λ b. AreKept b c.args.caches.now in
-    subst P (sym c.open.ensures) (kept_talked (opening_in c.log_ended.new.self c.says_in-says.result c.args.count c.args.tables.now) c.args.tables.now c.args.caches.now c.requires.kept)
+    subst P (sym c.open.ensures) (kept_talked (opening_in c.log_ended.new.self (says_in c.args.served.now) c.args.count c.args.tables.now) c.args.tables.now c.args.caches.now c.requires.kept)
 
 pub tell_masters-requires-clause-notes : goal.tell_masters-requires-clause-notes
 tell_masters-requires-clause-notes c =
     let old = c.args.tables.now in
     let P : State → Type 0 = λ b. AreNotes b.fixed.topology (length b.fixed.object.masters) b.now.talk.notes in
-    subst P (sym c.open.ensures) (talk_notes c.notes_stand_in_order.ensures old.fixed.topology (length old.fixed.object.masters) (opening_in c.log_ended.new.self c.says_in-says.result c.args.count old) old.now.talk c.requires.notes)
+    subst P (sym c.open.ensures) (talk_notes c.notes_stand_in_order.ensures old.fixed.topology (length old.fixed.object.masters) (opening_in c.log_ended.new.self (says_in c.args.served.now) c.args.count old) old.now.talk c.requires.notes)
 
 pub returns-clause-book : goal.returns-clause-book
 returns-clause-book c =
@@ -32,11 +32,9 @@ returns-clause-book c =
     let telling = c.log_ended.new.self in
     let news = news_in telling in
     let was = mode_logged telling.modes.items in
-    let served = c.args.served in
+    let served = c.args.served.now in
     let first = opening_in telling (says_in served) c.args.count old in
-    let opened : c.open.new.tables ≡ talked first old =
-    c.open.ensures ∙ ap (λ says. talked (opening_in telling says c.args.count old) old) c.says_in-says.ensures
-    in
+    let opened : c.open.new.tables ≡ talked first old = c.open.ensures in
     let told : c.tell_masters.new.tables ≡ talked (note_changes news was (notes_after first old) old) c.open.new.tables =
     c.tell_masters.ensures.book
     ∙ (ap (λ (b : State). talked (note_changes news was b.now.talk.notes b) c.open.new.tables) opened
@@ -57,12 +55,10 @@ returns-clause-callbacks c =
     let telling = c.log_ended.new.self in
     let news = news_in telling in
     let was = mode_logged telling.modes.items in
-    let served = c.args.served in
+    let served = c.args.served.now in
     let first = opening_in telling (says_in served) c.args.count old in
     let before = c.args.callbacks.now in
-    let opened : c.open.new.tables ≡ talked first old =
-    c.open.ensures ∙ ap (λ says. talked (opening_in telling says c.args.count old) old) c.says_in-says.ensures
-    in
+    let opened : c.open.new.tables ≡ talked first old = c.open.ensures in
     let put : _ → Bounded Callback = λ cs. record before { items = before.items ++ cs } in
     let all = tellings news was first served old in
     c.tell_masters.ensures.callbacks

@@ -3,7 +3,7 @@ use Rattle.pm_calls.specs.calls.{called}
 use Rattle.pm_calls.specs.Verdict.{stages_of}
 use Rattle.pm_values.proofs.AlongLaw.{once_trailed}
 use Rattle.pm_calls.proofs.CallsOnce.{called_once, once_of}
-use Rattle.pm_calls.proofs.calls.serve_into.Goals as goal
+use Rattle.pm_calls.proofs.calls.serve.Goals as goal
 
 pub returns-in_default : goal.returns-in_default
 returns-in_default c =
