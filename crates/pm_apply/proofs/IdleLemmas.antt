@@ -26,6 +26,21 @@ no_rise n m fed same = grind (arith, nat_tests)
 no_fall : (n m : ℕ) (used : Bool) → n ≡ m → ((m == 0) && ((n == 1) && used)) ≡ false
 no_fall n m used same = grind (arith, nat_tests)
 
+-- one that doesn't lag has the book's value, and one that lags doesn't go up from another value than 0
+off : (a b c : Bool) → b ≡ false → (a && (b && c)) ≡ false
+off true false c is = refl
+off false false c is = refl
+off a true c is = cc
+
+pub no_rise_held : (lags : Bool) (n m : ℕ) (fed : Bool) → (lags && (n == 0)) ≡ false → (lags ≡ false → n ≡ m) → ((m == 1) && ((n == 0) && fed)) ≡ false
+no_rise_held true n m fed none same = off (m == 1) (n == 0) fed none
+no_rise_held false n m fed none same = no_rise n m fed (same refl)
+
+-- nor down from another than 1
+pub no_fall_held : (lags : Bool) (n m : ℕ) (used : Bool) → (lags && (n == 1)) ≡ false → (lags ≡ false → n ≡ m) → ((m == 0) && ((n == 1) && used)) ≡ false
+no_fall_held true n m used none same = off (m == 0) (n == 1) used none
+no_fall_held false n m used none same = no_fall n m used (same refl)
+
 no_change : (a same b : Bool) → same ≡ true → (a && (not same && b)) ≡ false
 no_change true true b is = refl
 no_change false true b is = refl

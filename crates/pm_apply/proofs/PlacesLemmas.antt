@@ -31,6 +31,15 @@ rises_on low end (p ∷ places) rise zero (suc j) le within =
 rises_on low end (p ∷ places) rise (suc i) zero le within = absurd (omega (arith, le))
 rises_on low end (p ∷ places) rise (suc i) (suc j) le within = rises_on (p + 1) end places rise.2 i j (omega (arith, le)) (omega (arith, within))
 
+-- each is above an earlier one
+rises_more : (low end : ℕ) (places : List ℕ) → RiseWithin low end places → (i j : ℕ) → i < j → j < length places → get_or places i 0 < get_or places j 0
+rises_more low end [] rise i j less within = absurd (omega (arith, within))
+rises_more low end (p ∷ places) rise i zero less within = absurd (omega (arith, less))
+rises_more low end (p ∷ places) rise zero (suc j) less within =
+    let later = from_low (p + 1) end places j rise.2 (omega (arith, within)) in
+    omega (arith, later)
+rises_more low end (p ∷ places) rise (suc i) (suc j) less within = rises_more (p + 1) end places rise.2 i j (omega (arith, less)) (omega (arith, within))
+
 -- there are no more of them than places
 pub few_places : (low end : ℕ) (places : List ℕ) → low ≤ end → RiseWithin low end places → length places + low ≤ end
 few_places low end [] le rise = omega (arith, le)
@@ -136,6 +145,27 @@ pub next_nowhere : (end : ℕ) (places : List ℕ) (from i : ℕ) → from ≤ e
     → IsNext end places from end
 next_nowhere end places from i fits rise less past =
     record { after = fits; within = omega arith; none = λ k after before. none_between end places from i k rise less after (λ within. absurd (omega (arith, within, past))) }
+
+-- behind the i-th comes the one after it
+pub next_after : (end : ℕ) (places : List ℕ) (place i : ℕ) → RiseWithin 0 end places → place < end → slice_get places i ≡ Some place
+    → IsNext end places (place + 1) (unwrap_or (slice_get places (i + 1)) end)
+next_after end places place i rise below here =
+    let there = slice_get_within places i place here in
+    let is : get_or places i 0 ≡ place = get_or_from_slice_get places i place 0 here in
+    let less : (j : ℕ) → j < i + 1 → get_or places j 0 < place + 1 = λ j before.
+    let up = rises_on 0 end places rise j i (omega (arith, before)) there in
+    omega (arith, up, is)
+    in
+    elim ((slice_get_cases places (i + 1)).1) [
+      | inl more ↦ (
+          let same : unwrap_or (slice_get places (i + 1)) end ≡ get_or places (i + 1) 0 = ap (λ found. unwrap_or found end) (slice_get-get_or places (i + 1) 0 more.1) in
+          let up = rises_more 0 end places rise i (i + 1) (omega arith) more.1 in
+          subst (IsNext end places (place + 1)) (sym same)
+          (next_there end places (place + 1) (i + 1) (get_or places (i + 1) 0) rise less (slice_get-get_or places (i + 1) 0 more.1) (omega (arith, up, is))))
+      | inr past ↦
+          subst (IsNext end places (place + 1)) (sym (ap (λ found. unwrap_or found end) past.1))
+          (next_nowhere end places (place + 1) (i + 1) (omega (arith, below)) rise less (omega (arith, past.0)))
+    ]
 
 -- ---- one goes in at the end
 

@@ -1,8 +1,8 @@
 -- The turns of a step are taken in three parts: power nodes go up, the other units take their values, power nodes go down.
-use Rattle.std.proofs.Common.{◌≡◌, ℕ, ◌+◌, ◌-◌, ◌<◌, ◌≤◌, true, Option, Some, List, [], ◌∷◌, ◌++◌, length, map, take, slice_get, refl, sym, ap, subst, ◌∙◌, zero, suc, arith, inl, inr}
+use Rattle.std.proofs.Common.{◌≡◌, ℕ, ◌+◌, ◌-◌, ◌<◌, ◌≤◌, ◌==◌, ◌&&◌, true, false, not, Option, Some, None, List, [], ◌∷◌, ◌++◌, length, map, take, slice_get, refl, sym, ap, subst, ◌∙◌, zero, suc, arith, inl, inr}
 use Rattle.std.specs.Prelude.{flat_map, reverse}
 use Rattle.std.specs.List.{list_all}
-use Rattle.std.specs.Option.{option_map}
+use Rattle.std.specs.Option.{option_map, option_map_or}
 use Rattle.std.proofs.lemmas.Bool.{and_from}
 use Rattle.std.proofs.lemmas.Grind.{flat_map-append}
 use Rattle.std.proofs.lemmas.List.Sums.{sum_by-append, sum_by-cons}
@@ -24,12 +24,12 @@ use Rattle.pm_apply.specs.declared.turns.Turn.{Turn}
 use Rattle.pm_apply.specs.declared.turns.Turn.TheVariants.{PowerOn, Apply, PowerOff}
 use Rattle.pm_apply.specs.Carried.{KeepsRest, Takes}
 use Rattle.pm_apply.specs.Left.{HaveNone, IsFollowed}
-use Rattle.pm_apply.specs.Plan.{Carried, answers_of, plan, power_places, turns_of, with_pulse}
-use Rattle.pm_apply.specs.Record.{Kept, lags_in, supply_in}
+use Rattle.pm_apply.specs.Plan.{Carried, answers_of, command, due, is_fed, is_used, plan, power_off, power_on, power_places, power_value, turns_of, where_due, with_pulse}
+use Rattle.pm_apply.specs.Record.{Kept, kept_value, lags_in, supply_in}
 use Rattle.pm_apply.specs.Room.{most, most_of}
-use Rattle.pm_apply.specs.Visits.{IsIdle, LagsNotAt, NoPowerLags}
+use Rattle.pm_apply.specs.Visits.{IsIdle, LagsNotAt, NoPowerLags, power_lags}
 use Rattle.pm_apply.proofs.Below.{ChipLaws}
-use Rattle.pm_apply.proofs.IdleLemmas.{idle_none}
+use Rattle.pm_apply.proofs.IdleLemmas.{idle_none, no_fall_held, no_rise_held}
 use Rattle.pm_apply.proofs.OrdersUnits.{power_is_listed}
 use Rattle.pm_apply.proofs.PlanLemmas.{plan-recorded}
 use Rattle.pm_apply.proofs.RecordLemmas.{recorded, supply_in-recorded}
@@ -123,6 +123,34 @@ module _ (laws : ChipLaws) (t : Topology) (values : Unit → ℕ) (pulse : Optio
     pub none_fall : (places : List ℕ) → HaveNone t values kept (flat_map (with_pulse pulse) (map PowerOff places))
     none_fall [] = tt
     none_fall (w ∷ places) = ((idle_none t values kept laws pulse followed.ready (PowerOff w) (λ p here. power_idle w p here)).0, none_fall places)
+
+  module _ (well : IsWellFormed t) where
+    power_stands : (w : ℕ) (p : PowerDef) → slice_get t.powers w ≡ Some p → lags_in kept (Node p.node) ≡ false → kept_value kept (Node p.node) ≡ values (Node p.node)
+    power_stands w p here rests = followed.ready.stands (Node p.node) (ap (λ us. has_in us (Node p.node)) followed.units ∙ power_is_listed laws t well w p here) rests
+
+    -- a power node that doesn't lag, or isn't down in the record, doesn't go up
+    pub not_raised : (w : ℕ) → (power_lags t kept w && (power_value t kept w == 0)) ≡ false → due t values kept (PowerOn w) ≡ None
+    not_raised w none = at (slice_get t.powers w) refl none
+      where
+        at : (power : Option PowerDef) → slice_get t.powers w ≡ power
+            → (option_map_or (λ (p : PowerDef). lags_in kept (Node p.node)) power false && (option_map_or (λ (p : PowerDef). kept_value kept (Node p.node)) power 0 == 0)) ≡ false
+            → power_on t values kept power ≡ None
+        at None is none = refl
+        at (Some p) is none =
+            ap (λ b. where_due b (command (Node p.node) 1))
+            (no_rise_held (lags_in kept (Node p.node)) (kept_value kept (Node p.node)) (values (Node p.node)) (is_fed t kept p.parent) none (power_stands w p is))
+
+    -- and one that isn't up doesn't go down
+    pub not_lowered : (w : ℕ) → (power_lags t kept w && (power_value t kept w == 1)) ≡ false → due t values kept (PowerOff w) ≡ None
+    not_lowered w none = at (slice_get t.powers w) refl none
+      where
+        at : (power : Option PowerDef) → slice_get t.powers w ≡ power
+            → (option_map_or (λ (p : PowerDef). lags_in kept (Node p.node)) power false && (option_map_or (λ (p : PowerDef). kept_value kept (Node p.node)) power 0 == 1)) ≡ false
+            → power_off t values kept w power ≡ None
+        at None is none = refl
+        at (Some p) is none =
+            ap (λ b. where_due b (command (Node p.node) 0))
+            (no_fall_held (lags_in kept (Node p.node)) (kept_value kept (Node p.node)) (values (Node p.node)) (not (is_used t kept w)) none (power_stands w p is))
 
   -- the unit at a place that doesn't lag
   record IdleThere (k : ℕ) : Type 0 where

@@ -2,6 +2,7 @@
 
 ghost use Rattle.std.specs.Prelude.{◌≡◌, ℕ, ◌<◌, ◌≤◌, ◌==◌, [], ◌∷◌, true, false, not, IfOk, count_by, length, slice_get, Some};
 ghost use Rattle.pm_base.specs.declared.names.Unit.{Unit as Part};
+ghost use Rattle.pm_base.specs.declared.names.Unit.TheVariants.{Line};
 ghost use Rattle.pm_topology.specs.UnitMap.{place_of, units_in, values_in};
 ghost use Rattle.pm_topology.specs.Units.{rises, units_of};
 ghost use Rattle.pm_topology.specs.WellFormed.{IsWellFormed};
@@ -92,6 +93,14 @@ impl Kept {
         })
     }
 
+    /// What is kept of a unit, and of one that isn't there as of an idle one.
+    #[inline(always)]
+    pub(crate) fn found(&self, unit: Unit) -> KeptValue
+        ensures { result ≡ kept_of self.now unit }
+    {
+        kept_of(&self.values, unit)
+    }
+
     /// The value that the device last took for a unit, and 0 for a unit that isn't there.
     pub fn value(&self, unit: Unit) -> u32
         ensures { result ≡ kept_value self.now unit }
@@ -115,6 +124,18 @@ impl Kept {
         ensures idle { (k : ℕ) → from ≤ k → k < result → LagsNotAt k self.now }
     {
         self.marked.next(from)
+    }
+
+    /// The place of the first unit behind this one that is marked, and the number of units where there is none. It is
+    /// known at once where this place is the `i`-th of those that are marked.
+    #[inline(always)]
+    pub(crate) fn next_behind(&self, i: usize, place: usize) -> usize
+        requires { place < length self.now }
+        ensures from { place < result }
+        ensures end { result ≤ length self.now }
+        ensures idle { (k : ℕ) → place < k → k < result → LagsNotAt k self.now }
+    {
+        self.marked.next_behind(i, place)
     }
 
     /// Whether some unit may be marked: none is where this is false.
@@ -154,6 +175,7 @@ impl Kept {
     }
 
     /// Whether the unit at a place, which is this one, is a power node of a chip.
+    #[inline(always)]
     pub(crate) fn is_power(&self, place: usize, unit: Unit, t: &Topology) -> bool
         requires { IsWellFormed t.now }
         ensures { result ≡ is_power t.now unit }
@@ -200,6 +222,7 @@ impl Kept {
     }
 
     /// Marks each unit of the chip.
+    #[inline(never)]
     pub(crate) fn mark_each(&mut self, book: &Book)
         ensures { Marks (units_of book.now.fixed.topology) self.old self.new }
     {
@@ -216,10 +239,19 @@ impl Kept {
         ensures { Marks (pulsed line) self.old self.new }
     {
         if let Some(line) = line {
-            self.mark_one(Unit::Line(line));
+            self.mark_line(line);
         }
     }
 
+    /// Marks a reset line. It stands apart, since few steps pulse one.
+    #[inline(never)]
+    fn mark_line(&mut self, line: LineId)
+        ensures { Marks (Line line ∷ []) self.old self.new }
+    {
+        self.mark_one(Unit::Line(line));
+    }
+
+    #[inline(always)]
     fn mark_one(&mut self, unit: Unit)
         ensures { Marks (unit ∷ []) self.old self.new }
     {

@@ -36,6 +36,7 @@ impl Kinds {
     }
 
     /// Whether the unit at a place, which is this one, is a power node of a chip.
+    #[inline(always)]
     pub(crate) fn is_power(&self, place: usize, unit: Unit, t: &Topology) -> bool
         requires { IsWellFormed t.now }
         ensures { result ≡ is_power t.now unit }
@@ -47,6 +48,7 @@ impl Kinds {
     }
 
     /// The kind of a node, which is the unit at a place as a rule.
+    #[inline(always)]
     fn kind(&self, place: usize, node: NodeId, t: &Topology) -> Kind
         requires { IsWellFormed t.now }
         ensures { result ≡ kind_of t.now node }
@@ -56,8 +58,16 @@ impl Kinds {
         if has_kind(t, node, kind) {
             return kind;
         }
-        t.kind(node)
+        searched_kind(t, node)
     }
+}
+
+/// The kind of a node by a search. It stands apart, since as a rule none is made.
+#[inline(never)]
+fn searched_kind(t: &Topology, node: NodeId) -> Kind
+    ensures { result ≡ kind_of t.now node }
+{
+    t.kind(node)
 }
 
 /// The kind of the unit at a place of a record.
@@ -69,6 +79,7 @@ fn kind_at(values: &UnitMap<KeptValue>, place: usize, t: &Topology) -> Kind {
 }
 
 /// Whether the entry of a kind and place is that of a node.
+#[inline(always)]
 fn has_kind(t: &Topology, node: NodeId, kind: Kind) -> bool
     ensures { result ≡ true → IsKind t.now node kind }
 {

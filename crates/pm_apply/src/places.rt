@@ -1,6 +1,6 @@
 //! A list of places in rising order.
 
-ghost use Rattle.std.specs.Prelude.{◌≡◌, ℕ, ◌<◌, ◌≤◌, ◌==◌, ◌||◌, [], false, true, IfOk, MatchResult, length, slice_get, Some};
+ghost use Rattle.std.specs.Prelude.{◌≡◌, ℕ, ◌<◌, ◌≤◌, ◌==◌, ◌||◌, [], false, true, IfOk, MatchResult, length, slice_get, unwrap_or, Some};
 ghost use Rattle.pm_apply.specs.Places.{IsNext, RiseWithin, StandsBefore, has_place};
 
 use pm_base::NoMemory;
@@ -82,6 +82,56 @@ impl Places {
         }
     }
 
+    /// The first place behind this one, and the end where there is none. It is known at once where this one is the
+    /// `i`-th.
+    #[inline(always)]
+    pub(crate) fn next_behind(&self, i: usize, place: usize) -> usize
+        requires { place < self.now.room }
+        ensures from { place < result }
+        ensures end { result ≤ self.now.room }
+        ensures none { (k : ℕ) → place < k → k < result → has_place self.now.items k ≡ false }
+    {
+        let _end = self.end;
+        if self.has_at(i, place) {
+            return self.at_or_end(i + 1);
+        }
+        self.next_from(place + 1)
+    }
+
+    /// Whether this place is the `i`-th.
+    #[inline(always)]
+    fn has_at(&self, i: usize, place: usize) -> bool
+        ensures { result ≡ true → slice_get self.now.items i ≡ Some place }
+    {
+        match self.items.as_slice().get(i) {
+            Some(found) => *found == place,
+            None => false,
+        }
+    }
+
+    /// The `i`-th place, and the end past the last one.
+    #[inline(always)]
+    fn at_or_end(&self, i: usize) -> usize
+        ensures { result ≡ unwrap_or (slice_get self.now.items i) self.now.room }
+    {
+        match self.items.as_slice().get(i) {
+            Some(place) => *place,
+            None => self.end,
+        }
+    }
+
+    /// The first place from this one on, and the end where there is none. It stands apart, since as a rule it isn't
+    /// asked.
+    #[inline(never)]
+    fn next_from(&self, from: usize) -> usize
+        requires { from ≤ self.now.room }
+        ensures from { from ≤ result }
+        ensures end { result ≤ self.now.room }
+        ensures none { (k : ℕ) → from ≤ k → k < result → has_place self.now.items k ≡ false }
+    {
+        self.next(from)
+    }
+
     /// Whether there is none.
     pub(crate) fn is_empty(&self) -> bool
         ensures { result ≡ true → self.now.items ≡ [] }
@@ -97,6 +147,7 @@ impl Places {
     }
 
     /// Puts a place in, where it isn't there yet.
+    #[inline(always)]
     pub(crate) fn insert(&mut self, place: usize)
         requires within { place < self.old.room }
         ensures room { self.new.room ≡ self.old.room }
@@ -104,14 +155,25 @@ impl Places {
     {
         if self.ends_before(place) {
             self.put_last(place);
-            return;
+        } else {
+            self.put_among(place);
         }
+    }
+
+    /// Puts a place in among the others, where it isn't there yet.
+    #[inline(never)]
+    fn put_among(&mut self, place: usize)
+        requires within { place < self.old.room }
+        ensures room { self.new.room ≡ self.old.room }
+        ensures has { (k : ℕ) → has_place self.new.items k ≡ ((place == k) || has_place self.old.items k) }
+    {
         if let Err(i) = self.find(place) {
             self.put_in(i, place);
         }
     }
 
     /// Whether all places come before this one.
+    #[inline(always)]
     fn ends_before(&self, place: usize) -> bool
         ensures { result ≡ true → StandsBefore self.now.items place (length self.now.items) }
     {
@@ -126,6 +188,7 @@ impl Places {
     }
 
     /// Puts a place in behind the others, which all come before it.
+    #[inline(always)]
     fn put_last(&mut self, place: usize)
         requires within { place < self.old.room }
         requires stands { StandsBefore self.old.items place (length self.old.items) }

@@ -18,15 +18,15 @@ ghost use Rattle.pm_apply.specs.Room.{most, most_of};
 ghost use Rattle.pm_apply.specs.Visits.{IsReady, NoPowerLags};
 
 use crate::kept::{Kept, KeptValue};
-use crate::turns::{Turn, apply_at, due, pulse_turn};
+use crate::turns::{Turn, apply_at, due, lags_at_value, pulse_turn};
 use pm_base::{Command, Unit};
 use pm_core::{Book, Done, Outbox};
 use pm_device::Device;
 use pm_topology::{kinds_are_exact, unit_maps, units_stand_in_order};
 
-/// Takes the turns of a step, one after another: power nodes go up, then the other units take their values, then power
-/// nodes go down. Power nodes have turns where one of them is marked, and each other unit where it is: what is left has no
-/// command.
+/// Takes the turns of a step, one after another: power nodes go up, then the other units take their values, then
+/// power nodes go down. Power nodes have turns where one of them is marked, and each other unit where it is: what is
+/// left has no command.
 pub(crate) fn take_turns<D: Device>(dev: &mut D, kept: &mut Kept, book: &Book, out: &mut Outbox)
     requires room { HasRoomFor book.now out.old }
     requires fresh { out.old.done.items ≡ [] }
@@ -54,11 +54,12 @@ pub(crate) fn take_turns<D: Device>(dev: &mut D, kept: &mut Kept, book: &Book, o
 fn raise<D: Device>(dev: &mut D, kept: &mut Kept, book: &Book, out: &mut Outbox, lagging: bool)
     requires followed { IsFollowed book.now.fixed.topology (λ u. value u book.now) out.old.pulse kept.old }
     requires room { length out.old.done.items + most_of book.now.fixed.topology (λ u. value u book.now)
-        (flat_map (with_pulse out.old.pulse) (map Turn.PowerOn (power_places book.now.fixed.topology))) ≤ out.old.done.room }
+        (flat_map (with_pulse out.old.pulse) (map Turn.PowerOn (power_places book.now.fixed.topology)))
+        ≤ out.old.done.room }
     requires rests { lagging ≡ false → NoPowerLags book.now.fixed.topology kept.old }
     ensures takes { Takes D.Does book.now.fixed.topology (λ u. value u book.now)
-        (flat_map (with_pulse out.old.pulse) (map Turn.PowerOn (power_places book.now.fixed.topology))) kept.old kept.new out.old.done.items
-        out.new.done.items dev.old dev.new }
+        (flat_map (with_pulse out.old.pulse) (map Turn.PowerOn (power_places book.now.fixed.topology)))
+        kept.old kept.new out.old.done.items out.new.done.items dev.old dev.new }
     ensures rest { KeepsRest out.old out.new }
 {
     units_stand_in_order();
@@ -69,19 +70,40 @@ fn raise<D: Device>(dev: &mut D, kept: &mut Kept, book: &Book, out: &mut Outbox,
         return;
     }
     for place in 0..book.topology().powers.len() {
-        take_turn(dev, kept, book, out, Turn::PowerOn(place));
+        raise_one(dev, kept, book, out, place);
     }
+}
+
+/// The power node at a place goes up, if it has to. One that doesn't lag, or isn't down in the record, is passed over.
+#[inline(always)]
+fn raise_one<D: Device>(dev: &mut D, kept: &mut Kept, book: &Book, out: &mut Outbox, place: usize)
+    requires followed { IsFollowed book.now.fixed.topology (λ u. value u book.now) out.old.pulse kept.old }
+    requires room { length out.old.done.items
+        + most book.now.fixed.topology (λ u. value u book.now) (Turn.PowerOn place) ≤ out.old.done.room }
+    ensures takes { Takes D.Does book.now.fixed.topology (λ u. value u book.now) (Turn.PowerOn place ∷ [])
+        kept.old kept.new out.old.done.items out.new.done.items dev.old dev.new }
+    ensures rest { KeepsRest out.old out.new }
+{
+    units_stand_in_order();
+    kinds_are_exact();
+    unit_maps::<KeptValue>();
+    book.stays_sound();
+    if !lags_at_value(place, 0, book.topology(), kept) {
+        return;
+    }
+    take_turn(dev, kept, book, out, Turn::PowerOn(place));
 }
 
 /// The power nodes go down that are down in the book, parents last. Where none lags, none does.
 fn lower<D: Device>(dev: &mut D, kept: &mut Kept, book: &Book, out: &mut Outbox, lagging: bool)
     requires followed { IsFollowed book.now.fixed.topology (λ u. value u book.now) out.old.pulse kept.old }
     requires room { length out.old.done.items + most_of book.now.fixed.topology (λ u. value u book.now)
-        (flat_map (with_pulse out.old.pulse) (map Turn.PowerOff (reverse (power_places book.now.fixed.topology)))) ≤ out.old.done.room }
+        (flat_map (with_pulse out.old.pulse) (map Turn.PowerOff (reverse (power_places book.now.fixed.topology))))
+        ≤ out.old.done.room }
     requires rests { lagging ≡ false → NoPowerLags book.now.fixed.topology kept.old }
     ensures takes { Takes D.Does book.now.fixed.topology (λ u. value u book.now)
-        (flat_map (with_pulse out.old.pulse) (map Turn.PowerOff (reverse (power_places book.now.fixed.topology)))) kept.old kept.new out.old.done.items
-        out.new.done.items dev.old dev.new }
+        (flat_map (with_pulse out.old.pulse) (map Turn.PowerOff (reverse (power_places book.now.fixed.topology))))
+        kept.old kept.new out.old.done.items out.new.done.items dev.old dev.new }
     ensures rest { KeepsRest out.old out.new }
 {
     units_stand_in_order();
@@ -93,12 +115,32 @@ fn lower<D: Device>(dev: &mut D, kept: &mut Kept, book: &Book, out: &mut Outbox,
     }
     let powers = book.topology().powers.len();
     for k in 0..powers {
-        take_turn(dev, kept, book, out, Turn::PowerOff(powers - 1 - k));
+        lower_one(dev, kept, book, out, powers - 1 - k);
     }
 }
 
-/// The units that are no power nodes take their values, in order, a reset line that is pulsed after it went to 1. Only those
-/// that are marked are looked at.
+/// The power node at a place goes down, if it has to. One that doesn't lag, or isn't up in the record, is passed over.
+#[inline(always)]
+fn lower_one<D: Device>(dev: &mut D, kept: &mut Kept, book: &Book, out: &mut Outbox, place: usize)
+    requires followed { IsFollowed book.now.fixed.topology (λ u. value u book.now) out.old.pulse kept.old }
+    requires room { length out.old.done.items
+        + most book.now.fixed.topology (λ u. value u book.now) (Turn.PowerOff place) ≤ out.old.done.room }
+    ensures takes { Takes D.Does book.now.fixed.topology (λ u. value u book.now) (Turn.PowerOff place ∷ [])
+        kept.old kept.new out.old.done.items out.new.done.items dev.old dev.new }
+    ensures rest { KeepsRest out.old out.new }
+{
+    units_stand_in_order();
+    kinds_are_exact();
+    unit_maps::<KeptValue>();
+    book.stays_sound();
+    if !lags_at_value(place, 1, book.topology(), kept) {
+        return;
+    }
+    take_turn(dev, kept, book, out, Turn::PowerOff(place));
+}
+
+/// The units that are no power nodes take their values, in order, a reset line that is pulsed after it went to 1. Only
+/// those that are marked are looked at.
 fn settle<D: Device>(dev: &mut D, kept: &mut Kept, book: &Book, out: &mut Outbox)
     requires followed { IsFollowed book.now.fixed.topology (λ u. value u book.now) out.old.pulse kept.old }
     requires room { length out.old.done.items + most_of book.now.fixed.topology (λ u. value u book.now)
@@ -114,9 +156,11 @@ fn settle<D: Device>(dev: &mut D, kept: &mut Kept, book: &Book, out: &mut Outbox
     book.stays_sound();
     let units = book.units();
     let mut place = kept.next_marked(0);
+    let mut i = 0;
     'units: while place < units {
         take_unit(dev, kept, book, out, place);
-        place = kept.next_marked(place + 1);
+        place = kept.next_behind(i, place);
+        i += 1;
     }
 }
 
@@ -147,8 +191,8 @@ fn take_pulse<D: Device>(dev: &mut D, kept: &mut Kept, book: &Book, out: &mut Ou
     requires supplies { HasSupplies book.now.fixed.topology kept.old }
     requires room { length out.old.done.items + most_of book.now.fixed.topology (λ u. value u book.now)
         (pulse_turn out.old.pulse unit) ≤ out.old.done.room }
-    ensures takes { Takes D.Does book.now.fixed.topology (λ u. value u book.now) (pulse_turn out.old.pulse unit) kept.old
-        kept.new out.old.done.items out.new.done.items dev.old dev.new }
+    ensures takes { Takes D.Does book.now.fixed.topology (λ u. value u book.now) (pulse_turn out.old.pulse unit)
+        kept.old kept.new out.old.done.items out.new.done.items dev.old dev.new }
     ensures rest { KeepsRest out.old out.new }
 {
     if let Some(turn) = pulse_turn(out.pulse, unit) {
@@ -169,8 +213,8 @@ fn take_value<D: Device>(
     requires supplies { HasSupplies book.now.fixed.topology kept.old }
     requires there { slice_get (units_in kept.old) place ≡ Some unit }
     requires room { length out.old.done.items < out.old.done.room }
-    ensures takes { Takes D.Does book.now.fixed.topology (λ u. value u book.now) (Turn.Apply unit ∷ []) kept.old kept.new
-        out.old.done.items out.new.done.items dev.old dev.new }
+    ensures takes { Takes D.Does book.now.fixed.topology (λ u. value u book.now) (Turn.Apply unit ∷ [])
+        kept.old kept.new out.old.done.items out.new.done.items dev.old dev.new }
     ensures rest { KeepsRest out.old out.new }
 {
     let Some(command) = apply_at(place, unit, book, kept) else {

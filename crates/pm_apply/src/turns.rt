@@ -144,6 +144,25 @@ fn power_lags(place: usize, t: &Topology, kept: &Kept) -> bool
     }
 }
 
+/// Whether the power node at a place lags and has this value in the record.
+#[inline(always)]
+pub(crate) fn lags_at_value(place: usize, value: u32, t: &Topology, kept: &Kept) -> bool
+    ensures { result ≡ (power_lags t.now kept.now place && (power_value t.now kept.now place == value)) }
+{
+    match power_at(t, place) {
+        Some(power) => has_lagging(kept.found(Unit::Node(power.node)), value),
+        None => false,
+    }
+}
+
+/// Whether a unit lags that has this value in the record.
+#[inline(always)]
+fn has_lagging(kept: KeptValue, value: u32) -> bool
+    ensures { result ≡ (kept.lags && (kept.value == value)) }
+{
+    kept.lags && kept.value == value
+}
+
 /// The pulse that stands before a turn: before that of a reset line that is pulsed.
 pub(crate) fn pulse_before(pulse: Option<LineId>, turn: Turn) -> Option<Turn>
     ensures { option_to_list result ≡ pulse_before pulse turn }

@@ -1,8 +1,10 @@
-use Rattle.std.proofs.Common.{◌≡◌, ◌-◌, ℕ, length, sym, ap, subst, ◌∙◌, arith}
+use Rattle.std.proofs.Common.{◌≡◌, ◌-◌, ℕ, Option, length, sym, ap, subst, ◌∙◌, arith}
 use Rattle.std.specs.Prelude.{flat_map, reverse}
+use Rattle.pm_base.specs.declared.names.LineId.{LineId}
 use Rattle.pm_base.specs.declared.names.Unit.{Unit}
 use Rattle.pm_state.specs.Values.{value}
 use Rattle.pm_apply.specs.declared.turns.Turn.TheVariants.{PowerOn}
+use Rattle.pm_apply.specs.Left.{IsFollowed}
 use Rattle.pm_apply.specs.Plan.{power_places, with_pulse}
 use Rattle.pm_apply.proofs.Below.{ChipLaws}
 use Rattle.pm_apply.proofs.TakingLemmas.{KeepsRest-refl, most_alone, none_take, none_rise, none_raises, part_end, part_followed, part_next, part_room, part_start}
@@ -23,20 +25,17 @@ returns-then-not-lagging g c =
 pub loop-place-init : goal.loop-place-init
 loop-place-init g c = part_start g.D.Device.Does c.args.book.now.fixed.topology (λ u. value u c.args.book.now) (raises c.args.book.now.fixed.topology) c.args.kept.now c.args.out.now c.args.dev.now
 
-pub take_turn-requires-clause-units : goal.take_turn-requires-clause-units
-take_turn-requires-clause-units g c =
+pub raise_one-requires-clause-followed : goal.raise_one-requires-clause-followed
+raise_one-requires-clause-followed g c =
     let t = c.args.book.now.fixed.topology in
+    let values : Unit → ℕ = λ u. value u c.args.book.now in
     let laws : ChipLaws = record { units = c.units_stand_in_order.ensures; kinds = c.kinds_are_exact.ensures; table = c.unit_maps.ensures } in
-    (part_followed g.D.Device.Does t (λ u. value u c.args.book.now) (raises t) c.args.kept.now c.args.out.now c.args.dev.now laws c.loop-place.place c.loop-place.kept c.loop-place.out c.loop-place.dev (none_raises t) c.requires.followed c.loop-place.invariant).units
+    let P : Option LineId → Type 0 = λ pulse. IsFollowed t values pulse c.loop-place.kept in
+    subst P (sym c.loop-place.invariant.rest.pulse)
+    (part_followed g.D.Device.Does t values (raises t) c.args.kept.now c.args.out.now c.args.dev.now laws c.loop-place.place c.loop-place.kept c.loop-place.out c.loop-place.dev (none_raises t) c.requires.followed c.loop-place.invariant)
 
-pub take_turn-requires-clause-supplies : goal.take_turn-requires-clause-supplies
-take_turn-requires-clause-supplies g c =
-    let t = c.args.book.now.fixed.topology in
-    let laws : ChipLaws = record { units = c.units_stand_in_order.ensures; kinds = c.kinds_are_exact.ensures; table = c.unit_maps.ensures } in
-    (part_followed g.D.Device.Does t (λ u. value u c.args.book.now) (raises t) c.args.kept.now c.args.out.now c.args.dev.now laws c.loop-place.place c.loop-place.kept c.loop-place.out c.loop-place.dev (none_raises t) c.requires.followed c.loop-place.invariant).supplies
-
-pub take_turn-requires-clause-room : goal.take_turn-requires-clause-room
-take_turn-requires-clause-room g c =
+pub raise_one-requires-clause-room : goal.raise_one-requires-clause-room
+raise_one-requires-clause-room g c =
     let t = c.args.book.now.fixed.topology in
     let values : Unit → ℕ = λ u. value u c.args.book.now in
     let powers : c.len-place-end.result ≡ length t.powers = c.len-place-end.ensures ∙ ap (λ t. length t.powers) c.topology.ensures.topology in
@@ -50,8 +49,8 @@ loop-place-preserved g c =
     let values : Unit → ℕ = λ u. value u c.args.book.now in
     let powers : c.len-place-end.result ≡ length t.powers = c.len-place-end.ensures ∙ ap (λ t. length t.powers) c.topology.ensures.topology in
     let here = raise_at t c.loop-place.place (omega (arith, powers)) in
-    part_next g.D.Device.Does t values (raises t) c.args.kept.now c.args.out.now c.args.dev.now c.loop-place.place (PowerOn c.loop-place.place) c.loop-place.kept c.take_turn.new.kept c.loop-place.out c.take_turn.new.out c.loop-place.dev c.take_turn.new.dev here
-    c.loop-place.invariant c.take_turn.ensures.takes c.take_turn.ensures.rest
+    part_next g.D.Device.Does t values (raises t) c.args.kept.now c.args.out.now c.args.dev.now c.loop-place.place (PowerOn c.loop-place.place) c.loop-place.kept c.raise_one.new.kept c.loop-place.out c.raise_one.new.out c.loop-place.dev c.raise_one.new.dev here
+    c.loop-place.invariant c.raise_one.ensures.takes c.raise_one.ensures.rest
 
 pub returns : goal.returns
 returns g c =

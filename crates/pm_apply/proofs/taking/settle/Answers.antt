@@ -27,6 +27,7 @@ units-init g c =
       taken = part_over g.D.Device.Does t values c.args.kept.now c.args.out.now c.args.dev.now laws c.args.kept.now c.args.out.now c.args.dev.now 0 c.next_marked-place.result c.requires.followed c.next_marked-place.ensures.from c.next_marked-place.ensures.idle
           (part_start g.D.Device.Does t values (settles t) c.args.kept.now c.args.out.now c.args.dev.now);
       within = omega (arith, long, c.next_marked-place.ensures.end);
+      few = omega arith;
     }
 
 pub take_unit-requires-clause-followed : goal.take_unit-requires-clause-followed
@@ -46,8 +47,8 @@ take_unit-requires-clause-room g c =
     let P : Option LineId → Type 0 = λ pulse. length c.units.out.done.items + most_of t values (with_pulse pulse (Apply unit)) ≤ c.units.out.done.room in
     subst P (sym c.units.invariant.taken.rest.pulse) (part_room g.D.Device.Does t values (settles t) c.args.kept.now c.args.out.now c.args.dev.now c.units.place (Apply unit) c.units.kept c.units.out c.units.dev (settle_at t c.units.place unit here) c.requires.room c.units.invariant.taken)
 
-pub next_marked-place-requires-in-units : goal.next_marked-place-requires-in-units
-next_marked-place-requires-in-units g c =
+pub next_behind-place-requires : goal.next_behind-place-requires
+next_behind-place-requires g c =
     let t = c.args.book.now.fixed.topology in
     let values : Unit → ℕ = λ u. value u c.args.book.now in
     let laws : ChipLaws = record { units = c.units_stand_in_order.ensures; kinds = c.kinds_are_exact.ensures; table = c.unit_maps.ensures } in
@@ -73,12 +74,14 @@ units-preserved g c =
     let followed = part_followed g.D.Device.Does t values (settles t) c.args.kept.now c.args.out.now c.args.dev.now laws (c.units.place + 1) c.take_unit.new.kept c.take_unit.new.out c.take_unit.new.dev (none_settles t) c.requires.followed next in
     let long : length c.take_unit.new.kept ≡ length (units_of t) = sym (length-map c.take_unit.new.kept (λ e. e.0)) ∙ ap length followed.units in
     record {
-      taken = part_over g.D.Device.Does t values c.args.kept.now c.args.out.now c.args.dev.now laws c.take_unit.new.kept c.take_unit.new.out c.take_unit.new.dev (c.units.place + 1) c.next_marked-place-in-units.result followed c.next_marked-place-in-units.ensures.from c.next_marked-place-in-units.ensures.idle next;
-      within = omega (arith, long, c.next_marked-place-in-units.ensures.end);
+      taken = part_over g.D.Device.Does t values c.args.kept.now c.args.out.now c.args.dev.now laws c.take_unit.new.kept c.take_unit.new.out c.take_unit.new.dev (c.units.place + 1) c.next_behind-place.result followed (omega (arith, c.next_behind-place.ensures.from))
+          (λ k after before. c.next_behind-place.ensures.idle k (omega (arith, after)) before) next;
+      within = omega (arith, long, c.next_behind-place.ensures.end);
+      few = omega (arith, c.next_behind-place.ensures.from, c.units.invariant.few);
     }
 
 pub units-smaller : goal.units-smaller
-units-smaller g c = omega (arith, c.next_marked-place-in-units.ensures.from, c.units-test.true, c.units-units.ensures)
+units-smaller g c = omega (arith, c.next_behind-place.ensures.from, c.units-test.true, c.units-units.ensures)
 
 pub returns-clause-takes : goal.returns-clause-takes
 returns-clause-takes g c =

@@ -10,6 +10,7 @@ abbrev pub invariant-units : goal.invariant-units
 invariant-units g l = record {
   taken : IsPartly g.D.Device.Does l.book.fixed.topology (λ u. value u l.book) (settles l.book.fixed.topology) l.fn.kept l.fn.out l.fn.dev l.place l.kept l.out l.dev;
   within : l.place ≤ length (units_of l.book.fixed.topology);
+  few : l.i ≤ l.place;
 }
 
 abbrev pub decreases-units : goal.decreases-units

@@ -1,8 +1,4 @@
-use Rattle.pm_apply.proofs.PlacesLemmas.{has_already}
 use Rattle.pm_apply.proofs.places.Places.insert.Goals as goal
 
 pub put_last-requires-clause-stands : goal.put_last-requires-clause-stands
 put_last-requires-clause-stands c = c.ends_before.ensures c.if-ends_before.true
-
-pub returns-in_default-clause-has : goal.returns-in_default-clause-has
-returns-in_default-clause-has c = λ k. has_already c.args.self.now.items c.in_default.field-0 c.args.place k c.in_default.ensures
