@@ -7,3 +7,4 @@ pub mod Reach
 pub mod Report
 pub mod Scripts
 pub mod Step
+pub mod StepText

@@ -10,6 +10,7 @@ pub mod notes;
 pub mod reach;
 pub mod report;
 pub mod step;
+pub mod step_text;
 
 pub use closing_table::{clock_closing, closing, unit_name};
 pub use exits::exits_say;
@@ -19,3 +20,4 @@ pub use notes::{busy_line, call_line, clock_line, late_line, no_task_line, task_
 pub use reach::reach_text;
 pub use report::refuse;
 pub use step::{StepLine, answer_entry, command_entry, entries, entry, is_told};
+pub use step_text::StepText;

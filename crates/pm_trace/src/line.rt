@@ -131,9 +131,9 @@ fn put_word(text: &mut [u8; 128], at: usize, word: &Word) -> usize
 }
 
 /// Puts bytes before what stands from `at` on. Answers where they begin.
-fn put_text(text: &mut [u8; 128], at: usize, bytes: &[u8]) -> usize
+pub(crate) fn put_text(text: &mut [u8], at: usize, bytes: &[u8]) -> usize
     requires room { length bytes.now ≤ at }
-    requires within { at ≤ 128 }
+    requires within { at ≤ length text.old }
     ensures room { result + length bytes.now ≡ at }
     ensures text { drop result text.new ≡ bytes.now ++ drop at text.old }
 {
@@ -151,21 +151,31 @@ pub(crate) fn put_feed(text: &mut [u8; 128]) -> usize
     127
 }
 
-/// Puts a space before what stands from `at` on. Answers where it stands.
-fn put_space(text: &mut [u8; 128], at: usize) -> usize
+/// Puts a byte before what stands from `at` on. Answers where it stands.
+pub(crate) fn put_byte(text: &mut [u8], at: usize, byte: u8) -> usize
     requires room { 1 ≤ at }
-    requires within { at ≤ 128 }
+    requires within { at ≤ length text.old }
     ensures room { result + 1 ≡ at }
-    ensures text { drop result text.new ≡ 32 ∷ drop at text.old }
+    ensures text { drop result text.new ≡ byte ∷ drop at text.old }
 {
-    text[at - 1] = b' ';
+    text[at - 1] = byte;
     at - 1
 }
 
+/// Puts a space before what stands from `at` on. Answers where it stands.
+fn put_space(text: &mut [u8], at: usize) -> usize
+    requires room { 1 ≤ at }
+    requires within { at ≤ length text.old }
+    ensures room { result + 1 ≡ at }
+    ensures text { drop result text.new ≡ 32 ∷ drop at text.old }
+{
+    put_byte(text, at, b' ')
+}
+
 /// Puts a number, with a space before it, before what stands from `at` on. Answers where the space stands.
-pub(crate) fn put_number(text: &mut [u8; 128], at: usize, n: u32) -> usize
+pub(crate) fn put_number(text: &mut [u8], at: usize, n: u32) -> usize
     requires room { 11 ≤ at }
-    requires within { at ≤ 128 }
+    requires within { at ≤ length text.old }
     ensures room { at ≤ result + 11 }
     ensures within { result ≤ at }
     ensures text { drop result text.new ≡ 32 ∷ (decimal n ++ drop at text.old) }
@@ -175,9 +185,9 @@ pub(crate) fn put_number(text: &mut [u8; 128], at: usize, n: u32) -> usize
 }
 
 /// Puts an address, with a space before it, before what stands from `at` on. Answers where the space stands.
-pub(crate) fn put_address(text: &mut [u8; 128], at: usize, address: u64) -> usize
+pub(crate) fn put_address(text: &mut [u8], at: usize, address: u64) -> usize
     requires room { 21 ≤ at }
-    requires within { at ≤ 128 }
+    requires within { at ≤ length text.old }
     ensures room { at ≤ result + 21 }
     ensures within { result ≤ at }
     ensures text { drop result text.new ≡ 32 ∷ (decimal address ++ drop at text.old) }
@@ -187,25 +197,27 @@ pub(crate) fn put_address(text: &mut [u8; 128], at: usize, address: u64) -> usiz
 }
 
 /// Puts the digits of a number before what stands from `at` on. Answers where they begin.
-pub(crate) fn put_digits(text: &mut [u8; 128], at: usize, n: u32) -> usize
+pub(crate) fn put_digits(text: &mut [u8], at: usize, n: u32) -> usize
     requires room { 10 ≤ at }
-    requires within { at ≤ 128 }
+    requires within { at ≤ length text.old }
     ensures room { at ≤ result + 10 }
     ensures within { result ≤ at }
     ensures text { drop result text.new ≡ decimal n ++ drop at text.old }
 {
     if n < 10 {
-        text[at - 1] = b'0' + n as u8;
-        at - 1
+        put_byte(text, at, b'0' + n as u8)
+    } else if n < 100 {
+        let at = put_byte(text, at, b'0' + (n % 10) as u8);
+        put_byte(text, at, b'0' + (n / 10) as u8)
     } else {
         write_digits(n as u64, text, at)
     }
 }
 
 /// Puts a name before what stands from `at` on. Answers where it begins.
-pub(crate) fn put_name<const N: usize>(text: &mut [u8; 128], at: usize, name: &[u8; N]) -> usize
+pub(crate) fn put_name<const N: usize>(text: &mut [u8], at: usize, name: &[u8; N]) -> usize
     requires room { N ≤ at }
-    requires within { at ≤ 128 }
+    requires within { at ≤ length text.old }
     ensures room { result + N ≡ at }
     ensures text { drop result text.new ≡ name.now ++ drop at text.old }
 {

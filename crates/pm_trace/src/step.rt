@@ -104,23 +104,15 @@ pub fn is_told(answer: &Answer) -> bool
 }
 
 /// Puts the line of an answer of which one is written. Answers where it begins.
+#[tactic(auto, using(crate::proofs::LineLemmas::line_is))]
 fn put_answer(text: &mut [u8; 128], n: u32, answer: &Answer) -> usize
     requires { IsTrue (is_some (answer_line answer.now)) }
     ensures within { result ≤ 128 }
     ensures text { IfSome (answer_line answer.now) (λ told. drop result text.new ≡ numbered_line n (step_words told)) }
 {
-    match answer {
-        Answer::Silent => 128,
-        Answer::Drop { master } => put_drop(text, n, *master),
-        Answer::Reply { master, response } => put_reply(text, n, *master, response),
-        Answer::Ack {
-            master,
-            node,
-            status,
-            point,
-            ..
-        } => put_call(text, n, *master, ACKNOWLEDGE, &[node.0, *status, *point, 0]),
-    }
+    let at = put_feed(text);
+    let at = answer_words(text, at, answer);
+    put_digits(text, at, n)
 }
 
 /// Puts the line of a processor that starts. Answers where it begins.
@@ -130,13 +122,12 @@ fn put_start(text: &mut [u8; 128], n: u32, start: &Start) -> usize
     ensures text { drop result text.new ≡ numbered_line n (step_words (told.Start start.now)) }
 {
     let at = put_feed(text);
-    let at = put_address(text, at, start.address);
-    let at = put_number(text, at, start.proc.0);
-    let at = put_name(text, at, b" run");
+    let at = start_words(text, at, start);
     put_digits(text, at, n)
 }
 
 /// Puts the line of a late reply, which tells its status alone. Answers where it begins.
+#[tactic(auto, using(crate::proofs::LineLemmas::line_is))]
 fn put_late(text: &mut [u8; 128], n: u32, late: &Late) -> usize
     ensures within { result ≤ 128 }
     ensures text { drop result text.new ≡ numbered_line n (step_words (late_line late.now)) }
@@ -145,26 +136,102 @@ fn put_late(text: &mut [u8; 128], n: u32, late: &Late) -> usize
         status: late.status,
         words: [0; 3],
     };
-    put_reply(text, n, late.master, &response)
+    let at = put_feed(text);
+    let at = reply_words(text, at, late.master, &response);
+    put_digits(text, at, n)
 }
 
 /// Puts the line of a command that was issued. Answers where it begins.
+#[tactic(auto, using(crate::proofs::LineLemmas::line_is))]
 fn put_command(text: &mut [u8; 128], n: u32, done: &Done) -> usize
     ensures within { result ≤ 128 }
     ensures text { drop result text.new ≡ numbered_line n (step_words (told.Command done.now)) }
 {
     let at = put_feed(text);
+    let at = command_words(text, at, done);
+    put_digits(text, at, n)
+}
+
+/// Puts the line of a callback, of which these are the number and the arguments. Answers where it begins.
+#[tactic(auto, using(crate::proofs::LineLemmas::line_is))]
+fn put_call(text: &mut [u8; 128], n: u32, master: NodeId, id: u32, args: &[u32; 4]) -> usize
+    ensures within { result ≤ 128 }
+    ensures text { drop result text.new
+        ≡ numbered_line n (step_words (told.Call (record { master = master; id = id; args = args.now }))) }
+{
+    let at = put_feed(text);
+    let at = call_words(text, at, master, id, args);
+    put_digits(text, at, n)
+}
+
+/// Puts the words of an answer of which a line is written before what stands from `at` on, each with a space before it.
+/// Answers where they begin.
+#[inline(always)]
+pub(crate) fn answer_words(text: &mut [u8], at: usize, answer: &Answer) -> usize
+    requires told { IsTrue (is_some (answer_line answer.now)) }
+    requires room { 80 ≤ at }
+    requires within { at ≤ length text.old }
+    ensures room { at ≤ result + 80 }
+    ensures within { result ≤ at }
+    ensures text { IfSome (answer_line answer.now)
+        (λ told. drop result text.new ≡ spaced (step_words told) (drop at text.old)) }
+{
+    match answer {
+        Answer::Silent => at,
+        Answer::Drop { master } => drop_words(text, at, *master),
+        Answer::Reply { master, response } => reply_words(text, at, *master, response),
+        Answer::Ack {
+            master,
+            node,
+            status,
+            point,
+            ..
+        } => call_words(
+            text,
+            at,
+            *master,
+            ACKNOWLEDGE,
+            &[node.0, *status, *point, 0],
+        ),
+    }
+}
+
+/// Puts the words of a processor that starts before what stands from `at` on, each with a space before it. Answers
+/// where they begin.
+#[inline]
+pub(crate) fn start_words(text: &mut [u8], at: usize, start: &Start) -> usize
+    requires room { 80 ≤ at }
+    requires within { at ≤ length text.old }
+    ensures room { at ≤ result + 80 }
+    ensures within { result ≤ at }
+    ensures text { drop result text.new ≡ spaced (step_words (told.Start start.now)) (drop at text.old) }
+{
+    let at = put_address(text, at, start.address);
+    let at = put_number(text, at, start.proc.0);
+    put_name(text, at, b" run")
+}
+
+/// Puts the words of a command that was issued before what stands from `at` on, each with a space before it. Answers
+/// where they begin.
+#[inline(always)]
+pub(crate) fn command_words(text: &mut [u8], at: usize, done: &Done) -> usize
+    requires room { 80 ≤ at }
+    requires within { at ≤ length text.old }
+    ensures room { at ≤ result + 80 }
+    ensures within { result ≤ at }
+    ensures text { drop result text.new ≡ spaced (step_words (told.Command done.now)) (drop at text.old) }
+{
     let at = put_number(text, at, done.command.value);
     let at = put_number(text, at, done.from);
-    let at = put_unit(text, at, done.command.unit, done.ok);
-    put_digits(text, at, n)
+    put_unit(text, at, done.command.unit, done.ok)
 }
 
 /// Puts what a command is called, by its unit and whether the device took it, and the number of the unit, before what
 /// stands from `at` on. Answers where it begins.
-fn put_unit(text: &mut [u8; 128], at: usize, unit: Unit, ok: bool) -> usize
+#[inline(always)]
+fn put_unit(text: &mut [u8], at: usize, unit: Unit, ok: bool) -> usize
     requires room { 20 ≤ at }
-    requires within { at ≤ 128 }
+    requires within { at ≤ length text.old }
     ensures room { at ≤ result + 20 }
     ensures within { result ≤ at }
     ensures text { drop result text.new ≡ spaced (command_name unit ok) (drop at text.old) }
@@ -178,10 +245,10 @@ fn put_unit(text: &mut [u8; 128], at: usize, unit: Unit, ok: bool) -> usize
 }
 
 /// Puts a name and a number before what stands from `at` on. Answers where the name begins.
-fn put_named<const N: usize>(text: &mut [u8; 128], at: usize, name: &[u8; N], number: u32) -> usize
+fn put_named<const N: usize>(text: &mut [u8], at: usize, name: &[u8; N], number: u32) -> usize
     requires short { N ≤ 9 }
     requires room { 20 ≤ at }
-    requires within { at ≤ 128 }
+    requires within { at ≤ length text.old }
     ensures room { at ≤ result + 20 }
     ensures within { result ≤ at }
     ensures text { drop result text.new ≡ name.now ++ 32 ∷ (decimal number ++ drop at text.old) }
@@ -190,47 +257,51 @@ fn put_named<const N: usize>(text: &mut [u8; 128], at: usize, name: &[u8; N], nu
     put_name(text, at, name)
 }
 
-/// Puts the line of a reply. Answers where it begins.
-#[tactic(auto, using(crate::proofs::LineLemmas::line_is))]
-fn put_reply(text: &mut [u8; 128], n: u32, master: NodeId, response: &Response) -> usize
-    ensures within { result ≤ 128 }
-    ensures text { drop result text.new ≡ numbered_line n (step_words (told.Reply master response.now)) }
+/// Puts the words of a reply before what stands from `at` on, each with a space before it. Answers where they begin.
+#[inline(always)]
+fn reply_words(text: &mut [u8], at: usize, master: NodeId, response: &Response) -> usize
+    requires room { 80 ≤ at }
+    requires within { at ≤ length text.old }
+    ensures room { at ≤ result + 80 }
+    ensures within { result ≤ at }
+    ensures text { drop result text.new ≡ spaced (step_words (told.Reply master response.now)) (drop at text.old) }
 {
-    let at = put_feed(text);
     let at = put_number(text, at, response.words[2]);
     let at = put_number(text, at, response.words[1]);
     let at = put_number(text, at, response.words[0]);
     let at = put_number(text, at, response.status);
     let at = put_number(text, at, master.0);
-    let at = put_name(text, at, b" reply");
-    put_digits(text, at, n)
+    put_name(text, at, b" reply")
 }
 
-/// Puts the line of a message that is dropped. Answers where it begins.
-#[tactic(auto, using(crate::proofs::LineLemmas::line_is))]
-fn put_drop(text: &mut [u8; 128], n: u32, master: NodeId) -> usize
-    ensures within { result ≤ 128 }
-    ensures text { drop result text.new ≡ numbered_line n (step_words (told.Drop master)) }
+/// Puts the words that tell of a message that is dropped before what stands from `at` on, each with a space before it.
+/// Answers where they begin.
+fn drop_words(text: &mut [u8], at: usize, master: NodeId) -> usize
+    requires room { 80 ≤ at }
+    requires within { at ≤ length text.old }
+    ensures room { at ≤ result + 80 }
+    ensures within { result ≤ at }
+    ensures text { drop result text.new ≡ spaced (step_words (told.Drop master)) (drop at text.old) }
 {
-    let at = put_feed(text);
     let at = put_number(text, at, master.0);
-    let at = put_name(text, at, b" drop");
-    put_digits(text, at, n)
+    put_name(text, at, b" drop")
 }
 
-/// Puts the line of a callback, of which these are the number and the arguments. Answers where it begins.
-fn put_call(text: &mut [u8; 128], n: u32, master: NodeId, id: u32, args: &[u32; 4]) -> usize
-    ensures within { result ≤ 128 }
+/// Puts the words of a callback, of which these are the number and the arguments, before what stands from `at` on, each
+/// with a space before it. Answers where they begin.
+fn call_words(text: &mut [u8], at: usize, master: NodeId, id: u32, args: &[u32; 4]) -> usize
+    requires room { 80 ≤ at }
+    requires within { at ≤ length text.old }
+    ensures room { at ≤ result + 80 }
+    ensures within { result ≤ at }
     ensures text { drop result text.new
-        ≡ numbered_line n (step_words (told.Call (record { master = master; id = id; args = args.now }))) }
+        ≡ spaced (step_words (told.Call (record { master = master; id = id; args = args.now }))) (drop at text.old) }
 {
-    let at = put_feed(text);
     let at = put_number(text, at, args[3]);
     let at = put_number(text, at, args[2]);
     let at = put_number(text, at, args[1]);
     let at = put_number(text, at, args[0]);
     let at = put_number(text, at, id);
     let at = put_number(text, at, master.0);
-    let at = put_name(text, at, b" call");
-    put_digits(text, at, n)
+    put_name(text, at, b" call")
 }

@@ -11,12 +11,6 @@ returns-clause-text c =
     rw (
       line_is (word.Number c.args.n) words,
       c.put_digits.ensures.text,
-      c.put_name-at.ensures.text,
-      c.put_number-at-6.ensures.text,
-      c.put_number-at-5.ensures.text,
-      c.put_number-at-4.ensures.text,
-      c.put_number-at-3.ensures.text,
-      c.put_number-at-2.ensures.text,
-      c.put_number-at.ensures.text,
+      c.call_words-at.ensures.text,
       c.put_feed-at.ensures.text,
     ) refl
