@@ -168,6 +168,7 @@ fn follow_passed<F: Follower>(lines: u32, follower: &mut F) -> Result<(), LineSt
 }
 
 /// Has a follower follow one line.
+#[inline(always)]
 fn follow_one<F: Follower>(number: u32, event: &Event, follower: &mut F) -> Result<(), LineStop>
     ensures { FollowedOne F.Follows number event.now follower.old follower.new result }
 {

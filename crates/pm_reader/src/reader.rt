@@ -92,7 +92,7 @@ impl LineReader {
     }
 
     /// Takes the next line as `next` does, and leaves its event. `line` is used where the line isn't held whole.
-    #[inline]
+    #[inline(always)]
     pub(crate) fn next_meant<I: Inputs>(
         &mut self,
         inputs: &mut I,

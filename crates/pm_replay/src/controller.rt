@@ -176,6 +176,7 @@ impl Controller {
 
     /// One core event, the commands that make the device follow the book, and what it does to the clocks. Where the book
     /// replies to a call on a clock, the clocks' reply stands in place of it.
+    #[inline(always)]
     pub fn step<D: Device>(&mut self, event: &Event, dev: &mut D)
         ensures book { self.new.book ≡ effect event.now self.old.book }
         ensures boxes { self.new.boxes ≡ self.old.boxes }
@@ -204,6 +205,7 @@ fn clocks_of(alloc: Global, runner: &Runner) -> Result<Clocks, NoMemory>
 
 /// The clocks serve the message that the book has just stepped over, if it is a call on a clock and the book replied to
 /// it, and follow the book.
+#[inline(always)]
 fn answer(clocks: &mut Clocks, event: &Event, runner: &mut Runner)
     requires stepped { HasStepped event.now runner.old.outbox.moved.items clocks.old.tree runner.old.book }
     ensures book { runner.new.book ≡ runner.old.book }

@@ -33,6 +33,7 @@ use pm_modules::{ModulesOf, Responder};
 use pm_reader::{Follower, Front, LineStop, LinesEnd};
 use pm_run::{OwnNote, call_answer};
 use pm_tasks::{Handler, TasksOf};
+use pm_trace::StepText;
 
 /// What carries out each line of a script, makes the device follow it, and writes its text.
 #[derive(Drop)]
@@ -44,6 +45,8 @@ pub(crate) struct Player<'c, 'o, 'd, 'm, 't, O: Sink, D: Device, H: Drop, T: Dro
     tasks: &'t mut TasksOf<T>,
     /// Where the core events stand that a line makes.
     made: Event,
+    /// Where the text of a core step stands before it is written.
+    text: StepText,
 }
 
 impl<'c, 'o, 'd, 'm, 't, O: Sink, D: Device, H: Responder, T: Handler> Follower
@@ -52,6 +55,7 @@ impl<'c, 'o, 'd, 'm, 't, O: Sink, D: Device, H: Responder, T: Handler> Follower
 
     ghost Follows = { Plays O.Sink D.Device H.Responder T.Handler };
 
+    #[inline(always)]
     fn line(&mut self, number: u32, event: &Event) -> Result<(), Failed> {
         run_line(
             number,
@@ -62,6 +66,7 @@ impl<'c, 'o, 'd, 'm, 't, O: Sink, D: Device, H: Responder, T: Handler> Follower
             self.modules,
             self.tasks,
             &mut self.made,
+            &mut self.text,
         )
     }
 }
@@ -98,11 +103,13 @@ pub(crate) fn run_lines<I: Inputs, O: Sink, D: Device, H: Responder, T: Handler>
         modules: board.modules,
         tasks: &mut board.tasks,
         made: Event::Pass,
+        text: StepText::new(),
     };
     front.follow(inputs, id, &mut player)
 }
 
 /// Carries a line out to its end, and writes its text while the sink takes it.
+#[inline(always)]
 fn run_line<O: Sink, D: Device, H: Responder, T: Handler>(
     number: u32,
     event: &Event,
@@ -112,6 +119,7 @@ fn run_line<O: Sink, D: Device, H: Responder, T: Handler>(
     modules: &ModulesOf<H>,
     tasks: &mut TasksOf<T>,
     made: &mut Event,
+    text: &mut StepText,
 ) -> Result<(), Failed>
     ensures { (c : Setup) → setup_of controller.old.book ≡ c → AreTold controller.old.clocks
         → RanLine O.Sink D.Device c number event.now controller.old controller.new out.old out.new dev.old dev.new
@@ -119,9 +127,11 @@ fn run_line<O: Sink, D: Device, H: Responder, T: Handler>(
         (standing H.Responder T.Handler modules.now tasks.new) result }
 {
     if is_alone(event) {
-        run_alone(number, event, controller, out, dev, modules, tasks)
+        run_alone(number, event, controller, out, dev, modules, tasks, text)
     } else {
-        run_split(number, event, controller, out, dev, modules, tasks, made)
+        run_split(
+            number, event, controller, out, dev, modules, tasks, made, text,
+        )
     }
 }
 
@@ -142,6 +152,7 @@ fn is_alone(event: &Event) -> bool
 }
 
 /// The same of a line that is nothing but its own core event, as most lines are.
+#[inline(always)]
 fn run_alone<O: Sink, D: Device, H: Responder, T: Handler>(
     number: u32,
     event: &Event,
@@ -150,6 +161,7 @@ fn run_alone<O: Sink, D: Device, H: Responder, T: Handler>(
     dev: &mut D,
     modules: &ModulesOf<H>,
     tasks: &mut TasksOf<T>,
+    text: &mut StepText,
 ) -> Result<(), Failed>
     requires { is_alone event.now ≡ true }
     ensures { (c : Setup) → setup_of controller.old.book ≡ c → AreTold controller.old.clocks
@@ -158,25 +170,27 @@ fn run_alone<O: Sink, D: Device, H: Responder, T: Handler>(
         (standing H.Responder T.Handler modules.now tasks.new) result }
 {
     controller.step(event, dev);
-    let written = write_heard(number, event, controller.outbox(), modules, out);
+    let written = write_heard(number, event, controller.outbox(), modules, text, out);
     let clocked = clocks_on(written, number, controller, out);
     tasks_on(clocked, number, event, tasks, out)
 }
 
 /// Writes the lines of the core step of an event, with its answer as it is told.
+#[inline(always)]
 fn write_heard<O: Sink, H: Responder>(
     number: u32,
     event: &Event,
     outbox: &Outbox,
     modules: &ModulesOf<H>,
+    text: &mut StepText,
     out: &mut O,
 ) -> Result<(), Failed>
     ensures { Writes O.Sink (step_text number outbox.now.done.items (notices_in outbox.now)
         (heard (ranges H.Responder modules.now) event.now outbox.now.answer)) out.old out.new result }
 {
     match said(modules, event, &outbox.answer) {
-        None => write_step(number, outbox, &outbox.answer, out),
-        Some(answer) => write_step(number, outbox, &answer, out),
+        None => write_step(number, outbox, &outbox.answer, text, out),
+        Some(answer) => write_step(number, outbox, &answer, text, out),
     }
 }
 
@@ -194,6 +208,7 @@ fn run_split<O: Sink, D: Device, H: Responder, T: Handler>(
     modules: &ModulesOf<H>,
     tasks: &mut TasksOf<T>,
     made: &mut Event,
+    text: &mut StepText,
 ) -> Result<(), Failed>
     ensures { (c : Setup) → setup_of controller.old.book ≡ c → AreTold controller.old.clocks
         → RanLine O.Sink D.Device c number event.now controller.old controller.new out.old out.new dev.old dev.new
@@ -210,7 +225,7 @@ fn run_split<O: Sink, D: Device, H: Responder, T: Handler>(
         controller.step(taken, dev);
         let outbox = controller.outbox();
         let answer = heard(modules, taken, &outbox.answer);
-        written = write_on(written, number, outbox, &answer, out);
+        written = write_on(written, number, outbox, &answer, text, out);
         reply = later_reply(reply, &answer);
     }
     let noted = note_on(written, number, parts.note, out);
@@ -261,13 +276,14 @@ fn write_on<O: Sink>(
     number: u32,
     outbox: &Outbox,
     answer: &Answer,
+    text: &mut StepText,
     out: &mut O,
 ) -> Result<(), Failed>
     ensures { WritesOn O.Sink (step_text number outbox.now.done.items (notices_in outbox.now) answer.now)
         written result out.old out.new }
 {
     match written {
-        Ok(()) => write_step(number, outbox, answer, out),
+        Ok(()) => write_step(number, outbox, answer, text, out),
         Err(Failed) => Err(Failed),
     }
 }

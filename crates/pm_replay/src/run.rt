@@ -45,7 +45,7 @@ use pm_reader::{Front, LineStop};
 use pm_run::boxes_of_a_run;
 use pm_tasks::{Handler, TasksOf};
 use pm_topology::Topology;
-use pm_trace::{Fault, refuse};
+use pm_trace::{Fault, StepText, refuse};
 use std::alloc::Global;
 use std::mem::replace;
 
@@ -289,7 +289,8 @@ fn run<I: Inputs, O: Sink, D: Device, H: Responder, T: Handler>(
     controller.start(dev);
     happen(&mut board.tasks, &Event::Pass);
     let outbox = controller.outbox();
-    match write_step(0, outbox, &outbox.answer, out) {
+    let mut text = StepText::new();
+    match write_step(0, outbox, &outbox.answer, &mut text, out) {
         Ok(()) => run_rest(controller, front, inputs, id, out, dev, board),
         Err(Failed) => Exit::WriteFault,
     }

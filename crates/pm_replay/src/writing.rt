@@ -20,7 +20,7 @@ use pm_core::{Answer, Outbox};
 use pm_io::{Sink, write_all};
 use pm_tasks::Fired;
 use pm_trace::{
-    TextLine, answer_entry, busy_line, call_line, clock_closing, clock_line, closing,
+    StepText, TextLine, answer_entry, busy_line, call_line, clock_closing, clock_line, closing,
     command_entry, entries, entry, is_told, late_line, no_task_line, task_line,
 };
 
@@ -30,6 +30,7 @@ pub(crate) fn write_step<O: Sink>(
     number: u32,
     outbox: &Outbox,
     answer: &Answer,
+    text: &mut StepText,
     out: &mut O,
 ) -> Result<(), Failed>
     ensures { Writes O.Sink (step_text number outbox.now.done.items
@@ -37,11 +38,32 @@ pub(crate) fn write_step<O: Sink>(
 {
     match entries(outbox, answer) {
         0 => Ok(()),
-        count => write_entries(number, outbox, answer, count, out),
+        count => write_some(number, outbox, answer, count, text, out),
     }
 }
 
-/// Writes the lines of a step that is answered so, of which there are so many.
+/// Writes the lines of a step that is answered so, of which there are so many: at once, where they are few.
+#[inline(never)]
+fn write_some<O: Sink>(
+    number: u32,
+    outbox: &Outbox,
+    answer: &Answer,
+    count: usize,
+    text: &mut StepText,
+    out: &mut O,
+) -> Result<(), Failed>
+    requires { count ≡ length (output_words outbox.now.done.items (notices_in outbox.now) answer.now) }
+    ensures { Writes O.Sink (step_text number outbox.now.done.items
+        (notices_in outbox.now) answer.now) out.old out.new result }
+{
+    if text.fill(number, outbox, answer) {
+        write_all(out, text.as_slice())
+    } else {
+        write_entries(number, outbox, answer, count, out)
+    }
+}
+
+/// Writes the lines of a step that is answered so, of which there are so many, one after another.
 #[inline(never)]
 fn write_entries<O: Sink>(
     number: u32,
