@@ -1,6 +1,6 @@
 //! A replay in which a serial port is requested, over inputs that fail at each byte and sinks of each length.
 
-use super::checks::check;
+use super::checks::check_joined;
 use super::sinks::check_each_length;
 use pm_base::Exit;
 use pm_fixtures::{Asked, LABORATORY, joined, replay_of};
@@ -58,14 +58,13 @@ static SPANS: [Span; 5] = [
 #[test]
 fn an_input_that_fails_at_each_byte(rt: HostRuntime) -> Result<(), Fail> {
     for (script, input, first, end, pieces) in &SPANS {
-        let text = joined(rt.alloc(), pieces)?;
         for at in *first..*end {
             let asked = Asked {
                 failing: &[(*input, at)],
                 topology: &[],
                 ..replay_of(LABORATORY, script)
             };
-            check(&rt, &asked, None, &text, Exit::ReadFault)?;
+            check_joined(&rt, &asked, pieces, Exit::ReadFault)?;
         }
     }
     Ok(())

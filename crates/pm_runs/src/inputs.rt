@@ -1,10 +1,9 @@
 //! Runs over inputs that fail.
 
-use super::checks::check;
-use super::running::run_with;
+use super::checks::{check, run_over};
 use pm_base::Exit;
-use pm_fixtures::{ALONE, Asked, model, node, replay_of};
-use pm_io::MemSink;
+use pm_fixtures::{ALONE, Asked, node, replay_of};
+use std::process::Abort;
 use std::test::Fail;
 
 const SCRIPT: &[u8] = b"ipi 8 3 11\nipi 8 3 12";
@@ -91,6 +90,13 @@ static BEGUN: [(&str, (u32, u32), u32); 7] = [
     ("build script", (9, 0), 0),
 ];
 
+/// A run after which LPD has this value.
+fn check_value(rt: &(impl Abort + AllocGlobal), asked: &Asked, value: u32) -> Result<(), Fail> {
+    let device = run_over(rt, asked)?;
+    assert_eq!(rt; device.value(node(62)), value, "{}", asked.words);
+    Ok(())
+}
+
 #[test]
 fn a_device_is_commanded_only_once_a_script_is_begun(rt: HostRuntime) -> Result<(), Fail> {
     for (words, failing, value) in &BEGUN {
@@ -101,10 +107,7 @@ fn a_device_is_commanded_only_once_a_script_is_begun(rt: HostRuntime) -> Result<
             failing: &[*failing],
             topology: &[],
         };
-        let mut out = MemSink::new(rt.alloc(), None)?;
-        let mut device = model(rt.alloc())?;
-        run_with(rt.alloc(), &asked, &mut out, &mut *device)?;
-        assert_eq!(rt; device.value(node(62)), *value, "{words}");
+        check_value(&rt, &asked, *value)?;
     }
     Ok(())
 }

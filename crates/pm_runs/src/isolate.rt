@@ -1,11 +1,9 @@
 //! Runs that compare the run of a script with the run without the messages of a master.
 
-use super::checks::check;
-use super::running::run_with;
+use super::checks::{check, check_uncommanded};
 use super::sinks::check_each_length;
 use pm_base::Exit;
-use pm_fixtures::{ALONE, Asked, LABORATORY, OBJECT, joined, model, node};
-use pm_io::MemSink;
+use pm_fixtures::{ALONE, Asked, LABORATORY, OBJECT, joined};
 use std::test::Fail;
 
 /// What master 7 reaches in the object of two masters.
@@ -272,12 +270,7 @@ fn a_script_that_fails_at_each_byte(rt: HostRuntime) -> Result<(), Fail> {
 #[test]
 fn no_device_is_commanded(rt: HostRuntime) -> Result<(), Fail> {
     for case in &EXITS {
-        let mut out = MemSink::new(rt.alloc(), None)?;
-        let mut device = model(rt.alloc())?;
-        run_with(rt.alloc(), &asked_of(case), &mut out, &mut *device)?;
-        for number in 1..70 {
-            assert_eq!(rt; device.value(node(number)), 0, "{number}");
-        }
+        check_uncommanded(&rt, &asked_of(case))?;
     }
     Ok(())
 }

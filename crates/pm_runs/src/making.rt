@@ -6,6 +6,7 @@ use pm_base::Exit;
 use pm_fixtures::{Asked, OBJECT};
 use pm_io::MemSink;
 use std::alloc::Global;
+use std::process::Abort;
 use std::test::Fail;
 
 /// The summary of a script of one line.
@@ -55,12 +56,17 @@ fn longer(alloc: Global) -> Result<(MemSink, Exit), Fail> {
     Ok((out, exit))
 }
 
+/// A run of many lines is Done and begins with their number, and a second one writes the same.
+fn check_both(rt: &impl Abort, exit: Exit, first: &[u8], second: &[u8]) {
+    assert_eq!(rt; exit, Exit::Done);
+    assert_eq!(rt; first.starts_with(b"lines 302\nset "), true);
+    assert_eq!(rt; first, second);
+}
+
 #[test]
 fn two_runs_write_the_same(rt: HostRuntime) -> Result<(), Fail> {
     let (first, exit) = longer(rt.alloc())?;
     let (second, _) = longer(rt.alloc())?;
-    assert_eq!(rt; exit, Exit::Done);
-    assert_eq!(rt; first.bytes().starts_with(b"lines 302\nset "), true);
-    assert_eq!(rt; first.bytes(), second.bytes());
+    check_both(&rt, exit, first.bytes(), second.bytes());
     Ok(())
 }

@@ -1,11 +1,9 @@
 //! Runs that write what a master can reach.
 
-use super::checks::check;
-use super::running::run_with;
+use super::checks::{check, check_uncommanded};
 use super::sinks::check_each_length;
 use pm_base::Exit;
-use pm_fixtures::{Asked, LABORATORY, OBJECT, model, node};
-use pm_io::MemSink;
+use pm_fixtures::{Asked, LABORATORY, OBJECT};
 use std::test::Fail;
 
 /// What master 7 reaches in the object of two masters.
@@ -158,12 +156,7 @@ fn an_object_that_fails_at_each_byte(rt: HostRuntime) -> Result<(), Fail> {
 #[test]
 fn no_device_is_commanded(rt: HostRuntime) -> Result<(), Fail> {
     for case in &EXITS {
-        let mut out = MemSink::new(rt.alloc(), None)?;
-        let mut device = model(rt.alloc())?;
-        run_with(rt.alloc(), &asked_of(case), &mut out, &mut *device)?;
-        for number in 1..70 {
-            assert_eq!(rt; device.value(node(number)), 0, "{number}");
-        }
+        check_uncommanded(&rt, &asked_of(case))?;
     }
     Ok(())
 }

@@ -6,7 +6,8 @@ use super::checks::check;
 use super::running::run;
 use pm_base::{Exit, Failed};
 use pm_fixtures::{ALONE, Asked, OBJECT, STARTED, bytes_of, replay_of};
-use pm_io::{MemSink, Sink};
+use pm_io::Sink;
+use std::alloc::Global;
 use std::process::Abort;
 use std::test::Fail;
 
@@ -256,99 +257,108 @@ fn a_sink_of_each_length_under_an_object(rt: HostRuntime) -> Result<(), Fail> {
     check_each_length(&rt, &asked, &body, "", Exit::Done)
 }
 
-/// A sink that takes one byte of each piece.
-#[derive(Drop)]
-struct Trickle {
-    inner: MemSink,
+/// How a sink takes pieces.
+#[derive(Clone, Copy)]
+enum Way {
+    /// One byte of each.
+    Trickles,
+    /// Nothing.
+    IsFull,
+    /// It fails one write, the one after so many, and takes all of every other piece.
+    FailsOnce(u32),
 }
 
-impl Sink for Trickle {
-    ghost state = { λ sink. record { bytes = []; faults = sink.inner.faults; stalls = 0 } };
-
-    fn write(&mut self, piece: &[u8]) -> Result<usize, Failed> {
-        match piece {
-            [first, ..] => self.inner.write(&[*first]),
-            [] => Ok(0),
-        }
-    }
-}
-
-/// A sink that takes nothing.
+/// A sink that takes pieces in some way. A trickle keeps its bytes, and what takes whole pieces counts theirs.
 #[derive(Drop)]
-struct Full {
+struct OddSink {
+    way: Way,
+    held: Vec<u8>,
+    taken: usize,
+    faults: u64,
     stalls: u64,
 }
 
-impl Sink for Full {
-    ghost state = { λ sink. record { bytes = []; faults = 0; stalls = sink.stalls } };
+impl Sink for OddSink {
+    ghost state = { λ sink. record { bytes = []; faults = sink.faults; stalls = sink.stalls } };
 
     fn write(&mut self, piece: &[u8]) -> Result<usize, Failed> {
-        if !piece.is_empty() {
-            self.stalls = self.stalls.saturating_add(1);
+        match (self.way, piece) {
+            (Way::Trickles, [first, ..]) => match self.held.push(*first) {
+                Ok(()) => Ok(1),
+                Err(_) => {
+                    self.faults = self.faults.saturating_add(1);
+                    Err(Failed)
+                }
+            },
+            (Way::Trickles, []) => Ok(0),
+            (Way::IsFull, [_, ..]) => {
+                self.stalls = self.stalls.saturating_add(1);
+                Ok(0)
+            }
+            (Way::IsFull, []) => Ok(0),
+            (Way::FailsOnce(before), _) => {
+                if before == 0 && self.faults == 0 {
+                    self.faults = 1;
+                    return Err(Failed);
+                }
+                self.way = Way::FailsOnce(before.saturating_sub(1));
+                self.taken = self.taken.saturating_add(piece.len());
+                Ok(piece.len())
+            }
         }
-        Ok(0)
     }
 }
 
-/// A sink that fails one write, the one after so many, and takes all of every other piece.
-#[derive(Drop)]
-struct FailsOnce {
-    before: u32,
-    taken: usize,
-    faults: u64,
+/// Runs a script over a sink that takes pieces in a way: the sink, and the exit.
+fn run_odd(alloc: Global, way: Way) -> Result<(OddSink, Exit), Fail> {
+    let mut sink = OddSink {
+        way,
+        held: Vec::new(alloc),
+        taken: 0,
+        faults: 0,
+        stalls: 0,
+    };
+    let exit = run(alloc, &replay_of(OBJECT, SCRIPT.as_bytes()), &mut sink)?;
+    Ok((sink, exit))
 }
 
-impl Sink for FailsOnce {
-    ghost state = { λ sink. record { bytes = []; faults = sink.faults; stalls = 0 } };
-
-    fn write(&mut self, piece: &[u8]) -> Result<usize, Failed> {
-        if self.before == 0 && self.faults == 0 {
-            self.faults = 1;
-            return Err(Failed);
-        }
-        self.before = self.before.saturating_sub(1);
-        self.taken = self.taken.saturating_add(piece.len());
-        Ok(piece.len())
-    }
+fn check_text(rt: &impl Abort, exit: Exit, text: &[u8]) {
+    assert_eq!(rt; exit, Exit::Done);
+    assert_eq!(rt; text, TEXT.as_bytes());
 }
 
 #[test]
 fn a_sink_that_takes_little_at_a_time(rt: HostRuntime) -> Result<(), Fail> {
-    let mut slow = Trickle {
-        inner: MemSink::new(rt.alloc(), None)?,
-    };
-    let exit = run(rt.alloc(), &replay_of(OBJECT, SCRIPT.as_bytes()), &mut slow)?;
-    assert_eq!(rt; exit, Exit::Done);
-    assert_eq!(rt; slow.inner.bytes(), TEXT.as_bytes());
+    let (slow, exit) = run_odd(rt.alloc(), Way::Trickles)?;
+    check_text(&rt, exit, &slow.held);
     Ok(())
+}
+
+fn check_stalls(rt: &impl Abort, exit: Exit, stalls: u64) {
+    assert_eq!(rt; exit, Exit::WriteFault);
+    assert_eq!(rt; stalls, 1);
 }
 
 #[test]
 fn a_sink_that_takes_nothing(rt: HostRuntime) -> Result<(), Fail> {
-    let mut full = Full { stalls: 0 };
-    let exit = run(rt.alloc(), &replay_of(OBJECT, SCRIPT.as_bytes()), &mut full)?;
-    assert_eq!(rt; exit, Exit::WriteFault);
-    assert_eq!(rt; full.stalls, 1);
+    let (full, exit) = run_odd(rt.alloc(), Way::IsFull)?;
+    check_stalls(&rt, exit, full.stalls);
     Ok(())
 }
 
-/// How many bytes the lines of `TEXT` before each have.
-static BEFORE: [usize; 23] = [
-    0, 13, 26, 38, 50, 63, 76, 86, 99, 112, 130, 142, 154, 164, 177, 195, 204, 220, 235, 251, 266,
-    283, 300,
-];
+/// How many bytes of `TEXT` are taken before each write: the lines of a step are one, and each closing line is one.
+static BEFORE: [usize; 12] = [0, 86, 130, 164, 195, 204, 220, 235, 251, 266, 283, 300];
+
+fn check_taken(rt: &impl Abort, writes: u32, exit: Exit, found: usize, taken: usize) {
+    assert_eq!(rt; exit, Exit::WriteFault, "after {writes} writes");
+    assert_eq!(rt; found, taken, "after {writes} writes");
+}
 
 #[test]
 fn a_sink_that_fails_once_and_then_takes_again(rt: HostRuntime) -> Result<(), Fail> {
-    for (lines, taken) in (0..).zip(&BEFORE) {
-        let mut sink = FailsOnce {
-            before: lines,
-            taken: 0,
-            faults: 0,
-        };
-        let exit = run(rt.alloc(), &replay_of(OBJECT, SCRIPT.as_bytes()), &mut sink)?;
-        assert_eq!(rt; exit, Exit::WriteFault, "after {lines} lines");
-        assert_eq!(rt; sink.taken, *taken, "after {lines} lines");
+    for (writes, taken) in (0..).zip(&BEFORE) {
+        let (sink, exit) = run_odd(rt.alloc(), Way::FailsOnce(writes))?;
+        check_taken(&rt, writes, exit, sink.taken, *taken);
     }
     Ok(())
 }

@@ -5,6 +5,7 @@ use super::running::run;
 use pm_base::Exit;
 use pm_fixtures::{Asked, LABORATORY, joined};
 use pm_io::MemSink;
+use std::process::Abort;
 use std::test::Fail;
 
 /// A chip of two power nodes, three processors and a slave.
@@ -210,14 +211,31 @@ fn asked_of<'a>(case: &Case, topology: &'a [u8]) -> Asked<'a> {
     }
 }
 
+fn check_case(
+    rt: &(impl Abort + AllocGlobal),
+    case: &Case,
+    parts: &[&str],
+    text: &str,
+    exit: Exit,
+) -> Result<(), Fail> {
+    let topology = joined(rt.alloc(), parts)?;
+    let asked = asked_of(case, topology.as_slice());
+    check(rt, &asked, None, text.as_bytes(), exit)
+}
+
+/// What a run that is Done writes.
+fn written_by(rt: &(impl Abort + AllocGlobal), asked: &Asked) -> Result<MemSink, Fail> {
+    let mut out = MemSink::new(rt.alloc(), None)?;
+    assert_eq!(rt; run(rt.alloc(), asked, &mut out)?, Exit::Done);
+    Ok(out)
+}
+
 /// A run over a topology is over its units, and its faults come between those of the object and of the word of a master.
 #[test]
 fn topologies_are_read(rt: HostRuntime) -> Result<(), Fail> {
     for case in &CASES {
         let (_, _, parts, _, text, exit) = *case;
-        let topology = joined(rt.alloc(), parts)?;
-        let asked = asked_of(case, topology.as_slice());
-        check(&rt, &asked, None, text.as_bytes(), exit)?;
+        check_case(&rt, case, parts, text, exit)?;
     }
     Ok(())
 }
@@ -232,11 +250,9 @@ fn the_table_of_the_chip_is_read_again(rt: HostRuntime) -> Result<(), Fail> {
         failing: &[],
         topology: &[],
     };
-    let mut table = MemSink::new(rt.alloc(), None)?;
-    assert_eq!(rt; run(rt.alloc(), &asked, &mut table)?, Exit::Done);
+    let table = written_by(&rt, &asked)?;
     asked.words = "replay obj script";
-    let mut over_chip = MemSink::new(rt.alloc(), None)?;
-    assert_eq!(rt; run(rt.alloc(), &asked, &mut over_chip)?, Exit::Done);
+    let over_chip = written_by(&rt, &asked)?;
     asked.words = REPLAY;
     asked.topology = table.bytes();
     check(&rt, &asked, None, over_chip.bytes(), Exit::Done)

@@ -4,7 +4,7 @@ use super::checks::check_with;
 use super::devices::check_listed;
 use super::running::run_with;
 use pm_base::Exit;
-use pm_fixtures::{LABORATORY, joined, listed, model, replay_of};
+use pm_fixtures::{Asked, LABORATORY, joined, listed, model, replay_of};
 use pm_gen::make;
 use pm_io::MemSink;
 use std::alloc::{AllocError, Global};
@@ -117,19 +117,27 @@ end power 62 1 1
     ),
 ];
 
+/// A run of a script that breaks nodes and mends them.
+fn check_broken(rt: &(impl Abort + AllocGlobal), script: &str, text: &str) -> Result<(), Fail> {
+    let script = joined(rt.alloc(), &[FIRST, script])?;
+    let text = joined(rt.alloc(), &[OPENED, text])?;
+    check_over_model(rt, &replay_of(LABORATORY, &script), &text)
+}
+
+/// A run over a device that doesn't fail at first.
+fn check_over_model(
+    rt: &(impl Abort + AllocGlobal),
+    asked: &Asked,
+    text: &[u8],
+) -> Result<(), Fail> {
+    let mut device = model(rt.alloc())?;
+    check_with(rt, asked, text, Exit::Done, &mut *device)
+}
+
 #[test]
 fn a_node_that_a_script_breaks(rt: HostRuntime) -> Result<(), Fail> {
     for (script, text) in &BROKEN {
-        let mut device = model(rt.alloc())?;
-        let script = joined(rt.alloc(), &[FIRST, script])?;
-        let text = joined(rt.alloc(), &[OPENED, text])?;
-        check_with(
-            &rt,
-            &replay_of(LABORATORY, &script),
-            &text,
-            Exit::Done,
-            &mut *device,
-        )?;
+        check_broken(&rt, script, text)?;
     }
     Ok(())
 }
@@ -182,20 +190,30 @@ end power 62 1 1
     ),
 ];
 
+/// A run over a device that fails these commands.
+fn check_failing(
+    rt: &(impl Abort + AllocGlobal),
+    failing: &[u32],
+    script: &str,
+    text: &str,
+) -> Result<(), Fail> {
+    let script = joined(rt.alloc(), &[FIRST, script])?;
+    let mut whole = String::new(rt.alloc());
+    whole.push_str(OPENED)?;
+    whole.push_str(text)?;
+    check_listed(
+        rt,
+        failing,
+        &replay_of(LABORATORY, &script),
+        whole.as_str(),
+        &[],
+    )
+}
+
 #[test]
 fn the_status_tells_of_a_device_that_does_not_follow(rt: HostRuntime) -> Result<(), Fail> {
     for (failing, script, text) in &LISTED {
-        let script = joined(rt.alloc(), &[FIRST, script])?;
-        let mut whole = String::new(rt.alloc());
-        whole.push_str(OPENED)?;
-        whole.push_str(text)?;
-        check_listed(
-            &rt,
-            failing,
-            &replay_of(LABORATORY, &script),
-            whole.as_str(),
-            &[],
-        )?;
+        check_failing(&rt, failing, script, text)?;
     }
     Ok(())
 }
@@ -217,6 +235,11 @@ struct Seen {
     failed: u32,
 }
 
+fn push_word(book: &mut String, word: &str) -> Result<(), AllocError> {
+    book.push_str(word)?;
+    book.push_str(" ")
+}
+
 fn push_book(line: &str, book: &mut String) -> Result<(), AllocError> {
     let mut words = line.split_whitespace();
     if words.next() != Some("end") {
@@ -226,10 +249,9 @@ fn push_book(line: &str, book: &mut String) -> Result<(), AllocError> {
         return Ok(());
     };
     if value != "0" {
-        for word in [kind, number, value] {
-            book.push_str(word)?;
-            book.push_str(" ")?;
-        }
+        push_word(book, kind)?;
+        push_word(book, number)?;
+        push_word(book, value)?;
     }
     Ok(())
 }
@@ -246,20 +268,21 @@ fn count_command(line: &str, seen: &mut Seen) {
     }
 }
 
-/// What is seen of the run of a script where these commands fail.
-fn seen_with(
-    rt: &(impl Abort + AllocGlobal),
+/// The run of a script over a sink, where these commands fail.
+fn run_listed(
+    alloc: Global,
     script: &[u8],
     failing: &[u32],
-) -> Result<Seen, Fail> {
-    let mut device = listed(rt.alloc(), failing)?;
-    let mut out = MemSink::new(rt.alloc(), None)?;
-    let asked = replay_of(LABORATORY, script);
-    let exit = run_with(rt.alloc(), &asked, &mut out, &mut *device)?;
-    assert_eq!(rt; exit, Exit::Done, "{failing:?}");
-    let text = std::str::from_utf8(out.bytes()).unwrap_or("");
+    out: &mut MemSink,
+) -> Result<Exit, Fail> {
+    let mut device = listed(alloc, failing)?;
+    run_with(alloc, &replay_of(LABORATORY, script), out, &mut *device)
+}
+
+/// What is seen of the text of a run.
+fn seen_in(alloc: Global, text: &str) -> Result<Seen, AllocError> {
     let mut seen = Seen {
-        book: String::new(rt.alloc()),
+        book: String::new(alloc),
         given: 0,
         failed: 0,
     };
@@ -268,6 +291,29 @@ fn seen_with(
         count_command(line, &mut seen);
     }
     Ok(seen)
+}
+
+/// What is seen of the run of a script where these commands fail.
+fn seen_with(
+    rt: &(impl Abort + AllocGlobal),
+    script: &[u8],
+    failing: &[u32],
+) -> Result<Seen, Fail> {
+    let mut out = MemSink::new(rt.alloc(), None)?;
+    let exit = run_listed(rt.alloc(), script, failing, &mut out)?;
+    assert_eq!(rt; exit, Exit::Done, "{failing:?}");
+    let text = std::str::from_utf8(out.bytes()).unwrap_or("");
+    Ok(seen_in(rt.alloc(), text)?)
+}
+
+/// One command failed, this one, and the book's columns are those of the run in which none does.
+fn check_seen(rt: &impl Abort, command: u32, seen: &Seen, whole: &Seen) {
+    assert_eq!(rt; seen.failed, 1, "command {command}");
+    assert_eq!(rt;
+        seen.book.as_str(),
+        whole.book.as_str(),
+        "command {command}"
+    );
 }
 
 /// Runs a script once for each command that a device which doesn't fail is given, with that command failing alone: one
@@ -279,12 +325,7 @@ fn check_each_command(
 ) -> Result<(), Fail> {
     for command in 1..=whole.given {
         let seen = seen_with(rt, script, &[command])?;
-        assert_eq!(rt; seen.failed, 1, "command {command}");
-        assert_eq!(rt;
-            seen.book.as_str(),
-            whole.book.as_str(),
-            "command {command}"
-        );
+        check_seen(rt, command, &seen, whole);
     }
     Ok(())
 }
@@ -303,19 +344,24 @@ fn the_book_is_the_same_whichever_command_fails(rt: HostRuntime) -> Result<(), F
 /// Numbers of scripts that are made, and how many commands the device is given in the run of each.
 static MADE: [(u32, u32); 3] = [(8, 18), (50, 30), (60, 26)];
 
+/// The same of the script that is made of so many lines, where the device is given so many commands.
+fn check_made(rt: &(impl Abort + AllocGlobal), number: u32, commands: u32) -> Result<(), Fail> {
+    let script = make(rt.alloc(), number)?;
+    let whole = seen_with(rt, &script, &[])?;
+    assert_eq!(rt;
+        (whole.given, whole.failed),
+        (commands, 0),
+        "script {number}"
+    );
+    check_each_command(rt, &script, &whole)
+}
+
 #[test]
 fn the_book_of_a_made_script_is_the_same_whichever_command_fails(
     rt: HostRuntime,
 ) -> Result<(), Fail> {
     for (number, commands) in &MADE {
-        let script = make(rt.alloc(), *number)?;
-        let whole = seen_with(&rt, &script, &[])?;
-        assert_eq!(rt;
-            (whole.given, whole.failed),
-            (*commands, 0),
-            "script {number}"
-        );
-        check_each_command(&rt, &script, &whole)?;
+        check_made(&rt, *number, *commands)?;
     }
     Ok(())
 }

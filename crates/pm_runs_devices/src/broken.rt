@@ -10,6 +10,7 @@ use pm_base::{Exit, NoMemory, NodeId};
 use pm_device::{Device, ModelDevice};
 use pm_fixtures::{DOMAINS, model, replay_of};
 use std::alloc::Global;
+use std::process::Abort;
 use std::test::Fail;
 
 /// A broken node, a script, its text, and the values at which the device then stands.
@@ -245,13 +246,25 @@ fn broken_device(alloc: Global, broken: u32) -> Result<Box<ModelDevice>, NoMemor
     Ok(device)
 }
 
+/// A run over a device of which this node is broken.
+fn check_broken(
+    rt: &(impl Abort + AllocGlobal),
+    broken: u32,
+    script: &str,
+    text: &str,
+    values: &[(u32, u32)],
+) -> Result<(), Fail> {
+    let mut device = broken_device(rt.alloc(), broken)?;
+    let asked = replay_of(DOMAINS, script.as_bytes());
+    check_with(rt, &asked, text.as_bytes(), Exit::Done, &mut *device)?;
+    check_values(rt, &device, values);
+    Ok(())
+}
+
 #[test]
 fn a_broken_node_at_each_height(rt: HostRuntime) -> Result<(), Fail> {
     for (broken, script, text, values) in &BROKEN {
-        let mut device = broken_device(rt.alloc(), *broken)?;
-        let asked = replay_of(DOMAINS, script.as_bytes());
-        check_with(&rt, &asked, text.as_bytes(), Exit::Done, &mut *device)?;
-        check_values(&rt, &device, values);
+        check_broken(&rt, *broken, script, text, values)?;
     }
     Ok(())
 }

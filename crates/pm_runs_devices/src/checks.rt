@@ -23,7 +23,12 @@ pub(crate) fn check_with<D: Device>(
 {
     let mut out = MemSink::new(rt.alloc(), None)?;
     let found = run_with(rt.alloc(), asked, &mut out, dev)?;
-    assert_eq!(rt; found, exit, "{}", asked.words);
-    assert_eq!(rt; out.bytes(), text, "{}", asked.words);
+    judge(rt, asked.words, found, exit, out.bytes(), text);
     Ok(())
+}
+
+/// Stops where a run of these words didn't end with the exit, or didn't write the text.
+fn judge(rt: &impl Abort, words: &str, found: Exit, exit: Exit, written: &[u8], text: &[u8]) {
+    assert_eq!(rt; found, exit, "{words}");
+    assert_eq!(rt; written, text, "{words}");
 }

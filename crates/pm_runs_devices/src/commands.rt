@@ -1,8 +1,9 @@
 //! A run in which each command fails alone.
 
 use super::devices::check_listed;
-use pm_fixtures::{DOMAINS, replay_of};
+use pm_fixtures::{Asked, DOMAINS, replay_of};
 use std::alloc::{AllocError, Global};
+use std::process::Abort;
 use std::test::Fail;
 
 /// A run that takes a slave of each class up, in each power domain, and down: a line of its script,
@@ -52,13 +53,18 @@ pub(crate) fn push_line(
 fn script_of_steps(alloc: Global) -> Result<String, AllocError> {
     let mut script = String::new(alloc);
     for (line, _, _) in &STEPS {
-        if !line.is_empty() {
-            script.push_str(line)?;
-            script.push_str("\n")?;
-        }
-        script.push_str("\n")?;
+        push_step(&mut script, line)?;
     }
     Ok(script)
+}
+
+/// Puts a line of a script behind a text, if it isn't empty, and an empty line.
+pub(crate) fn push_step(script: &mut String, line: &str) -> Result<(), AllocError> {
+    if !line.is_empty() {
+        script.push_str(line)?;
+        script.push_str("\n")?;
+    }
+    script.push_str("\n")
 }
 
 /// The answer of a step of which a command failed: each command is on a unit that moves in its step.
@@ -70,34 +76,86 @@ fn failed_answer(answer: &'static str) -> &'static str {
     }
 }
 
+/// Puts lines of a step of this number behind a text: commands that the device takes.
+fn push_set(
+    alloc: Global,
+    text: &mut String,
+    number: u64,
+    commands: &[&str],
+) -> Result<(), AllocError> {
+    for command in commands {
+        push_line(alloc, text, number, "set ", command)?;
+    }
+    Ok(())
+}
+
+/// The answer of a step, if it has one.
+fn push_told(alloc: Global, text: &mut String, number: u64, told: &str) -> Result<(), AllocError> {
+    if told.is_empty() {
+        Ok(())
+    } else {
+        push_line(alloc, text, number, "", told)
+    }
+}
+
+/// The lines of a step of which no command fails.
+fn push_done(
+    alloc: Global,
+    text: &mut String,
+    number: u64,
+    commands: &[&str],
+    answer: &str,
+) -> Result<(), AllocError> {
+    push_set(alloc, text, number, commands)?;
+    push_told(alloc, text, number, answer)
+}
+
+/// The lines of a step of which the command at place `k` fails, and of the next one. It and those that wait for it are
+/// carried out there.
+fn push_failed(
+    alloc: Global,
+    text: &mut String,
+    number: u64,
+    commands: &[&str],
+    answer: &'static str,
+    k: usize,
+) -> Result<(), AllocError> {
+    let (before, after) = commands.split_at(k.min(commands.len()));
+    push_set(alloc, text, number, before)?;
+    if let Some(command) = after.first() {
+        push_line(alloc, text, number, "fail ", command)?;
+    }
+    push_told(alloc, text, number, failed_answer(answer))?;
+    push_set(alloc, text, number.saturating_add(1), after)
+}
+
 /// The text of the steps where the command at place `k` of the step at place `failing` fails alone.
 /// It and those of its step that wait for it are carried out in the next step.
 fn text_of_steps(alloc: Global, failing: usize, k: usize) -> Result<String, AllocError> {
     let mut text = String::new(alloc);
     for (place, (_, commands, answer)) in STEPS.iter().enumerate() {
         let number = (place as u64).saturating_mul(2);
-        let first = if place == failing { k } else { commands.len() };
-        for command in commands.iter().take(first) {
-            push_line(alloc, &mut text, number, "set ", command)?;
-        }
-        if let Some(command) = commands.get(first) {
-            push_line(alloc, &mut text, number, "fail ", command)?;
-        }
-        let told = if place == failing {
-            failed_answer(answer)
+        if place == failing {
+            push_failed(alloc, &mut text, number, commands, answer, k)?;
         } else {
-            answer
-        };
-        if !told.is_empty() {
-            push_line(alloc, &mut text, number, "", told)?;
-        }
-        for command in commands.iter().skip(first) {
-            push_line(alloc, &mut text, number.saturating_add(1), "set ", command)?;
+            push_done(alloc, &mut text, number, commands, answer)?;
         }
     }
     text.push_str("end power 6 1 1\nend proc 7 2 0\nend proc 8 1 1\nend slave 33 1 1\n")?;
     text.push_str("end slave 55 1 1\nend power 62 1 1\n")?;
     Ok(text)
+}
+
+/// The run in which the command of this number fails alone, the one at place `k` of the step at a place.
+fn check_command(
+    rt: &(impl Abort + AllocGlobal),
+    asked: &Asked,
+    number: u32,
+    place: usize,
+    k: usize,
+) -> Result<(), Fail> {
+    let text = text_of_steps(rt.alloc(), place, k)?;
+    check_listed(rt, &[number], asked, text.as_str(), &[(55, 1)])
 }
 
 #[test]
@@ -108,8 +166,7 @@ fn each_command_that_fails_alone_is_issued_again(rt: HostRuntime) -> Result<(), 
     for (place, (_, commands, _)) in STEPS.iter().enumerate() {
         for k in 0..commands.len() {
             number = number.saturating_add(1);
-            let text = text_of_steps(rt.alloc(), place, k)?;
-            check_listed(&rt, &[number], &asked, text.as_str(), &[(55, 1)])?;
+            check_command(&rt, &asked, number, place, k)?;
         }
     }
     assert_eq!(rt; number, 19);

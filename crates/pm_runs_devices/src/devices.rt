@@ -2,7 +2,7 @@
 
 use super::checks::check_with;
 use pm_base::Exit;
-use pm_device::{Device, ModelDevice};
+use pm_device::{ListedDevice, ModelDevice};
 use pm_fixtures::{Asked, DOMAINS, listed, model, node, replay_of};
 use std::process::Abort;
 use std::test::Fail;
@@ -186,21 +186,58 @@ end power 62 1 1
     ),
 ];
 
-pub(crate) fn check_values(rt: &impl Abort, device: &ModelDevice, values: &[(u32, u32)]) {
+/// The first of these nodes that doesn't have its value on a device, and the value that it has there.
+fn wrong_value(device: &ModelDevice, values: &[(u32, u32)]) -> Option<(u32, u32)> {
     for (number, value) in values {
-        assert_eq!(rt; device.value(node(*number)), *value, "node {number}");
+        let found = device.value(node(*number));
+        if found != *value {
+            return Some((*number, found));
+        }
     }
+    None
+}
+
+/// The same of a device that fails commands.
+fn wrong_listed(device: &ListedDevice, values: &[(u32, u32)]) -> Option<(u32, u32)> {
+    for (number, value) in values {
+        let found = device.value(node(*number));
+        if found != *value {
+            return Some((*number, found));
+        }
+    }
+    None
+}
+
+/// Stops where a node doesn't have its value on a device.
+pub(crate) fn check_values(rt: &impl Abort, device: &ModelDevice, values: &[(u32, u32)]) {
+    assert_eq!(rt; wrong_value(device, values), None);
+}
+
+/// A run over a device that doesn't fail.
+fn check_faithful(
+    rt: &(impl Abort + AllocGlobal),
+    script: &str,
+    text: &str,
+    values: &[(u32, u32)],
+) -> Result<(), Fail> {
+    let mut device = model(rt.alloc())?;
+    let asked = replay_of(DOMAINS, script.as_bytes());
+    check_with(rt, &asked, text.as_bytes(), Exit::Done, &mut *device)?;
+    check_values(rt, &device, values);
+    Ok(())
 }
 
 #[test]
 fn a_device_that_does_not_fail_follows_the_run(rt: HostRuntime) -> Result<(), Fail> {
     for (script, text, values) in &FAITHFUL {
-        let mut device = model(rt.alloc())?;
-        let asked = replay_of(DOMAINS, script.as_bytes());
-        check_with(&rt, &asked, text.as_bytes(), Exit::Done, &mut *device)?;
-        check_values(&rt, &device, values);
+        check_faithful(&rt, script, text, values)?;
     }
     Ok(())
+}
+
+/// Stops where a node is wrong after a run in which these commands fail.
+fn check_fails(rt: &impl Abort, failing: &[u32], wrong: Option<(u32, u32)>) {
+    assert_eq!(rt; wrong, None, "{failing:?} fail");
 }
 
 /// A run over a device that fails the commands with these numbers.
@@ -213,13 +250,7 @@ pub(crate) fn check_listed(
 ) -> Result<(), Fail> {
     let mut device = listed(rt.alloc(), failing)?;
     check_with(rt, asked, text.as_bytes(), Exit::Done, &mut *device)?;
-    for (number, value) in values {
-        assert_eq!(rt;
-            device.value(node(*number)),
-            *value,
-            "node {number}, {failing:?} fail"
-        );
-    }
+    check_fails(rt, failing, wrong_listed(&device, values));
     Ok(())
 }
 

@@ -1,9 +1,10 @@
 //! A run with forces, resets and shutdowns, in which each command fails alone.
 
-use super::commands::push_line;
+use super::commands::{push_line, push_step};
 use super::devices::check_listed;
-use pm_fixtures::replay_of;
+use pm_fixtures::{Asked, replay_of};
 use std::alloc::{AllocError, Global};
+use std::process::Abort;
 use std::test::Fail;
 
 /// The masters 1 and 7, which may use slaves 28 and 33. Master 7 may force domain 10, the first master may reset lines 33 and 7,
@@ -141,11 +142,7 @@ fn fail_name(on: On) -> &'static str {
 fn script_of_steps(alloc: Global) -> Result<String, AllocError> {
     let mut script = String::new(alloc);
     for (line, _, _) in &STEPS {
-        if !line.is_empty() {
-            script.push_str(line)?;
-            script.push_str("\n")?;
-        }
-        script.push_str("\n")?;
+        push_step(&mut script, line)?;
     }
     Ok(script)
 }
@@ -219,23 +216,46 @@ fn failed_line(line: &'static str, commands: &[Command], k: usize) -> &'static s
     }
 }
 
+/// The lines of a step of which no command fails.
+fn push_done(
+    alloc: Global,
+    text: &mut String,
+    number: u64,
+    commands: &[Command],
+    lines: &[&str],
+) -> Result<(), AllocError> {
+    push_commands(alloc, text, number, commands, None)?;
+    for line in lines {
+        push_line(alloc, text, number, "", line)?;
+    }
+    Ok(())
+}
+
+/// The lines of a step of which the command at place `k` fails, and of the next one, in which it is given again.
+fn push_failed(
+    alloc: Global,
+    text: &mut String,
+    number: u64,
+    commands: &[Command],
+    lines: &[&'static str],
+    k: usize,
+) -> Result<(), AllocError> {
+    push_commands(alloc, text, number, commands, Some(k))?;
+    for line in lines {
+        push_line(alloc, text, number, "", failed_line(line, commands, k))?;
+    }
+    push_again(alloc, text, number.saturating_add(1), commands, k)
+}
+
 /// The text of the steps where the command at place `k` of the step at place `failing` fails alone.
 fn text_of_steps(alloc: Global, failing: usize, k: usize) -> Result<String, AllocError> {
     let mut text = String::new(alloc);
     for (place, (_, commands, lines)) in STEPS.iter().enumerate() {
         let number = (place as u64).saturating_mul(2);
-        let fails = if place == failing { Some(k) } else { None };
-        push_commands(alloc, &mut text, number, commands, fails)?;
-        for line in lines.iter() {
-            let told = if place == failing {
-                failed_line(line, commands, k)
-            } else {
-                line
-            };
-            push_line(alloc, &mut text, number, "", told)?;
-        }
         if place == failing {
-            push_again(alloc, &mut text, number.saturating_add(1), commands, k)?;
+            push_failed(alloc, &mut text, number, commands, lines, k)?;
+        } else {
+            push_done(alloc, &mut text, number, commands, lines)?;
         }
     }
     text.push_str("end power 62 1 1\n")?;
@@ -254,6 +274,18 @@ static LAST: [(u32, u32); 8] = [
     (33, 0),
 ];
 
+/// The run in which the command of this number fails alone, the one at place `k` of the step at a place.
+fn check_command(
+    rt: &(impl Abort + AllocGlobal),
+    asked: &Asked,
+    number: u32,
+    place: usize,
+    k: usize,
+) -> Result<(), Fail> {
+    let text = text_of_steps(rt.alloc(), place, k)?;
+    check_listed(rt, &[number], asked, text.as_str(), &LAST)
+}
+
 #[test]
 fn each_command_of_a_force_a_reset_or_a_shutdown_may_fail(rt: HostRuntime) -> Result<(), Fail> {
     let script = script_of_steps(rt.alloc())?;
@@ -262,8 +294,7 @@ fn each_command_of_a_force_a_reset_or_a_shutdown_may_fail(rt: HostRuntime) -> Re
     for (place, (_, commands, _)) in STEPS.iter().enumerate() {
         for k in 0..commands.len() {
             number = number.saturating_add(1);
-            let text = text_of_steps(rt.alloc(), place, k)?;
-            check_listed(&rt, &[number], &asked, text.as_str(), &LAST)?;
+            check_command(&rt, &asked, number, place, k)?;
         }
     }
     assert_eq!(rt; number, 35);

@@ -2,9 +2,10 @@
 
 use super::running::run_with;
 use pm_base::{Command, Exit};
-use pm_device::Device;
+use pm_device::{Device, ModelDevice};
 use pm_fixtures::{Asked, model, node};
 use pm_io::MemSink;
+use std::process::Abort;
 use std::test::Fail;
 
 /// A chip of which the device of a test has all units but a slave.
@@ -33,6 +34,31 @@ static CASES: [(&str, bool, bool); 3] = [
     ("isolate obj script 1 topo", true, false),
 ];
 
+/// Whether a device has a node, after a run of these words.
+fn check_has(rt: &impl Abort, device: &mut ModelDevice, words: &str, number: u32, has: bool) {
+    let taken = device.command(Command {
+        unit: node(number),
+        value: 1,
+    });
+    assert_eq!(rt; taken.is_ok(), has, "{words}, node {number}");
+}
+
+/// A run that is Done, after which a device has these nodes.
+fn check_fitted(
+    rt: &(impl Abort + AllocGlobal),
+    asked: &Asked,
+    of_chip: bool,
+    of_topology: bool,
+) -> Result<(), Fail> {
+    let mut device = model(rt.alloc())?;
+    let mut out = MemSink::new(rt.alloc(), None)?;
+    let exit = run_with(rt.alloc(), asked, &mut out, &mut *device)?;
+    assert_eq!(rt; exit, Exit::Done);
+    check_has(rt, &mut device, asked.words, 11, of_chip);
+    check_has(rt, &mut device, asked.words, 100, of_topology);
+    Ok(())
+}
+
 /// `replay` fits the device to the topology that its words name, and nothing else does.
 #[test]
 fn a_device_is_fitted_by_a_replay_alone(rt: HostRuntime) -> Result<(), Fail> {
@@ -44,19 +70,7 @@ fn a_device_is_fitted_by_a_replay_alone(rt: HostRuntime) -> Result<(), Fail> {
             failing: &[],
             topology: TOPOLOGY.as_bytes(),
         };
-        let mut device = model(rt.alloc())?;
-        let mut out = MemSink::new(rt.alloc(), None)?;
-        assert_eq!(rt;
-            run_with(rt.alloc(), &asked, &mut out, &mut *device)?,
-            Exit::Done
-        );
-        for (number, has) in [(11, of_chip), (100, of_topology)] {
-            let taken = device.command(Command {
-                unit: node(number),
-                value: 1,
-            });
-            assert_eq!(rt; taken.is_ok(), has, "{words}, node {number}");
-        }
+        check_fitted(&rt, &asked, of_chip, of_topology)?;
     }
     Ok(())
 }

@@ -3,7 +3,7 @@
 use super::devices::check_values;
 use super::running::run_with;
 use pm_base::Exit;
-use pm_fixtures::{BOXES, BOXES_SETTLED, model, replay_of};
+use pm_fixtures::{Asked, BOXES, BOXES_SETTLED, model, replay_of};
 use pm_io::MemSink;
 use std::process::Abort;
 use std::test::Fail;
@@ -33,12 +33,23 @@ fn check_line(
     let before = BOXES_SETTLED.len().saturating_add(before.len());
     for within in 0..line.len() {
         let room = u32::try_from(before.saturating_add(within)).ok();
-        let mut out = MemSink::new(rt.alloc(), room)?;
-        let mut device = model(rt.alloc())?;
-        let exit = run_with(rt.alloc(), &asked, &mut out, &mut *device)?;
-        assert_eq!(rt; exit, Exit::WriteFault, "room {room:?}");
-        check_values(rt, &device, values);
+        check_room(rt, &asked, room, values)?;
     }
+    Ok(())
+}
+
+/// A run over a sink with this room, which fails.
+fn check_room(
+    rt: &(impl Abort + AllocGlobal),
+    asked: &Asked,
+    room: Option<u32>,
+    values: &[(u32, u32)],
+) -> Result<(), Fail> {
+    let mut out = MemSink::new(rt.alloc(), room)?;
+    let mut device = model(rt.alloc())?;
+    let exit = run_with(rt.alloc(), asked, &mut out, &mut *device)?;
+    assert_eq!(rt; exit, Exit::WriteFault, "room {room:?}");
+    check_values(rt, &device, values);
     Ok(())
 }
 

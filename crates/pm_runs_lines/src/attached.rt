@@ -1,8 +1,8 @@
 //! Runs whose first lines attach objects, which can be put in force.
 
-use super::checks::check;
+use super::checks::{check, check_joined};
 use pm_base::Exit;
-use pm_fixtures::{Asked, joined};
+use pm_fixtures::Asked;
 use std::test::Fail;
 
 /// The object of two masters, in which master 1 may set the configuration.
@@ -142,7 +142,6 @@ ipi 1 2 17
 #[test]
 fn each_run_with_attached_objects_writes_its_text(rt: HostRuntime) -> Result<(), Fail> {
     for (script, steps, end, exit) in RUNS.iter() {
-        let text = joined(rt.alloc(), &[LOADED, steps, end])?;
         let asked = Asked {
             words: "replay obj script",
             object: CONFIGURED,
@@ -150,7 +149,7 @@ fn each_run_with_attached_objects_writes_its_text(rt: HostRuntime) -> Result<(),
             failing: &[],
             topology: &[],
         };
-        check(&rt, &asked, None, text.as_slice(), *exit)?;
+        check_joined(&rt, &asked, &[LOADED, steps, end], *exit)?;
     }
     Ok(())
 }
@@ -158,7 +157,6 @@ fn each_run_with_attached_objects_writes_its_text(rt: HostRuntime) -> Result<(),
 /// A read that fails in the block counts when the lines before it have been run.
 #[test]
 fn a_read_that_fails_in_the_block_is_told_after_the_load(rt: HostRuntime) -> Result<(), Fail> {
-    let text = joined(rt.alloc(), &[LOADED, "fault read\n"])?;
     let asked = Asked {
         words: "replay obj script",
         object: CONFIGURED,
@@ -166,7 +164,7 @@ fn a_read_that_fails_in_the_block_is_told_after_the_load(rt: HostRuntime) -> Res
         failing: &[(1, 15)],
         topology: &[],
     };
-    check(&rt, &asked, None, text.as_slice(), Exit::ReadFault)
+    check_joined(&rt, &asked, &[LOADED, "fault read\n"], Exit::ReadFault)
 }
 
 /// What master 7 reaches where an object attached gives it slave 33.

@@ -1,6 +1,6 @@
 //! Runs in which masters put messages into their boxes, from which they are served later.
 
-use super::checks::check;
+use super::checks::{check, check_broken_off, check_joined, check_pieces};
 use super::steps::check_settled;
 use pm_base::Exit;
 use pm_fixtures::{Asked, BOXES, BOXES_SETTLED, OBJECT, joined, replay_of};
@@ -265,9 +265,7 @@ end power 62 1 1
 #[test]
 fn each_message_is_served_on_what_the_one_before_left(rt: HostRuntime) -> Result<(), Fail> {
     for (lines, text) in &ORDERED_RUNS {
-        let script = joined(rt.alloc(), &["ipi 1 21\n", lines])?;
-        let whole = joined(rt.alloc(), &[BOXES_SETTLED, text])?;
-        check(&rt, &replay_of(BOXES, &script), None, &whole, Exit::Done)?;
+        check_pieces(&rt, BOXES, &["ipi 1 21\n", lines], &[BOXES_SETTLED, text])?;
     }
     Ok(())
 }
@@ -308,14 +306,7 @@ ipi 9 1
     check(&rt, &asked, None, &whole, Exit::Done)?;
     let before = joined(rt.alloc(), &[BOXES_SETTLED, BOOTED])?.len();
     for length in before..before.saturating_add(SERVED.len()) {
-        let front = whole.get(..length).ok_or("a front")?;
-        check(
-            &rt,
-            &asked,
-            u32::try_from(length).ok(),
-            front,
-            Exit::WriteFault,
-        )?;
+        check_broken_off(&rt, &asked, length, &whole)?;
     }
     Ok(())
 }
@@ -350,8 +341,7 @@ fn what_a_message_in_a_box_changes_is_found(rt: HostRuntime) -> Result<(), Fail>
             failing: &[],
             topology: &[],
         };
-        let text = joined(rt.alloc(), &[REACH, found])?;
-        check(&rt, &asked, None, &text, Exit::Done)?;
+        check_joined(&rt, &asked, &[REACH, found], Exit::Done)?;
     }
     Ok(())
 }

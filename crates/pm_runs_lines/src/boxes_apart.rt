@@ -1,8 +1,8 @@
 //! Runs with messages in boxes and with power calls that are compared with the run without those of a master.
 
-use super::checks::check;
+use super::checks::check_joined;
 use pm_base::Exit;
-use pm_fixtures::{Asked, joined};
+use pm_fixtures::Asked;
 use std::test::Fail;
 
 /// Master 7 stands first, whose mask is greater, and then master 1. Each may use the memory 11, which can't be shared;
@@ -84,8 +84,7 @@ fn what_differs_is_found_after_each_line(rt: HostRuntime) -> Result<(), Fail> {
             failing: &[],
             topology: &[],
         };
-        let text = joined(rt.alloc(), &[REACH, found])?;
-        check(&rt, &asked, None, &text, Exit::Done)?;
+        check_joined(&rt, &asked, &[REACH, found], Exit::Done)?;
     }
     Ok(())
 }

@@ -2,7 +2,7 @@
 
 use super::running::{run, run_with_board};
 use pm_base::Exit;
-use pm_fixtures::Asked;
+use pm_fixtures::{Asked, joined, replay_of};
 use pm_io::MemSink;
 use pm_modules::{ModulesOf, Responder};
 use pm_tasks::{Handler, TasksOf};
@@ -39,4 +39,44 @@ pub(crate) fn check_with<H: Responder, T: Handler>(
     assert_eq!(rt; found, exit, "{}, room {room:?}", asked.words);
     assert_eq!(rt; out.bytes(), text, "{}, room {room:?}", asked.words);
     Ok(())
+}
+
+/// Compares a run over a sink with room for so many bytes, at which the text breaks off, with those bytes of the whole text.
+pub(crate) fn check_broken_off(
+    rt: &(impl Abort + AllocGlobal),
+    asked: &Asked,
+    length: usize,
+    whole: &[u8],
+) -> Result<(), Fail> {
+    let front = whole.get(..length).ok_or("a front")?;
+    check(
+        rt,
+        asked,
+        u32::try_from(length).ok(),
+        front,
+        Exit::WriteFault,
+    )
+}
+
+/// Compares the run of a script over an object with its text, where both come in pieces.
+pub(crate) fn check_pieces(
+    rt: &(impl Abort + AllocGlobal),
+    object: &[u32],
+    script: &[&str],
+    text: &[&str],
+) -> Result<(), Fail> {
+    let script = joined(rt.alloc(), script)?;
+    let whole = joined(rt.alloc(), text)?;
+    check(rt, &replay_of(object, &script), None, &whole, Exit::Done)
+}
+
+/// Compares what is asked for with a text that comes in pieces, and an exit.
+pub(crate) fn check_joined(
+    rt: &(impl Abort + AllocGlobal),
+    asked: &Asked,
+    text: &[&str],
+    exit: Exit,
+) -> Result<(), Fail> {
+    let whole = joined(rt.alloc(), text)?;
+    check(rt, asked, None, &whole, exit)
 }

@@ -1,7 +1,7 @@
 //! Runs with calls on clocks: their replies, the lines of clocks that begin or cease to run, and the closing lines of those that
 //! run.
 
-use super::checks::check;
+use super::checks::{check, check_broken_off, check_joined};
 use pm_base::Exit;
 use pm_fixtures::{joined, replay_of};
 use std::test::Fail;
@@ -232,8 +232,7 @@ end power 62 1 1
 fn clocks_follow_calls_and_slaves(rt: HostRuntime) -> Result<(), Fail> {
     for (script, lines, units, clocks) in &RUNS {
         let asked = replay_of(CLOCKED, script.as_bytes());
-        let whole = joined(rt.alloc(), &[LOADED, *lines, *units, *clocks])?;
-        check(&rt, &asked, None, &whole, Exit::Done)?;
+        check_joined(&rt, &asked, &[LOADED, *lines, *units, *clocks], Exit::Done)?;
     }
     Ok(())
 }
@@ -251,14 +250,7 @@ fn the_text_breaks_off_at_each_byte_of_the_lines_of_clocks(rt: HostRuntime) -> R
     check(&rt, &asked, None, &whole, Exit::Done)?;
     let before = LOADED.len();
     for length in before..whole.len() {
-        let front = whole.get(..length).ok_or("a front")?;
-        check(
-            &rt,
-            &asked,
-            u32::try_from(length).ok(),
-            front,
-            Exit::WriteFault,
-        )?;
+        check_broken_off(&rt, &asked, length, &whole)?;
     }
     Ok(())
 }

@@ -51,6 +51,14 @@ fn check_program(
     check_with(rt, asked, &modules, &mut tasks, room, text, exit)
 }
 
+/// Compares the run of a script after its first line, `ipi 1 21`, with its text after that line's.
+fn check_row(rt: &(impl Abort + AllocGlobal), script: &str, text: &str) -> Result<(), Fail> {
+    let script = joined(rt.alloc(), &["ipi 1 21\n", script])?;
+    let asked = replay_of(BOXES, script.as_slice());
+    let whole = joined(rt.alloc(), &[BOXES_SETTLED, text, BOXES_CLOSED])?;
+    check_program(rt, &asked, None, &whole, Exit::Done)
+}
+
 /// A script after its first line, `ipi 1 21`, and its text after that line's.
 static ROWS: [(&str, &str); 5] = [
     // words of both modules, a word of none, and a dropped message
@@ -80,12 +88,26 @@ static ROWS: [(&str, &str); 5] = [
 #[test]
 fn modules_answer_and_tasks_are_called(rt: HostRuntime) -> Result<(), Fail> {
     for (script, text) in &ROWS {
-        let script = joined(rt.alloc(), &["ipi 1 21\n", *script])?;
-        let asked = replay_of(BOXES, script.as_slice());
-        let whole = joined(rt.alloc(), &[BOXES_SETTLED, *text, BOXES_CLOSED])?;
-        check_program(&rt, &asked, None, &whole, Exit::Done)?;
+        check_row(&rt, script, text)?;
     }
     Ok(())
+}
+
+/// Compares a run over a sink with room for so many bytes, at which the text breaks off, with those bytes of the whole text.
+fn check_front(
+    rt: &(impl Abort + AllocGlobal),
+    asked: &Asked,
+    length: usize,
+    whole: &[u8],
+) -> Result<(), Fail> {
+    let front = whole.get(..length).ok_or("a front")?;
+    check_program(
+        rt,
+        asked,
+        u32::try_from(length).ok(),
+        front,
+        Exit::WriteFault,
+    )
 }
 
 #[test]
@@ -96,14 +118,7 @@ fn the_text_breaks_off_at_each_byte_of_tasks(rt: HostRuntime) -> Result<(), Fail
     check_program(&rt, &asked, None, &whole, Exit::Done)?;
     let before = BOXES_SETTLED.len();
     for length in before..before.saturating_add(told.len()) {
-        let front = whole.get(..length).ok_or("a front")?;
-        check_program(
-            &rt,
-            &asked,
-            u32::try_from(length).ok(),
-            front,
-            Exit::WriteFault,
-        )?;
+        check_front(&rt, &asked, length, &whole)?;
     }
     Ok(())
 }

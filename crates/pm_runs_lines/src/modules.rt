@@ -4,8 +4,8 @@ use super::checks::check_with;
 use pm_base::{Exit, Message, NoMemory};
 use pm_fixtures::{BOXES, BOXES_CLOSED, BOXES_SETTLED, joined, replay_of};
 use pm_ipi::Response;
-use pm_modules::{ModuleOf, ModulesOf, Responder};
-use pm_tasks::{Counter, TasksOf};
+use pm_modules::{Module, Modules, Responder};
+use pm_tasks::Tasks;
 use std::alloc::Global;
 use std::process::Abort;
 use std::test::Fail;
@@ -48,31 +48,44 @@ impl Responder for Constant {
 }
 
 /// A module of these words is added, if it can be.
-fn add<H: Responder>(modules: &mut ModulesOf<H>, range: (u32, u32), handler: H) {
+fn add(modules: &mut Modules, range: (u32, u32), handler: Box<dyn Responder>) {
     let (first, last) = range;
     if 256 <= first && first <= last && last <= 65535 {
-        let _added = modules.add(ModuleOf::new(first, last, handler));
+        let _added = modules.add(Module::new(first, last, handler));
     }
 }
 
+/// A module of these words that says a word is added, if it can be.
+fn add_constant(
+    alloc: Global,
+    modules: &mut Modules,
+    range: (u32, u32),
+    word: u32,
+) -> Result<(), NoMemory> {
+    let handler = Box::new(alloc, Constant { word }).map_err(|_| NoMemory)?;
+    add(modules, range, handler);
+    Ok(())
+}
+
 /// Compares the run of a script after its first line, `ipi 1 21`, with its text after that line's.
-fn check_modules<H: Responder>(
+fn check_modules(
     rt: &(impl Abort + AllocGlobal),
-    modules: &ModulesOf<H>,
+    modules: &Modules,
     script: &str,
     text: &str,
 ) -> Result<(), Fail> {
     let script = joined(rt.alloc(), &["ipi 1 21\n", script])?;
     let asked = replay_of(BOXES, script.as_slice());
     let whole = joined(rt.alloc(), &[BOXES_SETTLED, text, BOXES_CLOSED])?;
-    let mut tasks = TasksOf::<Counter>::new(rt.alloc(), 0)?;
+    let mut tasks = Tasks::new(rt.alloc(), 0)?;
     check_with(rt, &asked, modules, &mut tasks, None, &whole, Exit::Done)
 }
 
 #[test]
 fn a_handler_may_say_something_else_to_each_word(rt: HostRuntime) -> Result<(), Fail> {
-    let mut modules = ModulesOf::new(rt.alloc())?;
-    add(&mut modules, (300, 302), Telling);
+    let handler = Box::new(rt.alloc(), Telling).map_err(|_| NoMemory)?;
+    let mut modules = Modules::new(rt.alloc())?;
+    add(&mut modules, (300, 302), handler);
     check_modules(
         &rt,
         &modules,
@@ -83,8 +96,8 @@ fn a_handler_may_say_something_else_to_each_word(rt: HostRuntime) -> Result<(), 
 
 #[test]
 fn a_handler_may_have_one_word(rt: HostRuntime) -> Result<(), Fail> {
-    let mut modules = ModulesOf::new(rt.alloc())?;
-    add(&mut modules, (300, 300), Constant { word: 5 });
+    let mut modules = Modules::new(rt.alloc())?;
+    add_constant(rt.alloc(), &mut modules, (300, 300), 5)?;
     check_modules(&rt, &modules, "ipi 1 300\n", "2 reply 1 0 5 0 0\n")
 }
 
@@ -99,11 +112,11 @@ static RANGES: [(u32, u32); 6] = [
     (290, 299),
 ];
 
-fn modules_of_ranges(alloc: Global) -> Result<ModulesOf<Constant>, NoMemory> {
-    let mut modules = ModulesOf::new(alloc)?;
+fn modules_of_ranges(alloc: Global) -> Result<Modules, NoMemory> {
+    let mut modules = Modules::new(alloc)?;
     let mut word = 0u32;
     for range in &RANGES {
-        add(&mut modules, *range, Constant { word });
+        add_constant(alloc, &mut modules, *range, word)?;
         word = word.wrapping_add(1);
     }
     Ok(modules)

@@ -1,6 +1,6 @@
 //! Runs with power calls, which come to messages of master 1 and to the wait of one of its processors.
 
-use super::checks::check;
+use super::checks::{check, check_broken_off, check_pieces};
 use pm_base::Exit;
 use pm_fixtures::{Asked, BOXES, BOXES_SETTLED, OBJECT, joined, replay_of};
 use std::test::Fail;
@@ -40,14 +40,7 @@ ipi 9 1
     check(&rt, &asked, None, &whole, Exit::Done)?;
     let before = BOXES_SETTLED.len();
     for length in before..before.saturating_add(CALLED.len()) {
-        let front = whole.get(..length).ok_or("a front")?;
-        check(
-            &rt,
-            &asked,
-            u32::try_from(length).ok(),
-            front,
-            Exit::WriteFault,
-        )?;
+        check_broken_off(&rt, &asked, length, &whole)?;
     }
     Ok(())
 }
@@ -215,9 +208,7 @@ end power 62 1 1
 #[test]
 fn each_power_call_writes_its_text(rt: HostRuntime) -> Result<(), Fail> {
     for (object, script, text) in &CALLS {
-        let script = joined(rt.alloc(), &["ipi 1 21\n", script])?;
-        let text = joined(rt.alloc(), &[BOXES_SETTLED, text])?;
-        check(&rt, &replay_of(object, &script), None, &text, Exit::Done)?;
+        check_pieces(&rt, object, &["ipi 1 21\n", script], &[BOXES_SETTLED, text])?;
     }
     Ok(())
 }

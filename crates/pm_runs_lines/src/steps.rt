@@ -1,6 +1,6 @@
 //! Runs whose every step is written out.
 
-use super::checks::check;
+use super::checks::{check, check_joined, check_pieces};
 use pm_base::Exit;
 use pm_fixtures::{LABORATORY, OBJECT, joined, replay_of};
 use std::process::Abort;
@@ -203,14 +203,11 @@ pub(crate) fn check_settled(
     runs: &[(&str, &str)],
 ) -> Result<(), Fail> {
     for (lines, text) in runs {
-        let script = joined(rt.alloc(), &["ipi 1 21\n", lines])?;
-        let whole = joined(rt.alloc(), &[LOADED, SETTLED, text])?;
-        check(
+        check_pieces(
             rt,
-            &replay_of(LABORATORY, &script),
-            None,
-            &whole,
-            Exit::Done,
+            LABORATORY,
+            &["ipi 1 21\n", lines],
+            &[LOADED, SETTLED, text],
         )?;
     }
     Ok(())
@@ -243,8 +240,7 @@ end slave 46 1 1
 end power 62 1 1
 ";
     let asked = replay_of(PREALLOCATED, b"ipi 1 21\nboot 7 0\n");
-    let whole = joined(rt.alloc(), &[LOADED, SETTLED, text])?;
-    check(&rt, &asked, None, &whole, Exit::Done)
+    check_joined(&rt, &asked, &[LOADED, SETTLED, text], Exit::Done)
 }
 
 /// A script over the object of two masters, neither of which has finished its initialization, and its

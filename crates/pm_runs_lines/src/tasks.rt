@@ -4,8 +4,8 @@ use super::checks::check_with;
 use super::steps::{LOADED, SETTLED as LABORATORY_SETTLED};
 use pm_base::{Exit, NoMemory};
 use pm_fixtures::{BOXES, BOXES_CLOSED, BOXES_SETTLED, LABORATORY, joined, replay_of};
-use pm_modules::{Echo, ModulesOf};
-use pm_tasks::{Handler, TasksOf};
+use pm_modules::Modules;
+use pm_tasks::{Handler, Tasks};
 use std::alloc::Global;
 use std::process::Abort;
 use std::test::Fail;
@@ -31,18 +31,26 @@ impl Handler for Noting {
     }
 }
 
+/// A task is added under the next key.
+fn add(tasks: &mut Tasks, handler: Box<dyn Handler>) {
+    // No call is left, as `add` asks.
+    if tasks.take().is_none() {
+        let _key = tasks.add(handler);
+    }
+}
+
+/// A task whose handler was called so often before is added under the next key.
+fn add_called(alloc: Global, tasks: &mut Tasks, calls: u32) -> Result<(), NoMemory> {
+    let handler = Box::new(alloc, Noting { calls, last: 0 }).map_err(|_| NoMemory)?;
+    add(tasks, handler);
+    Ok(())
+}
+
 /// Tasks under keys from 0, whose handlers were called so often before.
-fn tasks_called(alloc: Global, calls: &[u32]) -> Result<TasksOf<Noting>, NoMemory> {
-    let mut tasks = TasksOf::new(alloc, calls.len())?;
+fn tasks_called(alloc: Global, calls: &[u32]) -> Result<Tasks, NoMemory> {
+    let mut tasks = Tasks::new(alloc, calls.len())?;
     for called in calls {
-        // No call is left, as `add` asks.
-        if tasks.take().is_none() {
-            let handler = Noting {
-                calls: *called,
-                last: 0,
-            };
-            let _key = tasks.add(handler);
-        }
+        add_called(alloc, &mut tasks, *called)?;
     }
     Ok(tasks)
 }
@@ -58,7 +66,7 @@ fn check_tasks(
     let script = joined(rt.alloc(), &["ipi 1 21\n", script])?;
     let asked = replay_of(object, script.as_slice());
     let whole = joined(rt.alloc(), text)?;
-    let modules = ModulesOf::<Echo>::new(rt.alloc())?;
+    let modules = Modules::new(rt.alloc())?;
     let mut tasks = tasks_called(rt.alloc(), calls)?;
     check_with(rt, &asked, &modules, &mut tasks, None, &whole, Exit::Done)
 }
