@@ -27,7 +27,8 @@ row_after (Shift m from to) entries entry = shifted_row from to (is_taken entrie
 row_after (DropSlave s) entries entry = cleared entry.row
 row_after Clear entries entry = cleared entry.row
 
--- a row that is not armed where that differs, and in which nothing is scheduled
+-- a row that stays as it is while the mode of its master changes: it isn't armed, or what arming requires is the same in both
+-- modes; and nothing is scheduled in it
 abbrev pub rests : Bool → Entry → Bool
 rests differs entry = not (differs && is_some entry.row.armed) && is_plain entry.row
 

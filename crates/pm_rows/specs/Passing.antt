@@ -50,8 +50,8 @@ pub record IsPassing (pass : Pass) (known : List Mode) (rows : List Entry) (star
   pub kept : AreTallied (midway (done pass known rows) (counted known) k rows) table.tally
   pub cost : steps + sum_by (cost_of pass rows) (drop k rows) ≤ start + sum_by (cost_of pass rows) rows
 
--- the master of the row at place k is in one mode where these are known, and in another where that of the master at place m is
--- set to it
+-- the master of the row at place k changes its mode: it is in mode `from` by the modes that are known, and in mode `to` once that
+-- of the master at place m is set
 abbrev pub Turns : List Mode → ℕ → Mode → Mode → ℕ → Table → Type 0
 Turns known m from to k table =
     (x : Entry) → slice_get table.entries k ≡ Some x

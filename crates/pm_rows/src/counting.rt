@@ -83,24 +83,14 @@ pub(crate) fn follow_wants<L: Ledger>(
     }
 }
 
-/// Whether two are the same.
-fn is_same(before: bool, after: bool) -> bool
-    ensures { result ≡ true → after ≡ before }
-{
-    match (before, after) {
-        (true, true) | (false, false) => true,
-        (true, false) | (false, true) => false,
-    }
-}
-
 /// Whether a row that is put in place of another is used as that one, wants the same now, and is held as that one.
 fn uses_alike(before: Entry, after: Entry) -> bool
     ensures { result ≡ true → (after.row.used ≡ before.row.used)
         × (after.row.now ≡ before.row.now) × (after.row.hold ≡ before.row.hold) }
 {
-    is_same(before.row.used, after.row.used)
+    before.row.used == after.row.used
         && before.row.now.0 == after.row.now.0
-        && is_same(before.row.hold, after.row.hold)
+        && before.row.hold == after.row.hold
 }
 
 /// Whether it is armed as that one, and what an armed row requires doesn't differ in the two modes.
@@ -108,7 +98,7 @@ fn arms_alike(before: Entry, from: Mode, after: Entry, to: Mode) -> bool
     ensures { result ≡ true → (is_some after.row.armed ≡ is_some before.row.armed)
         × ((is_some before.row.armed && arming_differs from to) ≡ false) }
 {
-    is_same(before.row.armed.is_some(), after.row.armed.is_some())
+    before.row.armed.is_some() == after.row.armed.is_some()
         && !(before.row.armed.is_some() && arming_differs(from, to))
 }
 
@@ -117,11 +107,7 @@ fn needs_alike(before: Entry, from: Mode, after: Entry, to: Mode) -> bool
     requires { after.seed ≡ before.seed }
     ensures { result ≡ true → required_by to after ≡ required_by from before }
 {
-    if uses_alike(before, after) {
-        arms_alike(before, from, after, to)
-    } else {
-        false
-    }
+    uses_alike(before, after) && arms_alike(before, from, after, to)
 }
 
 /// Counts a row that is put in place of another, by each capability that is counted. What they require is found where

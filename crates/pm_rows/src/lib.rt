@@ -6,6 +6,7 @@ mod counting;
 #[cfg(test)]
 mod fields;
 mod filling;
+mod fitting;
 mod laws;
 mod modes;
 mod passes;

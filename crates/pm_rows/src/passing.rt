@@ -233,7 +233,7 @@ fn cover(table: &Table, pass: Pass) -> (usize, usize)
 }
 
 /// Changes the rows that a pass touches, one after another, and counts them in the modes that their masters
-/// have afterwards. Each caller names its pass, and what the pass doesn't do falls away there.
+/// have afterwards. Each caller names its pass. This is compiled into each caller, where only its own pass is left.
 #[inline(always)]
 pub(crate) fn pass_over<L: Ledger>(
     table: &mut Table,

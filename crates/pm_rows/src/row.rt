@@ -232,8 +232,8 @@ impl Entry {
         self.is_of_other(master, slave) && self.row.used && !self.seed.shareable
     }
 
-    /// Whether the row stays as it is while the mode of its master changes, and wants the same in both: it isn't armed
-    /// where that differs in them, and nothing is scheduled.
+    /// Whether the row stays as it is while the mode of its master changes, and wants the same in both modes: it isn't armed,
+    /// or what arming requires is the same in both; and nothing is scheduled.
     pub(crate) fn rests(&self, differs: bool) -> bool
         ensures { result ≡ rests differs self.now }
     {

@@ -65,6 +65,7 @@ pub(crate) fn is_found(table: &Table, sought: Sought) -> bool
     found(table, sought).is_some()
 }
 
+/// Whether one of two holds, both of which are known: the loop that asks has no branch then.
 fn either(a: bool, b: bool) -> bool
     ensures { result ≡ (a || b) }
 {

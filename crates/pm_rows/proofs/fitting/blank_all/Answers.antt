@@ -1,6 +1,6 @@
 use Rattle.std.proofs.Common.{arith}
 use Rattle.pm_rows.proofs.Blank.{blank_end, blank_size, blank_step}
-use Rattle.pm_rows.proofs.table.blank_all.Goals as goal
+use Rattle.pm_rows.proofs.fitting.blank_all.Goals as goal
 
 pub write-requires : goal.write-requires
 write-requires c =
