@@ -1,3 +1,4 @@
+pub mod AskLemmas
 pub mod ClearLemmas
 pub mod ForgetLemmas
 pub mod MasterNotesLemmas

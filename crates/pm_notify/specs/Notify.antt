@@ -1,5 +1,5 @@
 -- What all masters have asked for and what waits for each of them: the notes of each master, by its place in the object.
-use Rattle.std.specs.Prelude.{◌≡◌, ℕ, Bool, true, [], List, map, replicate, slice_get, slice_set, unwrap_or, is_some, Option, Some, None, zero, suc}
+use Rattle.std.specs.Prelude.{◌≡◌, ℕ, Bool, true, false, [], List, map, replicate, slice_get, slice_set, unwrap_or, is_some, Option, Some, None, zero, suc}
 use Rattle.pm_base.specs.declared.names.NodeId.{NodeId}
 use Rattle.pm_base.specs.declared.names.Unit.TheVariants.{Node}
 use Rattle.pm_topology.specs.declared.topology.Topology.{Topology}
@@ -32,6 +32,10 @@ has_slots m n notify = is_some (value_of (notes_for m notify) (Node n))
 -- whether a master has asked to be told of an event of a node
 abbrev pub asks_of : ℕ → NodeId → NodeEvent → List MasterNotes → Bool
 asks_of m n event notify = asks_about n event (notes_for m notify)
+
+-- no master has asked to be told of anything
+abbrev pub NoneAsks : List MasterNotes → Type 0
+NoneAsks notify = (m : ℕ) (n : NodeId) (event : NodeEvent) → asks_of m n event notify ≡ false
 
 -- a master's notifier for an event of a node is on or off
 abbrev pub registered : ℕ → NodeId → NodeEvent → Bool → List MasterNotes → List MasterNotes

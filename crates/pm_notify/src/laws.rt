@@ -1,6 +1,9 @@
 //! Laws of the notifiers and of the notes that wait. Each is a record of facts, which stands with its
 //! definitions.
 
+ghost use Rattle.std.specs.Prelude.{List};
+ghost use Rattle.pm_notify.specs.MasterNotes.{MasterNotes};
+ghost use Rattle.pm_notify.specs.Notify.{NoneAsks, all_forgotten};
 ghost use Rattle.pm_notify.specs.Laws.{NotifierLaws, OrderLaws, OtherNotesLaws, SlotLaws, TakeLaws};
 
 use crate::node_notes::NodeNotes;
@@ -10,6 +13,14 @@ use pm_topology::{unit_maps, units_stand_in_order};
 /// notifier notices.
 pub fn notifiers_are_kept()
     ensures { NotifierLaws }
+{
+    unit_maps::<NodeNotes>();
+    units_stand_in_order();
+}
+
+/// Where all masters forget, none has asked for anything.
+pub(crate) fn none_asks_after_all_forget()
+    ensures { (notify : List MasterNotes) → NoneAsks (all_forgotten notify) }
 {
     unit_maps::<NodeNotes>();
     units_stand_in_order();

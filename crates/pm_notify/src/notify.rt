@@ -1,9 +1,10 @@
 //! What all masters have asked for and what waits for each of them.
 
-ghost use Rattle.std.specs.Prelude.{◌≡◌, IfOk, map};
+ghost use Rattle.std.specs.Prelude.{◌≡◌, IfOk, false, map};
 ghost use Rattle.pm_notify.specs.MasterNotes.{forgotten, without_notifiers};
-ghost use Rattle.pm_notify.specs.Notify.{IsInOrder, all_forgotten, asks_of, dropped, first_for, loaded, none_asked, noted, registered, taken_out, without_notes};
+ghost use Rattle.pm_notify.specs.Notify.{IsInOrder, NoneAsks, all_forgotten, asks_of, dropped, first_for, loaded, none_asked, noted, registered, taken_out, without_notes};
 
+use crate::laws::{none_asks_after_all_forget, notifiers_are_kept};
 use crate::master_notes::MasterNotes;
 use crate::notes::{NodeEvent, Note, Waiting};
 use pm_base::{NoMemory, NodeId};
@@ -16,20 +17,25 @@ use std::marker::Model;
 /// for each kind.
 ///
 /// About a node that the chip doesn't have, and for a master that isn't there, nothing is asked for and
-/// nothing waits.
+/// nothing waits. Beside the notes stands whether any master may have asked for anything, so that where none has, that
+/// is seen at once.
 #[derive(Drop)]
 pub struct Notify {
     notes: Vec<MasterNotes>,
+    may_ask: bool,
 }
 
 impl Model for Notify {
-    ghost use Rattle.std.specs.Prelude.{List};
+    ghost use Rattle.std.specs.Prelude.{◌≡◌, List, false};
     ghost use Rattle.pm_base.specs.declared.names.Unit.{Unit};
     ghost use Rattle.pm_notify.specs.declared.node_notes.NodeNotes.{NodeNotes};
+    ghost use Rattle.pm_notify.specs.Notify.{NoneAsks};
 
     ghost Value = { List (List (Unit × NodeNotes)) };
 
     ghost view = { λ notify. notify.notes.items };
+
+    ghost invariant = { λ notify. (notify.may_ask ≡ false → NoneAsks notify.notes.items) };
 }
 
 impl Notify {
@@ -42,8 +48,19 @@ impl Notify {
     pub fn load(alloc: Global, t: &Topology, masters: usize) -> Result<Notify, NoMemory>
         ensures { IfOk result (λ notify. notify ≡ loaded t.now masters) }
     {
+        notifiers_are_kept();
         let notes = notes_of_none(alloc, t, masters)?;
-        Ok(Notify { notes })
+        Ok(Notify {
+            notes,
+            may_ask: false,
+        })
+    }
+
+    /// Whether any master may have asked to be told of anything.
+    pub fn may_ask(&self) -> bool
+        ensures { result ≡ false → NoneAsks self.now }
+    {
+        self.may_ask
     }
 
     /// Whether a master has asked to be told of an event of a node.
@@ -63,6 +80,7 @@ impl Notify {
     {
         if m < self.notes.len() {
             self.notes[m].put(n, event, on);
+            self.may_ask = true;
         }
     }
 
@@ -71,6 +89,7 @@ impl Notify {
     pub fn wait(&mut self, m: usize, n: NodeId, note: Note)
         ensures { self.new ≡ noted m n note self.old }
     {
+        notifiers_are_kept();
         if m < self.notes.len() {
             self.notes[m].wait(n, note);
         }
@@ -108,6 +127,7 @@ impl Notify {
     fn drop_note(&mut self, m: usize, n: NodeId, note: Note)
         ensures { self.new ≡ dropped m n note self.old }
     {
+        notifiers_are_kept();
         if m < self.notes.len() {
             self.notes[m].drop_note(n, note);
         }
@@ -117,20 +137,25 @@ impl Notify {
     pub fn restart(&mut self)
         ensures { self.new ≡ all_forgotten self.old }
     {
+        none_asks_after_all_forget();
         clear_notes(&mut self.notes);
+        self.may_ask = false;
     }
 
     /// No master is told of any event of a node any more. What waits in the slots stays.
     pub fn forget(&mut self)
         ensures { self.new ≡ none_asked self.old }
     {
+        notifiers_are_kept();
         forget_notes(&mut self.notes);
+        self.may_ask = false;
     }
 
     /// A master forgets what it asked for, and what waits for it is lost.
     pub fn clear(&mut self, m: usize)
         ensures { self.new ≡ without_notes m self.old }
     {
+        notifiers_are_kept();
         if m < self.notes.len() {
             self.notes[m].clear();
         }
