@@ -1,5 +1,5 @@
 -- What masters are told in a step: late replies, callbacks, and notes that wait for those that are asleep.
-use Rattle.std.specs.Prelude.{ℕ, ◌+◌, ◌==◌, ◌&&◌, Bool, false, List, [], ◌∷◌, ◌++◌, flat_map, length, map, Option, Some, None, if◌then◌else◌, ◌*◌}
+use Rattle.std.specs.Prelude.{ℕ, ◌≡◌, ◌+◌, ◌==◌, ◌&&◌, Bool, false, List, [], ◌∷◌, ◌++◌, flat_map, length, map, Option, Some, None, if◌then◌else◌, ◌*◌}
 use Rattle.pm_base.specs.declared.names.Mode.{Mode}
 use Rattle.pm_base.specs.declared.names.Mode.TheVariants.{Off, Active, Asleep, Suspending}
 use Rattle.pm_base.specs.declared.names.NodeId.{NodeId}
@@ -53,10 +53,6 @@ pub record News : Type 0 where
   pub ended : List Ended
   pub notices : List Waiting
 
--- nothing to tell
-abbrev pub no_news : News
-no_news = record { asked = None; ended = []; notices = [] }
-
 -- the acknowledgement of a request that ended, where the master that asked wants one: a note about the node of the
 -- request
 abbrev pub acknowledged_by : AckKind → Ended → List Waiting
@@ -81,6 +77,17 @@ noticed_by notes notice = if is_wanted notes notice notice.note then notice ∷ 
 -- targets, and then what happened to nodes of which it asked to be told
 abbrev pub notes_to : News → ℕ → MasterNotes → List Waiting
 notes_to news k notes = flat_map (acknowledged_to k) news.ended ++ flat_map (noticed_by notes) news.notices
+
+-- nothing to tell
+abbrev pub no_news : News
+no_news = record { asked = None; ended = []; notices = [] }
+
+-- nothing to tell to masters with these notes: none is asked to suspend, no request ended, and none has asked to be told
+-- of what happened to nodes
+pub record IsQuiet (news : News) (notes : List MasterNotes) : Type 0 where
+  pub asked : news.asked ≡ None
+  pub ended : news.ended ≡ []
+  pub notices : (k : ℕ) → flat_map (noticed_by (notes_for k notes)) news.notices ≡ []
 
 -- ---- the callbacks
 

@@ -136,7 +136,7 @@ pub(crate) fn tell_masters(
     takes_drain_the_slots();
     units_stand_in_order();
     // Most steps have nothing to tell.
-    if telling.has_no_news() && !one_wakes(tables, telling) {
+    if telling.has_no_news(tables) && !one_wakes(tables, telling) {
         return;
     }
     for k in 0..tables.masters() {

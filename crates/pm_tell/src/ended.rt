@@ -1,6 +1,6 @@
 //! How requests to suspend end.
 
-ghost use Rattle.std.specs.Prelude.{◌≡◌, option_to_list};
+ghost use Rattle.std.specs.Prelude.{◌≡◌, Some, option_to_list};
 ghost use Rattle.pm_tell.specs.Ended as spec;
 
 use pm_ipi::status::{ABORT_SUSPEND, SUCCESS, TIMEOUT};
@@ -42,18 +42,17 @@ fn due_after(count: Option<u32>, request: &Pending) -> bool
     }
 }
 
-/// The end of what is pending on a master, by what becomes of its mode, by the master that aborts its
+/// The end of the request that is pending on a master, by what becomes of its mode, by the master that aborts its
 /// suspend, and by the time that passes.
 pub(crate) fn ended_at(
     turns: Turns,
     aborts: Option<usize>,
     count: Option<u32>,
     m: usize,
-    pending: Option<Pending>,
+    request: Pending,
 ) -> Option<Ended>
-    ensures { option_to_list result ≡ spec.ended_at turns aborts count m pending }
+    ensures { option_to_list result ≡ spec.ended_at turns aborts count m (Some request) }
 {
-    let request = pending?;
     let on = turns.on || aborts == Some(m);
     let status = ends_with(turns.down, on, due_after(count, &request))?;
     Some(Ended {

@@ -97,7 +97,7 @@ pub fn tell_notices(
 {
     telling.clear_news();
     // Most such steps have nothing to tell, and no master wakes in any.
-    if !telling.notices().is_empty() {
+    if !telling.has_no_news(tables) {
         tell_masters(tables, caches, telling, callbacks);
     }
 }

@@ -1,13 +1,13 @@
 //! What is kept of a step until the masters are told of it: their modes before it, what is logged along it, and
 //! what there is to tell.
 
-ghost use Rattle.std.specs.Prelude.{◌≡◌, ◌+◌, ◌<◌, ◌≤◌, ◌++◌, [], IfOk, None, length, true};
+ghost use Rattle.std.specs.Prelude.{◌≡◌, ◌+◌, ◌<◌, ◌≤◌, ◌++◌, [], ℕ, IfOk, None, flat_map, length, true};
 ghost use Rattle.pm_procs.specs.Pending.{pending_at};
 ghost use Rattle.pm_values.specs.Along.{mode_logged, modes_of, trail_at_load};
 ghost use Rattle.pm_tell.specs.Ended.{ended_at, ended_from};
 ghost use Rattle.pm_values.specs.Notifications.{notice_count};
 ghost use Rattle.pm_tell.specs.Telling.{news_in, turns_in};
-ghost use Rattle.pm_tell.specs.Callbacks.{no_news};
+ghost use Rattle.pm_tell.specs.Callbacks.{IsQuiet, noticed_by, notes_of_master};
 ghost use Rattle.pm_calls.specs.Verdict.{aborted_by, asked_by};
 
 use crate::ended::{Ended, ended_at};
@@ -67,11 +67,24 @@ impl Telling {
         self.ended.as_slice()
     }
 
-    /// Whether no master is asked to suspend in the step, no request ends in it, and nothing happens to nodes.
-    pub(crate) fn has_no_news(&self) -> bool
-        ensures { result ≡ true → news_in self.now ≡ no_news }
+    /// Whether no master is asked to suspend in the step, no request ends in it, and none has asked to be told of what
+    /// happens to nodes.
+    pub(crate) fn has_no_news(&self, tables: &Tables) -> bool
+        ensures { result ≡ true → IsQuiet (news_in self.now) tables.now.now.talk.notes }
     {
-        self.asks.is_none() && self.ended().is_empty() && self.notices().is_empty()
+        self.asks.is_none() && self.ended().is_empty() && self.has_no_notice(tables)
+    }
+
+    /// Whether nothing happens to nodes, or no master has asked to be told of anything.
+    fn has_no_notice(&self, tables: &Tables) -> bool
+        ensures { result ≡ true → (k : ℕ)
+            → flat_map (noticed_by (notes_of_master k tables.now)) self.now.notices.items ≡ [] }
+    {
+        if tables.notify().may_ask() {
+            self.notices().is_empty()
+        } else {
+            true
+        }
     }
 
     /// What happens to nodes in the step.
@@ -138,9 +151,10 @@ impl Telling {
               ++ ended_at (turns_in self.old m) aborts count m (pending_at m tables.now.now.talk.pending);
         } }
     {
-        let turns = self.turns(m);
-        if let Some(end) = ended_at(turns, aborts, count, m, tables.pending(m)) {
-            self.ended.push(end);
+        if let Some(request) = tables.pending(m) {
+            if let Some(end) = ended_at(self.turns(m), aborts, count, m, request) {
+                self.ended.push(end);
+            }
         }
     }
 

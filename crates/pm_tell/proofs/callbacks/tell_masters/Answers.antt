@@ -38,8 +38,7 @@ returns-then-not-one_wakes-clause-book c =
     let telling = c.args.telling.now in
     let was = mode_logged telling.modes.items in
     let none : note_changes (news_in telling) was book.now.talk.notes book ≡ [] =
-    ap (λ news. note_changes news was book.now.talk.notes book) (c.has_no_news.ensures c.if-has_no_news.true)
-    ∙ no_changes was book.now.talk.notes book (c.one_wakes.ensures c.if-not-one_wakes.true)
+    no_changes (news_in telling) book.now.talk.notes (c.has_no_news.ensures c.if-has_no_news.true) was book (c.one_wakes.ensures c.if-not-one_wakes.true)
     in
     ap (λ changes. talked changes book) (sym none)
 
@@ -50,8 +49,7 @@ returns-then-not-one_wakes-clause-callbacks c =
     let was = mode_logged telling.modes.items in
     let put = c.args.callbacks.now in
     let none : callbacks (news_in telling) was book.now.talk.notes book ≡ [] =
-    ap (λ news. callbacks news was book.now.talk.notes book) (c.has_no_news.ensures c.if-has_no_news.true)
-    ∙ no_calls was book.now.talk.notes book (c.one_wakes.ensures c.if-not-one_wakes.true)
+    no_calls (news_in telling) book.now.talk.notes (c.has_no_news.ensures c.if-has_no_news.true) was book (c.one_wakes.ensures c.if-not-one_wakes.true)
     in
     ap (λ items. record put { items = items }) (sym (append-nil put.items) ∙ ap (λ calls. put.items ++ calls) (sym none))
 
