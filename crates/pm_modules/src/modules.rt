@@ -11,6 +11,9 @@ use std::alloc::Global;
 /// How many modules there is room for.
 pub const ROOM: usize = 8;
 
+/// The first API word that a module can have. The words below it are the core's.
+const FIRST_WORD: u32 = 256;
+
 /// Why a module isn't added. It hands the module back.
 #[derive(Drop)]
 pub enum AddErrorOf<H: Drop> {
@@ -89,6 +92,9 @@ impl<H: Responder> ModulesOf<H> {
     pub fn answer(&self, message: &Message) -> Option<Response>
         ensures { result ≡ says_of H.Responder self.now message.now }
     {
+        if message.api < FIRST_WORD {
+            return None;
+        }
         for module in self.modules.as_slice() {
             if module.has_word(message.api) {
                 return Some(module.serve(message));
