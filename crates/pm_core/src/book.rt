@@ -1,6 +1,8 @@
 //! The book of requirements: its load, its step and what is read of it.
 
-ghost use Rattle.std.specs.Prelude.{◌≡◌, ◌<◌, IsTrue, IfOk, IfErr, Ok, Some, is_some, length, slice_get};
+ghost use Rattle.std.specs.Prelude.{◌≡◌, ◌<◌, IsTrue, IfOk, IfErr, Ok, None, Some, is_some, length, slice_get};
+ghost use Rattle.pm_base.specs.declared.names.Unit.{Unit as Part};
+ghost use Rattle.pm_topology.specs.Units.{units_of};
 ghost use Rattle.pm_topology.specs.WellFormed.{IsWellFormed};
 ghost use Rattle.pm_state.specs.Fed.{IsFed};
 ghost use Rattle.pm_state.specs.Load.{load_of};
@@ -27,7 +29,7 @@ use pm_step::{
 };
 use pm_tell::{Served, Telling, pulse_in};
 use pm_topology::{Topology, kinds_are_exact, units_stand_in_order};
-use pm_values::{Caches, point, value, values_meet};
+use pm_values::{Caches, point, value, value_at, values_meet};
 use std::alloc::Global;
 use std::marker::Model;
 
@@ -265,6 +267,16 @@ impl Book {
     {
         values_meet();
         value(&self.tables, &self.caches, unit)
+    }
+
+    /// The value of the unit at a place, counted from 0, in the order of `unit`, and 0 past the last one. No unit is
+    /// looked up.
+    pub fn value_at(&self, place: usize) -> u32
+        ensures value { (unit : Part) → slice_get (units_of self.now.fixed.topology) place ≡ Some unit
+            → result ≡ value unit self.now }
+        ensures past { slice_get (units_of self.now.fixed.topology) place ≡ None → result ≡ 0 }
+    {
+        value_at(&self.tables, &self.caches, place)
     }
 
     /// The operating point of a node (UG1200): of a processor the number of its mode, and of any other

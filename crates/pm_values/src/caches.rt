@@ -1,6 +1,6 @@
 //! What the book keeps of its values.
 
-ghost use Rattle.std.specs.Prelude.{◌≡◌, ℕ, ◌<◌, ◌≤◌, ◌++◌, IfOk, Some, true, false, length, map, option_map, slice_get};
+ghost use Rattle.std.specs.Prelude.{◌≡◌, ℕ, ◌<◌, ◌≤◌, ◌++◌, IfOk, Some, true, false, length, map, option_map, slice_get, unwrap_or};
 ghost use Rattle.pm_base.specs.declared.names.Unit.TheVariants.{Node};
 ghost use Rattle.pm_topology.specs.declared.places.Kind.TheVariants.{Slave};
 ghost use Rattle.pm_topology.specs.Units.{units_of};
@@ -88,6 +88,16 @@ impl Caches {
         ensures { result ≡ value_kept unit self.now.values }
     {
         self.values.get(unit).unwrap_or(0)
+    }
+
+    /// The value of the unit at a place, and 0 past the last one.
+    pub fn value_at(&self, place: usize) -> u32
+        ensures { result ≡ unwrap_or (option_map (λ e. e.1) (slice_get self.now.values place)) 0 }
+    {
+        match self.values.entry(place) {
+            Some((_, value)) => value,
+            None => 0,
+        }
     }
 
     /// Chooses the state of each slave, and finds which power nodes are up by that and by the processors that run.

@@ -22,4 +22,4 @@ pub use laws::{values_are_fed, values_meet};
 pub use starts::Start;
 pub use touches::Touched;
 pub use turns::Turns;
-pub use values::{point, value};
+pub use values::{point, value, value_at};

@@ -1,6 +1,8 @@
 //! The value and the operating point of a node, as they are kept.
 
-ghost use Rattle.std.specs.Prelude.{◌≡◌};
+ghost use Rattle.std.specs.Prelude.{◌≡◌, None, Some, slice_get};
+ghost use Rattle.pm_base.specs.declared.names.Unit.{Unit as Part};
+ghost use Rattle.pm_topology.specs.Units.{units_of};
 ghost use Rattle.pm_values.specs.Caches.{AreKept};
 ghost use Rattle.pm_state.specs.Values.{value, point};
 
@@ -18,6 +20,16 @@ pub fn value(tables: &Tables, caches: &Caches, unit: Unit) -> u32
     units_stand_in_order();
     kinds_are_exact();
     caches.value(unit)
+}
+
+/// The value of the unit at a place, as it is kept, and 0 past the last one. No unit is looked up.
+pub fn value_at(tables: &Tables, caches: &Caches, place: usize) -> u32
+    requires { AreKept tables.now caches.now }
+    ensures value { (unit : Part) → slice_get (units_of tables.now.fixed.topology) place ≡ Some unit
+        → result ≡ value unit tables.now }
+    ensures past { slice_get (units_of tables.now.fixed.topology) place ≡ None → result ≡ 0 }
+{
+    caches.value_at(place)
 }
 
 /// The operating point of a node: of a processor the number of its mode, and of any other its value.
