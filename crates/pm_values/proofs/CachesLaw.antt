@@ -3,6 +3,7 @@ use Rattle.std.proofs.Common.{◌≡◌, ℕ, ◌+◌, ◌==◌, ◌||◌, Bool,
 use Rattle.std.specs.Prelude.{option_map, unwrap_or}
 use Rattle.std.specs.List.{list_any}
 use Rattle.std.proofs.Math.Seq.{take-append_seam}
+use Rattle.std.proofs.lemmas.Option.{slice_get-map}
 use Rattle.pm_base.proofs.Booleans.{neither, equal}
 use Rattle.pm_base.proofs.Searches.{position-first}
 use Rattle.pm_base.proofs.Tests.{present_from}
@@ -71,6 +72,10 @@ entries_hold : UnitLaws → (value_by : Unit → ℕ) (us : List Unit) (unit : U
 entries_hold laws value_by [] unit = refl
 entries_hold laws value_by (u ∷ us) unit =
     entry_at laws (same_unit u unit) u unit value_by (map (λ u. (u, value_by u)) us) (has_in us unit) refl (entries_hold laws value_by us unit)
+
+-- the unit at a place with its value, as it is kept
+pub entry_kept : (book : State) (caches : Caches) (place : ℕ) → AreKept book caches → slice_get caches.values place ≡ option_map (λ u. (u, value u book)) (slice_get (units book) place)
+entry_kept book caches place kept = ap (λ es. slice_get es place) kept.values ∙ slice_get-map (λ u. (u, value u book)) (units book) place
 
 -- a unit that isn't there has the value 0
 none_at : (book : State) (node : NodeId) (kind : Kind) → IsKind book.fixed.topology node kind → has_unit book.fixed.topology (Node node) ≡ false → value_at kind book.fixed book.now.core ≡ 0

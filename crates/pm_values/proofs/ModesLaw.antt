@@ -19,7 +19,7 @@ use Rattle.pm_values.specs.declared.caches.UnitKind.{UnitKind}
 use Rattle.pm_values.specs.declared.caches.UnitKind.TheVariants.{Entry, Reset}
 use Rattle.pm_values.specs.Along.{Trail}
 use Rattle.pm_values.specs.Caches.{AreSettled, IsChosen, OthersStay, freed_by, is_settled, kind_of_unit, started_at, use_of, value_by}
-use Rattle.pm_values.specs.Kinds.{may_rest, rests_at}
+use Rattle.pm_values.specs.Kinds.{is_slave_or_line, rests_at}
 use Rattle.pm_values.specs.Notifications.{is_used}
 use Rattle.pm_values.specs.Touches.{ChangesModes, IsOfModes, is_among, turned, with_core}
 use Rattle.pm_power.specs.Forest.{ups}
@@ -68,7 +68,7 @@ module _ (modes now : List Mode) (fixed : Fixed) (before after : CoreHalf) (used
     (used_are : used ≡ placed (use_of before) 0 fixed.topology.slaves)
   where
     -- by its kind, where its value is that of the book before
-    kind_settled : (u : Unit) (kind : UnitKind) → may_rest kind ≡ true → ((s : ℕ) → kind ≡ Entry (Slave s) → is_among (turned modes now) after.rows.entries s ≡ false)
+    kind_settled : (u : Unit) (kind : UnitKind) → is_slave_or_line kind ≡ true → ((s : ℕ) → kind ≡ Entry (Slave s) → is_among (turned modes now) after.rows.entries s ≡ false)
         → is_settled (value_by fixed after kind) (freed_by used after.rows kind) (Some (u, value_by fixed before kind)) ≡ true
     kind_settled u (Entry (Slave s)) may clear =
         let none : is_among (turned modes now) after.rows.entries s ≡ false = clear s refl in
@@ -82,7 +82,7 @@ module _ (modes now : List Mode) (fixed : Fixed) (before after : CoreHalf) (used
         both_so (line_at place before.lines) (line_at place after.lines) false (ap (line_at place) (sym changes.lines)) refl
 
     unit_settled : (t : Topology) (value_of : Unit → ℕ) (u : Option Unit) (kind : UnitKind) → ((u : Unit) → value_of u ≡ value_by fixed before (kind_of_unit t u))
-        → option_map (kind_of_unit t) u ≡ Some kind → may_rest kind ≡ true → ((s : ℕ) → kind ≡ Entry (Slave s) → is_among (turned modes now) after.rows.entries s ≡ false)
+        → option_map (kind_of_unit t) u ≡ Some kind → is_slave_or_line kind ≡ true → ((s : ℕ) → kind ≡ Entry (Slave s) → is_among (turned modes now) after.rows.entries s ≡ false)
         → is_settled (value_by fixed after kind) (freed_by used after.rows kind) (option_map (λ u. (u, value_of u)) u) ≡ true
     unit_settled t value_of None kind are at may clear = cc
     unit_settled t value_of (Some u) kind are at may clear =
@@ -94,9 +94,9 @@ pub modes_settled : (modes : List Mode) (book : State) (along : Trail) (old new 
     → OthersStay book along.downs new
     → ((k s : ℕ) → slice_get new.kinds.items k ≡ Some (Entry (Slave s)) → rests_at new.kinds.awake k ≡ true → is_among (turned modes along.modes) book.now.core.rows.entries s ≡ false)
     → AreSettled (value_by book.fixed book.now.core) (freed_by new.used.items book.now.core.rows) along.downs book.now.core.procs new.kinds.awake new.kinds.items new.values
-modes_settled modes book along old new of_modes chosen_by stay resting = λ k kind at is. by k kind at is (may_rest kind) refl
+modes_settled modes book along old new of_modes chosen_by stay resting = λ k kind at is. by k kind at is (is_slave_or_line kind) refl
   where
-    by : (k : ℕ) (kind : UnitKind) → slice_get new.kinds.items k ≡ Some kind → rests_at new.kinds.awake k ≡ true → (b : Bool) → may_rest kind ≡ b
+    by : (k : ℕ) (kind : UnitKind) → slice_get new.kinds.items k ≡ Some kind → rests_at new.kinds.awake k ≡ true → (b : Bool) → is_slave_or_line kind ≡ b
         → (started_at along.downs book.now.core.procs kind (slice_get new.values k) ≡ [])
         × (is_settled (value_by book.fixed book.now.core kind) (freed_by new.used.items book.now.core.rows kind) (slice_get new.values k) ≡ true)
     by k kind at is true may =

@@ -17,7 +17,7 @@ use Rattle.pm_values.specs.declared.kinds.Other.{Other}
 use Rattle.pm_values.specs.declared.starts.Start.{Start}
 use Rattle.pm_values.specs.Along.{down_logged}
 use Rattle.pm_values.specs.Caches.{HaveStayed, ListedStay, freed_by, has_stayed, is_settled, kind_value, start_if, started_at, unit_value}
-use Rattle.pm_values.specs.Kinds.{AreListed, RestLess, StandsIn, may_rest, rests_at, woken_at}
+use Rattle.pm_values.specs.Kinds.{AreListed, RestLess, StandsIn, is_slave_or_line, rests_at, woken_at}
 use Rattle.pm_values.proofs.KindsLaw.{earlier, woken_here, woken_other}
 
 -- ---- the list of these units, unit by unit
@@ -34,16 +34,16 @@ front_at (y ∷ xs) ys (suc k) x at = front_at xs ys k x at
 pub listed_start : (kinds : List UnitKind) (others : List Other) → AreListed kinds 0 others
 listed_start kinds others = λ k kind within at may. absurd (omega (arith, within))
 
-pub listed_next : (kinds : List UnitKind) (k : ℕ) (kind : UnitKind) (may : Bool) (others after : List Other) → may ≡ may_rest kind → slice_get kinds k ≡ Some kind
+pub listed_next : (kinds : List UnitKind) (k : ℕ) (kind : UnitKind) (may : Bool) (others after : List Other) → may ≡ is_slave_or_line kind → slice_get kinds k ≡ Some kind
     → after ≡ (if may then others else others ++ record { unit = k; kind = kind } ∷ []) → AreListed kinds k others → AreListed kinds (k + 1) after
 listed_next kinds k kind true others after may at is before = λ j next within there other. by j next within there other (j == k) refl
   where
-    by : (j : ℕ) (next : UnitKind) → j < k + 1 → slice_get kinds j ≡ Some next → may_rest next ≡ false → (b : Bool) → (j == k) ≡ b → StandsIn j next after
+    by : (j : ℕ) (next : UnitKind) → j < k + 1 → slice_get kinds j ≡ Some next → is_slave_or_line next ≡ false → (b : Bool) → (j == k) ≡ b → StandsIn j next after
     by j next within there other true own =
         let same : j ≡ k = eqb-true j k own in
         let both_here : Some kind ≡ Some next = sym at ∙ (ap (slice_get kinds) (sym same) ∙ there) in
         let alike : kind ≡ next = cc in
-        let no : true ≡ false = may ∙ (ap may_rest alike ∙ other) in
+        let no : true ≡ false = may ∙ (ap is_slave_or_line alike ∙ other) in
         cc
     by j next within there other false own =
         let stands = before j next (earlier j k own within) there other in
@@ -56,7 +56,7 @@ listed_next kinds k kind true others after may at is before = λ j next within t
         }
 listed_next kinds k kind false others after may at is before = λ j next within there other. by j next within there other (j == k) refl
   where
-    by : (j : ℕ) (next : UnitKind) → j < k + 1 → slice_get kinds j ≡ Some next → may_rest next ≡ false → (b : Bool) → (j == k) ≡ b → StandsIn j next after
+    by : (j : ℕ) (next : UnitKind) → j < k + 1 → slice_get kinds j ≡ Some next → is_slave_or_line next ≡ false → (b : Bool) → (j == k) ≡ b → StandsIn j next after
     by j next within there other true own =
         let same : j ≡ k = eqb-true j k own in
         let both_here : Some kind ≡ Some next = sym at ∙ (ap (slice_get kinds) (sym same) ∙ there) in

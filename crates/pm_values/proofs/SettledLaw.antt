@@ -10,7 +10,7 @@ use Rattle.pm_procs.specs.declared.procs.Proc.{Proc as Processor}
 use Rattle.pm_values.specs.declared.caches.UnitKind.{UnitKind}
 use Rattle.pm_values.specs.declared.caches.UnitKind.TheVariants.{Entry, Reset}
 use Rattle.pm_values.specs.Caches.{is_settled, moved_at, noticed_at, started_at}
-use Rattle.pm_values.specs.Kinds.{may_rest}
+use Rattle.pm_values.specs.Kinds.{is_slave_or_line}
 use Rattle.pm_values.specs.Notifications.{notes_about}
 use Rattle.pm_values.proofs.MovesLemmas.{same_written}
 
@@ -55,7 +55,7 @@ pub same_ahead : {X : Type 0} (xs ys : List X) (k : ℕ) → drop k xs ≡ drop 
 same_ahead xs ys k same = get_drop xs k ∙ (ap (λ zs. slice_get zs 0) same ∙ sym (get_drop ys k))
 
 -- a unit that may rest doesn't start
-pub rest_starts : (downs : List Bool) (procs : List Processor) (kind : UnitKind) (entry : Option (Unit × ℕ)) → may_rest kind ≡ true → started_at downs procs kind entry ≡ []
+pub rest_starts : (downs : List Bool) (procs : List Processor) (kind : UnitKind) (entry : Option (Unit × ℕ)) → is_slave_or_line kind ≡ true → started_at downs procs kind entry ≡ []
 rest_starts downs procs kind None is = refl
 rest_starts downs procs (Entry (Slave s)) (Some e) is = refl
 rest_starts downs procs (Entry (Proc p)) (Some e) is = cc

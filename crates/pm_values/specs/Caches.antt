@@ -24,7 +24,7 @@ use Rattle.pm_values.specs.declared.kinds.Other.{Other}
 use Rattle.pm_values.specs.declared.starts.Start.{Start}
 use Rattle.pm_notify.specs.declared.notes.Waiting.{Waiting}
 use Rattle.pm_rows.specs.Rows.{Rows}
-use Rattle.pm_values.specs.Kinds.{may_rest, rests_at}
+use Rattle.pm_values.specs.Kinds.{is_slave_or_line, rests_at}
 use Rattle.pm_values.specs.Notifications.{is_used, notes_about, notice_count, used_at}
 use Rattle.pm_values.specs.Along.{down_logged}
 use Rattle.pm_state.specs.State.{Fixed, CoreHalf, State}
@@ -134,16 +134,16 @@ has_stayed downs procs up (Entry (Slave s)) entry = false
 has_stayed downs procs up (Entry Unknown) entry = false
 has_stayed downs procs up (Reset place) entry = false
 
--- of the first n units of a list those rest to which nothing happened
+-- of the first n units of a list only those rest to which nothing happened
 abbrev pub ListedStay : List Bool → List Processor → List Bool → List Bool → List Other → ℕ → List (Unit × ℕ) → Type 0
 ListedStay downs procs up awake others n entries =
     (i : ℕ) (other : Other) → i < n → slice_get others i ≡ Some other → rests_at awake other.unit ≡ true
     → has_stayed downs procs up other.kind (slice_get entries other.unit) ≡ true
 
--- of the units that are no slave and no reset line those rest to which nothing happened
+-- of the units that are no slave and no reset line only those rest to which nothing happened
 abbrev pub HaveStayed : List Bool → List Processor → List Bool → List Bool → List UnitKind → List (Unit × ℕ) → Type 0
 HaveStayed downs procs up awake kinds entries =
-    (k : ℕ) (kind : UnitKind) → slice_get kinds k ≡ Some kind → may_rest kind ≡ false → rests_at awake k ≡ true
+    (k : ℕ) (kind : UnitKind) → slice_get kinds k ≡ Some kind → is_slave_or_line kind ≡ false → rests_at awake k ≡ true
     → has_stayed downs procs up kind (slice_get entries k) ≡ true
 
 -- what happened to the units of a table

@@ -31,12 +31,12 @@ pub record AreInWords (units : List Bool) (words : List ℕ) : Type 0 where
       → rests_at units k ≡ true
 
 -- a unit of this kind is a slave or a reset line
-abbrev pub may_rest : UnitKind → Bool
-may_rest (Entry (Slave s)) = true
-may_rest (Entry (Proc p)) = false
-may_rest (Entry (Power w)) = false
-may_rest (Entry Unknown) = false
-may_rest (Reset place) = true
+abbrev pub is_slave_or_line : UnitKind → Bool
+is_slave_or_line (Entry (Slave s)) = true
+is_slave_or_line (Entry (Proc p)) = false
+is_slave_or_line (Entry (Power w)) = false
+is_slave_or_line (Entry Unknown) = false
+is_slave_or_line (Reset place) = true
 
 -- the places of the units of slaves, where this kind stands at place k
 abbrev pub with_home : UnitKind → ℕ → List ℕ → List ℕ
@@ -68,9 +68,9 @@ pub record StandsIn (k : ℕ) (kind : UnitKind) (others : List Other) : Type 0 w
 -- of the units before place n those stand in the list that are no slave and no reset line
 abbrev pub AreListed : List UnitKind → ℕ → List Other → Type 0
 AreListed kinds n others =
-    (k : ℕ) (kind : UnitKind) → k < n → slice_get kinds k ≡ Some kind → may_rest kind ≡ false → StandsIn k kind others
+    (k : ℕ) (kind : UnitKind) → k < n → slice_get kinds k ≡ Some kind → is_slave_or_line kind ≡ false → StandsIn k kind others
 
--- each unit rests after it that rested before, and no other
+-- no unit rests after it that didn't rest before
 abbrev pub RestLess : List Bool → List Bool → Type 0
 RestLess before after = (k : ℕ) → rests_at after k ≡ true → rests_at before k ≡ true
 

@@ -149,7 +149,7 @@ impl Caches {
         self.log_changes(tables, along, moved, starts, notices);
     }
 
-    /// The same where units rest: slaves and reset lines to which nothing happened.
+    /// The same where units rest: those to which nothing happened and which don't start.
     fn log_changes(
         &mut self,
         tables: &Tables,

@@ -5,7 +5,7 @@ ghost use Rattle.pm_topology.specs.declared.places.Kind.TheVariants.{Slave};
 ghost use Rattle.pm_topology.specs.Units.{units_of};
 ghost use Rattle.pm_values.specs.declared.caches.UnitKind.TheVariants.{Entry};
 ghost use Rattle.pm_values.specs.Caches.{HaveStayed, ListedStay, has_stayed, kind_of_unit};
-ghost use Rattle.pm_values.specs.Kinds.{AreApart, AreHomes, AreIndexed, AreListed, RestLess, may_rest, rests_at, with_home, woken_at};
+ghost use Rattle.pm_values.specs.Kinds.{AreApart, AreHomes, AreIndexed, AreListed, RestLess, is_slave_or_line, rests_at, with_home, woken_at};
 
 use crate::along::Along;
 use crate::caches::UnitKind;
@@ -77,7 +77,8 @@ impl Kinds {
         &self.awake
     }
 
-    /// All units rest.
+    /// All units rest. That they do is no promise: what a caller is promised is which units rest no more once they were
+    /// woken.
     pub(crate) fn rest(&mut self)
         ensures { self.new.items ≡ self.old.items }
     {
@@ -139,14 +140,14 @@ fn beside_of(
     ensures { IfOk result (λ beside. AreIndexed kinds.now beside.0.items beside.1.0.items beside.1.1) }
 {
     let homes = homes_of(alloc, slaves, kinds)?;
-    let marks = marks_of(alloc, kinds);
-    with(homes, marks)
+    let others = others_and_marks(alloc, kinds);
+    with(homes, others)
 }
 
 /// The units that are no slave and no reset line, and room for those that don't rest in a step.
-fn marks_of(alloc: Global, kinds: &[UnitKind]) -> Result<(Vec<Other>, Marks), NoMemory>
-    ensures listed { IfOk result (λ marks. AreListed kinds.now (length kinds.now) marks.0.items) }
-    ensures places { IfOk result (λ marks. length marks.1 ≡ length kinds.now) }
+fn others_and_marks(alloc: Global, kinds: &[UnitKind]) -> Result<(Vec<Other>, Marks), NoMemory>
+    ensures listed { IfOk result (λ both. AreListed kinds.now (length kinds.now) both.0.items) }
+    ensures places { IfOk result (λ both. length both.1 ≡ length kinds.now) }
 {
     let others = others_of(alloc, kinds)?;
     let awake = Marks::load(alloc, kinds.len());
@@ -173,8 +174,8 @@ fn kind_of_unit(t: &Topology, unit: Unit) -> UnitKind
 }
 
 /// Whether a unit of this kind is a slave or a reset line.
-fn may_rest(kind: UnitKind) -> bool
-    ensures { result ≡ may_rest kind }
+fn is_slave_or_line(kind: UnitKind) -> bool
+    ensures { result ≡ is_slave_or_line kind }
 {
     match kind {
         UnitKind::Entry(Kind::Slave(_)) | UnitKind::Reset(_) => true,
@@ -227,17 +228,22 @@ fn others_of(alloc: Global, kinds: &[UnitKind]) -> Result<Vec<Other>, NoMemory>
 {
     let mut others = Vec::new(alloc);
     for (k, kind) in kinds.iter().enumerate() {
-        list_unless(may_rest(*kind), k, *kind, &mut others)?;
+        list_unless(is_slave_or_line(*kind), k, *kind, &mut others)?;
     }
     Ok(others)
 }
 
-/// Puts the unit at a place, of this kind, behind the others, unless it is a slave or a reset line.
-fn list_unless(may: bool, k: usize, kind: UnitKind, others: &mut Vec<Other>) -> Result<(), NoMemory>
+/// Puts the unit at a place, of this kind, behind the others, unless it is left out.
+fn list_unless(
+    left_out: bool,
+    k: usize,
+    kind: UnitKind,
+    others: &mut Vec<Other>,
+) -> Result<(), NoMemory>
     ensures { IfOk result (λ _. others.new.items
-        ≡ (if may then others.old.items else others.old.items ++ record { unit = k; kind = kind } ∷ [])) }
+        ≡ (if left_out then others.old.items else others.old.items ++ record { unit = k; kind = kind } ∷ [])) }
 {
-    if may {
+    if left_out {
         return Ok(());
     }
     others.push(Other { unit: k, kind }).map_err(|_| NoMemory)
@@ -271,7 +277,8 @@ fn other_at(others: &[Other], i: usize) -> Other
     others[i]
 }
 
-/// Whether nothing happened to a processor or a power node of this kind, by its entry, and it doesn't start.
+/// Whether nothing happened to a processor or a power node of this kind, by its entry, and it doesn't start. The state of a
+/// slave isn't asked for.
 fn has_stayed(
     kind: UnitKind,
     along: &Along,
@@ -294,11 +301,11 @@ fn has_stayed(
     }
 }
 
-/// The unit at a place doesn't rest from now on, unless it may.
-fn wake_unless(rests: bool, k: usize, awake: &mut Marks)
-    ensures { awake.new ≡ (if rests then awake.old else woken_at k awake.old) }
+/// The unit at a place doesn't rest from now on, unless it stayed as it was.
+fn wake_unless(stays: bool, k: usize, awake: &mut Marks)
+    ensures { awake.new ≡ (if stays then awake.old else woken_at k awake.old) }
 {
-    if !rests {
+    if !stays {
         awake.wake(k);
     }
 }

@@ -15,4 +15,4 @@ loop-k-preserved c =
     let k = c.loop-k.k in
     let kind : UnitKind = get_or kinds k (Entry (Proc 0)) in
     let at : slice_get kinds k ≡ Some kind = slice_get-get_or kinds k (Entry (Proc 0)) c.loop-k-test.true in
-    listed_next kinds k kind c.may_rest.result c.loop-k.others.items _ c.may_rest.ensures at c.in_ok-list_unless.ensures c.loop-k.invariant
+    listed_next kinds k kind c.is_slave_or_line.result c.loop-k.others.items _ c.is_slave_or_line.ensures at c.in_ok-list_unless.ensures c.loop-k.invariant
