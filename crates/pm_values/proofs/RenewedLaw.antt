@@ -1,7 +1,8 @@
 -- Lists with one item for each slave, some of which are found anew.
-use Rattle.std.proofs.Common.{◌≡◌, ℕ, ◌+◌, ◌≤◌, ◌==◌, ◌&&◌, ◌||◌, Bool, true, false, if◌then◌else◌, List, [], ◌∷◌, length, take, slice_get, Option, Some, None, refl, zero, suc, arith, ap, sym, ◌∙◌}
+use Rattle.std.proofs.Common.{◌≡◌, ℕ, ◌+◌, ◌≤◌, ◌==◌, ◌&&◌, ◌||◌, Bool, true, false, not, if◌then◌else◌, List, [], ◌∷◌, length, take, slice_get, unwrap_or, Option, Some, None, refl, zero, suc, arith, ap, sym, ◌∙◌}
 use Rattle.std.specs.Prelude.{slice_set}
 use Rattle.std.specs.List.{list_any}
+use Rattle.std.proofs.Math.Bool.{beq}
 use Rattle.std.proofs.lemmas.Bool.{eqb-true}
 use Rattle.std.proofs.lemmas.Bool.Decides.{nat_tests}
 use Rattle.std.proofs.lemmas.List.Folds.{list_any-append}
@@ -18,6 +19,11 @@ module _ {A : Type 0} (new : ℕ → SlaveDef → A) where
   renewed_none k [] items places = refl
   renewed_none k (x ∷ slaves) [] places = refl
   renewed_none k (x ∷ slaves) (item ∷ items) places = ap (λ more. item ∷ more) (renewed_none (k + 1) slaves items (omega arith))
+
+  pub renewed_of_none : (k : ℕ) (slaves : List SlaveDef) (items : List A) → renewed (λ s. false) new k slaves items ≡ items
+  renewed_of_none k [] items = refl
+  renewed_of_none k (x ∷ slaves) [] = refl
+  renewed_of_none k (x ∷ slaves) (item ∷ items) = ap (λ more. item ∷ more) (renewed_of_none (k + 1) slaves items)
 
   -- by tests that agree from a place on the same are
   renewed_same : (one two : ℕ → Bool) (k : ℕ) (slaves : List SlaveDef) (items : List A) → ((s : ℕ) → k ≤ s → one s ≡ two s) → renewed one new k slaves items ≡ renewed two new k slaves items
@@ -126,6 +132,19 @@ module _ {A : Type 0} (new : ℕ → SlaveDef → A) where
       ∙ (ap (λ b. renewed (and_one was b s) new 0 slaves start) is
       ∙ renewed_same (and_one was (test entry.seed.master) s) (is_among test (take (k + 1) entries)) 0 slaves start
       (λ j from. sym (among_next test entries k entry j at))))))
+
+-- ---- an item that is written as it was
+
+pub set_as_it_was : (items : List Bool) (s : ℕ) (now : Bool) → unwrap_or (slice_get items s) false ≡ now → slice_set items s now ≡ items
+set_as_it_was [] s now is = refl
+set_as_it_was (item ∷ items) zero now is = ap (λ b. b ∷ items) (sym is)
+set_as_it_was (item ∷ items) (suc s) now is = ap (λ more. item ∷ more) (set_as_it_was items s now is)
+
+pub same_so : (a b : Bool) → not (beq a b) ≡ false → a ≡ b
+same_so true true is = refl
+same_so true false is = cc
+same_so false true is = cc
+same_so false false is = refl
 
 -- ---- the slaves on which no such row is
 

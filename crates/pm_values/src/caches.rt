@@ -9,7 +9,7 @@ ghost use Rattle.pm_power.specs.Needs.{needs_of};
 ghost use Rattle.pm_state.specs.Values.{chosen, state_at, value};
 ghost use Rattle.pm_values.specs.declared.caches.UnitKind.TheVariants.{Entry};
 ghost use Rattle.pm_topology.specs.UnitMap.{all_at};
-ghost use Rattle.pm_values.specs.Caches.{AreChosen, AreKept, AreSettled, Finds, HasPlaces, HasRoom, IsChosen, IsWritten, OthersStay, freed_by, kind_of_unit, moved_at, noticed_at, value_by, value_kept};
+ghost use Rattle.pm_values.specs.Caches.{AreChosen, AreKept, AreSettled, Finds, HasPlaces, HasRoom, IsChosen, IsWritten, OthersStay, freed_by, kind_of_unit, moved_at, noticed_at, renewed, use_of, value_by, value_kept};
 ghost use Rattle.pm_values.specs.Kinds.{RestLess, rests_at};
 ghost use Rattle.pm_values.specs.Touches.{IsBefore, IsLogged, IsOfModes, IsOfRows, IsTouched, is_among, rests, turned};
 
@@ -17,7 +17,7 @@ use crate::along::Along;
 use crate::kinds::Kinds;
 use crate::moves::log_units;
 use crate::needs::{choose, choose_one, choose_turned, follow_runs, log_runs, slave_at, state_of};
-use crate::notifications::{freed, log_notice, log_turned_uses, log_use, log_uses};
+use crate::notifications::{freed, log_notice, log_turned_uses_if, log_use, log_uses};
 use crate::starts::Start;
 use crate::touches::Touched;
 use pm_base::{BoundedList, Mode, NoMemory, NodeId, Unit, at_or, with};
@@ -252,32 +252,38 @@ impl Caches {
         ensures found { Finds tables.now along.now.downs self.old moved.old moved.new starts.old starts.new
             notices.old notices.new }
     {
-        self.choose_turned(tables, along, modes);
+        let changed = self.choose_turned(tables, along, modes);
         self.wake_changed(tables, along);
         self.log_values(tables, along, moved, starts, notices);
-        log_turned_uses(tables, along, modes, &mut self.used);
+        log_turned_uses_if(changed, tables, along, modes, &mut self.used);
     }
 
     /// Chooses the states of the slaves on which a master has a row whose mode turned, and finds which power nodes are up by
-    /// that and by the processors that run. All other units rest.
-    fn choose_turned(&mut self, tables: &Tables, along: &Along, modes: &[Mode])
+    /// that and by the processors that run. All other units rest. Whether it changed of one of these slaves that some master
+    /// uses it.
+    fn choose_turned(&mut self, tables: &Tables, along: &Along, modes: &[Mode]) -> bool
         requires places { HasPlaces tables.now.fixed.topology self.old }
         requires of_modes { IsOfModes modes.now tables.now along.now self.old }
         ensures chosen { IsChosen tables.now self.old self.new }
+        ensures uses { result ≡ false → self.old.used.items
+            ≡ renewed (is_among (turned modes.now along.now.modes) tables.now.now.core.rows.entries)
+            (use_of tables.now.now.core) 0 tables.now.fixed.topology.slaves self.old.used.items }
         ensures rests { (k s : ℕ) → slice_get self.new.kinds.items k ≡ Some (Entry (Slave s))
             → rests_at self.new.kinds.awake k ≡ true
             → is_among (turned modes.now along.now.modes) tables.now.now.core.rows.entries s ≡ false }
     {
-        choose_turned(
+        let changed = choose_turned(
             tables,
             along,
             modes,
+            &self.used,
             &mut self.kinds,
             &mut self.states,
             &mut self.needs,
             &mut self.power,
         );
         follow_runs(tables, &mut self.runs, &mut self.power);
+        changed
     }
 
     /// The processors and power nodes to which something happened don't rest from now on.

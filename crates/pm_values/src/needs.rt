@@ -2,7 +2,7 @@
 
 ghost use Rattle.std.specs.Prelude.{◌≡◌, ◌<◌, Some, ℕ, false, true, length, slice_get, slice_set};
 ghost use Rattle.pm_topology.specs.declared.places.Kind.TheVariants.{Slave};
-ghost use Rattle.pm_values.specs.Caches.{FollowNeeds, FollowRuns, renewed, renewed_at};
+ghost use Rattle.pm_values.specs.Caches.{FollowNeeds, FollowRuns, renewed, renewed_at, use_of};
 ghost use Rattle.pm_values.specs.declared.caches.UnitKind.TheVariants.{Entry};
 ghost use Rattle.pm_values.specs.Kinds.{rests_at};
 ghost use Rattle.pm_values.specs.Touches.{is_among, turned};
@@ -13,6 +13,7 @@ ghost use Rattle.pm_state.specs.Values.{state_at, placed, chosen, need_of, run_o
 use crate::along::Along;
 use crate::choice::chosen_state;
 use crate::kinds::Kinds;
+use crate::notifications::changes_use;
 use pm_base::{Mode, at_or};
 use pm_power::Power;
 use pm_procs::{is_awake, same_mode};
@@ -76,18 +77,23 @@ pub(crate) fn choose_one(
 }
 
 /// Chooses the states of the slaves on which a master has a row whose mode turned, and whether they need their power nodes
-/// then, which follow that. All other units rest.
+/// then, which follow that. All other units rest. Whether it changed of one of these slaves that some master uses it, by
+/// what is kept of that.
 pub(crate) fn choose_turned(
     tables: &Tables,
     along: &Along,
     modes: &[Mode],
+    used: &[bool],
     kinds: &mut Kinds,
     states: &mut [u32],
     needs: &mut [bool],
     power: &mut Power,
-)
+) -> bool
     requires states { length states.old ≡ length tables.now.fixed.topology.slaves }
     requires needs { length needs.old ≡ length tables.now.fixed.topology.slaves }
+    ensures uses { result ≡ false → used.now
+        ≡ renewed (is_among (turned modes.now along.now.modes) tables.now.now.core.rows.entries)
+        (use_of tables.now.now.core) 0 tables.now.fixed.topology.slaves used.now }
     ensures power { FollowNeeds needs.old needs.new power.old power.new }
     ensures states { states.new
         ≡ renewed (is_among (turned modes.now along.now.modes) tables.now.now.core.rows.entries)
@@ -100,11 +106,14 @@ pub(crate) fn choose_turned(
         → is_among (turned modes.now along.now.modes) tables.now.now.core.rows.entries s ≡ false }
 {
     kinds.rest();
+    let mut changed = false;
     for k in 0..tables.rows().len() {
         let seed = tables.rows().entry(k).seed;
         let turns = has_turned(along, modes, seed.master);
         choose_if(tables, turns, seed.slave, kinds, states, needs, power);
+        changed = changes_use(tables, changed, turns, seed.slave, used);
     }
+    changed
 }
 
 /// Whether the mode of a master isn't the one before.

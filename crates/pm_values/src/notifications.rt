@@ -1,6 +1,6 @@
 //! What happens to nodes in a step: which change, and which have no users any more.
 
-ghost use Rattle.std.specs.Prelude.{◌≡◌, ◌+◌, ◌<◌, ◌≤◌, ◌++◌, length, slice_get, slice_set};
+ghost use Rattle.std.specs.Prelude.{◌≡◌, ◌+◌, ◌<◌, ◌≤◌, ◌++◌, false, length, slice_get, slice_set};
 ghost use Rattle.pm_values.specs.Caches.{freed_by, noticed_at, renewed, renewed_at, use_of};
 ghost use Rattle.pm_values.specs.Touches.{is_among, turned};
 ghost use Rattle.pm_values.specs.Notifications as spec;
@@ -82,8 +82,51 @@ pub(crate) fn log_use(tables: &Tables, s: usize, used: &mut [bool])
     }
 }
 
+/// Whether that was so, or some master uses the slave at a place, if it is asked for, where by what is kept none did, or the
+/// other way round.
+pub(crate) fn changes_use(
+    tables: &Tables,
+    so_far: bool,
+    asked: bool,
+    s: usize,
+    used: &[bool],
+) -> bool
+    ensures before { result ≡ false → so_far ≡ false }
+    ensures here { result ≡ false → renewed_at asked (use_of tables.now.now.core) s
+        (slice_get tables.now.fixed.topology.slaves s) used.now ≡ used.now }
+{
+    so_far || (asked && changes_use_of(tables, s, used))
+}
+
+/// Whether some master uses the slave at a place, where by what is kept none did, or the other way round.
+fn changes_use_of(tables: &Tables, s: usize, used: &[bool]) -> bool
+    ensures { result ≡ false → slice_set used.now s (spec.is_used s tables.now.now.core.rows) ≡ used.now }
+{
+    at_or(used, s, false) != is_used(s, tables.rows())
+}
+
+/// Writes whether some master uses each slave on which a master has a row whose mode turned, unless that changed of none.
+pub(crate) fn log_turned_uses_if(
+    changed: bool,
+    tables: &Tables,
+    along: &Along,
+    modes: &[Mode],
+    used: &mut [bool],
+)
+    requires places { length used.old ≡ length tables.now.fixed.topology.slaves }
+    requires still { changed ≡ false → used.old
+        ≡ renewed (is_among (turned modes.now along.now.modes) tables.now.now.core.rows.entries)
+        (use_of tables.now.now.core) 0 tables.now.fixed.topology.slaves used.old }
+    ensures { used.new ≡ renewed (is_among (turned modes.now along.now.modes) tables.now.now.core.rows.entries)
+        (use_of tables.now.now.core) 0 tables.now.fixed.topology.slaves used.old }
+{
+    if changed {
+        log_turned_uses(tables, along, modes, used);
+    }
+}
+
 /// Writes whether some master uses each slave on which a master has a row whose mode turned.
-pub(crate) fn log_turned_uses(tables: &Tables, along: &Along, modes: &[Mode], used: &mut [bool])
+fn log_turned_uses(tables: &Tables, along: &Along, modes: &[Mode], used: &mut [bool])
     requires { length used.old ≡ length tables.now.fixed.topology.slaves }
     ensures { used.new ≡ renewed (is_among (turned modes.now along.now.modes) tables.now.now.core.rows.entries)
         (use_of tables.now.now.core) 0 tables.now.fixed.topology.slaves used.old }

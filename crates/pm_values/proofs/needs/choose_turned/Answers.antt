@@ -3,10 +3,11 @@ use Rattle.pm_topology.specs.declared.places.Kind.TheVariants.{Slave}
 use Rattle.pm_rows.specs.Rows.{Rows}
 use Rattle.pm_rows.specs.declared.row.Entry.{Entry as RowEntry}
 use Rattle.pm_state.specs.Values.{chosen, need_of}
+use Rattle.pm_values.specs.Caches.{use_of}
 use Rattle.pm_values.specs.declared.caches.UnitKind.{UnitKind}
 use Rattle.pm_values.specs.declared.caches.UnitKind.TheVariants.{Entry}
 use Rattle.pm_values.specs.Touches.{turned}
-use Rattle.pm_values.proofs.RenewedLaw.{none_next, renewed_next, renewed_none}
+use Rattle.pm_values.proofs.RenewedLaw.{none_next, renewed_next, renewed_none, renewed_of_none}
 use Rattle.pm_values.proofs.FollowLaw.{more_needs, no_need}
 use Rattle.pm_values.proofs.needs.choose_turned.Goals as goal
 
@@ -22,6 +23,7 @@ loop-k-init c =
       needs = sym (renewed_none (need_of core) 0 slaves c.args.needs.now c.requires.needs);
       follow = no_need c.args.needs.now c.args.power.now;
       rests = λ j s there is. refl;
+      uses = λ no. sym (renewed_of_none (use_of core) 0 slaves c.args.used.now);
     }
 
 pub loop-k-preserved : goal.loop-k-preserved
@@ -52,4 +54,6 @@ loop-k-preserved c =
           in
           let no : false ≡ true = sym (c.choose_if.ensures.woken so j own) ∙ is in
           cc);
+      uses = λ no. renewed_next (use_of core) test entries k entry slaves c.args.used.now c.args.used.now c.args.used.now c.has_turned-turns.result at
+          c.has_turned-turns.ensures (c.loop-k.invariant.uses (c.changes_use-changed.ensures.before no)) (sym (c.changes_use-changed.ensures.here no));
     }

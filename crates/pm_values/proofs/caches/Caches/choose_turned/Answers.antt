@@ -1,6 +1,6 @@
 use Rattle.std.proofs.Common.{◌≡◌, ◌++◌, ℕ, Bool, List, length, take, drop, slice_get, refl, subst, sym, ◌∙◌, ap}
 use Rattle.pm_state.specs.Values.{forest, placed, chosen, need_of, run_of}
-use Rattle.pm_values.specs.Caches.{renewed}
+use Rattle.pm_values.specs.Caches.{renewed, use_of}
 use Rattle.pm_values.specs.declared.caches.UnitKind.{UnitKind}
 use Rattle.pm_values.specs.Touches.{is_among, turned}
 use Rattle.pm_values.proofs.CachesLaw.{written_back}
@@ -9,27 +9,27 @@ use Rattle.pm_values.proofs.ModesLaw.{chosen_same, needed_same}
 use Rattle.pm_values.proofs.RenewedLaw.{renewed_all}
 use Rattle.pm_values.proofs.caches.Caches.choose_turned.Goals as goal
 
-states_are : (c : goal.After-self-3-1) → take c.args.self.now.states.len (c.choose_turned.new.states ++ drop (length c.choose_turned.new.states) c.args.self.now.states.items) ≡ placed (chosen c.args.tables.now.now.core) 0 c.args.tables.now.fixed.topology.slaves
+states_are : (c : goal.After-self-3-1) → take c.args.self.now.states.len (c.choose_turned-changed.new.states ++ drop (length c.choose_turned-changed.new.states) c.args.self.now.states.items) ≡ placed (chosen c.args.tables.now.now.core) 0 c.args.tables.now.fixed.topology.slaves
 states_are c =
     let slaves = c.args.tables.now.fixed.topology.slaves in
     let core = c.args.tables.now.now.core in
     let of_modes = c.requires.of_modes in
     let test : ℕ → Bool = is_among (turned c.args.modes.now c.args.along.now.modes) core.rows.entries in
-    let places : length c.choose_turned.new.states ≡ c.args.self.now.states.len = c.choose_turned.auto.states ∙ c.deref_mut.ensures.len in
-    written_back c.choose_turned.new.states c.args.self.now.states.items c.args.self.now.states.len places
-    ∙ (c.choose_turned.ensures.states
+    let places : length c.choose_turned-changed.new.states ≡ c.args.self.now.states.len = c.choose_turned-changed.auto.states ∙ c.deref_mut.ensures.len in
+    written_back c.choose_turned-changed.new.states c.args.self.now.states.items c.args.self.now.states.len places
+    ∙ (c.choose_turned-changed.ensures.states
     ∙ (ap (renewed test (chosen core) 0 slaves) (c.deref_mut.ensures.value ∙ of_modes.kept.states)
     ∙ renewed_all (chosen core) test (chosen of_modes.before) (chosen_same c.args.modes.now c.args.along.now.modes of_modes.before core of_modes.changes) 0 slaves))
 
-needs_are : (c : goal.After-self-3-1) → take c.args.self.now.needs.len (c.choose_turned.new.needs ++ drop (length c.choose_turned.new.needs) c.args.self.now.needs.items) ≡ placed (need_of c.args.tables.now.now.core) 0 c.args.tables.now.fixed.topology.slaves
+needs_are : (c : goal.After-self-3-1) → take c.args.self.now.needs.len (c.choose_turned-changed.new.needs ++ drop (length c.choose_turned-changed.new.needs) c.args.self.now.needs.items) ≡ placed (need_of c.args.tables.now.now.core) 0 c.args.tables.now.fixed.topology.slaves
 needs_are c =
     let slaves = c.args.tables.now.fixed.topology.slaves in
     let core = c.args.tables.now.now.core in
     let of_modes = c.requires.of_modes in
     let test : ℕ → Bool = is_among (turned c.args.modes.now c.args.along.now.modes) core.rows.entries in
-    let places : length c.choose_turned.new.needs ≡ c.args.self.now.needs.len = c.choose_turned.auto.needs ∙ c.deref_mut-2.ensures.len in
-    written_back c.choose_turned.new.needs c.args.self.now.needs.items c.args.self.now.needs.len places
-    ∙ (c.choose_turned.ensures.needs
+    let places : length c.choose_turned-changed.new.needs ≡ c.args.self.now.needs.len = c.choose_turned-changed.auto.needs ∙ c.deref_mut-2.ensures.len in
+    written_back c.choose_turned-changed.new.needs c.args.self.now.needs.items c.args.self.now.needs.len places
+    ∙ (c.choose_turned-changed.ensures.needs
     ∙ (ap (renewed test (need_of core) 0 slaves) (c.deref_mut-2.ensures.value ∙ of_modes.kept.needs)
     ∙ renewed_all (need_of core) test (need_of of_modes.before) (needed_same c.args.modes.now c.args.along.now.modes of_modes.before core of_modes.changes) 0 slaves))
 
@@ -45,14 +45,14 @@ followed c =
     let of_modes = c.requires.of_modes in
     let kept = of_modes.kept in
     let test : ℕ → Bool = is_among (turned c.args.modes.now c.args.along.now.modes) core.rows.entries in
-    let needs : c.choose_turned.new.needs ≡ placed (need_of core) 0 slaves =
-    c.choose_turned.ensures.needs
+    let needs : c.choose_turned-changed.new.needs ≡ placed (need_of core) 0 slaves =
+    c.choose_turned-changed.ensures.needs
     ∙ (ap (renewed test (need_of core) 0 slaves) (c.deref_mut-2.ensures.value ∙ kept.needs)
     ∙ renewed_all (need_of core) test (need_of of_modes.before) (needed_same c.args.modes.now c.args.along.now.modes of_modes.before core of_modes.changes) 0 slaves)
     in
-    followed_is c.args.tables.now.fixed of_modes.before core c.args.self.now.power c.choose_turned.new.power c.follow_runs.new.power
-    c.deref_mut-2.result.now c.choose_turned.new.needs c.deref_mut-3.result.now c.follow_runs.new.runs
-    kept.power (c.deref_mut-2.ensures.value ∙ kept.needs) (c.deref_mut-3.ensures.value ∙ kept.runs) c.choose_turned.ensures.power c.follow_runs.ensures.power
+    followed_is c.args.tables.now.fixed of_modes.before core c.args.self.now.power c.choose_turned-changed.new.power c.follow_runs.new.power
+    c.deref_mut-2.result.now c.choose_turned-changed.new.needs c.deref_mut-3.result.now c.follow_runs.new.runs
+    kept.power (c.deref_mut-2.ensures.value ∙ kept.needs) (c.deref_mut-3.ensures.value ∙ kept.runs) c.choose_turned-changed.ensures.power c.follow_runs.ensures.power
     needs c.follow_runs.ensures.runs
 
 pub returns-clause-chosen : goal.returns-clause-chosen
@@ -61,11 +61,18 @@ returns-clause-chosen c = record {
   needs = needs_are c;
   runs = runs_are c;
   power = followed c;
-  kinds = c.choose_turned.ensures.kinds;
+  kinds = c.choose_turned-changed.ensures.kinds;
   used = refl;
   values = refl;
 }
 
 pub returns-clause-rests : goal.returns-clause-rests
 returns-clause-rests c = λ k s there is.
-    c.choose_turned.ensures.rests k s (ap (λ (ks : List UnitKind). slice_get ks k) (sym c.choose_turned.ensures.kinds) ∙ there) is
+    c.choose_turned-changed.ensures.rests k s (ap (λ (ks : List UnitKind). slice_get ks k) (sym c.choose_turned-changed.ensures.kinds) ∙ there) is
+
+pub returns-clause-uses : goal.returns-clause-uses
+returns-clause-uses c = λ no.
+    let core = c.args.tables.now.now.core in
+    let test : ℕ → Bool = is_among (turned c.args.modes.now c.args.along.now.modes) core.rows.entries in
+    let Still : List Bool → Type 0 = λ us. us ≡ renewed test (use_of core) 0 c.args.tables.now.fixed.topology.slaves us in
+    subst Still c.deref.ensures.value (c.choose_turned-changed.ensures.uses no)
