@@ -42,7 +42,7 @@ use Rattle.pm_state.specs.Talk.{Talk, talked}
 
 -- ---- the value of a unit
 
-chosen_or_0 : (core : CoreHalf) (s : ℕ) (slave : Option SlaveDef) → unwrap_or (option_map (chosen core s) slave) 0 ≡ state_at s slave core
+pub chosen_or_0 : (core : CoreHalf) (s : ℕ) (slave : Option SlaveDef) → unwrap_or (option_map (chosen core s) slave) 0 ≡ state_at s slave core
 chosen_or_0 core s None = refl
 chosen_or_0 core s (Some slave) = refl
 

@@ -1,8 +1,9 @@
 -- After a step that changed modes, and rows of the masters whose mode turned, all other slaves and all reset lines are as before.
-use Rattle.std.proofs.Common.{◌≡◌, ℕ, ◌==◌, ◌&&◌, Bool, true, false, not, List, [], length, slice_get, unwrap_or, Option, Some, None, refl, arith, ap, sym, ◌∙◌, subst}
+use Rattle.std.proofs.Common.{◌≡◌, ℕ, ◌==◌, ◌&&◌, Bool, true, false, not, List, [], length, slice_get, unwrap_or, Option, Some, None, refl, arith, ap, sym, ◌∙◌, subst, ◌⊎◌, inl, inr}
 use Rattle.std.specs.Prelude.{option_map}
-use Rattle.std.proofs.lemmas.Bool.{eq-eqb}
+use Rattle.std.proofs.lemmas.Bool.{eq-eqb, eqb-true}
 use Rattle.std.proofs.lemmas.Option.{slice_get-map}
+use Rattle.pm_base.proofs.Booleans.{both}
 use Rattle.pm_base.specs.declared.names.Mode.{Mode}
 use Rattle.pm_base.specs.declared.names.Unit.{Unit}
 use Rattle.pm_topology.specs.declared.places.Kind.TheVariants.{Proc, Slave, Power, Unknown}
@@ -21,9 +22,9 @@ use Rattle.pm_values.specs.Along.{Trail}
 use Rattle.pm_values.specs.Caches.{AreSettled, IsChosen, OthersStay, freed_by, is_settled, kind_of_unit, started_at, use_of, value_by}
 use Rattle.pm_values.specs.Kinds.{is_slave_or_line, rests_at}
 use Rattle.pm_values.specs.Notifications.{is_used}
-use Rattle.pm_values.specs.Touches.{ChangesModes, IsOfModes, is_among, turned, with_core}
+use Rattle.pm_values.specs.Touches.{ChangesModes, IsOfModes, is_among, rests, turned, with_core}
 use Rattle.pm_power.specs.Forest.{ups}
-use Rattle.pm_values.proofs.CachesLaw.{unit_value_is, value_by_is}
+use Rattle.pm_values.proofs.CachesLaw.{chosen_or_0, unit_value_is, value_by_is}
 use Rattle.pm_values.proofs.OthersLaw.{stayed}
 use Rattle.pm_values.proofs.SettledLaw.{rest_starts}
 
@@ -62,19 +63,52 @@ freed_none modes now before after changes s slaves used are clear =
 both_so : (a b : ℕ) (freed : Bool) → a ≡ b → freed ≡ false → ((a == b) && not freed) ≡ true
 both_so a b freed same none = ap (λ f. (a == b) && not f) none ∙ ap (λ e. e && true) (eq-eqb a b same)
 
+-- the slave is in the state that it was in, and isn't left without users
+abbrev StaysSo : Fixed → CoreHalf → CoreHalf → List Bool → ℕ → Type 0
+StaysSo fixed before after used s =
+    (state_at s (slice_get fixed.topology.slaves s) before ≡ state_at s (slice_get fixed.topology.slaves s) after)
+    × (freed_by used after.rows (Entry (Slave s)) ≡ false)
+
+not_so : (b : Bool) → not b ≡ true → b ≡ false
+not_so true is = cc
+not_so false is = refl
+
+-- so is one that is as it is kept
+kept_so : (book : State) (before : CoreHalf) (old : Caches) (used : List Bool) → old.states.items ≡ placed (chosen before) 0 book.fixed.topology.slaves → used ≡ old.used.items
+    → (s : ℕ) → rests s book old ≡ true → StaysSo book.fixed before book.now.core used s
+kept_so book before old used states are s is =
+    let slaves = book.fixed.topology.slaves in
+    let core : CoreHalf = book.now.core in
+    let parts =
+    both (state_at s (slice_get slaves s) core == unwrap_or (slice_get old.states.items s) 0) (not (freed_by old.used.items core.rows (Entry (Slave s)))) is
+    in
+    let kept : unwrap_or (slice_get old.states.items s) 0 ≡ state_at s (slice_get slaves s) before =
+    ap (λ xs. unwrap_or (slice_get xs s) 0) states
+    ∙ (ap (λ o. unwrap_or o 0) (slice_get-placed (chosen before) 0 slaves s s (omega arith)) ∙ chosen_or_0 before s (slice_get slaves s))
+    in (
+      sym (eqb-true _ _ parts.0 ∙ kept),
+      ap (λ us. freed_by us core.rows (Entry (Slave s))) are ∙ not_so _ parts.1,
+    )
+
 -- ---- a unit that rests
 
 module _ (modes now : List Mode) (fixed : Fixed) (before after : CoreHalf) (used : List Bool) (changes : ChangesModes modes now before after)
     (used_are : used ≡ placed (use_of before) 0 fixed.topology.slaves)
   where
     -- by its kind, where its value is that of the book before
-    kind_settled : (u : Unit) (kind : UnitKind) → is_slave_or_line kind ≡ true → ((s : ℕ) → kind ≡ Entry (Slave s) → is_among (turned modes now) after.rows.entries s ≡ false)
+    kind_settled : (u : Unit) (kind : UnitKind) → is_slave_or_line kind ≡ true → ((s : ℕ) → kind ≡ Entry (Slave s) → (is_among (turned modes now) after.rows.entries s ≡ false) ⊎ StaysSo fixed before after used s)
         → is_settled (value_by fixed after kind) (freed_by used after.rows kind) (Some (u, value_by fixed before kind)) ≡ true
     kind_settled u (Entry (Slave s)) may clear =
-        let none : is_among (turned modes now) after.rows.entries s ≡ false = clear s refl in
-        both_so (value_by fixed before (Entry (Slave s))) (value_by fixed after (Entry (Slave s))) (freed_by used after.rows (Entry (Slave s)))
-        (state_same modes now before after changes s (slice_get fixed.topology.slaves s) none)
-        (freed_none modes now before after changes s fixed.topology.slaves used used_are none)
+        let Rests : Type 0 = ((value_by fixed before (Entry (Slave s)) == value_by fixed after (Entry (Slave s))) && not (freed_by used after.rows (Entry (Slave s)))) ≡ true in
+        let by : ((is_among (turned modes now) after.rows.entries s ≡ false) ⊎ StaysSo fixed before after used s) → Rests = λ so. elim so [
+          | inl none ↦
+              both_so (value_by fixed before (Entry (Slave s))) (value_by fixed after (Entry (Slave s))) (freed_by used after.rows (Entry (Slave s)))
+              (state_same modes now before after changes s (slice_get fixed.topology.slaves s) none)
+              (freed_none modes now before after changes s fixed.topology.slaves used used_are none)
+          | inr stays ↦
+              both_so (value_by fixed before (Entry (Slave s))) (value_by fixed after (Entry (Slave s))) (freed_by used after.rows (Entry (Slave s))) stays.0 stays.1
+        ] in
+        by (clear s refl)
     kind_settled u (Entry (Proc p)) may clear = cc
     kind_settled u (Entry (Power w)) may clear = cc
     kind_settled u (Entry Unknown) may clear = cc
@@ -82,7 +116,7 @@ module _ (modes now : List Mode) (fixed : Fixed) (before after : CoreHalf) (used
         both_so (line_at place before.lines) (line_at place after.lines) false (ap (line_at place) (sym changes.lines)) refl
 
     unit_settled : (t : Topology) (value_of : Unit → ℕ) (u : Option Unit) (kind : UnitKind) → ((u : Unit) → value_of u ≡ value_by fixed before (kind_of_unit t u))
-        → option_map (kind_of_unit t) u ≡ Some kind → is_slave_or_line kind ≡ true → ((s : ℕ) → kind ≡ Entry (Slave s) → is_among (turned modes now) after.rows.entries s ≡ false)
+        → option_map (kind_of_unit t) u ≡ Some kind → is_slave_or_line kind ≡ true → ((s : ℕ) → kind ≡ Entry (Slave s) → (is_among (turned modes now) after.rows.entries s ≡ false) ⊎ StaysSo fixed before after used s)
         → is_settled (value_by fixed after kind) (freed_by used after.rows kind) (option_map (λ u. (u, value_of u)) u) ≡ true
     unit_settled t value_of None kind are at may clear = cc
     unit_settled t value_of (Some u) kind are at may clear =
@@ -92,10 +126,17 @@ module _ (modes now : List Mode) (fixed : Fixed) (before after : CoreHalf) (used
 
 pub modes_settled : (modes : List Mode) (book : State) (along : Trail) (old new : Caches) → IsOfModes modes book along old → IsChosen book old new
     → OthersStay book along.downs new
-    → ((k s : ℕ) → slice_get new.kinds.items k ≡ Some (Entry (Slave s)) → rests_at new.kinds.awake k ≡ true → is_among (turned modes along.modes) book.now.core.rows.entries s ≡ false)
+    → ((k s : ℕ) → slice_get new.kinds.items k ≡ Some (Entry (Slave s)) → rests_at new.kinds.awake k ≡ true
+    → (is_among (turned modes along.modes) book.now.core.rows.entries s ≡ false) ⊎ (rests s book old ≡ true))
     → AreSettled (value_by book.fixed book.now.core) (freed_by new.used.items book.now.core.rows) along.downs book.now.core.procs new.kinds.awake new.kinds.items new.values
 modes_settled modes book along old new of_modes chosen_by stay resting = λ k kind at is. by k kind at is (is_slave_or_line kind) refl
   where
+    stays_so : (s : ℕ) → (is_among (turned modes along.modes) book.now.core.rows.entries s ≡ false) ⊎ (rests s book old ≡ true)
+        → (is_among (turned modes along.modes) book.now.core.rows.entries s ≡ false) ⊎ StaysSo book.fixed of_modes.before book.now.core new.used.items s
+    stays_so s so = elim so [
+      | inl none ↦ inl none
+      | inr is ↦ inr (kept_so book of_modes.before old new.used.items of_modes.kept.states chosen_by.used s is)
+    ]
     by : (k : ℕ) (kind : UnitKind) → slice_get new.kinds.items k ≡ Some kind → rests_at new.kinds.awake k ≡ true → (b : Bool) → is_slave_or_line kind ≡ b
         → (started_at along.downs book.now.core.procs kind (slice_get new.values k) ≡ [])
         × (is_settled (value_by book.fixed book.now.core kind) (freed_by new.used.items book.now.core.rows kind) (slice_get new.values k) ≡ true)
@@ -115,7 +156,7 @@ modes_settled modes book along old new of_modes chosen_by stay resting = λ k ki
           ap (is_settled (value_by book.fixed book.now.core kind) (freed_by new.used.items book.now.core.rows kind)) entry
               ∙ unit_settled modes along.modes book.fixed before book.now.core new.used.items of_modes.changes (chosen_by.used ∙ of_modes.kept.used)
               t (λ u. value u was) u kind (λ u. sym (value_by_is was u)) found may
-              (λ s slave. resting k s (at ∙ ap (λ x. Some x) slave) is),
+              (λ s slave. stays_so s (resting k s (at ∙ ap (λ x. Some x) slave) is)),
         )
     by k kind at is false may =
         let core : CoreHalf = book.now.core in

@@ -1,9 +1,9 @@
 -- Lists with one item for each slave, some of which are found anew.
-use Rattle.std.proofs.Common.{◌≡◌, ℕ, ◌+◌, ◌≤◌, ◌==◌, ◌&&◌, ◌||◌, Bool, true, false, not, if◌then◌else◌, List, [], ◌∷◌, length, take, slice_get, unwrap_or, Option, Some, None, refl, zero, suc, arith, ap, sym, ◌∙◌}
+use Rattle.std.proofs.Common.{◌≡◌, ℕ, ◌+◌, ◌≤◌, ◌==◌, ◌&&◌, ◌||◌, Bool, true, false, not, if◌then◌else◌, List, [], ◌∷◌, length, take, slice_get, unwrap_or, Option, Some, None, refl, zero, suc, arith, ap, sym, ◌∙◌, ◌⊎◌, inl, inr}
 use Rattle.std.specs.Prelude.{slice_set}
 use Rattle.std.specs.List.{list_any}
 use Rattle.std.proofs.Math.Bool.{beq}
-use Rattle.std.proofs.lemmas.Bool.{eqb-true}
+use Rattle.std.proofs.lemmas.Bool.{eq-eqb, eqb-true}
 use Rattle.std.proofs.lemmas.Bool.Decides.{nat_tests}
 use Rattle.std.proofs.lemmas.List.Folds.{list_any-append}
 use Rattle.pm_base.proofs.ListLemmas.{take_next}
@@ -163,3 +163,33 @@ none_next test entries k entry asked s at is before apart =
     by a so false own = refl
     by true so true own = absurd (apart so (eqb-true entry.seed.slave s own))
     by false so true own = so
+
+-- one row more, where each such slave is otherwise right
+pub right_next : (Right : Type 0) (test : ℕ → Bool) (entries : List Entry) (k : ℕ) (entry : Entry) (asked : Bool) (s : ℕ) → slice_get entries k ≡ Some entry
+    → asked ≡ test entry.seed.master
+    → (is_among test (take k entries) s ≡ false) ⊎ Right
+    → (asked ≡ true → entry.seed.slave ≡ s → is_among test (take k entries) s ≡ false → Right)
+    → (is_among test (take (k + 1) entries) s ≡ false) ⊎ Right
+right_next Right test entries k entry asked s at is before own = elim before [
+  | inl none ↦ by none asked refl (entry.seed.slave == s) refl
+  | inr right ↦ inr right
+]
+  where
+    by : is_among test (take k entries) s ≡ false → (a : Bool) → asked ≡ a → (e : Bool) → (entry.seed.slave == s) ≡ e → (is_among test (take (k + 1) entries) s ≡ false) ⊎ Right
+    by none true so true here = inr (own so (eqb-true entry.seed.slave s here) none)
+    by none false so e here = inl (none_next test entries k entry asked s at is none (λ yes same.
+        let no : false ≡ true = sym so ∙ yes in
+        cc))
+    by none true so false here = inl (none_next test entries k entry asked s at is none (λ yes same.
+        let no : false ≡ true = sym here ∙ eq-eqb entry.seed.slave s same in
+        cc))
+
+-- the item of a slave that no test asks for stays
+pub renewed_left : {A : Type 0} (new : ℕ → SlaveDef → A) (test : ℕ → Bool) (k i s : ℕ) (slaves : List SlaveDef) (items : List A) → s ≡ k + i → test s ≡ false
+    → slice_get (renewed test new k slaves items) i ≡ slice_get items i
+renewed_left new test k i s [] items is none = refl
+renewed_left new test k i s (x ∷ slaves) [] is none = refl
+renewed_left new test k zero s (x ∷ slaves) (item ∷ items) is none =
+    let here : k ≡ s = omega arith in
+    ap (λ b. Some (if b then new k x else item)) (ap test here ∙ none)
+renewed_left new test k (suc i) s (x ∷ slaves) (item ∷ items) is none = renewed_left new test (k + 1) i s slaves items (omega arith) none

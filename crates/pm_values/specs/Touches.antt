@@ -107,8 +107,12 @@ IsTouched (Rows s) modes book along caches = IsOfRows s book along caches
 IsTouched Modes modes book along caches = IsOfModes modes book along caches
 IsTouched All modes book along caches = ⊤
 
--- the slave at place s is in the state that is kept, and no master left it without users
+-- the slave at place s is in the state that is kept, and no master left it without users, by these states and uses
+abbrev pub is_as_kept : List ℕ → List Bool → ℕ → State → Bool
+is_as_kept states used s book =
+    (state_at s (slice_get book.fixed.topology.slaves s) book.now.core == unwrap_or (slice_get states s) 0)
+    && not (freed_by used book.now.core.rows (Entry (Slave s)))
+
+-- the same by what is kept
 abbrev pub rests : ℕ → State → Caches → Bool
-rests s book caches =
-    (state_at s (slice_get book.fixed.topology.slaves s) book.now.core == unwrap_or (slice_get caches.states.items s) 0)
-    && not (freed_by caches.used.items book.now.core.rows (Entry (Slave s)))
+rests s book caches = is_as_kept caches.states.items caches.used.items s book

@@ -1,6 +1,6 @@
 //! What the book keeps of its values.
 
-ghost use Rattle.std.specs.Prelude.{◌≡◌, ℕ, ◌<◌, ◌≤◌, ◌++◌, IfOk, Some, true, false, length, map, option_map, slice_get, unwrap_or};
+ghost use Rattle.std.specs.Prelude.{◌≡◌, ℕ, ◌<◌, ◌≤◌, ◌++◌, ◌⊎◌, IfOk, Some, true, false, length, map, option_map, slice_get, unwrap_or};
 ghost use Rattle.pm_base.specs.declared.names.Unit.TheVariants.{Node};
 ghost use Rattle.pm_topology.specs.declared.places.Kind.TheVariants.{Slave};
 ghost use Rattle.pm_topology.specs.Units.{units_of};
@@ -16,7 +16,9 @@ ghost use Rattle.pm_values.specs.Touches.{IsBefore, IsLogged, IsOfModes, IsOfRow
 use crate::along::Along;
 use crate::kinds::Kinds;
 use crate::moves::log_units;
-use crate::needs::{choose, choose_one, choose_turned, follow_runs, log_runs, slave_at, state_of};
+use crate::needs::{
+    choose, choose_one, choose_turned, follow_runs, is_as_kept, log_runs, slave_at, state_of,
+};
 use crate::notifications::{freed, log_notice, log_turned_uses_if, log_use, log_uses};
 use crate::starts::Start;
 use crate::touches::Touched;
@@ -270,7 +272,8 @@ impl Caches {
             (use_of tables.now.now.core) 0 tables.now.fixed.topology.slaves self.old.used.items }
         ensures rests { (k s : ℕ) → slice_get self.new.kinds.items k ≡ Some (Entry (Slave s))
             → rests_at self.new.kinds.awake k ≡ true
-            → is_among (turned modes.now along.now.modes) tables.now.now.core.rows.entries s ≡ false }
+            → (is_among (turned modes.now along.now.modes) tables.now.now.core.rows.entries s ≡ false)
+            ⊎ (rests s tables.now self.old ≡ true) }
     {
         let changed = choose_turned(
             tables,
@@ -413,8 +416,7 @@ impl Caches {
         requires { state ≡ state_at s (slice_get tables.now.fixed.topology.slaves s) tables.now.now.core }
         ensures { result ≡ rests s tables.now self.now }
     {
-        state == at_or(&self.states, s, 0)
-            && !freed(UnitKind::Entry(Kind::Slave(s)), &self.used, tables.rows())
+        is_as_kept(tables, s, state, &self.states, &self.used)
     }
 }
 

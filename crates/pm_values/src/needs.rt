@@ -1,24 +1,25 @@
 //! What each slave and each processor needs.
 
-ghost use Rattle.std.specs.Prelude.{◌≡◌, ◌<◌, Some, ℕ, false, true, length, slice_get, slice_set};
+ghost use Rattle.std.specs.Prelude.{◌≡◌, ◌<◌, ◌⊎◌, Some, ℕ, false, true, length, slice_get, slice_set};
 ghost use Rattle.pm_topology.specs.declared.places.Kind.TheVariants.{Slave};
 ghost use Rattle.pm_values.specs.Caches.{FollowNeeds, FollowRuns, renewed, renewed_at, use_of};
 ghost use Rattle.pm_values.specs.declared.caches.UnitKind.TheVariants.{Entry};
 ghost use Rattle.pm_values.specs.Kinds.{rests_at};
-ghost use Rattle.pm_values.specs.Touches.{is_among, turned};
+ghost use Rattle.pm_values.specs.Touches.{is_among, is_as_kept, turned};
 ghost use Rattle.std.specs.Option.{option_copied};
 ghost use Rattle.pm_state.specs.Values as spec;
 ghost use Rattle.pm_state.specs.Values.{state_at, placed, chosen, need_of, run_of};
 
 use crate::along::Along;
+use crate::caches::UnitKind;
 use crate::choice::chosen_state;
 use crate::kinds::Kinds;
-use crate::notifications::changes_use;
+use crate::notifications::{changes_use, freed};
 use pm_base::{Mode, at_or};
 use pm_power::Power;
 use pm_procs::{is_awake, same_mode};
 use pm_state::Tables;
-use pm_topology::{SlaveDef, needs_in};
+use pm_topology::{Kind, SlaveDef, needs_in};
 
 /// The slave at a place.
 pub(crate) fn slave_at(slaves: &[SlaveDef], place: usize) -> Option<&SlaveDef>
@@ -103,14 +104,15 @@ pub(crate) fn choose_turned(
         (need_of tables.now.now.core) 0 tables.now.fixed.topology.slaves needs.old }
     ensures kinds { kinds.new.items ≡ kinds.old.items }
     ensures rests { (k s : ℕ) → slice_get kinds.old.items k ≡ Some (Entry (Slave s)) → rests_at kinds.new.awake k ≡ true
-        → is_among (turned modes.now along.now.modes) tables.now.now.core.rows.entries s ≡ false }
+        → (is_among (turned modes.now along.now.modes) tables.now.now.core.rows.entries s ≡ false)
+        ⊎ (is_as_kept states.old used.now s tables.now ≡ true) }
 {
     kinds.rest();
     let mut changed = false;
     for k in 0..tables.rows().len() {
         let seed = tables.rows().entry(k).seed;
         let turns = has_turned(along, modes, seed.master);
-        choose_if(tables, turns, seed.slave, kinds, states, needs, power);
+        choose_if(tables, turns, seed.slave, used, kinds, states, needs, power);
         changed = changes_use(tables, changed, turns, seed.slave, used);
     }
     changed
@@ -124,11 +126,12 @@ pub(crate) fn has_turned(along: &Along, modes: &[Mode], m: usize) -> bool
 }
 
 /// The state of the slave at a place, if it is asked for, and whether it needs its power node then, which follows that. It
-/// doesn't rest.
+/// doesn't rest unless it is as it is kept.
 fn choose_if(
     tables: &Tables,
     asked: bool,
     s: usize,
+    used: &[bool],
     kinds: &mut Kinds,
     states: &mut [u32],
     needs: &mut [bool],
@@ -142,21 +145,57 @@ fn choose_if(
     ensures needs { needs.new ≡ renewed_at asked (need_of tables.now.now.core) s
         (slice_get tables.now.fixed.topology.slaves s) needs.old }
     ensures kinds { kinds.new.items ≡ kinds.old.items }
-    ensures woken { asked ≡ true → (k : ℕ) → slice_get kinds.old.items k ≡ Some (Entry (Slave s))
-        → rests_at kinds.new.awake k ≡ false }
+    ensures rests { asked ≡ true → (k : ℕ) → slice_get kinds.old.items k ≡ Some (Entry (Slave s))
+        → rests_at kinds.new.awake k ≡ true → is_as_kept states.old used.now s tables.now ≡ true }
     ensures others { (k : ℕ) → rests_at kinds.new.awake k ≡ true → rests_at kinds.old.awake k ≡ true }
 {
     if !asked {
         return;
     }
-    kinds.wake(s);
-    choose_at(tables, s, states, needs, power);
+    let state = state_of(tables, s);
+    wake_unless(is_as_kept(tables, s, state, states, used), s, kinds);
+    choose_at(tables, s, state, states, needs, power);
 }
 
-/// The state of the slave at a place, if there is one, and whether it needs its power node then, which follows that.
-fn choose_at(tables: &Tables, s: usize, states: &mut [u32], needs: &mut [bool], power: &mut Power)
+/// Whether the slave at a place, for which this state is chosen, is in the state that is kept, and wasn't left without users.
+pub(crate) fn is_as_kept(
+    tables: &Tables,
+    s: usize,
+    state: u32,
+    states: &[u32],
+    used: &[bool],
+) -> bool
+    requires { state ≡ state_at s (slice_get tables.now.fixed.topology.slaves s) tables.now.now.core }
+    ensures { result ≡ is_as_kept states.now used.now s tables.now }
+{
+    state == at_or(states, s, 0) && !freed(UnitKind::Entry(Kind::Slave(s)), used, tables.rows())
+}
+
+/// The slave at a place doesn't rest from now on, unless it is as it is kept.
+fn wake_unless(kept: bool, s: usize, kinds: &mut Kinds)
+    ensures items { kinds.new.items ≡ kinds.old.items }
+    ensures rests { (k : ℕ) → slice_get kinds.old.items k ≡ Some (Entry (Slave s)) → rests_at kinds.new.awake k ≡ true
+        → kept ≡ true }
+    ensures others { (k : ℕ) → rests_at kinds.new.awake k ≡ true → rests_at kinds.old.awake k ≡ true }
+{
+    if !kept {
+        kinds.wake(s);
+    }
+}
+
+/// Writes the state that is chosen for the slave at a place, if there is one, and whether it needs its power node then, which
+/// follows that.
+fn choose_at(
+    tables: &Tables,
+    s: usize,
+    state: u32,
+    states: &mut [u32],
+    needs: &mut [bool],
+    power: &mut Power,
+)
     requires states { length states.old ≡ length tables.now.fixed.topology.slaves }
     requires needs { length needs.old ≡ length tables.now.fixed.topology.slaves }
+    requires state { state ≡ state_at s (slice_get tables.now.fixed.topology.slaves s) tables.now.now.core }
     ensures power { FollowNeeds needs.old needs.new power.old power.new }
     ensures states { states.new ≡ renewed_at true (chosen tables.now.now.core) s
         (slice_get tables.now.fixed.topology.slaves s) states.old }
@@ -164,8 +203,7 @@ fn choose_at(tables: &Tables, s: usize, states: &mut [u32], needs: &mut [bool], 
         (slice_get tables.now.fixed.topology.slaves s) needs.old }
 {
     if let Some(slave) = slave_at(tables.topology().slaves.as_slice(), s) {
-        let chosen = state_of(tables, s);
-        let need = choose_one(tables, s, chosen, slave, states, needs);
+        let need = choose_one(tables, s, state, slave, states, needs);
         power.put(s, need);
     }
 }

@@ -8,7 +8,7 @@ use Rattle.pm_values.proofs.needs.choose_at.Goals as goal
 pub choose_one-need-requires-clause-chosen : goal.choose_one-need-requires-clause-chosen
 choose_one-need-requires-clause-chosen c =
     let core = c.args.tables.now.now.core in
-    c.state_of-chosen.ensures
+    c.requires.state
     ∙ sym (ap (λ o. state_at c.args.s o core)
     (c.in-Some.ensures ∙ (ap (λ (xs : List SlaveDef). slice_get xs c.args.s) c.as_slice.ensures ∙ ap (λ (t : Topology). slice_get t.slaves c.args.s) c.topology.ensures.topology)))
 

@@ -1,13 +1,13 @@
-use Rattle.std.proofs.Common.{◌≡◌, ℕ, Bool, true, false, List, slice_get, Some, refl, sym, ◌∙◌, ap}
+use Rattle.std.proofs.Common.{◌≡◌, ℕ, ◌==◌, ◌&&◌, Bool, true, false, not, List, take, slice_get, unwrap_or, Option, Some, refl, arith, sym, subst, ◌∙◌, ap, inl}
 use Rattle.pm_topology.specs.declared.places.Kind.TheVariants.{Slave}
 use Rattle.pm_rows.specs.Rows.{Rows}
 use Rattle.pm_rows.specs.declared.row.Entry.{Entry as RowEntry}
-use Rattle.pm_state.specs.Values.{chosen, need_of}
-use Rattle.pm_values.specs.Caches.{use_of}
+use Rattle.pm_state.specs.Values.{chosen, need_of, state_at}
+use Rattle.pm_values.specs.Caches.{freed_by, use_of}
 use Rattle.pm_values.specs.declared.caches.UnitKind.{UnitKind}
 use Rattle.pm_values.specs.declared.caches.UnitKind.TheVariants.{Entry}
-use Rattle.pm_values.specs.Touches.{turned}
-use Rattle.pm_values.proofs.RenewedLaw.{none_next, renewed_next, renewed_none, renewed_of_none}
+use Rattle.pm_values.specs.Touches.{is_among, is_as_kept, turned}
+use Rattle.pm_values.proofs.RenewedLaw.{renewed_left, renewed_next, renewed_none, renewed_of_none, right_next}
 use Rattle.pm_values.proofs.FollowLaw.{more_needs, no_need}
 use Rattle.pm_values.proofs.needs.choose_turned.Goals as goal
 
@@ -22,7 +22,7 @@ loop-k-init c =
       states = sym (renewed_none (chosen core) 0 slaves c.args.states.now c.requires.states);
       needs = sym (renewed_none (need_of core) 0 slaves c.args.needs.now c.requires.needs);
       follow = no_need c.args.needs.now c.args.power.now;
-      rests = λ j s there is. refl;
+      rests = λ j s there is. inl refl;
       uses = λ no. sym (renewed_of_none (use_of core) 0 slaves c.args.used.now);
     }
 
@@ -46,14 +46,21 @@ loop-k-preserved c =
       follow = more_needs c.args.needs.now c.loop-k.needs c.choose_if.new.needs c.args.power.now c.loop-k.power c.choose_if.new.power
           c.loop-k.invariant.follow c.choose_if.ensures.power;
       rests = λ j s there is.
-          none_next test entries k entry c.has_turned-turns.result s at c.has_turned-turns.ensures
+          right_next (is_as_kept c.args.states.now c.args.used.now s c.args.tables.now ≡ true) test entries k entry c.has_turned-turns.result s at c.has_turned-turns.ensures
           (c.loop-k.invariant.rests j s there (c.choose_if.ensures.others j is))
-          (λ so same.
+          (λ so same none.
           let own : slice_get c.loop-k.kinds.items j ≡ Some (Entry (Slave entry.seed.slave)) =
           ap (λ (ks : List UnitKind). slice_get ks j) c.loop-k.invariant.kinds ∙ (there ∙ ap (λ n. Some (Entry (Slave n))) (sym same))
           in
-          let no : false ≡ true = sym (c.choose_if.ensures.woken so j own) ∙ is in
-          cc);
+          let kept : is_as_kept c.loop-k.states c.args.used.now s c.args.tables.now ≡ true =
+          ap (λ n. is_as_kept c.loop-k.states c.args.used.now n c.args.tables.now) (sym same) ∙ c.choose_if.ensures.rests so j own is
+          in
+          let item : slice_get c.loop-k.states s ≡ slice_get c.args.states.now s =
+          ap (λ (ss : List ℕ). slice_get ss s) c.loop-k.invariant.states
+          ∙ renewed_left (chosen core) (is_among test (take k entries)) 0 s s slaves c.args.states.now (omega arith) none
+          in
+          let So : Option ℕ → Type 0 = λ o. ((state_at s (slice_get slaves s) core == unwrap_or o 0) && not (freed_by c.args.used.now core.rows (Entry (Slave s)))) ≡ true in
+          subst So item kept);
       uses = λ no. renewed_next (use_of core) test entries k entry slaves c.args.used.now c.args.used.now c.args.used.now c.has_turned-turns.result at
           c.has_turned-turns.ensures (c.loop-k.invariant.uses (c.changes_use-changed.ensures.before no)) (sym (c.changes_use-changed.ensures.here no));
     }

@@ -1,8 +1,8 @@
-use Rattle.std.proofs.Common.{◌≡◌, ◌++◌, ℕ, Bool, List, length, take, drop, slice_get, refl, subst, sym, ◌∙◌, ap}
+use Rattle.std.proofs.Common.{◌≡◌, ◌++◌, ◌⊎◌, ℕ, Bool, false, true, List, length, take, drop, slice_get, refl, subst, sym, ◌∙◌, ap}
 use Rattle.pm_state.specs.Values.{forest, placed, chosen, need_of, run_of}
 use Rattle.pm_values.specs.Caches.{renewed, use_of}
 use Rattle.pm_values.specs.declared.caches.UnitKind.{UnitKind}
-use Rattle.pm_values.specs.Touches.{is_among, turned}
+use Rattle.pm_values.specs.Touches.{is_among, is_as_kept, turned}
 use Rattle.pm_values.proofs.CachesLaw.{written_back}
 use Rattle.pm_values.proofs.FollowLaw.{followed_is}
 use Rattle.pm_values.proofs.ModesLaw.{chosen_same, needed_same}
@@ -68,7 +68,15 @@ returns-clause-chosen c = record {
 
 pub returns-clause-rests : goal.returns-clause-rests
 returns-clause-rests c = λ k s there is.
-    c.choose_turned-changed.ensures.rests k s (ap (λ (ks : List UnitKind). slice_get ks k) (sym c.choose_turned-changed.ensures.kinds) ∙ there) is
+    let entries = c.args.tables.now.now.core.rows.entries in
+    let Right : List ℕ → List Bool → Type 0 = λ ss us.
+    (is_among (turned c.args.modes.now c.args.along.now.modes) entries s ≡ false) ⊎ (is_as_kept ss us s c.args.tables.now ≡ true)
+    in
+    let Kept : List Bool → Type 0 = λ us. Right c.args.self.now.states.items us in
+    let States : List ℕ → Type 0 = λ ss. Right ss c.deref.result.now in
+    subst Kept c.deref.ensures.value
+    (subst States c.deref_mut.ensures.value
+    (c.choose_turned-changed.ensures.rests k s (ap (λ (ks : List UnitKind). slice_get ks k) (sym c.choose_turned-changed.ensures.kinds) ∙ there) is))
 
 pub returns-clause-uses : goal.returns-clause-uses
 returns-clause-uses c = λ no.
