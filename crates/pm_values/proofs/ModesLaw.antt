@@ -1,5 +1,5 @@
 -- After a step that changed modes, and rows of the masters whose mode turned, all other slaves and all reset lines are as before.
-use Rattle.std.proofs.Common.{◌≡◌, ℕ, ◌==◌, ◌&&◌, Bool, true, false, not, List, [], length, slice_get, unwrap_or, Option, Some, None, refl, arith, ap, sym, ◌∙◌, subst, ◌⊎◌, inl, inr}
+use Rattle.std.proofs.Common.{◌≡◌, ℕ, ◌==◌, ◌&&◌, Bool, true, false, not, List, [], slice_get, unwrap_or, Option, Some, None, refl, arith, ap, sym, ◌∙◌, subst, ◌⊎◌, inl, inr}
 use Rattle.std.specs.Prelude.{option_map}
 use Rattle.std.proofs.lemmas.Bool.{eq-eqb, eqb-true}
 use Rattle.std.proofs.lemmas.Option.{slice_get-map}
@@ -137,6 +137,7 @@ modes_settled modes book along old new of_modes chosen_by stay resting = λ k ki
       | inl none ↦ inl none
       | inr is ↦ inr (kept_so book of_modes.before old new.used.items of_modes.kept.states chosen_by.used s is)
     ]
+
     by : (k : ℕ) (kind : UnitKind) → slice_get new.kinds.items k ≡ Some kind → rests_at new.kinds.awake k ≡ true → (b : Bool) → is_slave_or_line kind ≡ b
         → (started_at along.downs book.now.core.procs kind (slice_get new.values k) ≡ [])
         × (is_settled (value_by book.fixed book.now.core kind) (freed_by new.used.items book.now.core.rows kind) (slice_get new.values k) ≡ true)

@@ -5,6 +5,7 @@
 mod along;
 mod caches;
 mod choice;
+mod following;
 mod kinds;
 mod laws;
 mod marks;

@@ -78,8 +78,8 @@ pub(crate) fn choose_one(
 }
 
 /// Chooses the states of the slaves on which a master has a row whose mode turned, and whether they need their power nodes
-/// then, which follow that. All other units rest. Whether it changed of one of these slaves that some master uses it, by
-/// what is kept of that.
+/// then, which follow that. All other units rest, and those of these slaves that are as they are kept. The answer is whether
+/// it changed of one of these slaves that some master uses it, by what is kept of that.
 pub(crate) fn choose_turned(
     tables: &Tables,
     along: &Along,

@@ -1,4 +1,4 @@
-use Rattle.std.proofs.Common.{◌≡◌, ℕ, ◌==◌, ◌&&◌, Bool, true, false, not, List, take, slice_get, unwrap_or, Option, Some, refl, arith, sym, subst, ◌∙◌, ap, inl}
+use Rattle.std.proofs.Common.{◌≡◌, ℕ, ◌==◌, ◌&&◌, Bool, true, not, List, take, slice_get, unwrap_or, Option, Some, refl, arith, sym, subst, ◌∙◌, ap, inl}
 use Rattle.pm_topology.specs.declared.places.Kind.TheVariants.{Slave}
 use Rattle.pm_rows.specs.Rows.{Rows}
 use Rattle.pm_rows.specs.declared.row.Entry.{Entry as RowEntry}
