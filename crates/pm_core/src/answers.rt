@@ -4,6 +4,10 @@ ghost use Rattle.std.specs.Prelude.{◌≡◌};
 ghost use Rattle.pm_ipi.specs.Calls.{ack_of, node_of};
 ghost use Rattle.pm_values.specs.Caches.{AreKept};
 ghost use Rattle.pm_core.specs.Step.{acknowledged, answer_by, answer_of};
+ghost use Rattle.pm_core.specs.declared.replies.Answer.TheVariants.{Ack};
+ghost use Rattle.pm_procs.specs.Modes.{is_awake};
+ghost use Rattle.pm_state.specs.Nodes.{master_mode};
+ghost use Rattle.pm_state.specs.Values.{point};
 
 use crate::replies::Answer;
 use pm_base::NodeId;
@@ -16,28 +20,28 @@ use pm_values::{Caches, point};
 
 /// What the sender of a message gets by the verdict on it, in the book after it. It is left in a place of the caller.
 #[inline(always)]
-pub(crate) fn answer(tables: &Tables, caches: &Caches, served: &Option<Served>, place: &mut Answer)
+pub(crate) fn answer(tables: &Tables, caches: &Caches, served: &Option<Served>, answer: &mut Answer)
     requires { AreKept tables.now caches.now }
-    ensures { place.new ≡ answer_by served.now tables.now }
+    ensures { answer.new ≡ answer_by served.now tables.now }
 {
     match served {
-        None => *place = Answer::Silent,
-        Some(served) => answer_to(tables, caches, served, place),
+        None => *answer = Answer::Silent,
+        Some(served) => answer_to(tables, caches, served, answer),
     }
 }
 
-fn answer_to(tables: &Tables, caches: &Caches, served: &Served, place: &mut Answer)
+fn answer_to(tables: &Tables, caches: &Caches, served: &Served, answer: &mut Answer)
     requires { AreKept tables.now caches.now }
-    ensures { place.new ≡ answer_of served.now.verdict served.now.master served.now.call tables.now }
+    ensures { answer.new ≡ answer_of served.now.verdict served.now.master served.now.call tables.now }
 {
     let master = served.master;
     if matches!(served.verdict, Verdict::Dropped) {
-        *place = Answer::Drop { master };
+        *answer = Answer::Drop { master };
         return;
     }
     match served.verdict.response() {
-        Some(response) => acknowledge(tables, caches, master, &served.call, response, place),
-        None => *place = Answer::Silent,
+        Some(response) => acknowledge(tables, caches, master, &served.call, response, answer),
+        None => *answer = Answer::Silent,
     }
 }
 
@@ -47,22 +51,39 @@ fn acknowledge(
     master: NodeId,
     call: &Call,
     response: Response,
-    place: &mut Answer,
+    answer: &mut Answer,
 )
     requires { AreKept tables.now caches.now }
-    ensures { place.new ≡ acknowledged (ack_of call.now) master (node_of call.now) response tables.now }
+    ensures { answer.new ≡ acknowledged (ack_of call.now) master (node_of call.now) response tables.now }
 {
     match call.ack() {
-        AckKind::No => *place = Answer::Silent,
-        AckKind::Blocking => *place = Answer::Reply { master, response },
+        AckKind::No => *answer = Answer::Silent,
+        AckKind::Blocking => *answer = Answer::Reply { master, response },
         AckKind::NonBlocking => {
-            *place = Answer::Ack {
-                master,
-                node: call.node(),
-                status: response.status,
-                point: point(tables, caches, call.node()),
-                shown: is_awake(tables.master_mode(master)),
-            };
+            call_back(tables, caches, master, call.node(), response.status, answer);
         }
     }
+}
+
+/// The acknowledge callback, with the operating point of its node. It isn't compiled into the other answers, which look
+/// nothing up.
+#[inline(never)]
+fn call_back(
+    tables: &Tables,
+    caches: &Caches,
+    master: NodeId,
+    node: NodeId,
+    status: u32,
+    answer: &mut Answer,
+)
+    requires { AreKept tables.now caches.now }
+    ensures { answer.new ≡ Ack master node status (point node tables.now) (is_awake (master_mode master tables.now)) }
+{
+    *answer = Answer::Ack {
+        master,
+        node,
+        status,
+        point: point(tables, caches, node),
+        shown: is_awake(tables.master_mode(master)),
+    };
 }

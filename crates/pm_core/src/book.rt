@@ -9,7 +9,7 @@ ghost use Rattle.pm_state.specs.Load.{load_of};
 ghost use Rattle.pm_core.specs.Begun.{IsBegun};
 ghost use Rattle.pm_core.specs.Outbox.{HasRoom, HasRoomFor, Holds, IsEmpty, KeepsRoom};
 ghost use Rattle.pm_perms.specs.Permits.{may_use};
-ghost use Rattle.pm_core.specs.Step.{effect, outputs, outputs_at_load, is_refused};
+ghost use Rattle.pm_core.specs.Step.{effect, leaves_values, outputs, outputs_at_load, is_refused};
 ghost use Rattle.pm_core.specs.Usage.{usage};
 ghost use Rattle.pm_state.specs.State.{in_force, objects_of};
 ghost use Rattle.pm_state.specs.Sound.{IsSound, StandsAsWanted, MeetsRequirements};
@@ -37,8 +37,8 @@ use std::marker::Model;
 /// of a master and a slave, the mode and resume address of each processor, whether each reset line is
 /// asserted, whether all is halted, and for each master the request to suspend that is pending on it and
 /// its notes about each unit of the chip. These contracts see. It also keeps what is found of the values,
-/// what is logged of a step until the masters are told of it, and the place in which the last message stands with the
-/// verdict on it.
+/// what is logged of a step until the masters are told of it, and the place for the message of an event and the verdict
+/// on it, which is used again by the next one.
 #[derive(Drop)]
 pub struct Book {
     pub(crate) tables: Tables,
@@ -141,10 +141,6 @@ impl Book {
         ensures sound { IsSound self.new }
         ensures met { MeetsRequirements self.new (λ u. value u self.new) }
     {
-        units_stand_in_order();
-        kinds_are_exact();
-        books_stay_sound();
-        values_meet();
         out.clear();
         let still = leaves_values(&self.tables, event);
         // Nothing comes of such an event.
@@ -152,6 +148,23 @@ impl Book {
             self.stays_sound();
             return;
         }
+        self.proceed(still, event, out);
+        self.stays_sound();
+    }
+
+    /// The same of an event of which something may come, with an empty outbox, where it is told whether the event changes
+    /// no value.
+    fn proceed(&mut self, still: bool, event: &Event, out: &mut Outbox)
+        requires still { still ≡ leaves_values event.now self.old }
+        requires room { HasRoomFor self.old out.old }
+        requires empty { IsEmpty out.old }
+        ensures book { self.new ≡ effect event.now self.old }
+        ensures out { Holds (outputs event.now self.old) out.new }
+        ensures room { KeepsRoom out.old out.new }
+    {
+        units_stand_in_order();
+        kinds_are_exact();
+        books_stay_sound();
         let count = time_of(&self.tables, event);
         advance(
             &mut self.tables,
@@ -221,11 +234,12 @@ impl Book {
     /// What holds of every book: its chip has passed its check, the book is sound and meets its requirements, and each
     /// node that needs power in its value stands directly below a power node that is up.
     ///
-    /// That it is sound: the object in force is one of the run's, exactly the pairs that it permits have a row, a slave that can't be shared has one user at most, the
-    /// rows know the modes of the masters, nothing is scheduled while a master is active, one that is off uses nothing,
-    /// a processor that no configured master has is off, a reset line that no object of the run lets any master reset is released, a row that
-    /// is armed names a processor of its own master, the node of a request to suspend names the master on which it is
-    /// pending, and each master has notes about each unit of the chip.
+    /// That it is sound: the object in force is one of the run's, exactly the pairs that it permits have a row, a slave
+    /// that can't be shared has one user at most, the rows know the modes of the masters, nothing is scheduled while a
+    /// master is active, one that is off uses nothing, a processor that no configured master has is off, a reset line
+    /// that no object of the run lets any master reset is released, a row that is armed names a processor of its own
+    /// master, the node of a request to suspend names the master on which it is pending, and each master has notes
+    /// about each unit of the chip.
     ///
     /// That it meets its requirements: each slave stands in the first of its states that meets all that is required of
     /// it, each processor is at 1 exactly where it is active or suspending, and each power node is up exactly where it
@@ -323,8 +337,8 @@ impl Book {
         self.tables.row(master, slave)
     }
 
-    /// Who uses a slave, as a configured master is told: 0 nobody, 1 that master alone, 2 others alone, 3 both. There is
-    /// no answer where the master isn't configured, or the slave isn't in the table.
+    /// Who uses a slave, as a configured master is told: 0 nobody, 1 that master alone, 2 others alone, 3 both. There
+    /// is no answer where the master isn't configured, or the slave isn't in the table.
     pub fn usage(&self, master: NodeId, slave: NodeId) -> Option<u32>
         ensures { result ≡ usage master slave self.now }
     {
