@@ -1,4 +1,5 @@
--- What is logged of a step is begun before it, and a step of which nobody is told but by what happened to nodes.
+-- What is logged of a step before its first stage, and messages after which the masters are told of nothing but what
+-- happened to nodes.
 use Rattle.std.specs.Prelude.{◌≡◌, ℕ, Bool, false, [], Option, Some, None}
 use Rattle.pm_tell.specs.declared.served.Served.{Served}
 use Rattle.pm_tell.specs.declared.telling.Telling.{Telling}

@@ -5,7 +5,7 @@ ghost use Rattle.pm_topology.specs.Places.{kind_of};
 ghost use Rattle.pm_calls.specs.calls.{is_once, only_reads, shape_of};
 ghost use Rattle.pm_values.specs.Caches.{AreKept};
 ghost use Rattle.pm_state.specs.Stages.{after_stages, path_from};
-ghost use Rattle.pm_step.specs.Step.{call_in, configures, is_action, is_proc_in, keeps_procs, keeps_values, leaves_values, may_call, may_change, may_move, is_idle, is_ipi, is_once_in, is_quiet, message_stages, path, rests, row_node, row_place, served, stages, time_of, touched, touched_at, touched_in, touched_unless, verdict};
+ghost use Rattle.pm_step.specs.Step.{call_in, configures, is_action, is_proc_in, keeps_procs, keeps_values, leaves_values, may_call, may_change, may_move, is_idle, is_ipi, is_once_in, is_quiet, message_stages, path, rests, row_node, row_place, served, stages, time_of, touched, touched_at, touched_in, touched_unless, verdict as verdict_on};
 ghost use Rattle.pm_step.specs.Fresh.{IsFresh};
 ghost use Rattle.pm_tell.specs.Telling.{HasPlaces};
 ghost use Rattle.pm_values.specs.Along.{Completes, IsTrail, modes_of, trail_from};
@@ -99,8 +99,8 @@ pub fn begin_after(tables: &Tables, event: &Event, served: &Option<Served>, tell
     }
 }
 
-/// Its stages and its verdict. Logging the modes after them completes what was logged along the step; where there is one
-/// stage at most, nothing was logged along it.
+/// Its stages and its verdict. Logging the modes after them completes what was logged along the step; where there is
+/// one stage at most, nothing was logged along it.
 fn take(
     tables: &mut Tables,
     caches: &Caches,
@@ -120,8 +120,8 @@ fn take(
         if let Some(served) = taken {
             served.master = *master;
             served.call = decode_call(message);
-            let place = &mut served.verdict;
-            receive(tables, caches, *master, &served.call, along, place);
+            let verdict = &mut served.verdict;
+            receive(tables, caches, *master, &served.call, along, verdict);
         }
         return;
     }
@@ -148,11 +148,8 @@ fn happen(tables: &mut Tables, event: &Event)
     requires { is_ipi event.now ≡ false }
     ensures { tables.new ≡ after_stages (stages event.now tables.old) tables.old }
 {
-    let halted = tables.is_halted();
-    if halted {
-        return;
-    }
     match event {
+        _ if tables.is_halted() => {}
         Event::Boot { proc, address } => boot(tables, *proc, *address),
         Event::Wfi { proc } => wait(tables, *proc),
         Event::Irq { slave } => raise(tables, *slave),
@@ -168,24 +165,24 @@ fn receive(
     master: NodeId,
     call: &Call,
     along: &mut Along,
-    place: &mut Verdict,
+    verdict: &mut Verdict,
 )
     requires kept { AreKept tables.old caches.now }
     requires along { along.old ≡ trail_from tables.old }
     ensures book { tables.new ≡ after_stages (message_stages (call_in master call.now tables.old)) tables.old }
-    ensures verdict { place.new ≡ verdict (call_in master call.now tables.old) }
+    ensures verdict { verdict.new ≡ verdict_on (call_in master call.now tables.old) }
     ensures along { Completes tables.old
         (path_from (message_stages (call_in master call.now tables.old)) tables.old) tables.new along.new }
     ensures still { is_once call.now ≡ true → along.new ≡ along.old }
 {
     if let Some(m) = tables.master_place(master) {
         if may_call(tables, m) {
-            serve(tables, caches, m, call, along, place);
+            serve(tables, caches, m, call, along, verdict);
         } else {
-            *place = Verdict::Dropped;
+            *verdict = Verdict::Dropped;
         }
     } else {
-        *place = Verdict::Dropped;
+        *verdict = Verdict::Dropped;
     }
 }
 
@@ -267,7 +264,8 @@ fn is_once_in(served: &Option<Served>) -> bool
     }
 }
 
-/// Whether an event has no stage, by the verdict on its message, and none is logged of it.
+/// Whether an event has no stage, by the verdict on its message, and nothing was logged along it, since its call is
+/// none that takes processors down.
 fn rests(event: &Event, served: &Option<Served>) -> bool
     ensures { result ≡ rests event.now served.now }
 {

@@ -82,8 +82,8 @@ notes_to news k notes = flat_map (acknowledged_to k) news.ended ++ flat_map (not
 abbrev pub no_news : News
 no_news = record { asked = None; ended = []; notices = [] }
 
--- nothing to tell to masters with these notes: none is asked to suspend, no request ended, and none has asked to be told
--- of what happened to nodes
+-- nothing to tell to masters with these notes: none is asked to suspend, no request ended, and none has asked to be
+-- told of what happened to nodes
 pub record IsQuiet (news : News) (notes : List MasterNotes) : Type 0 where
   pub asked : news.asked ≡ None
   pub ended : news.ended ≡ []

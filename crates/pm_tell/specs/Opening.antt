@@ -26,8 +26,8 @@ lower_by (Some count) = Lower count ∷ []
 abbrev pub ends : List Ended → List Talk
 ends ended = map (λ (e : Ended). End e.target) ended
 
--- what the masters are told is as at load, if all is restarted; and none is told of anything any more, if another object is in
--- force
+-- what the masters are told is as at load, if all is restarted; and none is told of anything any more, if another
+-- object is in force
 abbrev pub sweep_by : Option Say → List Talk
 sweep_by (Some SaysRenew) = Renew ∷ []
 sweep_by (Some SaysUnwatch) = Unwatch ∷ []
@@ -39,7 +39,8 @@ say_by (Some (SaysAsk asked)) = Ask asked.target asked.request ∷ []
 say_by (Some (SaysRegister put)) = Notify put.master put.node put.event put.on ∷ []
 say_by _ = []
 
--- what a step does before any master is told of it: all is as at load, if all is restarted, or no notifier is left, if another
--- object is in force; masters that became off forget, a notifier is put or a master is asked, time passes, and requests end
+-- what a step does before any master is told of it: all is as at load, if all is restarted, or no notifier is left, if
+-- another object is in force; masters that became off forget, a notifier is put or a master is asked, time passes, and
+-- requests end
 abbrev pub talk_of : Option Say → List Talk → Option ℕ → List Ended → List Talk
 talk_of says forgets count ended = sweep_by says ++ (forgets ++ (say_by says ++ (lower_by count ++ ends ended)))

@@ -30,8 +30,8 @@ pub(crate) fn open(
     end_requests(tables, telling.ended());
 }
 
-/// What the masters are told is as at load, if all is restarted; and none is told of anything any more, if another object
-/// is in force.
+/// What the masters are told is as at load, if all is restarted; and none is told of anything any more, if another
+/// object is in force.
 fn renew(tables: &mut Tables, says: Option<Say>)
     ensures { tables.new ≡ talked (sweep_by says) tables.old }
 {
