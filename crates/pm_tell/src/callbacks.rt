@@ -334,6 +334,10 @@ fn tell_notices(
           (flat_map (spec.noticed_by (notes_of_master k tables.now)) notices.now);
     } }
 {
+    // Most books have no notifier at all.
+    if !tables.notify().may_ask() {
+        return;
+    }
     for notice in notices {
         if is_wanted(tables, k, *notice) {
             callbacks.push(callback_of(tables, caches, master, *notice));
