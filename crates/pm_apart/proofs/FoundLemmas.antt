@@ -9,7 +9,7 @@ use Rattle.pm_run.specs.Run.{Line as ScriptLine, Setup, run}
 use Rattle.pm_laws.specs.Both.{Both}
 use Rattle.pm_laws.specs.Quiet.{quiet}
 use Rattle.pm_apply.specs.Part.{Kept}
-use Rattle.pm_apply.specs.Record.{at_zero}
+use Rattle.pm_record.specs.Record.{at_zero}
 use Rattle.pm_trace.specs.declared.line.Word.{Word}
 use Rattle.pm_drive.specs.Drive.{answers_after, drive, drive_line, driven, until}
 use Rattle.pm_drive.proofs.DroveLaw.{until-drive}

@@ -17,7 +17,7 @@ use Rattle.pm_laws.specs.Pulse.{pulse_beyond}
 use Rattle.pm_apply.specs.declared.turns.Turn.{Turn}
 use Rattle.pm_apply.specs.declared.turns.Turn.TheVariants.{PowerOn, Pulse, Apply, PowerOff}
 use Rattle.pm_apply.specs.Plan.{apply, command, due, plan, power_places, pulse_before, pulse_turn, take_turn, turns_of, unit_turns, where_due, with_pulse}
-use Rattle.pm_apply.specs.Record.{Kept, keep, kept_value}
+use Rattle.pm_record.specs.Record.{Kept, keep, kept_value}
 use Rattle.pm_apart.specs.Lines.{is_on}
 use Rattle.pm_apart.proofs.FilterLemmas.{kept_in, left_out, made_alike, parts_alike}
 use Rattle.pm_apart.proofs.NodeCommands.{moves, moves_none}

@@ -13,7 +13,7 @@ use Rattle.pm_board.specs.Board.{Standing}
 use Rattle.pm_run.specs.Run.{Line, Setup, fixed_of, run}
 use Rattle.pm_laws.specs.Quiet.{quiet}
 use Rattle.pm_apply.specs.Part.{Kept}
-use Rattle.pm_apply.specs.Record.{at_zero}
+use Rattle.pm_record.specs.Record.{at_zero}
 use Rattle.pm_trace.specs.declared.step.StepLine.TheVariants as told
 use Rattle.pm_trace.specs.Step.{step_words}
 use Rattle.pm_drive.specs.Drive.{Driven, drive, driven, last_book, last_kept, until}

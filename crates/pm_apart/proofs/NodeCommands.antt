@@ -16,7 +16,7 @@ use Rattle.pm_apply.specs.declared.turns.Turn.{Turn}
 use Rattle.pm_apply.specs.declared.turns.Turn.TheVariants.{PowerOn, Pulse, Apply, PowerOff}
 use Rattle.pm_apply.specs.Part.{orders_of}
 use Rattle.pm_apply.specs.Plan.{command, due, plan, take_turn}
-use Rattle.pm_apply.specs.Record.{Kept, keep, kept_value}
+use Rattle.pm_record.specs.Record.{Kept, keep, kept_value}
 use Rattle.pm_apart.specs.Lines.{is_on}
 use Rattle.pm_apart.proofs.FilterLemmas.{kept_in, left_out}
 use Rattle.pm_apart.proofs.RecordFacts.{ChipLaws, other_kept, own_kept, units_stay}

@@ -23,7 +23,7 @@ use Rattle.pm_laws.specs.Pulse.{pulse_beyond}
 use Rattle.pm_laws.specs.Values.{is_beyond}
 use Rattle.pm_apply.specs.Part.{AllSucceed, AllYes, Kept, Part, order_of, orders_of, part_of}
 use Rattle.pm_apply.specs.Plan.{plan, turns_of}
-use Rattle.pm_apply.specs.Record.{IsRecordOf, kept_value}
+use Rattle.pm_record.specs.Record.{IsRecordOf, kept_value}
 use Rattle.pm_apart.specs.Lines.{is_on}
 use Rattle.pm_apart.proofs.FilterLemmas.{left_out, kept_in}
 use Rattle.pm_apart.proofs.LineCommands.{concerns, line_commands, planned, still_line, turns_alike}

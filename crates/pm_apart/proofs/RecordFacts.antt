@@ -5,8 +5,8 @@ use Rattle.std.specs.Option.{option_map}
 use Rattle.pm_base.specs.declared.names.Unit.{Unit}
 use Rattle.pm_topology.specs.UnitMap.{TableLaws, units_in, value_of}
 use Rattle.pm_topology.specs.Units.{UnitLaws, has_in, same_unit}
-use Rattle.pm_apply.specs.declared.kept.KeptValue.{KeptValue}
-use Rattle.pm_apply.specs.Record.{Kept, idle, keep, kept_of, kept_value, mark, marked}
+use Rattle.pm_record.specs.declared.kept.KeptValue.{KeptValue}
+use Rattle.pm_record.specs.Record.{Kept, idle, keep, kept_of, kept_value, mark, marked}
 
 -- what is known of the units of a chip, and of a record as a table of them
 pub record ChipLaws : Type 0 where

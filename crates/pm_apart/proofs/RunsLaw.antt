@@ -23,7 +23,7 @@ use Rattle.pm_laws.specs.ReachBorder.{border_of}
 use Rattle.pm_laws.specs.Values.{is_beyond}
 use Rattle.pm_laws.specs.Worlds.{AreLinesBeside, AreWorldsBeside}
 use Rattle.pm_apply.specs.Part.{Kept, Part, part_of}
-use Rattle.pm_apply.specs.Record.{IsRecordOf, at_zero, kept_value}
+use Rattle.pm_record.specs.Record.{IsRecordOf, at_zero, kept_value}
 use Rattle.pm_drive.specs.Drive.{Driven, Given, drive, drive_line, driven, give, kept_after, last_book, last_kept}
 use Rattle.pm_drive.proofs.DroveLaw.{run_goes}
 use Rattle.pm_drive.proofs.DroveLemmas.{AllGo, OfRun, last_after, no_answers}

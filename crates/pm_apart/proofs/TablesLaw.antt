@@ -23,7 +23,7 @@ use Rattle.pm_laws.specs.Border.{AreObjects, unit_beyond}
 use Rattle.pm_laws.specs.ReachBorder.{border_of}
 use Rattle.pm_laws.specs.Values.{is_beyond}
 use Rattle.pm_apply.specs.Part.{Kept}
-use Rattle.pm_apply.specs.Record.{kept_value}
+use Rattle.pm_record.specs.Record.{kept_value}
 use Rattle.pm_trace.specs.declared.line.Word.{Word}
 use Rattle.pm_trace.specs.declared.line.Word.TheVariants as word
 use Rattle.pm_trace.specs.Closing.{kind_name, unit_name}

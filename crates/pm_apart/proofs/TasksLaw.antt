@@ -24,7 +24,7 @@ use Rattle.pm_run.specs.Run.{Line as ScriptLine, Setup, Stand, line_of, lines_of
 use Rattle.pm_laws.specs.Both.{Both}
 use Rattle.pm_laws.specs.Quiet.{quiet, quiet_event}
 use Rattle.pm_apply.specs.Part.{Kept}
-use Rattle.pm_apply.specs.Record.{at_zero}
+use Rattle.pm_record.specs.Record.{at_zero}
 use Rattle.pm_trace.specs.declared.line.Word.{Word}
 use Rattle.pm_trace.specs.declared.step.StepLine.{StepLine}
 use Rattle.pm_trace.specs.declared.step.StepLine.TheVariants as told

@@ -13,8 +13,9 @@ use Rattle.pm_topology.specs.declared.topology.Topology.{Topology}
 use Rattle.pm_topology.specs.Units.{needs_power, parent_of_unit}
 use Rattle.pm_core.specs.declared.outbox.Done.{Done}
 use Rattle.pm_apply.specs.declared.turns.Turn.TheVariants.{PowerOn, Pulse, Apply, PowerOff}
-use Rattle.pm_apply.specs.Plan.{command, due, is_fed, is_power, is_used, power_off, power_on, where_due}
-use Rattle.pm_apply.specs.Record.{Kept, kept_value}
+use Rattle.pm_record.specs.Kinds.{is_power}
+use Rattle.pm_apply.specs.Plan.{command, due, is_fed, is_used, power_off, power_on, where_due}
+use Rattle.pm_record.specs.Record.{Kept, kept_value}
 
 -- a command that succeeded, and took a unit from a value to another one
 abbrev pub command_to : Unit → ℕ → ℕ → Done

@@ -29,7 +29,7 @@ use Rattle.pm_clock_laws.specs.Reach.{IsClockBeyond}
 use Rattle.pm_clock_laws.specs.Same.{tree_along as along}
 use Rattle.pm_clock_laws.specs.Worlds.{AreClocksAlike, IsClockAlike, Turn, turn_of, turns}
 use Rattle.pm_apply.specs.Part.{Kept, part_of}
-use Rattle.pm_apply.specs.Record.{at_zero}
+use Rattle.pm_record.specs.Record.{at_zero}
 use Rattle.pm_trace.specs.declared.line.Word.{Word}
 use Rattle.pm_trace.specs.declared.step.StepLine.{StepLine}
 use Rattle.pm_trace.specs.declared.step.StepLine.TheVariants as told

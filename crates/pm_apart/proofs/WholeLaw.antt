@@ -17,7 +17,7 @@ use Rattle.pm_clock_tree.specs.Tree.{Tree}
 use Rattle.pm_board.specs.Board.{Standing}
 use Rattle.pm_run.specs.Run.{IsBookOf, Line as ScriptLine, Setup, Stand, loaded, line_0, line_of, lines_of}
 use Rattle.pm_apply.specs.Part.{Kept}
-use Rattle.pm_apply.specs.Record.{at_zero, kept_value}
+use Rattle.pm_record.specs.Record.{at_zero, kept_value}
 use Rattle.pm_trace.specs.declared.line.Word.{Word}
 use Rattle.pm_trace.specs.declared.line.Word.TheVariants as word
 use Rattle.pm_trace.specs.Closing.{unit_name}

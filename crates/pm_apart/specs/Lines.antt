@@ -18,7 +18,7 @@ use Rattle.pm_split.specs.Split.{Note}
 use Rattle.pm_board.specs.Board.{Standing}
 use Rattle.pm_run.specs.Run.{Setup}
 use Rattle.pm_apply.specs.Part.{Kept}
-use Rattle.pm_apply.specs.Record.{at_zero, kept_value}
+use Rattle.pm_record.specs.Record.{at_zero, kept_value}
 use Rattle.pm_trace.specs.declared.line.Word.{Word}
 use Rattle.pm_trace.specs.declared.line.Word.TheVariants as word
 use Rattle.pm_trace.specs.declared.step.StepLine.TheVariants as told

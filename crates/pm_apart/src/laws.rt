@@ -18,10 +18,11 @@ ghost use Rattle.pm_apart.specs.Apart.{AreDrivenAlike, IsOutOfReach, KeepsApart,
 ghost use Rattle.pm_apart.specs.Lines.{closing_line_of, is_about, run_lines, set_lines, step_lines};
 ghost use Rattle.pm_laws.specs.Border.{AreObjects};
 
-use pm_apply::{KeptValue, a_part_without_refusal, at_zero_is_a_record, each_part_is_safe};
+use pm_apply::{a_part_without_refusal, each_part_is_safe};
 use pm_clock_laws::clocks_keep_apart;
 use pm_device::Device;
 use pm_laws::{reach_is_closed, reach_keeps_apart, values_agree};
+use pm_record::{KeptValue, at_zero_is_a_record};
 use pm_run::books_of_a_run;
 use pm_topology::{unit_maps, units_stand_in_order};
 

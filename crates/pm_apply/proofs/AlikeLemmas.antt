@@ -13,16 +13,17 @@ use Rattle.pm_core.specs.Outbox.{Outputs}
 use Rattle.pm_core.specs.declared.outbox.Done.{Done}
 use Rattle.pm_state.specs.State.{State}
 use Rattle.pm_state.specs.Values.{value}
-use Rattle.pm_apply.proofs.Below.{ChipLaws}
-use Rattle.pm_apply.specs.declared.kept.KeptValue.{KeptValue}
+use Rattle.pm_record.proofs.Below.{ChipLaws}
+use Rattle.pm_record.specs.declared.kept.KeptValue.{KeptValue}
 use Rattle.pm_apply.specs.declared.turns.Turn.{Turn}
 use Rattle.pm_apply.specs.declared.turns.Turn.TheVariants.{PowerOn, Pulse, Apply, PowerOff}
 use Rattle.pm_apply.specs.Part.{part_of}
-use Rattle.pm_apply.specs.declared.supplies.Supply.{Supply}
-use Rattle.pm_apply.specs.Record.{Kept, is_place, kept_of, kept_value, mark, marked, supply_in}
-use Rattle.pm_apply.specs.Plan.{Carried, after_answer, command, done_as, due, is_fed, is_power, is_used, later_answers, next_answer, plan, power_off, power_on, take_turn, turns_of, where_due}
+use Rattle.pm_record.specs.declared.supplies.Supply.{Supply}
+use Rattle.pm_record.specs.Record.{Kept, is_place, kept_of, kept_value, mark, marked, supply_in, after_answer}
+use Rattle.pm_record.specs.Kinds.{is_power}
+use Rattle.pm_apply.specs.Plan.{Carried, command, done_as, due, is_fed, is_used, later_answers, next_answer, plan, power_off, power_on, take_turn, turns_of, where_due}
 use Rattle.pm_apply.proofs.FailingLemmas.{part_by}
-use Rattle.pm_apply.proofs.RecordLemmas.{kept_value-marked, supply_in-marked}
+use Rattle.pm_record.proofs.RecordLemmas.{kept_value-marked, supply_in-marked}
 
 -- ---- what a turn has depends on the values alone
 

@@ -9,13 +9,15 @@ use Rattle.pm_topology.specs.declared.topology.Topology.{Topology}
 use Rattle.pm_topology.specs.UnitMap.{units_in}
 use Rattle.pm_topology.specs.Units.{has_in, has_unit, needs_power, parent_of_unit, rises, units_of}
 use Rattle.pm_topology.specs.WellFormed.{IsWellFormed}
-use Rattle.pm_apply.specs.declared.kept.KeptValue.{KeptValue}
-use Rattle.pm_apply.specs.declared.supplies.Supply.{Supply}
-use Rattle.pm_apply.specs.Plan.{apply, command, is_fed, is_power, where_due}
-use Rattle.pm_apply.specs.Record.{HasSupplies, Kept, kept_of, kept_value, supply_of}
-use Rattle.pm_apply.proofs.Below.{ChipLaws}
-use Rattle.pm_apply.proofs.UsesLemmas.{needs_there}
-use Rattle.pm_apply.proofs.VisitsLemmas.{has_at, kept_at}
+use Rattle.pm_record.specs.declared.kept.KeptValue.{KeptValue}
+use Rattle.pm_record.specs.declared.supplies.Supply.{Supply}
+use Rattle.pm_record.specs.Kinds.{is_power}
+use Rattle.pm_apply.specs.Plan.{apply, command, is_fed, where_due}
+use Rattle.pm_record.specs.Record.{HasSupplies, Kept, kept_of, kept_value, supply_of}
+use Rattle.pm_record.proofs.Below.{ChipLaws}
+use Rattle.pm_apply.proofs.UsedLemmas.{needs_there}
+use Rattle.pm_record.proofs.EntryLemmas.{kept_at}
+use Rattle.pm_record.proofs.EntryLemmas.{has_at}
 
 swapped : (a b c : Bool) → (a && (b && c)) ≡ (b && (a && c))
 swapped true true c = refl

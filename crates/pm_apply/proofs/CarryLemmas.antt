@@ -9,11 +9,11 @@ use Rattle.pm_core.specs.declared.outbox.Outbox.{Outbox}
 use Rattle.pm_core.specs.Outbox.{Outputs, outputs_in}
 use Rattle.pm_state.specs.State.{State}
 use Rattle.pm_state.specs.Values.{value}
-use Rattle.pm_apply.specs.Carried.{AreMarked, Takes}
+use Rattle.pm_apply.specs.Carried.{AreMarked, Takes, StandsAs}
 use Rattle.pm_apply.specs.Order.{IsOrdered, LagsAreExplained}
 use Rattle.pm_apply.specs.Part.{Part, answers_in, orders_in, orders_of, part_in, part_of}
 use Rattle.pm_apply.specs.Plan.{answers_of, plan, turns_of}
-use Rattle.pm_apply.specs.Record.{IsRecordOf, Kept, StandsAs, kept_value, marked}
+use Rattle.pm_record.specs.Record.{IsRecordOf, Kept, kept_value, marked}
 use Rattle.pm_apply.proofs.FailingLemmas.{part_after, part_by}
 
 -- what holds of the commands of a step and of the record that they leave

@@ -19,8 +19,8 @@ use Rattle.pm_topology.specs.Units.{UnitLaws, entry_count, is_before, rises, sam
 use Rattle.pm_core.specs.Outbox.{command_count}
 use Rattle.pm_apply.specs.declared.turns.Turn.{Turn}
 use Rattle.pm_apply.specs.declared.turns.Turn.TheVariants.{PowerOn, Pulse, Apply, PowerOff}
-use Rattle.pm_apply.specs.Record.{Kept}
-use Rattle.pm_apply.specs.Plan.{plan, due, power_on, power_off, where_due, take_turn, after_answer, next_answer, later_answers, power_places, pulse_turn, turns_of, with_pulse, Carried}
+use Rattle.pm_record.specs.Record.{Kept, after_answer}
+use Rattle.pm_apply.specs.Plan.{plan, due, power_on, power_off, where_due, take_turn, next_answer, later_answers, power_places, pulse_turn, turns_of, with_pulse, Carried}
 use Rattle.pm_apply.specs.Room.{most, most_of}
 use Rattle.pm_apply.proofs.TurnsLemmas.{raises, lowers}
 use Rattle.pm_apply.proofs.PulseLemmas.{settle_pulses, turns_are}

@@ -15,14 +15,16 @@ use Rattle.pm_topology.specs.WellFormed.{IsWellFormed}
 use Rattle.pm_core.specs.declared.outbox.Done.{Done}
 use Rattle.pm_state.specs.Fed.{IsFed}
 use Rattle.pm_topology.specs.Units.{units_of}
-use Rattle.pm_apply.proofs.Below.{ChipLaws}
+use Rattle.pm_record.proofs.Below.{ChipLaws}
 use Rattle.pm_apply.specs.declared.turns.Turn.{Turn}
 use Rattle.pm_apply.specs.declared.turns.Turn.TheVariants.{PowerOn, PowerOff}
-use Rattle.pm_apply.specs.Record.{Kept, kept_value, IsRecordOf}
-use Rattle.pm_apply.specs.Plan.{plan, turns_of, power_places, is_power}
+use Rattle.pm_record.specs.Record.{Kept, kept_value, IsRecordOf}
+use Rattle.pm_record.specs.Kinds.{is_power}
+use Rattle.pm_apply.specs.Plan.{plan, turns_of, power_places}
 use Rattle.pm_apply.specs.Order.{IsOnPath, IsExplained, LagsAreExplained}
 use Rattle.pm_apply.proofs.PlanLeads.{Leads, leads_append}
-use Rattle.pm_apply.proofs.OrdersUnits.{is_listed, listed-is, IsPowerAt, power_kind, power_place_of}
+use Rattle.pm_record.proofs.KindsLemmas.{power_kind}
+use Rattle.pm_apply.proofs.OrdersUnits.{is_listed, listed-is, IsPowerAt, power_place_of}
 use Rattle.pm_apply.proofs.OrdersFailed.{FailsAtOrAbove}
 use Rattle.pm_apply.proofs.OrdersPowerOn.{Raised, raise_from}
 use Rattle.pm_apply.proofs.OrdersApply.{IsStarved, Lags, Settled, settle_all}

@@ -20,7 +20,7 @@ use Rattle.pm_apply.specs.Carried.{KeepsRest}
 use Rattle.pm_apply.specs.Failing.{failed_answer, falls_short, is_failed_pulse, pulse_failed, some_differ, told_answer}
 use Rattle.pm_apply.specs.Part.{AllSucceed, Part}
 use Rattle.pm_apply.specs.Plan.{Carried}
-use Rattle.pm_apply.specs.Record.{Kept, kept_value, marked}
+use Rattle.pm_record.specs.Record.{Kept, kept_value, marked}
 
 -- the part of a step whose commands were these
 abbrev pub part_by : (Unit → ℕ) → Outputs → List Done → Kept → Part

@@ -5,13 +5,13 @@ use Rattle.pm_base.specs.declared.names.LineId.{LineId}
 use Rattle.pm_base.specs.declared.names.Unit.{Unit}
 use Rattle.pm_topology.specs.declared.topology.Topology.{Topology}
 use Rattle.pm_apply.specs.declared.turns.Turn.{Turn}
-use Rattle.pm_apply.proofs.Below.{ChipLaws}
+use Rattle.pm_record.proofs.Below.{ChipLaws}
 use Rattle.pm_apply.specs.Left.{HaveNone}
 use Rattle.pm_apply.specs.Plan.{unit_turns, with_pulse}
-use Rattle.pm_apply.specs.Record.{Kept}
+use Rattle.pm_record.specs.Record.{Kept}
 use Rattle.pm_apply.specs.Visits.{IsIdleAt, IsReady}
 use Rattle.pm_apply.proofs.IdleLemmas.{idle_none}
-use Rattle.pm_apply.proofs.UsedLemmas.{drop_here}
+use Rattle.pm_record.proofs.ListedLemmas.{drop_here}
 
 pub HaveNone-append : (t : Topology) (values : Unit → ℕ) (kept : Kept) (turns others : List Turn) → HaveNone t values kept turns → HaveNone t values kept others → HaveNone t values kept (turns ++ others)
 HaveNone-append t values kept [] others none more = more

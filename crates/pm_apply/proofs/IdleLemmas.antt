@@ -9,13 +9,15 @@ use Rattle.pm_topology.specs.declared.topology.Topology.{Topology}
 use Rattle.pm_topology.specs.declared.topology.PowerDef.{PowerDef}
 use Rattle.pm_topology.specs.UnitMap.{units_in}
 use Rattle.pm_topology.specs.Units.{has_in, needs_power, parent_of_unit, same_unit}
-use Rattle.pm_apply.proofs.Below.{ChipLaws}
+use Rattle.pm_record.proofs.Below.{ChipLaws}
 use Rattle.pm_apply.specs.declared.turns.Turn.{Turn}
 use Rattle.pm_apply.specs.declared.turns.Turn.TheVariants.{PowerOn, Pulse, Apply, PowerOff}
 use Rattle.pm_apply.specs.Left.{HaveNone}
-use Rattle.pm_apply.specs.Record.{Kept, kept_value, lags_in}
-use Rattle.pm_apply.specs.Plan.{command, due, is_fed, is_power, is_used, power_off, power_on, pulse_turn, where_due, with_pulse}
-use Rattle.pm_apply.specs.Visits.{IsIdle, IsIdleTurn, IsReady, pulsed}
+use Rattle.pm_record.specs.Record.{Kept, kept_value, lags_in}
+use Rattle.pm_record.specs.Kinds.{is_power}
+use Rattle.pm_apply.specs.Plan.{command, due, is_fed, is_used, power_off, power_on, pulse_turn, where_due, with_pulse}
+use Rattle.pm_record.specs.Marks.{pulsed}
+use Rattle.pm_apply.specs.Visits.{IsIdle, IsIdleTurn, IsReady}
 
 -- ---- one turn
 

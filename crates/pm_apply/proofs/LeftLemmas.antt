@@ -16,16 +16,17 @@ use Rattle.pm_apply.specs.declared.turns.Turn.{Turn}
 use Rattle.pm_apply.specs.declared.turns.Turn.TheVariants.{PowerOn, Pulse, Apply, PowerOff}
 use Rattle.pm_apply.specs.Carried.{Takes}
 use Rattle.pm_apply.specs.Left.{Answers, Begins, HaveNone, IsFollowed, Passes, Waits, left_from, turns_left}
-use Rattle.pm_apply.specs.Plan.{Carried, after_answer, answers_of, due, plan, pulse_before, turns_of, unit_turns, with_pulse}
-use Rattle.pm_apply.specs.Record.{Kept, supply_in}
+use Rattle.pm_record.specs.Record.{after_answer, Kept, supply_in}
+use Rattle.pm_apply.specs.Plan.{Carried, answers_of, due, plan, pulse_before, turns_of, unit_turns, with_pulse}
 use Rattle.pm_apply.specs.Room.{most, most_of}
-use Rattle.pm_apply.proofs.Below.{ChipLaws}
+use Rattle.pm_record.proofs.Below.{ChipLaws}
 use Rattle.pm_apply.proofs.CountLemmas.{due_most}
 use Rattle.pm_apply.proofs.GapLemmas.{Gap, HaveNone-append}
 use Rattle.pm_apply.proofs.PlanLemmas.{plan-recorded}
-use Rattle.pm_apply.proofs.RecordLemmas.{supply_in-after_answer, supply_in-recorded}
+use Rattle.pm_record.proofs.RecordLemmas.{supply_in-after_answer}
+use Rattle.pm_apply.proofs.RecordLemmas.{supply_in-recorded}
 use Rattle.pm_apply.proofs.TakesLemmas.{Takes-none, Takes-refl, Takes-room, Takes-some, Takes-trans}
-use Rattle.pm_apply.proofs.UsedLemmas.{drop_here}
+use Rattle.pm_record.proofs.ListedLemmas.{drop_here}
 use Rattle.pm_apply.proofs.VisitsLemmas.{Each, Each-front, IsOpen, IsPulseOf, each_turn, no_pulse, none_pulses, plan_open, pulses_of, turn_open}
 
 later_same : (a b : Turn) (xs ys : List Turn) → a ∷ xs ≡ b ∷ ys → xs ≡ ys

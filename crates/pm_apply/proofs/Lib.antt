@@ -1,18 +1,12 @@
 pub mod AlikeLemmas
 pub mod ApplyLemmas
-pub mod Below
 pub mod CarryLemmas
 pub mod CountLemmas
 pub mod ExplainedLaw
 pub mod FailingLemmas
-pub mod FoundLemmas
 pub mod GapLemmas
 pub mod IdleLemmas
-pub mod KindsLemmas
 pub mod LeftLemmas
-pub mod ListedLemmas
-pub mod MarkingLemmas
-pub mod MarksLemmas
 pub mod MovedLemmas
 pub mod OrderLaw
 pub mod OrdersApply
@@ -21,10 +15,10 @@ pub mod OrdersFailed
 pub mod OrdersPowerOff
 pub mod OrdersPowerOn
 pub mod OrdersUnits
-pub mod PlacesLemmas
 pub mod PlanLeads
 pub mod PlanLemmas
 pub mod PulseLemmas
+pub mod ReadyLemmas
 pub mod RecordLaw
 pub mod RecordLemmas
 pub mod RestsLemmas
@@ -34,5 +28,4 @@ pub mod TakingLemmas
 pub mod TurnsLemmas
 pub mod UnmarkedLemmas
 pub mod UsedLemmas
-pub mod UsesLemmas
 pub mod VisitsLemmas

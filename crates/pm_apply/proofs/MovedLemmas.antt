@@ -8,7 +8,7 @@ use Rattle.pm_state.specs.State.{State}
 use Rattle.pm_state.specs.Units.{moved}
 use Rattle.pm_state.specs.Values.{value}
 use Rattle.pm_apply.specs.Carried.{AreMarked, DifferencesAreMarked}
-use Rattle.pm_apply.specs.Record.{Kept, kept_value}
+use Rattle.pm_record.specs.Record.{Kept, kept_value}
 
 module _ (laws : UnitLaws) (before : Unit → ℕ) (book : State) where
   -- a unit of the chip whose value differs moves

@@ -19,17 +19,20 @@ use Rattle.pm_topology.specs.UnitMap.{units_in}
 use Rattle.pm_topology.specs.Units.{needs_power, parent_of_unit, same_unit}
 use Rattle.pm_core.specs.declared.outbox.Done.{Done}
 use Rattle.pm_topology.specs.Units.{units_of}
-use Rattle.pm_apply.proofs.Below.{ChipLaws}
+use Rattle.pm_record.proofs.Below.{ChipLaws}
 use Rattle.pm_apply.specs.declared.turns.Turn.{Turn}
 use Rattle.pm_apply.specs.declared.turns.Turn.TheVariants.{PowerOn, Pulse, Apply, PowerOff}
-use Rattle.pm_apply.specs.Record.{is_place, IsRecordOf, Kept, kept_value}
-use Rattle.pm_apply.specs.Plan.{after_answer, command, plan, due, is_fed, power_value, is_power}
+use Rattle.pm_record.specs.Record.{is_place, IsRecordOf, Kept, kept_value, after_answer}
+use Rattle.pm_record.specs.Kinds.{is_power}
+use Rattle.pm_apply.specs.Plan.{command, plan, due, is_fed, power_value}
 use Rattle.pm_apply.specs.Order.{IsOrderly, IsOrdered}
 use Rattle.pm_apply.specs.Part.{order_of, orders_of}
 use Rattle.pm_apply.proofs.PlanLemmas.{Along, along_plan}
 use Rattle.pm_apply.proofs.RecordLaw.{is_turn_of, plan_is_on}
-use Rattle.pm_apply.proofs.RecordLemmas.{are_on, has_cell_of, kept_after, units_in-after_answer}
-use Rattle.pm_apply.proofs.OrdersUnits.{listed_below, power_kind, parent_of_power, power_is_power, power_needs, passes_none}
+use Rattle.pm_record.proofs.RecordLemmas.{has_cell_of, kept_after, units_in-after_answer}
+use Rattle.pm_apply.proofs.RecordLemmas.{are_on}
+use Rattle.pm_record.proofs.KindsLemmas.{power_kind, power_is_power}
+use Rattle.pm_apply.proofs.OrdersUnits.{listed_below, parent_of_power, power_needs, passes_none}
 use Rattle.pm_apply.proofs.OrdersDue.{Raises, raises, pulses, Settles, settles, Lowers, lowers}
 
 -- ---- acts behind acts, and values that are the same

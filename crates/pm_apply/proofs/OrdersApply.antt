@@ -16,15 +16,17 @@ use Rattle.pm_topology.specs.WellFormed.{IsWellFormed}
 use Rattle.pm_topology.specs.Units.{needs_power, parent_of_unit, same_unit}
 use Rattle.pm_core.specs.declared.outbox.Done.{Done}
 use Rattle.pm_state.specs.Fed.{IsFed}
-use Rattle.pm_apply.proofs.Below.{ChipLaws}
+use Rattle.pm_record.proofs.Below.{ChipLaws}
 use Rattle.pm_apply.specs.declared.turns.Turn.TheVariants.{Pulse, Apply}
-use Rattle.pm_apply.specs.Record.{Kept, kept_value, IsRecordOf}
-use Rattle.pm_apply.specs.Plan.{due, done_as, after_answer, is_fed, is_power, pulse_turn, with_pulse}
+use Rattle.pm_record.specs.Record.{Kept, kept_value, IsRecordOf, after_answer}
+use Rattle.pm_record.specs.Kinds.{is_power}
+use Rattle.pm_apply.specs.Plan.{due, done_as, is_fed, pulse_turn, with_pulse}
 use Rattle.pm_apply.specs.Order.{FailedOn}
 use Rattle.pm_apply.proofs.PlanLeads.{Leads, leads_append, leads_none, leads_turn}
-use Rattle.pm_apply.proofs.RecordLemmas.{kept_stays, was_refused}
+use Rattle.pm_record.proofs.RecordLemmas.{kept_stays, was_refused}
 use Rattle.pm_apply.proofs.RecordLaw.{has_cell_in, turn_keeps}
-use Rattle.pm_apply.proofs.OrdersUnits.{is_listed, power_is_power}
+use Rattle.pm_record.proofs.KindsLemmas.{power_is_power}
+use Rattle.pm_apply.proofs.OrdersUnits.{is_listed}
 use Rattle.pm_apply.proofs.OrdersDue.{pulses, settles, waits}
 use Rattle.pm_apply.proofs.OrdersFailed.{FailsAtOrAbove, fails_before, failed_before, failed_last, waits_for}
 

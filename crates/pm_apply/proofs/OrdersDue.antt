@@ -10,8 +10,9 @@ use Rattle.pm_base.specs.declared.names.Command.{Command}
 use Rattle.pm_topology.specs.declared.topology.Topology.{Topology}
 use Rattle.pm_topology.specs.declared.topology.PowerDef.{PowerDef}
 use Rattle.pm_apply.specs.declared.turns.Turn.TheVariants.{PowerOn, Pulse, Apply, PowerOff}
-use Rattle.pm_apply.specs.Record.{Kept, kept_value}
-use Rattle.pm_apply.specs.Plan.{due, power_on, power_off, where_due, command, is_fed, is_used, is_power}
+use Rattle.pm_record.specs.Record.{Kept, kept_value}
+use Rattle.pm_record.specs.Kinds.{is_power}
+use Rattle.pm_apply.specs.Plan.{due, power_on, power_off, where_due, command, is_fed, is_used}
 
 -- ---- tests
 

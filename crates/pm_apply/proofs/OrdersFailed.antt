@@ -13,8 +13,8 @@ use Rattle.pm_topology.specs.Places.{parent_of, power_parent, IsAtOrAbove, highe
 use Rattle.pm_topology.specs.WellFormed.{IsWellFormed}
 use Rattle.pm_core.specs.declared.outbox.Done.{Done}
 use Rattle.pm_state.specs.Fed.{IsFed}
-use Rattle.pm_apply.proofs.Below.{ChipLaws}
-use Rattle.pm_apply.specs.Record.{Kept, kept_value}
+use Rattle.pm_record.proofs.Below.{ChipLaws}
+use Rattle.pm_record.specs.Record.{Kept, kept_value}
 use Rattle.pm_apply.specs.Plan.{is_fed, power_value}
 use Rattle.pm_apply.specs.Order.{FailedOn}
 use Rattle.pm_apply.proofs.OrdersUnits.{power_above}

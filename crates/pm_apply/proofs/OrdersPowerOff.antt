@@ -15,15 +15,17 @@ use Rattle.pm_core.specs.declared.outbox.Done.{Done}
 use Rattle.pm_state.specs.Fed.{IsFed}
 use Rattle.pm_topology.specs.UnitMap.{units_in}
 use Rattle.pm_topology.specs.Units.{has_in, units_of}
-use Rattle.pm_apply.proofs.Below.{ChipLaws}
+use Rattle.pm_record.proofs.Below.{ChipLaws}
 use Rattle.pm_apply.specs.declared.turns.Turn.TheVariants.{PowerOff}
-use Rattle.pm_apply.specs.Record.{is_place, IsRecordOf, Kept, kept_value}
-use Rattle.pm_apply.specs.Plan.{due, done_as, after_answer, is_power, is_used}
+use Rattle.pm_record.specs.Record.{is_place, IsRecordOf, Kept, kept_value, after_answer}
+use Rattle.pm_record.specs.Kinds.{is_power}
+use Rattle.pm_apply.specs.Plan.{due, done_as, is_used}
 use Rattle.pm_apply.specs.Order.{FailedOn}
 use Rattle.pm_apply.proofs.PlanLeads.{Leads, leads_none, leads_turn}
-use Rattle.pm_apply.proofs.RecordLemmas.{kept_by, kept_stays, was_refused}
+use Rattle.pm_record.proofs.RecordLemmas.{kept_by, kept_stays, was_refused}
 use Rattle.pm_apply.proofs.RecordLaw.{has_cell_in, turn_keeps}
-use Rattle.pm_apply.proofs.OrdersUnits.{is_listed, IsPowerAt, parent_of_power, passes_one, power_is_listed, power_is_power, power_kind, power_needs, power_place_of, stands_earlier}
+use Rattle.pm_record.proofs.KindsLemmas.{power_is_power, power_kind}
+use Rattle.pm_apply.proofs.OrdersUnits.{is_listed, IsPowerAt, parent_of_power, passes_one, power_is_listed, power_needs, power_place_of, stands_earlier}
 use Rattle.pm_apply.proofs.OrdersDue.{lowers, stays_used}
 use Rattle.pm_apply.proofs.OrdersFailed.{fails_before, failed_before, failed_last}
 use Rattle.pm_apply.proofs.OrdersApply.{AllRaised, Lags, lags_before}

@@ -12,12 +12,12 @@ use Rattle.pm_topology.specs.Places.{here as at_it}
 use Rattle.pm_topology.specs.WellFormed.{IsWellFormed}
 use Rattle.pm_core.specs.declared.outbox.Done.{Done}
 use Rattle.pm_state.specs.Fed.{IsFed}
-use Rattle.pm_apply.proofs.Below.{ChipLaws}
+use Rattle.pm_record.proofs.Below.{ChipLaws}
 use Rattle.pm_apply.specs.declared.turns.Turn.TheVariants.{PowerOn}
-use Rattle.pm_apply.specs.Record.{Kept, kept_value, IsRecordOf}
-use Rattle.pm_apply.specs.Plan.{due, done_as, after_answer, is_fed}
+use Rattle.pm_record.specs.Record.{Kept, kept_value, IsRecordOf, after_answer}
+use Rattle.pm_apply.specs.Plan.{due, done_as, is_fed}
 use Rattle.pm_apply.proofs.PlanLeads.{Leads, leads_none, leads_turn}
-use Rattle.pm_apply.proofs.RecordLemmas.{kept_by, was_refused}
+use Rattle.pm_record.proofs.RecordLemmas.{kept_by, was_refused}
 use Rattle.pm_apply.proofs.RecordLaw.{has_cell_in, turn_keeps}
 use Rattle.pm_apply.proofs.OrdersUnits.{is_listed, stands_earlier, parent_of_power, power_needs, power_is_listed}
 use Rattle.pm_apply.proofs.OrdersDue.{raises, starves}

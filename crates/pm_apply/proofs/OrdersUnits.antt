@@ -21,8 +21,9 @@ use Rattle.pm_topology.specs.WellFormed.{IsWellFormed}
 use Rattle.pm_topology.specs.Units.{has_unit, kind_needs_power, needs_power, same_unit}
 use Rattle.pm_topology.specs.FirstFault.{has_power, has_proc}
 use Rattle.pm_topology.specs.Units.{units_of}
-use Rattle.pm_apply.proofs.Below.{ChipLaws}
-use Rattle.pm_apply.specs.Plan.{is_power, is_power_kind}
+use Rattle.pm_record.proofs.Below.{ChipLaws}
+use Rattle.pm_record.proofs.KindsLemmas.{power_kind}
+use Rattle.pm_record.specs.Kinds.{is_power, is_power_kind}
 
 -- ---- the units
 
@@ -95,18 +96,12 @@ module _ (laws : ChipLaws) (t : Topology) where
 
   -- ---- power nodes
 
-  pub power_kind : IsWellFormed t → (w : ℕ) (p : PowerDef) → slice_get t.powers w ≡ Some p → kind_of t p.node ≡ Power w
-  power_kind well w p here = sym (laws.kinds.alone t p.node (Power w) well (p, here, refl))
-
   pub parent_of_power : IsWellFormed t → (w : ℕ) (p : PowerDef) → slice_get t.powers w ≡ Some p → parent_of t p.node ≡ p.parent
   parent_of_power well w p here =
-      ap (parent_at t) (power_kind well w p here) ∙ ap (option_and_then (λ (p : PowerDef). p.parent)) here
-
-  pub power_is_power : IsWellFormed t → (w : ℕ) (p : PowerDef) → slice_get t.powers w ≡ Some p → is_power t (Node p.node) ≡ true
-  power_is_power well w p here = ap is_power_kind (power_kind well w p here)
+      ap (parent_at t) (power_kind laws t well w p here) ∙ ap (option_and_then (λ (p : PowerDef). p.parent)) here
 
   pub power_needs : IsWellFormed t → (w : ℕ) (p : PowerDef) (value : ℕ) → slice_get t.powers w ≡ Some p → needs_power t (Node p.node) value ≡ (value == 1)
-  power_needs well w p value here = ap (λ kind. kind_needs_power t kind value) (power_kind well w p here)
+  power_needs well w p value here = ap (λ kind. kind_needs_power t kind value) (power_kind laws t well w p here)
 
   pub power_is_listed : IsWellFormed t → (w : ℕ) (p : PowerDef) → slice_get t.powers w ≡ Some p → is_listed t (Node p.node) ≡ true
   power_is_listed well w p here =

@@ -7,9 +7,9 @@ use Rattle.pm_base.specs.declared.names.Unit.{Unit}
 use Rattle.pm_base.specs.declared.names.Command.{Command}
 use Rattle.pm_topology.specs.declared.topology.Topology.{Topology}
 use Rattle.pm_core.specs.declared.outbox.Done.{Done}
-use Rattle.pm_apply.specs.Record.{Kept}
+use Rattle.pm_record.specs.Record.{Kept, after_answer}
 use Rattle.pm_apply.specs.declared.turns.Turn.{Turn}
-use Rattle.pm_apply.specs.Plan.{plan, due, take_turn, before, done_as, after_answer, next_answer, later_answers, answers_of, Carried}
+use Rattle.pm_apply.specs.Plan.{plan, due, take_turn, before, done_as, next_answer, later_answers, answers_of, Carried}
 use Rattle.pm_apply.proofs.RecordLemmas.{recorded}
 
 abbrev pub carried : List Done → Kept → Carried

@@ -15,16 +15,19 @@ use Rattle.pm_topology.specs.UnitMap.{units_in}
 use Rattle.pm_topology.specs.Units.{has_in, same_unit}
 use Rattle.pm_core.specs.declared.outbox.Done.{Done}
 use Rattle.pm_topology.specs.Units.{units_of}
-use Rattle.pm_apply.proofs.Below.{ChipLaws}
+use Rattle.pm_record.proofs.Below.{ChipLaws}
 use Rattle.pm_apply.specs.declared.turns.Turn.{Turn}
 use Rattle.pm_apply.specs.declared.turns.Turn.TheVariants.{PowerOn, Pulse, Apply, PowerOff}
-use Rattle.pm_apply.specs.Record.{Kept, kept_value, marked, IsRecordOf}
-use Rattle.pm_apply.specs.Plan.{plan, due, turns_of, power_places, pulse_turn, with_pulse, after_answer, is_power}
+use Rattle.pm_record.specs.Record.{Kept, kept_value, marked, IsRecordOf, after_answer}
+use Rattle.pm_record.specs.Kinds.{is_power}
+use Rattle.pm_apply.specs.Plan.{plan, due, turns_of, power_places, pulse_turn, with_pulse}
 use Rattle.pm_apply.specs.Part.{orders_of}
 use Rattle.pm_apply.proofs.PlanLemmas.{Along, along_plan, plan-recorded}
 use Rattle.pm_apply.proofs.PlanLeads.{Leads, leads_none, leads_turn}
-use Rattle.pm_apply.proofs.RecordLemmas.{supply_in-after_answer, supply_in-marked, units_in-after_answer, units_in-marked, has_cell_of, kept_by, kept_stays, kept_value-marked, are_on, values_after-recorded}
-use Rattle.pm_apply.proofs.OrdersUnits.{is_listed, power_is_power, power_is_listed}
+use Rattle.pm_record.proofs.RecordLemmas.{supply_in-after_answer, supply_in-marked, units_in-after_answer, units_in-marked, has_cell_of, kept_by, kept_stays, kept_value-marked}
+use Rattle.pm_apply.proofs.RecordLemmas.{are_on, values_after-recorded}
+use Rattle.pm_record.proofs.KindsLemmas.{power_is_power}
+use Rattle.pm_apply.proofs.OrdersUnits.{is_listed, power_is_listed}
 use Rattle.pm_apply.proofs.OrdersDue.{raises, pulses, settles, lowers}
 use Rattle.pm_apply.proofs.PulseLemmas.{settle_pulses, turns_are}
 

@@ -17,13 +17,14 @@ use Rattle.pm_apply.specs.Carried.{DifferencesAreMarked, Takes}
 use Rattle.pm_apply.specs.Failing.{falls_short, told_answer}
 use Rattle.pm_apply.specs.Left.{left_from}
 use Rattle.pm_apply.specs.Plan.{turns_of, unit_turns}
-use Rattle.pm_apply.specs.Record.{IsRecordOf, Kept, lags_in, marked}
+use Rattle.pm_record.specs.Record.{IsRecordOf, Kept, lags_in, marked}
 use Rattle.pm_apply.specs.Visits.{IsReady}
-use Rattle.pm_apply.proofs.Below.{ChipLaws}
+use Rattle.pm_record.proofs.Below.{ChipLaws}
 use Rattle.pm_apply.proofs.FailingLemmas.{part_by}
 use Rattle.pm_apply.proofs.GapLemmas.{idle_gap}
 use Rattle.pm_apply.proofs.LeftLemmas.{Passes-gap, left_all, way_end, way_passes, way_start}
-use Rattle.pm_apply.proofs.UnmarkedLemmas.{NoneLags, all_rest, marks_stay}
+use Rattle.pm_record.proofs.UnmarkedLemmas.{NoneLags, marks_stay}
+use Rattle.pm_apply.proofs.UnmarkedLemmas.{all_rest}
 
 module _ (laws : ChipLaws) (t : Topology) (values : Unit → ℕ) (kept : Kept) (well : IsWellFormed t) (record_of : IsRecordOf t kept)
     (none : NoneLags kept) (found : DifferencesAreMarked t values [] kept) where

@@ -17,21 +17,22 @@ use Rattle.pm_topology.specs.Units.{units_of}
 use Rattle.pm_state.specs.Units.{moved}
 use Rattle.pm_state.specs.Values.{value}
 use Rattle.pm_state.specs.Fed.{IsFed}
-use Rattle.pm_apply.proofs.Below.{ChipLaws}
+use Rattle.pm_record.proofs.Below.{ChipLaws}
 use Rattle.pm_apply.specs.declared.turns.Turn.{Turn}
 use Rattle.pm_apply.specs.Carried.{AreMarked}
 use Rattle.pm_apply.specs.Order.{FailedOn, IsOrdered, LagsAreExplained}
 use Rattle.pm_apply.specs.Part.{AllSucceed, AllYes, orders_of, part_of}
-use Rattle.pm_apply.specs.Plan.{Carried, after_answer, answers_of, before, done_as, due, later_answers, next_answer, plan, take_turn, turns_of}
-use Rattle.pm_apply.specs.Record.{Kept, IsRecordOf, kept_value}
+use Rattle.pm_record.specs.Record.{after_answer, Kept, IsRecordOf, kept_value}
+use Rattle.pm_apply.specs.Plan.{Carried, answers_of, before, done_as, due, later_answers, next_answer, plan, take_turn, turns_of}
 use Rattle.pm_apply.proofs.ExplainedLaw.{explained}
 use Rattle.pm_apply.proofs.FailingLemmas.{book_is_told, moved_is_listed, part_after}
-use Rattle.pm_apply.proofs.MarksLemmas.{lags_in-marked}
+use Rattle.pm_record.proofs.MarksLemmas.{lags_in-marked}
 use Rattle.pm_apply.proofs.OrderLaw.{ordered}
 use Rattle.pm_apply.proofs.OrdersUnits.{is_listed, listed-is}
 use Rattle.pm_apply.proofs.PlanLemmas.{plan-used}
 use Rattle.pm_apply.proofs.RecordLaw.{follows, has_cell_in, marked_record, plan_is_on, record_after, turns_are_of}
-use Rattle.pm_apply.proofs.RecordLemmas.{are_on, kept_value-marked}
+use Rattle.pm_record.proofs.RecordLemmas.{kept_value-marked}
+use Rattle.pm_apply.proofs.RecordLemmas.{are_on}
 
 -- commands on units of the chip's list are harmless
 on_harmless : ChipLaws → (t : Topology) (done : List Done) → are_on (units_of t) done ≡ true → AreHarmless t (orders_of done)

@@ -12,9 +12,9 @@ use Rattle.pm_device.specs.Act.{Act, Chain, Order}
 use Rattle.pm_device.specs.Chains.{Chain-append}
 use Rattle.pm_core.specs.declared.outbox.Done.{Done}
 use Rattle.pm_core.specs.declared.outbox.Outbox.{Outbox}
-use Rattle.pm_apply.specs.Record.{Kept}
+use Rattle.pm_record.specs.Record.{Kept, after_answer}
 use Rattle.pm_apply.specs.declared.turns.Turn.{Turn}
-use Rattle.pm_apply.specs.Plan.{plan, due, take_turn, done_as, after_answer, answers_of, Carried}
+use Rattle.pm_apply.specs.Plan.{plan, due, take_turn, done_as, answers_of, Carried}
 use Rattle.pm_apply.specs.Carried.{Takes, KeepsRest}
 use Rattle.pm_apply.specs.Part.{order_of, orders_of}
 use Rattle.pm_apply.specs.Room.{most, most_of}

@@ -19,23 +19,26 @@ use Rattle.pm_topology.specs.Units.{has_in, rises, units_of}
 use Rattle.pm_device.specs.Act.{Act}
 use Rattle.pm_core.specs.declared.outbox.Done.{Done}
 use Rattle.pm_core.specs.declared.outbox.Outbox.{Outbox}
-use Rattle.pm_apply.specs.declared.kept.KeptValue.{KeptValue}
+use Rattle.pm_record.specs.declared.kept.KeptValue.{KeptValue}
 use Rattle.pm_apply.specs.declared.turns.Turn.{Turn}
 use Rattle.pm_apply.specs.declared.turns.Turn.TheVariants.{PowerOn, Apply, PowerOff}
 use Rattle.pm_apply.specs.Carried.{KeepsRest, Takes}
 use Rattle.pm_apply.specs.Left.{HaveNone, IsFollowed}
 use Rattle.pm_apply.specs.Plan.{Carried, answers_of, command, due, is_fed, is_used, plan, power_off, power_on, power_places, power_value, turns_of, where_due, with_pulse}
-use Rattle.pm_apply.specs.Record.{Kept, kept_value, lags_in, supply_in}
+use Rattle.pm_record.specs.Record.{Kept, kept_value, lags_in, supply_in}
 use Rattle.pm_apply.specs.Room.{most, most_of}
-use Rattle.pm_apply.specs.Visits.{IsIdle, LagsNotAt, NoPowerLags, power_lags}
-use Rattle.pm_apply.proofs.Below.{ChipLaws}
+use Rattle.pm_record.specs.Marks.{LagsNotAt, NoPowerLags}
+use Rattle.pm_apply.specs.Visits.{IsIdle, power_lags}
+use Rattle.pm_record.proofs.Below.{ChipLaws}
 use Rattle.pm_apply.proofs.IdleLemmas.{idle_none, no_fall_held, no_rise_held}
 use Rattle.pm_apply.proofs.OrdersUnits.{power_is_listed}
 use Rattle.pm_apply.proofs.PlanLemmas.{plan-recorded}
 use Rattle.pm_apply.proofs.RecordLemmas.{recorded, supply_in-recorded}
 use Rattle.pm_apply.proofs.TakesLemmas.{KeepsRest-trans, Takes-all, Takes-fits, Takes-next, Takes-none, Takes-refl, Takes-trans}
 use Rattle.pm_apply.proofs.TurnsLemmas.{lowers, raises, settles}
-use Rattle.pm_apply.proofs.VisitsLemmas.{Each, IsOpen, IsPulseOf, each_turn, has_at, kept_at, lags_in-after_answer, no_lower, no_pulse, no_raise, no_settle, plan_open}
+use Rattle.pm_record.proofs.EntryLemmas.{kept_at}
+use Rattle.pm_record.proofs.RecordLemmas.{lags_in-after_answer}
+use Rattle.pm_apply.proofs.VisitsLemmas.{Each, IsOpen, IsPulseOf, each_turn, has_at, no_lower, no_pulse, no_raise, no_settle, plan_open}
 
 pub KeepsRest-refl : (out : Outbox) → KeepsRest out out
 KeepsRest-refl out = record { room = refl; moved = refl; pulse = refl; starts = refl; late = refl; callbacks = refl; answer = refl }

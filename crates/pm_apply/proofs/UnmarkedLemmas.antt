@@ -1,46 +1,29 @@
 -- A record in which no unit lags: none of the turns of a step is taken.
 use Rattle.std.proofs.Common.{◌≡◌, ℕ, ◌-◌, ◌<◌, ◌≤◌, length, arith, Bool, true, false, if◌then◌else◌, Option, Some, [], ◌∷◌, slice_get, refl, sym, ap, ◌∙◌, inl, inr, suc}
 use Rattle.std.specs.Prelude.{unwrap_or}
-use Rattle.std.proofs.lemmas.Bool.{both_ways, cases_lt}
+use Rattle.std.proofs.lemmas.Bool.{cases_lt}
 use Rattle.std.proofs.lemmas.List.{length-map}
-use Rattle.std.proofs.lemmas.Option.{same_Some, slice_get_within}
 use Rattle.pm_base.specs.declared.names.Unit.{Unit}
 use Rattle.pm_base.specs.declared.names.Unit.TheVariants.{Node}
 use Rattle.pm_topology.specs.declared.topology.PowerDef.{PowerDef}
 use Rattle.pm_topology.specs.declared.topology.Topology.{Topology}
 use Rattle.pm_topology.specs.WellFormed.{IsWellFormed}
 use Rattle.pm_topology.specs.UnitMap.{units_in, value_of}
-use Rattle.pm_topology.specs.Units.{UnitLaws, has_in, rises, same_unit, units_of}
-use Rattle.pm_apply.specs.declared.kept.KeptValue.{KeptValue}
+use Rattle.pm_topology.specs.Units.{has_in, same_unit, units_of}
+use Rattle.pm_record.specs.declared.kept.KeptValue.{KeptValue}
 use Rattle.pm_apply.specs.declared.turns.Turn.TheVariants.{PowerOn, PowerOff}
 use Rattle.pm_apply.specs.Plan.{unit_turns}
-use Rattle.pm_apply.specs.Record.{Kept, idle, lags_in, marked}
-use Rattle.pm_apply.specs.Visits.{IsIdle, IsIdleAt, LagsNotAt, LagsWithin, StandsElsewhere}
-use Rattle.pm_apply.proofs.Below.{ChipLaws}
-use Rattle.pm_apply.proofs.ListedLemmas.{remade_first, remade_marked}
+use Rattle.pm_record.specs.Record.{Kept, idle, lags_in}
+use Rattle.pm_apply.specs.Visits.{IsIdle, IsIdleAt}
+use Rattle.pm_record.proofs.Below.{ChipLaws}
 use Rattle.pm_apply.proofs.OrdersUnits.{power_is_listed}
 use Rattle.pm_apply.proofs.TurnsLemmas.{length-unit_turns, turn_down, turn_up}
 use Rattle.pm_apply.proofs.VisitsLemmas.{idle_at}
-
--- each entry doesn't lag
-abbrev pub NoneLags : Kept → Type 0
-NoneLags kept = (k : ℕ) → k < length kept → LagsNotAt k kept
+use Rattle.pm_record.proofs.UnmarkedLemmas.{NoneLags}
 
 lags_either : (first : Bool) (kept : KeptValue) (found : Option KeptValue) → kept.lags ≡ false → (unwrap_or found idle).lags ≡ false → (unwrap_or (if first then Some kept else found) idle).lags ≡ false
 lags_either true kept found here later = here
 lags_either false kept found here later = later
-
--- so the list of the marked places may be empty
-pub none_within : (kept : Kept) → NoneLags kept → LagsWithin [] kept
-none_within kept none k e here lag =
-    let at = none k (slice_get_within kept k e here) in
-    let same : at.entry ≡ e = same_Some at.entry e (sym at.here ∙ here) in
-    absurd (both_ways e.1.lags (ap (λ (e : Unit × KeptValue). e.1.lags) (sym same) ∙ at.idle) lag)
-
--- and where each of these has the book's value, to mark each unit by its value changes nothing
-pub marks_stay : UnitLaws → (values : Unit → ℕ) (kept : Kept) → rises (units_in kept) ≡ true → StandsElsewhere values kept → NoneLags kept → kept ≡ marked values kept
-marks_stay laws values kept rising stands none =
-    remade_marked values kept kept [] (remade_first laws values kept [] [] rising stands (none_within kept none))
 
 -- so no unit does
 lags_nowhere : (kept : Kept) → NoneLags kept → (unit : Unit) → lags_in kept unit ≡ false

@@ -1,10 +1,9 @@
 -- What a step visits: a unit that isn't marked has no command, and the turns of a step leave that so.
 use Rattle.std.proofs.Common.{◌≡◌, ℕ, ◌-◌, ◌<◌, ◌≤◌, length, arith, Bool, true, false, ◌&&◌, cond, if◌then◌else◌, Option, Some, None, List, [], ◌∷◌, ◌++◌, map, slice_get, refl, sym, ap, subst, ◌∙◌, ◌⊎◌, inl, inr, zero, suc}
-use Rattle.std.specs.Prelude.{⊤, IfSome, flat_map, is_some, unwrap_or, reverse}
+use Rattle.std.specs.Prelude.{⊤, IfSome, flat_map, reverse}
 use Rattle.std.specs.List.{list_all}
 use Rattle.std.specs.Option.{option_map, option_map_or}
-use Rattle.std.proofs.lemmas.Bool.{and_from, both_ways, cases_Bool, cases_lt, or_left, or_right}
-use Rattle.std.proofs.lemmas.Bool.Decides.{nat_tests}
+use Rattle.std.proofs.lemmas.Bool.{and_from, both_ways, cases_Bool, cases_lt, or_left}
 use Rattle.std.proofs.lemmas.List.Folds.{list_all-append}
 use Rattle.std.proofs.lemmas.Option.{slice_get-map, slice_get_cases}
 use Rattle.pm_base.proofs.Booleans.{both}
@@ -15,56 +14,21 @@ use Rattle.pm_base.specs.declared.names.Command.{Command}
 use Rattle.pm_topology.specs.declared.topology.PowerDef.{PowerDef}
 use Rattle.pm_topology.specs.declared.topology.Topology.{Topology}
 use Rattle.pm_topology.specs.WellFormed.{IsWellFormed}
-use Rattle.pm_topology.specs.UnitMap.{units_in, value_of}
-use Rattle.pm_topology.specs.Units.{UnitLaws, has_in, is_before, rises, same_unit, units_of}
-use Rattle.pm_apply.proofs.Below.{ChipLaws}
-use Rattle.pm_apply.specs.declared.kept.KeptValue.{KeptValue}
+use Rattle.pm_topology.specs.UnitMap.{units_in}
+use Rattle.pm_topology.specs.Units.{UnitLaws, has_in, rises, same_unit, units_of}
+use Rattle.pm_record.proofs.Below.{ChipLaws}
+use Rattle.pm_record.specs.declared.kept.KeptValue.{KeptValue}
 use Rattle.pm_apply.specs.declared.turns.Turn.{Turn}
 use Rattle.pm_apply.specs.declared.turns.Turn.TheVariants.{PowerOn, Pulse, Apply, PowerOff}
-use Rattle.pm_apply.specs.Record.{Kept, idle, keep, kept_of, kept_value, lags_in, mark, marked}
-use Rattle.pm_apply.specs.Plan.{Carried, after_answer, power_places, unit_turns, due, later_answers, next_answer, plan, pulse_turn, take_turn, turns_of, with_pulse}
-use Rattle.pm_apply.specs.Visits.{IsIdle, IsIdleAt, power_lags, IsReady, LagsNotAt, StandsAt, StandsElsewhere, pulsed}
+use Rattle.pm_record.specs.Record.{Kept, idle, keep, kept_value, lags_in, after_answer}
+use Rattle.pm_apply.specs.Plan.{Carried, power_places, unit_turns, due, later_answers, next_answer, plan, pulse_turn, take_turn, turns_of, with_pulse}
+use Rattle.pm_record.specs.Marks.{LagsNotAt, StandsAt, StandsElsewhere, pulsed}
+use Rattle.pm_apply.specs.Visits.{IsIdle, IsIdleAt, power_lags, IsReady}
 use Rattle.pm_apply.proofs.TurnsLemmas.{turn_between}
-use Rattle.pm_apply.proofs.RecordLemmas.{units_in-after_answer, kept_value-keep}
+use Rattle.pm_record.proofs.RecordLemmas.{units_in-after_answer, kept_value-keep, lags_in-after_answer, kept_gone}
 use Rattle.pm_apply.proofs.OrdersDue.{raises, pulses, settles, lowers}
 use Rattle.pm_apply.proofs.OrdersUnits.{power_is_listed}
-
--- ---- an entry of the record by its place
-
--- what comes later in a rising list is another unit
-pub later_is_other : (a b : Unit) → is_before a b ≡ true → same_unit a b ≡ false
-later_is_other (Node a) (Node b) later = grind (arith, nat_tests)
-later_is_other (Node a) (Line b) later = refl
-later_is_other (Line a) (Node b) later = cc
-later_is_other (Line a) (Line b) later = grind (arith, nat_tests)
-
-before_entry : (p : Unit → Bool) (entries : Kept) (k : ℕ) (e : Unit × KeptValue) → list_all p (units_in entries) ≡ true → slice_get entries k ≡ Some e → p e.0 ≡ true
-before_entry p [] k e all here = cc
-before_entry p (x ∷ entries) zero e all here =
-    let same : x ≡ e = cc in
-    ap (λ (e : Unit × KeptValue). p e.0) (sym same) ∙ (both (p x.0) (list_all p (units_in entries)) all).0
-before_entry p (x ∷ entries) (suc k) e all here = before_entry p entries k e (both (p x.0) (list_all p (units_in entries)) all).1 here
-
-pub value_at : UnitLaws → (entries : Kept) (k : ℕ) (e : Unit × KeptValue) → rises (units_in entries) ≡ true → slice_get entries k ≡ Some e → value_of entries e.0 ≡ Some e.1
-value_at laws [] k e rising here = cc
-value_at laws (x ∷ entries) zero e rising here =
-    let same : x ≡ e = cc in
-    ap (λ (x : Unit × KeptValue). if same_unit x.0 e.0 then Some x.1 else value_of entries e.0) same
-    ∙ ap (λ b. if b then Some e.1 else value_of entries e.0) (laws.itself e.0)
-value_at laws (x ∷ entries) (suc k) e rising here =
-    let parts = both (list_all (is_before x.0) (units_in entries)) (rises (units_in entries)) rising in
-    let other = later_is_other x.0 e.0 (before_entry (is_before x.0) entries k e parts.0 here) in
-    ap (λ b. if b then Some x.1 else value_of entries e.0) other ∙ value_at laws entries k e parts.1 here
-
-pub kept_at : UnitLaws → (entries : Kept) (k : ℕ) (e : Unit × KeptValue) → rises (units_in entries) ≡ true → slice_get entries k ≡ Some e → kept_of entries e.0 ≡ e.1
-kept_at laws entries k e rising here = ap (λ (found : Option KeptValue). unwrap_or found idle) (value_at laws entries k e rising here)
-
-pub has_at : UnitLaws → (entries : Kept) (k : ℕ) (e : Unit × KeptValue) → slice_get entries k ≡ Some e → has_in (units_in entries) e.0 ≡ true
-has_at laws [] k e here = cc
-has_at laws (x ∷ entries) zero e here =
-    let same : x ≡ e = cc in
-    or_left _ _ (ap (λ (x : Unit × KeptValue). same_unit x.0 e.0) same ∙ laws.itself e.0)
-has_at laws (x ∷ entries) (suc k) e here = or_right (same_unit x.0 e.0) _ (has_at laws entries k e here)
+use Rattle.pm_record.proofs.EntryLemmas.{has_at, kept_at, stands_of}
 
 -- ---- places that aren't visited
 
@@ -98,50 +62,9 @@ holds_where P (Some x) holds = holds x refl
 pub where_found : {X : Type 0} (P : X → Type 0) (found : Option X) (x : X) → found ≡ Some x → P x → IfSome found P
 where_found {X = X} P found x here holds = let Q : Option X → Type 0 = λ found. IfSome found P in subst Q (sym here) holds
 
--- an entry that doesn't lag has the value that its unit has
-pub stands_of : UnitLaws → (values : Unit → ℕ) (kept : Kept) (k : ℕ) (e : Unit × KeptValue) → rises (units_in kept) ≡ true → StandsElsewhere values kept → slice_get kept k ≡ Some e → StandsAt values e
-stands_of laws values kept k e rising stands here =
-    λ lags.
-    let at = kept_at laws kept k e rising here in
-    ap (λ (k : KeptValue). k.value) (sym at) ∙ stands e.0 (has_at laws kept k e here) (ap (λ (k : KeptValue). k.lags) at ∙ lags)
-
 pub stands_at : UnitLaws → (values : Unit → ℕ) (kept : Kept) (k : ℕ) → rises (units_in kept) ≡ true → StandsElsewhere values kept → IfSome (slice_get kept k) (λ e. StandsAt values e)
 stands_at laws values kept k rising stands =
     holds_where (λ e. StandsAt values e) (slice_get kept k) (λ e here. stands_of laws values kept k e rising stands here)
-
-pub each_stays : (values : Unit → ℕ) (kept : Kept) → ((k : ℕ) (e : Unit × KeptValue) → slice_get kept k ≡ Some e → mark values e.0 e.1 ≡ e.1) → kept ≡ marked values kept
-each_stays values [] stays = refl
-each_stays values (e ∷ kept) stays =
-    let first : (e.0, mark values e.0 e.1) ≡ e = ap (λ (k : KeptValue). (e.0, k)) (stays 0 e refl) in
-    let later = each_stays values kept (λ k e here. stays (suc k) e here) in
-    ap (λ (es : Kept). e ∷ es) later ∙ ap (λ (e : Unit × KeptValue). e ∷ marked values kept) (sym first)
-
--- ---- marks stay
-
-lags_in-keep : ChipLaws → (u : Unit) (v : ℕ) (kept : Kept) (x : Unit) → lags_in (keep u v kept) x ≡ lags_in kept x
-lags_in-keep laws u v kept x =
-    let now : KeptValue = record (kept_of kept u) { value = v } in
-    ap (λ (found : Option KeptValue). (unwrap_or found idle).lags) (laws.table.set u now kept x) ∙ at (same_unit u x) (is_some (value_of kept u)) refl
-  where
-    at : (same has : Bool) → same_unit u x ≡ same → (unwrap_or (if same && has then Some (record (kept_of kept u) { value = v }) else value_of kept x) idle).lags ≡ lags_in kept x
-    at true true is = ap (lags_in kept) (laws.units.same u x is)
-    at true false is = refl
-    at false has is = refl
-
-pub lags_in-after_answer : ChipLaws → (c : Command) (ok : Bool) (kept : Kept) (x : Unit) → lags_in (after_answer c ok kept) x ≡ lags_in kept x
-lags_in-after_answer laws c true kept x = lags_in-keep laws c.unit c.value kept x
-lags_in-after_answer laws c false kept x = refl
-
-kept_gone : ChipLaws → (c : Command) (kept : Kept) (x : Unit) → has_in (units_in kept) c.unit ≡ false → kept_value (keep c.unit c.value kept) x ≡ kept_value kept x
-kept_gone laws c kept x gone =
-    let now : KeptValue = record (kept_of kept c.unit) { value = c.value } in
-    ap (λ (found : Option KeptValue). (unwrap_or found idle).value) (laws.table.set c.unit now kept x)
-    ∙ at (same_unit c.unit x) (is_some (value_of kept c.unit)) (laws.table.there kept c.unit ∙ gone)
-  where
-    at : (same has : Bool) → has ≡ false → (unwrap_or (if same && has then Some (record (kept_of kept c.unit) { value = c.value }) else value_of kept x) idle).value ≡ kept_value kept x
-    at true true is = cc
-    at true false is = refl
-    at false has is = refl
 
 -- ---- the turns of a step
 

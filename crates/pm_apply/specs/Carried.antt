@@ -3,6 +3,7 @@ use Rattle.std.specs.Prelude.{◌≡◌, ℕ, ◌==◌, ◌⊎◌, true, not, Li
 use Rattle.pm_base.specs.declared.names.Unit.{Unit}
 use Rattle.pm_topology.specs.declared.topology.Topology.{Topology}
 use Rattle.pm_device.specs.Act.{Act, Chain}
+use Rattle.pm_device.specs.Device.{DeviceMoment}
 use Rattle.pm_topology.specs.Units.{has_in, has_unit}
 use Rattle.pm_core.specs.declared.outbox.Done.{Done}
 use Rattle.pm_core.specs.declared.outbox.Outbox.{Outbox}
@@ -12,7 +13,7 @@ use Rattle.pm_state.specs.State.{State}
 use Rattle.pm_state.specs.Values.{value}
 use Rattle.pm_apply.specs.Failing.{falls_short, told_answer}
 use Rattle.pm_apply.specs.Plan.{plan, answers_of, turns_of}
-use Rattle.pm_apply.specs.Record.{Kept, lags_in, kept_value, marked}
+use Rattle.pm_record.specs.Record.{Kept, lags_in, kept_value, marked}
 
 -- these turns were taken: exactly the commands of their plan were given to the device, in their order and nothing else,
 -- under the answers that it gave, and put behind those before
@@ -41,6 +42,10 @@ AreMarked t values kept = (unit : Unit) → has_unit t unit ≡ true → lags_in
 abbrev pub DifferencesAreMarked : Topology → (Unit → ℕ) → List Unit → Kept → Type 0
 DifferencesAreMarked t values moved kept = (unit : Unit) → has_unit t unit ≡ true
     → (has_in moved unit ≡ true) ⊎ ((lags_in kept unit ≡ true) ⊎ (kept_value kept unit ≡ values unit))
+
+-- the device stands as the record says
+abbrev pub StandsAs : Kept → DeviceMoment → Type 0
+StandsAs kept moment = (unit : Unit) → moment.value unit ≡ kept_value kept unit
 
 -- the turns of a step were taken from a record that comes to the same once each unit is marked by its value, then the units
 -- were marked by their values, and the answer is by what the device did

@@ -12,7 +12,7 @@ use Rattle.pm_topology.specs.Units.{same_unit}
 use Rattle.pm_core.specs.declared.outbox.Done.{Done}
 use Rattle.pm_core.specs.declared.replies.Answer.{Answer}
 use Rattle.pm_core.specs.declared.replies.Answer.TheVariants.{Silent, Drop, Reply, Ack}
-use Rattle.pm_apply.specs.Record.{Kept, kept_value}
+use Rattle.pm_record.specs.Record.{Kept, kept_value}
 
 -- one of these units has another value in the record
 abbrev pub some_differ : (Unit → ℕ) → List Unit → Kept → Bool

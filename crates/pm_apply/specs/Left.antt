@@ -9,8 +9,8 @@ use Rattle.pm_topology.specs.Units.{units_of}
 use Rattle.pm_core.specs.declared.outbox.Done.{Done}
 use Rattle.pm_apply.specs.declared.carrying.Carrying.{Carrying}
 use Rattle.pm_apply.specs.declared.turns.Turn.{Turn}
-use Rattle.pm_apply.specs.Plan.{after_answer, done_as, due, unit_turns, with_pulse}
-use Rattle.pm_apply.specs.Record.{HasSupplies, Kept}
+use Rattle.pm_record.specs.Record.{after_answer, HasSupplies, Kept}
+use Rattle.pm_apply.specs.Plan.{done_as, due, unit_turns, with_pulse}
 use Rattle.pm_apply.specs.Visits.{IsReady}
 
 -- the turns that are left of those of these units, where the pulse before the first is behind, if it is

@@ -3,8 +3,6 @@ pub mod Failing
 pub mod Left
 pub mod Order
 pub mod Part
-pub mod Places
 pub mod Plan
-pub mod Record
 pub mod Room
 pub mod Visits

@@ -11,7 +11,7 @@ use Rattle.pm_topology.specs.Places.{parent_of, IsBelow}
 use Rattle.pm_device.specs.Act.{Act, Order, Rig, Fit, value_by}
 use Rattle.pm_topology.specs.Units.{has_unit, needs_power}
 use Rattle.pm_core.specs.declared.outbox.Done.{Done}
-use Rattle.pm_apply.specs.Record.{Kept, kept_value}
+use Rattle.pm_record.specs.Record.{Kept, kept_value}
 
 -- a command that is in its place where the units stand at these values
 pub record IsOrderly (t : Topology) (values : Unit → ℕ) (command : Command) : Type 0 where

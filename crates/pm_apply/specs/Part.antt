@@ -10,8 +10,8 @@ use Rattle.pm_state.specs.State.{State}
 use Rattle.pm_state.specs.Values.{value}
 use Rattle.pm_apply.specs.Failing.{falls_short, told_answer}
 use Rattle.pm_apply.specs.Plan.{answers_of, plan, turns_of}
-use Rattle.pm_apply.specs.Record.{marked}
-pub use Rattle.pm_apply.specs.Record.{Kept}
+use Rattle.pm_record.specs.Record.{marked}
+pub use Rattle.pm_record.specs.Record.{Kept}
 
 pub record Part : Type 0 where
   pub commands : List Done

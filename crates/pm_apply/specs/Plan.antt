@@ -1,5 +1,5 @@
 -- The commands of a step: what makes a device follow the book, under its answers, and the record that they leave.
-use Rattle.std.specs.Prelude.{ℕ, ◌==◌, Bool, true, false, not, ◌&&◌, ◌||◌, if◌then◌else◌, Option, Some, None, List, [], ◌∷◌, ◌++◌, flat_map, length, map, reverse, slice_get}
+use Rattle.std.specs.Prelude.{ℕ, ◌==◌, Bool, true, not, ◌&&◌, ◌||◌, if◌then◌else◌, Option, Some, None, List, [], ◌∷◌, ◌++◌, flat_map, length, map, reverse, slice_get}
 use Rattle.std.specs.List.{list_any, range_with_len}
 use Rattle.std.specs.Option.{option_map_or}
 use Rattle.pm_base.specs.declared.names.LineId.{LineId}
@@ -8,15 +8,13 @@ use Rattle.pm_base.specs.declared.names.Unit.TheVariants.{Node, Line}
 use Rattle.pm_base.specs.declared.names.Command.{Command}
 use Rattle.pm_topology.specs.declared.topology.Topology.{Topology}
 use Rattle.pm_topology.specs.declared.topology.PowerDef.{PowerDef}
-use Rattle.pm_topology.specs.declared.places.Kind.{Kind}
-use Rattle.pm_topology.specs.declared.places.Kind.TheVariants.{Power}
-use Rattle.pm_topology.specs.Places.{kind_of}
 use Rattle.pm_topology.specs.Units.{needs_power, parent_of_unit, same_unit}
 use Rattle.pm_core.specs.declared.outbox.Done.{Done}
 use Rattle.pm_topology.specs.Units.{units_of}
 use Rattle.pm_apply.specs.declared.turns.Turn.{Turn}
 use Rattle.pm_apply.specs.declared.turns.Turn.TheVariants.{PowerOn, Pulse, Apply, PowerOff}
-use Rattle.pm_apply.specs.Record.{Kept, is_place, keep, kept_value}
+use Rattle.pm_record.specs.Record.{Kept, is_place, kept_value, after_answer}
+use Rattle.pm_record.specs.Kinds.{is_power}
 
 -- ---- the order
 
@@ -64,14 +62,6 @@ uses t w unit value = is_place w (parent_of_unit t unit) && needs_power t unit v
 abbrev pub is_used : Topology → Kept → ℕ → Bool
 is_used t kept w = list_any (λ u. uses t w u (kept_value kept u)) (units_of t)
 
-abbrev pub is_power_kind : Kind → Bool
-is_power_kind (Power w) = true
-is_power_kind _ = false
-
-abbrev pub is_power : Topology → Unit → Bool
-is_power t (Node node) = is_power_kind (kind_of t node)
-is_power t (Line line) = false
-
 abbrev pub command : Unit → ℕ → Command
 command unit value = record { unit = unit; value = value }
 
@@ -111,10 +101,6 @@ due t values kept (PowerOff w) = power_off t values kept w (slice_get t.powers w
 pub record Carried : Type 0 where
   pub done : List Done
   pub kept : Kept
-
--- the record once a command was answered
-abbrev pub after_answer : Command → Bool → Kept → Kept
-after_answer c ok kept = if ok then keep c.unit c.value kept else kept
 
 abbrev pub before : Done → Carried → Carried
 before d carried = record carried { done = d ∷ carried.done }

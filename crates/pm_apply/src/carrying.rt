@@ -2,19 +2,22 @@
 
 ghost use Rattle.std.specs.Prelude.{◌≡◌, ℕ, ◌<◌, [], IfNone, IfSome, length};
 ghost use Rattle.pm_base.specs.declared.names.Unit.{Unit as Part};
+ghost use Rattle.pm_topology.specs.UnitMap.{units_in};
+ghost use Rattle.pm_topology.specs.Units.{units_of};
 ghost use Rattle.pm_state.specs.Values.{value};
 ghost use Rattle.pm_apply.specs.Carried.{DifferencesAreMarked, KeepsRest};
 ghost use Rattle.pm_apply.specs.Failing.{falls_short, told_answer};
 ghost use Rattle.pm_apply.specs.Left.{Answers, Begins, HaveNone, IsFollowed, Passes, Waits, turns_left};
 ghost use Rattle.pm_apply.specs.Plan.{turns_of};
-ghost use Rattle.pm_apply.specs.Record.{IsRecordOf, marked};
-ghost use Rattle.pm_apply.specs.Visits.{StandsElsewhere};
+ghost use Rattle.pm_record.specs.Record.{IsRecordOf, marked};
+ghost use Rattle.pm_record.specs.Marks.{StandsElsewhere};
 
 use crate::failing::told_answer;
-use crate::kept::{Kept, KeptValue};
 use crate::turns::{Turn, due, next_visited, pulse_before, turn_at, turn_count};
+use crate::wanted::{PlaceValues, UnitValues};
 use pm_base::{Command, LineId};
 use pm_core::{Answer, Book, Done, Outbox};
+use pm_record::{Kept, KeptValue};
 use pm_topology::{kinds_are_exact, unit_maps, units_stand_in_order};
 
 /// Which turns of a step are left.
@@ -58,7 +61,7 @@ impl Carrying {
         units_stand_in_order();
         kinds_are_exact();
         unit_maps::<KeptValue>();
-        kept.mark_each(book);
+        kept.mark_each();
         Carrying::begin(kept, book, out)
     }
 
@@ -70,7 +73,19 @@ impl Carrying {
         ensures answer { result ≡ told_answer (falls_short (λ u. value u book.now) out.now.moved.items out.now.pulse
             out.now.done.items kept.new) out.now.answer }
     {
-        kept.mark(book);
+        kept.mark(&UnitValues { book });
+        told_answer(kept, book, out)
+    }
+
+    /// The same for a record of the book's units, whose values are read at their places.
+    pub(crate) fn finish(kept: &mut Kept, book: &Book, out: &Outbox) -> Answer
+        requires stands { StandsElsewhere (λ u. value u book.now) kept.old }
+        requires units { units_in kept.old ≡ units_of book.now.fixed.topology }
+        ensures kept { kept.new ≡ marked (λ u. value u book.now) kept.old }
+        ensures answer { result ≡ told_answer (falls_short (λ u. value u book.now) out.now.moved.items out.now.pulse
+            out.now.done.items kept.new) out.now.answer }
+    {
+        kept.mark(&PlaceValues { book });
         told_answer(kept, book, out)
     }
 

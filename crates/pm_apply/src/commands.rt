@@ -4,18 +4,18 @@ ghost use Rattle.std.specs.Prelude.{◌≡◌, ℕ, ◌<◌, [], true, None, len
 ghost use Rattle.pm_core.specs.Outbox.{HasRoomFor, KeepsRoom, outputs_in};
 ghost use Rattle.pm_state.specs.Values.{value};
 ghost use Rattle.pm_device.specs.Act.{AreHarmless, Chain, ShowsAll};
-ghost use Rattle.pm_apply.specs.Carried.{AreMarked, DifferencesAreMarked, HasCarried};
+ghost use Rattle.pm_apply.specs.Carried.{AreMarked, DifferencesAreMarked, HasCarried, StandsAs};
 ghost use Rattle.pm_apply.specs.Order.{IsOrdered, LagsAreExplained};
 ghost use Rattle.pm_apply.specs.Part.{answers_in, orders_in, part_in, part_of};
-ghost use Rattle.pm_apply.specs.Record.{IsRecordOf, StandsAs, kept_value};
-ghost use Rattle.pm_apply.specs.Visits.{LagsNotAt};
+ghost use Rattle.pm_record.specs.Record.{IsRecordOf, kept_value};
+ghost use Rattle.pm_record.specs.Marks.{LagsNotAt};
 
 use crate::carrying::Carrying;
-use crate::kept::{Kept, KeptValue};
 use crate::laws::{each_part_is_safe, orders_join};
 use crate::taking::take_turns;
 use pm_core::{Book, Outbox};
 use pm_device::{Device, chain_shows};
+use pm_record::{Kept, KeptValue};
 use pm_topology::{kinds_are_exact, unit_maps, units_stand_in_order};
 
 /// Issues the commands that make the device follow the book, in order, and puts each into `out.done`
@@ -105,7 +105,7 @@ pub fn carry_all<D: Device>(dev: &mut D, kept: &mut Kept, book: &Book, out: &mut
     kinds_are_exact();
     unit_maps::<KeptValue>();
     orders_join();
-    kept.mark_each(book);
+    kept.mark_each();
     carry(dev, kept, book, out);
 }
 
@@ -133,5 +133,5 @@ fn carry_on<D: Device>(dev: &mut D, kept: &mut Kept, book: &Book, out: &mut Outb
     unit_maps::<KeptValue>();
     let _left = Carrying::begin(kept, book, out);
     take_turns(dev, kept, book, out);
-    out.answer = Carrying::end(kept, book, out);
+    out.answer = Carrying::finish(kept, book, out);
 }

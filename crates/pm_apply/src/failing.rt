@@ -6,11 +6,11 @@ ghost use Rattle.std.specs.List.{list_any};
 ghost use Rattle.pm_state.specs.Values.{value};
 ghost use Rattle.pm_apply.specs.Failing.{failed_answer, failed_response, falls_short, is_failed_pulse, pulse_failed, some_differ, told_answer};
 
-use crate::kept::Kept;
 use pm_base::{LineId, Unit};
 use pm_core::{Answer, Book, Done, Outbox};
 use pm_ipi::Response;
 use pm_ipi::status::{INTERNAL, SUCCESS};
+use pm_record::Kept;
 use pm_topology::same_unit;
 
 /// The answer of a step whose commands were done: an internal error in place of success if the device didn't

@@ -15,10 +15,10 @@ ghost use Rattle.pm_apply.specs.Carried.{AreMarked, DifferencesAreMarked};
 ghost use Rattle.pm_apply.specs.Order.{IsOrdered, LagsAreExplained};
 ghost use Rattle.pm_apply.specs.Part.{AllSucceed, AllYes, Kept, orders_of, part_of};
 ghost use Rattle.pm_apply.specs.Plan.{answers_of};
-ghost use Rattle.pm_apply.specs.Record.{IsAtZero, IsRecordOf, at_zero, kept_value};
+ghost use Rattle.pm_record.specs.Record.{IsRecordOf, kept_value};
 
-use crate::kept::KeptValue;
 use pm_core::values_are_fed;
+use pm_record::KeptValue;
 use pm_topology::{kinds_are_exact, unit_maps, units_stand_in_order};
 
 /// Whatever a device answers, the commands of a step are in an order in which nothing is used without
@@ -91,17 +91,6 @@ pub fn orders_join()
     ensures alike { (t : Topology) (values others : Unit → ℕ) (acts : List Act)
         → ((unit : Unit) → values unit ≡ others unit) → IsOrdered t values acts → IsOrdered t others acts }
 {}
-
-/// The record at first is one of the chip, each of its values is 0, and no unit lags.
-pub fn at_zero_is_a_record()
-    ensures record { (t : Topology) → IsRecordOf t (at_zero t) }
-    ensures values { (t : Topology) (unit : Unit) → kept_value (at_zero t) unit ≡ 0 }
-    ensures idle { (t : Topology) → IsAtZero (at_zero t) }
-{
-    units_stand_in_order();
-    kinds_are_exact();
-    unit_maps::<KeptValue>();
-}
 
 /// Where the marks of a record are those of the last step, each unit whose value isn't the book's after the next
 /// step moves in it, or lags.

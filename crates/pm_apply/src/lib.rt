@@ -5,20 +5,12 @@
 mod carrying;
 mod commands;
 mod failing;
-mod kept;
-mod kinds;
 mod laws;
-mod places;
-mod supplies;
 mod taking;
 mod turns;
-mod use_counts;
+mod wanted;
 
 pub use carrying::Carrying;
 pub use commands::{carry, carry_all};
-pub use kept::{Kept, KeptValue};
-pub use laws::{
-    a_part_without_refusal, at_zero_is_a_record, each_part_is_safe, marks_suffice, orders_join,
-};
-pub use supplies::Supply;
+pub use laws::{a_part_without_refusal, each_part_is_safe, marks_suffice, orders_join};
 pub use turns::Turn;

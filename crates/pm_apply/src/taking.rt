@@ -13,15 +13,16 @@ ghost use Rattle.pm_core.specs.Outbox.{HasRoomFor};
 ghost use Rattle.pm_apply.specs.Carried.{KeepsRest, Takes};
 ghost use Rattle.pm_apply.specs.Left.{IsFollowed};
 ghost use Rattle.pm_apply.specs.Plan.{due, power_places, pulse_turn, turns_of, with_pulse};
-ghost use Rattle.pm_apply.specs.Record.{IsRecordOf, HasSupplies};
+ghost use Rattle.pm_record.specs.Record.{IsRecordOf, HasSupplies};
 ghost use Rattle.pm_apply.specs.Room.{most, most_of};
-ghost use Rattle.pm_apply.specs.Visits.{IsReady, NoPowerLags};
+ghost use Rattle.pm_record.specs.Marks.{NoPowerLags};
+ghost use Rattle.pm_apply.specs.Visits.{IsReady};
 
-use crate::kept::{Kept, KeptValue};
-use crate::turns::{Turn, apply_at, due, lags_at_value, pulse_turn};
+use crate::turns::{Turn, apply_at, due, lowered, pulse_turn, raised};
 use pm_base::{Command, Unit};
 use pm_core::{Book, Done, Outbox};
 use pm_device::Device;
+use pm_record::{Kept, KeptValue};
 use pm_topology::{kinds_are_exact, unit_maps, units_stand_in_order};
 
 /// Takes the turns of a step, one after another: power nodes go up, then the other units take their values, then
@@ -37,7 +38,7 @@ pub(crate) fn take_turns<D: Device>(dev: &mut D, kept: &mut Kept, book: &Book, o
     ensures takes { Takes D.Does book.now.fixed.topology (λ u. value u book.now)
         (turns_of book.now.fixed.topology out.old.pulse) kept.old kept.new out.old.done.items out.new.done.items
         dev.old dev.new }
-    ensures ready { IsReady (λ u. value u book.now) out.old.pulse kept.new }
+    ensures followed { IsFollowed book.now.fixed.topology (λ u. value u book.now) out.old.pulse kept.new }
     ensures rest { KeepsRest out.old out.new }
 {
     units_stand_in_order();
@@ -84,14 +85,10 @@ fn raise_one<D: Device>(dev: &mut D, kept: &mut Kept, book: &Book, out: &mut Out
         kept.old kept.new out.old.done.items out.new.done.items dev.old dev.new }
     ensures rest { KeepsRest out.old out.new }
 {
-    units_stand_in_order();
-    kinds_are_exact();
-    unit_maps::<KeptValue>();
-    book.stays_sound();
-    if !lags_at_value(place, 0, book.topology(), kept) {
+    let Some((at, command)) = raised(place, out.pulse, book, kept) else {
         return;
-    }
-    take_turn(dev, kept, book, out, Turn::PowerOn(place));
+    };
+    issue_at(dev, kept, out, at, command);
 }
 
 /// The power nodes go down that are down in the book, parents last. Where none lags, none does.
@@ -129,14 +126,10 @@ fn lower_one<D: Device>(dev: &mut D, kept: &mut Kept, book: &Book, out: &mut Out
         kept.old kept.new out.old.done.items out.new.done.items dev.old dev.new }
     ensures rest { KeepsRest out.old out.new }
 {
-    units_stand_in_order();
-    kinds_are_exact();
-    unit_maps::<KeptValue>();
-    book.stays_sound();
-    if !lags_at_value(place, 1, book.topology(), kept) {
+    let Some((at, command)) = lowered(place, out.pulse, book, kept) else {
         return;
-    }
-    take_turn(dev, kept, book, out, Turn::PowerOff(place));
+    };
+    issue_at(dev, kept, out, at, command);
 }
 
 /// The units that are no power nodes take their values, in order, a reset line that is pulsed after it went to 1. Only

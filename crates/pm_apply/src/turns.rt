@@ -1,6 +1,6 @@
 //! The turns of a step: each may issue one command.
 
-ghost use Rattle.std.specs.Prelude.{◌≡◌, ℕ, ◌<◌, ◌≤◌, ◌==◌, ◌&&◌, ◌||◌, false, not, length, option_to_list, slice_get, unwrap_or, Some};
+ghost use Rattle.std.specs.Prelude.{◌≡◌, ℕ, ◌<◌, ◌≤◌, ◌==◌, ◌&&◌, ◌||◌, false, not, IfNone, IfSome, None, length, option_to_list, slice_get, unwrap_or, Some};
 ghost use Rattle.pm_base.specs.declared.names.Unit.TheVariants.{Node};
 ghost use Rattle.pm_topology.specs.WellFormed.{IsWellFormed};
 ghost use Rattle.pm_topology.specs.UnitMap.{units_in};
@@ -8,15 +8,16 @@ ghost use Rattle.pm_topology.specs.Places.{parent_at};
 ghost use Rattle.pm_topology.specs.Units.{kind_needs_power, needs_power, parent_of_unit, units_of};
 ghost use Rattle.pm_state.specs.Fed.{IsFed};
 ghost use Rattle.pm_state.specs.Values.{value};
-ghost use Rattle.pm_apply.specs.Plan.{due, is_fed, is_power, is_power_kind, is_used, power_off, power_value, power_on, apply, pulse, pulse_before, pulse_turn, unit_turns, where_due};
-ghost use Rattle.pm_apply.specs.Record.{HasSupplies, kept_value};
+ghost use Rattle.pm_record.specs.Kinds.{is_power, is_power_kind};
+ghost use Rattle.pm_apply.specs.Plan.{due, is_fed, is_used, power_off, power_value, power_on, apply, pulse, pulse_before, pulse_turn, unit_turns, where_due};
+ghost use Rattle.pm_record.specs.Record.{HasSupplies, kept_value};
+ghost use Rattle.pm_apply.specs.Left.{IsFollowed};
 ghost use Rattle.pm_apply.specs.Visits.{IsIdleAt, power_lags};
 
-use crate::kept::{Kept, KeptValue};
-use crate::kinds::is_power_kind;
-use crate::supplies::powers_at;
+use crate::wanted::value_at;
 use pm_base::{Command, LineId, Unit};
 use pm_core::Book;
+use pm_record::{Kept, KeptValue, is_power_kind, powers_at};
 use pm_topology::{
     Kind, PowerDef, Topology, kind_needs_power, kinds_are_exact, same_unit, unit_maps,
     units_stand_in_order,
@@ -144,23 +145,93 @@ fn power_lags(place: usize, t: &Topology, kept: &Kept) -> bool
     }
 }
 
-/// Whether the power node at a place lags and has this value in the record.
+/// The place in the record of the power node at a place that goes up, and its command. Nothing comes out where it has no
+/// command: it isn't marked, or isn't down in the record, or stays so.
 #[inline(always)]
-pub(crate) fn lags_at_value(place: usize, value: u32, t: &Topology, kept: &Kept) -> bool
-    ensures { result ≡ (power_lags t.now kept.now place && (power_value t.now kept.now place == value)) }
+pub(crate) fn raised(
+    place: usize,
+    pulse: Option<LineId>,
+    book: &Book,
+    kept: &Kept,
+) -> Option<(usize, Command)>
+    requires { IsFollowed book.now.fixed.topology (λ u. value u book.now) pulse kept.now }
+    ensures none { IfNone result (due book.now.fixed.topology (λ u. value u book.now) kept.now (Turn.PowerOn place) ≡ None) }
+    ensures some { IfSome result (λ found. due book.now.fixed.topology (λ u. value u book.now) kept.now (Turn.PowerOn place)
+        ≡ Some found.1) }
+    ensures there { IfSome result (λ found. slice_get (units_in kept.now) found.0 ≡ Some found.1.unit) }
 {
-    match power_at(t, place) {
-        Some(power) => has_lagging(kept.found(Unit::Node(power.node)), value),
-        None => false,
+    units_stand_in_order();
+    kinds_are_exact();
+    unit_maps::<KeptValue>();
+    book.stays_sound();
+    let Some(power) = power_at(book.topology(), place) else {
+        return None;
+    };
+    let unit = Unit::Node(power.node);
+    let Some(at) = kept.lagging(unit, 0) else {
+        return None;
+    };
+    if rises(at, unit, power.parent, book, kept) {
+        Some((at, Command { unit, value: 1 }))
+    } else {
+        None
     }
 }
 
-/// Whether a unit lags that has this value in the record.
+/// Whether a unit, which stands at this place of the record and has this parent, is up in the book, and its parent isn't
+/// down in the record.
 #[inline(always)]
-fn has_lagging(kept: KeptValue, value: u32) -> bool
-    ensures { result ≡ (kept.lags && (kept.value == value)) }
+fn rises(at: usize, unit: Unit, parent: Option<usize>, book: &Book, kept: &Kept) -> bool
+    requires { slice_get (units_of book.now.fixed.topology) at ≡ Some unit }
+    ensures { result ≡ ((value unit book.now == 1) && is_fed book.now.fixed.topology kept.now parent) }
 {
-    kept.lags && kept.value == value
+    value_at(at, unit, book) == 1 && is_fed(book.topology(), kept, parent)
+}
+
+/// The place in the record of the power node at a place that goes down, and its command. Nothing comes out where it has
+/// no command: it isn't marked, or isn't up in the record, or stays so.
+#[inline(always)]
+pub(crate) fn lowered(
+    place: usize,
+    pulse: Option<LineId>,
+    book: &Book,
+    kept: &Kept,
+) -> Option<(usize, Command)>
+    requires { IsFollowed book.now.fixed.topology (λ u. value u book.now) pulse kept.now }
+    ensures none { IfNone result (due book.now.fixed.topology (λ u. value u book.now) kept.now (Turn.PowerOff place) ≡ None) }
+    ensures some { IfSome result (λ found. due book.now.fixed.topology (λ u. value u book.now) kept.now (Turn.PowerOff place)
+        ≡ Some found.1) }
+    ensures there { IfSome result (λ found. slice_get (units_in kept.now) found.0 ≡ Some found.1.unit) }
+{
+    units_stand_in_order();
+    kinds_are_exact();
+    unit_maps::<KeptValue>();
+    book.stays_sound();
+    let Some(power) = power_at(book.topology(), place) else {
+        return None;
+    };
+    let unit = Unit::Node(power.node);
+    let Some(at) = kept.lagging(unit, 1) else {
+        return None;
+    };
+    if falls(at, unit, place, book, kept) {
+        Some((at, Command { unit, value: 0 }))
+    } else {
+        None
+    }
+}
+
+/// Whether a unit, which stands at this place of the record, is down in the book, and nothing directly below the power
+/// node at a place needs power by the record.
+#[inline(always)]
+fn falls(at: usize, unit: Unit, place: usize, book: &Book, kept: &Kept) -> bool
+    requires at { slice_get (units_of book.now.fixed.topology) at ≡ Some unit }
+    requires there { place < length book.now.fixed.topology.powers }
+    requires units { units_in kept.now ≡ units_of book.now.fixed.topology }
+    requires supplies { HasSupplies book.now.fixed.topology kept.now }
+    ensures { result ≡ ((value unit book.now == 0) && not (is_used book.now.fixed.topology kept.now place)) }
+{
+    value_at(at, unit, book) == 0 && !is_used(place, book, kept)
 }
 
 /// The pulse that stands before a turn: before that of a reset line that is pulsed.
@@ -284,7 +355,7 @@ pub(crate) fn apply_at(place: usize, unit: Unit, book: &Book, kept: &Kept) -> Op
     let Some((_, entry)) = kept.entry(place) else {
         return None;
     };
-    let value = book.value(unit);
+    let value = value_at(place, unit, book);
     where_due(
         takes_at(place, unit, value, entry, book.topology(), kept),
         Command { unit, value },

@@ -11,7 +11,7 @@ use Rattle.pm_split.specs.Boxes.{Boxes}
 use Rattle.pm_split.specs.Split.{split_of}
 use Rattle.pm_run.specs.Run.{Core, Line, Setup, Stand, core_0, book_after, core_of, cores_of, line_0, line_of, lines_of, loaded, setup}
 use Rattle.pm_apply.specs.Part.{Part, part_in, part_of}
-use Rattle.pm_apply.specs.Record.{Kept, at_zero}
+use Rattle.pm_record.specs.Record.{Kept, at_zero}
 use Rattle.pm_trace.specs.Step.{notices_in, notices_of, step_text}
 use Rattle.pm_drive.specs.Drive.{Given, answers_after, drive, drive_line, driven}
 use Rattle.pm_drive.specs.Lowered.{given_in}

@@ -13,9 +13,9 @@ use Rattle.pm_apply.specs.declared.turns.Turn.{Turn}
 use Rattle.pm_apply.specs.Failing.{falls_short, told_answer}
 use Rattle.pm_apply.specs.Left.{HaveNone}
 use Rattle.pm_apply.specs.Part.{Part}
-use Rattle.pm_apply.specs.Plan.{Carried, after_answer, before, done_as, due, later_answers, next_answer, plan, take_turn}
-use Rattle.pm_apply.specs.Record.{Kept, marked}
-use Rattle.pm_apply.proofs.UsedLemmas.{drop_here}
+use Rattle.pm_record.specs.Record.{after_answer, Kept, marked}
+use Rattle.pm_apply.specs.Plan.{Carried, before, done_as, due, later_answers, next_answer, plan, take_turn}
+use Rattle.pm_record.proofs.ListedLemmas.{drop_here}
 use Rattle.pm_controller.specs.Controls.{part_with}
 
 module _ (t : Topology) (values : Unit → ℕ) where

@@ -14,10 +14,10 @@ use Rattle.pm_core.specs.Outbox.{Holds, Outputs, outputs_in}
 use Rattle.pm_apply.specs.declared.carrying.Carrying.{Carrying}
 use Rattle.pm_apply.specs.Carried.{KeepsRest}
 use Rattle.pm_apply.specs.Left.{turns_left}
-use Rattle.pm_apply.specs.Plan.{Carried, after_answer, done_as, later_answers, next_answer, plan, turns_of}
-use Rattle.pm_apply.specs.Record.{Kept, marked}
+use Rattle.pm_record.specs.Record.{after_answer, Kept, marked}
+use Rattle.pm_apply.specs.Plan.{Carried, done_as, later_answers, next_answer, plan, turns_of}
 use Rattle.pm_apply.proofs.AlikeLemmas.{alike_part}
-use Rattle.pm_apply.proofs.Below.{ChipLaws}
+use Rattle.pm_record.proofs.Below.{ChipLaws}
 use Rattle.pm_trace.specs.Step.{notices_in, notices_of}
 use Rattle.pm_controller.specs.Controls.{Controls, chip_of, coming, coming_where, part_with}
 use Rattle.pm_controller.specs.Stands.{IsAsking, Stands}

@@ -19,10 +19,10 @@ use Rattle.pm_apply.specs.declared.turns.Turn.{Turn}
 use Rattle.pm_apply.specs.Carried.{KeepsRest}
 use Rattle.pm_apply.specs.Left.{Answers, IsFollowed, Passes, turns_left}
 use Rattle.pm_apply.specs.Part.{orders_of, part_of}
-use Rattle.pm_apply.specs.Plan.{Carried, after_answer, answers_of, done_as, plan, turns_of}
-use Rattle.pm_apply.specs.Record.{IsRecordOf, Kept, marked}
+use Rattle.pm_record.specs.Record.{after_answer, IsRecordOf, Kept, marked}
+use Rattle.pm_apply.specs.Plan.{Carried, answers_of, done_as, plan, turns_of}
 use Rattle.pm_apply.specs.Room.{most_of}
-use Rattle.pm_apply.proofs.Below.{ChipLaws}
+use Rattle.pm_record.proofs.Below.{ChipLaws}
 use Rattle.pm_apply.proofs.LeftLemmas as left
 use Rattle.pm_apply.proofs.PlanLemmas.{plan-append}
 use Rattle.pm_apply.proofs.VisitsLemmas.{IsOpen}

@@ -23,7 +23,7 @@ use Rattle.pm_apply.specs.Failing.{falls_short, told_answer}
 use Rattle.pm_apply.specs.Left.{turns_left}
 use Rattle.pm_apply.specs.Part.{Part, part_in}
 use Rattle.pm_apply.specs.Plan.{Carried, plan}
-use Rattle.pm_apply.specs.Record.{Kept, kept_value, marked}
+use Rattle.pm_record.specs.Record.{Kept, kept_value, marked}
 use Rattle.pm_trace.specs.Step.{notices_in, step_text}
 
 -- the book; the values that the device last took; what the last step put out, with its commands that were answered; the turns that

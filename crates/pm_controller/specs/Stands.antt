@@ -11,7 +11,7 @@ use Rattle.pm_apply.specs.declared.turns.Turn.{Turn}
 use Rattle.pm_apply.specs.Carried.{AreMarked}
 use Rattle.pm_apply.specs.Left.{IsFollowed, Waits, turns_left}
 use Rattle.pm_apply.specs.Plan.{answers_of, plan, turns_of}
-use Rattle.pm_apply.specs.Record.{IsRecordOf, Kept}
+use Rattle.pm_record.specs.Record.{IsRecordOf, Kept}
 
 -- a step is under way: these of its turns were taken from the record at its beginning, and the others are left
 pub record IsUnderWay (book : State) (kept : Kept) (pulse : Option LineId) (done : List Done) (left : Carrying) : Type 0 where

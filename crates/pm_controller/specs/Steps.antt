@@ -10,7 +10,7 @@ use Rattle.pm_core.specs.Outbox.{Outputs}
 use Rattle.pm_core.specs.Step.{effect, outputs, outputs_at_load}
 use Rattle.pm_apply.specs.Part.{part_of}
 use Rattle.pm_apply.specs.Plan.{done_as, next_answer}
-use Rattle.pm_apply.specs.Record.{Kept, at_zero}
+use Rattle.pm_record.specs.Record.{Kept, at_zero}
 use Rattle.pm_trace.specs.Step.{notices_in, notices_of}
 use Rattle.pm_controller.specs.Controls.{Controls, coming}
 

@@ -17,11 +17,12 @@ ghost use Rattle.pm_controller.specs.Status.{Tells, status_of};
 ghost use Rattle.pm_controller.specs.Steps.{IsLoaded, IsNext, TakesAnswer, TakesEvent};
 
 use crate::status::{NodeStatus, status_of};
-use pm_apply::{Carrying, Kept, KeptValue, each_part_is_safe, marks_suffice};
+use pm_apply::{Carrying, each_part_is_safe, marks_suffice};
 use pm_base::{Command, Event, List, Message, Mode, NoMemory, NodeId, Unit};
 use pm_beyond::is_message_beyond;
 use pm_core::{Book, Outbox};
 use pm_object::Object;
+use pm_record::{Kept, KeptValue};
 use pm_topology::{Kind, Topology, has_unit, kinds_are_exact, unit_maps, units_stand_in_order};
 use pm_trace::{TextLine, entries, entry};
 use std::alloc::Global;

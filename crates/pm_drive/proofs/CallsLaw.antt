@@ -20,7 +20,7 @@ use Rattle.pm_split.specs.Split.{Note, post}
 use Rattle.pm_split.specs.Boxes.{box_of}
 use Rattle.pm_run.specs.Run.{Line, Setup, Stand, line_of, lines_of, loaded, run, split}
 use Rattle.pm_apply.specs.Part.{Kept}
-use Rattle.pm_apply.specs.Record.{at_zero}
+use Rattle.pm_record.specs.Record.{at_zero}
 use Rattle.pm_drive.specs.Drive.{Driven, answers_after, drive, drive_line, driven, until}
 use Rattle.pm_drive.specs.Clocks.{clock_note, clock_notes, clocked, clocked_by, first_tree, tree_along, turned}
 use Rattle.pm_drive.specs.Heard.{heard_by, heard_in, heard_line, last_board}

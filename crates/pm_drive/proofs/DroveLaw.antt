@@ -18,7 +18,7 @@ use Rattle.pm_core.specs.Step.{effect, outputs_at_load}
 use Rattle.pm_state.specs.Values.{value}
 use Rattle.pm_run.specs.Run.{Core, IsBookOf, Line, Setup, Stand, book_after, core_0, cores_of, line_0, line_of, lines_of, loaded, run, split}
 use Rattle.pm_apply.specs.Part.{Kept, Part, orders_of, part_of}
-use Rattle.pm_apply.specs.Record.{IsRecordOf, at_zero, kept_value}
+use Rattle.pm_record.specs.Record.{IsRecordOf, at_zero, kept_value}
 use Rattle.pm_drive.specs.Drive.{Driven, acts, answers_after, drive, drive_line, driven, first_answers, last_book, last_kept, later_answers, until}
 use Rattle.pm_drive.specs.Drove.{BreaksNone, Drove, Follows, IsFaulted, NoFailure}
 use Rattle.pm_drive.proofs.DroveLemmas.{AllGo, Moves, OfRun, PartLaws, Reaches, last_after, lines_explained, lines_harmless, lines_move, lines_reach, lines_same, none_left, none_right, part_moves, part_reaches}

@@ -19,7 +19,7 @@ use Rattle.pm_state.specs.Values.{value}
 use Rattle.pm_run.specs.Run.{Core, IsBookOf, Line, Setup}
 use Rattle.pm_apply.specs.Order.{IsOrdered, LagsAreExplained}
 use Rattle.pm_apply.specs.Part.{AllSucceed, Kept, Part, orders_of, part_of}
-use Rattle.pm_apply.specs.Record.{IsRecordOf, kept_value}
+use Rattle.pm_record.specs.Record.{IsRecordOf, kept_value}
 use Rattle.pm_drive.specs.Drive.{Driven, Given, acts, acts_of, answers_after, breaks, drive, drive_line, first_answers, give, kept_after, last_book, last_kept, later_answers, orders_in_cores, rigs}
 use Rattle.pm_drive.specs.Drove.{AreExplained, BreaksNone, IsExplained}
 

@@ -24,7 +24,7 @@ use Rattle.pm_tasks.specs.Timetable.{Timetable}
 use Rattle.pm_board.specs.Board.{Standing, board_after, settled}
 use Rattle.pm_run.specs.Run.{Core, Line, Setup, Stand, book_after, core_of, cores_of, line_0, line_of, lines_of, loaded, split}
 use Rattle.pm_apply.specs.Part.{Kept, orders_of, part_of}
-use Rattle.pm_apply.specs.Record.{at_zero}
+use Rattle.pm_record.specs.Record.{at_zero}
 use Rattle.pm_trace.specs.declared.line.Word.{Word}
 use Rattle.pm_trace.specs.Notes.{note_words}
 use Rattle.pm_drive.specs.Drive.{Driven, Given, acts, acts_of, answers_after, drive, drive_line, driven, first_answers, give, kept_after, last_book, last_kept, later_answers, orders_in_cores, rigs}

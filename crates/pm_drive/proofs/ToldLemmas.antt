@@ -11,7 +11,7 @@ use Rattle.pm_state.specs.State.{State}
 use Rattle.pm_state.specs.Units.{moved}
 use Rattle.pm_run.specs.Run.{Core, Line, Setup, Stand, cores_of, line_of, lines_of, loaded, run, split}
 use Rattle.pm_apply.specs.Part.{Kept, Part, orders_of, part_of}
-use Rattle.pm_apply.specs.Record.{IsRecordOf}
+use Rattle.pm_record.specs.Record.{IsRecordOf}
 use Rattle.pm_drive.specs.Drive.{Driven, Given, acts, answers_after, drive, drive_line, first_answers, give, later_answers, orders_in_cores}
 use Rattle.pm_drive.specs.Drove.{AnswersAsBook, IsFaulted, IsTold}
 use Rattle.pm_drive.proofs.DroveLemmas.{AllGo, OfRun, PartLaws, cores_move, line_none, none_left, none_right, part_moves, topology_is}

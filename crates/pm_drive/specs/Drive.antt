@@ -7,7 +7,7 @@ use Rattle.pm_device.specs.Act.{Act, Rig}
 use Rattle.pm_state.specs.State.{State}
 use Rattle.pm_run.specs.Run.{Core, Line, Setup, run, said}
 use Rattle.pm_apply.specs.Part.{Kept, Part, orders_of, part_of}
-use Rattle.pm_apply.specs.Record.{at_zero}
+use Rattle.pm_record.specs.Record.{at_zero}
 
 -- a core step with what the device was given in it
 pub record Given : Type 0 where

@@ -17,7 +17,8 @@ use Rattle.pm_run.specs.Run.{Setup}
 use Rattle.pm_apply.specs.Failing.{falls_short, told_answer}
 use Rattle.pm_apply.specs.Order.{IsOrdered, LagsAreExplained}
 use Rattle.pm_apply.specs.Part.{AllSucceed}
-use Rattle.pm_apply.specs.Record.{StandsAs, at_zero}
+use Rattle.pm_record.specs.Record.{at_zero}
+use Rattle.pm_apply.specs.Carried.{StandsAs}
 use Rattle.pm_drive.specs.Drive.{Driven, Given, acts, breaks, drive, last_book, last_kept}
 
 -- after this core step, a unit whose kept value isn't the book's lags for a command of that step that failed on it, above it or

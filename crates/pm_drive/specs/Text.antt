@@ -9,7 +9,7 @@ use Rattle.pm_core.specs.declared.replies.Answer.TheVariants.{Reply}
 use Rattle.pm_split.specs.Split.{Note, called_note}
 use Rattle.pm_board.specs.Board.{Standing}
 use Rattle.pm_run.specs.Run.{Setup}
-use Rattle.pm_apply.specs.Record.{at_zero}
+use Rattle.pm_record.specs.Record.{at_zero}
 use Rattle.pm_trace.specs.Notes.{notes_text}
 use Rattle.pm_trace.specs.Step.{core_text}
 use Rattle.pm_drive.specs.Drive.{Driven, Given, driven, last_book, last_kept}

@@ -17,9 +17,10 @@ ghost use Rattle.pm_drive.specs.Heard.{heard_in, last_board};
 ghost use Rattle.pm_drive.specs.Lowered.{HaveSameSteps, lowered_script};
 ghost use Rattle.pm_drive.specs.PowerCalls.{EachCallIsItsEvents};
 
-use pm_apply::{a_part_without_refusal, at_zero_is_a_record, each_part_is_safe, orders_join};
+use pm_apply::{a_part_without_refusal, each_part_is_safe, orders_join};
 use pm_clock_tree::{clocks_run_by_their_parents, clocks_stand_after_steps};
 use pm_device::{Device, acts_append, chain_shows, none_is_refused};
+use pm_record::at_zero_is_a_record;
 use pm_run::books_of_a_run;
 use pm_topology::kinds_are_exact;
 

@@ -37,7 +37,7 @@ use Rattle.pm_run.specs.Run.{Setup, core_0, line_0, lines_of, loaded as at_load,
 use Rattle.pm_state.specs.State.{State}
 use Rattle.pm_core.specs.Step.{outputs_at_load}
 use Rattle.pm_apply.specs.Part.{Kept, Part, answers_in, orders_in, part_in, part_of}
-use Rattle.pm_apply.specs.Record.{at_zero}
+use Rattle.pm_record.specs.Record.{at_zero}
 use Rattle.pm_reader.specs.declared.follow.LineStop.TheVariants as stops
 use Rattle.pm_script.specs.declared.meaning.LineFault.{LineFault}
 use Rattle.pm_script.specs.Script.{Script, Stop, stop_of}

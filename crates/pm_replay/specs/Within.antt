@@ -23,7 +23,7 @@ use Rattle.pm_run.specs.Run.{Setup, book_after, cores_of, lines_of, loaded, setu
 use Rattle.pm_state.specs.State.{State}
 use Rattle.pm_core.specs.Step.{effect, outputs, outputs_at_load}
 use Rattle.pm_apply.specs.Part.{Kept, answers_in, orders_in, part_in, part_of}
-use Rattle.pm_apply.specs.Record.{at_zero}
+use Rattle.pm_record.specs.Record.{at_zero}
 use Rattle.pm_reader.specs.declared.follow.LineStop.{LineStop}
 use Rattle.pm_reader.specs.declared.follow.LineStop.TheVariants as stops
 use Rattle.pm_reader.specs.declared.follow.LinesEnd as reader

@@ -11,19 +11,20 @@ ghost use Rattle.pm_clock_tree.specs.Told.{told};
 ghost use Rattle.pm_clocks.specs.Clocked.{HasStepped};
 ghost use Rattle.pm_apply.specs.Part.{answers_in, orders_in, part_in, part_of};
 ghost use Rattle.pm_apply.specs.Carried.{AreMarked, DifferencesAreMarked};
-ghost use Rattle.pm_apply.specs.Record.{IsRecordOf, at_zero};
+ghost use Rattle.pm_record.specs.Record.{IsRecordOf, at_zero};
 ghost use Rattle.pm_split.specs.Left.{boxes_left, core_event, events_left};
 ghost use Rattle.pm_split.specs.Split.{noted};
 ghost use Rattle.pm_run.specs.Run.{loaded, setup, setup_of, split};
 ghost use Rattle.pm_trace.specs.Step.{notices_in, notices_of};
 ghost use Rattle.pm_replay.specs.Controls.{AreOf, Follow, HasGoneOn, stand_in};
 
-use pm_apply::{Kept, carry, carry_all, marks_suffice};
+use pm_apply::{carry, carry_all, marks_suffice};
 use pm_base::{Event, List, NoMemory, with};
 use pm_clocks::Clocks;
 use pm_core::{Book, Outbox};
 use pm_device::Device;
 use pm_object::{Attached, Object};
+use pm_record::Kept;
 use pm_run::{CoreEvents, Runner, Source, Split};
 use pm_topology::Topology;
 use std::alloc::Global;
@@ -44,7 +45,7 @@ impl Model for Controller {
     ghost use Rattle.std.specs.Prelude.{◌≡◌, true};
     ghost use Rattle.pm_state.specs.Values.{value};
     ghost use Rattle.pm_apply.specs.Carried.{AreMarked};
-    ghost use Rattle.pm_apply.specs.Record.{IsRecordOf};
+    ghost use Rattle.pm_record.specs.Record.{IsRecordOf};
     ghost use Rattle.pm_replay.specs.Controls.{Controls, IsOver};
 
     ghost Value = { Controls };

@@ -3,14 +3,15 @@
 ghost use Rattle.pm_topology.specs.WellFormed.{IsWellFormed};
 ghost use Rattle.pm_state.specs.Values.{value};
 ghost use Rattle.pm_apply.specs.Carried.{AreMarked};
-ghost use Rattle.pm_apply.specs.Record.{IsRecordOf};
+ghost use Rattle.pm_record.specs.Record.{IsRecordOf};
 
 use crate::rows::all_right;
-use pm_apply::{Kept, carry, carry_all, marks_suffice};
+use pm_apply::{carry, carry_all, marks_suffice};
 use pm_base::{Event, LineId, Message, NoMemory, NodeId, Unit};
 use pm_core::{Answer, Outbox};
 use pm_device::{Device, ListedDevice, ModelDevice};
 use pm_object::Object;
+use pm_record::Kept;
 use pm_testing::{Desk, Trigger, boxed, chip, desk_with, event_of, object_of};
 use pm_topology::Topology;
 use std::alloc::Global;

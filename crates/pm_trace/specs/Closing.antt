@@ -12,7 +12,7 @@ use Rattle.pm_state.specs.State.{State}
 use Rattle.pm_state.specs.Units.{units}
 use Rattle.pm_state.specs.Values.{shown}
 use Rattle.pm_apply.specs.Part.{Kept}
-use Rattle.pm_apply.specs.Record.{kept_value}
+use Rattle.pm_record.specs.Record.{kept_value}
 use Rattle.pm_trace.specs.declared.line.Word.{Word}
 use Rattle.pm_trace.specs.declared.line.Word.TheVariants as word
 use Rattle.pm_trace.specs.Line.{numbers, line_text}

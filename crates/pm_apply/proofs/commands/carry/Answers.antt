@@ -7,7 +7,7 @@ use Rattle.pm_apply.specs.Part.{orders_in, part_of}
 use Rattle.pm_apply.specs.Plan.{turns_of}
 use Rattle.pm_state.specs.Values.{value}
 use Rattle.pm_apply.proofs.AlikeLemmas.{alike_part}
-use Rattle.pm_apply.proofs.Below.{ChipLaws}
+use Rattle.pm_record.proofs.Below.{ChipLaws}
 use Rattle.pm_apply.proofs.CarryLemmas.{IsSafe, carried, stands_then}
 use Rattle.pm_apply.proofs.RestsLemmas.{rests_marked, rests_takes, rests_told}
 use Rattle.pm_apply.proofs.commands.carry.Goals as goal

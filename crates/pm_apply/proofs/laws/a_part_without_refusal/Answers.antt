@@ -1,4 +1,4 @@
-use Rattle.pm_apply.proofs.Below.{ChipLaws}
+use Rattle.pm_record.proofs.Below.{ChipLaws}
 use Rattle.pm_apply.proofs.StepLaw.{part_agreed, part_answered, part_reaches, part_succeeds, part_unrefused, unrefused_succeed}
 use Rattle.pm_apply.proofs.laws.a_part_without_refusal.Goals as goal
 

@@ -1,4 +1,4 @@
-use Rattle.pm_apply.proofs.Below.{ChipLaws}
+use Rattle.pm_record.proofs.Below.{ChipLaws}
 use Rattle.pm_apply.proofs.StepLaw.{part_explained, part_follows, part_known, part_marks, part_ordered, part_record, part_used}
 use Rattle.pm_apply.proofs.laws.each_part_is_safe.Goals as goal
 

@@ -6,7 +6,7 @@ use Rattle.pm_state.specs.Values.{value}
 use Rattle.pm_apply.specs.declared.turns.Turn.TheVariants.{PowerOff}
 use Rattle.pm_apply.specs.Left.{IsFollowed}
 use Rattle.pm_apply.specs.Plan.{power_places, with_pulse}
-use Rattle.pm_apply.proofs.Below.{ChipLaws}
+use Rattle.pm_record.proofs.Below.{ChipLaws}
 use Rattle.pm_apply.proofs.TakingLemmas.{KeepsRest-refl, most_alone, none_take, none_fall, none_lowers, part_end, part_followed, part_next, part_room, part_start}
 use Rattle.pm_apply.proofs.TurnsLemmas.{lowers, length-lowers, lower_at}
 use Rattle.pm_apply.proofs.taking.lower.Goals as goal

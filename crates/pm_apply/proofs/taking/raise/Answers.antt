@@ -6,7 +6,7 @@ use Rattle.pm_state.specs.Values.{value}
 use Rattle.pm_apply.specs.declared.turns.Turn.TheVariants.{PowerOn}
 use Rattle.pm_apply.specs.Left.{IsFollowed}
 use Rattle.pm_apply.specs.Plan.{power_places, with_pulse}
-use Rattle.pm_apply.proofs.Below.{ChipLaws}
+use Rattle.pm_record.proofs.Below.{ChipLaws}
 use Rattle.pm_apply.proofs.TakingLemmas.{KeepsRest-refl, most_alone, none_take, none_rise, none_raises, part_end, part_followed, part_next, part_room, part_start}
 use Rattle.pm_apply.proofs.TurnsLemmas.{raises, length-raises, raise_at}
 use Rattle.pm_apply.proofs.taking.raise.Goals as goal

@@ -5,7 +5,7 @@ use Rattle.pm_state.specs.Values.{value}
 use Rattle.pm_apply.specs.declared.turns.Turn.TheVariants.{PowerOn}
 use Rattle.pm_apply.specs.Plan.{power_value}
 use Rattle.pm_apply.specs.Visits.{power_lags}
-use Rattle.pm_apply.proofs.Below.{ChipLaws}
+use Rattle.pm_record.proofs.Below.{ChipLaws}
 use Rattle.pm_apply.proofs.TakesLemmas.{Takes-none}
 use Rattle.pm_apply.proofs.TakingLemmas.{KeepsRest-refl, not_raised}
 use Rattle.pm_apply.proofs.taking.raise_one.Goals as goal

@@ -12,7 +12,7 @@ use Rattle.pm_apply.specs.Carried.{Takes}
 use Rattle.pm_apply.specs.Left.{IsFollowed}
 use Rattle.pm_apply.specs.Plan.{with_pulse}
 use Rattle.pm_apply.specs.Room.{most_of}
-use Rattle.pm_apply.proofs.Below.{ChipLaws}
+use Rattle.pm_record.proofs.Below.{ChipLaws}
 use Rattle.pm_apply.proofs.TakingLemmas.{none_settles, part_end, part_followed, part_next, part_over, part_room, part_start, unit_there}
 use Rattle.pm_apply.proofs.TurnsLemmas.{settles, length-settles, settle_at}
 use Rattle.pm_apply.proofs.taking.settle.Goals as goal

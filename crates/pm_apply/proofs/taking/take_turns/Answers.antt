@@ -10,8 +10,8 @@ use Rattle.pm_apply.specs.Carried.{Takes}
 use Rattle.pm_apply.specs.Left.{IsFollowed}
 use Rattle.pm_apply.specs.Plan.{with_pulse}
 use Rattle.pm_apply.specs.Room.{most_of}
-use Rattle.pm_apply.specs.Visits.{NoPowerLags}
-use Rattle.pm_apply.proofs.Below.{ChipLaws}
+use Rattle.pm_record.specs.Marks.{NoPowerLags}
+use Rattle.pm_record.proofs.Below.{ChipLaws}
 use Rattle.pm_apply.proofs.CountLemmas.{most_of_step}
 use Rattle.pm_apply.proofs.TakesLemmas.{KeepsRest-trans, Takes-length, Takes-trans}
 use Rattle.pm_apply.proofs.TakingLemmas.{followed_then, none_lowers, none_raises, none_settles, parts_are, parts_most, powers_rest}
@@ -166,8 +166,8 @@ returns-clause-takes g c =
     (Takes-trans g.D.Device.Does t values (flat_map (with_pulse pulse) (settles t)) (flat_map (with_pulse pulse) (lowers t))
     c.raise.new.kept c.settle.new.kept c.lower.new.kept c.raise.new.out.done.items c.settle.new.out.done.items c.lower.new.out.done.items c.raise.new.dev c.settle.new.dev c.lower.new.dev settle lower))
 
-pub returns-clause-ready : goal.returns-clause-ready
-returns-clause-ready g c =
+pub returns-clause-followed : goal.returns-clause-followed
+returns-clause-followed g c =
     let t = c.args.book.now.fixed.topology in
     let values : Unit → ℕ = λ u. value u c.args.book.now in
     let laws : ChipLaws = record { units = c.units_stand_in_order.ensures; kinds = c.kinds_are_exact.ensures; table = c.unit_maps.ensures } in
@@ -184,8 +184,8 @@ returns-clause-ready g c =
     in
     let Q : Option LineId → Type 0 = λ p. Takes g.D.Device.Does t values (flat_map (with_pulse p) (lowers t)) c.settle.new.kept c.lower.new.kept c.settle.new.out.done.items c.lower.new.out.done.items c.settle.new.dev c.lower.new.dev in
     let lower = subst Q rest.pulse c.lower.ensures.takes in
-    (followed_then g.D.Device.Does laws t values pulse (flat_map (with_pulse pulse) (lowers t)) c.settle.new.kept c.lower.new.kept c.settle.new.out.done.items c.lower.new.out.done.items c.settle.new.dev c.lower.new.dev lower
-    (each_turn pulse (lowers t) (none_lowers t)) settled).ready
+    followed_then g.D.Device.Does laws t values pulse (flat_map (with_pulse pulse) (lowers t)) c.settle.new.kept c.lower.new.kept c.settle.new.out.done.items c.lower.new.out.done.items c.settle.new.dev c.lower.new.dev lower
+    (each_turn pulse (lowers t) (none_lowers t)) settled
 
 pub returns-clause-rest : goal.returns-clause-rest
 returns-clause-rest g c =

@@ -6,13 +6,13 @@ use Rattle.std.proofs.lemmas.List.Sums.{sum_by-append, sum_by-cons}
 use Rattle.std.proofs.lemmas.Option.{same_Some, slice_get-map}
 use Rattle.pm_topology.specs.UnitMap.{units_in}
 use Rattle.pm_topology.specs.Units.{units_of}
-use Rattle.pm_apply.specs.declared.kept.KeptValue.{KeptValue}
+use Rattle.pm_record.specs.declared.kept.KeptValue.{KeptValue}
 use Rattle.pm_apply.specs.declared.turns.Turn.{Turn}
 use Rattle.pm_apply.specs.declared.turns.Turn.TheVariants.{Apply}
 use Rattle.pm_apply.specs.Carried.{Takes}
 use Rattle.pm_apply.specs.Plan.{pulse_turn, with_pulse}
 use Rattle.pm_apply.specs.Room.{most, most_of}
-use Rattle.pm_apply.proofs.Below.{ChipLaws}
+use Rattle.pm_record.proofs.Below.{ChipLaws}
 use Rattle.pm_apply.proofs.TakesLemmas.{KeepsRest-trans, Takes-length, Takes-trans}
 use Rattle.pm_apply.proofs.TakingLemmas.{KeepsRest-refl, followed_then, most_alone}
 use Rattle.pm_apply.proofs.VisitsLemmas.{Each-front, IsPulseOf, are_pulses}

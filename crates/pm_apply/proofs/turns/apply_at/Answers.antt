@@ -3,9 +3,10 @@ use Rattle.std.specs.Prelude.{unwrap_or}
 use Rattle.pm_base.specs.declared.names.Unit.{Unit}
 use Rattle.pm_topology.specs.declared.topology.Topology.{Topology}
 use Rattle.pm_state.specs.Values.{value}
-use Rattle.pm_apply.specs.Plan.{command, is_fed, is_power, where_due}
+use Rattle.pm_record.specs.Kinds.{is_power}
+use Rattle.pm_apply.specs.Plan.{command, is_fed, where_due}
 use Rattle.pm_apply.proofs.ApplyLemmas.{apply_is, no_entry}
-use Rattle.pm_apply.proofs.Below.{ChipLaws}
+use Rattle.pm_record.proofs.Below.{ChipLaws}
 use Rattle.pm_apply.proofs.turns.apply_at.Goals as goal
 
 pub returns-in_default : goal.returns-in_default

@@ -1,6 +1,6 @@
 use Rattle.std.proofs.Common.{◌∙◌, arith}
-use Rattle.pm_apply.proofs.Below.{ChipLaws}
-use Rattle.pm_apply.proofs.UsesLemmas.{used-is}
+use Rattle.pm_record.proofs.Below.{ChipLaws}
+use Rattle.pm_apply.proofs.UsedLemmas.{used-is}
 use Rattle.pm_apply.proofs.turns.is_used.Goals as goal
 
 pub is_used-requires : goal.is_used-requires

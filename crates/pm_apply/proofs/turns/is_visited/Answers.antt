@@ -3,7 +3,7 @@ use Rattle.pm_topology.specs.declared.topology.Topology.{Topology}
 use Rattle.pm_topology.specs.WellFormed.{IsWellFormed}
 use Rattle.pm_apply.specs.declared.turns.Turn.TheVariants.{PowerOn, PowerOff}
 use Rattle.pm_apply.specs.Visits.{power_lags}
-use Rattle.pm_apply.proofs.Below.{ChipLaws}
+use Rattle.pm_record.proofs.Below.{ChipLaws}
 use Rattle.pm_apply.proofs.VisitsLemmas.{idle_at, idle_power}
 use Rattle.pm_apply.proofs.turns.is_visited.Goals as goal
 

@@ -1,6 +1,6 @@
 use Rattle.std.proofs.Common.{◌≡◌, ℕ, length, ap, ◌∙◌, arith}
 use Rattle.pm_apply.specs.Visits.{IsIdleAt}
-use Rattle.pm_apply.proofs.Below.{ChipLaws}
+use Rattle.pm_record.proofs.Below.{ChipLaws}
 use Rattle.pm_apply.proofs.TurnsLemmas.{length-unit_turns}
 use Rattle.pm_apply.proofs.UnmarkedLemmas.{all_rest}
 use Rattle.pm_apply.proofs.VisitsLemmas.{holds_on}

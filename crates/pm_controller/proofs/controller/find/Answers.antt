@@ -5,8 +5,8 @@ use Rattle.pm_state.specs.Values.{value}
 use Rattle.pm_core.specs.Outbox.{Outputs, outputs_in}
 use Rattle.pm_apply.specs.Left.{Waits, turns_left}
 use Rattle.pm_apply.specs.Part.{part_of}
-use Rattle.pm_apply.specs.Record.{IsRecordOf, Kept}
-use Rattle.pm_apply.proofs.Below.{ChipLaws}
+use Rattle.pm_record.specs.Record.{IsRecordOf, Kept}
+use Rattle.pm_record.proofs.Below.{ChipLaws}
 use Rattle.pm_controller.specs.Stands.{IsAtRest}
 use Rattle.pm_controller.proofs.WayLemmas.{comes_end, comes_on, followed_now, rests, way_on}
 use Rattle.pm_controller.proofs.controller.find.Goals as goal

@@ -1,8 +1,8 @@
 use Rattle.std.proofs.Common.{List, subst}
 use Rattle.pm_base.specs.declared.names.Unit.{Unit}
 use Rattle.pm_state.specs.Values.{value}
-use Rattle.pm_apply.specs.Visits.{Marks}
-use Rattle.pm_apply.proofs.MarkingLemmas.{alike_then, ready_then, record_then}
+use Rattle.pm_record.specs.Marks.{Marks}
+use Rattle.pm_apply.proofs.ReadyLemmas.{alike_then, ready_then, record_then}
 use Rattle.pm_apply.proofs.carrying.Carrying.begin.Goals as goal
 
 pub returns-clause-alike : goal.returns-clause-alike

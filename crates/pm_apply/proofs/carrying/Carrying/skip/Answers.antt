@@ -1,5 +1,5 @@
 use Rattle.pm_state.specs.Values.{value}
-use Rattle.pm_apply.proofs.Below.{ChipLaws}
+use Rattle.pm_record.proofs.Below.{ChipLaws}
 use Rattle.pm_apply.proofs.GapLemmas.{idle_gap}
 use Rattle.pm_apply.proofs.LeftLemmas.{Passes-gap}
 use Rattle.pm_apply.proofs.carrying.Carrying.skip.Goals as goal

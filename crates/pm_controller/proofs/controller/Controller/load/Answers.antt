@@ -2,8 +2,8 @@ use Rattle.std.proofs.Common.{List, ap, subst, ◌∙◌}
 use Rattle.pm_object.specs.declared.attached.Attached.{Attached}
 use Rattle.pm_state.specs.Load.{load_of}
 use Rattle.pm_core.specs.Step.{outputs_at_load}
-use Rattle.pm_apply.specs.Record.{Kept}
-use Rattle.pm_apply.proofs.Below.{ChipLaws}
+use Rattle.pm_record.specs.Record.{Kept}
+use Rattle.pm_record.proofs.Below.{ChipLaws}
 use Rattle.pm_controller.specs.Controls.{Controls}
 use Rattle.pm_controller.specs.Steps.{StepBegins}
 use Rattle.pm_controller.proofs.StepLemmas.{step_begins}

@@ -5,7 +5,7 @@ use Rattle.pm_clock_tree.specs.Told.{Clocked}
 use Rattle.pm_state.specs.State.{State}
 use Rattle.pm_state.specs.Values.{value}
 use Rattle.pm_apply.specs.Carried.{AreMarked}
-use Rattle.pm_apply.specs.Record.{IsRecordOf}
+use Rattle.pm_record.specs.Record.{IsRecordOf}
 use Rattle.pm_run.specs.declared.runner.Runner.{Runner}
 use Rattle.pm_replay.specs.Controls.{AreOf, IsOver}
 use Rattle.pm_replay.proofs.controller.Controller.load.Goals as goal

@@ -2,7 +2,7 @@ use Rattle.std.proofs.Common.{◌≡◌, subst, sym, true}
 use Rattle.pm_state.specs.State.{State}
 use Rattle.pm_state.specs.Values.{value}
 use Rattle.pm_apply.specs.Carried.{AreMarked}
-use Rattle.pm_apply.specs.Record.{IsRecordOf}
+use Rattle.pm_record.specs.Record.{IsRecordOf}
 use Rattle.pm_replay.specs.Controls.{IsOver}
 use Rattle.pm_replay.proofs.controller.Controller.split.Goals as goal
 

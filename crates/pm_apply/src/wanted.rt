@@ -1,0 +1,63 @@
+//! The values of a book, as a record asks for them.
+
+ghost use Rattle.std.specs.Prelude.{◌≡◌, slice_get, Some};
+ghost use Rattle.pm_topology.specs.Units.{units_of};
+ghost use Rattle.pm_state.specs.Values.{value as value_in};
+
+use pm_base::Unit;
+use pm_core::Book;
+use pm_record::Wanted;
+
+/// The values of a book, each looked up by its unit.
+#[derive(Clone, Copy)]
+pub(crate) struct UnitValues<'a> {
+    pub book: &'a Book,
+}
+
+impl<'a> Wanted for UnitValues<'a> {
+    ghost use Rattle.std.specs.Prelude.{⊤};
+    ghost use Rattle.pm_state.specs.Values.{value as value_in};
+
+    ghost value = { λ values u. value_in u values.book.now };
+
+    ghost IsAt = { λ _ _ _. ⊤ };
+
+    fn value_at(&self, _place: usize, unit: Unit) -> u32
+        ensures { result ≡ value_in unit self.now.book.now }
+    {
+        self.book.value(unit)
+    }
+}
+
+/// The values of a book, each read at the place of its unit.
+#[derive(Clone, Copy)]
+pub(crate) struct PlaceValues<'a> {
+    pub book: &'a Book,
+}
+
+impl<'a> Wanted for PlaceValues<'a> {
+    ghost use Rattle.std.specs.Prelude.{◌≡◌, slice_get, Some};
+    ghost use Rattle.pm_topology.specs.Units.{units_of};
+    ghost use Rattle.pm_state.specs.Values.{value as value_in};
+
+    ghost value = { λ values u. value_in u values.book.now };
+
+    ghost IsAt = { λ values place unit. slice_get (units_of values.book.now.fixed.topology) place ≡ Some unit };
+
+    #[inline(always)]
+    fn value_at(&self, place: usize, unit: Unit) -> u32
+        requires { slice_get (units_of self.now.book.now.fixed.topology) place ≡ Some unit }
+        ensures { result ≡ value_in unit self.now.book.now }
+    {
+        value_at(place, unit, self.book)
+    }
+}
+
+/// The value of the unit at a place, which is this one.
+#[inline(always)]
+pub(crate) fn value_at(_place: usize, unit: Unit, book: &Book) -> u32
+    requires { slice_get (units_of book.now.fixed.topology) _place ≡ Some unit }
+    ensures { result ≡ value_in unit book.now }
+{
+    book.value(unit)
+}

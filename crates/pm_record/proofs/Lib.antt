@@ -1,0 +1,11 @@
+pub mod Below
+pub mod EntryLemmas
+pub mod FoundLemmas
+pub mod KindsLemmas
+pub mod ListedLemmas
+pub mod MarkingLemmas
+pub mod MarksLemmas
+pub mod PlacesLemmas
+pub mod RecordLemmas
+pub mod UnmarkedLemmas
+pub mod UsesLemmas

@@ -1,0 +1,20 @@
+use Rattle.std.proofs.Common.{ap, length, sym, subst, ◌∙◌}
+use Rattle.pm_record.specs.Record.{Kept, kept_of}
+use Rattle.pm_record.specs.Marks.{LagsWithin}
+use Rattle.pm_record.proofs.ListedLemmas.{lags_keep, set_length}
+use Rattle.pm_record.proofs.kept.Kept.log.Goals as goal
+
+pub invariant_of-self : goal.invariant_of-self
+invariant_of-self c =
+    let P : Kept → Type 0 = λ kept. LagsWithin c.self.inside.marked.items kept in
+    let long = ap (λ (kept : Kept). length kept) c.keep.ensures.entries
+    ∙ set_length (record { units = c.units_stand_in_order.ensures; kinds = c.kinds_are_exact.ensures; table = c.unit_maps.ensures }) c.args.command.unit (record (kept_of c.self.inside.values c.args.command.unit) { value = c.args.command.value }) c.self.inside.values
+    in
+    record {
+      marks = record {
+        lags = subst P (sym c.keep.ensures.entries) (lags_keep c.units_stand_in_order.ensures c.args.command.unit c.args.command.value c.self.inside.values c.self.inside.marked.items c.keep.ensures.rising c.self.invariant.marks.lags);
+        room = c.self.invariant.marks.room ∙ sym long;
+        other = c.self.invariant.marks.other ∙ sym long;
+      };
+      uses = c.keep.ensures.uses;
+    }

@@ -1,0 +1,4 @@
+pub mod Kinds
+pub mod Marks
+pub mod Places
+pub mod Record
