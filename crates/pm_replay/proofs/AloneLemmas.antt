@@ -18,7 +18,7 @@ use Rattle.pm_run.specs.Run.{Setup, Stand, setup_of, split}
 use Rattle.pm_drive.specs.Drive.{rigs}
 use Rattle.pm_drive.specs.Heard.{heard}
 use Rattle.pm_drive.specs.Text.{later_reply}
-use Rattle.pm_replay.specs.Controls.{Controls, stand_in}
+use Rattle.pm_engine.specs.Progress.{Progress, stand_in}
 use Rattle.pm_replay.specs.Within.{RanCore, RanCores, is_alone}
 use Rattle.pm_replay.proofs.CoresLemmas.{IsUnderWay, RanCores-next}
 
@@ -90,7 +90,7 @@ module _ {O D : Type 0} (o : Sink.Ghosts O) (d : Device.Ghosts D) where
   alone_rigged event dev is = rw (alone_rigs event is) refl
 
   -- its core event was carried out, and no other is left
-  pub alone_way : (n : ℕ) (event : Event) (modules : List Ranged) (start mid : Controls) (far : Result ⊤ Failed) (first via : O) (begin between : D)
+  pub alone_way : (n : ℕ) (event : Event) (modules : List Ranged) (start mid : Progress) (far : Result ⊤ Failed) (first via : O) (begin between : D)
       → is_alone event ≡ true → mid.boxes ≡ start.boxes → mid.clocks.told ≡ start.clocks.told
       → RanCore o d n event start.book start.kept start.clocks.tree mid modules (Ok tt) far first via begin between
       → IsUnderWay o d n event modules Past start mid (later_reply None (heard modules event mid.outbox.answer)) far first via begin between

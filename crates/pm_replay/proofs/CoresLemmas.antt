@@ -1,15 +1,9 @@
 -- The core events of a line are carried out one after another.
-use Rattle.std.proofs.Common.{◌≡◌, ℕ, Bool, true, false, List, [], ◌∷◌, ◌++◌, map, Option, None, Some, Result, Ok, Err, suc, refl, sym, ◌∙◌, ap, subst}
-use Rattle.std.specs.Prelude.{⊤, OnErr, OnOk}
-use Rattle.std.proofs.lemmas.Grind.{flat_map-append}
-use Rattle.std.proofs.lemmas.List.{append_assoc}
+use Rattle.std.proofs.Common.{◌≡◌, ℕ, Bool, List, [], ◌∷◌, ◌++◌, map, Option, None, Result, Ok, suc, refl, sym, ◌∙◌, ap, subst}
+use Rattle.std.specs.Prelude.{⊤}
 use Rattle.pm_base.specs.declared.errors.Failed.{Failed}
 use Rattle.pm_base.specs.declared.events.Event.{Event}
-use Rattle.pm_base.specs.declared.events.Event.TheVariants.{Ipi}
 use Rattle.pm_io.specs.declared.sink.Sink as Sink
-use Rattle.pm_io.specs.Sink.{Wrote}
-use Rattle.pm_io.specs.Writing.{BreaksIn}
-use Rattle.pm_io.proofs.SinkLemmas.{Wrote-refl, Wrote-trans}
 use Rattle.pm_device.specs.declared.device.Device as Device
 use Rattle.pm_device.specs.Act.{Chain}
 use Rattle.pm_device.specs.Chains.{Chain-append}
@@ -22,117 +16,37 @@ use Rattle.pm_state.specs.State.{Fixed, State}
 use Rattle.pm_core.specs.Step.{effect, outputs}
 use Rattle.pm_core.specs.declared.outbox.Done.{Done}
 use Rattle.pm_core.specs.declared.replies.Answer.{Answer}
-use Rattle.pm_core.specs.declared.replies.Answer.TheVariants.{Ack, Drop, Reply, Silent}
 use Rattle.pm_clock_tree.specs.Told.{Clocked, changes, told as clocks_told}
 use Rattle.pm_clock_tree.specs.Tree.{Tree, running}
-use Rattle.pm_clocks.specs.Clocked.{clock_answer, made, tree_after}
+use Rattle.pm_clocks.specs.Clocked.{clock_answer, tree_after}
 use Rattle.pm_split.specs.declared.cores.CoreEvents.{CoreEvents}
 use Rattle.pm_split.specs.Boxes.{Boxes}
 use Rattle.pm_split.specs.Left.{boxes_left, events_left}
 use Rattle.pm_split.specs.Split.{Note, called_note}
 use Rattle.pm_run.specs.Run.{Core, Setup, core_of, cores_of, setup_of, split}
-use Rattle.pm_apply.specs.Failing.{told_answer}
 use Rattle.pm_apply.specs.Part.{Kept, Part, answers_in, orders_of, part_in, part_of}
-use Rattle.pm_trace.specs.Notes.{note_line, notes_text}
+use Rattle.pm_trace.specs.Notes.{notes_text}
 use Rattle.pm_trace.specs.Step.{Notices, notices_of, step_text}
 use Rattle.pm_drive.specs.Drive.{Given, give, kept_after, orders_in_cores, rigs}
 use Rattle.pm_drive.specs.Clocks.{clock_note, clock_notes, clocked_cores, clocked_part, tree_along}
 use Rattle.pm_drive.specs.Heard.{heard, heard_cores}
 use Rattle.pm_drive.specs.Tasks.{task_notes}
 use Rattle.pm_drive.specs.Text.{given_text, later_reply, reply_after}
-use Rattle.pm_replay.specs.Controls.{Controls, stand_in}
-use Rattle.pm_replay.specs.Within.{AreTold, RanCore, RanCores, RanLine, Writes, WritesOn, given_from}
-
-module _ {O : Type 0} (o : Sink.Ghosts O) where
-  -- a piece was written, by the result
-  pub wrote_by : (piece : List ℕ) (old new : O) (result : Result ⊤ Failed) → OnOk result (Wrote o.observable piece (o.state old) (o.state new)) → OnErr result (BreaksIn o 0 (piece ∷ []) old new) → Writes o piece old new result
-  wrote_by piece old new (Ok nothing) written short = written
-  wrote_by piece old new (Err error) written short = short
-
-  -- nothing more was written
-  pub on-none : (so_far : Result ⊤ Failed) (old : O) → WritesOn o [] so_far so_far old old
-  on-none (Ok nothing) old = Wrote-refl o.observable (o.state old)
-  on-none (Err error) old = (refl, refl)
-
-  -- the sink broke off within the first of two texts
-  breaks-first : (a b : List ℕ) (old new : O) → BreaksIn o 0 (a ∷ []) old new → BreaksIn o 0 ((a ++ b) ∷ []) old new
-  breaks-first a b old new breaks =
-      let whole : breaks.part ++ breaks.lost ≡ a = sym breaks.split ∙ first breaks.piece breaks.is in
-      record {
-        piece = a ++ b;
-        part = breaks.part;
-        lost = breaks.lost ++ b;
-        before = breaks.before;
-        is = refl;
-        split = ap (λ (text : List ℕ). text ++ b) (sym whole) ∙ append_assoc breaks.part breaks.lost b;
-        short = longer breaks.lost b breaks.short;
-        wrote = breaks.wrote;
-        failed = breaks.failed;
-        ended = breaks.ended;
-      }
-    where
-      first : (piece : List ℕ) → ◌≡◌ {A = Option (List ℕ)} (Some a) (Some piece) → piece ≡ a
-      first piece e = cc
-
-      longer : (lost more : List ℕ) → (lost ≡ [] → ⊥) → lost ++ more ≡ [] → ⊥
-      longer [] more some e = some refl
-      longer (x ∷ lost) more some e = cc
-
-  -- or within the second of them
-  BreaksIn-second : (a b : List ℕ) (old via new : O) → Wrote o.observable a (o.state old) (o.state via) → BreaksIn o 0 (b ∷ []) via new → BreaksIn o 0 ((a ++ b) ∷ []) old new
-  BreaksIn-second a b old via new first breaks =
-      let whole : breaks.part ++ breaks.lost ≡ b = sym breaks.split ∙ second breaks.piece breaks.is in
-      record {
-        piece = a ++ b;
-        part = a ++ breaks.part;
-        lost = breaks.lost;
-        before = breaks.before;
-        is = refl;
-        split = ap (λ (text : List ℕ). a ++ text) (sym whole) ∙ sym (append_assoc a breaks.part breaks.lost);
-        short = breaks.short;
-        wrote = Wrote-trans o.observable a breaks.part (o.state old) (o.state via) (o.state breaks.before) first breaks.wrote;
-        failed = breaks.failed;
-        ended = breaks.ended;
-      }
-    where
-      second : (piece : List ℕ) → ◌≡◌ {A = Option (List ℕ)} (Some b) (Some piece) → piece ≡ b
-      second piece e = cc
-
-  -- one text after another
-  pub on-both : (a b : List ℕ) (s f r : Result ⊤ Failed) (old via new : O) → WritesOn o a s f old via → WritesOn o b f r via new → WritesOn o (a ++ b) s r old new
-  on-both a b (Ok n) (Ok m) (Ok k) old via new first second = Wrote-trans o.observable a b (o.state old) (o.state via) (o.state new) first second
-  on-both a b (Ok n) (Ok m) (Err e) old via new first second = BreaksIn-second a b old via new first second
-  on-both a b (Ok n) (Err e) r old via new first second = subst (λ (r : Result ⊤ Failed). WritesOn o (a ++ b) (Ok n) r old new) (sym second.0) (subst (λ (new : O). BreaksIn o 0 ((a ++ b) ∷ []) old new) second.1 (breaks-first a b old via first))
-  on-both a b (Err e) f r old via new first second = after f first.0 second
-    where
-      after : (f : Result ⊤ Failed) → f ≡ Err e → WritesOn o b f r via new → (r ≡ Err e) × (old ≡ new)
-      after (Ok m) is second = cc
-      after (Err other) is second = (second.0 ∙ is, first.1 ∙ second.1)
-
--- the notes of two lists, one after another
-pub notes_after : (n : ℕ) (a b : List Note) → notes_text n (a ++ b) ≡ notes_text n a ++ notes_text n b
-notes_after n a b = flat_map-append (note_line n) a b
+use Rattle.pm_engine.specs.Progress.{Progress, stand_in}
+use Rattle.pm_engine.specs.Writes.{WritesOn}
+use Rattle.pm_replay.specs.Within.{AreTold, RanCore, RanCores, RanLine, given_from}
 
 -- clocks by their tree and what was told of them
 clocked_is : (clocks : Clocked) (tree : Tree) (told : List Bool) → clocks.tree ≡ tree → clocks.told ≡ told → clocks ≡ record { tree = tree; told = told }
 clocked_is clocks tree told tree_is told_is = rw (tree_is, told_is) refl
 
--- a clock's reply is made where the book's answer is a reply, whatever the device did
-pub made_alike : (event : Event) (short : Bool) (answer : Answer) → made event (told_answer short answer) ≡ made event answer
-made_alike (Ipi sender message) true (Reply master response) = refl
-made_alike (Ipi sender message) true Silent = refl
-made_alike (Ipi sender message) true (Drop master) = refl
-made_alike (Ipi sender message) true (Ack master node status point shown) = refl
-made_alike event true answer = refl
-made_alike event false answer = refl
-
 module _ {O D : Type 0} (o : Sink.Ghosts O) (d : Device.Ghosts D) where
   -- none is left
-  pub RanCores-none : (n : ℕ) (now then : Controls) (modules : List Ranged) (reply : Option Response) (so_far : Result ⊤ Failed) (old : O) (from : D) → then.book ≡ now.book → then.kept ≡ now.kept → then.clocks.tree ≡ now.clocks.tree → RanCores o d n [] now.book now.kept now.clocks.tree then modules reply reply so_far so_far old old from from
+  pub RanCores-none : (n : ℕ) (now then : Progress) (modules : List Ranged) (reply : Option Response) (so_far : Result ⊤ Failed) (old : O) (from : D) → then.book ≡ now.book → then.kept ≡ now.kept → then.clocks.tree ≡ now.clocks.tree → RanCores o d n [] now.book now.kept now.clocks.tree then modules reply reply so_far so_far old old from from
   RanCores-none n now then modules reply so_far old from book kept tree = record { answers = []; fits = refl; after = book; keeps = kept; given = refl; turned = tree; replied = refl; writes = on-none o so_far old }
 
   -- one was carried out, and then the others
-  pub RanCores-next : (n : ℕ) (event : Event) (events : List Event) (book : State) (kept : Kept) (tree : Tree) (mid then : Controls) (modules : List Ranged) (reply told : Option Response) (so_far far result : Result ⊤ Failed) (old via new : O) (from between to : D) → RanCore o d n event book kept tree mid modules so_far far old via from between → RanCores o d n events mid.book mid.kept mid.clocks.tree then modules (later_reply reply (heard modules event mid.outbox.answer)) told far result via new between to → RanCores o d n (event ∷ events) book kept tree then modules reply told so_far result old new from to
+  pub RanCores-next : (n : ℕ) (event : Event) (events : List Event) (book : State) (kept : Kept) (tree : Tree) (mid then : Progress) (modules : List Ranged) (reply told : Option Response) (so_far far result : Result ⊤ Failed) (old via new : O) (from between to : D) → RanCore o d n event book kept tree mid modules so_far far old via from between → RanCores o d n events mid.book mid.kept mid.clocks.tree then modules (later_reply reply (heard modules event mid.outbox.answer)) told far result via new between to → RanCores o d n (event ∷ events) book kept tree then modules reply told so_far result old new from to
   RanCores-next n event events book kept tree mid then modules reply told so_far far result old via new from between to one later =
       let answer : Answer = heard modules event mid.outbox.answer in
       let next : Option Response = later_reply reply answer in
@@ -174,16 +88,16 @@ module _ {O D : Type 0} (o : Sink.Ghosts O) (d : Device.Ghosts D) where
 
   -- part of the way: however the core events that are left are carried out, those of the whole line are carried out so, from where
   -- the device was when they began; and the boxes that are left are those after the line
-  pub record IsUnderWay (n : ℕ) (event : Event) (modules : List Ranged) (left : CoreEvents) (start now : Controls) (reply : Option Response) (so_far : Result ⊤ Failed) (first old : O) (begin dev : D) : Type 0 where
+  pub record IsUnderWay (n : ℕ) (event : Event) (modules : List Ranged) (left : CoreEvents) (start now : Progress) (reply : Option Response) (so_far : Result ⊤ Failed) (first old : O) (begin dev : D) : Type 0 where
     pub fixed : now.book.fixed ≡ start.book.fixed
     pub still : now.clocks.told ≡ start.clocks.told
-    pub goes : (then : Controls) (told : Option Response) (result : Result ⊤ Failed) (new : O) (to : D)
+    pub goes : (then : Progress) (told : Option Response) (result : Result ⊤ Failed) (new : O) (to : D)
         → RanCores o d n (events_left start.book.fixed.object start.book.fixed.topology now.boxes left) now.book now.kept now.clocks.tree then modules reply told so_far result old new dev to
         → RanCores o d n (split (setup_of start.book) event (stand_in start)).events start.book start.kept start.clocks.tree then modules None told (Ok tt) result first new begin to
     pub boxes : boxes_left now.boxes left ≡ (split (setup_of start.book) event (stand_in start)).boxes
 
   -- nothing was carried out yet
-  pub none_yet : (n : ℕ) (event : Event) (modules : List Ranged) (left : CoreEvents) (start now : Controls) (first : O) (begin : D)
+  pub none_yet : (n : ℕ) (event : Event) (modules : List Ranged) (left : CoreEvents) (start now : Progress) (first : O) (begin : D)
       → now.book ≡ start.book → now.kept ≡ start.kept → now.clocks ≡ start.clocks
       → events_left start.book.fixed.object start.book.fixed.topology now.boxes left ≡ (split (setup_of start.book) event (stand_in start)).events
       → boxes_left now.boxes left ≡ (split (setup_of start.book) event (stand_in start)).boxes
@@ -202,7 +116,7 @@ module _ {O D : Type 0} (o : Sink.Ghosts O) (d : Device.Ghosts D) where
   }
 
   -- one more is taken off and carried out
-  pub one_more : (n : ℕ) (event core : Event) (modules : List Ranged) (left rest : CoreEvents) (start now taken mid : Controls) (reply : Option Response) (so_far far : Result ⊤ Failed) (first old via : O) (begin dev between : D)
+  pub one_more : (n : ℕ) (event core : Event) (modules : List Ranged) (left rest : CoreEvents) (start now taken mid : Progress) (reply : Option Response) (so_far far : Result ⊤ Failed) (first old via : O) (begin dev between : D)
       → IsUnderWay n event modules left start now reply so_far first old begin dev
       → taken.book ≡ now.book → taken.kept ≡ now.kept → taken.clocks ≡ now.clocks
       → events_left now.book.fixed.object now.book.fixed.topology now.boxes left ≡ core ∷ events_left now.book.fixed.object now.book.fixed.topology taken.boxes rest
@@ -231,7 +145,7 @@ module _ {O D : Type 0} (o : Sink.Ghosts O) (d : Device.Ghosts D) where
       }
 
   -- none is left: the line was carried out, what it writes itself was written, clocks are told of, and its tasks were called
-  pub line_ran : (n : ℕ) (event : Event) (board is_board : Standing) (left : CoreEvents) (noted : List Note) (start now then : Controls) (reply : Option Response) (so_far result : Result ⊤ Failed) (first old new : O) (from begin dev : D)
+  pub line_ran : (n : ℕ) (event : Event) (board is_board : Standing) (left : CoreEvents) (noted : List Note) (start now then : Progress) (reply : Option Response) (so_far result : Result ⊤ Failed) (first old new : O) (from begin dev : D)
       → Chain d.Does (rigs event) from begin
       → IsUnderWay n event board.modules left start now reply so_far first old begin dev
       → then.book ≡ now.book → then.kept ≡ now.kept → then.clocks ≡ clocks_told now.clocks → AreTold start.clocks

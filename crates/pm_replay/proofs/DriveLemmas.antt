@@ -7,14 +7,14 @@ use Rattle.pm_state.specs.State.{State}
 use Rattle.pm_core.specs.Step.{effect}
 use Rattle.pm_apply.specs.Part.{Kept, part_of}
 use Rattle.pm_drive.specs.Drive.{Driven, Given, answers_after, drive, drive_line, give, kept_after, until}
-use Rattle.pm_replay.specs.Controls.{Controls, stand_in}
+use Rattle.pm_engine.specs.Progress.{Progress, stand_in}
 use Rattle.pm_replay.specs.Within.{driven_from}
 use Rattle.pm_replay.proofs.LeavesLemmas.{behind}
 
 -- ---- one line
 
 -- a line that is driven from where a run stands
-abbrev pub driven_line : Setup → Event → Controls → List (List Bool) → Driven
+abbrev pub driven_line : Setup → Event → Progress → List (List Bool) → Driven
 driven_line c event now answers = drive_line now.kept answers (line_of c event (stand_in now))
 
 -- so many answers as core steps are all that these take
@@ -35,7 +35,7 @@ length-cores [] book = refl
 length-cores (event ∷ events) book = ap suc (length-cores events (effect event book))
 
 -- the lines of more events begin with that of the first
-pub driven_next : (c : Setup) (event : Event) (events : List Event) (now then : Controls) (answers later : List (List Bool)) → length answers ≡ length (split c event (stand_in now)).events → then.book ≡ (line_of c event (stand_in now)).after.book → then.boxes ≡ (split c event (stand_in now)).boxes → then.kept ≡ kept_after now.kept (give now.kept answers (line_of c event (stand_in now)).cores) → driven_from c now (answers ++ later) (event ∷ events) ≡ driven_line c event now answers ∷ driven_from c then later events
+pub driven_next : (c : Setup) (event : Event) (events : List Event) (now then : Progress) (answers later : List (List Bool)) → length answers ≡ length (split c event (stand_in now)).events → then.book ≡ (line_of c event (stand_in now)).after.book → then.boxes ≡ (split c event (stand_in now)).boxes → then.kept ≡ kept_after now.kept (give now.kept answers (line_of c event (stand_in now)).cores) → driven_from c now (answers ++ later) (event ∷ events) ≡ driven_line c event now answers ∷ driven_from c then later events
 driven_next c event events now then answers later fits book boxes kept =
     let line : Line = line_of c event (stand_in now) in
     let x : Driven = drive_line now.kept answers line in

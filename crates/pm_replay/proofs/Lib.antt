@@ -1,11 +1,7 @@
-pub mod ClocksLemmas
 pub mod CoresLemmas
 pub mod AloneLemmas
 pub mod DriveLemmas
 pub mod LeavesLemmas
 pub mod LinesLemmas
-pub mod NoticesLemmas
 pub mod ReplayLemmas
 pub mod RestLemmas
-pub mod TasksLemmas
-pub mod WritingLemmas

@@ -34,10 +34,11 @@ use Rattle.pm_drive.specs.Clocks.{clocked_by, clocked_line, last_tree, tree_alon
 use Rattle.pm_drive.specs.Heard.{heard_by, heard_line, last_board}
 use Rattle.pm_drive.specs.Text.{driven_text, given_text, notes_of, texts}
 use Rattle.pm_trace.specs.Notes.{notes_text}
-use Rattle.pm_replay.specs.Controls.{Controls, stand_in}
+use Rattle.pm_engine.specs.Progress.{Progress, stand_in}
 use Rattle.pm_replay.specs.Plays.{Plays}
-use Rattle.pm_replay.specs.Within.{AreTold, RanLine, RanLines, Went, WritesOn, driven_from, heard_from}
-use Rattle.pm_replay.proofs.CoresLemmas.{on-both}
+use Rattle.pm_engine.specs.Writes.{WritesOn}
+use Rattle.pm_replay.specs.Within.{AreTold, RanLine, RanLines, Went, driven_from, heard_from}
+use Rattle.pm_engine.proofs.WritesLemmas.{on-both}
 use Rattle.pm_replay.proofs.DriveLemmas.{driven_line, driven_next, until-cons}
 use Rattle.pm_replay.proofs.LeavesLemmas.{Leaves-before, Leaves-cons, behind}
 
@@ -64,7 +65,7 @@ module _ {O D : Type 0} (o : Sink.Ghosts O) (d : Device.Ghosts D) where
   -- ---- lines
 
   -- lines of these events were run to their end, and the run and the board stand after them
-  record RanAll (c : Setup) (n : ℕ) (events : List Event) (now then : Controls) (old new : O) (from to : D) (board is : Standing) : Type 0 where
+  record RanAll (c : Setup) (n : ℕ) (events : List Event) (now then : Progress) (old new : O) (from to : D) (board is : Standing) : Type 0 where
     pub answers : List (List Bool)
     pub went : Went o d (texts n (heard_from c board now answers events)) (driven_from c now answers events) None old new from to
     pub book : then.book ≡ last_book now.book (driven_from c now answers events)
@@ -73,16 +74,16 @@ module _ {O D : Type 0} (o : Sink.Ghosts O) (d : Device.Ghosts D) where
     pub tasks_left : is ≡ last_board board (driven_from c now answers events)
 
   -- lines of these events were run up to one within which the sink broke off
-  record RanSome (c : Setup) (n : ℕ) (events : List Event) (now : Controls) (old new : O) (from to : D) (board is : Standing) : Type 0 where
+  record RanSome (c : Setup) (n : ℕ) (events : List Event) (now : Progress) (old new : O) (from to : D) (board is : Standing) : Type 0 where
     pub answers : List (List Bool)
     pub place : ℕ
     pub went : Went o d (texts n (heard_from c board now answers events)) (driven_from c now answers events) (Some place) old new from to
     pub tasks_left : is ≡ last_board board (until (Some place) (driven_from c now answers events))
 
-  RanAll-none : (c : Setup) (n : ℕ) (now : Controls) (old : O) (from : D) (board : Standing) → RanAll c n [] now now old old from from board board
+  RanAll-none : (c : Setup) (n : ℕ) (now : Progress) (old : O) (from : D) (board : Standing) → RanAll c n [] now now old old from from board board
   RanAll-none c n now old from board = record { answers = []; went = Went-nil old from; book = refl; kept = refl; tree = refl; tasks_left = refl }
 
-  module _ (c : Setup) (n : ℕ) (event : Event) (now then : Controls) (old new : O) (from to : D) (board is : Standing) (result : Result ⊤ Failed) (ran : RanLine o d c n event now then old new from to board is result) where
+  module _ (c : Setup) (n : ℕ) (event : Event) (now then : Progress) (old new : O) (from to : D) (board is : Standing) (result : Result ⊤ Failed) (ran : RanLine o d c n event now then old new from to board is result) where
     -- all that was done to the device in a line
     line_given : Chain d.Does (acts_of (driven_line c event now ran.cores.answers)) from to
     line_given =
@@ -104,11 +105,11 @@ module _ {O D : Type 0} (o : Sink.Ghosts O) (d : Device.Ghosts D) where
   same_setup [] book = refl
   same_setup (event ∷ events) book = same_setup events (effect event book)
 
-  setup_next : (c : Setup) (n : ℕ) (event : Event) (now then : Controls) (old new : O) (from to : D) (board is : Standing) (result : Result ⊤ Failed) → RanLine o d c n event now then old new from to board is result → setup_of now.book ≡ c → setup_of then.book ≡ c
+  setup_next : (c : Setup) (n : ℕ) (event : Event) (now then : Progress) (old new : O) (from to : D) (board is : Standing) (result : Result ⊤ Failed) → RanLine o d c n event now then old new from to board is result → setup_of now.book ≡ c → setup_of then.book ≡ c
   setup_next c n event now then old new from to board is result ran same =
       ap setup_of ran.cores.after ∙ (same_setup (split c event (stand_in now)).events now.book ∙ same)
 
-  module _ (c : Setup) (n : ℕ) (event : Event) (events : List Event) (now mid : Controls) (old via new : O) (from between to : D) (board mid_board is : Standing) (ran : RanLine o d c n event now mid old via from between board mid_board (Ok tt)) where
+  module _ (c : Setup) (n : ℕ) (event : Event) (events : List Event) (now mid : Progress) (old via new : O) (from between to : D) (board mid_board is : Standing) (ran : RanLine o d c n event now mid old via from between board mid_board (Ok tt)) where
     next : (later : List (List Bool)) → driven_from c now (ran.cores.answers ++ later) (event ∷ events) ≡ driven_line c event now ran.cores.answers ∷ driven_from c mid later events
     next later = driven_next c event events now mid ran.cores.answers later ran.cores.fits ran.cores.after ran.boxes ran.cores.keeps
 
@@ -132,7 +133,7 @@ module _ {O D : Type 0} (o : Sink.Ghosts O) (d : Device.Ghosts D) where
         ∙ sym (ap (λ (xs : List Driven). last_board board xs) (until-cons cut x ys))
         ∙ sym (ap (λ (xs : List Driven). last_board board (until (behind 1 cut) xs)) (next later))
 
-    RanAll-next : (then : Controls) → RanAll c (n + 1) events mid then via new between to mid_board is → RanAll c n (event ∷ events) now then old new from to board is
+    RanAll-next : (then : Progress) → RanAll c (n + 1) events mid then via new between to mid_board is → RanAll c n (event ∷ events) now then old new from to board is
     RanAll-next then rest = record {
       answers = ran.cores.answers ++ rest.answers;
       went = went_next rest.answers None rest.went;
@@ -151,7 +152,7 @@ module _ {O D : Type 0} (o : Sink.Ghosts O) (d : Device.Ghosts D) where
     }
 
   -- the sink broke off within the first of these lines, which was carried out to its end
-  RanSome-first : (c : Setup) (n : ℕ) (event : Event) (events : List Event) (now then : Controls) (old new : O) (from to : D) (board is : Standing) (failed : Failed) → RanLine o d c n event now then old new from to board is (Err failed) → RanSome c n (event ∷ events) now old new from to board is
+  RanSome-first : (c : Setup) (n : ℕ) (event : Event) (events : List Event) (now then : Progress) (old new : O) (from to : D) (board is : Standing) (failed : Failed) → RanLine o d c n event now then old new from to board is (Err failed) → RanSome c n (event ∷ events) now old new from to board is
   RanSome-first c n event events now then old new from to board is failed ran =
       let x : Driven = driven_line c event now ran.cores.answers in
       let ys : List Driven = driven_from c then [] events in
@@ -171,48 +172,48 @@ module _ {O D : Type 0} (o : Sink.Ghosts O) (d : Device.Ghosts D) where
     abbrev pub board_of : Player O D H T → Standing
     board_of player = standing r h player.modules.now player.tasks.now
 
-    ran_through : (c : Setup) (n : ℕ) (events : List Event) (old new : Player O D H T) → setup_of old.controller.now.book ≡ c → AreTold old.controller.now.clocks → GoesThrough (Plays o d r h) n events old new → RanAll c n events old.controller.now new.controller.now old.out.now new.out.now old.dev.now new.dev.now (board_of old) (board_of new)
-    ran_through c n [] old new is told same = subst (λ (p : Player O D H T). RanAll c n [] old.controller.now p.controller.now old.out.now p.out.now old.dev.now p.dev.now (board_of old) (board_of p)) same (RanAll-none c n old.controller.now old.out.now old.dev.now (board_of old))
+    ran_through : (c : Setup) (n : ℕ) (events : List Event) (old new : Player O D H T) → setup_of old.engine.now.book ≡ c → AreTold old.engine.now.clocks → GoesThrough (Plays o d r h) n events old new → RanAll c n events old.engine.now new.engine.now old.out.now new.out.now old.dev.now new.dev.now (board_of old) (board_of new)
+    ran_through c n [] old new is told same = subst (λ (p : Player O D H T). RanAll c n [] old.engine.now p.engine.now old.out.now p.out.now old.dev.now p.dev.now (board_of old) (board_of p)) same (RanAll-none c n old.engine.now old.out.now old.dev.now (board_of old))
     ran_through c n (event ∷ events) old new is told (mid, one, rest) =
         let ran = one.ran c is told in
-        let next = setup_next c n event old.controller.now mid.controller.now old.out.now mid.out.now old.dev.now mid.dev.now (board_of old) (board_of mid) (Ok tt) ran is in
-        RanAll-next c n event events old.controller.now mid.controller.now old.out.now mid.out.now new.out.now old.dev.now mid.dev.now new.dev.now (board_of old) (board_of mid) (board_of new) ran new.controller.now (ran_through c (n + 1) events mid new next ran.clocks_told rest)
+        let next = setup_next c n event old.engine.now mid.engine.now old.out.now mid.out.now old.dev.now mid.dev.now (board_of old) (board_of mid) (Ok tt) ran is in
+        RanAll-next c n event events old.engine.now mid.engine.now old.out.now mid.out.now new.out.now old.dev.now mid.dev.now new.dev.now (board_of old) (board_of mid) (board_of new) ran new.engine.now (ran_through c (n + 1) events mid new next ran.clocks_told rest)
 
-    ran_within : (c : Setup) (n : ℕ) (events : List Event) (old new : Player O D H T) → setup_of old.controller.now.book ≡ c → AreTold old.controller.now.clocks → FailsWithin (Plays o d r h) n events old new → RanSome c n events old.controller.now old.out.now new.out.now old.dev.now new.dev.now (board_of old) (board_of new)
+    ran_within : (c : Setup) (n : ℕ) (events : List Event) (old new : Player O D H T) → setup_of old.engine.now.book ≡ c → AreTold old.engine.now.clocks → FailsWithin (Plays o d r h) n events old new → RanSome c n events old.engine.now old.out.now new.out.now old.dev.now new.dev.now (board_of old) (board_of new)
     ran_within c n [] old new is told none = absurd none
-    ran_within c n (event ∷ events) old new is told (inl (failed, one)) = RanSome-first c n event events old.controller.now new.controller.now old.out.now new.out.now old.dev.now new.dev.now (board_of old) (board_of new) failed (one.ran c is told)
+    ran_within c n (event ∷ events) old new is told (inl (failed, one)) = RanSome-first c n event events old.engine.now new.engine.now old.out.now new.out.now old.dev.now new.dev.now (board_of old) (board_of new) failed (one.ran c is told)
     ran_within c n (event ∷ events) old new is told (inr (mid, one, rest)) =
         let ran = one.ran c is told in
-        let next = setup_next c n event old.controller.now mid.controller.now old.out.now mid.out.now old.dev.now mid.dev.now (board_of old) (board_of mid) (Ok tt) ran is in
-        RanSome-next c n event events old.controller.now mid.controller.now old.out.now mid.out.now new.out.now old.dev.now mid.dev.now new.dev.now (board_of old) (board_of mid) (board_of new) ran (ran_within c (n + 1) events mid new next ran.clocks_told rest)
+        let next = setup_next c n event old.engine.now mid.engine.now old.out.now mid.out.now old.dev.now mid.dev.now (board_of old) (board_of mid) (Ok tt) ran is in
+        RanSome-next c n event events old.engine.now mid.engine.now old.out.now mid.out.now new.out.now old.dev.now mid.dev.now new.dev.now (board_of old) (board_of mid) (board_of new) ran (ran_within c (n + 1) events mid new next ran.clocks_told rest)
 
     -- a player holds what it held
     pub record HoldsSame (old new : Player O D H T) : Type 0 where
-      pub controller : new.controller.ghost_name ≡ old.controller.ghost_name
+      pub engine : new.engine.ghost_name ≡ old.engine.ghost_name
       pub out : new.out.ghost_name ≡ old.out.ghost_name
       pub dev : new.dev.ghost_name ≡ old.dev.ghost_name
       pub modules : new.modules.now ≡ old.modules.now
       pub tasks : new.tasks.ghost_name ≡ old.tasks.ghost_name
 
     same_through : (n : ℕ) (events : List Event) (old new : Player O D H T) → GoesThrough (Plays o d r h) n events old new → HoldsSame old new
-    same_through n [] old new same = subst (HoldsSame old) same (record { controller = refl; out = refl; dev = refl; modules = refl; tasks = refl })
+    same_through n [] old new same = subst (HoldsSame old) same (record { engine = refl; out = refl; dev = refl; modules = refl; tasks = refl })
     same_through n (event ∷ events) old new (mid, one, rest) =
         let later = same_through (n + 1) events mid new rest in
-        record { controller = later.controller ∙ one.controller; out = later.out ∙ one.out; dev = later.dev ∙ one.dev; modules = later.modules ∙ one.modules; tasks = later.tasks ∙ one.tasks }
+        record { engine = later.engine ∙ one.engine; out = later.out ∙ one.out; dev = later.dev ∙ one.dev; modules = later.modules ∙ one.modules; tasks = later.tasks ∙ one.tasks }
 
     same_within : (n : ℕ) (events : List Event) (old new : Player O D H T) → FailsWithin (Plays o d r h) n events old new → HoldsSame old new
     same_within n [] old new none = absurd none
-    same_within n (event ∷ events) old new (inl (failed, one)) = record { controller = one.controller; out = one.out; dev = one.dev; modules = one.modules; tasks = one.tasks }
+    same_within n (event ∷ events) old new (inl (failed, one)) = record { engine = one.engine; out = one.out; dev = one.dev; modules = one.modules; tasks = one.tasks }
     same_within n (event ∷ events) old new (inr (mid, one, rest)) =
         let later = same_within (n + 1) events mid new rest in
-        record { controller = later.controller ∙ one.controller; out = later.out ∙ one.out; dev = later.dev ∙ one.dev; modules = later.modules ∙ one.modules; tasks = later.tasks ∙ one.tasks }
+        record { engine = later.engine ∙ one.engine; out = later.out ∙ one.out; dev = later.dev ∙ one.dev; modules = later.modules ∙ one.modules; tasks = later.tasks ∙ one.tasks }
 
     pub holds_same : (n : ℕ) (s : Script) (old new : Player O D H T) (result : Result reader.LinesEnd LineStop) → Followed (Plays o d r h) n s old new result → HoldsSame old new
     holds_same n s old new (Ok end) did = same_through n s.events old new did.0
     holds_same n s old new (Err (stops.Bad m cause)) did = same_through n s.events old new did.0
     holds_same n s old new (Err stops.Broken) did = same_within n s.events old new did
 
-    lines_ran : (c : Setup) (n : ℕ) (s : Script) (old new : Player O D H T) (result : Result reader.LinesEnd LineStop) → setup_of old.controller.now.book ≡ c → AreTold old.controller.now.clocks → Followed (Plays o d r h) n s old new result → RanLines o d c n s old.controller.now new.controller.now old.out.now new.out.now old.dev.now new.dev.now (board_of old) (board_of new) result
+    lines_ran : (c : Setup) (n : ℕ) (s : Script) (old new : Player O D H T) (result : Result reader.LinesEnd LineStop) → setup_of old.engine.now.book ≡ c → AreTold old.engine.now.clocks → Followed (Plays o d r h) n s old new result → RanLines o d c n s old.engine.now new.engine.now old.out.now new.out.now old.dev.now new.dev.now (board_of old) (board_of new) result
     lines_ran c n s old new (Ok end) is told did =
         let ran = ran_through c n s.events old new is told did.0 in
         record { answers = ran.answers; cut = None; went = ran.went; tasks_left = ran.tasks_left; ends = (refl, did.1, ran.book, ran.kept, ran.tree) }
@@ -223,7 +224,7 @@ module _ {O D : Type 0} (o : Sink.Ghosts O) (d : Device.Ghosts D) where
         let ran = ran_within c n s.events old new is told did in
         record { answers = ran.answers; cut = Some ran.place; went = ran.went; tasks_left = ran.tasks_left; ends = (ran.place, refl) }
 
-    pub ran_lines : (c : Setup) (n : ℕ) (s : Script) (old new : Player O D H T) (result : Result reader.LinesEnd LineStop) → setup_of old.controller.now.book ≡ c → AreTold old.controller.now.clocks → Followed (Plays o d r h) n s old new result → RanLines o d c n s old.controller.now new.controller.now old.out.now new.out.now old.dev.now new.dev.now (board_of old) (standing r h old.modules.now new.tasks.now) result
+    pub ran_lines : (c : Setup) (n : ℕ) (s : Script) (old new : Player O D H T) (result : Result reader.LinesEnd LineStop) → setup_of old.engine.now.book ≡ c → AreTold old.engine.now.clocks → Followed (Plays o d r h) n s old new result → RanLines o d c n s old.engine.now new.engine.now old.out.now new.out.now old.dev.now new.dev.now (board_of old) (standing r h old.modules.now new.tasks.now) result
     ran_lines c n s old new result is told did =
-        subst (λ (modules : ModulesOf H). RanLines o d c n s old.controller.now new.controller.now old.out.now new.out.now old.dev.now new.dev.now (board_of old) (standing r h modules new.tasks.now) result)
+        subst (λ (modules : ModulesOf H). RanLines o d c n s old.engine.now new.engine.now old.out.now new.out.now old.dev.now new.dev.now (board_of old) (standing r h modules new.tasks.now) result)
         (holds_same n s old new result did).modules (lines_ran c n s old new result is told did)

@@ -53,7 +53,7 @@ use Rattle.pm_drive.specs.Text.{closing_after, texts}
 use Rattle.pm_trace.specs.Notes.{notes_text}
 use Rattle.pm_trace.specs.Scripts.{at_end, fault_at}
 use Rattle.pm_replay.specs.Replay.{run_report}
-use Rattle.pm_replay.specs.Controls.{AreOf, Controls}
+use Rattle.pm_engine.specs.Progress.{AreOf, Progress}
 use Rattle.pm_replay.specs.Within.{IsLoaded, RanLines, RanRest, RanScript, Started, Went, closing_report, driven_from, heard_from, report_from, table_from}
 use Rattle.pm_replay.proofs.DriveLemmas.{until-cons}
 use Rattle.pm_replay.proofs.LeavesLemmas.{Leaves-append, Leaves-before, behind}
@@ -111,7 +111,7 @@ pub in_ok : {A E : Type 0} (P : A → Type 0) (made : Result A E) (it : A) → m
 in_ok {A} {E} P made it is holds = subst (λ (r : Result A E). IfOk r P) is holds
 
 -- the book of an object at load, a device that took nothing yet, and what the load puts out
-pub is_loaded : (c : Controls) (object : Object) (attached : List Attached) (topology : Topology) → c.book ≡ load_of object attached topology → c.kept ≡ at_zero topology → c.boxes ≡ (at_load (setup object attached topology)).boxes → Holds (outputs_at_load c.book) c.outbox → AreOf c.book c.clocks → IsLoaded c
+pub is_loaded : (c : Progress) (object : Object) (attached : List Attached) (topology : Topology) → c.book ≡ load_of object attached topology → c.kept ≡ at_zero topology → c.boxes ≡ (at_load (setup object attached topology)).boxes → Holds (outputs_at_load c.book) c.outbox → AreOf c.book c.clocks → IsLoaded c
 is_loaded c object attached topology book kept boxes out clocks = record {
   book = subst (λ (b : State). b ≡ load_of b.fixed.object b.fixed.attached b.fixed.topology) (sym book) refl;
   kept = kept ∙ ap (λ (b : State). at_zero b.fixed.topology) (sym book);
@@ -124,20 +124,20 @@ pub setup_loaded : (book : State) (object : Object) (attached : List Attached) (
 setup_loaded book object attached topology is = subst (λ (b : State). setup_of b ≡ setup object b.fixed.attached topology) (sym is) refl
 
 -- the same where all of it was made
-pub load_made : {E : Type 0} (made : Result Controls E) (now : Controls) (object : Object) (attached : List Attached) (t : Topology) → made ≡ Ok now
-    → IfOk made (λ (c : Controls). c.book ≡ load_of object attached t) → IfOk made (λ (c : Controls). c.kept ≡ at_zero t)
-    → IfOk made (λ (c : Controls). c.boxes ≡ (at_load (setup object attached t)).boxes) → IfOk made (λ (c : Controls). Holds (outputs_at_load c.book) c.outbox)
-    → IfOk made (λ (c : Controls). AreOf c.book c.clocks) → IsLoaded now
+pub load_made : {E : Type 0} (made : Result Progress E) (now : Progress) (object : Object) (attached : List Attached) (t : Topology) → made ≡ Ok now
+    → IfOk made (λ (c : Progress). c.book ≡ load_of object attached t) → IfOk made (λ (c : Progress). c.kept ≡ at_zero t)
+    → IfOk made (λ (c : Progress). c.boxes ≡ (at_load (setup object attached t)).boxes) → IfOk made (λ (c : Progress). Holds (outputs_at_load c.book) c.outbox)
+    → IfOk made (λ (c : Progress). AreOf c.book c.clocks) → IsLoaded now
 load_made made now object attached t is book kept boxes out clocks =
     is_loaded now object attached t
-    (in_ok (λ (c : Controls). c.book ≡ load_of object attached t) made now is book)
-    (in_ok (λ (c : Controls). c.kept ≡ at_zero t) made now is kept)
-    (in_ok (λ (c : Controls). c.boxes ≡ (at_load (setup object attached t)).boxes) made now is boxes)
-    (in_ok (λ (c : Controls). Holds (outputs_at_load c.book) c.outbox) made now is out)
-    (in_ok (λ (c : Controls). AreOf c.book c.clocks) made now is clocks)
+    (in_ok (λ (c : Progress). c.book ≡ load_of object attached t) made now is book)
+    (in_ok (λ (c : Progress). c.kept ≡ at_zero t) made now is kept)
+    (in_ok (λ (c : Progress). c.boxes ≡ (at_load (setup object attached t)).boxes) made now is boxes)
+    (in_ok (λ (c : Progress). Holds (outputs_at_load c.book) c.outbox) made now is out)
+    (in_ok (λ (c : Progress). AreOf c.book c.clocks) made now is clocks)
 
 -- the tree at load is that of the book
-tree_at_load : (now : Controls) → IsLoaded now → now.clocks.tree ≡ first_tree (setup_of now.book)
+tree_at_load : (now : Progress) → IsLoaded now → now.clocks.tree ≡ first_tree (setup_of now.book)
 tree_at_load now loaded = ap (λ (it : Clocked). it.tree) loaded.clocks.are ∙ ap (λ (b : State). tree_of b) loaded.book
 
 -- where the tree is as it was told of, no clock has begun or ceased to run
@@ -161,7 +161,7 @@ none_turned tree = by clocks
 
 module _ {O D : Type 0} (o : Sink.Ghosts O) (d : Device.Ghosts D) where
   -- lines were all carried out or one is bad, and after a report was written
-  rest_by : (c : Setup) (n : ℕ) (s : Script) (now : Controls) (old mid new : O) (from to : D) (board is : Standing) (exit : Exit) (answers : List (List Bool)) (cut : Option ℕ) (r : Report) → Went o d (texts n (heard_from c board now answers s.events)) (driven_from c now answers s.events) cut old mid from to → cut ≡ None → is ≡ last_board board (until cut (driven_from c now answers s.events)) → Reports o r mid new exit → report_from c board n now s answers ≡ report_after (texts n (heard_from c board now answers s.events)) r → RanRest o d c n s now old new from to board is exit
+  rest_by : (c : Setup) (n : ℕ) (s : Script) (now : Progress) (old mid new : O) (from to : D) (board is : Standing) (exit : Exit) (answers : List (List Bool)) (cut : Option ℕ) (r : Report) → Went o d (texts n (heard_from c board now answers s.events)) (driven_from c now answers s.events) cut old mid from to → cut ≡ None → is ≡ last_board board (until cut (driven_from c now answers s.events)) → Reports o r mid new exit → report_from c board n now s answers ≡ report_after (texts n (heard_from c board now answers s.events)) r → RanRest o d c n s now old new from to board is exit
   rest_by c n s now old mid new from to board is exit answers cut r went whole left reports same =
       let xs : List Driven = driven_from c now answers s.events in
       let done : List (List ℕ) = texts n (heard_by board (clocked_by now.clocks.tree xs)) in
@@ -181,7 +181,7 @@ module _ {O D : Type 0} (o : Sink.Ghosts O) (d : Device.Ghosts D) where
       }
 
   -- lines were carried out, and what comes after them was written
-  pub RanRest-closed : (c : Setup) (n : ℕ) (s : Script) (r : StopReason) (now after : Controls) (old mid new : O) (from to : D) (board is : Standing) (exit : Exit) (count : ℕ) → RanLines o d c n s now after old mid from to board is (Ok (record { count = count; stop = r })) → Reports o (closing_report (stop_of r) after.book after.kept after.clocks.tree) mid new exit → RanRest o d c n s now old new from to board is exit
+  pub RanRest-closed : (c : Setup) (n : ℕ) (s : Script) (r : StopReason) (now after : Progress) (old mid new : O) (from to : D) (board is : Standing) (exit : Exit) (count : ℕ) → RanLines o d c n s now after old mid from to board is (Ok (record { count = count; stop = r })) → Reports o (closing_report (stop_of r) after.book after.kept after.clocks.tree) mid new exit → RanRest o d c n s now old new from to board is exit
   RanRest-closed c n s r now after old mid new from to board is exit count ran reports =
       let xs : List Driven = driven_from c now ran.answers s.events in
       let done : List (List ℕ) = texts n (heard_by board (clocked_by now.clocks.tree xs)) in
@@ -201,7 +201,7 @@ module _ {O D : Type 0} (o : Sink.Ghosts O) (d : Device.Ghosts D) where
       rest_by c n s now old mid new from to board is exit ran.answers ran.cut (closing_report (stop_of r) after.book after.kept after.clocks.tree) ran.went whole ran.tasks_left reports same
 
   -- a line has no meaning, and the line of that fault was written
-  pub RanRest-bad : (c : Setup) (n m : ℕ) (cause : LineFault) (s : Script) (now after : Controls) (old mid new : O) (from to : D) (board is : Standing) (exit : Exit) → RanLines o d c n s now after old mid from to board is (Err (stops.Bad m cause)) → Reports o (refusal (Line m cause)) mid new exit → RanRest o d c n s now old new from to board is exit
+  pub RanRest-bad : (c : Setup) (n m : ℕ) (cause : LineFault) (s : Script) (now after : Progress) (old mid new : O) (from to : D) (board is : Standing) (exit : Exit) → RanLines o d c n s now after old mid from to board is (Err (stops.Bad m cause)) → Reports o (refusal (Line m cause)) mid new exit → RanRest o d c n s now old new from to board is exit
   RanRest-bad c n m cause s now after old mid new from to board is exit ran reports =
       let xs : List Driven = driven_from c now ran.answers s.events in
       let done : List (List ℕ) = texts n (heard_by board (clocked_by now.clocks.tree xs)) in
@@ -213,7 +213,7 @@ module _ {O D : Type 0} (o : Sink.Ghosts O) (d : Device.Ghosts D) where
       rest_by c n s now old mid new from to board is exit ran.answers ran.cut (refusal (Line m cause)) ran.went ran.ends.0 ran.tasks_left reports same
 
   -- the sink broke off within the lines
-  pub RanRest-broken : (c : Setup) (n : ℕ) (s : Script) (now after : Controls) (old new : O) (from to : D) (board is : Standing) → RanLines o d c n s now after old new from to board is (Err stops.Broken) → RanRest o d c n s now old new from to board is WriteFault
+  pub RanRest-broken : (c : Setup) (n : ℕ) (s : Script) (now after : Progress) (old new : O) (from to : D) (board is : Standing) → RanLines o d c n s now after old new from to board is (Err stops.Broken) → RanRest o d c n s now old new from to board is WriteFault
   RanRest-broken c n s now after old new from to board is ran =
       let xs : List Driven = driven_from c now ran.answers s.events in
       let done : List (List ℕ) = texts n (heard_by board (clocked_by now.clocks.tree xs)) in
@@ -242,7 +242,7 @@ module _ {O D : Type 0} (o : Sink.Ghosts O) (d : Device.Ghosts D) where
   abbrev pub first_step : Setup → Part → Driven
   first_step c part = record { line = line_0 c; cores = record { core = core_0 c; part = part } ∷ []; kept = part.kept }
 
-  driven_first : (now after : Controls) (events : List Event) (later : List (List Bool)) (from to : D) → IsLoaded now → Started o d now after from to → driven (setup_of now.book) (answers_in after.outbox ∷ later) events ≡ first_step (setup_of now.book) (part_in after.kept after.outbox) ∷ driven_from (setup_of now.book) after later events
+  driven_first : (now after : Progress) (events : List Event) (later : List (List Bool)) (from to : D) → IsLoaded now → Started o d now after from to → driven (setup_of now.book) (answers_in after.outbox ∷ later) events ≡ first_step (setup_of now.book) (part_in after.kept after.outbox) ∷ driven_from (setup_of now.book) after later events
   driven_first now after events later from to loaded started =
       let c : Setup = setup_of now.book in
       let load : State = load_of c.object c.attached c.topology in
@@ -259,13 +259,13 @@ module _ {O D : Type 0} (o : Sink.Ghosts O) (d : Device.Ghosts D) where
 
   -- the report of a script is that of its lines behind the text of step 0, which says nothing of modules and tasks
   -- at the load nothing is left to drop, and no clock begins or ceases to run in step 0
-  load_stands : (now : Controls) → IsLoaded now → followed (view_of (load_of now.book.fixed.object now.book.fixed.attached now.book.fixed.topology)) (first_tree (setup_of now.book)) ≡ first_tree (setup_of now.book)
+  load_stands : (now : Progress) → IsLoaded now → followed (view_of (load_of now.book.fixed.object now.book.fixed.attached now.book.fixed.topology)) (first_tree (setup_of now.book)) ≡ first_tree (setup_of now.book)
   load_stands now loaded =
       let c : Setup = setup_of now.book in
       let T : State → Tree → Type 0 = λ b t. followed (view_of b) t ≡ t in
       subst (λ (b : State). T b (first_tree c)) loaded.book (subst (T now.book) (tree_at_load now loaded) loaded.clocks.over.stands)
 
-  report_first : (now after : Controls) (s : Script) (later : List (List Bool)) (board : Standing) (from to : D) → IsLoaded now → Started o d now after from to → run_report (setup_of now.book) board s (answers_in after.outbox ∷ later) ≡ report_after (step_text 0 after.outbox.done.items (notices_in after.outbox) after.outbox.answer ∷ []) (report_from (setup_of now.book) (board_after Pass board) 1 after s later)
+  report_first : (now after : Progress) (s : Script) (later : List (List Bool)) (board : Standing) (from to : D) → IsLoaded now → Started o d now after from to → run_report (setup_of now.book) board s (answers_in after.outbox ∷ later) ≡ report_after (step_text 0 after.outbox.done.items (notices_in after.outbox) after.outbox.answer ∷ []) (report_from (setup_of now.book) (board_after Pass board) 1 after s later)
   report_first now after s later board from to loaded started =
       let c : Setup = setup_of now.book in
       let load : State = load_of c.object c.attached c.topology in
@@ -290,11 +290,11 @@ module _ {O D : Type 0} (o : Sink.Ghosts O) (d : Device.Ghosts D) where
       ∙ ap (λ (b : State). record { body = core_text 0 (outputs_at_load load) Q ∷ (told at ++ at_end s.stop (table b at)); fault = fault_at number s.stop }) (sym loaded.book ∙ sym started.book)
       ∙ ap (λ (notices : Notices). record { body = step_text 0 Q.commands notices Q.answer ∷ (told at ++ at_end s.stop (table after.book at)); fault = fault_at number s.stop }) (ap (λ (b : State). notices_of (outputs_at_load b)) (sym loaded.book) ∙ sym started.notices)
 
-  acts_first : (now after : Controls) → acts_of (first_step (setup_of now.book) (part_in after.kept after.outbox)) ≡ orders_in after.outbox
+  acts_first : (now after : Progress) → acts_of (first_step (setup_of now.book) (part_in after.kept after.outbox)) ≡ orders_in after.outbox
   acts_first now after = append-nil (orders_in after.outbox)
 
   -- step 0 was written, and after the rest of the script was run
-  pub RanScript-first : (s : Script) (now after : Controls) (old mid new : O) (from via to : D) (board begun is : Standing) (exit : Exit) → IsLoaded now → Started o d now after from via → begun ≡ board_after Pass board → Wrote o.observable (step_text 0 after.outbox.done.items (notices_in after.outbox) after.outbox.answer) (o.state old) (o.state mid) → RanRest o d (setup_of now.book) 1 s after mid new via to begun is exit → RanScript o d (setup_of now.book) s old new from to board is exit
+  pub RanScript-first : (s : Script) (now after : Progress) (old mid new : O) (from via to : D) (board begun is : Standing) (exit : Exit) → IsLoaded now → Started o d now after from via → begun ≡ board_after Pass board → Wrote o.observable (step_text 0 after.outbox.done.items (notices_in after.outbox) after.outbox.answer) (o.state old) (o.state mid) → RanRest o d (setup_of now.book) 1 s after mid new via to begun is exit → RanScript o d (setup_of now.book) s old new from to board is exit
   RanScript-first s now after old mid new from via to board begun is exit loaded started settles wrote ran =
       let c : Setup = setup_of now.book in
       let first : List ℕ = step_text 0 after.outbox.done.items (notices_in after.outbox) after.outbox.answer in
@@ -324,7 +324,7 @@ module _ {O D : Type 0} (o : Sink.Ghosts O) (d : Device.Ghosts D) where
       }
 
   -- the sink broke off within the text of step 0
-  pub RanScript-cut : (s : Script) (now after : Controls) (old new : O) (from to : D) (board is : Standing) → IsLoaded now → Started o d now after from to → is ≡ board_after Pass board → BreaksIn o 0 (step_text 0 after.outbox.done.items (notices_in after.outbox) after.outbox.answer ∷ []) old new → RanScript o d (setup_of now.book) s old new from to board is WriteFault
+  pub RanScript-cut : (s : Script) (now after : Progress) (old new : O) (from to : D) (board is : Standing) → IsLoaded now → Started o d now after from to → is ≡ board_after Pass board → BreaksIn o 0 (step_text 0 after.outbox.done.items (notices_in after.outbox) after.outbox.answer ∷ []) old new → RanScript o d (setup_of now.book) s old new from to board is WriteFault
   RanScript-cut s now after old new from to board is loaded started settles breaks =
       let c : Setup = setup_of now.book in
       let first : List ℕ = step_text 0 after.outbox.done.items (notices_in after.outbox) after.outbox.answer in

@@ -1,6 +1,5 @@
 pub mod Replay
 pub mod Replayed
 pub mod Safe
-pub mod Controls
 pub mod Within
 pub mod Plays

@@ -14,8 +14,8 @@ use Rattle.pm_replay.specs.Within.{AreTold, RanLine}
 module _ {O D H T : Type 0} (o : Sink.Ghosts O) (d : Device.Ghosts D) (responder : Responder.Ghosts H) (handler : Handler.Ghosts T) where
   -- it carries out the line, and holds what it held
   pub record Plays (n : ℕ) (event : Event) (old new : Player O D H T) (result : Result ⊤ Failed) : Type 0 where
-    pub ran : (c : Setup) → setup_of old.controller.now.book ≡ c → AreTold old.controller.now.clocks → RanLine o d c n event old.controller.now new.controller.now old.out.now new.out.now old.dev.now new.dev.now (standing responder handler old.modules.now old.tasks.now) (standing responder handler new.modules.now new.tasks.now) result
-    pub controller : new.controller.ghost_name ≡ old.controller.ghost_name
+    pub ran : (c : Setup) → setup_of old.engine.now.book ≡ c → AreTold old.engine.now.clocks → RanLine o d c n event old.engine.now new.engine.now old.out.now new.out.now old.dev.now new.dev.now (standing responder handler old.modules.now old.tasks.now) (standing responder handler new.modules.now new.tasks.now) result
+    pub engine : new.engine.ghost_name ≡ old.engine.ghost_name
     pub out : new.out.ghost_name ≡ old.out.ghost_name
     pub dev : new.dev.ghost_name ≡ old.dev.ghost_name
     pub modules : new.modules.now ≡ old.modules.now

@@ -1,13 +1,12 @@
 -- What the parts of a run do: what they write, what they do to the device, and how they end. No call of this crate's users
 -- speaks of these words.
-use Rattle.std.specs.Prelude.{◌≡◌, ℕ, ◌+◌, Bool, true, false, List, [], ◌∷◌, ◌++◌, length, Option, Some, None, Result, Ok, Err, ⊤}
+use Rattle.std.specs.Prelude.{◌≡◌, ℕ, ◌+◌, Bool, true, false, List, ◌++◌, length, Option, Some, None, Result, Ok, Err, ⊤}
 use Rattle.pm_base.specs.declared.errors.Exit.{Exit}
 use Rattle.pm_base.specs.declared.errors.Failed.{Failed}
 use Rattle.pm_base.specs.declared.events.Event.{Event}
 use Rattle.pm_base.specs.declared.events.Event.TheVariants.{Post, Serve, Smc, Attach, Break, Mend}
 use Rattle.pm_io.specs.declared.sink.Sink as Sink
-use Rattle.pm_io.specs.Sink.{Wrote}
-use Rattle.pm_io.specs.Writing.{BreaksIn, Leaves}
+use Rattle.pm_io.specs.Writing.{Leaves}
 use Rattle.pm_device.specs.declared.device.Device as Device
 use Rattle.pm_device.specs.Act.{Chain}
 use Rattle.pm_board.specs.Board.{Standing, board_after}
@@ -38,7 +37,7 @@ use Rattle.pm_drive.specs.Clocks.{clock_notes, clocked_by, clocked_cores, clocke
 use Rattle.pm_drive.specs.Heard.{heard, heard_by, heard_cores, last_board}
 use Rattle.pm_drive.specs.Tasks.{task_notes}
 use Rattle.pm_drive.specs.Text.{given_text, reply_after, texts}
-use Rattle.pm_replay.specs.Controls.{AreOf, Controls, stand_in}
+use Rattle.pm_engine.specs.Progress.{AreOf, Progress, stand_in}
 use Rattle.pm_replay.specs.Replay.{run_report}
 
 -- a line of this event has no core event but it, no note of its own, no act on the device beside its commands, and no answer to
@@ -53,7 +52,7 @@ is_alone (Mend node) = false
 is_alone event = true
 
 -- all is as at load, before the device is given anything
-pub record IsLoaded (c : Controls) : Type 0 where
+pub record IsLoaded (c : Progress) : Type 0 where
   pub book : c.book ≡ load_of c.book.fixed.object c.book.fixed.attached c.book.fixed.topology
   pub kept : c.kept ≡ at_zero c.book.fixed.topology
   pub boxes : c.boxes ≡ (loaded (setup_of c.book)).boxes
@@ -65,7 +64,7 @@ abbrev pub AreTold : Clocked → Type 0
 AreTold clocks = clocks.told ≡ running clocks.tree
 
 -- the events of lines, driven from where a run stands
-abbrev pub driven_from : Setup → Controls → List (List Bool) → List Event → List Driven
+abbrev pub driven_from : Setup → Progress → List (List Bool) → List Event → List Driven
 driven_from c now answers events = drive now.kept answers (lines_of c events (stand_in now))
 
 -- what is written after the last line of a script that came to its end or could not be read on
@@ -73,42 +72,31 @@ abbrev pub closing_report : Stop → State → Kept → Tree → Report
 closing_report stop book kept tree = record { body = at_end stop (table_text book kept tree); fault = fault_at 0 stop }
 
 -- the core steps of a line from where a run stands
-abbrev pub given_from : Setup → Event → Controls → List (List Bool) → List Given
+abbrev pub given_from : Setup → Event → Progress → List (List Bool) → List Given
 given_from c event now answers = give now.kept answers (cores_of (split c event (stand_in now)).events now.book)
 
 -- what is told of lines from where a run stands, the first of which finds a board so
-abbrev pub heard_from : Setup → Standing → Controls → List (List Bool) → List Event → List Driven
+abbrev pub heard_from : Setup → Standing → Progress → List (List Bool) → List Event → List Driven
 heard_from c board now answers events = heard_by board (clocked_by now.clocks.tree (driven_from c now answers events))
 
 -- the closing table after these lines
-abbrev pub table_from : Controls → List Driven → List ℕ
+abbrev pub table_from : Progress → List Driven → List ℕ
 table_from now xs = table_text (last_book now.book xs) (last_kept now.kept xs) (last_tree now.clocks.tree xs)
 
 -- what is written of lines, the first of which has number n and finds a board so, and after them
-abbrev pub report_from : Setup → Standing → ℕ → Controls → Script → List (List Bool) → Report
+abbrev pub report_from : Setup → Standing → ℕ → Progress → Script → List (List Bool) → Report
 report_from c board n now s answers = record {
   body = texts n (heard_from c board now answers s.events) ++ at_end s.stop (table_from now (driven_from c now answers s.events));
   fault = fault_at (n + length s.events) s.stop;
 }
 
 -- how lines end: all were carried out, and the run stands after them; or one has no meaning; or the sink broke off
-abbrev pub LinesEnd : ℕ → Script → Controls → List Driven → Option ℕ → Controls → Result reader.LinesEnd LineStop → Type 0
+abbrev pub LinesEnd : ℕ → Script → Progress → List Driven → Option ℕ → Progress → Result reader.LinesEnd LineStop → Type 0
 LinesEnd n s now xs cut then (Ok end) =
     (cut ≡ None) × (s.stop ≡ stop_of end.stop) × (then.book ≡ last_book now.book xs) × (then.kept ≡ last_kept now.kept xs)
     × (then.clocks.tree ≡ last_tree now.clocks.tree xs)
 LinesEnd n s now xs cut then (Err (stops.Bad m cause)) = (cut ≡ None) × (s.stop ≡ Bad cause) × (m ≡ n + length s.events)
 LinesEnd n s now xs cut then (Err stops.Broken) = (k : ℕ) × (cut ≡ Some k)
-
--- a piece was written, by the result
-module _ {O : Type 0} (o : Sink.Ghosts O) where
-  abbrev pub Writes : List ℕ → O → O → Result ⊤ Failed → Type 0
-  Writes piece old new (Ok nothing) = Wrote o.observable piece (o.state old) (o.state new)
-  Writes piece old new (Err error) = BreaksIn o 0 (piece ∷ []) old new
-
-  -- more of a line was written, by how its writing stood before: a sink that has failed is given nothing more
-  abbrev pub WritesOn : List ℕ → Result ⊤ Failed → Result ⊤ Failed → O → O → Type 0
-  WritesOn piece (Ok nothing) result old new = Writes piece old new result
-  WritesOn piece (Err error) result old new = (result ≡ Err error) × (old ≡ new)
 
 module _ {O D : Type 0} (o : Sink.Ghosts O) (d : Device.Ghosts D) where
   -- these pieces were written up to a cut, and the device was driven through the steps up to it
@@ -118,7 +106,7 @@ module _ {O D : Type 0} (o : Sink.Ghosts O) (d : Device.Ghosts D) where
 
   -- a core event was carried out from a book, what is kept and a clock tree, the device was made to follow it, and its text was written,
   -- by how the writing of the line stood before
-  pub record RanCore (n : ℕ) (event : Event) (book : State) (kept : Kept) (tree : Tree) (then : Controls) (modules : List Ranged)
+  pub record RanCore (n : ℕ) (event : Event) (book : State) (kept : Kept) (tree : Tree) (then : Progress) (modules : List Ranged)
       (so_far result : Result ⊤ Failed) (old new : O) (from to : D) : Type 0 where
     pub after : then.book ≡ effect event book
     pub part : part_in then.kept then.outbox
@@ -130,7 +118,7 @@ module _ {O D : Type 0} (o : Sink.Ghosts O) (d : Device.Ghosts D) where
 
   -- the same of core events one after another, whatever becomes of their text, from the last reply that was told before
   -- them to the last one that is told
-  pub record RanCores (n : ℕ) (events : List Event) (book : State) (kept : Kept) (tree : Tree) (then : Controls) (modules : List Ranged)
+  pub record RanCores (n : ℕ) (events : List Event) (book : State) (kept : Kept) (tree : Tree) (then : Progress) (modules : List Ranged)
       (reply told : Option Response) (so_far result : Result ⊤ Failed) (old new : O) (from to : D) : Type 0 where
     pub answers : List (List Bool)
     pub fits : length answers ≡ length events
@@ -144,7 +132,7 @@ module _ {O D : Type 0} (o : Sink.Ghosts O) (d : Device.Ghosts D) where
   -- a line was carried out to its end: first a node was broken or mended, if it asks for that, and then its core events
   -- followed. Its text was written as far as the sink took it, with the notes of clocks and of tasks and the answer to its power
   -- call, by the last reply that was told, and the clocks and the board are as the line leaves them
-  pub record RanLine (c : Setup) (n : ℕ) (event : Event) (now then : Controls) (old new : O) (from to : D)
+  pub record RanLine (c : Setup) (n : ℕ) (event : Event) (now then : Progress) (old new : O) (from to : D)
       (board is : Standing) (result : Result ⊤ Failed) : Type 0 where
     pub between : D
     pub rigged : Chain d.Does (rigs event) from between
@@ -163,7 +151,7 @@ module _ {O D : Type 0} (o : Sink.Ghosts O) (d : Device.Ghosts D) where
     pub tasks_left : is ≡ board_after event board
 
   -- the device was made to follow the book at load
-  pub record Started (now then : Controls) (from to : D) : Type 0 where
+  pub record Started (now then : Progress) (from to : D) : Type 0 where
     pub book : then.book ≡ now.book
     pub boxes : then.boxes ≡ now.boxes
     pub clocks : then.clocks ≡ now.clocks
@@ -172,7 +160,7 @@ module _ {O D : Type 0} (o : Sink.Ghosts O) (d : Device.Ghosts D) where
     pub given : Chain d.Does (orders_in then.outbox) from to
 
   -- the lines of a script were run up to the first one that has no meaning. The first of them has number n
-  pub record RanLines (c : Setup) (n : ℕ) (s : Script) (now then : Controls) (old new : O) (from to : D)
+  pub record RanLines (c : Setup) (n : ℕ) (s : Script) (now then : Progress) (old new : O) (from to : D)
       (board is : Standing) (result : Result reader.LinesEnd LineStop) : Type 0 where
     pub answers : List (List Bool)
     pub cut : Option ℕ
@@ -181,7 +169,7 @@ module _ {O D : Type 0} (o : Sink.Ghosts O) (d : Device.Ghosts D) where
     pub tasks_left : is ≡ last_board board (until cut (driven_from c now answers s.events))
 
   -- lines were run, and what comes after them was written
-  pub record RanRest (c : Setup) (n : ℕ) (s : Script) (now : Controls) (old new : O) (from to : D)
+  pub record RanRest (c : Setup) (n : ℕ) (s : Script) (now : Progress) (old new : O) (from to : D)
       (board is : Standing) (exit : Exit) : Type 0 where
     pub answers : List (List Bool)
     pub cut : Option ℕ

@@ -1,13 +1,9 @@
 //! A script is run over a book of requirements and a device, line by line, and its text is written.
 #![tactic(auto)]
 
-mod clocks;
-mod controller;
 mod lines;
 mod run;
 mod safe;
-mod tasks;
-mod writing;
 
 pub use pm_apart::driven_runs_keep_apart;
 pub use run::replay;

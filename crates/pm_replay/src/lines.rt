@@ -1,44 +1,39 @@
 //! The lines of a script are run one after another.
 
-ghost use Rattle.std.specs.Prelude.{◌≡◌, ◌≢◌, ◌∷◌, [], true, unwrap_or, IfOk};
+ghost use Rattle.std.specs.Prelude.{◌≡◌, ◌≢◌, true, unwrap_or, IfOk};
 ghost use Rattle.pm_base.specs.Faults.{Rose};
 ghost use Rattle.pm_io.specs.declared.prefix.StopReason.TheVariants.{Failure, Unbegun};
 ghost use Rattle.pm_io.specs.Readings.{Meanwhile};
 ghost use Rattle.pm_block.specs.Block.{attached_by};
 ghost use Rattle.pm_reader.specs.Follow.{OfScript, ReadsLines};
 ghost use Rattle.pm_reader.specs.Front.{Ahead, Attaches, WasReadAhead, ran};
-ghost use Rattle.pm_split.specs.Split.{noted, noted_call};
-ghost use Rattle.pm_split.specs.Split.Note.{Busy, Late};
 ghost use Rattle.pm_run.specs.Run.{Setup, setup_of};
 ghost use Rattle.pm_modules.specs.Modules.{ranges};
 ghost use Rattle.pm_board.specs.Standing.{standing};
 ghost use Rattle.pm_drive.specs.Heard.{heard};
 ghost use Rattle.pm_drive.specs.Text.{later_reply};
-ghost use Rattle.pm_trace.specs.Notes.{notes_text};
 ghost use Rattle.pm_trace.specs.Step.{notices_in, step_text};
-ghost use Rattle.pm_replay.specs.Within.{AreTold, RanLine, RanLines, Writes, WritesOn, is_alone};
+ghost use Rattle.pm_engine.specs.Writes.{Writes};
+ghost use Rattle.pm_replay.specs.Within.{AreTold, RanLine, RanLines, is_alone};
 
-use crate::clocks::clocks_on;
-use crate::controller::Controller;
-use crate::tasks::tasks_on;
-use crate::writing::{write_busy, write_call, write_late, write_step};
-use pm_base::{Event, Failed, NodeId};
+use pm_base::{Event, Failed};
 use pm_board::Board;
 use pm_core::{Answer, Outbox};
 use pm_device::Device;
 use pm_drive::rig;
+use pm_engine::{Engine, call_on, clocks_on, note_on, tasks_on, write_on, write_step};
 use pm_io::{Inputs, Sink};
 use pm_ipi::Response;
 use pm_modules::{ModulesOf, Responder};
 use pm_reader::{Follower, Front, LineStop, LinesEnd};
-use pm_run::{OwnNote, call_answer};
+use pm_run::call_answer;
 use pm_tasks::{Handler, TasksOf};
 use pm_trace::StepText;
 
 /// What carries out each line of a script, makes the device follow it, and writes its text.
 #[derive(Drop)]
-pub(crate) struct Player<'c, 'o, 'd, 'm, 't, O: Sink, D: Device, H: Drop, T: Drop> {
-    controller: &'c mut Controller,
+pub(crate) struct Player<'e, 'o, 'd, 'm, 't, O: Sink, D: Device, H: Drop, T: Drop> {
+    engine: &'e mut Engine,
     out: &'o mut O,
     dev: &'d mut D,
     modules: &'m ModulesOf<H>,
@@ -49,8 +44,8 @@ pub(crate) struct Player<'c, 'o, 'd, 'm, 't, O: Sink, D: Device, H: Drop, T: Dro
     text: StepText,
 }
 
-impl<'c, 'o, 'd, 'm, 't, O: Sink, D: Device, H: Responder, T: Handler> Follower
-    for Player<'c, 'o, 'd, 'm, 't, O, D, H, T> {
+impl<'e, 'o, 'd, 'm, 't, O: Sink, D: Device, H: Responder, T: Handler> Follower
+    for Player<'e, 'o, 'd, 'm, 't, O, D, H, T> {
     ghost use Rattle.pm_replay.specs.Plays.{Plays};
 
     ghost Follows = { Plays O.Sink D.Device H.Responder T.Handler };
@@ -60,7 +55,7 @@ impl<'c, 'o, 'd, 'm, 't, O: Sink, D: Device, H: Responder, T: Handler> Follower
         run_line(
             number,
             event,
-            self.controller,
+            self.engine,
             self.out,
             self.dev,
             self.modules,
@@ -74,7 +69,7 @@ impl<'c, 'o, 'd, 'm, 't, O: Sink, D: Device, H: Responder, T: Handler> Follower
 /// Runs the lines of a begun input up to the first one that has no meaning. Each is taken when the text of the
 /// line before it was written.
 pub(crate) fn run_lines<I: Inputs, O: Sink, D: Device, H: Responder, T: Handler>(
-    controller: &mut Controller,
+    engine: &mut Engine,
     front: &mut Front,
     inputs: &mut I,
     id: u32,
@@ -84,10 +79,10 @@ pub(crate) fn run_lines<I: Inputs, O: Sink, D: Device, H: Responder, T: Handler>
 ) -> Result<LinesEnd, LineStop>
     requires front { WasReadAhead I.observable id (I.state inputs.old) front.old }
     ensures ran { (ahead : Ahead) → Attaches I.observable id ahead (I.state inputs.old) front.old
-        → (c : Setup) → setup_of controller.old.book ≡ c → AreTold controller.old.clocks
+        → (c : Setup) → setup_of engine.old.book ≡ c → AreTold engine.old.clocks
         → OfScript I.observable id ahead.first
         (λ s. (attached_by s.events ≡ ahead.attached)
-        × RanLines O.Sink D.Device c 1 (ran s) controller.old controller.new out.old out.new dev.old dev.new
+        × RanLines O.Sink D.Device c 1 (ran s) engine.old engine.new out.old out.new dev.old dev.new
         (standing H.Responder T.Handler board.old.modules.now board.old.tasks)
         (standing H.Responder T.Handler board.old.modules.now board.new.tasks) result) }
     ensures ends { IfOk result (λ end. end.stop ≢ Unbegun) }
@@ -97,7 +92,7 @@ pub(crate) fn run_lines<I: Inputs, O: Sink, D: Device, H: Responder, T: Handler>
         → Meanwhile ahead.first (I.state inputs.new) (ReadsLines id result) }
 {
     let mut player = Player {
-        controller,
+        engine,
         out,
         dev,
         modules: board.modules,
@@ -113,7 +108,7 @@ pub(crate) fn run_lines<I: Inputs, O: Sink, D: Device, H: Responder, T: Handler>
 fn run_line<O: Sink, D: Device, H: Responder, T: Handler>(
     number: u32,
     event: &Event,
-    controller: &mut Controller,
+    engine: &mut Engine,
     out: &mut O,
     dev: &mut D,
     modules: &ModulesOf<H>,
@@ -121,17 +116,15 @@ fn run_line<O: Sink, D: Device, H: Responder, T: Handler>(
     made: &mut Event,
     text: &mut StepText,
 ) -> Result<(), Failed>
-    ensures { (c : Setup) → setup_of controller.old.book ≡ c → AreTold controller.old.clocks
-        → RanLine O.Sink D.Device c number event.now controller.old controller.new out.old out.new dev.old dev.new
+    ensures { (c : Setup) → setup_of engine.old.book ≡ c → AreTold engine.old.clocks
+        → RanLine O.Sink D.Device c number event.now engine.old engine.new out.old out.new dev.old dev.new
         (standing H.Responder T.Handler modules.now tasks.old)
         (standing H.Responder T.Handler modules.now tasks.new) result }
 {
     if is_alone(event) {
-        run_alone(number, event, controller, out, dev, modules, tasks, text)
+        run_alone(number, event, engine, out, dev, modules, tasks, text)
     } else {
-        run_split(
-            number, event, controller, out, dev, modules, tasks, made, text,
-        )
+        run_split(number, event, engine, out, dev, modules, tasks, made, text)
     }
 }
 
@@ -156,7 +149,7 @@ fn is_alone(event: &Event) -> bool
 fn run_alone<O: Sink, D: Device, H: Responder, T: Handler>(
     number: u32,
     event: &Event,
-    controller: &mut Controller,
+    engine: &mut Engine,
     out: &mut O,
     dev: &mut D,
     modules: &ModulesOf<H>,
@@ -164,14 +157,14 @@ fn run_alone<O: Sink, D: Device, H: Responder, T: Handler>(
     text: &mut StepText,
 ) -> Result<(), Failed>
     requires { is_alone event.now ≡ true }
-    ensures { (c : Setup) → setup_of controller.old.book ≡ c → AreTold controller.old.clocks
-        → RanLine O.Sink D.Device c number event.now controller.old controller.new out.old out.new dev.old dev.new
+    ensures { (c : Setup) → setup_of engine.old.book ≡ c → AreTold engine.old.clocks
+        → RanLine O.Sink D.Device c number event.now engine.old engine.new out.old out.new dev.old dev.new
         (standing H.Responder T.Handler modules.now tasks.old)
         (standing H.Responder T.Handler modules.now tasks.new) result }
 {
-    controller.step(event, dev);
-    let written = write_heard(number, event, controller.outbox(), modules, text, out);
-    let clocked = clocks_on(written, number, controller, out);
+    engine.step(event, dev);
+    let written = write_heard(number, event, engine.outbox(), modules, text, out);
+    let clocked = clocks_on(written, number, engine, out);
     tasks_on(clocked, number, event, tasks, out)
 }
 
@@ -202,7 +195,7 @@ fn write_heard<O: Sink, H: Responder>(
 fn run_split<O: Sink, D: Device, H: Responder, T: Handler>(
     number: u32,
     event: &Event,
-    controller: &mut Controller,
+    engine: &mut Engine,
     out: &mut O,
     dev: &mut D,
     modules: &ModulesOf<H>,
@@ -210,28 +203,28 @@ fn run_split<O: Sink, D: Device, H: Responder, T: Handler>(
     made: &mut Event,
     text: &mut StepText,
 ) -> Result<(), Failed>
-    ensures { (c : Setup) → setup_of controller.old.book ≡ c → AreTold controller.old.clocks
-        → RanLine O.Sink D.Device c number event.now controller.old controller.new out.old out.new dev.old dev.new
+    ensures { (c : Setup) → setup_of engine.old.book ≡ c → AreTold engine.old.clocks
+        → RanLine O.Sink D.Device c number event.now engine.old engine.new out.old out.new dev.old dev.new
         (standing H.Responder T.Handler modules.now tasks.old)
         (standing H.Responder T.Handler modules.now tasks.new) result }
 {
     rig(event, dev);
-    let parts = controller.split(event);
+    let parts = engine.split(event);
     let mut left = parts.cores;
     let mut written = Ok(());
     let mut reply = None;
-    while let Some(core) = controller.next(&mut left, made) {
+    while let Some(core) = engine.next(&mut left, made) {
         let taken = core.event(made);
-        controller.step(taken, dev);
-        let outbox = controller.outbox();
+        engine.step(taken, dev);
+        let outbox = engine.outbox();
         let answer = heard(modules, taken, &outbox.answer);
         written = write_on(written, number, outbox, &answer, text, out);
         reply = later_reply(reply, &answer);
     }
     let noted = note_on(written, number, parts.note, out);
-    let clocked = clocks_on(noted, number, controller, out);
+    let clocked = clocks_on(noted, number, engine, out);
     let fired = tasks_on(clocked, number, event, tasks, out);
-    let called = call_answer(controller.book().topology(), event, reply);
+    let called = call_answer(engine.book().topology(), event, reply);
     call_on(fired, number, called, out)
 }
 
@@ -266,90 +259,5 @@ fn later_reply(reply: Option<Response>, answer: &Answer) -> Option<Response>
     match *answer {
         Answer::Reply { response, .. } => Some(response),
         _ => reply,
-    }
-}
-
-/// Writes the lines of a core step that is answered so. A sink that has failed before within the line is given nothing
-/// more.
-fn write_on<O: Sink>(
-    written: Result<(), Failed>,
-    number: u32,
-    outbox: &Outbox,
-    answer: &Answer,
-    text: &mut StepText,
-    out: &mut O,
-) -> Result<(), Failed>
-    ensures { WritesOn O.Sink (step_text number outbox.now.done.items (notices_in outbox.now) answer.now)
-        written result out.old out.new }
-{
-    match written {
-        Ok(()) => write_step(number, outbox, answer, text, out),
-        Err(Failed) => Err(Failed),
-    }
-}
-
-/// Writes what a line says of itself, if it has something to say: that its post found a full box, or that the words that
-/// it attaches come too late. A sink that has failed before within the line is given nothing more.
-fn note_on<O: Sink>(
-    written: Result<(), Failed>,
-    number: u32,
-    note: Option<OwnNote>,
-    out: &mut O,
-) -> Result<(), Failed>
-    ensures { WritesOn O.Sink (notes_text number (noted note)) written result out.old out.new }
-{
-    match note {
-        None => written,
-        Some(OwnNote::Busy(master)) => busy_on(written, number, master, out),
-        Some(OwnNote::Late(address)) => late_on(written, number, address, out),
-    }
-}
-
-/// Writes the line of a post into a full box. A sink that has failed before within the line is given nothing more.
-fn busy_on<O: Sink>(
-    written: Result<(), Failed>,
-    number: u32,
-    master: NodeId,
-    out: &mut O,
-) -> Result<(), Failed>
-    ensures { WritesOn O.Sink (notes_text number (Busy master ∷ [])) written result out.old out.new }
-{
-    match written {
-        Ok(()) => write_busy(number, master, out),
-        Err(Failed) => Err(Failed),
-    }
-}
-
-/// Writes the line of words that come too late. A sink that has failed before within the line is given nothing more.
-fn late_on<O: Sink>(
-    written: Result<(), Failed>,
-    number: u32,
-    address: u32,
-    out: &mut O,
-) -> Result<(), Failed>
-    ensures { WritesOn O.Sink (notes_text number (Late address ∷ [])) written result out.old out.new }
-{
-    match written {
-        Ok(()) => write_late(number, address, out),
-        Err(Failed) => Err(Failed),
-    }
-}
-
-/// Writes the line of the answer to a power call, if there is one. A sink that has failed before within the line is
-/// given nothing more.
-fn call_on<O: Sink>(
-    written: Result<(), Failed>,
-    number: u32,
-    called: Option<(NodeId, i32)>,
-    out: &mut O,
-) -> Result<(), Failed>
-    ensures { WritesOn O.Sink (notes_text number (noted_call called)) written result out.old out.new }
-{
-    match called {
-        None => written,
-        Some((proc, code)) => match written {
-            Ok(()) => write_call(number, proc, code, out),
-            Err(failed) => Err(failed),
-        },
     }
 }

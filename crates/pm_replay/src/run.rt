@@ -25,9 +25,7 @@ ghost use Rattle.pm_run.specs.Run.{Setup, setup, setup_for, setup_of};
 ghost use Rattle.pm_replay.specs.Safe.{IsSafe};
 ghost use Rattle.pm_io.specs.World.{world};
 
-use crate::controller::Controller;
 use crate::lines::run_lines;
-use crate::writing::{write_closing, write_step};
 use pm_apart::driven_runs_keep_apart;
 use pm_base::{Event, Exit, Failed, List, NoMemory, with};
 use pm_block::{Block, attached_objects_are_formed};
@@ -38,6 +36,7 @@ use pm_drive::{
     calls_are_told, clocks_are_followed, driven_follows, power_calls_are_their_events,
     scripts_are_lowered,
 };
+use pm_engine::{Engine, write_closing, write_step};
 use pm_io::{Inputs, Sink, StopReason};
 use pm_modules::{ModulesOf, Responder};
 use pm_object::{Attached, Object};
@@ -171,15 +170,18 @@ fn run_named<I: Inputs, O: Sink, D: Device, H: Responder, T: Handler>(
     driven_follows::<D>();
     match inputs.begin(script) {
         Ok(id) => run_begun(alloc, object, topology, inputs, id, out, dev, board),
-        Err(Failed) => refuse(Fault::Read, out),
+        Err(Failed) => {
+            drop((object, topology));
+            refuse(Fault::Read, out)
+        }
     }
 }
 
-/// A controller at load, with what the first lines of the script attach, before the device is given anything, and the
+/// An engine at load, with what the first lines of the script attach, before the device is given anything, and the
 /// script, whose first lines were read.
 #[derive(Drop)]
 struct Loaded {
-    controller: Controller,
+    engine: Engine,
     front: Front,
 }
 
@@ -192,18 +194,18 @@ fn load<I: Inputs>(
     id: u32,
 ) -> Result<Loaded, NoMemory>
     requires formed { IsWellFormed topology }
-    ensures loaded { IfOk result (λ found. IsLoaded found.controller) }
-    ensures setup { IfOk result (λ found. setup_of found.controller.book
-        ≡ setup object found.controller.book.fixed.attached topology) }
+    ensures loaded { IfOk result (λ found. IsLoaded found.engine) }
+    ensures setup { IfOk result (λ found. setup_of found.engine.book
+        ≡ setup object found.engine.book.fixed.attached topology) }
     ensures front { IfOk result (λ found. Attaches I.observable id
-        (ahead_of (I.state inputs.old) found.controller.book.fixed.attached) (I.state inputs.new) found.front) }
+        (ahead_of (I.state inputs.old) found.engine.book.fixed.attached) (I.state inputs.new) found.front) }
     ensures reads { Meanwhile (I.state inputs.old) (I.state inputs.new) (IsBrokenOff id) }
 {
     let read = read_block(alloc, inputs, id);
     let ((object, topology), (front, attached)) = with((object, topology), read)?;
-    let controller = Controller::load(alloc, object, attached, topology);
-    let (front, controller) = with(front, controller)?;
-    Ok(Loaded { controller, front })
+    let engine = Engine::load(alloc, object, attached, topology);
+    let (front, engine) = with(front, engine)?;
+    Ok(Loaded { engine, front })
 }
 
 /// Reads the block of an input that was just begun: the script, whose first lines were read, and what they attach.
@@ -247,7 +249,7 @@ fn run_begun<I: Inputs, O: Sink, D: Device, H: Responder, T: Handler>(
     match load(alloc, object, topology, inputs, id) {
         Ok(mut loaded) => {
             let exit = run(
-                &mut loaded.controller,
+                &mut loaded.engine,
                 &mut loaded.front,
                 inputs,
                 id,
@@ -265,7 +267,7 @@ fn run_begun<I: Inputs, O: Sink, D: Device, H: Responder, T: Handler>(
 /// Runs the script of an input that was begun, from its load, and writes its text. To tasks step 0 is a line in which
 /// nothing happens: calls that were left before are made.
 fn run<I: Inputs, O: Sink, D: Device, H: Responder, T: Handler>(
-    controller: &mut Controller,
+    engine: &mut Engine,
     front: &mut Front,
     inputs: &mut I,
     id: u32,
@@ -274,11 +276,11 @@ fn run<I: Inputs, O: Sink, D: Device, H: Responder, T: Handler>(
     board: &mut Board<H, T>,
 ) -> Exit
     requires front { WasReadAhead I.observable id (I.state inputs.old) front.old }
-    requires loaded { IsLoaded controller.old }
+    requires loaded { IsLoaded engine.old }
     ensures ran { (ahead : Ahead) → Attaches I.observable id ahead (I.state inputs.old) front.old
         → OfScript I.observable id ahead.first
         (λ s. (attached_by s.events ≡ ahead.attached)
-        × RanScript O.Sink D.Device (setup_of controller.old.book) (ran s) out.old out.new dev.old dev.new
+        × RanScript O.Sink D.Device (setup_of engine.old.book) (ran s) out.old out.new dev.old dev.new
         (standing H.Responder T.Handler board.old.modules.now board.old.tasks)
         (standing H.Responder T.Handler board.old.modules.now board.new.tasks) result) }
     ensures fault { (ahead : Ahead) → Attaches I.observable id ahead (I.state inputs.old) front.old
@@ -286,19 +288,19 @@ fn run<I: Inputs, O: Sink, D: Device, H: Responder, T: Handler>(
     ensures reads { (ahead : Ahead) → Attaches I.observable id ahead (I.state inputs.old) front.old
         → Meanwhile ahead.first (I.state inputs.new) (ReadsBegun result id) }
 {
-    controller.start(dev);
+    engine.start(dev);
     happen(&mut board.tasks, &Event::Pass);
-    let outbox = controller.outbox();
+    let outbox = engine.outbox();
     let mut text = StepText::new();
     match write_step(0, outbox, &outbox.answer, &mut text, out) {
-        Ok(()) => run_rest(controller, front, inputs, id, out, dev, board),
+        Ok(()) => run_rest(engine, front, inputs, id, out, dev, board),
         Err(Failed) => Exit::WriteFault,
     }
 }
 
 /// Runs the lines of a script, and writes what comes after them.
 fn run_rest<I: Inputs, O: Sink, D: Device, H: Responder, T: Handler>(
-    controller: &mut Controller,
+    engine: &mut Engine,
     front: &mut Front,
     inputs: &mut I,
     id: u32,
@@ -308,10 +310,10 @@ fn run_rest<I: Inputs, O: Sink, D: Device, H: Responder, T: Handler>(
 ) -> Exit
     requires front { WasReadAhead I.observable id (I.state inputs.old) front.old }
     ensures ran { (ahead : Ahead) → Attaches I.observable id ahead (I.state inputs.old) front.old
-        → (c : Setup) → setup_of controller.old.book ≡ c → AreTold controller.old.clocks
+        → (c : Setup) → setup_of engine.old.book ≡ c → AreTold engine.old.clocks
         → OfScript I.observable id ahead.first
         (λ s. (attached_by s.events ≡ ahead.attached)
-        × RanRest O.Sink D.Device c 1 (ran s) controller.old out.old out.new dev.old dev.new
+        × RanRest O.Sink D.Device c 1 (ran s) engine.old out.old out.new dev.old dev.new
         (standing H.Responder T.Handler board.old.modules.now board.old.tasks)
         (standing H.Responder T.Handler board.old.modules.now board.new.tasks) result) }
     ensures fault { (ahead : Ahead) → Attaches I.observable id ahead (I.state inputs.old) front.old
@@ -319,8 +321,8 @@ fn run_rest<I: Inputs, O: Sink, D: Device, H: Responder, T: Handler>(
     ensures reads { (ahead : Ahead) → Attaches I.observable id ahead (I.state inputs.old) front.old
         → Meanwhile ahead.first (I.state inputs.new) (ReadsBegun result id) }
 {
-    match run_lines(controller, front, inputs, id, out, dev, board) {
-        Ok(end) => finish(controller, end.stop, out),
+    match run_lines(engine, front, inputs, id, out, dev, board) {
+        Ok(end) => finish(engine, end.stop, out),
         Err(LineStop::Bad(number, cause)) => refuse(Fault::Line(number, cause), out),
         Err(LineStop::Broken) => Exit::WriteFault,
     }
@@ -328,14 +330,14 @@ fn run_rest<I: Inputs, O: Sink, D: Device, H: Responder, T: Handler>(
 
 /// Writes what comes after the last line: the closing table, or the line of the fault for which the
 /// script can't be read on.
-fn finish<O: Sink>(controller: &Controller, stop: StopReason, out: &mut O) -> Exit
+fn finish<O: Sink>(engine: &Engine, stop: StopReason, out: &mut O) -> Exit
     requires begins { stop ≢ Unbegun }
     ensures { Reports O.Sink (closing_report
-        (stop_of stop) controller.now.book controller.now.kept controller.now.clocks.tree)
+        (stop_of stop) engine.now.book engine.now.kept engine.now.clocks.tree)
         out.old out.new result }
 {
     match stop {
-        StopReason::End => match write_closing(controller, out) {
+        StopReason::End => match write_closing(engine, out) {
             Ok(()) => Exit::Done,
             Err(Failed) => Exit::WriteFault,
         },

@@ -14,20 +14,21 @@ use Rattle.pm_drive.specs.Clocks.{clock_note}
 use Rattle.pm_drive.specs.Heard.{heard}
 use Rattle.pm_drive.specs.Tasks.{task_notes}
 use Rattle.pm_drive.specs.Text.{later_reply}
-use Rattle.pm_replay.specs.Controls.{Controls, stand_in}
-use Rattle.pm_replay.specs.Within.{RanCore, Writes}
+use Rattle.pm_engine.specs.Progress.{Progress, stand_in}
+use Rattle.pm_engine.specs.Writes.{Writes}
+use Rattle.pm_replay.specs.Within.{RanCore}
 use Rattle.pm_replay.proofs.AloneLemmas.{alone_notes, alone_rigged, alone_way}
 use Rattle.pm_replay.proofs.CoresLemmas.{line_ran}
-use Rattle.pm_replay.proofs.TasksLemmas.{notes_on}
+use Rattle.pm_engine.proofs.TasksLemmas.{notes_on}
 use Rattle.pm_replay.proofs.lines.run_alone.Goals as goal
 
 pub returns : goal.returns
 returns g c = λ cs is are.
     let n = c.args.number in
     let event = c.args.event.now in
-    let start : Controls = c.args.controller.now in
-    let mid : Controls = c.step.new.self in
-    let then : Controls = c.clocks_on-clocked.new.controller in
+    let start : Progress = c.args.engine.now in
+    let mid : Progress = c.step.new.self in
+    let then : Progress = c.clocks_on-clocked.new.engine in
     let modules : List Ranged = ranges g.H.Responder c.args.modules.now in
     let board : Standing = standing g.H.Responder g.T.Handler c.args.modules.now c.args.tasks.now in
     let left : Standing = standing g.H.Responder g.T.Handler c.args.modules.now c.tasks_on.new.tasks in
@@ -50,11 +51,11 @@ returns g c = λ cs is are.
     (alone_rigged g.O.Sink g.D.Device event c.args.dev.now c.requires)
     (alone_way g.O.Sink g.D.Device n event modules start mid c.write_heard-written.result c.args.out.now c.write_heard-written.new.out c.args.dev.now c.step.new.dev
     c.requires c.step.ensures.boxes (ap (λ (it : Clocked). it.told) c.step.ensures.goes.clocks) one)
-    (ap (λ (it : Controls). it.book) told_of)
-    (ap (λ (it : Controls). it.kept) told_of)
-    (ap (λ (it : Controls). it.clocks) told_of) are
+    (ap (λ (it : Progress). it.book) told_of)
+    (ap (λ (it : Progress). it.kept) told_of)
+    (ap (λ (it : Progress). it.clocks) told_of) are
     refl
-    (ap (λ (it : Controls). it.boxes) told_of)
+    (ap (λ (it : Progress). it.boxes) told_of)
     (alone_notes (setup_of start.book) then.book.fixed.topology event (stand_in start) reply turns fired c.requires)
     (notes_on g.O.Sink n turns fired c.write_heard-written.result c.clocks_on-clocked.result c.tasks_on.result
     c.write_heard-written.new.out c.clocks_on-clocked.new.out c.tasks_on.new.out c.clocks_on-clocked.ensures.writes c.tasks_on.ensures.writes)

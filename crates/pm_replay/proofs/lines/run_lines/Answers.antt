@@ -9,10 +9,10 @@ returns-clause-ran g c = λ ahead front cs is told.
     let new = c.follow.new.follower in
     let followed = (c.follow.ensures.followed ahead front).followed in
     let same = holds_same g.O.Sink g.D.Device g.H.Responder g.T.Handler 1 _ _ new c.follow.result followed.holds.1 in
-    let controller : c.controller-1.given.0 ≡ new.controller.now = search (rules, sym, c.controller-1.given.1, same.controller) in
+    let engine : c.engine-1.given.0 ≡ new.engine.now = search (rules, sym, c.engine-1.given.1, same.engine) in
     let out : c.out-1.given.0 ≡ new.out.now = search (rules, sym, c.out-1.given.1, same.out) in
     let dev : c.dev-1.given.0 ≡ new.dev.now = search (rules, sym, c.dev-1.given.1, same.dev) in
-    rw (controller, out, dev) (of_more g.I.Inputs.observable c.args.id _ _ _ (λ s did. (did.0, ran_lines g.O.Sink g.D.Device g.H.Responder g.T.Handler cs 1 (ran s) _ new c.follow.result is told did.1)) followed)
+    rw (engine, out, dev) (of_more g.I.Inputs.observable c.args.id _ _ _ (λ s did. (did.0, ran_lines g.O.Sink g.D.Device g.H.Responder g.T.Handler cs 1 (ran s) _ new c.follow.result is told did.1)) followed)
 
 -- the tasks that the player gives back are those of the board
 pub shape_of-board : goal.shape_of-board

@@ -20,23 +20,24 @@ use Rattle.pm_drive.specs.Clocks.{clock_note}
 use Rattle.pm_drive.specs.Heard.{heard}
 use Rattle.pm_drive.specs.Tasks.{task_notes}
 use Rattle.pm_drive.specs.Text.{later_reply}
-use Rattle.pm_replay.specs.Controls.{Controls, stand_in}
-use Rattle.pm_replay.specs.Within.{RanCore, WritesOn}
+use Rattle.pm_engine.specs.Progress.{Progress, stand_in}
+use Rattle.pm_engine.specs.Writes.{WritesOn}
+use Rattle.pm_replay.specs.Within.{RanCore}
 use Rattle.pm_replay.proofs.CoresLemmas.{IsUnderWay, line_ran, none_yet, one_more}
-use Rattle.pm_replay.proofs.TasksLemmas.{notes_on}
+use Rattle.pm_engine.proofs.TasksLemmas.{notes_on}
 use Rattle.pm_replay.proofs.lines.run_split.Goals as goal
 
 pub loop-core-init : goal.loop-core-init
 loop-core-init g c =
-    none_yet g.O.Sink g.D.Device c.args.number c.args.event.now (ranges g.H.Responder c.args.modules.now) c.split-parts.result.cores c.args.controller.now c.split-parts.new.self
+    none_yet g.O.Sink g.D.Device c.args.number c.args.event.now (ranges g.H.Responder c.args.modules.now) c.split-parts.result.cores c.args.engine.now c.split-parts.new.self
     c.args.out.now c.rig.new.dev c.split-parts.ensures.book c.split-parts.ensures.kept c.split-parts.ensures.clocks c.split-parts.ensures.events c.split-parts.ensures.boxes
 
 pub loop-core-preserved : goal.loop-core-preserved
 loop-core-preserved g c =
     let modules : List Ranged = ranges g.H.Responder c.args.modules.now in
     let core = c.event-taken.result.now in
-    let next : events_left c.loop-core.controller.book.fixed.object c.loop-core.controller.book.fixed.topology c.loop-core.controller.boxes c.loop-core.left ≡ core ∷ events_left c.loop-core.controller.book.fixed.object c.loop-core.controller.book.fixed.topology c.next.new.self.boxes c.next.new.cores =
-    c.in-Some.ensures.events ∙ ap (λ (e : Event). e ∷ events_left c.loop-core.controller.book.fixed.object c.loop-core.controller.book.fixed.topology c.next.new.self.boxes c.next.new.cores) (sym c.event-taken.ensures)
+    let next : events_left c.loop-core.engine.book.fixed.object c.loop-core.engine.book.fixed.topology c.loop-core.engine.boxes c.loop-core.left ≡ core ∷ events_left c.loop-core.engine.book.fixed.object c.loop-core.engine.book.fixed.topology c.next.new.self.boxes c.next.new.cores =
+    c.in-Some.ensures.events ∙ ap (λ (e : Event). e ∷ events_left c.loop-core.engine.book.fixed.object c.loop-core.engine.book.fixed.topology c.next.new.self.boxes c.next.new.cores) (sym c.event-taken.ensures)
     in
     let shown : Outbox = c.outbox-outbox.result.now in
     let taken = c.next.new.self in
@@ -55,21 +56,21 @@ loop-core-preserved g c =
     ap (λ (outbox : Outbox). later_reply c.loop-core.reply (heard modules core outbox.answer)) (sym c.outbox-outbox.ensures)
     ∙ (ap (λ (answer : Answer). later_reply c.loop-core.reply answer) (sym c.heard-answer.ensures) ∙ sym c.later_reply-reply.ensures)
     in
-    let P : Option Response → Type 0 = λ reply. IsUnderWay g.O.Sink g.D.Device c.args.number c.args.event.now modules c.next.new.cores c.args.controller.now c.step.new.self reply
+    let P : Option Response → Type 0 = λ reply. IsUnderWay g.O.Sink g.D.Device c.args.number c.args.event.now modules c.next.new.cores c.args.engine.now c.step.new.self reply
     c.write_on-written.result c.args.out.now c.write_on-written.new.out c.rig.new.dev c.step.new.dev
     in
     subst P told
-    (one_more g.O.Sink g.D.Device c.args.number c.args.event.now core modules c.loop-core.left c.next.new.cores c.args.controller.now c.loop-core.controller taken c.step.new.self
+    (one_more g.O.Sink g.D.Device c.args.number c.args.event.now core modules c.loop-core.left c.next.new.cores c.args.engine.now c.loop-core.engine taken c.step.new.self
     c.loop-core.reply c.loop-core.written c.write_on-written.result c.args.out.now c.loop-core.out c.write_on-written.new.out c.rig.new.dev c.loop-core.dev c.step.new.dev
     c.loop-core.invariant c.in-Some.ensures.book c.in-Some.ensures.kept c.in-Some.ensures.clocks next c.in-Some.ensures.boxes c.step.ensures.boxes
     (ap (λ (it : Clocked). it.told) c.step.ensures.goes.clocks) one)
 
 pub loop-core-smaller : goal.loop-core-smaller
 loop-core-smaller g c =
-    let O = c.args.controller.now.book.fixed.object in
-    let T = c.args.controller.now.book.fixed.topology in
+    let O = c.args.engine.now.book.fixed.object in
+    let T = c.args.engine.now.book.fixed.topology in
     let core = core_event c.in-Some.core c.next.new.made in
-    let P : Fixed → Type 0 = λ fixed. events_left fixed.object fixed.topology c.loop-core.controller.boxes c.loop-core.left ≡ core ∷ events_left fixed.object fixed.topology c.next.new.self.boxes c.next.new.cores in
+    let P : Fixed → Type 0 = λ fixed. events_left fixed.object fixed.topology c.loop-core.engine.boxes c.loop-core.left ≡ core ∷ events_left fixed.object fixed.topology c.next.new.self.boxes c.next.new.cores in
     let next = subst P c.loop-core.invariant.fixed c.in-Some.ensures.events ∙ ap (λ (b : Boxes). core ∷ events_left O T b c.next.new.cores) (sym c.step.ensures.boxes) in
     omega (arith, ap length next)
 
@@ -77,9 +78,9 @@ pub returns : goal.returns
 returns g c = λ cs is are.
     let n = c.args.number in
     let event = c.args.event.now in
-    let start = c.args.controller.now in
-    let now = c.loop-core.controller in
-    let then = c.clocks_on-clocked.new.controller in
+    let start = c.args.engine.now in
+    let now = c.loop-core.engine in
+    let then = c.clocks_on-clocked.new.engine in
     let board : Standing = standing g.H.Responder g.T.Handler c.args.modules.now c.args.tasks.now in
     let left : Standing = standing g.H.Responder g.T.Handler c.args.modules.now c.tasks_on-fired.new.tasks in
     let chip : c.topology.result.now ≡ then.book.fixed.topology = c.topology.ensures.topology ∙ ap (λ (b : State). b.fixed.topology) c.book.ensures in
@@ -102,11 +103,11 @@ returns g c = λ cs is are.
     line_ran g.O.Sink g.D.Device n event board left c.loop-core.left (((busy ++ turns) ++ fired) ++ told) start now then c.loop-core.reply
     c.loop-core.written c.call_on.result c.args.out.now c.loop-core.out c.call_on.new.out c.args.dev.now c.rig.new.dev c.loop-core.dev
     c.rig.ensures c.loop-core.invariant
-    (ap (λ (it : Controls). it.book) told_of ∙ c.in_default.ensures.book)
-    (ap (λ (it : Controls). it.kept) told_of ∙ c.in_default.ensures.kept)
-    (ap (λ (it : Controls). it.clocks) told_of ∙ ap clocks_told c.in_default.ensures.clocks) are
+    (ap (λ (it : Progress). it.book) told_of ∙ c.in_default.ensures.book)
+    (ap (λ (it : Progress). it.kept) told_of ∙ c.in_default.ensures.kept)
+    (ap (λ (it : Progress). it.clocks) told_of ∙ ap clocks_told c.in_default.ensures.clocks) are
     c.in_default.ensures.events.0
-    (ap (λ (it : Controls). it.boxes) told_of ∙ c.in_default.ensures.end refl)
+    (ap (λ (it : Progress). it.boxes) told_of ∙ c.in_default.ensures.end refl)
     (ap (λ (notes : List Note). ((notes ++ turns) ++ fired) ++ told) c.split-parts.ensures.notes
     ∙ (ap (λ (notes : List Note). ((own ++ notes) ++ fired) ++ told) turned
     ∙ ap (λ (notes : List Note). ((own ++ map clock_note (changes now.clocks)) ++ fired) ++ notes) called))

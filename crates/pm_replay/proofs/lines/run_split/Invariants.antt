@@ -5,7 +5,7 @@ use Rattle.pm_replay.proofs.CoresLemmas.{IsUnderWay}
 use Rattle.pm_replay.proofs.lines.run_split.Given as goal
 
 abbrev pub invariant-loop-core : goal.invariant-loop-core
-invariant-loop-core g l = IsUnderWay g.O.Sink g.D.Device l.number l.event (ranges g.H.Responder l.modules) l.left l.fn.controller l.controller l.reply l.written l.fn.out l.out l.initial.dev l.dev
+invariant-loop-core g l = IsUnderWay g.O.Sink g.D.Device l.number l.event (ranges g.H.Responder l.modules) l.left l.fn.engine l.engine l.reply l.written l.fn.out l.out l.initial.dev l.dev
 
 abbrev pub decreases-loop-core : goal.decreases-loop-core
-decreases-loop-core g l = length (events_left l.fn.controller.book.fixed.object l.fn.controller.book.fixed.topology l.controller.boxes l.left)
+decreases-loop-core g l = length (events_left l.fn.engine.book.fixed.object l.fn.engine.book.fixed.topology l.engine.boxes l.left)

@@ -1,0 +1,10 @@
+use Rattle.std.proofs.Common.{List, ℕ, ◌∙◌, subst}
+use Rattle.pm_engine.specs.Writes.{Writes}
+use Rattle.pm_engine.proofs.WritesLemmas.{wrote_by}
+use Rattle.pm_engine.proofs.writing.write_note.Goals as goal
+
+pub returns : goal.returns
+returns g c =
+    let P : List ℕ → Type 0 = λ text. Writes g.O.Sink text c.args.out.now c.write_all.new.sink c.write_all.result in
+    subst P (c.as_slice.ensures.value ∙ c.own_line.ensures)
+    (wrote_by g.O.Sink c.as_slice.result.now c.args.out.now c.write_all.new.sink c.write_all.result c.write_all.ensures.written c.write_all.ensures.short)
