@@ -78,7 +78,10 @@ fn read_rest<I: Inputs>(
             form.node,
             words,
         ),
-        Err(fault) => Err(fault),
+        Err(fault) => {
+            drop(object);
+            Err(fault)
+        }
     }
 }
 
@@ -129,7 +132,10 @@ fn with_master(
             master: Some(master),
             lines,
         }),
-        None => Err(Fault::Node),
+        None => {
+            drop((object, topology));
+            Err(Fault::Node)
+        }
     }
 }
 
