@@ -14,13 +14,12 @@ ghost use Rattle.pm_cli.specs.Brought.{AreTwoCounters, programs_modules};
 ghost use Rattle.pm_cli.specs.Logged.{IsLogOfRun, IsSafeLog};
 
 mod brought;
-mod host;
 
 use brought::{boxed, modules, tasks};
-use host::{HostInputs, HostSink};
 use pm_base::{Exit, NoMemory};
 use pm_chip::zynqmp;
 use pm_device::{ModelDevice, chains_are_logged};
+use pm_host::{HostInputs, HostSink};
 use pm_modules::{Echo, Masked, Modules, Responder};
 use pm_replay::logged_acts_are_safe;
 use pm_tasks::{Counter, Handler, Tasks};

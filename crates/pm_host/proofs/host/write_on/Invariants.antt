@@ -1,5 +1,5 @@
 use Rattle.std.proofs.Common.{◌≤◌, length}
-use Rattle.pm_cli.proofs.host.write_on.Given as goal
+use Rattle.pm_host.proofs.host.write_on.Given as goal
 
 abbrev pub invariant-loop-left : goal.invariant-loop-left
 invariant-loop-left g l = length l.left ≤ length l.bytes
