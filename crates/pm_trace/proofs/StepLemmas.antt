@@ -1,10 +1,13 @@
 -- The lines of a core step by their places.
-use Rattle.std.proofs.Common.{◌≡◌, ℕ, ◌-◌, ◌<◌, List, [], ◌∷◌, ◌++◌, length, map, ◌∙◌, refl, sym, ap, arith, true, Option, Some, None, zero, suc}
-use Rattle.std.specs.Prelude.{IfSome, is_some, option_to_list, slice_get}
+use Rattle.std.proofs.Common.{◌≡◌, ℕ, ◌-◌, ◌<◌, ◌≤◌, List, [], ◌∷◌, ◌++◌, get_or, length, map, ◌∙◌, refl, sym, ap, arith, true, Option, Some, None, zero, suc}
+use Rattle.std.specs.Prelude.{IfSome, drop, is_some, option_to_list, slice_get}
 use Rattle.std.specs.Option.{option_map}
+use Rattle.std.proofs.lemmas.Fmt.{decimal_digit}
 use Rattle.std.proofs.lemmas.Option.{slice_get-map}
 use Rattle.pm_trace.specs.declared.step.StepLine.{StepLine}
+use Rattle.pm_trace.specs.Line.{numbers, spaced}
 use Rattle.pm_trace.specs.Step.{numbered_line, step_words}
+use Rattle.pm_trace.proofs.LineLemmas.{at_end}
 
 -- an element of a front, of each of which one is made
 pub in_front : {X Y : Type 0} (f : X → Y) (xs : List X) (later : List Y) (k : ℕ) (x : X) → slice_get xs k ≡ Some x
@@ -56,3 +59,18 @@ pub last_told : (n : ℕ) (lines : List StepLine) (k : ℕ) (last : Option StepL
     → IfSome last (λ told. text ≡ numbered_line n (step_words told)) → slice_get (map (numbered_line n) (map step_words lines)) k ≡ Some text
 last_told n lines k None text is says = cc
 last_told n lines k (Some told) text is says = line_told n lines k told text is.0 says
+
+-- the same where it is put at the end of a text
+pub last_at_end : (last : Option StepLine) (size n : ℕ) (text bytes : List ℕ) → length text ≤ size
+    → IfSome last (λ told. bytes ≡ numbered_line n (step_words told) ++ drop size text) → IfSome last (λ told. bytes ≡ numbered_line n (step_words told))
+last_at_end None size n text bytes short says = says
+last_at_end (Some told) size n text bytes short says = at_end size text (numbered_line n (step_words told)) bytes short says
+
+-- the words of a reply that tells nothing but zeros
+pub told_zeros : (words later bytes : List ℕ) → length words ≡ 3 → get_or words 0 0 ≡ 0 → get_or words 1 0 ≡ 0 → get_or words 2 0 ≡ 0
+    → bytes ≡ 32 ∷ 48 ∷ 32 ∷ 48 ∷ 32 ∷ 48 ∷ later → bytes ≡ spaced (numbers words) later
+told_zeros (a ∷ b ∷ c ∷ []) later bytes three first second third is =
+    is
+    ∙ ap (λ (digits : List ℕ). 32 ∷ (digits ++ 32 ∷ (digits ++ 32 ∷ (digits ++ later)))) (sym (decimal_digit 0 (omega arith)))
+    ∙ rw (first, second, third) refl
+told_zeros words later bytes three first second third is = absurd (omega (arith, three))

@@ -5,5 +5,5 @@ use Rattle.pm_trace.specs.declared.step.StepLine.{StepLine}
 use Rattle.pm_trace.specs.Step.{numbered_line, step_words}
 
 -- the text of the lines of step n that tell these
-abbrev pub lines_text : ℕ → List StepLine → List ℕ
-lines_text n lines = concat (map (numbered_line n) (map step_words lines))
+abbrev pub lines_of_step : ℕ → List StepLine → List ℕ
+lines_of_step n lines = concat (map (numbered_line n) (map step_words lines))

@@ -1,11 +1,15 @@
 //! A line of output, made of words.
 
-ghost use Rattle.std.specs.Prelude.{◌≡◌, ◌+◌, ◌≤◌, ◌++◌, ◌∷◌, [], length, drop, decimal};
+ghost use Rattle.std.specs.Prelude.{◌≡◌, ◌+◌, ◌<◌, ◌≤◌, ◌++◌, ◌∷◌, [], length, drop, decimal};
 ghost use Rattle.pm_trace.specs.declared.line.Word.TheVariants as word;
 ghost use Rattle.pm_trace.specs.Line.{word_text, line_text, spaced, width, widths};
 
 use itoa::{Buffer, write_digits};
 use std::marker::Model;
+
+/// The two digits of each number below 100.
+static PAIRS: [u8; 200] =
+    *b"00010203040506070809101112131415161718192021222324252627282930313233343536373839404142434445464748495051525354555657585960616263646566676869707172737475767778798081828384858687888990919293949596979899";
 
 /// A line of output with its line feed. Contracts see its bytes.
 ///
@@ -131,7 +135,8 @@ fn put_word(text: &mut [u8; 128], at: usize, word: &Word) -> usize
 }
 
 /// Puts bytes before what stands from `at` on. Answers where they begin.
-pub(crate) fn put_text(text: &mut [u8], at: usize, bytes: &[u8]) -> usize
+#[inline(always)]
+fn put_text(text: &mut [u8], at: usize, bytes: &[u8]) -> usize
     requires room { length bytes.now ≤ at }
     requires within { at ≤ length text.old }
     ensures room { result + length bytes.now ≡ at }
@@ -152,6 +157,7 @@ pub(crate) fn put_feed(text: &mut [u8; 128]) -> usize
 }
 
 /// Puts a byte before what stands from `at` on. Answers where it stands.
+#[inline(always)]
 pub(crate) fn put_byte(text: &mut [u8], at: usize, byte: u8) -> usize
     requires room { 1 ≤ at }
     requires within { at ≤ length text.old }
@@ -163,6 +169,7 @@ pub(crate) fn put_byte(text: &mut [u8], at: usize, byte: u8) -> usize
 }
 
 /// Puts a space before what stands from `at` on. Answers where it stands.
+#[inline(always)]
 fn put_space(text: &mut [u8], at: usize) -> usize
     requires room { 1 ≤ at }
     requires within { at ≤ length text.old }
@@ -173,6 +180,7 @@ fn put_space(text: &mut [u8], at: usize) -> usize
 }
 
 /// Puts a number, with a space before it, before what stands from `at` on. Answers where the space stands.
+#[inline(always)]
 pub(crate) fn put_number(text: &mut [u8], at: usize, n: u32) -> usize
     requires room { 11 ≤ at }
     requires within { at ≤ length text.old }
@@ -197,6 +205,7 @@ pub(crate) fn put_address(text: &mut [u8], at: usize, address: u64) -> usize
 }
 
 /// Puts the digits of a number before what stands from `at` on. Answers where they begin.
+#[inline(always)]
 pub(crate) fn put_digits(text: &mut [u8], at: usize, n: u32) -> usize
     requires room { 10 ≤ at }
     requires within { at ≤ length text.old }
@@ -207,14 +216,41 @@ pub(crate) fn put_digits(text: &mut [u8], at: usize, n: u32) -> usize
     if n < 10 {
         put_byte(text, at, b'0' + n as u8)
     } else if n < 100 {
-        let at = put_byte(text, at, b'0' + (n % 10) as u8);
-        put_byte(text, at, b'0' + (n / 10) as u8)
+        put_pair(text, at, n)
     } else {
-        write_digits(n as u64, text, at)
+        put_many(text, at, n)
     }
 }
 
+/// Puts the digits of a number of two.
+#[inline(always)]
+fn put_pair(text: &mut [u8], at: usize, n: u32) -> usize
+    requires from { 10 ≤ n }
+    requires to { n < 100 }
+    requires room { 2 ≤ at }
+    requires within { at ≤ length text.old }
+    ensures room { result + 2 ≡ at }
+    ensures text { drop result text.new ≡ decimal n ++ drop at text.old }
+{
+    let pair = 2 * n as usize;
+    let at = put_byte(text, at, PAIRS[pair + 1]);
+    put_byte(text, at, PAIRS[pair])
+}
+
+/// Puts the digits of a number of three or more.
+#[inline(never)]
+fn put_many(text: &mut [u8], at: usize, n: u32) -> usize
+    requires room { 10 ≤ at }
+    requires within { at ≤ length text.old }
+    ensures room { at ≤ result + 10 }
+    ensures within { result ≤ at }
+    ensures text { drop result text.new ≡ decimal n ++ drop at text.old }
+{
+    write_digits(n as u64, text, at)
+}
+
 /// Puts a name before what stands from `at` on. Answers where it begins.
+#[inline(always)]
 pub(crate) fn put_name<const N: usize>(text: &mut [u8], at: usize, name: &[u8; N]) -> usize
     requires room { N ≤ at }
     requires within { at ≤ length text.old }

@@ -1,15 +1,18 @@
 //! The lines of one core step.
 
 ghost use Rattle.std.specs.Prelude.{◌≡◌, ◌<◌, ◌≤◌, ◌+◌, ◌-◌, ◌++◌, ◌∷◌, [], Some, None, IfSome, IsTrue, MatchResult, decimal, drop, is_some, length, map, slice_get};
-ghost use Rattle.pm_trace.specs.Line.{spaced};
+ghost use Rattle.pm_trace.specs.Line.{numbers, spaced};
 ghost use Rattle.pm_trace.specs.declared.step.StepLine.TheVariants as told;
 ghost use Rattle.pm_trace.specs.Step.{answer_line, command_name, core_lines, late_line, notices_in, numbered_line, output_words, step_words};
 
-use crate::line::{TextLine, put_address, put_digits, put_feed, put_name, put_number};
+use crate::line::{TextLine, put_address, put_byte, put_digits, put_name, put_number};
 use pm_base::{NodeId, Unit};
 use pm_core::{Answer, Callback, Done, Late, Outbox, Start};
 use pm_ipi::Response;
 use pm_ipi::callbacks::ACKNOWLEDGE;
+
+/// The most bytes of a line of a core step: ten digits, 80 of its words, and the line feed.
+pub(crate) const LINE: usize = 91;
 
 /// What one line of a core step tells. Contracts speak of lines by it.
 #[derive(Clone, Copy, Debug, PartialEq, Eq)]
@@ -50,7 +53,7 @@ pub fn entry(n: u32, out: &Outbox, answer: &Answer, k: usize, line: &mut TextLin
 pub fn command_entry(n: u32, done: &Done, line: &mut TextLine)
     ensures { line.new.items ≡ numbered_line n (step_words (told.Command done.now)) }
 {
-    line.start = put_command(&mut line.text, n, done);
+    line.start = put_command(&mut line.text, 128, n, done);
 }
 
 /// Leaves in `line` the line of an answer of which one is written, to a core step of script line `n`, with its line feed.
@@ -58,7 +61,7 @@ pub fn answer_entry(n: u32, answer: &Answer, line: &mut TextLine)
     requires { IsTrue (is_some (answer_line answer.now)) }
     ensures { IfSome (answer_line answer.now) (λ told. line.new.items ≡ numbered_line n (step_words told)) }
 {
-    line.start = put_answer(&mut line.text, n, answer);
+    line.start = put_answer(&mut line.text, 128, n, answer);
 }
 
 /// Puts the `k`-th line of a core step at the end of a text. Answers where it begins.
@@ -68,20 +71,20 @@ fn put_entry(text: &mut [u8; 128], n: u32, out: &Outbox, answer: &Answer, k: usi
     ensures text { slice_get (core_lines n out.now.done.items (notices_in out.now) answer.now) k ≡ Some (drop result text.new) }
 {
     let k = match at(out.done.as_slice(), k) {
-        Ok(done) => return put_command(text, n, done),
+        Ok(done) => return put_command(text, 128, n, done),
         Err(k) => k,
     };
     let k = match at(out.starts.as_slice(), k) {
-        Ok(start) => return put_start(text, n, start),
+        Ok(start) => return put_start(text, 128, n, start),
         Err(k) => k,
     };
     let k = match at(out.late.as_slice(), k) {
-        Ok(late) => return put_late(text, n, late),
+        Ok(late) => return put_late(text, 128, n, late),
         Err(k) => k,
     };
     match at(out.callbacks.as_slice(), k) {
-        Ok(call) => put_call(text, n, call.master, call.id, &call.args),
-        Err(_) => put_answer(text, n, answer),
+        Ok(call) => put_call(text, 128, n, call),
+        Err(_) => put_answer(text, 128, n, answer),
     }
 }
 
@@ -103,71 +106,84 @@ pub fn is_told(answer: &Answer) -> bool
     !matches!(answer, Answer::Silent | Answer::Ack { shown: false, .. })
 }
 
-/// Puts the line of an answer of which one is written. Answers where it begins.
-#[tactic(auto, using(crate::proofs::LineLemmas::line_is))]
-fn put_answer(text: &mut [u8; 128], n: u32, answer: &Answer) -> usize
-    requires { IsTrue (is_some (answer_line answer.now)) }
-    ensures within { result ≤ 128 }
-    ensures text { IfSome (answer_line answer.now) (λ told. drop result text.new ≡ numbered_line n (step_words told)) }
+/// Puts the line of an answer of which one is written before what stands from `at` on. Answers where it begins.
+#[inline(never)]
+#[tactic(auto, using(crate::proofs::LineLemmas::line_before))]
+pub(crate) fn put_answer(text: &mut [u8], at: usize, n: u32, answer: &Answer) -> usize
+    requires told { IsTrue (is_some (answer_line answer.now)) }
+    requires room { LINE ≤ at }
+    requires within { at ≤ length text.old }
+    ensures room { at ≤ result + LINE }
+    ensures within { result ≤ at }
+    ensures text { IfSome (answer_line answer.now)
+        (λ told. drop result text.new ≡ numbered_line n (step_words told) ++ drop at text.old) }
 {
-    let at = put_feed(text);
+    let at = put_byte(text, at, b'\n');
     let at = answer_words(text, at, answer);
     put_digits(text, at, n)
 }
 
-/// Puts the line of a processor that starts. Answers where it begins.
-#[tactic(auto, using(crate::proofs::LineLemmas::line_is))]
-fn put_start(text: &mut [u8; 128], n: u32, start: &Start) -> usize
-    ensures within { result ≤ 128 }
-    ensures text { drop result text.new ≡ numbered_line n (step_words (told.Start start.now)) }
+/// Puts the line of a processor that starts before what stands from `at` on. Answers where it begins.
+#[inline(never)]
+#[tactic(auto, using(crate::proofs::LineLemmas::line_before))]
+pub(crate) fn put_start(text: &mut [u8], at: usize, n: u32, start: &Start) -> usize
+    requires room { LINE ≤ at }
+    requires within { at ≤ length text.old }
+    ensures room { at ≤ result + LINE }
+    ensures within { result ≤ at }
+    ensures text { drop result text.new ≡ numbered_line n (step_words (told.Start start.now)) ++ drop at text.old }
 {
-    let at = put_feed(text);
+    let at = put_byte(text, at, b'\n');
     let at = start_words(text, at, start);
     put_digits(text, at, n)
 }
 
-/// Puts the line of a late reply, which tells its status alone. Answers where it begins.
-#[tactic(auto, using(crate::proofs::LineLemmas::line_is))]
-fn put_late(text: &mut [u8; 128], n: u32, late: &Late) -> usize
-    ensures within { result ≤ 128 }
-    ensures text { drop result text.new ≡ numbered_line n (step_words (late_line late.now)) }
+/// Puts the line of a late reply, which tells its status alone, before what stands from `at` on. Answers where it begins.
+#[tactic(auto, using(crate::proofs::LineLemmas::line_before))]
+fn put_late(text: &mut [u8], at: usize, n: u32, late: &Late) -> usize
+    requires room { LINE ≤ at }
+    requires within { at ≤ length text.old }
+    ensures within { result ≤ at }
+    ensures text { drop result text.new ≡ numbered_line n (step_words (late_line late.now)) ++ drop at text.old }
 {
     let response = Response {
         status: late.status,
         words: [0; 3],
     };
-    let at = put_feed(text);
+    let at = put_byte(text, at, b'\n');
     let at = reply_words(text, at, late.master, &response);
     put_digits(text, at, n)
 }
 
-/// Puts the line of a command that was issued. Answers where it begins.
-#[tactic(auto, using(crate::proofs::LineLemmas::line_is))]
-fn put_command(text: &mut [u8; 128], n: u32, done: &Done) -> usize
-    ensures within { result ≤ 128 }
-    ensures text { drop result text.new ≡ numbered_line n (step_words (told.Command done.now)) }
+/// Puts the line of a command that was issued before what stands from `at` on. Answers where it begins.
+#[tactic(auto, using(crate::proofs::LineLemmas::line_before))]
+fn put_command(text: &mut [u8], at: usize, n: u32, done: &Done) -> usize
+    requires room { LINE ≤ at }
+    requires within { at ≤ length text.old }
+    ensures within { result ≤ at }
+    ensures text { drop result text.new
+        ≡ numbered_line n (step_words (told.Command done.now)) ++ drop at text.old }
 {
-    let at = put_feed(text);
-    let at = command_words(text, at, done);
+    let at = rest_of_command(text, at, done);
     put_digits(text, at, n)
 }
 
-/// Puts the line of a callback, of which these are the number and the arguments. Answers where it begins.
-#[tactic(auto, using(crate::proofs::LineLemmas::line_is))]
-fn put_call(text: &mut [u8; 128], n: u32, master: NodeId, id: u32, args: &[u32; 4]) -> usize
-    ensures within { result ≤ 128 }
-    ensures text { drop result text.new
-        ≡ numbered_line n (step_words (told.Call (record { master = master; id = id; args = args.now }))) }
+/// Puts the line of a callback before what stands from `at` on. Answers where it begins.
+#[tactic(auto, using(crate::proofs::LineLemmas::line_before))]
+fn put_call(text: &mut [u8], at: usize, n: u32, call: &Callback) -> usize
+    requires room { LINE ≤ at }
+    requires within { at ≤ length text.old }
+    ensures within { result ≤ at }
+    ensures text { drop result text.new ≡ numbered_line n (step_words (told.Call call.now)) ++ drop at text.old }
 {
-    let at = put_feed(text);
-    let at = call_words(text, at, master, id, args);
+    let at = put_byte(text, at, b'\n');
+    let at = call_words(text, at, call.master, call.id, &call.args);
     put_digits(text, at, n)
 }
 
 /// Puts the words of an answer of which a line is written before what stands from `at` on, each with a space before it.
 /// Answers where they begin.
-#[inline(always)]
-pub(crate) fn answer_words(text: &mut [u8], at: usize, answer: &Answer) -> usize
+fn answer_words(text: &mut [u8], at: usize, answer: &Answer) -> usize
     requires told { IsTrue (is_some (answer_line answer.now)) }
     requires room { 80 ≤ at }
     requires within { at ≤ length text.old }
@@ -198,8 +214,7 @@ pub(crate) fn answer_words(text: &mut [u8], at: usize, answer: &Answer) -> usize
 
 /// Puts the words of a processor that starts before what stands from `at` on, each with a space before it. Answers
 /// where they begin.
-#[inline]
-pub(crate) fn start_words(text: &mut [u8], at: usize, start: &Start) -> usize
+fn start_words(text: &mut [u8], at: usize, start: &Start) -> usize
     requires room { 80 ≤ at }
     requires within { at ≤ length text.old }
     ensures room { at ≤ result + 80 }
@@ -211,16 +226,17 @@ pub(crate) fn start_words(text: &mut [u8], at: usize, start: &Start) -> usize
     put_name(text, at, b" run")
 }
 
-/// Puts the words of a command that was issued before what stands from `at` on, each with a space before it. Answers
-/// where they begin.
+/// Puts what stands in the line of a command behind the number of its step, with the line feed, before what stands from
+/// `at` on. Answers where it begins.
 #[inline(always)]
-pub(crate) fn command_words(text: &mut [u8], at: usize, done: &Done) -> usize
-    requires room { 80 ≤ at }
+pub(crate) fn rest_of_command(text: &mut [u8], at: usize, done: &Done) -> usize
+    requires room { LINE ≤ at }
     requires within { at ≤ length text.old }
-    ensures room { at ≤ result + 80 }
+    ensures room { at ≤ result + 81 }
     ensures within { result ≤ at }
-    ensures text { drop result text.new ≡ spaced (step_words (told.Command done.now)) (drop at text.old) }
+    ensures text { drop result text.new ≡ spaced (step_words (told.Command done.now)) (10 ∷ drop at text.old) }
 {
+    let at = put_byte(text, at, b'\n');
     let at = put_number(text, at, done.command.value);
     let at = put_number(text, at, done.from);
     put_unit(text, at, done.command.unit, done.ok)
@@ -245,6 +261,7 @@ fn put_unit(text: &mut [u8], at: usize, unit: Unit, ok: bool) -> usize
 }
 
 /// Puts a name and a number before what stands from `at` on. Answers where the name begins.
+#[inline(always)]
 fn put_named<const N: usize>(text: &mut [u8], at: usize, name: &[u8; N], number: u32) -> usize
     requires short { N ≤ 9 }
     requires room { 20 ≤ at }
@@ -259,19 +276,35 @@ fn put_named<const N: usize>(text: &mut [u8], at: usize, name: &[u8; N], number:
 
 /// Puts the words of a reply before what stands from `at` on, each with a space before it. Answers where they begin.
 #[inline(always)]
-fn reply_words(text: &mut [u8], at: usize, master: NodeId, response: &Response) -> usize
+pub(crate) fn reply_words(text: &mut [u8], at: usize, master: NodeId, response: &Response) -> usize
     requires room { 80 ≤ at }
     requires within { at ≤ length text.old }
     ensures room { at ≤ result + 80 }
     ensures within { result ≤ at }
     ensures text { drop result text.new ≡ spaced (step_words (told.Reply master response.now)) (drop at text.old) }
 {
-    let at = put_number(text, at, response.words[2]);
-    let at = put_number(text, at, response.words[1]);
-    let at = put_number(text, at, response.words[0]);
+    let at = told_words(text, at, &response.words);
     let at = put_number(text, at, response.status);
     let at = put_number(text, at, master.0);
     put_name(text, at, b" reply")
+}
+
+/// Puts the words that a reply tells, which most replies leave at 0, before what stands from `at` on, each with a space
+/// before it. Answers where they begin.
+#[inline(always)]
+fn told_words(text: &mut [u8], at: usize, words: &[u32; 3]) -> usize
+    requires room { 33 ≤ at }
+    requires within { at ≤ length text.old }
+    ensures room { at ≤ result + 33 }
+    ensures within { result ≤ at }
+    ensures text { drop result text.new ≡ spaced (numbers words.now) (drop at text.old) }
+{
+    if words[0] == 0 && words[1] == 0 && words[2] == 0 {
+        return put_name(text, at, b" 0 0 0");
+    }
+    let at = put_number(text, at, words[2]);
+    let at = put_number(text, at, words[1]);
+    put_number(text, at, words[0])
 }
 
 /// Puts the words that tell of a message that is dropped before what stands from `at` on, each with a space before it.

@@ -1,15 +1,60 @@
 //! The text of a core step of few lines, made from its end to its front.
 
-ghost use Rattle.std.specs.Prelude.{◌≡◌, ◌+◌, ◌<◌, ◌≤◌, ◌++◌, ◌∷◌, [], IsTrue, decimal, drop, length, map, option_to_list};
+ghost use Rattle.std.specs.Prelude.{◌≡◌, ◌+◌, ◌*◌, ◌<◌, ◌≤◌, ◌++◌, ◌∷◌, [], IsTrue, decimal, drop, length, map, option_to_list};
 ghost use Rattle.pm_trace.specs.declared.step.StepLine.TheVariants as told;
 ghost use Rattle.pm_trace.specs.Step.{answer_line, notices_in, numbered_line, step_text, step_words};
-ghost use Rattle.pm_trace.specs.StepText.{lines_text};
+ghost use Rattle.pm_trace.specs.StepText.{lines_of_step};
 
-use crate::line::{put_byte, put_text};
-use crate::step::{answer_words, command_words, is_told, start_words};
+use crate::line::{put_byte, put_name};
+use crate::step::{LINE, is_told, put_answer, put_start, reply_words, rest_of_command};
 use itoa::write_digits;
+use pm_base::NodeId;
 use pm_core::{Answer, Done, Outbox, Start};
+use pm_ipi::Response;
 use std::marker::Model;
+
+/// The bytes that the text of a step of few lines has room for: those lines have (8 + 2 + 1) * 91 = 1,001 at most.
+const ROOM: usize = 1024;
+/// The most commands of a step of few lines.
+const COMMANDS: usize = 8;
+/// The most processors that start in a step of few lines.
+const STARTS: usize = 2;
+
+/// A number of at most nine digits, with its digits. Contracts see the number.
+#[derive(Drop)]
+struct Number {
+    value: u32,
+    /// The digits before the last one, from `start` on.
+    digits: [u8; 8],
+    start: usize,
+    last: u8,
+}
+
+impl Model for Number {
+    ghost use Rattle.std.specs.Prelude.{◌≡◌, ◌≤◌, ◌++◌, ◌∷◌, [], ℕ, decimal, drop};
+
+    ghost Value = { ℕ };
+
+    ghost view = { λ number. number.value };
+
+    ghost invariant = { λ number. (number.start ≤ 8)
+        × (decimal number.value ≡ drop number.start number.digits ++ number.last ∷ []) };
+}
+
+impl Number {
+    /// Puts it before what stands from `at` on. Answers where it begins.
+    #[inline(always)]
+    fn put(&self, text: &mut [u8], at: usize) -> usize
+        requires room { 10 ≤ at }
+        requires within { at ≤ length text.old }
+        ensures room { at ≤ result + 10 }
+        ensures within { result ≤ at }
+        ensures text { drop result text.new ≡ decimal self.now ++ drop at text.old }
+    {
+        let last = put_byte(text, at, self.last);
+        put_name(text, last, &self.digits) + self.start
+    }
+}
 
 /// Ten numbers that differ in their last digit alone, with the digits before it. Contracts see the first of them.
 #[derive(Drop)]
@@ -44,9 +89,10 @@ impl Tens {
         }
     }
 
-    /// Comes to those among which a number is. The answer is whether it has at most nine digits: the digits before the last
-    /// one have no room for more.
-    fn reach(&mut self, n: u32) -> bool
+    /// Moves to those among which a number is, if it has at most nine digits: the digits before the last one have no room
+    /// for more. Answers whether it is among them then.
+    #[inline(always)]
+    fn move_to(&mut self, n: u32) -> bool
         ensures from { IsTrue result → self.new ≤ n }
         ensures to { IsTrue result → n < self.new + 10 }
     {
@@ -76,18 +122,19 @@ impl Tens {
         true
     }
 
-    /// Puts one of them before what stands from `at` on. Answers where it begins.
-    fn put(&self, text: &mut [u8], at: usize, n: u32) -> usize
+    /// One of them.
+    #[inline(always)]
+    fn number(&self, n: u32) -> Number
         requires from { self.now ≤ n }
         requires to { n < self.now + 10 }
-        requires room { 10 ≤ at }
-        requires within { at ≤ length text.old }
-        ensures room { at ≤ result + 10 }
-        ensures within { result ≤ at }
-        ensures text { drop result text.new ≡ decimal n ++ drop at text.old }
+        ensures { result ≡ n }
     {
-        let last = put_byte(text, at, b'0' + (n - self.first) as u8);
-        put_text(text, last, &self.digits) + self.start
+        Number {
+            value: n,
+            digits: self.digits,
+            start: self.start,
+            last: b'0' + (n - self.first) as u8,
+        }
     }
 }
 
@@ -116,8 +163,8 @@ impl StepText {
         ensures { result.items ≡ [] }
     {
         StepText {
-            text: [0; 1024],
-            start: 1024,
+            text: [0; ROOM],
+            start: ROOM,
             tens: Tens::new(),
         }
     }
@@ -131,18 +178,21 @@ impl StepText {
     }
 
     /// Leaves the text of a core step of script line `n` that is answered so. The answer is whether it has room: not for
-    /// many commands or starts, and none for other lines than those of commands, starts and the answer.
+    /// many commands or starts, none for other lines than those of commands, starts and the answer, and none for a number
+    /// `n` of ten digits. Where it has none, nothing is promised of it: a caller writes such a step line by line, so that
+    /// this is for speed alone.
     #[inline(always)]
     pub fn fill(&mut self, n: u32, out: &Outbox, answer: &Answer) -> bool
         ensures { IsTrue result
             → self.new.items ≡ step_text n out.now.done.items (notices_in out.now) answer.now }
     {
-        if !is_short(out) || !self.tens.reach(n) {
+        if !is_short(out) || !self.tens.move_to(n) {
             return false;
         }
-        let at = put_last(&mut self.text, &self.tens, n, answer);
-        let at = put_starts(&mut self.text, at, &self.tens, n, out.starts.as_slice());
-        self.start = put_commands(&mut self.text, at, &self.tens, n, out.done.as_slice());
+        let number = self.tens.number(n);
+        let at = put_last(&mut self.text, &number, answer);
+        let at = put_starts(&mut self.text, at, n, out.starts.as_slice());
+        self.start = put_commands(&mut self.text, at, &number, out.done.as_slice());
         true
     }
 }
@@ -157,105 +207,106 @@ fn bytes_from(text: &[u8; 1024], from: usize) -> &[u8]
 }
 
 /// Whether a step has few commands and starts, and tells nothing else but its answer.
+#[inline(always)]
 fn is_short(out: &Outbox) -> bool
-    ensures commands { IsTrue result → length out.now.done.items ≤ 8 }
-    ensures starts { IsTrue result → length out.now.starts.items ≤ 2 }
+    ensures commands { IsTrue result → length out.now.done.items ≤ COMMANDS }
+    ensures starts { IsTrue result → length out.now.starts.items ≤ STARTS }
     ensures late { IsTrue result → out.now.late.items ≡ [] }
     ensures callbacks { IsTrue result → out.now.callbacks.items ≡ [] }
 {
-    out.done.as_slice().len() <= 8
-        && out.starts.as_slice().len() <= 2
+    out.done.as_slice().len() <= COMMANDS
+        && out.starts.as_slice().len() <= STARTS
         && out.late.as_slice().is_empty()
         && out.callbacks.as_slice().is_empty()
 }
 
 /// Puts the line of an answer at the end of a text, if one is written. Answers where it begins.
 #[inline(always)]
-fn put_last(text: &mut [u8; 1024], tens: &Tens, n: u32, answer: &Answer) -> usize
-    requires from { tens.now ≤ n }
-    requires to { n < tens.now + 10 }
-    ensures room { 933 ≤ result }
-    ensures within { result ≤ 1024 }
-    ensures text { drop result text.new ≡ lines_text n (option_to_list (answer_line answer.now)) }
+fn put_last(text: &mut [u8; 1024], number: &Number, answer: &Answer) -> usize
+    ensures room { ROOM ≤ result + LINE }
+    ensures within { result ≤ ROOM }
+    ensures text { drop result text.new ≡ lines_of_step number.now (option_to_list (answer_line answer.now)) }
 {
-    if !is_told(answer) {
-        return 1024;
+    match answer {
+        Answer::Reply { master, response } => put_reply(text, number, *master, response),
+        _ => put_rare(text, number.value, answer),
     }
-    let at = put_byte(text, 1024, b'\n');
-    let at = answer_words(text, at, answer);
-    tens.put(text, at, n)
 }
 
-/// Puts the lines of processors that start before what stands from `at` on. Answers where they begin.
+/// The same of any answer: one that isn't a reply is rare.
+#[inline(never)]
+fn put_rare(text: &mut [u8; 1024], n: u32, answer: &Answer) -> usize
+    ensures room { ROOM ≤ result + LINE }
+    ensures within { result ≤ ROOM }
+    ensures text { drop result text.new ≡ lines_of_step n (option_to_list (answer_line answer.now)) }
+{
+    if is_told(answer) {
+        put_answer(text, ROOM, n, answer)
+    } else {
+        ROOM
+    }
+}
+
+/// Puts the line of a reply at the end of a text. Answers where it begins.
 #[inline(always)]
-fn put_starts(text: &mut [u8; 1024], at: usize, tens: &Tens, n: u32, starts: &[Start]) -> usize
-    requires from { tens.now ≤ n }
-    requires to { n < tens.now + 10 }
-    requires few { length starts.now ≤ 2 }
-    requires room { 933 ≤ at }
-    requires within { at ≤ 1024 }
-    ensures room { 751 ≤ result }
-    ensures within { result ≤ 1024 }
-    ensures text { drop result text.new ≡ lines_text n (map told.Start starts.now) ++ drop at text.old }
+fn put_reply(text: &mut [u8; 1024], number: &Number, master: NodeId, response: &Response) -> usize
+    ensures room { ROOM ≤ result + LINE }
+    ensures within { result ≤ ROOM }
+    ensures text { drop result text.new ≡ lines_of_step number.now (told.Reply master response.now ∷ []) }
+{
+    let at = put_byte(text, ROOM, b'\n');
+    let at = reply_words(text, at, master, response);
+    number.put(text, at)
+}
+
+/// Puts the lines of processors that start in step `n` before what stands from `at` on. Answers where they begin.
+#[inline(always)]
+fn put_starts(text: &mut [u8; 1024], at: usize, n: u32, starts: &[Start]) -> usize
+    requires few { length starts.now ≤ STARTS }
+    requires room { ROOM ≤ at + LINE }
+    requires within { at ≤ ROOM }
+    ensures room { ROOM ≤ result + (STARTS + 1) * LINE }
+    ensures within { result ≤ ROOM }
+    ensures text { drop result text.new ≡ lines_of_step n (map told.Start starts.now) ++ drop at text.old }
 {
     let mut from = at;
     let mut left = starts.len();
     while left > 0 {
         left -= 1;
-        from = put_start(text, from, tens, n, &starts[left]);
+        from = put_start(text, from, n, &starts[left]);
     }
     from
 }
 
 /// Puts the lines of commands before what stands from `at` on. Answers where they begin.
 #[inline(always)]
-fn put_commands(text: &mut [u8; 1024], at: usize, tens: &Tens, n: u32, commands: &[Done]) -> usize
-    requires from { tens.now ≤ n }
-    requires to { n < tens.now + 10 }
-    requires few { length commands.now ≤ 8 }
-    requires room { 751 ≤ at }
-    requires within { at ≤ 1024 }
-    ensures within { result ≤ 1024 }
-    ensures text { drop result text.new ≡ lines_text n (map told.Command commands.now) ++ drop at text.old }
+fn put_commands(text: &mut [u8; 1024], at: usize, number: &Number, commands: &[Done]) -> usize
+    requires few { length commands.now ≤ COMMANDS }
+    requires room { ROOM ≤ at + (STARTS + 1) * LINE }
+    requires within { at ≤ ROOM }
+    ensures within { result ≤ ROOM }
+    ensures text { drop result text.new ≡ lines_of_step number.now (map told.Command commands.now) ++ drop at text.old }
 {
     let mut from = at;
     let mut left = commands.len();
     while left > 0 {
         left -= 1;
-        from = put_command(text, from, tens, n, &commands[left]);
+        from = put_command(text, from, number, &commands[left]);
     }
     from
 }
 
-/// Puts the line of a processor that starts before what stands from `at` on. Answers where it begins.
-#[inline(never)]
-fn put_start(text: &mut [u8; 1024], at: usize, tens: &Tens, n: u32, start: &Start) -> usize
-    requires from { tens.now ≤ n }
-    requires to { n < tens.now + 10 }
-    requires room { 91 ≤ at }
-    requires within { at ≤ 1024 }
-    ensures room { at ≤ result + 91 }
-    ensures within { result ≤ at }
-    ensures text { drop result text.new ≡ numbered_line n (step_words (told.Start start.now)) ++ drop at text.old }
-{
-    let at = put_byte(text, at, b'\n');
-    let at = start_words(text, at, start);
-    tens.put(text, at, n)
-}
-
 /// Puts the line of a command before what stands from `at` on. Answers where it begins.
 #[inline(always)]
-fn put_command(text: &mut [u8; 1024], at: usize, tens: &Tens, n: u32, done: &Done) -> usize
-    requires from { tens.now ≤ n }
-    requires to { n < tens.now + 10 }
-    requires room { 91 ≤ at }
-    requires within { at ≤ 1024 }
-    ensures room { at ≤ result + 91 }
+#[tactic(auto, using(crate::proofs::LineLemmas::line_before))]
+fn put_command(text: &mut [u8], at: usize, number: &Number, done: &Done) -> usize
+    requires room { LINE ≤ at }
+    requires within { at ≤ length text.old }
+    ensures room { at ≤ result + LINE }
     ensures within { result ≤ at }
     ensures text { drop result text.new
-        ≡ numbered_line n (step_words (told.Command done.now)) ++ drop at text.old }
+        ≡ numbered_line number.now (step_words (told.Command done.now)) ++ drop at text.old }
 {
-    let at = put_byte(text, at, b'\n');
-    let at = command_words(text, at, done);
-    tens.put(text, at, n)
+    let at = rest_of_command(text, at, done);
+    number.put(text, at)
 }
